@@ -1,0 +1,9 @@
+pub mod Marks
+pub mod Mode
+pub mod Limits
+pub mod Seen
+pub mod Split
+pub mod Laws
+pub mod Same
+pub mod Lending
+pub mod Fault
