@@ -1,4 +1,4 @@
-use Rattle.std.proofs.Common.{not, arith}
+use Rattle.std.proofs.Common.{arith}
 use Rattle.std.proofs.lemmas.List.Edits.{map_over_more}
 use Rattle.scm_types.specs.Marks.{section_with_marks}
 use Rattle.scm_types.proofs.files.File.set_checked.Goals as goal

@@ -1,4 +1,4 @@
-use Rattle.std.proofs.Common.{◌≡◌, not, map, take, drop, ◌++◌}
+use Rattle.std.proofs.Common.{◌≡◌, map, take, drop, ◌++◌}
 use Rattle.scm_types.specs.Marks.{section_with_marks}
 use Rattle.scm_types.proofs.files.File.set_checked.Given as goal
 

@@ -1,8 +1,8 @@
-use Rattle.std.proofs.Common.{◌≡◌, ◌||◌, ◌∙◌, Bool, arith, length, nat_lt, refl}
+use Rattle.std.proofs.Common.{◌≡◌, arith, length, nat_lt, refl}
 use Rattle.std.specs.Prelude.{string_bytes}
 use Rattle.std.specs.List.{concat}
 use Rattle.std.proofs.lemmas.Grind.{common_steps}
-use Rattle.scm_types.specs.Split.{section_lines, text_side, side_lines, is_emptied}
+use Rattle.scm_types.specs.Split.{section_lines, side_lines, is_emptied}
 use Rattle.scm_types.proofs.SplitLemmas.{concat_more, some_more, text_when, unchanged_when}
 use Rattle.scm_types.proofs.files.File.side_text.Goals as goal
 

@@ -1,4 +1,4 @@
-use Rattle.std.proofs.Common.{◌≡◌, ◌<◌, take, length, nat_lt}
+use Rattle.std.proofs.Common.{◌≡◌, take, length, nat_lt}
 use Rattle.std.specs.Prelude.{string_bytes}
 use Rattle.std.specs.List.{concat, flat_map}
 use Rattle.scm_types.specs.Split.{section_lines}

@@ -1,7 +1,6 @@
-use Rattle.std.proofs.Common.{◌≡◌, take, length, arith}
+use Rattle.std.proofs.Common.{◌≡◌, arith}
 use Rattle.std.proofs.lemmas.Grind.{common_steps}
-use Rattle.std.specs.List.{flat_map}
-use Rattle.scm_types.specs.Marks.{section_marks, file_marks}
+use Rattle.scm_types.specs.Marks.{file_marks}
 use Rattle.scm_types.specs.Seen.{with_marks, none_seen}
 use Rattle.scm_types.proofs.SeenLemmas.{seen_tristate-with_marks}
 use Rattle.scm_types.proofs.files.File.tristate.Goals as goal

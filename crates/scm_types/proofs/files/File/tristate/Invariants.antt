@@ -1,4 +1,4 @@
-use Rattle.std.proofs.Common.{◌≡◌, map, take}
+use Rattle.std.proofs.Common.{◌≡◌, take}
 use Rattle.std.specs.List.{flat_map}
 use Rattle.scm_types.specs.Marks.{section_marks}
 use Rattle.scm_types.specs.Seen.{with_marks, none_seen}

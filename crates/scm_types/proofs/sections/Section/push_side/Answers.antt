@@ -1,4 +1,4 @@
-use Rattle.std.proofs.Common.{arith, rules, take, filter}
+use Rattle.std.proofs.Common.{rules, take, filter}
 use Rattle.std.specs.Prelude.{string_bytes}
 use Rattle.scm_types.specs.Split.{takes}
 use Rattle.scm_types.proofs.SplitLemmas.{text_more, taken_yes, taken_no, taken_text, push_is_some}

@@ -1,4 +1,4 @@
-use Rattle.std.proofs.Common.{◌≡◌, ◌++◌, ◌<◌, take, map, filter, length, nat_lt}
+use Rattle.std.proofs.Common.{◌≡◌, ◌++◌, take, map, filter, length, nat_lt}
 use Rattle.std.specs.Prelude.{string_bytes}
 use Rattle.std.specs.List.{concat}
 use Rattle.scm_types.specs.declared.lines.SectionChangedLine.{SectionChangedLine}

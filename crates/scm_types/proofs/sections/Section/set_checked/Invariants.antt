@@ -1,4 +1,4 @@
-use Rattle.std.proofs.Common.{◌≡◌, not, map, take, drop, ◌++◌}
+use Rattle.std.proofs.Common.{◌≡◌, map, take, drop, ◌++◌}
 use Rattle.scm_types.specs.Marks.{line_with_mark}
 use Rattle.scm_types.proofs.sections.Section.set_checked.Given as goal
 

@@ -1,4 +1,3 @@
-use Rattle.std.proofs.Common.{◌∙◌}
 use Rattle.scm_types.specs.Marks.{section_marks}
 use Rattle.scm_types.proofs.SeenLemmas.{seen_tristate-with_marks}
 use Rattle.scm_types.proofs.sections.Section.tristate.Goals as goal
