@@ -1,0 +1,6 @@
+pub mod Keys
+pub mod KeySet
+pub mod Moves
+pub mod Toggle
+pub mod Session
+pub mod Step
