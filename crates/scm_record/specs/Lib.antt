@@ -4,3 +4,7 @@ pub mod Moves
 pub mod Toggle
 pub mod Session
 pub mod Step
+pub mod Script
+pub mod Testing
+pub mod Store
+pub mod Stored

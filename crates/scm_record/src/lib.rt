@@ -2,5 +2,8 @@
 #![tactic(auto)]
 
 pub mod events;
+pub mod helpers;
+pub mod inputs;
 pub mod keys;
 pub mod quit_dialog;
+pub mod store;
