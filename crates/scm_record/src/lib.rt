@@ -2,5 +2,6 @@
 #![tactic(auto)]
 
 pub mod events;
+pub mod key_set;
 pub mod keys;
 pub mod quit_dialog;
