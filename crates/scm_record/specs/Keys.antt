@@ -4,7 +4,6 @@ use Rattle.scm_types.specs.declared.types.SectionChangedLine.{SectionChangedLine
 use Rattle.scm_types.specs.declared.types.Section.{Section}
 use Rattle.scm_types.specs.declared.types.Section.TheVariants as sections
 use Rattle.scm_types.specs.declared.types.File.{File}
-use Rattle.scm_record.specs.declared.keys.FileKey.{FileKey}
 use Rattle.scm_record.specs.declared.keys.SectionKey.{SectionKey}
 use Rattle.scm_record.specs.declared.keys.LineKey.{LineKey}
 use Rattle.scm_record.specs.declared.keys.SelectionKey.{SelectionKey}

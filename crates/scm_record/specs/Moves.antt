@@ -1,5 +1,5 @@
 -- Where the selection moves to, on lists of keys.
-use Rattle.std.specs.Prelude.{ℕ, zero, suc, ◌+◌, Bool, true, false, List, [], ◌∷◌, Option, Some, None, position, find, slice_get, unwrap_or, if◌then◌else◌}
+use Rattle.std.specs.Prelude.{ℕ, zero, suc, ◌+◌, Bool, false, List, [], ◌∷◌, Option, Some, None, position, find, slice_get, unwrap_or, if◌then◌else◌}
 use Rattle.scm_record.specs.declared.keys.SelectionKey.{SelectionKey}
 use Rattle.scm_record.specs.declared.keys.SelectionKey.TheVariants as keys
 use Rattle.scm_record.specs.Keys.{is_section, is_line}

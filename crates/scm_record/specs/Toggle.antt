@@ -2,7 +2,6 @@
 use Rattle.std.specs.Prelude.{ℕ, zero, suc, Bool, true, false, not, List, [], ◌∷◌, map, slice_get, Option, Some, None, option_map, option_and_then, if◌then◌else◌}
 use Rattle.scm_types.specs.declared.types.SectionChangedLine.{SectionChangedLine}
 use Rattle.scm_types.specs.declared.types.FileMode.{FileMode}
-use Rattle.scm_types.specs.declared.types.FileMode.TheVariants as modes
 use Rattle.scm_types.specs.declared.types.Section.{Section}
 use Rattle.scm_types.specs.declared.types.Section.TheVariants as sections
 use Rattle.scm_types.specs.declared.types.File.{File}
