@@ -8,3 +8,10 @@ pub mod Script
 pub mod Testing
 pub mod Store
 pub mod Stored
+pub mod Flow
+pub mod SessionView
+pub mod Run
+pub mod Turn
+pub mod Budget
+pub mod Keeping
+pub mod Ending

@@ -1,5 +1,5 @@
 -- The store of screens: optional texts, and a count of frames.
-use Rattle.std.specs.Prelude.{ℕ, ◌+◌, ◌^◌, ◌-◌, List, [], ◌∷◌, ◌++◌, Option, Some, None, slice_get, if◌then◌else◌, nat_lt, codes}
+use Rattle.std.specs.Prelude.{ℕ, ◌+◌, ◌^◌, ◌-◌, List, [], ◌∷◌, ◌++◌, Option, Some, None, slice_get, min, codes}
 
 pub record Store : Type 0 where
   pub texts : List (Option (List ℕ))
@@ -19,7 +19,7 @@ text_at store place = text_or (slice_get store.texts place)
 
 -- one more, up to the greatest usize
 abbrev pub count_up : ℕ → ℕ
-count_up n = if nat_lt n (2 ^ 64 - 1) then n + 1 else n
+count_up n = min (n + 1) (2 ^ 64 - 1)
 
 abbrev pub with_place : Store → Store
 with_place s = record s { texts = s.texts ++ None ∷ [] }

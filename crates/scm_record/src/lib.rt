@@ -4,12 +4,12 @@
 pub mod events;
 pub mod helpers;
 pub mod inputs;
-pub mod key_lists;
-pub mod key_set;
+mod key_lists;
+mod key_set;
 pub mod keys;
-pub mod moves;
+mod moves;
 pub mod quit_dialog;
 pub mod recording;
-pub mod runs;
+mod runs;
 pub mod store;
-pub mod toggles;
+mod toggles;
