@@ -2,17 +2,17 @@
 use Rattle.std.proofs.Common.{◌≡◌, ℕ, zero, suc, ◌≤◌, Bool, true, false, not, List, [], ◌∷◌, map, length, slice_get, Option, Some, None, cond, sym, ap, ◌∙◌, refl, subst, arith}
 use Rattle.std.specs.Prelude.{IsTrue, ◌&&◌, nat_le, is_some, option_and_then}
 use Rattle.std.proofs.lemmas.Bool.{and_parts, leb-true}
-use Rattle.scm_types.specs.declared.types.SectionChangedLine.{SectionChangedLine}
-use Rattle.scm_types.specs.declared.types.FileMode.{FileMode}
-use Rattle.scm_types.specs.declared.types.Section.{Section}
-use Rattle.scm_types.specs.declared.types.Section.TheVariants as sections
-use Rattle.scm_types.specs.declared.types.File.{File}
-use Rattle.scm_types.specs.declared.types.Commit.{Commit}
-use Rattle.scm_types.specs.declared.types.RecordState.{RecordState}
+use Rattle.scm_types.specs.declared.lines.SectionChangedLine.{SectionChangedLine}
+use Rattle.scm_types.specs.declared.modes.FileMode.{FileMode}
+use Rattle.scm_types.specs.declared.sections.Section.{Section}
+use Rattle.scm_types.specs.declared.sections.Section.TheVariants as sections
+use Rattle.scm_types.specs.declared.files.File.{File}
+use Rattle.scm_types.specs.declared.states.Commit.{Commit}
+use Rattle.scm_types.specs.declared.states.RecordState.{RecordState}
 use Rattle.scm_types.specs.Limits.{is_accepted_state}
 use Rattle.scm_types.specs.Marks.{file_marks, section_marks, tristate_of, line_with_mark, section_with_marks, file_with_marks}
 use Rattle.scm_types.specs.Same.{unmarked}
-use Rattle.scm_types.specs.Split.{is_absent}
+use Rattle.scm_types.specs.Mode.{is_absent}
 use Rattle.scm_record.specs.declared.events.Event.{Event}
 use Rattle.scm_record.specs.declared.events.Event.TheVariants as events
 use Rattle.scm_record.specs.declared.keys.SelectionKey.{SelectionKey}

@@ -1,7 +1,7 @@
 -- What a run keeps of the state that it was given.
 use Rattle.std.specs.Prelude.{◌≡◌, ℕ, length, map, is_some, IsTrue}
-use Rattle.scm_types.specs.declared.types.Commit.{Commit}
-use Rattle.scm_types.specs.declared.types.RecordState.{RecordState}
+use Rattle.scm_types.specs.declared.states.Commit.{Commit}
+use Rattle.scm_types.specs.declared.states.RecordState.{RecordState}
 use Rattle.scm_types.specs.Same.{IsSameButMarks}
 use Rattle.scm_record.specs.Session.{padded, padded_state}
 

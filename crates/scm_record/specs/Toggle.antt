@@ -1,14 +1,14 @@
 -- What a toggle makes of the files, with all that follows from it in the same file.
 use Rattle.std.specs.Prelude.{ℕ, zero, suc, Bool, true, false, not, List, [], ◌∷◌, map, slice_get, Option, Some, None, option_map, option_and_then, if◌then◌else◌}
-use Rattle.scm_types.specs.declared.types.SectionChangedLine.{SectionChangedLine}
-use Rattle.scm_types.specs.declared.types.FileMode.{FileMode}
-use Rattle.scm_types.specs.declared.types.Section.{Section}
-use Rattle.scm_types.specs.declared.types.Section.TheVariants as sections
-use Rattle.scm_types.specs.declared.types.File.{File}
-use Rattle.scm_types.specs.declared.types.Tristate.{Tristate}
-use Rattle.scm_types.specs.declared.types.Tristate.TheVariants as tristates
+use Rattle.scm_types.specs.declared.lines.SectionChangedLine.{SectionChangedLine}
+use Rattle.scm_types.specs.declared.modes.FileMode.{FileMode}
+use Rattle.scm_types.specs.declared.sections.Section.{Section}
+use Rattle.scm_types.specs.declared.sections.Section.TheVariants as sections
+use Rattle.scm_types.specs.declared.files.File.{File}
+use Rattle.scm_types.specs.declared.tristates.Tristate.{Tristate}
+use Rattle.scm_types.specs.declared.tristates.Tristate.TheVariants as tristates
 use Rattle.scm_types.specs.Marks.{file_marks, section_marks, tristate_of, line_with_mark, section_with_marks, file_with_marks}
-use Rattle.scm_types.specs.Split.{is_absent}
+use Rattle.scm_types.specs.Mode.{is_absent}
 use Rattle.scm_record.specs.declared.keys.SelectionKey.{SelectionKey}
 use Rattle.scm_record.specs.declared.keys.SelectionKey.TheVariants as keys
 

@@ -3,7 +3,7 @@ ghost use Rattle.std.specs.Prelude.{◌≡◌};
 
 use crate::events::Event;
 use crate::inputs::{RecordInput, TerminalKind};
-use scm_types::types::RecordError;
+use scm_types::RecordError;
 use std::alloc::Global;
 use std::collections::VecDeque;
 
@@ -24,7 +24,7 @@ pub struct TestingInput {
 
 impl TestingInput {
     ghost use Rattle.std.specs.Prelude.{◌≡◌, IfErr, IfOk, []};
-    ghost use Rattle.scm_types.specs.declared.types.RecordError.TheVariants.{OutOfMemory};
+    ghost use Rattle.scm_types.specs.declared.errors.RecordError.TheVariants.{OutOfMemory};
 
     /// An input of these events, without messages.
     pub fn new(
@@ -53,7 +53,7 @@ impl TestingInput {
 
 impl RecordInput for TestingInput {
     ghost use Rattle.std.specs.Prelude.{◌≡◌, ◌<◌, List, IfErr, IfOk, OnErr, drop, length, map, IsOk};
-    ghost use Rattle.scm_types.specs.declared.types.RecordError.TheVariants.{OutOfMemory};
+    ghost use Rattle.scm_types.specs.declared.errors.RecordError.TheVariants.{OutOfMemory};
     ghost use Rattle.scm_record.specs.Script.{Read, Edit, Takes, TakesOr, no_more, read_of, edit_of};
     ghost use Rattle.scm_record.specs.Testing.{kind_of, single_events, answers, first_batch};
 

@@ -1,6 +1,6 @@
 //! The recorder's session, and what each event makes of it.
 ghost use Rattle.std.specs.Prelude.{◌≡◌, count_by, IfErr, IfOk, OnOk};
-ghost use Rattle.scm_types.specs.declared.types.RecordError.TheVariants.{OutOfMemory};
+ghost use Rattle.scm_types.specs.declared.errors.RecordError.TheVariants.{OutOfMemory};
 ghost use Rattle.scm_record.specs.Keys.{file_of_line, file_of_section, section_of_line};
 ghost use Rattle.scm_record.specs.Session.{is_changed, is_text, padded, with_keys_above};
 
@@ -11,8 +11,8 @@ use crate::keys::{FileKey, LineKey, SectionKey, SelectionKey};
 use crate::moves::{inner_key, next_key, previous_key};
 use crate::quit_dialog::{QuitDialog, QuitDialogButtonId};
 use crate::toggles::toggle_key;
-use scm_types::items::Items;
-use scm_types::types::{Commit, File, RecordError, RecordState, Tristate};
+
+use scm_types::{Commit, File, Items, RecordError, RecordState, Tristate};
 use std::alloc::Global;
 use std::marker::Model;
 use std::mem;
@@ -53,7 +53,7 @@ impl<'state> Model for Recorder<'state> {
 
 impl<'state> Recorder<'state> {
     ghost use Rattle.std.specs.Prelude.{◌≡◌, ◌↔◌, ◌<◌, IfErr, IfOk, IsTrue, OnOk, length};
-    ghost use Rattle.scm_types.specs.declared.types.RecordError.TheVariants.{OutOfMemory};
+    ghost use Rattle.scm_types.specs.declared.errors.RecordError.TheVariants.{OutOfMemory};
     ghost use Rattle.scm_types.specs.Limits.{is_accepted_state};
     ghost use Rattle.scm_record.specs.Session.{Session, start, seen_keys, ensuring, selecting, folding, to_next, to_previous, to_inner, to_outer, toggling, without_pending};
     ghost use Rattle.scm_record.specs.Step.{asking, change, closed, opened, pressed};
@@ -76,7 +76,7 @@ impl<'state> Recorder<'state> {
             commits,
             files,
         } = state;
-        let commits = pad(commits.into_vec())?;
+        let commits = pad(commits.into_inner())?;
         let sections = section_keys(alloc, files.as_slice())?;
         let expanded = key_set_of(alloc, &sections)?;
         let selection = first_key(files.as_slice());

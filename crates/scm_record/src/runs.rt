@@ -1,7 +1,7 @@
 //! Runs: a session over an input, from its first frame to its end.
 ghost use Rattle.std.specs.Prelude.{◌≡◌, ℕ, ◌+◌, ◌≤◌, IfErr, IfOk, IsTrue, List, OnOk, Option};
-ghost use Rattle.scm_types.specs.declared.types.RecordError.TheVariants.{OutOfMemory};
-ghost use Rattle.scm_types.specs.declared.types.RecordState.{RecordState};
+ghost use Rattle.scm_types.specs.declared.errors.RecordError.TheVariants.{OutOfMemory};
+ghost use Rattle.scm_types.specs.declared.states.RecordState.{RecordState};
 ghost use Rattle.scm_types.specs.Limits.{is_accepted_state};
 ghost use Rattle.scm_record.specs.Store.{count_up};
 ghost use Rattle.scm_record.specs.Session.{Session, start};
@@ -15,7 +15,7 @@ use crate::events::Event;
 use crate::inputs::RecordInput;
 use crate::recording::{Flow, Recorder};
 use crate::store::Screens;
-use scm_types::types::{RecordError, RecordState};
+use scm_types::{RecordError, RecordState};
 use std::alloc::Global;
 
 // The fault of an event that can't be handled yet.
