@@ -1,1 +1,2 @@
 pub mod KeySetLemmas
+pub mod KeyListLemmas

@@ -2,6 +2,7 @@
 #![tactic(auto)]
 
 pub mod events;
+pub(crate) mod key_lists;
 pub mod key_set;
 pub mod keys;
 pub mod quit_dialog;
