@@ -1,2 +1,3 @@
 pub mod KeySetLemmas
 pub mod KeyListLemmas
+pub mod MoveLemmas

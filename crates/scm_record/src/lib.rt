@@ -5,4 +5,5 @@ pub mod events;
 pub(crate) mod key_lists;
 pub mod key_set;
 pub mod keys;
+pub(crate) mod moves;
 pub mod quit_dialog;
