@@ -1,3 +1,4 @@
 pub mod KeySetLemmas
 pub mod KeyListLemmas
 pub mod MoveLemmas
+pub mod ToggleLemmas
