@@ -4,3 +4,4 @@ pub mod Moves
 pub mod Toggle
 pub mod Session
 pub mod Step
+pub mod Coherence

@@ -7,4 +7,4 @@ pub mod key_set;
 pub mod keys;
 pub(crate) mod moves;
 pub mod quit_dialog;
-pub(crate) mod toggles;
+pub mod toggles;

@@ -2,6 +2,7 @@
 ghost use Rattle.std.specs.Prelude.{◌≡◌, false, map, not, true};
 ghost use Rattle.scm_types.specs.Marks.{line_with_mark, section_with_marks};
 ghost use Rattle.scm_types.specs.Split.{is_absent};
+ghost use Rattle.scm_record.specs.Coherence.{KeepsCoherent};
 ghost use Rattle.scm_record.specs.Toggle.{after_lines, after_mode, line_mark, line_mark_at, line_toggled, mark_after, modify, sections_toggled, with_changed_set, with_deletion_unchecked, with_file_toggled, with_key_toggled, with_line_inverted, with_line_toggled, with_mode_checked, with_section_toggled};
 
 use crate::keys::SelectionKey;
@@ -261,3 +262,8 @@ pub(crate) fn toggle_key(files: &mut [File<'_>], key: SelectionKey)
         }
     }
 }
+
+/// A toggle keeps each file coherent that was so, unless the file is new and is also deleted.
+pub fn toggles_keep_coherence(_files: &[File<'_>], _key: SelectionKey)
+    ensures { KeepsCoherent _files.now (with_key_toggled _key _files.now) }
+{}
