@@ -6,3 +6,5 @@ pub mod RunLemmas
 pub mod BudgetLemmas
 pub mod KeepingLemmas
 pub mod EndingLemmas
+pub mod ToggleLemmas
+pub mod CoherenceLemmas

@@ -15,3 +15,4 @@ pub mod Turn
 pub mod Budget
 pub mod Keeping
 pub mod Ending
+pub mod Coherence

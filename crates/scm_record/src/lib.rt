@@ -15,7 +15,7 @@ pub mod quit_dialog;
 pub mod recording;
 mod runs;
 pub mod store;
-mod toggles;
+pub mod toggles;
 
 pub use events::{Event, TestingScreenshot};
 pub use helpers::TestingInput;

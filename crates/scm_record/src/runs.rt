@@ -3,6 +3,10 @@ ghost use Rattle.std.specs.Prelude.{◌≡◌, ℕ, ◌+◌, ◌≤◌, IfErr, I
 ghost use Rattle.scm_types.specs.declared.errors.RecordError.TheVariants.{OutOfMemory};
 ghost use Rattle.scm_types.specs.declared.states.RecordState.{RecordState};
 ghost use Rattle.scm_types.specs.Limits.{is_accepted_state};
+ghost use Rattle.scm_types.specs.declared.files.File.{File};
+ghost use Rattle.scm_record.specs.declared.keys.SelectionKey.{SelectionKey};
+ghost use Rattle.scm_record.specs.Coherence.{KeepsCoherent};
+ghost use Rattle.scm_record.specs.Toggle.{with_key_toggled};
 ghost use Rattle.scm_record.specs.Store.{count_up};
 ghost use Rattle.scm_record.specs.Session.{Session, start};
 ghost use Rattle.scm_record.specs.Run.{Before, Within, Accepted, World, world, batch, not_in_stage, HasOneEnd, Reaches, Stops};
@@ -143,6 +147,9 @@ impl<'state> Recorder<'state> {
         // what a recorder of an accepted state keeps of it
         ensures kept { IfOk result (λ state. (given : RecordState) →
             IsTrue (is_accepted_state given) → self.entry ≡ start given → IsKept given state) }
+        // what each toggle keeps
+        ensures coherent { (files : List File) (key : SelectionKey) →
+            KeepsCoherent files (with_key_toggled key files) }
         ensures kind { kind input.new ≡ kind input.old }
     {
         run_to_end(&mut self, input, screens)?;
