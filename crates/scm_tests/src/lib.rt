@@ -2,4 +2,7 @@
 #![tactic(auto)]
 
 #[cfg(test)]
+mod record;
+
+#[cfg(test)]
 mod types;

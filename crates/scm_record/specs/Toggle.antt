@@ -1,0 +1,130 @@
+-- What a toggle makes of the files, with all that follows from it in the same file.
+use Rattle.std.specs.Prelude.{ℕ, zero, suc, Bool, true, false, not, List, [], ◌∷◌, map, slice_get, Option, Some, None, option_map, option_and_then, if◌then◌else◌}
+use Rattle.scm_types.specs.declared.lines.SectionChangedLine.{SectionChangedLine}
+use Rattle.scm_types.specs.declared.modes.FileMode.{FileMode}
+use Rattle.scm_types.specs.declared.sections.Section.{Section}
+use Rattle.scm_types.specs.declared.sections.Section.TheVariants as sections
+use Rattle.scm_types.specs.declared.files.File.{File}
+use Rattle.scm_types.specs.declared.tristates.Tristate.{Tristate}
+use Rattle.scm_types.specs.declared.tristates.Tristate.TheVariants as tristates
+use Rattle.scm_types.specs.Marks.{file_marks, section_marks, tristate_of, line_with_mark, section_with_marks, file_with_marks}
+use Rattle.scm_types.specs.Mode.{is_absent}
+use Rattle.scm_record.specs.declared.keys.SelectionKey.{SelectionKey}
+use Rattle.scm_record.specs.declared.keys.SelectionKey.TheVariants as keys
+
+-- the list with f of the element at an index, if it has one there
+abbrev pub modify : {A : Type 0} → (A → A) → List A → ℕ → List A
+modify f [] i = []
+modify f (x ∷ xs) zero = f x ∷ xs
+modify f (x ∷ xs) (suc i) = x ∷ modify f xs i
+
+-- the mark that a toggle sets: what is unchecked becomes checked, all else unchecked
+abbrev pub mark_after : Tristate → Bool
+mark_after tristates.False = true
+mark_after tristates.Partial = false
+mark_after tristates.True = false
+
+-- the section with every mark set so, if it is one of changed lines
+abbrev pub with_changed_set : Bool → Section → Section
+with_changed_set checked (sections.Unchanged lines) = sections.Unchanged lines
+with_changed_set checked (sections.Changed lines) = section_with_marks (λ _. checked) (sections.Changed lines)
+with_changed_set checked (sections.FileMode is_checked mode) = sections.FileMode is_checked mode
+with_changed_set checked (sections.Binary is_checked old new) = sections.Binary is_checked old new
+
+-- the section, unchecked if it is a deletion of the file
+abbrev pub with_deletion_unchecked : Section → Section
+with_deletion_unchecked (sections.Unchanged lines) = sections.Unchanged lines
+with_deletion_unchecked (sections.Changed lines) = sections.Changed lines
+with_deletion_unchecked (sections.FileMode is_checked mode) =
+    sections.FileMode (if is_absent mode then false else is_checked) mode
+with_deletion_unchecked (sections.Binary is_checked old new) = sections.Binary is_checked old new
+
+-- the section, checked if it changes the mode
+abbrev pub with_mode_checked : Section → Section
+with_mode_checked (sections.Unchanged lines) = sections.Unchanged lines
+with_mode_checked (sections.Changed lines) = sections.Changed lines
+with_mode_checked (sections.FileMode is_checked mode) = sections.FileMode true mode
+with_mode_checked (sections.Binary is_checked old new) = sections.Binary is_checked old new
+
+-- what follows from setting changed lines: unchecked ones leave no deletion, checked ones in a new file create it
+abbrev pub after_lines : FileMode → Bool → List Section → List Section
+after_lines mode false list = map with_deletion_unchecked list
+after_lines mode true list = if is_absent mode then map with_mode_checked list else list
+
+-- what follows from setting a change of the mode: a deletion takes every changed line, without its creation a new file keeps nothing
+abbrev pub after_mode : FileMode → FileMode → Bool → List Section → List Section
+after_mode mode new_mode true list = if is_absent new_mode then map (with_changed_set true) list else list
+after_mode mode new_mode false list = if is_absent mode then map (section_with_marks (λ _. false)) list else list
+
+-- what follows from setting a section of this kind
+abbrev pub after_section : FileMode → Bool → Section → List Section → List Section
+after_section mode checked (sections.Unchanged lines) list = list
+after_section mode checked (sections.Changed lines) list = after_lines mode checked list
+after_section mode checked (sections.FileMode is_checked new_mode) list = after_mode mode new_mode checked list
+after_section mode checked (sections.Binary is_checked old new) list = list
+
+-- the file is toggled as a whole
+abbrev pub with_file_toggled : File → File
+with_file_toggled file = file_with_marks (λ _. mark_after (tristate_of (file_marks file))) file
+
+-- the section at an index is set to a mark, with what follows
+abbrev pub with_section_set : FileMode → ℕ → Section → Bool → List Section → List Section
+with_section_set mode index section checked list =
+    after_section mode checked section (modify (section_with_marks (λ _. checked)) list index)
+
+abbrev pub with_this_section_toggled : FileMode → ℕ → Option Section → List Section → List Section
+with_this_section_toggled mode index None list = list
+with_this_section_toggled mode index (Some section) list =
+    with_section_set mode index section (mark_after (tristate_of (section_marks section))) list
+
+-- the sections of a file of this mode, the one at an index toggled, if there is one
+abbrev pub sections_toggled : FileMode → ℕ → List Section → List Section
+sections_toggled mode index list = with_this_section_toggled mode index (slice_get list index) list
+
+-- a section of the file is toggled, if it has one there
+abbrev pub with_section_toggled : ℕ → File → File
+with_section_toggled index file = record file { sections = sections_toggled file.file_mode index file.sections }
+
+-- the section with a line inverted
+abbrev pub with_line_inverted : ℕ → Section → Section
+with_line_inverted line (sections.Unchanged lines) = sections.Unchanged lines
+with_line_inverted line (sections.Changed lines) = sections.Changed (modify (line_with_mark not) lines line)
+with_line_inverted line (sections.FileMode is_checked mode) = sections.FileMode is_checked mode
+with_line_inverted line (sections.Binary is_checked old new) = sections.Binary is_checked old new
+
+-- the mark of a line of a section
+abbrev pub line_mark : ℕ → Section → Option Bool
+line_mark line (sections.Unchanged lines) = None
+line_mark line (sections.Changed lines) = option_map (λ (l : SectionChangedLine). l.is_checked) (slice_get lines line)
+line_mark line (sections.FileMode is_checked mode) = None
+line_mark line (sections.Binary is_checked old new) = None
+
+-- the mark of a line of a section at an index
+abbrev pub line_mark_at : ℕ → ℕ → List Section → Option Bool
+line_mark_at section line list = option_and_then (line_mark line) (slice_get list section)
+
+abbrev pub with_this_line_toggled : FileMode → ℕ → ℕ → Option Bool → List Section → List Section
+with_this_line_toggled mode section line None list = list
+with_this_line_toggled mode section line (Some checked) list =
+    after_lines mode (not checked) (modify (with_line_inverted line) list section)
+
+-- the sections of a file of this mode, a line of the one at an index toggled, if there is one
+abbrev pub line_toggled : FileMode → ℕ → ℕ → List Section → List Section
+line_toggled mode section line list = with_this_line_toggled mode section line (line_mark_at section line list) list
+
+-- a line of the file is toggled, if it has one there
+abbrev pub with_line_toggled : ℕ → ℕ → File → File
+with_line_toggled section line file =
+    record file { sections = line_toggled file.file_mode section line file.sections }
+
+-- what the key names is toggled
+abbrev pub with_key_toggled : SelectionKey → List File → List File
+with_key_toggled keys.None files = files
+with_key_toggled (keys.File key) files = modify with_file_toggled files key.file_idx
+with_key_toggled (keys.Section key) files = modify (with_section_toggled key.section_idx) files key.file_idx
+with_key_toggled (keys.Line key) files = modify (with_line_toggled key.section_idx key.line_idx) files key.file_idx
+
+-- nothing changes where the state is read-only
+abbrev pub toggled_files : Bool → SelectionKey → List File → List File
+toggled_files true key files = files
+toggled_files false key files = with_key_toggled key files
