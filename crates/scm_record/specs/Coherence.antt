@@ -1,10 +1,10 @@
 -- Which files a change keeps coherent.
 use Rattle.std.specs.Prelude.{◌≡◌, ℕ, Bool, false, ◌&&◌, List, Some, slice_get}
 use Rattle.std.specs.List.{list_any}
-use Rattle.scm_types.specs.declared.types.Section.{Section}
-use Rattle.scm_types.specs.declared.types.Section.TheVariants as sections
-use Rattle.scm_types.specs.declared.types.File.{File}
-use Rattle.scm_types.specs.Split.{is_absent}
+use Rattle.scm_types.specs.declared.sections.Section.{Section}
+use Rattle.scm_types.specs.declared.sections.Section.TheVariants as sections
+use Rattle.scm_types.specs.declared.files.File.{File}
+use Rattle.scm_types.specs.Mode.{is_absent}
 use Rattle.scm_types.specs.Same.{IsCoherent}
 
 -- the section deletes the file, whether it is checked or not

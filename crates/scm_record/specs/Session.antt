@@ -1,10 +1,10 @@
 -- A session, as values: the state, and what the user has selected, unfolded and opened.
 use Rattle.std.specs.Prelude.{ℕ, Bool, true, false, ◌&&◌, List, [], ◌∷◌, ◌++◌, filter, count_by, Option, Some, None, if◌then◌else◌}
-use Rattle.scm_types.specs.declared.types.Commit.{Commit}
-use Rattle.scm_types.specs.declared.types.File.{File}
-use Rattle.scm_types.specs.declared.types.RecordState.{RecordState}
-use Rattle.scm_types.specs.declared.types.Tristate.{Tristate}
-use Rattle.scm_types.specs.declared.types.Tristate.TheVariants as tristates
+use Rattle.scm_types.specs.declared.states.Commit.{Commit}
+use Rattle.scm_types.specs.declared.files.File.{File}
+use Rattle.scm_types.specs.declared.states.RecordState.{RecordState}
+use Rattle.scm_types.specs.declared.tristates.Tristate.{Tristate}
+use Rattle.scm_types.specs.declared.tristates.Tristate.TheVariants as tristates
 use Rattle.scm_types.specs.Marks.{file_marks, tristate_of}
 use Rattle.scm_record.specs.declared.events.Event.{Event}
 use Rattle.scm_record.specs.declared.events.Event.TheVariants as events

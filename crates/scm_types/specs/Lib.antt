@@ -7,3 +7,4 @@ pub mod Laws
 pub mod Same
 pub mod Lending
 pub mod Fault
+pub mod Edits

@@ -1,0 +1,126 @@
+// The limits within which a state is accepted.
+ghost use Rattle.std.specs.Prelude.{◌≡◌, ◌≤◌, ◌+◌, ◌-◌, length, nat_le, sum_by};
+ghost use Rattle.std.specs.List.{list_all};
+ghost use Rattle.std.specs.Option.{SomeIff};
+ghost use Rattle.scm_types.specs.Limits.{file_size, has_short_texts, has_short_texts_in_file, is_short_option, is_short_text, section_size};
+
+use crate::files::File;
+use crate::lines::SectionChangedLine;
+use crate::sections::Section;
+use crate::states::Commit;
+use crate::texts::{OwnedText, Text};
+
+// How many files, sections and lines a state may have.
+pub(crate) const MAX_ITEMS: usize = 1_000_000;
+
+// How many bytes a text may have.
+const MAX_TEXT: usize = 1_000_000;
+
+fn is_short_option(text: &Option<Text<'_>>) -> bool
+    ensures { result ≡ is_short_option text.now }
+{
+    match text {
+        Some(text) => text.len() <= MAX_TEXT,
+        None => true,
+    }
+}
+
+fn is_short_message(text: &Option<OwnedText>) -> bool
+    ensures { result ≡ is_short_option text.now }
+{
+    match text {
+        Some(text) => text.len() <= MAX_TEXT,
+        None => true,
+    }
+}
+
+pub(crate) fn has_short_messages(commits: &[Commit]) -> bool
+    ensures { result ≡ list_all (λ c. is_short_option c.message) commits.now }
+{
+    commits
+        .iter()
+        .all(|commit| is_short_message(&commit.message))
+}
+
+fn has_short_lines(lines: &[Text<'_>]) -> bool
+    ensures { result ≡ list_all is_short_text lines.now }
+{
+    lines.iter().all(|line| line.len() <= MAX_TEXT)
+}
+
+fn has_short_changed_lines(lines: &[SectionChangedLine<'_>]) -> bool
+    ensures { result ≡ list_all (λ l. is_short_text l.line) lines.now }
+{
+    lines.iter().all(|line| line.line.len() <= MAX_TEXT)
+}
+
+fn has_short_texts(section: &Section<'_>) -> bool
+    ensures { result ≡ has_short_texts section.now }
+{
+    match section {
+        Section::Unchanged { lines } => has_short_lines(lines.as_slice()),
+        Section::Changed { lines } => has_short_changed_lines(lines.as_slice()),
+        Section::FileMode { .. } => true,
+        Section::Binary {
+            old_description,
+            new_description,
+            ..
+        } => is_short_option(old_description) & is_short_option(new_description),
+    }
+}
+
+fn has_short_texts_in_sections(sections: &[Section<'_>]) -> bool
+    ensures { result ≡ list_all has_short_texts sections.now }
+{
+    sections.iter().all(|section| has_short_texts(section))
+}
+
+fn has_short_texts_in_file(file: &File<'_>) -> bool
+    ensures { result ≡ has_short_texts_in_file file.now }
+{
+    is_short_option(&file.old_path)
+        && file.path.len() <= MAX_TEXT
+        && has_short_texts_in_sections(file.sections.as_slice())
+}
+
+pub(crate) fn has_short_texts_in_files(files: &[File<'_>]) -> bool
+    ensures { result ≡ list_all has_short_texts_in_file files.now }
+{
+    files.iter().all(|file| has_short_texts_in_file(file))
+}
+
+fn section_size(section: &Section<'_>) -> usize
+    ensures { result ≡ section_size section.now }
+{
+    match section {
+        Section::Unchanged { lines } => lines.len(),
+        Section::Changed { lines } => lines.len(),
+        Section::FileMode { .. } | Section::Binary { .. } => 0,
+    }
+}
+
+// What is left of a room for items after those of the file.
+fn room_after_file(room: usize, file: &File<'_>) -> Option<usize>
+    ensures { SomeIff result (file_size file.now ≤ room) (room - file_size file.now) }
+{
+    let mut left = room.checked_sub(file.sections.len())?;
+    for section in file.sections.as_slice() {
+        left = left.checked_sub(section_size(section))?;
+    }
+    Some(left)
+}
+
+pub(crate) fn fits(room: usize, files: &[File<'_>]) -> bool
+    ensures { result ≡ nat_le (length files.now + sum_by file_size files.now) room }
+{
+    let Some(mut left) = room.checked_sub(files.len()) else {
+        return false;
+    };
+    for file in files {
+        match room_after_file(left, file) {
+            Some(after) => left = after,
+            None => return false,
+        }
+    }
+    true
+}
