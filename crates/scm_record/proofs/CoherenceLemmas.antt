@@ -14,7 +14,7 @@ use Rattle.scm_types.specs.Mode.{is_absent}
 use Rattle.scm_types.specs.Same.{IsCoherent, is_checked_deletion, is_unchecked_creation, line_marks}
 use Rattle.scm_record.specs.declared.keys.SelectionKey.{SelectionKey}
 use Rattle.scm_record.specs.declared.keys.SelectionKey.TheVariants as keys
-use Rattle.scm_record.specs.Toggle.{after_lines, after_mode, line_mark, mark_after, modify, with_changed_set, with_deletion_unchecked, with_file_toggled, with_key_toggled, with_line_inverted, with_line_toggled, with_mode_checked, with_section_set, with_section_toggled, with_this_line_toggled, with_this_section_toggled}
+use Rattle.scm_record.specs.Toggle.{after_lines, after_mode, after_section, line_mark, mark_after, modify, with_changed_set, with_deletion_unchecked, with_file_toggled, with_key_toggled, with_line_inverted, with_line_toggled, with_mode_checked, with_section_toggled, with_this_line_toggled, with_this_section_toggled}
 use Rattle.scm_record.specs.Coherence.{is_deletion, is_new_and_deleted, KeepsCoherent}
 
 -- tests of one item and of the rest
@@ -82,13 +82,16 @@ pub record Fits (mode : FileMode) (ss : List Section) : Type 0 where
   pub on : IsTrue (list_any is_checked_deletion ss) → IsTrue (list_all (every_line is_on) ss)
   pub off : IsTrue (is_absent mode) → IsTrue (list_any is_unchecked_creation ss) → IsTrue (list_all (every_line not) ss)
 
-pub fits_from : (file : File) → IsCoherent file → Fits file.file_mode file.sections
+abbrev pub FitsFile : File → Type 0
+FitsFile file = Fits file.file_mode file.sections
+
+pub fits_from : (file : File) → IsCoherent file → FitsFile file
 fits_from file h = record {
   on = λ t. rw (← every_section is_on file.sections) (h.deletion t);
   off = λ a t. rw (← every_section not file.sections) (h.creation a t);
 }
 
-pub coherent_from : (file : File) → Fits file.file_mode file.sections → IsCoherent file
+pub coherent_from : (file : File) → FitsFile file → IsCoherent file
 coherent_from file h = record {
   deletion = λ t. rw (every_section is_on file.sections) (h.on t);
   creation = λ a t. rw (every_section not file.sections) (h.off a t);
@@ -221,7 +224,7 @@ module _ (ss : List Section) (i : ℕ) (c : Bool) where
   mode_off_fit modes.Absent new_mode at h = set_fits modes.Absent false (modify (section_with_marks (λ _. false)) ss i)
 
 -- a section is set to a mark
-section_set_fits : (mode : FileMode) (ss : List Section) (i : ℕ) (s : Section) → slice_get ss i ≡ Some s → (is_absent mode && list_any is_deletion ss) ≡ false → Fits mode ss → (b : Bool) → Fits mode (with_section_set mode i s b ss)
+section_set_fits : (mode : FileMode) (ss : List Section) (i : ℕ) (s : Section) → slice_get ss i ≡ Some s → (is_absent mode && list_any is_deletion ss) ≡ false → Fits mode ss → (b : Bool) → Fits mode (after_section mode b s (modify (section_with_marks (λ _. b)) ss i))
 section_set_fits mode ss i (sections.Unchanged lines) at pure h b = record {
   on = on_stays ss i (sections.Unchanged lines) (section_with_marks (λ _. b)) at mode (λ u. u) (λ u. u) h;
   off = off_stays ss i (sections.Unchanged lines) (section_with_marks (λ _. b)) at mode (λ u. u) (λ u. u) h;
@@ -237,9 +240,10 @@ section_set_fits mode ss i (sections.Binary c old new) at pure h b = record {
   off = off_stays ss i (sections.Binary c old new) (section_with_marks (λ _. b)) at mode (λ u. u) (λ u. u) h;
 }
 
-section_fits : (mode : FileMode) (ss : List Section) (i : ℕ) (o : Option Section) → slice_get ss i ≡ o → (is_absent mode && list_any is_deletion ss) ≡ false → Fits mode ss → Fits mode (with_this_section_toggled mode i o ss)
-section_fits mode ss i None at pure h = h
-section_fits mode ss i (Some s) at pure h = section_set_fits mode ss i s at pure h (mark_after (tristate_of (section_marks s)))
+section_fits : (file : File) (i : ℕ) (o : Option Section) → slice_get file.sections i ≡ o → is_new_and_deleted file ≡ false → FitsFile file → FitsFile (with_this_section_toggled file i o)
+section_fits file i None at pure h = h
+section_fits file i (Some s) at pure h =
+    section_set_fits file.file_mode file.sections i s at pure h (mark_after (tristate_of (section_marks s)))
 
 -- a line is inverted
 marks_of_lines : (test : Bool → Bool) (lines : List SectionChangedLine) → every_line test (sections.Changed lines) ≡ list_all (λ (l : SectionChangedLine). test l.is_checked) lines
@@ -256,16 +260,17 @@ inverted_fits mode ss i line lines l at line_at pure h true is =
 inverted_fits mode ss i line lines l at line_at pure h false is =
     lines_on_fit ss i lines _ (with_line_inverted line) at refl mode (inverted_stay is_on lines line l line_at (rw is refl)) pure h
 
-line_fits-in : (mode : FileMode) (ss : List Section) (i line : ℕ) (lines : List SectionChangedLine) (l : Option SectionChangedLine) → slice_get ss i ≡ Some (sections.Changed lines) → slice_get lines line ≡ l → (is_absent mode && list_any is_deletion ss) ≡ false → Fits mode ss → Fits mode (with_this_line_toggled mode i line (option_map (λ (l : SectionChangedLine). l.is_checked) l) ss)
-line_fits-in mode ss i line lines None at line_at pure h = h
-line_fits-in mode ss i line lines (Some l) at line_at pure h = inverted_fits mode ss i line lines l at line_at pure h l.is_checked refl
+line_fits-in : (file : File) (i line : ℕ) (lines : List SectionChangedLine) (l : Option SectionChangedLine) → slice_get file.sections i ≡ Some (sections.Changed lines) → slice_get lines line ≡ l → is_new_and_deleted file ≡ false → FitsFile file → FitsFile (with_this_line_toggled file i line (option_map (λ (l : SectionChangedLine). l.is_checked) l))
+line_fits-in file i line lines None at line_at pure h = h
+line_fits-in file i line lines (Some l) at line_at pure h =
+    inverted_fits file.file_mode file.sections i line lines l at line_at pure h l.is_checked refl
 
-line_fits : (mode : FileMode) (ss : List Section) (i line : ℕ) (o : Option Section) → slice_get ss i ≡ o → (is_absent mode && list_any is_deletion ss) ≡ false → Fits mode ss → Fits mode (with_this_line_toggled mode i line (option_and_then (line_mark line) o) ss)
-line_fits mode ss i line None at pure h = h
-line_fits mode ss i line (Some (sections.Unchanged lines)) at pure h = h
-line_fits mode ss i line (Some (sections.Changed lines)) at pure h = line_fits-in mode ss i line lines (slice_get lines line) at refl pure h
-line_fits mode ss i line (Some (sections.FileMode c m)) at pure h = h
-line_fits mode ss i line (Some (sections.Binary c old new)) at pure h = h
+line_fits : (file : File) (i line : ℕ) (o : Option Section) → slice_get file.sections i ≡ o → is_new_and_deleted file ≡ false → FitsFile file → FitsFile (with_this_line_toggled file i line (option_and_then (line_mark line) o))
+line_fits file i line None at pure h = h
+line_fits file i line (Some (sections.Unchanged lines)) at pure h = h
+line_fits file i line (Some (sections.Changed lines)) at pure h = line_fits-in file i line lines (slice_get lines line) at refl pure h
+line_fits file i line (Some (sections.FileMode c m)) at pure h = h
+line_fits file i line (Some (sections.Binary c old new)) at pure h = h
 
 -- one file of a list is changed
 modify_at : {A : Type 0} (f : A → A) (xs : List A) (k i : ℕ) (x y : A) → slice_get xs i ≡ Some x → slice_get (modify f xs k) i ≡ Some y → (y ≡ f x) ⊎ (y ≡ x)
@@ -275,7 +280,7 @@ modify_at f (z ∷ zs) zero (suc i) x y e d = inr cc
 modify_at f (z ∷ zs) (suc k) zero x y e d = inr cc
 modify_at f (z ∷ zs) (suc k) (suc i) x y e d = modify_at f zs k i x y e d
 
-file_keeps : (f : File → File) → ((file : File) → is_new_and_deleted file ≡ false → Fits file.file_mode file.sections → Fits (f file).file_mode (f file).sections) → (files : List File) (k : ℕ) → KeepsCoherent files (modify f files k)
+file_keeps : (f : File → File) → ((file : File) → is_new_and_deleted file ≡ false → FitsFile file → FitsFile (f file)) → (files : List File) (k : ℕ) → KeepsCoherent files (modify f files k)
 file_keeps f fits files k i before after e d pure h =
     elim (modify_at f files k i before after e d) [
       | inl changed ↦ rw changed (coherent_from (f before) (fits before pure (fits_from before h)))
@@ -287,6 +292,6 @@ toggle_keeps_coherent files keys.None = λ i before after e d pure h. let same :
 toggle_keeps_coherent files (keys.File key) =
     file_keeps with_file_toggled (λ file pure h. set_fits file.file_mode (mark_after (tristate_of (file_marks file))) file.sections) files key.file_idx
 toggle_keeps_coherent files (keys.Section key) =
-    file_keeps (with_section_toggled key.section_idx) (λ file pure h. section_fits file.file_mode file.sections key.section_idx (slice_get file.sections key.section_idx) refl pure h) files key.file_idx
+    file_keeps (with_section_toggled key.section_idx) (λ file pure h. section_fits file key.section_idx (slice_get file.sections key.section_idx) refl pure h) files key.file_idx
 toggle_keeps_coherent files (keys.Line key) =
-    file_keeps (with_line_toggled key.section_idx key.line_idx) (λ file pure h. line_fits file.file_mode file.sections key.section_idx key.line_idx (slice_get file.sections key.section_idx) refl pure h) files key.file_idx
+    file_keeps (with_line_toggled key.section_idx key.line_idx) (λ file pure h. line_fits file key.section_idx key.line_idx (slice_get file.sections key.section_idx) refl pure h) files key.file_idx

@@ -67,23 +67,22 @@ after_section mode checked (sections.Binary is_checked old new) list = list
 abbrev pub with_file_toggled : File → File
 with_file_toggled file = file_with_marks (λ _. mark_after (tristate_of (file_marks file))) file
 
--- the section at an index is set to a mark, with what follows
-abbrev pub with_section_set : FileMode → ℕ → Section → Bool → List Section → List Section
-with_section_set mode index section checked list =
-    after_section mode checked section (modify (section_with_marks (λ _. checked)) list index)
+-- a section of the file is set to a mark, with what follows
+abbrev pub with_section_set : File → ℕ → Section → Bool → File
+with_section_set file index section checked =
+    record file {
+      sections = after_section file.file_mode checked section
+          (modify (section_with_marks (λ _. checked)) file.sections index);
+    }
 
-abbrev pub with_this_section_toggled : FileMode → ℕ → Option Section → List Section → List Section
-with_this_section_toggled mode index None list = list
-with_this_section_toggled mode index (Some section) list =
-    with_section_set mode index section (mark_after (tristate_of (section_marks section))) list
-
--- the sections of a file of this mode, the one at an index toggled, if there is one
-abbrev pub sections_toggled : FileMode → ℕ → List Section → List Section
-sections_toggled mode index list = with_this_section_toggled mode index (slice_get list index) list
+abbrev pub with_this_section_toggled : File → ℕ → Option Section → File
+with_this_section_toggled file index None = file
+with_this_section_toggled file index (Some section) =
+    with_section_set file index section (mark_after (tristate_of (section_marks section)))
 
 -- a section of the file is toggled, if it has one there
 abbrev pub with_section_toggled : ℕ → File → File
-with_section_toggled index file = record file { sections = sections_toggled file.file_mode index file.sections }
+with_section_toggled index file = with_this_section_toggled file index (slice_get file.sections index)
 
 -- the section with a line inverted
 abbrev pub with_line_inverted : ℕ → Section → Section
@@ -99,23 +98,15 @@ line_mark line (sections.Changed lines) = option_map (λ (l : SectionChangedLine
 line_mark line (sections.FileMode is_checked mode) = None
 line_mark line (sections.Binary is_checked old new) = None
 
--- the mark of a line of a section at an index
-abbrev pub line_mark_at : ℕ → ℕ → List Section → Option Bool
-line_mark_at section line list = option_and_then (line_mark line) (slice_get list section)
-
-abbrev pub with_this_line_toggled : FileMode → ℕ → ℕ → Option Bool → List Section → List Section
-with_this_line_toggled mode section line None list = list
-with_this_line_toggled mode section line (Some checked) list =
-    after_lines mode (not checked) (modify (with_line_inverted line) list section)
-
--- the sections of a file of this mode, a line of the one at an index toggled, if there is one
-abbrev pub line_toggled : FileMode → ℕ → ℕ → List Section → List Section
-line_toggled mode section line list = with_this_line_toggled mode section line (line_mark_at section line list) list
+abbrev pub with_this_line_toggled : File → ℕ → ℕ → Option Bool → File
+with_this_line_toggled file section line None = file
+with_this_line_toggled file section line (Some checked) =
+    record file { sections = after_lines file.file_mode (not checked) (modify (with_line_inverted line) file.sections section) }
 
 -- a line of the file is toggled, if it has one there
 abbrev pub with_line_toggled : ℕ → ℕ → File → File
 with_line_toggled section line file =
-    record file { sections = line_toggled file.file_mode section line file.sections }
+    with_this_line_toggled file section line (option_and_then (line_mark line) (slice_get file.sections section))
 
 -- what the key names is toggled
 abbrev pub with_key_toggled : SelectionKey → List File → List File

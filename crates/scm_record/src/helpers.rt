@@ -4,10 +4,9 @@ ghost use Rattle.std.specs.Prelude.{◌≡◌};
 use crate::events::Event;
 use crate::inputs::{RecordInput, TerminalKind};
 use scm_types::RecordError;
+pub use scm_types::helpers::make_binary_description;
 use std::alloc::Global;
 use std::collections::VecDeque;
-
-pub use scm_types::helpers::make_binary_description;
 
 /// An input of single events, one a batch, and of messages.
 #[derive(Drop)]

@@ -23,13 +23,9 @@ pub use inputs::{RecordInput, TerminalKind};
 pub use keys::{FileKey, LineKey, SectionKey, SelectionKey};
 pub use quit_dialog::{QuitDialog, QuitDialogButtonId};
 pub use recording::Recorder;
-pub use scm_types::consts;
-pub use scm_types::laws;
-pub use scm_types::{ChangeType, SectionChangedLine};
-pub use scm_types::{Commit, RecordState};
-pub use scm_types::{File, FileMode, Section, Tristate};
-pub use scm_types::{IsizeExt, UsizeExt};
-pub use scm_types::{Items, OwnedText, Text};
-pub use scm_types::{RecordError, TryClone, make_binary_description};
-pub use scm_types::{SelectedChanges, SelectedContents};
+pub use scm_types::{
+    ChangeType, Commit, File, FileMode, IsizeExt, Items, OwnedText, RecordError, RecordState,
+    Section, SectionChangedLine, SelectedChanges, SelectedContents, Text, Tristate, TryClone,
+    UsizeExt, consts, laws, make_binary_description,
+};
 pub use store::Screens;

@@ -11,7 +11,6 @@ use crate::keys::{FileKey, LineKey, SectionKey, SelectionKey};
 use crate::moves::{inner_key, next_key, previous_key};
 use crate::quit_dialog::{QuitDialog, QuitDialogButtonId};
 use crate::toggles::toggle_key;
-
 use scm_types::{Commit, File, Items, RecordError, RecordState, Tristate};
 use std::alloc::Global;
 use std::marker::Model;
@@ -63,10 +62,7 @@ impl<'state> Recorder<'state> {
     ///
     /// The first file is selected, and each section is expanded. The state has to be within the
     /// limits, as [`RecordState::is_accepted`] says. After `OutOfMemory` it is gone.
-    pub fn new(
-        alloc: Global,
-        state: RecordState<'state>,
-    ) -> Result<Recorder<'state>, RecordError>
+    pub fn new(alloc: Global, state: RecordState<'state>) -> Result<Recorder<'state>, RecordError>
         requires { IsTrue (is_accepted_state state) }
         ensures ok { IfOk result (λ recorder. recorder ≡ start state.entry) }
         ensures err { IfErr result (λ e. e ≡ OutOfMemory) }
@@ -103,7 +99,11 @@ impl<'state> Recorder<'state> {
         ensures ok { IfOk result (λ keys. keys.items ≡ seen_keys self.now) }
         ensures err { IfErr result (λ e. e ≡ OutOfMemory) }
     {
-        visible_keys(self.allocator(), &self.expanded, self.state.files.as_slice())
+        visible_keys(
+            self.allocator(),
+            &self.expanded,
+            self.state.files.as_slice(),
+        )
     }
 
     // Asks that the selection be brought onto the screen.

@@ -1,9 +1,8 @@
 //! Toggles of files, sections and lines, in place, with all that follows from them in the same file.
-ghost use Rattle.std.specs.Prelude.{◌≡◌, false, map, not, true};
+ghost use Rattle.std.specs.Prelude.{◌≡◌, MatchOption, false, map, not, option_and_then, slice_get, true};
 ghost use Rattle.scm_types.specs.Marks.{line_with_mark, section_with_marks};
-ghost use Rattle.scm_types.specs.Mode.{is_absent};
 ghost use Rattle.scm_record.specs.Coherence.{KeepsCoherent};
-ghost use Rattle.scm_record.specs.Toggle.{after_lines, after_mode, line_mark, line_mark_at, line_toggled, mark_after, modify, sections_toggled, with_changed_set, with_deletion_unchecked, with_file_toggled, with_key_toggled, with_line_inverted, with_line_toggled, with_mode_checked, with_section_toggled};
+ghost use Rattle.scm_record.specs.Toggle.{after_lines, after_mode, after_section, line_mark, mark_after, modify, with_changed_set, with_deletion_unchecked, with_file_toggled, with_key_toggled, with_line_inverted, with_line_toggled, with_mode_checked, with_section_toggled};
 
 use crate::keys::SelectionKey;
 use scm_types::{File, FileMode, Section, SectionChangedLine, Tristate};
@@ -15,15 +14,6 @@ fn mark_after(tristate: Tristate) -> bool
     match tristate {
         Tristate::False => true,
         Tristate::Partial | Tristate::True => false,
-    }
-}
-
-fn is_absent(mode: FileMode) -> bool
-    ensures { result ≡ is_absent mode }
-{
-    match mode {
-        FileMode::Unix(_) => false,
-        FileMode::Absent => true,
     }
 }
 
@@ -43,7 +33,7 @@ fn uncheck_deletion(section: &mut Section<'_>)
 {
     match section {
         Section::FileMode { is_checked, mode } => {
-            if is_absent(*mode) {
+            if mode.is_absent() {
                 *is_checked = false;
             }
         }
@@ -101,7 +91,7 @@ fn follow_lines(mode: FileMode, checked: bool, sections: &mut [Section<'_>])
 {
     if !checked {
         uncheck_deletions(sections);
-    } else if is_absent(mode) {
+    } else if mode.is_absent() {
         check_modes(sections);
     }
 }
@@ -111,10 +101,10 @@ fn follow_mode(mode: FileMode, new_mode: FileMode, checked: bool, sections: &mut
     ensures { sections.new ≡ after_mode mode new_mode checked sections.old }
 {
     if checked {
-        if is_absent(new_mode) {
+        if new_mode.is_absent() {
             check_all_changed(sections);
         }
-    } else if is_absent(mode) {
+    } else if mode.is_absent() {
         uncheck_all(sections);
     }
 }
@@ -128,16 +118,16 @@ fn set_section_at(sections: &mut [Section<'_>], index: usize, checked: bool)
     }
 }
 
-// Toggles the section at an index, in a file of this mode.
-fn toggle_section_at(mode: FileMode, sections: &mut [Section<'_>], index: usize)
-    ensures { sections.new ≡ sections_toggled mode index sections.old }
+// Sets the section at an index, if there is one, in a file of this mode, with what follows.
+fn set_section(mode: FileMode, sections: &mut [Section<'_>], index: usize, checked: bool)
+    ensures { MatchOption (slice_get sections.old index) (sections.new ≡ sections.old)
+        (λ section. sections.new ≡ after_section mode checked section
+        (modify (section_with_marks (λ _. checked)) sections.old index)) }
 {
     if index >= sections.len() {
         return;
     }
-    let section = &sections[index];
-    let checked = mark_after(section.tristate());
-    match section {
+    match &sections[index] {
         Section::Unchanged { .. } | Section::Binary { .. } => {
             set_section_at(sections, index, checked);
         }
@@ -168,7 +158,7 @@ fn line_mark(section: &Section<'_>, line: usize) -> Option<bool>
 
 // The mark of a line of the section at an index.
 fn line_mark_at(sections: &[Section<'_>], section: usize, line: usize) -> Option<bool>
-    ensures { result ≡ line_mark_at section line sections.now }
+    ensures { result ≡ option_and_then (line_mark line) (slice_get sections.now section) }
 {
     match sections.get(section) {
         None => None,
@@ -204,17 +194,18 @@ fn invert_line_at(sections: &mut [Section<'_>], section: usize, line: usize)
     }
 }
 
-// Toggles a line of the section at an index, in a file of this mode.
-fn toggle_line_at(mode: FileMode, sections: &mut [Section<'_>], section: usize, line: usize)
-    ensures { sections.new ≡ line_toggled mode section line sections.old }
+// Inverts a line, which gets this mark, in a file of this mode, with what follows.
+fn set_line(
+    mode: FileMode,
+    sections: &mut [Section<'_>],
+    section: usize,
+    line: usize,
+    checked: bool,
+)
+    ensures { sections.new ≡ after_lines mode checked (modify (with_line_inverted line) sections.old section) }
 {
-    match line_mark_at(sections, section, line) {
-        None => {}
-        Some(checked) => {
-            invert_line_at(sections, section, line);
-            follow_lines(mode, !checked, sections);
-        }
-    }
+    invert_line_at(sections, section, line);
+    follow_lines(mode, checked, sections);
 }
 
 // Toggles the file as a whole.
@@ -229,14 +220,25 @@ fn toggle_file(file: &mut File<'_>)
 fn toggle_section(file: &mut File<'_>, index: usize)
     ensures { file.new ≡ with_section_toggled index file.old }
 {
-    toggle_section_at(file.file_mode, file.sections.as_mut_slice(), index);
+    if let Some(section) = file.sections.get(index) {
+        let checked = mark_after(section.tristate());
+        set_section(file.file_mode, file.sections.as_mut_slice(), index, checked);
+    }
 }
 
 // Toggles a line of the file.
 fn toggle_line(file: &mut File<'_>, section: usize, line: usize)
     ensures { file.new ≡ with_line_toggled section line file.old }
 {
-    toggle_line_at(file.file_mode, file.sections.as_mut_slice(), section, line);
+    if let Some(was_checked) = line_mark_at(file.sections.as_slice(), section, line) {
+        set_line(
+            file.file_mode,
+            file.sections.as_mut_slice(),
+            section,
+            line,
+            !was_checked,
+        );
+    }
 }
 
 /// Toggles what the key names, if it is there, with all that follows in the same file.

@@ -3,6 +3,5 @@
 
 #[cfg(test)]
 mod record;
-
 #[cfg(test)]
 mod types;

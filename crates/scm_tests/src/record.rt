@@ -225,7 +225,13 @@ const ROWS: [Row; 13] = [
     // Go Back is pressed
     (
         Given::New,
-        &[TOGGLE, Event::QuitInterrupt, OUTER, TOGGLE, Event::QuitAccept],
+        &[
+            TOGGLE,
+            Event::QuitInterrupt,
+            OUTER,
+            TOGGLE,
+            Event::QuitAccept,
+        ],
         "accepted 11",
         5,
     ),
@@ -304,14 +310,22 @@ fn a_testing_input_gives_its_events(rt: HostRuntime) -> Result<(), Fail> {
     let alloc = rt.alloc();
     let events = vec![in alloc; Event::QuitCancel]?;
     let mut input = TestingInput::new(alloc, 80, 24, events)?;
-    assert_eq!(rt; input.terminal_kind(), TerminalKind::Testing { width: 80, height: 24 });
+    assert_eq!(rt;
+        input.terminal_kind(),
+        TerminalKind::Testing {
+            width: 80,
+            height: 24
+        }
+    );
     assert_eq!(rt; input.batches_left(), 1);
     let first = input.next_events()?;
     assert_eq!(rt; first.as_slice(), [Event::QuitCancel].as_slice());
     assert_eq!(rt; input.batches_left(), 0);
     let second = input.next_events()?;
     assert_eq!(rt; second.as_slice(), [Event::None].as_slice());
-    input.commit_messages.push_back(String::from_str(alloc, "bye")?)?;
+    input
+        .commit_messages
+        .push_back(String::from_str(alloc, "bye")?)?;
     let answer = input.edit_commit_message("hello")?;
     assert_eq!(rt; answer.as_str(), "bye");
     let Err(error) = input.edit_commit_message("hello") else {
@@ -332,7 +346,10 @@ fn a_store_gives_places(rt: HostRuntime) -> Result<(), Fail> {
     assert!(rt; first != second);
     assert!(rt; matches!(first.event(), Event::TakeScreenshot(shot) if shot == first));
     assert_eq!(rt; screens.text(first), "<this screenshot was never assigned>");
-    assert_eq!(rt; screens.text(second), "<this screenshot was never assigned>");
+    assert_eq!(rt;
+        screens.text(second),
+        "<this screenshot was never assigned>"
+    );
     Ok(())
 }
 
