@@ -1,2 +1,4 @@
 pub mod MaskLemmas
 pub mod RectLemmas
+pub mod ReplacedLemmas
+pub mod TextLemmas

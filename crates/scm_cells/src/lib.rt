@@ -3,6 +3,10 @@
 
 pub use masks::Mask;
 pub use rectangle::{Rect, RectSize, ScreenRect};
+pub use replaced::{push_spans_from_line, replace_control_character};
+pub use text::{Clusters, Line, Span, text_width};
 
 mod masks;
 mod rectangle;
+mod replaced;
+mod text;
