@@ -3,18 +3,19 @@ use Rattle.std.proofs.Common.{◌≡◌, ◌⊎◌, inl, inr, ℕ, zero, suc, Bo
 use Rattle.std.specs.Prelude.{slice_get, IsTrue, option_and_then, option_map}
 use Rattle.std.specs.List.{list_any, list_all, flat_map}
 use Rattle.std.proofs.lemmas.List.Folds.{list_all-append, list_all-map}
+use Rattle.std.proofs.lemmas.Option.{slice_get-map}
 use Rattle.scm_types.specs.declared.lines.SectionChangedLine.{SectionChangedLine}
 use Rattle.scm_types.specs.declared.modes.FileMode.{FileMode}
 use Rattle.scm_types.specs.declared.modes.FileMode.TheVariants as modes
 use Rattle.scm_types.specs.declared.sections.Section.{Section}
 use Rattle.scm_types.specs.declared.sections.Section.TheVariants as sections
 use Rattle.scm_types.specs.declared.files.File.{File}
-use Rattle.scm_types.specs.Marks.{line_with_mark, section_with_marks, section_marks, file_marks, tristate_of}
+use Rattle.scm_types.specs.Marks.{file_with_marks, line_with_mark, section_with_marks, section_marks, file_marks, tristate_of}
 use Rattle.scm_types.specs.Mode.{is_absent}
 use Rattle.scm_types.specs.Same.{IsCoherent, is_checked_deletion, is_unchecked_creation, line_marks}
 use Rattle.scm_record.specs.declared.keys.SelectionKey.{SelectionKey}
 use Rattle.scm_record.specs.declared.keys.SelectionKey.TheVariants as keys
-use Rattle.scm_record.specs.Toggle.{after_lines, after_mode, after_section, line_mark, mark_after, modify, with_changed_set, with_deletion_unchecked, with_file_toggled, with_key_toggled, with_line_inverted, with_line_toggled, with_mode_checked, with_section_toggled, with_this_line_toggled, with_this_section_toggled}
+use Rattle.scm_record.specs.Toggle.{toggled_files, after_lines, after_mode, after_section, line_mark, mark_after, modify, with_changed_set, with_deletion_unchecked, with_file_toggled, with_key_toggled, with_line_inverted, with_line_toggled, with_mode_checked, with_section_toggled, with_this_line_toggled, with_this_section_toggled}
 use Rattle.scm_record.specs.Coherence.{is_deletion, is_new_and_deleted, KeepsCoherent}
 
 -- tests of one item and of the rest
@@ -295,3 +296,44 @@ toggle_keeps_coherent files (keys.Section key) =
     file_keeps (with_section_toggled key.section_idx) (λ file pure h. section_fits file key.section_idx (slice_get file.sections key.section_idx) refl pure h) files key.file_idx
 toggle_keeps_coherent files (keys.Line key) =
     file_keeps (with_line_toggled key.section_idx key.line_idx) (λ file pure h. line_fits file key.section_idx key.line_idx (slice_get file.sections key.section_idx) refl pure h) files key.file_idx
+
+-- without a change, and where the state may be read-only
+pub keeps_coherent-same : (files : List File) → KeepsCoherent files files
+keeps_coherent-same files i before after e d pure h = let same : after ≡ before = cc in rw same h
+
+pub toggled_keeps_coherent : (read_only : Bool) (key : SelectionKey) (files : List File) → KeepsCoherent files (toggled_files read_only key files)
+toggled_keeps_coherent true key files = keeps_coherent-same files
+toggled_keeps_coherent false key files = toggle_keeps_coherent files key
+
+-- whether a file is new and also deleted does not hang on its marks
+abbrev pub bare_file : File → File
+bare_file = file_with_marks (λ _. false)
+
+deletion-bare : (s : Section) → is_deletion (section_with_marks (λ _. false) s) ≡ is_deletion s
+deletion-bare (sections.Unchanged lines) = refl
+deletion-bare (sections.Changed lines) = refl
+deletion-bare (sections.FileMode c m) = refl
+deletion-bare (sections.Binary c old new) = refl
+
+deletions-bare : (ss : List Section) → list_any is_deletion (map (section_with_marks (λ _. false)) ss) ≡ list_any is_deletion ss
+deletions-bare [] = refl
+deletions-bare (s ∷ ss) = rw (deletion-bare s, deletions-bare ss) refl
+
+new_and_deleted-bare : (file : File) → is_new_and_deleted (bare_file file) ≡ is_new_and_deleted file
+new_and_deleted-bare file = rw (deletions-bare file.sections) refl
+
+same_new_and_deleted : (a b : File) → bare_file a ≡ bare_file b → is_new_and_deleted a ≡ is_new_and_deleted b
+same_new_and_deleted a b e = sym (new_and_deleted-bare a) ∙ ap is_new_and_deleted e ∙ new_and_deleted-bare b
+
+-- a change of marks and then another
+then_at : (o : Option File) (new : List File) (i : ℕ) (before after : File) → option_map bare_file o ≡ Some (bare_file before) → ((mid : File) → o ≡ Some mid → is_new_and_deleted mid ≡ false → IsCoherent mid → IsCoherent after) → ((mid : File) → o ≡ Some mid → IsCoherent mid) → is_new_and_deleted before ≡ false → IsCoherent after
+then_at None new i before after e second first pure = cc
+then_at (Some mid) new i before after e second first pure =
+    let same : bare_file mid ≡ bare_file before = cc in
+    second mid refl (same_new_and_deleted mid before same ∙ pure) (first mid refl)
+
+pub keeps_coherent-then : (old mid new : List File) → map bare_file mid ≡ map bare_file old → KeepsCoherent old mid → KeepsCoherent mid new → KeepsCoherent old new
+keeps_coherent-then old mid new same first second i before after e d pure h =
+    let at : option_map bare_file (slice_get mid i) ≡ Some (bare_file before) =
+    sym (slice_get-map bare_file mid i) ∙ ap (λ (files : List File). slice_get files i) same ∙ slice_get-map bare_file old i ∙ ap (option_map bare_file) e in
+    then_at (slice_get mid i) new i before after at (λ m em. second i m after em d) (λ m em. first i before m e em pure h) pure
