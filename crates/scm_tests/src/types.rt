@@ -1,10 +1,9 @@
 // Tests of the state types.
 use scm_types::consts::{DUMP_UI_STATE_FILENAME, ENV_VAR_DEBUG_UI, ENV_VAR_DUMP_UI_STATE};
 use scm_types::helpers::make_binary_description;
-use scm_types::laws;
 use scm_types::{
     ChangeType, Commit, File, FileMode, IsizeExt, Items, OwnedText, RecordError, RecordState,
-    Section, SectionChangedLine, SelectedChanges, SelectedContents, Text, Tristate, UsizeExt,
+    Section, SectionChangedLine, SelectedChanges, SelectedContents, Text, Tristate, UsizeExt, laws,
 };
 use std::alloc::{AllocError, Global};
 use std::borrow::CowStr;

@@ -3,23 +3,25 @@ use Rattle.std.proofs.Common.{◌≡◌, ℕ, Bool, true, false, not, List, [], 
 use Rattle.std.specs.List.{flat_map, list_any, concat}
 use Rattle.std.proofs.lemmas.List.{map-append}
 use Rattle.std.proofs.lemmas.List.Elements.{filter-append}
+use Rattle.scm_types.specs.declared.lines.ChangeType.{ChangeType}
 use Rattle.scm_types.specs.declared.lines.ChangeType.TheVariants.{Added, Removed}
 use Rattle.scm_types.specs.declared.lines.SectionChangedLine.{SectionChangedLine}
 use Rattle.scm_types.specs.declared.sections.Section.{Section}
 use Rattle.scm_types.specs.declared.sections.Section.TheVariants.{Unchanged, Changed, FileMode, Binary}
 use Rattle.scm_types.specs.declared.files.File.{File}
 use Rattle.scm_types.specs.declared.splits.SelectedContents.TheVariants as contents
-use Rattle.scm_types.specs.Split.{takes, is_binary, tail_of, section_lines, side_lines, last_binary_change, side_contents, is_emptied}
+use Rattle.scm_types.specs.Split.{takes, takes_change, is_binary, tail_of, section_lines, side_lines, last_binary_change, side_contents, is_emptied}
 use Rattle.scm_types.specs.Laws.{FileLine, Context, Change, line_text, lines_of_section, stands_in, joined_lines, has_binary, KeepsEveryLine, counted}
 use Rattle.scm_types.proofs.LawLemmas.{counted_text}
 
 -- exactly one side takes a changed line
+takes_change-other : (t : ChangeType) (b : Bool) → takes_change false t b ≡ not (takes_change true t b)
+takes_change-other Added b = refl
+takes_change-other Removed true = refl
+takes_change-other Removed false = refl
+
 takes-other : (l : SectionChangedLine) → takes false l ≡ not (takes true l)
-takes-other l = elim l.change_type as (λ t. (elim t [ Added ↦ not l.is_checked | Removed ↦ l.is_checked ]) ≡ not (elim t [ Added ↦ l.is_checked | Removed ↦ not l.is_checked ])) [ Added ↦ refl | Removed ↦ twice l.is_checked ]
-  where
-    twice : (b : Bool) → b ≡ not (not b)
-    twice true = refl
-    twice false = refl
+takes-other l = takes_change-other l.change_type l.is_checked
 
 context_lines : (side : Bool) (texts : List (List ℕ)) → map line_text (filter (stands_in side) (map Context texts)) ≡ texts
 context_lines side [] = refl
