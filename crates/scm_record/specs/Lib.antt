@@ -4,4 +4,15 @@ pub mod Moves
 pub mod Toggle
 pub mod Session
 pub mod Step
+pub mod Script
+pub mod Testing
+pub mod Store
+pub mod Stored
+pub mod Flow
+pub mod SessionView
+pub mod Run
+pub mod Turn
+pub mod Budget
+pub mod Keeping
+pub mod Ending
 pub mod Coherence

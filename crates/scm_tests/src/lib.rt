@@ -2,4 +2,6 @@
 #![tactic(auto)]
 
 #[cfg(test)]
+mod record;
+#[cfg(test)]
 mod types;

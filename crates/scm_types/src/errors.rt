@@ -1,4 +1,4 @@
-// Why a selection ends without a state.
+//! Why a selection ends without a state.
 ghost use Rattle.std.specs.Prelude.{◌≡◌};
 ghost use Rattle.scm_types.specs.declared.errors.RecordError.TheVariants.{OutOfMemory};
 

@@ -1,4 +1,4 @@
-// A file with its changes, and their marks.
+//! A file with its changes, and their marks.
 ghost use Rattle.std.specs.Prelude.{◌≡◌, not};
 ghost use Rattle.scm_types.specs.Marks.{file_marks, file_with_marks, tristate_of};
 

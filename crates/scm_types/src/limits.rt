@@ -89,6 +89,7 @@ pub(crate) fn has_short_texts_in_files(files: &[File<'_>]) -> bool
     files.iter().all(|file| has_short_texts_in_file(file))
 }
 
+// How many lines the section has.
 fn section_size(section: &Section<'_>) -> usize
     ensures { result ≡ section_size section.now }
 {
@@ -110,6 +111,7 @@ fn room_after_file(room: usize, file: &File<'_>) -> Option<usize>
     Some(left)
 }
 
+// The files, with their sections and lines, number at most the room.
 pub(crate) fn fits(room: usize, files: &[File<'_>]) -> bool
     ensures { result ≡ nat_le (length files.now + sum_by file_size files.now) room }
 {

@@ -1,4 +1,4 @@
-// The lines of a change.
+//! The lines of a change.
 ghost use Rattle.std.specs.Prelude.{◌≡◌};
 ghost use Rattle.scm_types.specs.Split.{takes};
 

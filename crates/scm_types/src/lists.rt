@@ -1,4 +1,4 @@
-// The lists of a state.
+//! The lists of a state.
 ghost use Rattle.std.specs.Prelude.{◌≡◌, ◌<◌, ◌↔◌, ◌==◌, ◌++◌, ◌∷◌, ◌^◌, [], List, length, IfErr, IfSome, IsSome, is_ok, if◌then◌else◌, slice_get, slice_index_or};
 ghost use Rattle.std.specs.Option.{option_copied};
 ghost use Rattle.std.specs.Cmp.Lexicographic.{pointwise, lists_per, lists_equiv};
@@ -73,7 +73,7 @@ impl<T> Items<T> {
     pub fn get(&self, index: usize) -> Option<&T>
         ensures { option_copied result ≡ slice_get self.now index }
     {
-        self.inner.as_slice().get(index)
+        self.as_slice().get(index)
     }
 
     /// The element at an index, if there is one, to be changed in place.
@@ -98,15 +98,16 @@ impl<T> Items<T> {
     pub fn into_inner(self) -> Vec<T>
         ensures { result.items ≡ self }
     {
-        self.inner
+        let Items { inner } = self;
+        inner
     }
 }
 
 impl<T> From<Vec<T>> for Items<T> {
     ghost from_gives = { λ v a. a ≡ v.items };
 
-    fn from(inner: Vec<T>) -> Items<T> {
-        Items { inner }
+    fn from(list: Vec<T>) -> Items<T> {
+        Items { inner: list }
     }
 }
 

@@ -1,4 +1,4 @@
-// The mode of a file.
+//! The mode of a file.
 ghost use Rattle.std.specs.Prelude.{◌≡◌, ◌≤ℤ◌, pos, unsigned_abs, Some, Ok};
 ghost use Rattle.std.specs.Result.{OkIff};
 ghost use Rattle.scm_types.specs.declared.modes.FileMode.TheVariants.{Unix};

@@ -1,4 +1,4 @@
-// The sections of a file, and their marks.
+//! The sections of a file, and their marks.
 ghost use Rattle.std.specs.Prelude.{◌≡◌, not};
 ghost use Rattle.scm_types.specs.Marks.{is_editable_section, section_marks, section_with_marks, tristate_of};
 ghost use Rattle.scm_types.specs.Seen.{with_marks};

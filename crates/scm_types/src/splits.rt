@@ -1,4 +1,4 @@
-// The split of a file: what is selected, and what is not.
+//! The split of a file: what is selected, and what is not.
 ghost use Rattle.std.specs.Prelude.{◌≡◌, ◌++◌, IfOk, IfErr, OnOk, true, false, length, nat_lt, string_bytes, option_and_then};
 ghost use Rattle.std.specs.Option.{option_copied};
 ghost use Rattle.std.specs.List.{concat, list_any};
@@ -11,41 +11,47 @@ use crate::sections::Section;
 use crate::texts::{OwnedText, Text};
 use std::alloc::{AllocError, Global};
 
-/// What goes to one side of a split file.
+/// What one side of a split file holds.
 #[derive(Debug, Drop)]
 pub struct SelectedChanges<'a> {
-    /// The mode.
+    /// The mode of the file on this side.
     pub file_mode: FileMode,
-    /// The contents.
+
+    /// The contents of the file on this side.
     pub contents: SelectedContents<'a>,
 }
 
-/// The contents of one side of a split file.
+/// The contents of a file on one side of its split.
 #[derive(Debug, Drop, PartialEq, Eq, PartialOrd, Ord, Hash)]
 pub enum SelectedContents<'a> {
-    /// The contents stay as they are.
+    /// The contents stay as they are: there is nothing to write.
     Unchanged,
-    /// The contents are bytes.
+
+    /// The contents are bytes, which the file does not hold.
     Binary {
         /// What is shown for the contents before.
         old_description: Option<Text<'a>>,
+
         /// What is shown for the contents after.
         new_description: Option<Text<'a>>,
     },
+
     /// The contents are this text.
     Text {
-        /// The text.
+        /// The text: the lines of the side, one after another.
         contents: OwnedText,
     },
 }
 
 impl<'a> Section<'a> {
+    // The section changes bytes.
     fn is_binary(&self) -> bool
         ensures { result ≡ is_binary self.now }
     {
         matches!(self, Section::Binary { .. })
     }
 
+    // The section has a changed line.
     fn has_changed_line(&self) -> bool
         ensures { result ≡ has_changed_line self.now }
     {
@@ -57,8 +63,9 @@ impl<'a> Section<'a> {
 
     // Adds the lines of a side, and says whether there is one.
     fn push_side(&self, text: &mut String, selected: bool) -> Result<bool, AllocError>
-        ensures text { OnOk result (string_bytes text.new ≡ string_bytes text.old ++ concat (section_lines selected self.now)) }
-        ensures has_line { IfOk result (λ b. b ≡ nat_lt 0 (length (section_lines selected self.now))) }
+        ensures text { OnOk result (string_bytes text.new
+            ≡ string_bytes text.old ++ concat (section_lines selected self.now)) }
+        ensures has_line { IfOk result (λ has. has ≡ nat_lt 0 (length (section_lines selected self.now))) }
     {
         match self {
             Section::Unchanged { lines } => {
@@ -82,12 +89,14 @@ impl<'a> Section<'a> {
     }
 }
 
+// Some section has a changed line.
 fn has_changed_line_in(sections: &[Section<'_>]) -> bool
     ensures { result ≡ list_any has_changed_line sections.now }
 {
     sections.iter().any(|section| section.has_changed_line())
 }
 
+// The same text, borrowed, if there is one.
 fn borrowed<'s>(text: &'s Option<Text<'_>>) -> Option<Text<'s>>
     ensures { result ≡ text.now }
 {
@@ -98,6 +107,7 @@ fn borrowed<'s>(text: &'s Option<Text<'_>>) -> Option<Text<'s>>
 }
 
 impl<'a> File<'a> {
+    // The mode of a side, the selected one or the other.
     fn side_mode(&self, selected: bool) -> FileMode
         ensures { result ≡ side_mode selected self.now }
     {
@@ -115,7 +125,8 @@ impl<'a> File<'a> {
 
     // The last binary section, and the sections after it, or all.
     fn tail(&self) -> (Option<&Section<'a>>, &[Section<'a>])
-        ensures binary { option_and_then binary_change (option_copied result.0) ≡ last_binary_change self.now.sections }
+        ensures binary { option_and_then binary_change (option_copied result.0)
+            ≡ last_binary_change self.now.sections }
         ensures tail { result.1.now ≡ tail_of self.now.sections }
     {
         let sections = self.sections.as_slice();
@@ -130,6 +141,7 @@ impl<'a> File<'a> {
         (binary, &sections[start..])
     }
 
+    // A side without lines is the empty text, and not unchanged.
     fn is_emptied(&self, tail: &[Section<'a>], selected: bool) -> bool
         requires { tail.now ≡ tail_of self.now.sections }
         ensures { result ≡ is_emptied selected self.now }
@@ -140,6 +152,7 @@ impl<'a> File<'a> {
         is_there & (was_absent | (selected & has_changed_line))
     }
 
+    // The contents of a side that is no binary one.
     fn side_text(
         &self,
         alloc: Global,
@@ -147,8 +160,9 @@ impl<'a> File<'a> {
         selected: bool,
     ) -> Result<SelectedContents<'_>, RecordError>
         requires { tail.now ≡ tail_of self.now.sections }
-        ensures ok { IfOk result (λ r. r ≡ text_side (is_emptied selected self.now) (side_lines selected self.now)) }
-        ensures err { IfErr result (λ e. e ≡ RecordError.OutOfMemory) }
+        ensures ok { IfOk result (λ side. side
+            ≡ text_side (is_emptied selected self.now) (side_lines selected self.now)) }
+        ensures err { IfErr result (λ error. error ≡ RecordError.OutOfMemory) }
     {
         let mut text = String::new(alloc);
         let mut has_line = false;
@@ -166,9 +180,10 @@ impl<'a> File<'a> {
         }
     }
 
+    // A side, the selected one or the other.
     fn side(&self, alloc: Global, selected: bool) -> Result<SelectedChanges<'_>, RecordError>
-        ensures ok { IfOk result (λ r. r ≡ side_of selected self.now) }
-        ensures err { IfErr result (λ e. e ≡ RecordError.OutOfMemory) }
+        ensures ok { IfOk result (λ side. side ≡ side_of selected self.now) }
+        ensures err { IfErr result (λ error. error ≡ RecordError.OutOfMemory) }
     {
         let (binary, tail) = self.tail();
         if let Some(
@@ -195,13 +210,29 @@ impl<'a> File<'a> {
         })
     }
 
-    /// What is selected, and what is not.
+    /// The two sides of the file: what is selected, and what is not.
+    ///
+    /// Modes: the first `FileMode` section alone counts. If it is checked, the selected side has
+    /// its mode and the other side the file's; if not, the reverse. Without one both sides have
+    /// the file's mode.
+    ///
+    /// Contents: only the sections after the last `Binary` section count, or all if there is
+    /// none. The selected side takes, in order, the lines of context, the checked additions and
+    /// the unchecked removals; the other side takes the lines of context, the unchecked additions
+    /// and the checked removals. A side without a line is `Unchanged`, but for two cases where it
+    /// is the empty text: the selected side, if some changed line counts and its mode is not
+    /// `Absent`; and either side whose mode is not `Absent`, if the file's own mode is. A `Binary`
+    /// section that is the last one takes the place of its own side, the selected one if it is
+    /// checked, with its descriptions borrowed.
+    ///
+    /// The time grows with the size of the file alone. It is refused for want of memory alone.
     pub fn get_selected_contents(
         &self,
         alloc: Global,
     ) -> Result<(SelectedChanges<'_>, SelectedChanges<'_>), RecordError>
-        ensures ok { IfOk result (λ r. (r.0 ≡ side_of true self.now) × (r.1 ≡ side_of false self.now)) }
-        ensures err { IfErr result (λ e. e ≡ RecordError.OutOfMemory) }
+        ensures selected { IfOk result (λ sides. sides.0 ≡ side_of true self.now) }
+        ensures unselected { IfOk result (λ sides. sides.1 ≡ side_of false self.now) }
+        ensures err { IfErr result (λ error. error ≡ RecordError.OutOfMemory) }
     {
         let selected = self.side(alloc, true)?;
         let unselected = self.side(alloc, false)?;

@@ -1,4 +1,4 @@
-// The state of a selection.
+//! The state of a selection.
 ghost use Rattle.std.specs.Prelude.{◌≡◌, [], false};
 ghost use Rattle.scm_types.specs.Limits.{is_accepted_state};
 
@@ -45,7 +45,7 @@ impl<'a> RecordState<'a> {
     /// lines together; and at most 1,000,000 bytes in each message, path, old path, line and
     /// description.
     ///
-    /// It looks at each part of the state at most once, and takes no memory.
+    /// Its time grows with the number of files, sections and lines alone, and it takes no memory.
     pub fn is_accepted(&self) -> bool
         ensures { result ≡ is_accepted_state self.now }
     {

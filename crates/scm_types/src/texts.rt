@@ -1,4 +1,4 @@
-// The texts of a state.
+//! The texts of a state that may be borrowed.
 ghost use Rattle.std.specs.Prelude.{◌≡◌, ◌==◌, ℕ, List, length, Some, nat_eq, refl};
 ghost use Rattle.std.specs.Ordering.{nat_cmp};
 ghost use Rattle.std.specs.Hash as fed;
@@ -10,6 +10,7 @@ ghost use Rattle.std.specs.Cmp.Rules.{hashing};
 ghost use Rattle.std.specs.Cmp.Lexicographic.{pointwise, slice_cmp, nat_list_eq_equiv, nat_list_cmp_total, texts_ties, texts_po};
 ghost use Rattle.std.proofs.Common.{rules};
 
+pub use crate::owned_texts::OwnedText;
 use serde::{Described, Deserialize, Deserializer, Format, Serialize, Serializer};
 use std::alloc::{AllocError, Global};
 use std::borrow::CowStr;
@@ -60,7 +61,8 @@ impl<'a> Text<'a> {
     pub fn into_inner(self) -> CowStr<'a>
         ensures { cow_str_bytes result ≡ self.entry }
     {
-        self.inner
+        let Text { inner } = self;
+        inner
     }
 
     /// The same text, borrowed from this one.
@@ -68,7 +70,7 @@ impl<'a> Text<'a> {
         ensures { result ≡ self.now }
     {
         Text {
-            inner: CowStr::Borrowed(self.inner.as_str()),
+            inner: CowStr::Borrowed(self.as_str()),
         }
     }
 }
@@ -96,8 +98,8 @@ impl<'a> From<String> for Text<'a> {
 impl<'a> From<CowStr<'a>> for Text<'a> {
     ghost from_gives = { λ s t. t ≡ cow_str_bytes s };
 
-    fn from(inner: CowStr<'a>) -> Text<'a> {
-        Text { inner }
+    fn from(text: CowStr<'a>) -> Text<'a> {
+        Text { inner: text }
     }
 }
 
@@ -191,153 +193,6 @@ impl<'de> Deserialize<'de> for Text<'de> {
     ) -> Result<Text<'de>, F::Error> {
         Ok(Text {
             inner: CowStr::deserialize(alloc, from)?,
-        })
-    }
-}
-
-/// An owned text, that contracts see as its bytes.
-///
-/// It is made from a `String` and gives it back without taking memory, and it is read as a
-/// `&str`. Lengths are counted in bytes of UTF-8.
-#[derive(Debug, Drop)]
-pub struct OwnedText {
-    inner: String,
-}
-
-impl Model for OwnedText {
-    ghost Value = { List ℕ };
-
-    ghost view = { λ a. string_bytes a.inner };
-}
-
-impl OwnedText {
-    /// The text.
-    pub fn as_str(&self) -> &str
-        ensures { result.now ≡ self.now }
-    {
-        self.inner.as_str()
-    }
-
-    /// How many bytes there are.
-    pub fn len(&self) -> usize
-        ensures { result ≡ length self.now }
-    {
-        self.inner.len()
-    }
-
-    /// There is no byte.
-    pub fn is_empty(&self) -> bool
-        ensures { result ≡ (length self.now == 0) }
-    {
-        self.inner.is_empty()
-    }
-
-    /// The text as the `String` in which it stands.
-    pub fn into_inner(self) -> String
-        ensures { string_bytes result ≡ self }
-    {
-        self.inner
-    }
-}
-
-impl From<String> for OwnedText {
-    ghost from_gives = { λ s t. t ≡ string_bytes s };
-
-    fn from(inner: String) -> OwnedText {
-        OwnedText { inner }
-    }
-}
-
-impl DerefStr for OwnedText {
-    ghost deref_gives = { λ t bytes. bytes ≡ t };
-
-    fn deref(&self) -> &str {
-        self.as_str()
-    }
-}
-
-impl Clone for OwnedText {
-    ghost is_clone = { λ t copy. copy ≡ t };
-
-    fn clone(&self) -> Result<OwnedText, AllocError> {
-        Ok(OwnedText {
-            inner: self.inner.clone()?,
-        })
-    }
-}
-
-impl PartialEq for OwnedText {
-    ghost eq = { pointwise nat_eq };
-
-    ghost laws = { partial_equiv_from_equiv nat_list_eq_equiv };
-
-    fn eq(&self, other: &Self) -> bool {
-        self.as_str() == other.as_str()
-    }
-}
-
-impl Eq for OwnedText {
-    ghost laws = { nat_list_eq_equiv };
-}
-
-impl PartialOrd for OwnedText {
-    ghost partial_cmp = { λ x y. Some (slice_cmp nat_cmp x y) };
-
-    ghost laws = { texts_po };
-
-    fn partial_cmp(&self, other: &Self) -> Option<Ordering> {
-        Some(self.cmp(other))
-    }
-}
-
-impl Ord for OwnedText {
-    ghost cmp = { slice_cmp nat_cmp };
-
-    ghost total = { nat_list_cmp_total };
-
-    ghost matches_partial_cmp = { λ x y. refl };
-
-    ghost matches_eq = { texts_ties };
-
-    fn cmp(&self, other: &Self) -> Ordering {
-        self.as_str().cmp(other.as_str())
-    }
-}
-
-impl Hash for OwnedText {
-    ghost hash_input = { fed.str };
-
-    ghost respects_eq = { Prim.search (hashing, rules) };
-
-    fn hash<H: Hasher>(&self, state: &mut H) {
-        self.as_str().hash(state);
-    }
-}
-
-impl fmt::Display for OwnedText {
-    ghost output = { λ t. Some t };
-
-    fn fmt<W: fmt::Write>(&self, f: &mut fmt::Formatter<W>) -> fmt::Result {
-        let s = self.as_str();
-        f.pad(s)
-    }
-}
-
-impl Described for OwnedText {}
-
-impl Serialize for OwnedText {
-    fn serialize<S: Serializer>(&self, out: &mut S) -> Result<(), S::Error> {
-        self.inner.serialize(out)
-    }
-}
-
-impl<'de> Deserialize<'de> for OwnedText {
-    fn deserialize<F: Format>(
-        alloc: Global,
-        from: &mut Deserializer<'de, '_, F>,
-    ) -> Result<OwnedText, F::Error> {
-        Ok(OwnedText {
-            inner: String::deserialize(alloc, from)?,
         })
     }
 }

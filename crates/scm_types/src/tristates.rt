@@ -1,4 +1,4 @@
-// How many of some items are checked.
+//! How many of some items are checked.
 ghost use Rattle.std.specs.Prelude.{◌≡◌, if◌then◌else◌};
 ghost use Rattle.scm_types.specs.declared.tristates.Tristate.TheVariants as tristate;
 ghost use Rattle.scm_types.specs.Seen.{none_seen, seen_tristate, with_mark};

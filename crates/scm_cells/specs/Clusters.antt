@@ -1,0 +1,43 @@
+-- The clusters of a text that a screen shows, and their columns.
+use Rattle.std.specs.Prelude.{ℕ, List, Bool, true, false, ◌==◌, if◌then◌else◌, Option, Some, None, option_map, sum_by}
+use Rattle.std.specs.List.{list_any, filter_map}
+use Rattle.std.specs.Char.{is_control}
+use denote.Ref.{Bor}
+use Rattle.std.specs.Str.{chars}
+use Rattle.unicode_segmentation.specs.Grapheme.{graphemes}
+use Rattle.unicode_segmentation.specs.Iter.{graphemes_left}
+use Rattle.unicode_width.specs.Width.{str_width}
+use Rattle.scm_cells.specs.declared.text.Clusters.{Clusters}
+
+-- a cluster: its bytes, and how many columns it takes
+abbrev pub Cluster : Type 0
+Cluster = List ℕ × ℕ
+
+-- whether a text holds a character from U+0000 to U+001F or from U+007F to U+009F
+unfoldable pub has_control : List ℕ → Bool
+has_control text = list_any is_control (chars text)
+
+-- the columns of a cluster, unless it is dropped: with a control character, or without a column
+unfoldable pub kept_width : List ℕ → Option ℕ
+kept_width piece =
+    if has_control piece then None
+    else (let width = str_width false (chars piece) in if width == 0 then None else Some width)
+
+unfoldable pub with_width : List ℕ → Option Cluster
+with_width piece = option_map (λ width. (piece, width)) (kept_width piece)
+
+-- the clusters of a text that are kept: its extended grapheme clusters that have a width
+unfoldable pub clusters : List ℕ → List Cluster
+clusters text = filter_map with_width (graphemes true text)
+
+-- the columns that a text takes
+unfoldable pub text_width : List ℕ → ℕ
+text_width text = sum_by (λ c. c.1) (clusters text)
+
+-- the clusters that an iterator has left
+unfoldable pub clusters_left : Clusters → List Cluster
+clusters_left s = filter_map with_width (graphemes_left s.pieces)
+
+-- an item of the iterator as a cluster
+abbrev pub cluster : Bor (List ℕ) × ℕ → Cluster
+cluster item = (item.0.now, item.1)

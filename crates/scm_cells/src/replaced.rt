@@ -1,0 +1,140 @@
+//! Lines as a screen can show them: characters that take no column, or that a terminal acts on, are
+//! replaced by others.
+ghost use Rattle.std.specs.Prelude.{◌≡◌, ◌++◌, ◌∷◌, [], ◌+◌, ◌<◌, ◌≤◌, length, encode_utf8, option_map, IfNone, IfSome, OnOk, OnErr, IfErr, vec_len, vec_capacity};
+ghost use Rattle.scm_cells.specs.Replaced.{replacement, line_pieces, last_piece};
+ghost use Rattle.scm_cells.specs.Spans.{span_texts};
+ghost use Rattle.scm_types.specs.declared.types.RecordError.TheVariants.{OutOfMemory};
+
+use crate::text::Span;
+use scm_types::types::RecordError;
+use unicode_width::UnicodeWidthChar;
+
+/// The picture of an ASCII control character.
+fn picture(code: u32) -> &'static str
+    requires { code < 32 }
+    ensures { result.now ≡ encode_utf8 (0x2400 + code) }
+{
+    match code {
+        0 => "␀",
+        1 => "␁",
+        2 => "␂",
+        3 => "␃",
+        4 => "␄",
+        5 => "␅",
+        6 => "␆",
+        7 => "␇",
+        8 => "␈",
+        9 => "␉",
+        10 => "␊",
+        11 => "␋",
+        12 => "␌",
+        13 => "␍",
+        14 => "␎",
+        15 => "␏",
+        16 => "␐",
+        17 => "␑",
+        18 => "␒",
+        19 => "␓",
+        20 => "␔",
+        21 => "␕",
+        22 => "␖",
+        23 => "␗",
+        24 => "␘",
+        25 => "␙",
+        26 => "␚",
+        27 => "␛",
+        28 => "␜",
+        29 => "␝",
+        30 => "␞",
+        31 => "␟",
+        _ => unreachable!(),
+    }
+}
+
+/// What stands for a character that a screen cannot show: an arrow and three spaces for a tab, `⏎`
+/// for a newline, the Unicode picture of any other ASCII control character, and U+FFFD for any
+/// other character that takes no column. `None` for one that stays.
+#[tactic(auto, unfolding(crate::specs::Replaced::replacement))]
+pub fn replace_control_character(character: char) -> Option<&'static str>
+    ensures { option_map (λ s. s.now) result ≡ replacement character }
+{
+    let code = character as u32;
+    if code == 0x09 {
+        Some("→   ")
+    } else if code == 0x0A {
+        Some("⏎")
+    } else if code < 0x20 {
+        Some(picture(code))
+    } else if code == 0x7F {
+        Some("␡")
+    } else if character.width().unwrap_or(0) == 0 {
+        Some("\u{FFFD}")
+    } else {
+        None
+    }
+}
+
+/// The text before the first replaced character, what stands for it, and the text after it.
+fn cut_at_replaced(line: &str) -> Option<(&str, &'static str, &str)>
+    ensures none { IfNone result (line_pieces line.now ≡ last_piece line.now) }
+    ensures some { IfSome result (λ cut. line_pieces line.now ≡ cut.0.now ∷ (cut.1.now ∷ line_pieces cut.2.now)) }
+    ensures shorter { IfSome result (λ cut. length cut.2.now < length line.now) }
+{
+    let mut rest = line.chars();
+    let mut read = 0;
+    'characters: while let Some(character) = rest.next() {
+        if let Some(replacement) = replace_control_character(character) {
+            return Some((&line[..read], replacement, rest.as_str()));
+        }
+        read += character.len_utf8();
+    }
+    None
+}
+
+/// How many spans a line makes.
+fn count_pieces(line: &str) -> usize
+    ensures { result ≡ length (line_pieces line.now) }
+{
+    let mut line = line;
+    let mut count = 0;
+    'cuts: while let Some((_, _, rest)) = cut_at_replaced(line) {
+        count += 2;
+        line = rest;
+    }
+    if line.is_empty() { count } else { count + 1 }
+}
+
+/// Adds a span, for which the list has room.
+fn push_within<'a>(spans: &mut Vec<Span<'a>>, text: &'a str)
+    requires { vec_len spans.old < vec_capacity spans.old }
+    ensures texts { span_texts spans.new.items ≡ span_texts spans.old.items ++ text.now ∷ [] }
+    ensures len { vec_len spans.new ≡ vec_len spans.old + 1 }
+    ensures capacity { vec_capacity spans.old ≤ vec_capacity spans.new }
+{
+    match spans.push(Span(text)) {
+        Ok(()) => {}
+        Err(_) => unreachable!(),
+    }
+}
+
+/// Adds the spans of a line to the list, where each replaced character stands as a span of its
+/// own: the text before it (which may be empty), what stands for it, and at the end the rest, if
+/// there is any. The list has room for all of them before the first is added, so after want of
+/// memory it is as it was.
+pub fn push_spans_from_line<'a>(line: &'a str, spans: &mut Vec<Span<'a>>) -> Result<(), RecordError>
+    ensures ok { OnOk result (span_texts spans.new.items ≡ span_texts spans.old.items ++ line_pieces line.now) }
+    ensures unchanged { OnErr result (spans.new.items ≡ spans.old.items) }
+    ensures err { IfErr result (λ e. e ≡ OutOfMemory) }
+{
+    spans.reserve(count_pieces(line))?;
+    let mut line = line;
+    'cuts: while let Some((text, replacement, rest)) = cut_at_replaced(line) {
+        push_within(spans, text);
+        push_within(spans, replacement);
+        line = rest;
+    }
+    if !line.is_empty() {
+        push_within(spans, line);
+    }
+    Ok(())
+}

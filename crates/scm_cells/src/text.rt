@@ -1,0 +1,92 @@
+//! The clusters of a text that a screen shows. A text is cut into extended grapheme clusters
+//! (Unicode Standard Annex 29), and a cluster takes the columns that a terminal gives it.
+ghost use Rattle.std.specs.Prelude.{◌≡◌, ◌+◌, ◌*◌, ◌≤◌, ◌<◌, ◌^◌, length, chars, sum_by, IfSome};
+ghost use Rattle.std.specs.Iterator.{YieldsFirstBy, item_count};
+ghost use Rattle.scm_cells.specs.Clusters.{has_control, kept_width, text_width};
+
+use unicode_segmentation::{Graphemes, UnicodeSegmentation};
+use unicode_width::UnicodeWidthStr;
+
+/// A piece of text that is drawn in one go.
+#[derive(Clone, Copy, Debug, Eq, PartialEq)]
+pub struct Span<'a>(pub &'a str);
+
+/// Spans that stand one after another on a row.
+#[derive(Debug, Drop)]
+pub struct Line<'a>(pub Vec<Span<'a>>);
+
+/// Whether the text holds a control character.
+#[tactic(auto, unfolding(crate::specs::Clusters::has_control))]
+fn has_control(text: &str) -> bool
+    ensures { result ≡ has_control text.now }
+{
+    text.chars().any(|c| c.is_control())
+}
+
+/// The columns of a cluster, if it is kept.
+#[tactic(auto, unfolding(crate::specs::Clusters::kept_width))]
+fn kept_width(piece: &str) -> Option<usize>
+    ensures value { result ≡ kept_width piece.now }
+    ensures bound { IfSome result (λ width. width ≤ 2 * length piece.now) }
+{
+    if has_control(piece) {
+        return None;
+    }
+    let width = piece.width();
+    if width == 0 { None } else { Some(width) }
+}
+
+/// The clusters of a text that a screen shows, each with the number of its columns. Dropped are
+/// clusters with a control character (U+0000 to U+001F, U+007F to U+009F) and those of width 0.
+#[derive(Drop)]
+pub struct Clusters<'a> {
+    pieces: Graphemes<'a>,
+}
+
+impl<'a> Clusters<'a> {
+    ghost use Rattle.scm_cells.specs.Clusters.{clusters, clusters_left};
+
+    /// The clusters of the text.
+    #[tactic(auto, unfolding(crate::specs::Clusters::clusters, crate::specs::Clusters::clusters_left))]
+    pub fn new(text: &'a str) -> Clusters<'a>
+        ensures { clusters_left result ≡ clusters text.now }
+    {
+        Clusters {
+            pieces: text.graphemes(true),
+        }
+    }
+}
+
+impl<'a> Iterator for Clusters<'a> {
+    ghost use Rattle.scm_cells.specs.Clusters.{cluster, clusters_left};
+
+    type Item = (&'a str, usize);
+
+    ghost next_gives = { YieldsFirstBy cluster clusters_left };
+
+    ghost remaining = { item_count clusters_left };
+
+    #[tactic(auto, unfolding(crate::specs::Clusters::clusters_left, crate::specs::Clusters::with_width))]
+    fn next(&mut self) -> Option<(&'a str, usize)> {
+        'pieces: while let Some(piece) = self.pieces.next() {
+            if let Some(width) = kept_width(piece) {
+                return Some((piece, width));
+            }
+        }
+        None
+    }
+}
+
+/// How many columns a text takes: the sum over its kept clusters.
+#[tactic(auto, unfolding(crate::specs::Clusters::text_width, crate::specs::Clusters::clusters, crate::specs::Clusters::with_width))]
+pub fn text_width(text: &str) -> usize
+    ensures { result ≡ text_width text.now }
+{
+    let mut width = 0;
+    'pieces: for piece in text.graphemes(true) {
+        if let Some(columns) = kept_width(piece) {
+            width += columns;
+        }
+    }
+    width
+}

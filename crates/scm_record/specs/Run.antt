@@ -1,0 +1,121 @@
+-- Runs, as steps from point to point.
+use Rattle.std.specs.Prelude.{◌≡◌, ℕ, ◌+◌, List, [], ◌∷◌, Option, MatchOption, codes}
+use Rattle.scm_types.specs.declared.errors.RecordError.{RecordError}
+use Rattle.scm_types.specs.Fault.{Fault, Cancelled, Other, ReadInput, fault_of}
+use Rattle.scm_record.specs.declared.events.Event.{Event}
+use Rattle.scm_record.specs.Script.{Read, Batch, BrokenRead, Edit}
+use Rattle.scm_record.specs.Session.{Session, without_pending}
+use Rattle.scm_record.specs.Step.{Change, Stays, Accepts, Cancels, Lacks, change}
+
+-- a session, what is left of its script, the texts of the store, and how many frames were drawn
+pub record World : Type 0 where
+  pub session : Session
+  pub reads : List Read
+  pub edits : List Edit
+  pub texts : List (Option (List ℕ))
+  pub frames : ℕ
+
+abbrev pub world : Session → List Read → List Edit → List (Option (List ℕ)) → ℕ → World
+world session reads edits texts frames =
+    record { session = session; reads = reads; edits = edits; texts = texts; frames = frames }
+
+abbrev pub with_session : World → Session → World
+with_session w s = record w { session = s }
+
+abbrev pub with_reads : World → List Read → World
+with_reads w reads = record w { reads = reads }
+
+abbrev pub with_frame_drawn : World → World
+with_frame_drawn w = record w { frames = w.frames + 1 }
+
+-- what an event makes of a world: the run goes on, is accepted, or fails
+pub data Outcome : Type 0 where
+  Goes : World → Outcome
+  Ends : World → Outcome
+  Breaks : Fault → World → Outcome
+
+-- where a run stands: before a frame, after it, within a batch with what was drawn and the events left, or at its end
+pub data Point : Type 0 where
+  Before : World → Point
+  Drawn : World → Point
+  Within : Session → World → List Event → Point
+  Accepted : World → Point
+  Failed : Fault → World → Point
+
+abbrev pub not_in_stage : Fault
+not_in_stage = Other (codes "event not in this stage")
+
+abbrev pub no_events_left : Fault
+no_events_left = ReadInput (codes "no events left")
+
+-- what a change of the session does
+abbrev pub changed : World → Change → Outcome
+changed w (Stays s) = Goes (with_session w s)
+changed w (Accepts s) = Ends (with_session w s)
+changed w (Cancels s) = Breaks Cancelled (with_session w s)
+changed w (Lacks s) = Breaks not_in_stage (with_session w s)
+
+-- an event, with the session that was drawn last
+abbrev pub step : Session → World → Event → Outcome
+step drawn w event = changed w (change w.session event)
+
+abbrev pub resume : Session → List Event → Outcome → Point
+resume drawn rest (Goes w) = Within drawn w rest
+resume drawn rest (Ends w) = Accepted w
+resume drawn rest (Breaks fault w) = Failed fault w
+
+-- the first of the reads that are left
+abbrev pub read : World → List Read → Point
+read w [] = Failed no_events_left w
+read w (Batch list ∷ reads) = Within w.session (with_reads w reads) list
+read w (BrokenRead fault ∷ reads) = Failed fault (with_reads w reads)
+
+-- all pending events, or the next read
+abbrev pub batch : World → List Event → Point
+batch w [] = read w w.reads
+batch w (event ∷ rest) = Within w.session (with_session w (without_pending w.session)) (event ∷ rest)
+
+-- one step of a run
+abbrev pub after : Point → Point
+after (Before w) = Drawn (with_frame_drawn w)
+after (Drawn w) = batch w w.session.pending
+after (Within drawn w []) = Before w
+after (Within drawn w (event ∷ rest)) = resume drawn rest (step drawn w event)
+after (Accepted w) = Accepted w
+after (Failed fault w) = Failed fault w
+
+-- q is reached from p
+pub data Reaches (p : Point) : Point → Type 0 where
+  here : Reaches p p
+  on : {q : Point} → Reaches p q → Reaches p (after q)
+
+-- an end of a run
+abbrev pub IsEnd : Point → Type 0
+IsEnd (Before w) = ⊥
+IsEnd (Drawn w) = ⊥
+IsEnd (Within drawn w rest) = ⊥
+IsEnd (Accepted w) = Unit {0}
+IsEnd (Failed fault w) = Unit {0}
+
+-- what begins at p has one end
+abbrev pub HasOneEnd : Point → Type 0
+HasOneEnd p = (q r : Point) → Reaches p q → Reaches p r → IsEnd q → IsEnd r → q ≡ r
+
+abbrev pub world_at : Point → World
+world_at (Before w) = w
+world_at (Drawn w) = w
+world_at (Within drawn w rest) = w
+world_at (Accepted w) = w
+world_at (Failed fault w) = w
+
+-- w shows the script, the texts and the frames of v; its session may be lost
+pub record Shows (w v : World) : Type 0 where
+  pub reads : w.reads ≡ v.reads
+  pub edits : w.edits ≡ v.edits
+  pub texts : w.texts ≡ v.texts
+  pub frames : w.frames ≡ v.frames
+
+-- the error ends what begins at p: a fault by the steps, and want of memory at a point that is reached
+abbrev pub Stops : RecordError → Point → World → Type 0
+Stops error p w =
+    MatchOption (fault_of error) ((q : Point) × Reaches p q × Shows w (world_at q)) (λ fault. Reaches p (Failed fault w))
