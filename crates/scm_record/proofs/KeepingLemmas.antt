@@ -1,6 +1,6 @@
 -- A run changes marks alone.
 use Rattle.std.proofs.Common.{◌≡◌, ℕ, zero, suc, ◌≤◌, Bool, true, false, not, List, [], ◌∷◌, map, length, slice_get, Option, Some, None, cond, sym, ap, ◌∙◌, refl, subst, arith}
-use Rattle.std.specs.Prelude.{IsTrue, ◌&&◌, nat_le, is_some, option_and_then}
+use Rattle.std.specs.Prelude.{IsTrue, option_and_then}
 use Rattle.std.proofs.lemmas.Bool.{and_parts, leb-true}
 use Rattle.scm_types.specs.declared.lines.SectionChangedLine.{SectionChangedLine}
 use Rattle.scm_types.specs.declared.modes.FileMode.{FileMode}
@@ -26,7 +26,7 @@ use Rattle.scm_record.specs.Script.{Read, Batch, BrokenRead}
 use Rattle.scm_record.specs.Session.{Session, start, padded, padded_state, with_dialog, message_count, changed_count, out_of, folding, selecting}
 use Rattle.scm_record.specs.Step.{Change, Stays, Accepts, Cancels, Lacks, change, closed, opened, by_dialog, pressed, asked_about}
 use Rattle.scm_record.specs.Run.{World, Point, Before, Drawn, Within, Accepted, Failed, changed, step, resume, read, batch, after, Reaches, here, on, world_at}
-use Rattle.scm_record.specs.Keeping.{IsKept}
+use Rattle.scm_record.specs.Keeping.{IsKept, has_message}
 
 -- what a change leaves as it was under a view
 
@@ -251,6 +251,6 @@ kept-reached given answer s w q accepted started is_session r returned =
     record {
       same = kept.same;
       commits = ap length kept.commits ∙ padded-two given.commits (few_commits given accepted);
-      messages = ap (map (λ (c : Commit). is_some c.message)) kept.commits;
+      messages = ap (map has_message) kept.commits;
       read_only = kept.files;
     }

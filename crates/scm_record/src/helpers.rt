@@ -75,8 +75,10 @@ impl RecordInput for TestingInput {
 
     /// The next event alone, or `Event::None` past the last.
     fn next_events(&mut self) -> Result<Vec<Event>, RecordError>
-        ensures read { Takes (read_of result) (single_events self.old.events.items) (single_events self.new.events.items) }
-        ensures edits { answers self.new.commit_messages.items ≡ answers self.old.commit_messages.items }
+        ensures read { Takes (read_of result)
+            (single_events self.old.events.items) (single_events self.new.events.items) }
+        ensures edits {
+            answers self.new.commit_messages.items ≡ answers self.old.commit_messages.items }
         ensures kind { kind_of self.new.width self.new.height ≡ kind_of self.old.width self.old.height }
         ensures batch { IfOk result (λ batch. batch.items ≡ first_batch self.old.events.items) }
         ensures err { IfErr result (λ e. e ≡ OutOfMemory) }
@@ -89,7 +91,8 @@ impl RecordInput for TestingInput {
 
     /// The next message, or the fault `No more commit messages available` past the last.
     fn edit_commit_message(&mut self, _message: &str) -> Result<String, RecordError>
-        ensures edit { TakesOr no_more (edit_of result) (answers self.old.commit_messages.items) (answers self.new.commit_messages.items) }
+        ensures edit { TakesOr no_more (edit_of result)
+            (answers self.old.commit_messages.items) (answers self.new.commit_messages.items) }
         ensures reads { single_events self.new.events.items ≡ single_events self.old.events.items }
         ensures kind { kind_of self.new.width self.new.height ≡ kind_of self.old.width self.old.height }
         ensures answers { 0 < length self.old.commit_messages.items → IsOk result }

@@ -143,7 +143,8 @@ impl<'state> Recorder<'state> {
             (setting (reads input.old) (edits input.old) screens.old)
             (setting (reads input.new) (edits input.new) screens.new) e) }
         // the steps come to one end
-        ensures one_end { HasOneEnd (Before (world_in (setting (reads input.old) (edits input.old) screens.old) self.entry 0)) }
+        ensures one_end { let old = setting (reads input.old) (edits input.old) screens.old in
+            HasOneEnd (Before (world_in old self.entry 0)) }
         // what a recorder of an accepted state keeps of it
         ensures kept { IfOk result (λ state. (given : RecordState) →
             IsTrue (is_accepted_state given) → self.entry ≡ start given → IsKept given state) }
