@@ -5,18 +5,25 @@ use std::alloc::Global;
 use std::io::{self, Read, Write};
 use std::test::Fail;
 
-/// A reader that fails once it has given its bytes.
+/// A reader that gives so many bytes, one at a read, and then fails.
 #[derive(Drop)]
-struct BrokenReader<'a> {
-    left: &'a [u8],
+struct BrokenReader {
+    bytes_left: usize,
 }
 
-impl Read for BrokenReader<'_> {
+impl Read for BrokenReader {
     fn read(&mut self, buf: &mut [u8]) -> io::Result<usize> {
-        if self.left.is_empty() {
+        if self.bytes_left == 0 {
             return Err(io::Error::from(io::ErrorKind::BrokenPipe));
         }
-        self.left.read(buf)
+        match buf.first_mut() {
+            Some(byte) => {
+                *byte = b's';
+                self.bytes_left -= 1;
+                Ok(1)
+            }
+            None => Ok(0),
+        }
     }
 }
 
@@ -52,8 +59,12 @@ fn played(alloc: Global, input: &[u8]) -> Result<(String, u8), Fail> {
 
 /// What `play` writes for a state and commands, and its status.
 fn played_on(alloc: Global, state: &str, commands: &str) -> Result<(String, u8), Fail> {
-    let input = format!(in alloc; "size 80 24\n{state}\nscript\n{commands}")?;
-    played(alloc, input.as_bytes())
+    played(alloc, input_of(alloc, state, commands)?.as_bytes())
+}
+
+/// The input of a state and commands.
+fn input_of(alloc: Global, state: &str, commands: &str) -> Result<String, Fail> {
+    Ok(format!(in alloc; "size 80 24\n{state}\nscript\n{commands}")?)
 }
 
 /// A new file of one line, with these marks.
@@ -170,20 +181,12 @@ fn unreadable_inputs_are_named(rt: HostRuntime) -> Result<(), Fail> {
     assert_eq!(rt; (written.as_str(), status), ("bad input: not UTF-8\n", 2));
 
     let mut output = Vec::new(alloc);
-    let status = play(
-        alloc,
-        BrokenReader {
-            left: b"size 80 24\n",
-        },
-        &mut output,
-    );
-    assert_eq!(rt;
-        (output.as_slice(), status),
-        (b"cannot read\n".as_slice(), 2)
-    );
+    let status = play(alloc, BrokenReader { bytes_left: 9 }, &mut output);
+    assert_eq!(rt; output.as_slice(), b"cannot read\n".as_slice());
+    assert_eq!(rt; status, 2);
 
     for (commands, status) in [("batch q\n", 1), ("batch c\n", 0)] {
-        let input = format!(in alloc; "size 80 24\n{NOTHING}\nscript\n{commands}")?;
+        let input = input_of(alloc, NOTHING, commands)?;
         let broken = BrokenWriter { writes_left: 0 };
         assert_eq!(rt; play(alloc, input.as_bytes(), broken), 2);
         let whole = BrokenWriter { writes_left: 100 };
@@ -195,23 +198,15 @@ fn unreadable_inputs_are_named(rt: HostRuntime) -> Result<(), Fail> {
 #[test]
 fn an_input_may_have_64_mebibytes(rt: HostRuntime) -> Result<(), Fail> {
     let alloc = rt.alloc();
-    let script = format!(in alloc; "size 80 24\n{NOTHING}\nscript\nbatch q\n#")?;
-    let room = 67_108_864 - script.len() as u64;
-    let comment = io::repeat(b'-').take(room);
-    let mut output = Vec::new(alloc);
-    let status = play(alloc, script.as_bytes().chain(comment), &mut output);
-    assert_eq!(rt;
-        (output.as_slice(), status),
-        (b"fault: cancelled by user\n".as_slice(), 1)
-    );
-
-    let comment = io::repeat(b'-').take(room + 1);
-    let mut output = Vec::new(alloc);
-    let status = play(alloc, script.as_bytes().chain(comment), &mut output);
-    assert_eq!(rt;
-        (output.as_slice(), status),
-        (b"bad input: too long\n".as_slice(), 2)
-    );
+    for (length, output, status) in [
+        (67_108_864, "fault: cancelled by user\n", 1),
+        (67_108_865, "bad input: too long\n", 2),
+    ] {
+        let mut input = input_of(alloc, NOTHING, "batch q\n#")?.into_bytes();
+        input.resize(length, b'-')?;
+        let (written, ended) = played(alloc, input.as_slice())?;
+        assert_eq!(rt; (written.as_str(), ended), (output, status));
+    }
     Ok(())
 }
 
