@@ -1,0 +1,5 @@
+//! Tests of the crates below, so that each of those is proved once.
+#![tactic(auto)]
+
+#[cfg(test)]
+mod cells;
