@@ -335,7 +335,15 @@ fn refused_memory_changes_nothing(rt: HostRuntime) -> Result<(), Fail> {
     let Ok(before) = grid.view() else {
         return Ok(());
     };
-    match put(&rt, &mut grid, 0, 1, "e\u{301}\u{302}\u{303}\u{304}字", 0, 12) {
+    match put(
+        &rt,
+        &mut grid,
+        0,
+        1,
+        "e\u{301}\u{302}\u{303}\u{304}字",
+        0,
+        12,
+    ) {
         Ok(()) => {
             if let Ok(after) = grid.view() {
                 assert!(rt; after.as_str() != before.as_str());
