@@ -1,11 +1,11 @@
 //! A grid of cells, as a screen shows it.
 ghost use Rattle.std.specs.Prelude.{◌≡◌, ◌<◌, ◌≤◌, IfOk, IfErr, OnOk, OnErr, length, string_bytes};
 ghost use Rattle.scm_cells.specs.Screen.{IsScreen, blank_screen, put_on, view_of};
-ghost use Rattle.scm_types.specs.declared.types.RecordError.TheVariants.{OutOfMemory};
+ghost use Rattle.scm_types.specs.declared.errors.RecordError.TheVariants.{OutOfMemory};
 
 use crate::column::Column;
 use crate::row;
-use scm_types::types::RecordError;
+use scm_types::RecordError;
 use std::alloc::Global;
 use std::marker::Model;
 

@@ -4,7 +4,7 @@ use scm_cells::{
     Clusters, Grid, Line, Mask, Rect, RectSize, ScreenRect, Span, push_spans_from_line,
     replace_control_character, text_width,
 };
-use scm_types::types::RecordError;
+use scm_types::RecordError;
 use std::process::Abort;
 use std::test::Fail;
 
