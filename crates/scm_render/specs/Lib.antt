@@ -1,0 +1,4 @@
+pub mod Around
+pub mod ByRow
+pub mod Centring
+pub mod Marks
