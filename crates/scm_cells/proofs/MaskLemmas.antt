@@ -1,6 +1,6 @@
-use Rattle.std.proofs.Common.{ℕ, arith, ◌<◌}
-use Rattle.std.specs.Prelude.{ℤ, pos, ◌+ℤ◌, ◌-ℤ◌, ◌≤ℤ◌, ◌<ℤ◌, ◌↔◌, Option, Some, None}
-use Rattle.scm_cells.specs.Rect.{InRange, RectInRange, HasPoint, or_zero, intersect_of, end_x_of, end_y_of}
+use Rattle.std.proofs.Common.{ℕ, arith}
+use Rattle.std.specs.Prelude.{ℤ, pos, ◌+ℤ◌, ◌≤ℤ◌, ◌<ℤ◌, ◌↔◌, Option, Some, None}
+use Rattle.scm_cells.specs.Rect.{InRange, RectInRange, HasPoint, end_x_of, end_y_of}
 use Rattle.scm_cells.specs.Mask.{MaskInRange, SideInRange, InMask, IsBeforeEnd, side_or, mask_rect_of, apply_of}
 use Rattle.scm_cells.proofs.RectLemmas.{in_end, places, points-intersect}
 use Rattle.scm_cells.specs.declared.rectangle.Rect.{Rect}

@@ -1,5 +1,5 @@
 -- The clusters of a text take no more columns than the text has bytes, twice.
-use Rattle.std.proofs.Common.{◌≡◌, ℕ, true, ◌+◌, ◌*◌, ◌≤◌, List, length, sym, ap, ◌∙◌, arith}
+use Rattle.std.proofs.Common.{◌≡◌, ℕ, true, ◌+◌, ◌*◌, ◌≤◌, List, length, ap, ◌∙◌, arith}
 use Rattle.std.specs.Str.{IsUtf8}
 use Rattle.std.specs.List.{concat}
 use Rattle.unicode_segmentation.specs.Grapheme.{graphemes, is_grapheme_break}

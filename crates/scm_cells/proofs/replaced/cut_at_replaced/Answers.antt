@@ -1,4 +1,4 @@
-use Rattle.std.proofs.Common.{◌≡◌, ◌∙◌, ◌+◌, ◌++◌, encode_utf8, Option, Some, sym, ap, rules, option_map}
+use Rattle.std.proofs.Common.{◌∙◌, ◌+◌, ◌++◌, encode_utf8, sym, ap}
 use Rattle.scm_cells.proofs.ReplacedLemmas.{HasRead-none, HasRead-more, HasRead-boundary, pieces-cut, pieces-end}
 use Rattle.scm_cells.proofs.replaced.cut_at_replaced.Goals as goal
 

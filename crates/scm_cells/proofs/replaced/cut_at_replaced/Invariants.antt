@@ -1,7 +1,5 @@
-use Rattle.std.proofs.Common.{◌≡◌, ℕ, List, ◌++◌, length}
-use Rattle.std.specs.Str.{chars}
+use Rattle.std.proofs.Common.{length}
 use Rattle.std.specs.Str.Iter.{chars_rest}
-use Rattle.scm_cells.specs.Replaced.{line_pieces, pieces_from}
 use Rattle.scm_cells.proofs.ReplacedLemmas.{HasRead}
 use Rattle.scm_cells.proofs.replaced.cut_at_replaced.Given as goal
 

@@ -1,4 +1,4 @@
-use Rattle.std.proofs.Common.{◌≡◌, ◌+◌, ◌∙◌, sym, ap, refl}
+use Rattle.std.proofs.Common.{◌+◌, sym, ap}
 use Rattle.std.specs.Char.{encode_utf8}
 use Rattle.scm_cells.proofs.replaced.picture.Goals as goal
 

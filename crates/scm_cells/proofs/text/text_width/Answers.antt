@@ -1,4 +1,4 @@
-use Rattle.std.proofs.Common.{◌≡◌, ◌∙◌, ℕ, List, true, ap, sum_by, zero-add}
+use Rattle.std.proofs.Common.{◌≡◌, ◌∙◌, true, ap, sum_by, zero-add}
 use Rattle.std.specs.List.{filter_map}
 use Rattle.unicode_segmentation.specs.Grapheme.{graphemes}
 use Rattle.unicode_segmentation.specs.Iter.{graphemes_left}

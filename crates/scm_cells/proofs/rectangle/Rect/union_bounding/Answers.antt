@@ -1,7 +1,5 @@
-use Rattle.std.proofs.Common.{◌≡◌, Bool, false, arith, ◌∙◌, sym}
-use Rattle.scm_cells.specs.Rect.{IsLeastAround, is_empty, union_of}
-use Rattle.scm_cells.specs.declared.rectangle.Rect.{Rect}
-use Rattle.scm_cells.proofs.RectLemmas.{RectInRange-union, IsLeastAround-box, IsLeastAround-from_eq, rect_between-same, box_around, places}
+use Rattle.std.proofs.Common.{arith, ◌∙◌, sym}
+use Rattle.scm_cells.proofs.RectLemmas.{RectInRange-union, IsLeastAround-from_eq, rect_between-same, places}
 use Rattle.scm_cells.proofs.rectangle.Rect.union_bounding.Goals as goal
 
 pub returns-else-is_empty-2-clause-fields : goal.returns-else-is_empty-2-clause-fields

@@ -1,0 +1,104 @@
+-- The rows of a grid, where one of them or all are written.
+use Rattle.std.proofs.Common.{◌≡◌, ℕ, zero, suc, ◌+◌, ◌<◌, ◌≤◌, ◌^◌, List, [], ◌∷◌, ◌++◌, length, take, get_or, set, map, replicate, refl, sym, ap, subst, ◌∙◌, arith, append-nil, length-set}
+use Rattle.std.specs.Prelude.{Vec}
+use Rattle.std.specs.List.{All, flat_map}
+use Rattle.std.specs.Vec.{with_items}
+use Rattle.std.proofs.lemmas.List.{with_items_is, length-map, map-set, get_or-map, map_more}
+use Rattle.std.proofs.lemmas.List.Concat.{flat_map-append}
+use Rattle.std.proofs.lemmas.List.Elements.{All-head, All-tail, All-replicate, All-set}
+use Rattle.scm_cells.specs.Cell.{Cell, Place, blank, shown}
+use Rattle.scm_cells.specs.Row.{row_text}
+use Rattle.scm_cells.specs.Screen.{Screen, IsScreen, blank_screen}
+use Rattle.scm_cells.specs.GridView.{row_of}
+use Rattle.scm_cells.proofs.MapFrom.{map_from, so_far, so_far-more, so_far-all}
+
+-- ---- every row is cleared
+
+abbrev pub cleared_row : ℕ → List Cell → List Cell
+cleared_row i row = replicate (length row) blank
+
+pub rows-cleared : {Z : Type 0} (items init : List (Vec Place Z)) (i : ℕ) (d : Vec Place Z) (new cols : List Place) → i < length items → length items ≡ length init
+    → map row_of items ≡ so_far cleared_row (map row_of init) i → cols ≡ (get_or items i d).items → length new ≡ (get_or items i d).len → map shown new ≡ replicate (length cols) blank
+    → map row_of (set items i (with_items (get_or items i d) new)) ≡ so_far cleared_row (map row_of init) (i + 1)
+rows-cleared items init i d new cols h same inv from size shows =
+    let v = get_or items i d in
+    let inside : i < length (map row_of init) = omega (arith, length-map init row_of) in
+    let row : row_of (with_items v new) ≡ cleared_row i (get_or (map row_of items) i (row_of d)) =
+    ap (map shown) (with_items_is v new size) ∙ shows ∙ ap (λ n. replicate n blank) (ap length from ∙ sym (length-map v.items shown))
+    ∙ ap (λ r. replicate (length r) blank) (sym (get_or-map row_of items i d (row_of d) h)) in
+    map-set row_of items i (with_items v new) ∙ so_far-more cleared_row (map row_of init) (map row_of items) i (row_of d) (row_of (with_items v new)) inside inv row
+
+all-cleared : (width i : ℕ) (rows : List (List Cell)) → All (λ row. length row ≡ width) rows → map_from cleared_row i rows ≡ replicate (length rows) (replicate width blank)
+all-cleared width i [] h = refl
+all-cleared width i (row ∷ rows) h =
+    ap (λ n. replicate n blank ∷ map_from cleared_row (suc i) rows) (All-head (λ (r : List Cell). length r ≡ width) row rows h)
+    ∙ ap (λ t. replicate width blank ∷ t) (all-cleared width (suc i) rows (All-tail (λ (r : List Cell). length r ≡ width) row rows h))
+
+-- after the loop the grid is one of spaces
+pub screen-cleared : {Z : Type 0} (items init old final : List (Vec Place Z)) (i width : ℕ) → init ≡ old → final ≡ items → length init ≤ i → IsScreen (record { width = width; rows = map row_of old })
+    → map row_of items ≡ so_far cleared_row (map row_of init) i → ◌≡◌ {A = Screen} (record { width = width; rows = map row_of final }) (blank_screen width (length (map row_of old)))
+screen-cleared items init old final i width was same le h inv =
+    let past : length (map row_of init) ≤ i = omega (arith, length-map init row_of) in
+    ap (λ rows. record { width = width; rows = rows }) (ap (map row_of) same ∙ inv ∙ so_far-all cleared_row (map row_of init) i past ∙ ap (λ rows. map_from cleared_row 0 (map row_of rows)) was
+    ∙ all-cleared width 0 (map row_of old) h.columns)
+
+length-blanks : (n : ℕ) → length (replicate n blank) ≡ n
+length-blanks zero = refl
+length-blanks (suc n) = ap suc (length-blanks n)
+
+length-rows : (n : ℕ) (row : List Cell) → length (replicate n row) ≡ n
+length-rows zero row = refl
+length-rows (suc n) row = ap suc (length-rows n row)
+
+pub IsScreen-blank : (width height : ℕ) → width < 2 ^ 16 → height < 2 ^ 16 → IsScreen (blank_screen width height)
+IsScreen-blank width height w h = record {
+  columns = All-replicate (λ (r : List Cell). length r ≡ width) height (replicate width blank) (length-blanks width);
+  width = w;
+  height = let e = length-rows height (replicate width blank) in omega arith;
+}
+
+pub IsScreen-same : (a b : Screen) → a ≡ b → IsScreen b → IsScreen a
+IsScreen-same a b e h = subst IsScreen (sym e) h
+
+-- ---- one row is written
+
+pub rows-set : {Z : Type 0} (rows : List (Vec Place Z)) (i : ℕ) (v : Vec Place Z) (new : List Place) → length new ≡ v.len
+    → map row_of (set rows i (with_items v new)) ≡ set (map row_of rows) i (map shown new)
+rows-set rows i v new size = map-set row_of rows i (with_items v new) ∙ ap (λ row. set (map row_of rows) i (map shown row)) (with_items_is v new size)
+
+-- the row that was read
+pub row-read : {Z : Type 0} (rows : List (Vec Place Z)) (i : ℕ) (v : Vec Place Z) (cols : List Place) → i < length rows → v ≡ get_or rows i v → cols ≡ v.items
+    → map shown cols ≡ get_or (map row_of rows) i []
+row-read rows i v cols h e same = ap (map shown) same ∙ ap row_of e ∙ sym (get_or-map row_of rows i v [] h)
+
+-- the row's columns are the grid's
+pub length-read : {Z : Type 0} (rows : List (Vec Place Z)) (i width : ℕ) (v : Vec Place Z) (cols : List Place) → i < length rows → v ≡ get_or rows i v → cols ≡ v.items
+    → IsScreen (record { width = width; rows = map row_of rows }) → length cols ≡ width
+length-read rows i width v cols h e same screen =
+    let inside : i < length (map row_of rows) = omega (arith, length-map rows row_of) in
+    sym (length-map cols shown) ∙ ap length (row-read rows i v cols h e same) ∙ screen.columns i [] inside
+
+pub IsScreen-set : (s : Screen) (i : ℕ) (row : List Cell) → IsScreen s → length row ≡ s.width → IsScreen (record s { rows = set s.rows i row })
+IsScreen-set s i row h e = record {
+  columns = All-set (λ (r : List Cell). length r ≡ s.width) s.rows i row e h.columns;
+  width = h.width;
+  height = let size = length-set s.rows i row in let high = h.height in omega arith;
+}
+
+set-same : (rows : List (List Cell)) (i : ℕ) → set rows i (get_or rows i []) ≡ rows
+set-same [] i = refl
+set-same (r ∷ rs) zero = refl
+set-same (r ∷ rs) (suc i) = ap (λ t. r ∷ t) (set-same rs i)
+
+pub rows-unchanged : (rows : List (List Cell)) (i : ℕ) (row : List Cell) → row ≡ get_or rows i [] → set rows i row ≡ rows
+rows-unchanged rows i row e = ap (set rows i) e ∙ set-same rows i
+
+-- ---- the rows as text
+
+pub view-more : {Z : Type 0} (rows : List (Vec Place Z)) (i : ℕ) (d : Vec Place Z) (text new : List ℕ) (cols : List Place) → i < length rows → text ≡ flat_map row_text (map row_of (take i rows))
+    → cols ≡ (get_or rows i d).items → new ≡ text ++ row_text (map shown cols) → new ≡ flat_map row_text (map row_of (take (i + 1) rows))
+view-more rows i d text new cols h inv same e =
+    let more : flat_map row_text (map row_of (take (i + 1) rows)) ≡ flat_map row_text (map row_of (take i rows)) ++ row_text (row_of (get_or rows i d)) =
+    ap (flat_map row_text) (map_more row_of rows i d h) ∙ flat_map-append row_text (map row_of (take i rows)) (row_of (get_or rows i d) ∷ [])
+    ∙ ap (λ t. flat_map row_text (map row_of (take i rows)) ++ t) (append-nil (row_text (row_of (get_or rows i d)))) in
+    e ∙ ap (λ t. t ++ row_text (map shown cols)) inv ∙ ap (λ t. flat_map row_text (map row_of (take i rows)) ++ row_text (map shown t)) same ∙ sym more

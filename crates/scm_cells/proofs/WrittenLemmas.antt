@@ -1,0 +1,351 @@
+-- What clusters laid on a row write, step by step.
+use Rattle.std.proofs.Common.{◌≡◌, ℕ, suc, ◌+◌, ◌-◌, ◌<◌, ◌≤◌, min, Bool, true, false, not, ◌&&◌, nat_le, List, [], ◌∷◌, ◌++◌, length, take, drop, map, slice_range, append-nil, append_assoc, length-append, length-take, length-drop, take-append-drop, replicate, refl, sym, ap, ap₂, subst, ◌∙◌, arith, ⊎_elim, Option, Some, None, Result, Ok, Err, length-take-le, take_at, drop_at}
+use Rattle.std.specs.Prelude.{ℤ, pos, ◌+ℤ◌, ◌-ℤ◌, ◌≤ℤ◌, ◌<ℤ◌, int_le, int_lt, take_while}
+use Rattle.std.specs.Int.{int_min, int_max}
+use Rattle.std.specs.List.{flat_map, filter_map, prefix_len}
+use Rattle.std.specs.Result.{OnErr, IfOk}
+use Rattle.std.proofs.lemmas.Result.{IfOk-weaker}
+use Rattle.std.proofs.lemmas.Bool.{cases_lt}
+use Rattle.std.proofs.lemmas.Bool.Decides.{nat_tests}
+use Rattle.std.proofs.lemmas.List.{map-append, take-append-le}
+use Rattle.std.proofs.lemmas.Slice.{take-put_mid}
+use borrow.Rule.Slice.PartMut.{put_mid}
+use Rattle.std.proofs.lemmas.Int.{ints, by_lt_z}
+use Rattle.std.proofs.lemmas.Str.{chars-nil}
+use Rattle.unicode_width.specs.Width.{str_width}
+use Rattle.scm_cells.specs.Rect.{or_zero}
+use Rattle.scm_cells.specs.Clusters.{Cluster, clusters, clusters_left, with_width, kept_width, has_control}
+use Rattle.scm_cells.specs.declared.text.Clusters.{Clusters}
+use Rattle.scm_cells.specs.Cell.{Cell, Place, blank, shown, laid}
+use Rattle.scm_cells.specs.Row.{placed, passes, cells_past, cells_of, written, overlay, put}
+use Rattle.scm_cells.specs.Laying.{fit, IsPassed, IsBegun}
+use Rattle.scm_cells.proofs.RectLemmas.{places}
+
+-- ---- clusters have bytes and columns
+
+pub record IsKept (c : Cluster) : Type 0 where
+  pub bytes : 0 < length c.0
+  pub columns : 0 < c.1
+
+abbrev pub AllKept : List Cluster → Type 0
+AllKept [] = Unit {0}
+AllKept (c ∷ cs) = IsKept c × AllKept cs
+
+empty_width : kept_width [] ≡ None
+unfolding kept_width has_control str_width
+empty_width = rw chars-nil refl
+
+kept_columns : (piece : List ℕ) (width : ℕ) → kept_width piece ≡ Some width → 0 < width
+unfolding kept_width
+kept_columns piece width e = grind (arith, nat_tests)
+
+kept_bytes : (piece : List ℕ) (width : ℕ) → kept_width piece ≡ Some width → 0 < length piece
+kept_bytes [] width e = let none = sym empty_width ∙ e in cc
+kept_bytes (b ∷ bs) width e = omega arith
+
+AllKept-cons : (piece : List ℕ) (pieces : List (List ℕ)) (width : Option ℕ) → kept_width piece ≡ width → AllKept (filter_map with_width pieces) → AllKept (filter_map with_width (piece ∷ pieces))
+unfolding with_width
+AllKept-cons piece pieces None e h = rw e h
+AllKept-cons piece pieces (Some width) e h = rw e (record { bytes = kept_bytes piece width e; columns = kept_columns piece width e }, h)
+
+AllKept-pieces : (pieces : List (List ℕ)) → AllKept (filter_map with_width pieces)
+AllKept-pieces [] = tt
+AllKept-pieces (p ∷ ps) = AllKept-cons p ps (kept_width p) refl (AllKept-pieces ps)
+
+pub AllKept-left : (s : Clusters) → AllKept (clusters_left s)
+unfolding clusters_left
+AllKept-left s = AllKept-pieces _
+
+pub AllKept-first : (cs rest : List Cluster) (c : Cluster) → AllKept cs → cs ≡ c ∷ rest → IsKept c
+AllKept-first cs rest c h e = (subst AllKept e h).0
+
+-- ---- a cluster at a time
+
+and_false : (b : Bool) → (b && false) ≡ false
+and_false true = refl
+and_false false = refl
+
+by_stop : {P : Type 0} (b : Bool) {x : Bool} → x ≡ b → (x ≡ true → P) → (x ≡ false → P) → P
+by_stop true e f g = f e
+by_stop false e f g = g e
+
+take_while-pass : {X : Type 0} (p : X → Bool) (x : X) (xs : List X) → p x ≡ true → take_while p (x ∷ xs) ≡ x ∷ take_while p xs
+take_while-pass p x xs e = let one : 1 + prefix_len p xs ≡ suc (prefix_len p xs) = omega arith in rw (e, one) refl
+
+take_while-stop : {X : Type 0} (p : X → Bool) (x : X) (xs : List X) → p x ≡ false → take_while p (x ∷ xs) ≡ []
+take_while-stop p x xs e = rw e refl
+
+pub written-none : (column : ℤ) (low high : ℕ) → written column [] low high ≡ []
+unfolding written placed
+written-none column low high = refl
+
+written-cons : (column : ℤ) (c : Cluster) (cs : List Cluster) (low high : ℕ) → passes low high (column, c) ≡ false
+    → written column (c ∷ cs) low high ≡ cells_past low high (column, c) ++ written (column +ℤ pos c.1) cs low high
+unfolding written placed
+written-cons column c cs low high e =
+    ap (flat_map (cells_past low high)) (take_while-pass (λ p. not (passes low high p)) (column, c) (placed (column +ℤ pos c.1) cs) (ap not e))
+
+written-stop : (column : ℤ) (c : Cluster) (cs : List Cluster) (low high : ℕ) → passes low high (column, c) ≡ true → written column (c ∷ cs) low high ≡ []
+unfolding written placed
+written-stop column c cs low high e =
+    ap (flat_map (cells_past low high)) (take_while-stop (λ p. not (passes low high p)) (column, c) (placed (column +ℤ pos c.1) cs) (ap not e))
+
+pub written-skipped : (column : ℤ) (c : Cluster) (cs : List Cluster) (low high : ℕ) → low < high → (column +ℤ pos c.1) ≤ℤ pos low
+    → written column (c ∷ cs) low high ≡ written (column +ℤ pos c.1) cs low high
+written-skipped column c cs low high h e =
+    let within : int_lt (pos high) (column +ℤ pos c.1) ≡ false = grind (arith, ints) in
+    let before : int_le (column +ℤ pos c.1) (pos low) ≡ true = grind (arith, ints) in
+    let stays : passes low high (column, c) ≡ false = rw within (and_false (int_le (pos low) column)) in
+    written-cons column c cs low high stays ∙ rw before refl
+
+pub written-crossing : (column : ℤ) (c : Cluster) (cs : List Cluster) (low high : ℕ) → column <ℤ pos low → pos low <ℤ (column +ℤ pos c.1)
+    → written column (c ∷ cs) low high ≡ replicate (or_zero (int_min (pos high) (column +ℤ pos c.1) -ℤ pos low)) blank ++ written (column +ℤ pos c.1) cs low high
+written-crossing column c cs low high h e =
+    let begins : int_le (pos low) column ≡ false = grind (arith, ints) in
+    let past : int_le (column +ℤ pos c.1) (pos low) ≡ false = grind (arith, ints) in
+    let crosses : int_lt column (pos low) ≡ true = grind (arith, ints) in
+    let stays : passes low high (column, c) ≡ false = rw begins refl in
+    written-cons column c cs low high stays ∙ rw (past, crosses) refl
+
+written-whole : (column : ℤ) (c : Cluster) (cs : List Cluster) (low high : ℕ) → pos low ≤ℤ column → (column +ℤ pos c.1) ≤ℤ pos high → 0 < c.1
+    → written column (c ∷ cs) low high ≡ cells_of c ++ written (column +ℤ pos c.1) cs low high
+written-whole column c cs low high h e w =
+    let within : int_lt (pos high) (column +ℤ pos c.1) ≡ false = grind (arith, ints) in
+    let past : int_le (column +ℤ pos c.1) (pos low) ≡ false = grind (arith, ints) in
+    let inside : int_lt column (pos low) ≡ false = grind (arith, ints) in
+    let stays : passes low high (column, c) ≡ false = rw within (and_false (int_le (pos low) column)) in
+    written-cons column c cs low high stays ∙ rw (past, inside) refl
+
+written-ended : (column : ℤ) (c : Cluster) (cs : List Cluster) (low high : ℕ) → pos low ≤ℤ column → pos high <ℤ (column +ℤ pos c.1) → written column (c ∷ cs) low high ≡ []
+written-ended column c cs low high h e =
+    let begins : int_le (pos low) column ≡ true = grind (arith, ints) in
+    let past : int_lt (pos high) (column +ℤ pos c.1) ≡ true = grind (arith, ints) in
+    written-stop column c cs low high (rw (begins, past) refl)
+
+-- a cluster that ends before the low limit writes nothing, whatever the high one
+written-skipped_any : (column : ℤ) (c : Cluster) (cs : List Cluster) (low high : ℕ) → (column +ℤ pos c.1) ≤ℤ pos low → written (column +ℤ pos c.1) cs low high ≡ []
+    → written column (c ∷ cs) low high ≡ []
+written-skipped_any column c cs low high e none =
+    let before : int_le (column +ℤ pos c.1) (pos low) ≡ true = grind (arith, ints) in
+    by_stop (passes low high (column, c)) refl
+    (λ stops. written-stop column c cs low high stops)
+    (λ stays. written-cons column c cs low high stays ∙ rw before none)
+
+-- ---- clusters that have room
+
+pub fit-cons : (room : ℕ) (c : Cluster) (cs : List Cluster) → c.1 ≤ room → fit room (c ∷ cs) ≡ cells_of c ++ fit (room - c.1) cs
+unfolding fit
+fit-cons room c cs h = let e : nat_le c.1 room ≡ true = grind (arith, nat_tests) in rw e refl
+
+pub fit-stop : (room : ℕ) (c : Cluster) (cs : List Cluster) → room < c.1 → fit room (c ∷ cs) ≡ []
+unfolding fit
+fit-stop room c cs h = let e : nat_le c.1 room ≡ false = grind (arith, nat_tests) in rw e refl
+
+pub fit-none : (room : ℕ) → fit room [] ≡ []
+unfolding fit
+fit-none room = refl
+
+pub fit-full : (cs : List Cluster) (room : ℕ) → AllKept cs → room ≡ 0 → fit room cs ≡ []
+fit-full [] room h e = fit-none room
+fit-full (c ∷ cs) room h e = let w = h.0.columns in fit-stop room c cs (omega arith)
+
+-- from the low limit on, the clusters that have room are written
+pub written-fit : (cs : List Cluster) (at low high : ℕ) → AllKept cs → low ≤ at → written (pos at) cs low high ≡ fit (high - at) cs
+written-fit [] at low high kept h = written-none (pos at) low high ∙ sym (fit-none (high - at))
+written-fit (c ∷ cs) at low high kept h =
+    let w = kept.0.columns in
+    ⊎_elim
+    (λ (past : high - at < c.1). written-ended (pos at) c cs low high (omega (arith, places)) (omega (arith, places)) ∙ sym (fit-stop (high - at) c cs past))
+    (λ (room : c.1 ≤ high - at).
+    let left : high - (at + c.1) ≡ high - at - c.1 = omega arith in
+    written-whole (pos at) c cs low high (omega (arith, places)) (omega (arith, places)) w
+    ∙ ap (λ t. cells_of c ++ t) (written-fit cs (at + c.1) low high kept.1 (omega arith) ∙ ap (λ n. fit n cs) left)
+    ∙ sym (fit-cons (high - at) c cs room))
+    (cases_lt (high - at) c.1)
+
+closed_part : (low high : ℕ) (z : ℤ) → high ≤ low → or_zero (int_min (pos high) z -ℤ pos low) ≡ 0
+closed_part low high z h = omega (arith, places)
+
+written-closed_cons : (c : Cluster) (cs : List Cluster) (column : ℤ) (low high : ℕ) → high ≤ low → written (column +ℤ pos c.1) cs low high ≡ [] → written column (c ∷ cs) low high ≡ []
+written-closed_cons c cs column low high h none =
+    by_lt_z (pos low) (column +ℤ pos c.1)
+    (λ past. by_lt_z column (pos low)
+    (λ before.
+    let e : replicate (or_zero (int_min (pos high) (column +ℤ pos c.1) -ℤ pos low)) blank ≡ [] = rw (closed_part low high (column +ℤ pos c.1) h) refl in
+    written-crossing column c cs low high before past ∙ ap₂ (λ a b. a ++ b) e none)
+    (λ begun. written-ended column c cs low high begun (omega (arith, places))))
+    (λ ends. written-skipped_any column c cs low high ends none)
+
+-- ---- clusters before the low limit
+
+-- clusters laid so many columns before a limit write what the rest, laid nearer to it, write
+abbrev pub IsNearer : ℕ → List Cluster → ℕ → List Cluster → Type 0
+IsNearer columns cs before rest = (low high : ℕ) → low < high → written (pos low -ℤ pos columns) cs low high ≡ written (pos low -ℤ pos before) rest low high
+
+pub IsNearer-none : (columns : ℕ) (cs : List Cluster) → IsNearer columns cs columns cs
+IsNearer-none columns cs = λ low high h. refl
+
+nearer-place : (low before width : ℕ) → width ≤ before → (pos low -ℤ pos before) +ℤ pos width ≡ pos low -ℤ pos (before - width)
+nearer-place low before width h = omega (arith, places)
+
+pub IsNearer-more : (columns before width : ℕ) (cs now rest : List Cluster) (c : Cluster) → IsNearer columns cs before now → now ≡ c ∷ rest → c.1 ≡ width → width ≤ before
+    → IsNearer columns cs (before - width) rest
+IsNearer-more columns before width cs now rest c h e w le = λ low high lt.
+    let place : (pos low -ℤ pos before) +ℤ pos c.1 ≡ pos low -ℤ pos (before - width) = rw w (nearer-place low before width le) in
+    let ends : ((pos low -ℤ pos before) +ℤ pos c.1) ≤ℤ pos low = omega (arith, places) in
+    h low high lt ∙ ap (λ t. written (pos low -ℤ pos before) t low high) e ∙ written-skipped (pos low -ℤ pos before) c rest low high lt ends
+    ∙ ap (λ z. written z rest low high) place
+
+past_place : (low b : ℕ) → pos low -ℤ pos 0 ≡ pos low
+past_place low b = omega (arith, places)
+
+no_blanks : (n m : ℕ) (rest : List Cluster) → fit m rest ≡ replicate (min 0 n) blank ++ fit (m - 0) rest
+no_blanks n m rest =
+    let none : min 0 n ≡ 0 = omega arith in
+    let all : m - 0 ≡ m = omega arith in
+    rw (none, all) refl
+
+-- none is left before the limit
+pub IsPassed-at_limit : (columns before : ℕ) (cs rest : List Cluster) → AllKept rest → IsNearer columns cs before rest → before ≡ 0 → IsPassed columns cs 0 rest
+IsPassed-at_limit columns before cs rest kept h e = λ low high lt.
+    let place : pos low -ℤ pos before ≡ pos low = omega (arith, places) in
+    h low high lt ∙ ap (λ z. written z rest low high) place ∙ written-fit rest low low high kept (omega arith)
+    ∙ no_blanks (high - low) (high - low) rest
+
+-- the text ends before the limit
+pub IsPassed-end : (columns before : ℕ) (cs now rest : List Cluster) → IsNearer columns cs before now → now ≡ [] → rest ≡ [] → IsPassed columns cs 0 rest
+IsPassed-end columns before cs now rest h e f = λ low high lt.
+    h low high lt ∙ ap (λ t. written (pos low -ℤ pos before) t low high) e ∙ written-none (pos low -ℤ pos before) low high
+    ∙ sym (ap (λ t. fit (high - low) t) f ∙ fit-none (high - low)) ∙ no_blanks (high - low) (high - low) rest
+
+crossing_blanks : (low high before width : ℕ) → low < high → before < width
+    → or_zero (int_min (pos high) ((pos low -ℤ pos before) +ℤ pos width) -ℤ pos low) ≡ min (width - before) (high - low)
+crossing_blanks low high before width h lt = omega (arith, places)
+
+crossing_place : (low before width : ℕ) → before < width → (pos low -ℤ pos before) +ℤ pos width ≡ pos (low + (width - before))
+crossing_place low before width lt = omega (arith, places)
+
+-- a cluster ends at the limit or past it
+pub IsPassed-crossed : (columns before width : ℕ) (cs now rest : List Cluster) (c : Cluster) → AllKept rest → IsNearer columns cs before now → now ≡ c ∷ rest → c.1 ≡ width → 0 < before → before ≤ width
+    → IsPassed columns cs (width - before) rest
+IsPassed-crossed columns before width cs now rest c kept h e w some le =
+    ⊎_elim
+    (λ (crosses : before < width). λ low high lt.
+    let column = pos low -ℤ pos before in
+    let begins : column <ℤ pos low = omega (arith, places) in
+    let ends : pos low <ℤ (column +ℤ pos c.1) = omega (arith, places) in
+    let blanks : or_zero (int_min (pos high) (column +ℤ pos c.1) -ℤ pos low) ≡ min (width - before) (high - low) = rw w (crossing_blanks low high before width lt crosses) in
+    let place : column +ℤ pos c.1 ≡ pos (low + (width - before)) = rw w (crossing_place low before width crosses) in
+    let left : high - (low + (width - before)) ≡ high - low - (width - before) = omega arith in
+    h low high lt ∙ ap (λ t. written column t low high) e ∙ written-crossing column c rest low high begins ends
+    ∙ ap₂ (λ n t. replicate n blank ++ t) blanks
+    (ap (λ z. written z rest low high) place ∙ written-fit rest (low + (width - before)) low high kept (omega arith) ∙ ap (λ n. fit n rest) left))
+    (λ (touches : width ≤ before).
+    let none : width - before ≡ 0 = omega arith in
+    let nearer = IsNearer-more columns before width cs now rest c h e w touches in
+    subst (λ n. IsPassed columns cs n rest) (sym none) (IsPassed-at_limit columns (before - width) cs rest kept nearer (omega arith)))
+    (cases_lt before width)
+
+-- ---- the first column that is written
+
+pub place_below : (column : ℤ) (low : ℕ) → column <ℤ pos low → low ≡ or_zero (int_max column (pos low))
+place_below column low h = omega (arith, places)
+
+pub place_from : (column : ℤ) (low n : ℕ) → pos low ≤ℤ column → pos n ≡ column → n ≡ or_zero (int_max column (pos low))
+place_from column low n h e = omega (arith, places)
+
+pub IsBegun-passed : (column : ℤ) (low before blanks : ℕ) (cs rest : List Cluster) → IsPassed before cs blanks rest → pos low -ℤ pos before ≡ column → IsBegun column low cs low blanks rest
+IsBegun-passed column low before blanks cs rest h e = λ high lt. ap (λ z. written z cs low high) (sym e) ∙ h low high lt
+
+pub IsBegun-at : (column : ℤ) (low n : ℕ) (cs : List Cluster) → AllKept cs → pos low ≤ℤ column → pos n ≡ column → IsBegun column low cs n 0 cs
+IsBegun-at column low n cs kept h e = λ high lt.
+    let le : low ≤ n = omega (arith, places) in
+    ap (λ z. written z cs low high) (sym e) ∙ written-fit cs n low high kept le ∙ no_blanks (high - n) (high - n) cs
+
+-- ---- nothing is written where the limits leave no column
+
+pub written-closed : (cs : List Cluster) (column : ℤ) (low high : ℕ) → high ≤ low → written column cs low high ≡ []
+written-closed [] column low high h = written-none column low high
+written-closed (c ∷ cs) column low high h = written-closed_cons c cs column low high h (written-closed cs (column +ℤ pos c.1) low high h)
+
+pub written-past : (column : ℤ) (low high from blanks : ℕ) (cs rest : List Cluster) → IsBegun column low cs from blanks rest → AllKept rest → low < high → high ≤ from → written column cs low high ≡ []
+written-past column low high from blanks cs rest h kept lt le =
+    let none : min blanks (high - from) ≡ 0 = omega arith in
+    h high lt ∙ ap₂ (λ n t. replicate n blank ++ t) none (fit-full rest (high - from - blanks) kept (omega arith))
+
+-- ---- a symbol laid after those before it
+
+pub laid-step : (columns sub : List Place) (e k : ℕ) (c : Cluster) (now rest : List Cluster) (total : List Cell) → k ≡ e + c.1 - e → e ≤ length columns → c.1 ≤ length columns - e
+    → now ≡ c ∷ rest → length sub ≡ k → map laid sub ≡ cells_of c → map laid (take e columns) ++ fit (length columns - e) now ≡ total
+    → map laid (take (e + c.1) (put_mid e k columns sub)) ++ fit (length columns - (e + c.1)) rest ≡ total
+laid-step columns sub e k c now rest total f within room g size l h =
+    let left : length columns - (e + c.1) ≡ length columns - e - c.1 = omega arith in
+    let front : take (e + c.1) (put_mid e k columns sub) ≡ take e columns ++ sub = take-put_mid e k columns sub (e + c.1) (omega arith) within in
+    ap₂ (λ xs n. map laid xs ++ fit n rest) front left ∙ ap (λ t. t ++ fit (length columns - e - c.1) rest) (map-append laid (take e columns) sub)
+    ∙ append_assoc (map laid (take e columns)) (map laid sub) (fit (length columns - e - c.1) rest)
+    ∙ ap (λ t. map laid (take e columns) ++ (t ++ fit (length columns - e - c.1) rest)) l
+    ∙ ap (λ t. map laid (take e columns) ++ t) (sym (fit-cons (length columns - e) c rest room) ∙ ap (fit (length columns - e)) (sym g))
+    ∙ h
+
+pub length-put_mid : (columns sub : List Place) (e k : ℕ) → length sub ≡ k → e + k ≤ length columns → length (put_mid e k columns sub) ≡ length columns
+length-put_mid columns sub e k size le = simp (length-append, length-take, length-drop) (omega arith)
+
+-- what is shown stays where a part of the row shows what it did
+pub shown-put_mid : (columns sub : List Place) (e k : ℕ) → map shown sub ≡ map shown (take k (drop e columns)) → map shown (put_mid e k columns sub) ≡ map shown columns
+shown-put_mid columns sub e k h =
+    map-append shown (take e columns) (sub ++ drop k (drop e columns))
+    ∙ ap (λ t. map shown (take e columns) ++ t) (map-append shown sub (drop k (drop e columns)) ∙ ap (λ t. t ++ map shown (drop k (drop e columns))) h
+    ∙ sym (map-append shown (take k (drop e columns)) (drop k (drop e columns))) ∙ ap (map shown) (take-append-drop k (drop e columns)))
+    ∙ sym (map-append shown (take e columns) (drop e columns)) ∙ ap (map shown) (take-append-drop e columns)
+
+-- no cluster is left, or the next has no room
+pub laid-end : (front total : List Cell) (room : ℕ) (now : List Cluster) → front ++ fit room now ≡ total → fit room now ≡ [] → front ≡ total
+laid-end front total room now h e = sym (append-nil front) ∙ ap (λ t. front ++ t) (sym e) ∙ h
+
+-- ---- a text put on a row
+
+pub put-none : (row : List Cell) (column : ℤ) (text : List ℕ) (low high : ℕ) → written column (clusters text) low high ≡ [] → row ≡ put row column text low high
+unfolding put overlay
+put-none row column text low high e = rw e refl
+
+part-put_mid : (columns sub : List Place) (from k width : ℕ) → from ≤ length columns → width ≤ length sub
+    → slice_range (put_mid from k columns sub) from (from + width) ≡ take width sub
+part-put_mid columns sub from k width le within =
+    let n : from + width - from ≡ width = omega arith in
+    rw n (ap (take width) (drop_at (take from columns) (sub ++ drop k (drop from columns)) from (length-take-le from columns le)) ∙ take-append-le width sub (drop k (drop from columns)) within)
+
+pub on_err : {T E P : Type 0} (r : Result T E) → P → OnErr r P
+on_err (Ok x) p = tt
+on_err (Err e) p = p
+
+pub put-some : (columns now new : List Place) (column : ℤ) (text : List ℕ) (low high from blanks width : ℕ) (sub : List Place) (cs rest : List Cluster)
+    → from ≡ or_zero (int_max column (pos low)) → cs ≡ clusters text → IsBegun column low cs from blanks rest → low < high → from < high → high ≤ length columns
+    → now ≡ put_mid from (high - from) columns sub → length sub ≡ high - from → width ≤ high - from
+    → map shown sub ≡ map shown (take (high - from) (drop from columns))
+    → map laid (take width sub) ≡ replicate (min blanks (high - from)) blank ++ fit (high - from - blanks) rest
+    → map shown new ≡ overlay (map shown now) from (map laid (slice_range now from (from + width)))
+    → map shown new ≡ put (map shown columns) column text low high
+unfolding put
+put-some columns now new column text low high from blanks width sub cs rest at cut begun lt inside le made size within same laid_is shows =
+    let part : slice_range now from (from + width) ≡ take width sub =
+    ap (λ xs. slice_range xs from (from + width)) made ∙ part-put_mid columns sub from (high - from) width (omega arith) (omega arith) in
+    let cells : map laid (slice_range now from (from + width)) ≡ written column (clusters text) low high =
+    ap (map laid) part ∙ laid_is ∙ sym (begun high lt) ∙ ap (λ t. written column t low high) cut in
+    shows ∙ ap₂ (λ row t. overlay row from t) (ap (map shown) made ∙ shown-put_mid columns sub from (high - from) same) cells
+    ∙ ap (λ n. overlay (map shown columns) n (written column (clusters text) low high)) at
+
+-- what is shown stays where the beginning of the row shows what it did
+pub shown-put_front : (columns sub : List Place) (k : ℕ) → map shown sub ≡ map shown (take k columns) → map shown (sub ++ drop k columns) ≡ map shown columns
+shown-put_front columns sub k h =
+    map-append shown sub (drop k columns) ∙ ap (λ t. t ++ map shown (drop k columns)) h ∙ sym (map-append shown (take k columns) (drop k columns))
+    ∙ ap (map shown) (take-append-drop k columns)
+
+-- spaces, and then the clusters that have room
+pub laid-after_blanks : {E : Type 0} (columns sub new : List Place) (blanks k : ℕ) (result : Result ℕ E) (cs : List Cluster) → k ≡ min blanks (length columns) → length sub ≡ k → map laid sub ≡ replicate k blank
+    → IfOk result (λ end. map laid (take end new) ≡ map laid (take k (sub ++ drop k columns)) ++ fit (length (sub ++ drop k columns) - k) cs)
+    → IfOk result (λ end. map laid (take end new) ≡ replicate (min blanks (length columns)) blank ++ fit (length columns - blanks) cs)
+laid-after_blanks columns sub new blanks k result cs e size l h =
+    let front : map laid (take k (sub ++ drop k columns)) ≡ replicate (min blanks (length columns)) blank =
+    ap (map laid) (take_at sub (drop k columns) k size) ∙ l ∙ ap (λ n. replicate n blank) e in
+    let room : length (sub ++ drop k columns) - k ≡ length columns - blanks = simp (length-append, length-drop) (omega arith) in
+    IfOk-weaker result _ _ (λ end p. p ∙ ap₂ (λ xs n. xs ++ fit n cs) front room) h
