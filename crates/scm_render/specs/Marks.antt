@@ -11,10 +11,9 @@ pub record Put : Type 0 where
   pub low : ℤ
   pub high : ℤ
 
--- where a component drew
-pub record Box (K : Type 0) : Type 0 where
-  pub id : K
-  pub rect : Rect
+-- the id of a component, and where it drew
+abbrev pub Box : Type 0 → Type 0
+Box K = K × Rect
 
 -- the puts in order; the boxes, in the order in which their components begin, so that a box's place in the list is its
 -- time; and the rectangles that were drawn or covered
@@ -41,7 +40,7 @@ module _ {K : Type 0} where
 
   -- the marks of a component as a part of another: it begins before its own parts do
   unfoldable pub part : K → Marks K → Marks K
-  part id m = record { puts = m.puts; boxes = record { id = id; rect = box_rect m } ∷ m.boxes; areas = m.areas }
+  part id m = record { puts = m.puts; boxes = (id, box_rect m) ∷ m.boxes; areas = m.areas }
 
   -- each rectangle of the marks has its places and ends in range
   pub record MarksInRange (m : Marks K) : Type 0 where

@@ -2,7 +2,13 @@
 #![tactic(auto)]
 
 pub use centring::centered_rect;
+pub use component::Component;
 pub use trace::{DrawTrace, DrawnRect, DrawnRects};
+pub use viewport::Viewport;
 
 mod centring;
+mod component;
+mod drawing;
+mod filling;
 mod trace;
+mod viewport;
