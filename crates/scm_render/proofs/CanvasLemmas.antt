@@ -83,3 +83,11 @@ module _ {K : Type 0} where
       (b ∙ ap (λ v. set v.boxes (length c.boxes) (id, v.area)) h
       ∙ ap (λ v. set v (length c.boxes) (id, around no_rect m.areas)) (append_assoc c.boxes (taken ∷ []) m.boxes)
       ∙ set-place c.boxes m.boxes taken (id, around no_rect m.areas))
+
+  -- what a part leaves on the rows, and among the boxes
+  pub part-rows : (c d : Canvas K) (id : K) (m : Marks K) → d ≡ marked c (part id m) → d.rows ≡ painted c.sight.rect m.puts c.sight.rect.y c.rows
+  unfolding part
+  part-rows c d id m h = ap (λ v. v.rows) h ∙ marked-rows c (part id m)
+
+  pub part-boxes : (c d : Canvas K) (id : K) (m : Marks K) → d ≡ marked c (part id m) → c.boxes ≡ [] → d.boxes ≡ (part id m).boxes
+  part-boxes c d id m h none = ap (λ v. v.boxes) h ∙ marked-boxes c (part id m) ∙ ap (λ w. w ++ (part id m).boxes) none

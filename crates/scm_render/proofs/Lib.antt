@@ -9,3 +9,4 @@ pub mod MarksLemmas
 pub mod PaintLemmas
 pub mod RowLemmas
 pub mod SpanLemmas
+pub mod PlaceLemmas

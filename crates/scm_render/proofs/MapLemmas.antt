@@ -1,10 +1,10 @@
 -- The map of boxes that a frame answers, and the list of boxes that drawing leaves.
-use Rattle.std.proofs.Common.{◌≡◌, ℕ, ◌+◌, List, [], ◌∷◌, refl, sym, ap, ◌∙◌, cond, true, false, Bool, add-one}
-use Rattle.std.specs.Prelude.{Option, Some, None, suc, map}
-use Rattle.std.specs.List.{enumerate_from}
+use Rattle.std.proofs.Common.{◌≡◌, ℕ, ◌+◌, List, [], ◌∷◌, refl, sym, ap, ◌∙◌, cond, true, false, Bool, add-one, ◌<◌, ◌≤◌, ◌++◌, length, drop, get_or, drop-cons, append_assoc, append-nil, add_assoc}
+use Rattle.std.proofs.lemmas.List.{drop_all}
+use Rattle.std.specs.Prelude.{Option, Some, None, suc}
 use Rattle.std.specs.Map.{update, update_all}
 use Rattle.scm_render.specs.Marks.{Box}
-use Rattle.scm_render.specs.Places.{timed}
+use Rattle.scm_render.specs.Places.{timed, timed_from}
 use Rattle.scm_render.specs.Hits.{IsLawful, second_or, drawn_of}
 use Rattle.scm_render.specs.declared.trace.DrawnRect.{DrawnRect}
 
@@ -17,9 +17,6 @@ module _ {K : Type 0} (same_id : K → K → Bool) (law : IsLawful same_id) wher
       go false false p q = refl
       go true false p q = cc (law.same i j p, law.self j, law.self i, p, q)
       go false true p q = cc (law.same j i q, law.self j, law.self i, p, q)
-
-  timed_from : ℕ → List (Box K) → List (K × DrawnRect)
-  timed_from t boxes = map (λ p. (p.1.0, record { rect = p.1.1; timestamp = p.0 })) (enumerate_from t boxes)
 
   inner : (s : Bool) (d : DrawnRect) (f o : Option DrawnRect) → second_or (cond s (Some d) f) o ≡ second_or f (second_or (cond s (Some d) None) o)
   inner true d f (Some e) = refl
@@ -41,5 +38,21 @@ module _ {K : Type 0} (same_id : K → K → Bool) (law : IsLawful same_id) wher
 
   -- what the map has for an id is the box last drawn for it
   pub drawn_in_map : (bs : List (Box K)) (q : K) → update_all same_id (λ k. None) (timed bs) q ≡ drawn_of same_id 0 q bs
-  unfolding timed timed_from
   drawn_in_map bs q = by_map 0 bs (λ k. None) q ∙ none_or (drawn_of same_id 0 q bs)
+
+module _ {K : Type 0} where
+  -- one box more
+  pub timed_from-more : (t : ℕ) (bs : List (Box K)) (i n : ℕ) (b d : Box K) (done all : List (K × DrawnRect)) → i < length bs → n ≡ t + i → b ≡ get_or bs i d
+      → done ++ timed_from (t + i) (drop i bs) ≡ all → (done ++ (b.0, record { rect = b.1; timestamp = n }) ∷ []) ++ timed_from (t + (i + 1)) (drop (i + 1) bs) ≡ all
+  unfolding timed_from
+  timed_from-more t bs i n b d done all h k e p =
+      let cut : drop i bs ≡ b ∷ drop (i + 1) bs = rw (add-one, e) (drop-cons bs i d h) in
+      let one : K × DrawnRect = (b.0, record { rect = b.1; timestamp = t + i }) in
+      ap (λ m. (done ++ (b.0, record { rect = b.1; timestamp = m }) ∷ []) ++ timed_from (t + (i + 1)) (drop (i + 1) bs)) k
+      ∙ append_assoc done (one ∷ []) (timed_from (t + (i + 1)) (drop (i + 1) bs))
+      ∙ ap (λ n. done ++ one ∷ timed_from n (drop (i + 1) bs)) (sym (add_assoc t i 1))
+      ∙ ap (λ w. done ++ timed_from (t + i) w) (sym cut) ∙ p
+
+  pub timed_from-end : (t : ℕ) (bs : List (Box K)) (i : ℕ) (done all : List (K × DrawnRect)) → length bs ≤ i → done ++ timed_from (t + i) (drop i bs) ≡ all → done ≡ all
+  unfolding timed_from
+  timed_from-end t bs i done all h p = sym (append-nil done) ∙ ap (λ w. done ++ timed_from (t + i) w) (sym (drop_all i bs h)) ∙ p

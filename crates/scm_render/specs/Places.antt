@@ -1,6 +1,5 @@
 -- Places on the screen, and the boxes of a frame.
-use Rattle.std.specs.Prelude.{ℕ, ℤ, pos, ◌-ℤ◌, List, map, length, Option, Some, None, if◌then◌else◌}
-use Rattle.std.specs.List.{enumerate_from}
+use Rattle.std.specs.Prelude.{ℕ, ℤ, pos, ◌-ℤ◌, ◌+◌, List, [], ◌∷◌, length, Option, Some, None, if◌then◌else◌}
 use Rattle.scm_cells.specs.Rect.{or_zero, is_empty, intersect_of}
 use Rattle.scm_cells.specs.Screen.{Screen}
 use Rattle.scm_cells.specs.declared.rectangle.Rect.{Rect}
@@ -25,6 +24,11 @@ screen_rect s x y = record { x = x; y = y; width = s.width; height = length s.ro
 abbrev pub whole_sight : Screen → ℤ → ℤ → Sight
 whole_sight s x y = record { rect = screen_rect s x y; mask = None }
 
+-- boxes with their times, where the first has this time
+unfoldable pub timed_from : {K : Type 0} → ℕ → List (Box K) → List (K × DrawnRect)
+timed_from t [] = []
+timed_from t (b ∷ bs) = (b.0, record { rect = b.1; timestamp = t }) ∷ timed_from (t + 1) bs
+
 -- each box with its time: its place in the order in which components begin
-unfoldable pub timed : {K : Type 0} → List (Box K) → List (K × DrawnRect)
-timed boxes = map (λ p. (p.1.0, record { rect = p.1.1; timestamp = p.0 })) (enumerate_from 0 boxes)
+abbrev pub timed : {K : Type 0} → List (Box K) → List (K × DrawnRect)
+timed boxes = timed_from 0 boxes

@@ -1,17 +1,21 @@
 //! A part of a document on a grid.
-ghost use Rattle.std.specs.Prelude.{◌≡◌, ◌<◌, ◌≤◌, OnOk, OnErr, IfOk, IfErr, IfSome, length, [], ◌∷◌, Option, None, Some};
+ghost use Rattle.std.specs.Prelude.{◌≡◌, ◌<◌, ◌≤◌, OnOk, OnErr, IfOk, IfErr, IfSome, length, [], ◌∷◌, Option, None, Some, pos};
 ghost use Rattle.scm_cells.specs.Rect.{RectInRange, InRange};
 ghost use Rattle.scm_cells.specs.Mask.{MaskInRange, apply_of};
 ghost use Rattle.scm_render.specs.Around.{join, no_rect};
 ghost use Rattle.scm_render.specs.Marks.{MarksInRange, part, box_rect, covering};
 ghost use Rattle.scm_render.specs.Canvas.{marked, MaskIsInRange};
 ghost use Rattle.scm_render.specs.Drawing.{mask_or, reach};
+ghost use Rattle.scm_render.specs.Canvas.{painted};
+ghost use Rattle.scm_render.specs.Places.{translated, timed, screen_rect, whole_sight};
+ghost use Rattle.std.specs.HashMap.{IsFromIterResult};
 ghost use Rattle.scm_types.specs.declared.types.RecordError.TheVariants.{OutOfMemory};
 
 use crate::component::Component;
-use scm_cells::{Grid, Mask, Rect};
+use crate::trace::{DrawnRect, DrawnRects};
+use scm_cells::{Grid, Mask, Rect, ScreenRect};
 use scm_types::types::RecordError;
-use std::alloc::Global;
+use std::alloc::{AllocError, Global};
 use std::hash::Hash;
 use std::marker::Model;
 use std::mem;
@@ -135,6 +139,31 @@ impl<K: Copy + Eq + Hash + Drop> Viewport<K> {
         mem::replace(&mut self.mask, mask)
     }
 
+    /// The part of a rectangle that is on the screen, its places counted from the screen's corner, or
+    /// `None` where no cell of it is there.
+    #[tactic(auto, unfolding(crate::specs::Places::translated))]
+    pub fn translate_rect(&self, rect: Rect) -> Option<ScreenRect>
+        requires { RectInRange rect }
+        ensures { result ≡ translated self.now.sight.rect rect }
+    {
+        let screen = Rect {
+            width: self.grid.width(),
+            height: self.grid.height(),
+            ..self.rect
+        };
+        let part = screen.intersect(rect);
+        if part.is_empty() {
+            None
+        } else {
+            Some(ScreenRect {
+                x: screen.x.abs_diff(part.x) as u16,
+                y: screen.y.abs_diff(part.y) as u16,
+                width: part.width as u16,
+                height: part.height as u16,
+            })
+        }
+    }
+
     /// Records that a rectangle is covered, and gives it back. Nothing is put on the grid.
     pub fn cover(&mut self, rect: Rect) -> Rect
         requires { RectInRange rect }
@@ -170,4 +199,78 @@ impl<K: Copy + Eq + Hash + Drop> Viewport<K> {
         self.area = grown(outer, rect);
         Ok(rect)
     }
+
+    /// Draws a component at the document's column 0 and row 0 on a grid that shows the document from
+    /// its column `x` and row `y` on, over what the grid holds, and gives the boxes of all components
+    /// that were drawn. After want of memory too the grid has its size.
+    pub fn render_top_level<C: Component<Id = K>>(
+        alloc: Global,
+        grid: &mut Grid,
+        x: isize,
+        y: isize,
+        component: &C,
+    ) -> Result<DrawnRects<K>, RecordError>
+        requires place { RectInRange (screen_rect grid.old x y) }
+        requires marks { MarksInRange (part (C.key component.now) (C.marks component.now (whole_sight grid.old x y) (pos 0) (pos 0))) }
+        ensures rows { OnOk result (grid.new.rows ≡ painted (screen_rect grid.old x y) (C.marks component.now (whole_sight grid.old x y) (pos 0) (pos 0)).puts y grid.old.rows) }
+        ensures boxes { IfOk result (IsFromIterResult K.eq (timed (part (C.key component.now) (C.marks component.now (whole_sight grid.old x y) (pos 0) (pos 0))).boxes)) }
+        ensures width { grid.new.width ≡ grid.old.width }
+        ensures height { length grid.new.rows ≡ length grid.old.rows }
+        ensures err { IfErr result (λ e. e ≡ OutOfMemory) }
+    {
+        let rect = Rect {
+            x,
+            y,
+            width: grid.width(),
+            height: grid.height(),
+        };
+        let empty = Grid::new(alloc, 0, 0)?;
+        let mut viewport = Viewport::new(alloc, mem::replace(grid, empty), rect);
+        let outcome = viewport.draw_component(0, 0, component);
+        let (drawn, boxes) = viewport.into_parts();
+        *grid = drawn;
+        outcome?;
+        let timed = time_boxes(alloc, boxes.as_slice())?;
+        let rects = by_id(alloc, timed)?;
+        Ok(rects)
+    }
+
+    /// The grid that was drawn on, and the boxes.
+    fn into_parts(self) -> (Grid, Vec<(K, Rect)>)
+        ensures width { result.0.width ≡ self.sight.rect.width }
+        ensures height { length result.0.rows ≡ self.sight.rect.height }
+        ensures rows { result.0.rows ≡ self.rows }
+        ensures boxes { result.1.items ≡ self.boxes }
+    {
+        (self.grid, self.boxes)
+    }
+}
+
+/// Each box with its time, its place in the list.
+fn time_boxes<K: Copy + Eq + Hash + Drop>(
+    alloc: Global,
+    boxes: &[(K, Rect)],
+) -> Result<Vec<(K, DrawnRect)>, RecordError>
+    ensures ok { IfOk result (λ rects. rects.items ≡ timed boxes.now) }
+    ensures err { IfErr result (λ e. e ≡ OutOfMemory) }
+{
+    let mut rects = Vec::new(alloc);
+    for (timestamp, (id, rect)) in boxes.iter().enumerate() {
+        let drawn = DrawnRect {
+            rect: *rect,
+            timestamp,
+        };
+        rects.push((*id, drawn))?;
+    }
+    Ok(rects)
+}
+
+/// The map of boxes, where a later one takes the place of an earlier one of the same id.
+fn by_id<K: Copy + Eq + Hash + Drop>(
+    alloc: Global,
+    boxes: Vec<(K, DrawnRect)>,
+) -> Result<DrawnRects<K>, AllocError>
+    ensures { IfOk result (IsFromIterResult K.eq boxes.items) }
+{
+    boxes.into_iter().collect(alloc)
 }
