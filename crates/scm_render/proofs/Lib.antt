@@ -1,0 +1,12 @@
+pub mod AroundLemmas
+pub mod CanvasLemmas
+pub mod DrawLemmas
+pub mod HitLemmas
+pub mod LatestLemmas
+pub mod LineLemmas
+pub mod MapLemmas
+pub mod MarksLemmas
+pub mod PaintLemmas
+pub mod RowLemmas
+pub mod SpanLemmas
+pub mod PlaceLemmas

@@ -1,0 +1,90 @@
+-- Puts on rows, one row at a time.
+use Rattle.std.proofs.Common.{◌≡◌, ℕ, zero, suc, ◌+◌, ◌<◌, ◌≤◌, List, [], ◌∷◌, ◌++◌, length, get_or, set, refl, ap, arith, cond, true, false, Bool, ◌∙◌, sym}
+use Rattle.std.specs.Prelude.{ℤ, pos, ◌+ℤ◌, ◌-ℤ◌, ◌≤ℤ◌, ◌<ℤ◌}
+use Rattle.std.specs.Ordering.{int_eq}
+use Rattle.std.proofs.lemmas.Int.{ints}
+use Rattle.std.proofs.lemmas.Bool.Decides.{Decides-int_eq}
+use Rattle.scm_cells.specs.declared.rectangle.Rect.{Rect}
+use Rattle.scm_render.specs.Marks.{Put}
+use Rattle.scm_render.specs.Canvas.{Row, put_at, paint, painted}
+
+pub paint-none : (v : Rect) (z : ℤ) (row : Row) → paint v [] z row ≡ row
+unfolding paint
+paint-none v z row = refl
+
+pub paint-more : (v : Rect) (p : Put) (ps : List Put) (z : ℤ) (row : Row) → paint v (p ∷ ps) z row ≡ paint v ps z (cond (int_eq z p.row) (put_at v p row) row)
+unfolding paint
+paint-more v p ps z row = refl
+
+pub paint-append : (v : Rect) (ps qs : List Put) (z : ℤ) (row : Row) → paint v (ps ++ qs) z row ≡ paint v qs z (paint v ps z row)
+unfolding paint
+paint-append v [] qs z row = refl
+paint-append v (p ∷ ps) qs z row = paint-append v ps qs z (cond (int_eq z p.row) (put_at v p row) row)
+
+pub painted-none : (v : Rect) (z : ℤ) (rows : List Row) → painted v [] z rows ≡ rows
+unfolding painted paint
+painted-none v z [] = refl
+painted-none v z (row ∷ rows) = ap (λ w. row ∷ w) (painted-none v (z +ℤ pos 1) rows)
+
+pub painted-append : (v : Rect) (ps qs : List Put) (z : ℤ) (rows : List Row) → painted v (ps ++ qs) z rows ≡ painted v qs z (painted v ps z rows)
+unfolding painted
+painted-append v ps qs z [] = refl
+painted-append v ps qs z (row ∷ rows) =
+    ap (λ w. w ∷ painted v (ps ++ qs) (z +ℤ pos 1) rows) (paint-append v ps qs z row)
+    ∙ ap (λ w. paint v qs z (paint v ps z row) ∷ w) (painted-append v ps qs (z +ℤ pos 1) rows)
+
+pub length-painted : (v : Rect) (ps : List Put) (z : ℤ) (rows : List Row) → length (painted v ps z rows) ≡ length rows
+unfolding painted
+length-painted v ps z [] = refl
+length-painted v ps z (row ∷ rows) = ap suc (length-painted v ps (z +ℤ pos 1) rows)
+
+-- row r of the screen is what stands on document row z + r, where the first shows row z
+pub row-painted : (v : Rect) (ps : List Put) (z : ℤ) (rows : List Row) (r : ℕ) (d : Row) → r < length rows
+    → get_or (painted v ps z rows) r d ≡ paint v ps (z +ℤ pos r) (get_or rows r d)
+unfolding painted
+row-painted v ps z [] r d h = absurd (omega arith)
+row-painted v ps z (row ∷ rows) zero d h = ap (λ k. paint v ps k row) (omega (arith, ints))
+row-painted v ps z (row ∷ rows) (suc r) d h =
+    row-painted v ps (z +ℤ pos 1) rows r d (omega arith) ∙ ap (λ k. paint v ps k (get_or rows r d)) (omega (arith, ints))
+
+apart : (z y : ℤ) → z <ℤ y → int_eq z y ≡ false
+apart z y h = grind (arith, ints, Decides-int_eq z y)
+
+past : (z y : ℤ) → y <ℤ z → int_eq z y ≡ false
+past z y h = grind (arith, ints, Decides-int_eq z y)
+
+same : (z : ℤ) → int_eq z z ≡ true
+same z = (Decides-int_eq z z).1 refl
+
+-- a put on a row above the first one
+pub painted-above : (v : Rect) (p : Put) (z : ℤ) (rows : List Row) → p.row <ℤ z → painted v (p ∷ []) z rows ≡ rows
+unfolding painted paint
+painted-above v p z [] h = refl
+painted-above v p z (row ∷ rows) h =
+    rw (past z p.row h) (ap (λ w. row ∷ w) (painted-above v p (z +ℤ pos 1) rows (omega (arith, ints))))
+
+-- a put on a row below the last one
+pub painted-below : (v : Rect) (p : Put) (z : ℤ) (rows : List Row) → (z +ℤ pos (length rows)) ≤ℤ p.row → painted v (p ∷ []) z rows ≡ rows
+unfolding painted paint
+painted-below v p z [] h = refl
+painted-below v p z (row ∷ rows) h =
+    rw (apart z p.row (omega (arith, ints))) (ap (λ w. row ∷ w) (painted-below v p (z +ℤ pos 1) rows (omega (arith, ints))))
+
+-- a put on the k-th row
+pub painted-at : (v : Rect) (p : Put) (z : ℤ) (rows : List Row) (k : ℕ) (d : Row) → k < length rows → p.row ≡ z +ℤ pos k
+    → painted v (p ∷ []) z rows ≡ set rows k (put_at v p (get_or rows k d))
+unfolding painted paint
+painted-at v p z [] k d h e = absurd (omega arith)
+painted-at v p z (row ∷ rows) zero d h e =
+    let here : p.row ≡ z = omega (arith, ints) in
+    let test : int_eq z p.row ≡ true = ap (int_eq z) here ∙ same z in
+    rw test (ap (λ w. put_at v p row ∷ w) (painted-above v p (z +ℤ pos 1) rows (omega (arith, ints))))
+painted-at v p z (row ∷ rows) (suc k) d h e =
+    rw (apart z p.row (omega (arith, ints))) (ap (λ w. row ∷ w) (painted-at v p (z +ℤ pos 1) rows k d (omega arith) (omega (arith, ints))))
+
+pub int_eq-false : (a b : ℤ) → (a ≡ b → ⊥) → int_eq a b ≡ false
+int_eq-false a b h = go (int_eq a b) refl
+  where
+    go : (t : Bool) → int_eq a b ≡ t → t ≡ false
+    go true e = absurd (h ((Decides-int_eq a b).0 e))
+    go false e = refl

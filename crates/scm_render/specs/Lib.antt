@@ -1,0 +1,9 @@
+pub mod Around
+pub mod Canvas
+pub mod Centring
+pub mod Drawing
+pub mod Hits
+pub mod Lines
+pub mod Marks
+pub mod OnScreen
+pub mod Places

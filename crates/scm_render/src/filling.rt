@@ -1,0 +1,80 @@
+//! What a rectangle is filled with.
+ghost use Rattle.std.specs.Prelude.{◌≡◌, pos, ◌+ℤ◌, OnOk, IfErr, string_bytes};
+ghost use Rattle.scm_cells.specs.Rect.{InRange, RectInRange};
+ghost use Rattle.scm_render.specs.Drawing.{edge_symbol, border_symbol, symbol_at, row_text, FillingIsInRange};
+ghost use Rattle.scm_types.specs.declared.errors.RecordError.TheVariants.{OutOfMemory};
+
+use scm_cells::Rect;
+use scm_types::RecordError;
+
+/// The characters of the cells of a rectangle.
+#[derive(Clone, Copy)]
+pub(crate) enum Filling {
+    /// Spaces.
+    Blank,
+    /// The border of a frame with this rectangle, and spaces inside.
+    Border(Rect),
+}
+
+/// A symbol of a frame's row: `first` in its first column, `last` in its last, else `between`.
+fn edge_symbol(rect: Rect, x: isize, first: char, between: char, last: char) -> char
+    requires { RectInRange rect }
+    ensures { result ≡ edge_symbol rect x first between last }
+{
+    if x == rect.x {
+        first
+    } else if x == rect.end_x() - 1 {
+        last
+    } else {
+        between
+    }
+}
+
+/// The symbol of a frame's cell: a corner, an edge, or a space inside.
+fn border_symbol(rect: Rect, x: isize, y: isize) -> char
+    requires { RectInRange rect }
+    ensures { result ≡ border_symbol rect x y }
+{
+    if y == rect.y {
+        edge_symbol(rect, x, '┌', '─', '┐')
+    } else if y == rect.end_y() - 1 {
+        edge_symbol(rect, x, '└', '─', '┘')
+    } else {
+        edge_symbol(rect, x, '│', ' ', '│')
+    }
+}
+
+impl Filling {
+    /// The character of the cell in a column and a row.
+    #[tactic(auto, unfolding(crate::specs::Drawing::symbol_at))]
+    fn symbol(self, x: isize, y: isize) -> char
+        requires { FillingIsInRange self }
+        ensures { result ≡ symbol_at self x y }
+    {
+        match self {
+            Filling::Blank => ' ',
+            Filling::Border(rect) => border_symbol(rect, x, y),
+        }
+    }
+
+    /// Makes a text of the cells of a row, `width` of them from a column on.
+    pub(crate) fn write_row(
+        self,
+        text: &mut String,
+        x: isize,
+        y: isize,
+        width: usize,
+    ) -> Result<(), RecordError>
+        requires filling { FillingIsInRange self }
+        requires x { InRange x }
+        requires end { InRange (x +ℤ pos width) }
+        ensures ok { OnOk result (string_bytes text.new ≡ row_text self x y width) }
+        ensures err { IfErr result (λ e. e ≡ OutOfMemory) }
+    {
+        text.clear();
+        for offset in 0..width {
+            text.push(self.symbol(x.strict_add_unsigned(offset), y))?;
+        }
+        Ok(())
+    }
+}

@@ -1,0 +1,76 @@
+//! Where components drew.
+ghost use Rattle.std.specs.Prelude.{◌≡◌, [], OnOk, OnErr, IfErr};
+ghost use Rattle.std.specs.HashMap.{InsertsAll, IsUnchanged};
+ghost use Rattle.scm_cells.specs.Rect.{RectInRange, union_of};
+ghost use Rattle.scm_render.specs.Around.{no_rect};
+ghost use Rattle.scm_types.specs.declared.errors.RecordError.TheVariants.{OutOfMemory};
+
+use scm_cells::Rect;
+use scm_types::RecordError;
+use std::alloc::Global;
+use std::collections::HashMap;
+use std::hash::Hash;
+
+/// Where a component drew: the least rectangle around all that it and its parts drew or covered, in
+/// places of the document, and its rank in the order in which components began, from 0.
+#[derive(Clone, Copy, Debug, Eq, Ord, PartialEq, PartialOrd)]
+pub struct DrawnRect {
+    pub rect: Rect,
+    pub timestamp: usize,
+}
+
+/// Where each component drew, by its id.
+pub type DrawnRects<Id> = HashMap<Id, DrawnRect>;
+
+/// The least rectangle around what was drawn, and where each component drew.
+#[derive(Drop)]
+pub struct DrawTrace<Id: Eq + Hash> {
+    pub rect: Rect,
+    pub components: DrawnRects<Id>,
+}
+
+impl<Id: Copy + Eq + Hash + Drop> DrawTrace<Id> {
+    /// A trace of nothing: a rectangle of zeros, and no boxes.
+    pub fn new(alloc: Global) -> DrawTrace<Id>
+        ensures rect { result.rect ≡ no_rect }
+        ensures boxes { result.components.entries ≡ [] }
+    {
+        DrawTrace {
+            rect: Rect::default(),
+            components: HashMap::new(alloc),
+        }
+    }
+
+    /// Makes the rectangle the least around itself and another, where an empty one counts as nothing.
+    pub fn merge_rect(&mut self, rect: Rect)
+        requires left { RectInRange self.old.rect }
+        requires right { RectInRange rect }
+        ensures rect { self.new.rect ≡ union_of self.old.rect rect }
+        ensures boxes { self.new.components ≡ self.old.components }
+    {
+        self.rect = self.rect.union_bounding(rect);
+    }
+
+    /// Takes over what another trace drew: its rectangle by [`DrawTrace::merge_rect`], and its boxes,
+    /// which take the place of those of the same ids. After want of memory the trace is as before.
+    pub fn merge(&mut self, other: DrawTrace<Id>) -> Result<(), RecordError>
+        requires left { RectInRange self.old.rect }
+        requires right { RectInRange other.rect }
+        ensures rect { OnOk result (self.new.rect ≡ union_of self.old.rect other.rect) }
+        ensures boxes { OnOk result (InsertsAll Id.eq self.old.components other.components.entries self.new.components) }
+        ensures kept_rect { OnErr result (self.new.rect ≡ self.old.rect) }
+        ensures kept_boxes { OnErr result (IsUnchanged self.old.components self.new.components) }
+        ensures err { IfErr result (λ e. e ≡ OutOfMemory) }
+    {
+        let DrawTrace { rect, components } = other;
+        self.components.reserve(components.len())?;
+        self.merge_rect(rect);
+        for (id, drawn) in components {
+            match self.components.insert(id, drawn) {
+                Ok(_) => {}
+                Err(_) => unreachable!(),
+            }
+        }
+        Ok(())
+    }
+}

@@ -1,0 +1,276 @@
+//! A part of a document on a grid.
+ghost use Rattle.std.specs.Prelude.{◌≡◌, ◌<◌, ◌≤◌, OnOk, OnErr, IfOk, IfErr, IfSome, length, [], ◌∷◌, Option, None, Some, pos};
+ghost use Rattle.scm_cells.specs.Rect.{RectInRange, InRange};
+ghost use Rattle.scm_cells.specs.Mask.{MaskInRange, apply_of};
+ghost use Rattle.scm_render.specs.Around.{join, no_rect};
+ghost use Rattle.scm_render.specs.Marks.{MarksInRange, part, box_rect, covering};
+ghost use Rattle.scm_render.specs.Canvas.{marked, MaskIsInRange};
+ghost use Rattle.scm_render.specs.Drawing.{mask_or, reach};
+ghost use Rattle.scm_render.specs.Canvas.{painted};
+ghost use Rattle.scm_render.specs.Places.{translated, timed, screen_rect, whole_sight};
+ghost use Rattle.std.specs.HashMap.{IsFromIterResult};
+ghost use Rattle.scm_types.specs.declared.errors.RecordError.TheVariants.{OutOfMemory};
+
+use crate::component::Component;
+use crate::trace::{DrawnRect, DrawnRects};
+use scm_cells::{Grid, Mask, Rect, ScreenRect};
+use scm_types::RecordError;
+use std::alloc::{AllocError, Global};
+use std::hash::Hash;
+use std::marker::Model;
+use std::mem;
+
+/// The rectangle grown to hold another, unless that one is empty.
+#[tactic(auto, unfolding(crate::specs::Around::join))]
+pub(crate) fn grown(area: Rect, rect: Rect) -> Rect
+    requires area { RectInRange area }
+    requires rect { RectInRange rect }
+    ensures { result ≡ join area rect }
+{
+    if rect.is_empty() {
+        area
+    } else {
+        area.union_bounding(rect)
+    }
+}
+
+/// A part of a document on a grid. What is drawn outside that part, or outside the mask if one is set,
+/// does not show, and still counts for the boxes of components.
+#[derive(Drop)]
+pub struct Viewport<K> {
+    pub(crate) grid: Grid,
+    pub(crate) rect: Rect,
+    mask: Option<Mask>,
+    pub(crate) area: Rect,
+    boxes: Vec<(K, Rect)>,
+    pub(crate) scratch: String,
+}
+
+impl<K> Model for Viewport<K> {
+    ghost use Rattle.scm_render.specs.Canvas.{Canvas};
+
+    ghost Value = { Canvas K };
+
+    ghost view = { λ v. record {
+      sight = record { rect = v.rect; mask = v.mask };
+      rows = v.grid.rows;
+      area = v.area;
+      boxes = v.boxes.items;
+    } };
+
+    ghost use Rattle.std.specs.Prelude.{◌≡◌, length};
+    ghost use Rattle.scm_cells.specs.Rect.{RectInRange};
+    ghost use Rattle.scm_render.specs.Canvas.{MaskIsInRange};
+
+    ghost invariant = { λ v. record {
+      rect : RectInRange v.rect;
+      mask : MaskIsInRange v.mask;
+      area : RectInRange v.area;
+      width : v.grid.width ≡ v.rect.width;
+      height : length v.grid.rows ≡ v.rect.height;
+    } };
+}
+
+impl<K: Copy + Eq + Hash + Drop> Viewport<K> {
+    /// A viewport that shows the part `rect` of the document on a grid of the same size, without a
+    /// mask.
+    pub fn new(alloc: Global, grid: Grid, rect: Rect) -> Viewport<K>
+        requires rect { RectInRange rect }
+        requires width { grid.width ≡ rect.width }
+        requires height { length grid.rows ≡ rect.height }
+        ensures { result ≡ record { sight = record { rect = rect; mask = None }; rows = grid.rows; area = no_rect; boxes = [] } }
+    {
+        Viewport {
+            grid,
+            rect,
+            mask: None,
+            area: Rect::default(),
+            boxes: Vec::new(alloc),
+            scratch: String::new(alloc),
+        }
+    }
+
+    /// The grid that was drawn on.
+    pub fn into_grid(self) -> Grid
+        ensures width { result.width ≡ self.sight.rect.width }
+        ensures height { length result.rows ≡ self.sight.rect.height }
+        ensures rows { result.rows ≡ self.rows }
+    {
+        let Viewport { grid, .. } = self;
+        grid
+    }
+
+    /// The part of the document that is on the screen.
+    pub fn rect(&self) -> Rect
+        ensures value { result ≡ self.now.sight.rect }
+        ensures in_range { RectInRange result }
+    {
+        let Viewport { rect, .. } = self;
+        *rect
+    }
+
+    /// The mask that was set, else the rectangle's.
+    pub fn mask(&self) -> Mask
+        ensures value { result ≡ mask_or self.now.sight.mask self.now.sight.rect }
+        ensures in_range { MaskInRange result }
+    {
+        match self.mask {
+            Some(mask) => mask,
+            None => Mask::from(self.rect),
+        }
+    }
+
+    /// The part of the rectangle that the mask lets through.
+    #[tactic(auto, unfolding(crate::specs::Drawing::reach))]
+    pub fn mask_rect(&self) -> Rect
+        ensures value { result ≡ reach self.now.sight }
+        ensures in_range { RectInRange result }
+    {
+        self.mask().apply(self.rect)
+    }
+
+    /// Sets or takes away the mask, and gives the one that was set before.
+    pub fn swap_mask(&mut self, mask: Option<Mask>) -> Option<Mask>
+        requires { MaskIsInRange mask }
+        ensures old { result ≡ self.old.sight.mask }
+        ensures new { self.new ≡ record self.old { sight = record self.old.sight { mask = mask } } }
+        ensures in_range { MaskIsInRange result }
+    {
+        mem::replace(&mut self.mask, mask)
+    }
+
+    /// The part of a rectangle that is on the screen, its places counted from the screen's corner, or
+    /// `None` where no cell of it is there.
+    #[tactic(auto, unfolding(crate::specs::Places::translated))]
+    pub fn translate_rect(&self, rect: Rect) -> Option<ScreenRect>
+        requires { RectInRange rect }
+        ensures { result ≡ translated self.now.sight.rect rect }
+    {
+        let screen = Rect {
+            width: self.grid.width(),
+            height: self.grid.height(),
+            ..self.rect
+        };
+        let part = screen.intersect(rect);
+        if part.is_empty() {
+            None
+        } else {
+            Some(ScreenRect {
+                x: screen.x.abs_diff(part.x) as u16,
+                y: screen.y.abs_diff(part.y) as u16,
+                width: part.width as u16,
+                height: part.height as u16,
+            })
+        }
+    }
+
+    /// Records that a rectangle is covered, and gives it back. Nothing is put on the grid.
+    pub fn cover(&mut self, rect: Rect) -> Rect
+        requires { RectInRange rect }
+        ensures new { self.new ≡ marked self.old (covering rect) }
+        ensures rect { result ≡ rect }
+    {
+        self.area = grown(self.area, rect);
+        rect
+    }
+
+    /// Draws a component as a part of the one that is being drawn, and gives its box: the least
+    /// rectangle around all that it and its parts drew or covered, shown or not.
+    pub fn draw_component<C: Component<Id = K>>(
+        &mut self,
+        x: isize,
+        y: isize,
+        component: &C,
+    ) -> Result<Rect, RecordError>
+        requires { MarksInRange (part (C.key component.now) (C.marks component.now self.old.sight x y)) }
+        ensures ok { OnOk result (self.new ≡ marked self.old (part (C.key component.now) (C.marks component.now self.old.sight x y))) }
+        ensures drawn { IfOk result (λ r. r ≡ box_rect (C.marks component.now self.old.sight x y)) }
+        ensures rect { self.new.sight.rect ≡ self.old.sight.rect }
+        ensures err { IfErr result (λ e. e ≡ OutOfMemory) }
+    {
+        let id = component.id();
+        let place = self.boxes.len();
+        self.boxes.push((id, Rect::default()))?;
+        let outer = self.area;
+        self.area = Rect::default();
+        component.draw(self, x, y)?;
+        let rect = self.area;
+        self.boxes[place] = (id, rect);
+        self.area = grown(outer, rect);
+        Ok(rect)
+    }
+
+    /// Draws a component at the document's column 0 and row 0 on a grid that shows the document from
+    /// its column `x` and row `y` on, over what the grid holds, and gives the boxes of all components
+    /// that were drawn. After want of memory too the grid has its size.
+    pub fn render_top_level<C: Component<Id = K>>(
+        alloc: Global,
+        grid: &mut Grid,
+        x: isize,
+        y: isize,
+        component: &C,
+    ) -> Result<DrawnRects<K>, RecordError>
+        requires place { RectInRange (screen_rect grid.old x y) }
+        requires marks { MarksInRange (part (C.key component.now) (C.marks component.now (whole_sight grid.old x y) (pos 0) (pos 0))) }
+        ensures rows { OnOk result (grid.new.rows ≡ painted (screen_rect grid.old x y) (C.marks component.now (whole_sight grid.old x y) (pos 0) (pos 0)).puts y grid.old.rows) }
+        ensures boxes { IfOk result (IsFromIterResult K.eq (timed (part (C.key component.now) (C.marks component.now (whole_sight grid.old x y) (pos 0) (pos 0))).boxes)) }
+        ensures width { grid.new.width ≡ grid.old.width }
+        ensures height { length grid.new.rows ≡ length grid.old.rows }
+        ensures err { IfErr result (λ e. e ≡ OutOfMemory) }
+    {
+        let rect = Rect {
+            x,
+            y,
+            width: grid.width(),
+            height: grid.height(),
+        };
+        let empty = Grid::new(alloc, 0, 0)?;
+        let mut viewport = Viewport::new(alloc, mem::replace(grid, empty), rect);
+        let outcome = viewport.draw_component(0, 0, component);
+        let (drawn, boxes) = viewport.into_parts();
+        *grid = drawn;
+        outcome?;
+        let timed = time_boxes(alloc, boxes.as_slice())?;
+        let rects = by_id(alloc, timed)?;
+        Ok(rects)
+    }
+
+    /// The grid that was drawn on, and the boxes.
+    fn into_parts(self) -> (Grid, Vec<(K, Rect)>)
+        ensures width { result.0.width ≡ self.sight.rect.width }
+        ensures height { length result.0.rows ≡ self.sight.rect.height }
+        ensures rows { result.0.rows ≡ self.rows }
+        ensures boxes { result.1.items ≡ self.boxes }
+    {
+        (self.grid, self.boxes)
+    }
+}
+
+/// Each box with its time, its place in the list.
+fn time_boxes<K: Copy + Eq + Hash + Drop>(
+    alloc: Global,
+    boxes: &[(K, Rect)],
+) -> Result<Vec<(K, DrawnRect)>, RecordError>
+    ensures ok { IfOk result (λ rects. rects.items ≡ timed boxes.now) }
+    ensures err { IfErr result (λ e. e ≡ OutOfMemory) }
+{
+    let mut rects = Vec::new(alloc);
+    for (timestamp, (id, rect)) in boxes.iter().enumerate() {
+        let drawn = DrawnRect {
+            rect: *rect,
+            timestamp,
+        };
+        rects.push((*id, drawn))?;
+    }
+    Ok(rects)
+}
+
+/// The map of boxes, where a later one takes the place of an earlier one of the same id.
+fn by_id<K: Copy + Eq + Hash + Drop>(
+    alloc: Global,
+    boxes: Vec<(K, DrawnRect)>,
+) -> Result<DrawnRects<K>, AllocError>
+    ensures { IfOk result (IsFromIterResult K.eq boxes.items) }
+{
+    boxes.into_iter().collect(alloc)
+}
