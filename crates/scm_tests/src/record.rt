@@ -353,17 +353,10 @@ fn a_store_gives_places(rt: HostRuntime) -> Result<(), Fail> {
     Ok(())
 }
 
-// A read of a scripted input.
-#[derive(Drop)]
-enum ScriptedRead {
-    Batch(Vec<Event>),
-    Fault(String),
-}
-
-// An input of batches and faults.
+// An input of batches and of faults, by their texts.
 #[derive(Drop)]
 struct Scripted {
-    reads: VecDeque<ScriptedRead>,
+    reads: VecDeque<Result<Vec<Event>, String>>,
 }
 
 impl RecordInput for Scripted {
@@ -390,8 +383,8 @@ impl RecordInput for Scripted {
 
     fn next_events(&mut self) -> Result<Vec<Event>, RecordError> {
         match self.reads.pop_front() {
-            Some(ScriptedRead::Batch(events)) => Ok(events),
-            Some(ScriptedRead::Fault(text)) => Err(RecordError::ReadInput(text)),
+            Some(Ok(events)) => Ok(events),
+            Some(Err(text)) => Err(RecordError::ReadInput(text)),
             None => Ok(Vec::new(*self.reads.allocator())),
         }
     }
@@ -409,7 +402,7 @@ fn a_run_ends_at_once(rt: HostRuntime) -> Result<(), Fail> {
     let alloc = rt.alloc();
     // an event after the accepting one, in its batch, is not handled
     let mut reads = VecDeque::new(alloc);
-    reads.push_back(ScriptedRead::Batch(vec![in alloc; TOGGLE, Event::QuitAccept, TOGGLE]?))?;
+    reads.push_back(Ok(vec![in alloc; TOGGLE, Event::QuitAccept, TOGGLE]?))?;
     let mut input = Scripted { reads };
     let mut screens = Screens::new(alloc);
     let outcome = run_on(alloc, two_lines(alloc)?, &mut input, &mut screens);
@@ -417,9 +410,9 @@ fn a_run_ends_at_once(rt: HostRuntime) -> Result<(), Fail> {
     assert_eq!(rt; text.as_str(), "accepted 11");
     // a fault of the input is answered, and the reads after it are left
     let mut reads = VecDeque::new(alloc);
-    reads.push_back(ScriptedRead::Batch(vec![in alloc; TOGGLE]?))?;
-    reads.push_back(ScriptedRead::Fault(String::from_str(alloc, "broken")?))?;
-    reads.push_back(ScriptedRead::Batch(vec![in alloc; Event::QuitAccept]?))?;
+    reads.push_back(Ok(vec![in alloc; TOGGLE]?))?;
+    reads.push_back(Err(String::from_str(alloc, "broken")?))?;
+    reads.push_back(Ok(vec![in alloc; Event::QuitAccept]?))?;
     let mut input = Scripted { reads };
     let outcome = run_on(alloc, two_lines(alloc)?, &mut input, &mut screens);
     let text = words(alloc, &outcome)?;
