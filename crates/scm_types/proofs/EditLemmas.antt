@@ -58,6 +58,6 @@ slice_get-modify-other f (x ∷ xs) zero (suc j) h = refl
 slice_get-modify-other f (x ∷ xs) (suc i) zero h = refl
 slice_get-modify-other f (x ∷ xs) (suc i) (suc j) h = slice_get-modify-other f xs i j (λ e. h (ap suc e))
 
--- a write to the element, as a call leaves it: x is the element, and w what f gives of it
-pub slice_set-changed : {A : Type 0} (f : A → A) (xs : List A) (i : ℕ) (x w : A) → i < length xs → x ≡ get_or xs i x → w ≡ f x → slice_set xs i w ≡ modify f xs i
-slice_set-changed f xs i x w h e r = rw (r, e) (slice_set-modify f xs i x h)
+-- a write to the element of what f gives of it
+pub slice_set-changed : {A : Type 0} (f : A → A) (xs : List A) (i : ℕ) (d w : A) → i < length xs → w ≡ f (get_or xs i d) → slice_set xs i w ≡ modify f xs i
+slice_set-changed f xs i d w h e = rw e (slice_set-modify f xs i d h)

@@ -2,6 +2,7 @@ pub mod Marks
 pub mod Mode
 pub mod Limits
 pub mod Seen
+pub mod Joined
 pub mod Split
 pub mod Laws
 pub mod Same

@@ -1,5 +1,5 @@
 //! The lines of a change.
-ghost use Rattle.std.specs.Prelude.{◌≡◌};
+ghost use Rattle.std.specs.Prelude.{◌≡◌, true, false, not};
 ghost use Rattle.scm_types.specs.Split.{takes};
 
 use crate::texts::Text;
@@ -29,13 +29,14 @@ pub struct SectionChangedLine<'a> {
 }
 
 impl<'a> SectionChangedLine<'a> {
-    // The line stands in the text of a side, the selected one or the other.
-    pub(crate) fn is_taken(&self, selected: bool) -> bool
-        ensures { result ≡ takes selected self.now }
+    // The line stands in the text of the selected side, and else in that of the other side.
+    pub(crate) fn is_selected(&self) -> bool
+        ensures selected { result ≡ takes true self.now }
+        ensures unselected { result ≡ not (takes false self.now) }
     {
         match self.change_type {
-            ChangeType::Added => self.is_checked == selected,
-            ChangeType::Removed => self.is_checked != selected,
+            ChangeType::Added => self.is_checked,
+            ChangeType::Removed => !self.is_checked,
         }
     }
 }

@@ -1,15 +1,17 @@
 //! The split of a file: what is selected, and what is not.
-ghost use Rattle.std.specs.Prelude.{◌≡◌, ◌++◌, IfOk, IfErr, OnOk, true, false, length, nat_lt, string_bytes, option_and_then};
+ghost use Rattle.std.specs.Prelude.{◌≡◌, IfOk, IfErr, true, false, option_and_then};
 ghost use Rattle.std.specs.Option.{option_copied};
-ghost use Rattle.std.specs.List.{concat, list_any};
-ghost use Rattle.scm_types.specs.Split.{binary_change, has_changed_line, is_binary, is_emptied, last_binary_change, section_lines, side_lines, side_mode, side_of, tail_of, text_side};
+ghost use Rattle.std.specs.List.{list_any};
+ghost use Rattle.scm_types.specs.Joined.{joined};
+ghost use Rattle.scm_types.specs.Split.{binary_change, has_changed_line, is_binary, is_emptied, last_binary_change, side_lines, side_mode, side_of, tail_of, text_side};
 
 use crate::errors::RecordError;
 use crate::files::File;
 use crate::modes::FileMode;
 use crate::sections::Section;
+use crate::side_texts::{SideText, join_sides};
 use crate::texts::{OwnedText, Text};
-use std::alloc::{AllocError, Global};
+use std::alloc::Global;
 
 /// What one side of a split file holds.
 #[derive(Debug, Drop)]
@@ -58,33 +60,6 @@ impl<'a> Section<'a> {
         match self {
             Section::Changed { lines } => lines.len() > 0,
             _ => false,
-        }
-    }
-
-    // Adds the lines of a side, and says whether there is one.
-    fn push_side(&self, text: &mut String, selected: bool) -> Result<bool, AllocError>
-        ensures text { OnOk result (string_bytes text.new
-            ≡ string_bytes text.old ++ concat (section_lines selected self.now)) }
-        ensures has_line { IfOk result (λ has. has ≡ nat_lt 0 (length (section_lines selected self.now))) }
-    {
-        match self {
-            Section::Unchanged { lines } => {
-                for line in lines.iter() {
-                    text.push_str(line.as_str())?;
-                }
-                Ok(lines.len() > 0)
-            }
-            Section::Changed { lines } => {
-                let mut has_line = false;
-                for line in lines.iter() {
-                    if line.is_taken(selected) {
-                        text.push_str(line.line.as_str())?;
-                        has_line = true;
-                    }
-                }
-                Ok(has_line)
-            }
-            Section::FileMode { .. } | Section::Binary { .. } => Ok(false),
         }
     }
 }
@@ -155,35 +130,28 @@ impl<'a> File<'a> {
     // The contents of a side that is no binary one.
     fn side_text(
         &self,
-        alloc: Global,
         tail: &[Section<'a>],
         selected: bool,
-    ) -> Result<SelectedContents<'_>, RecordError>
-        requires { tail.now ≡ tail_of self.now.sections }
-        ensures ok { IfOk result (λ side. side
-            ≡ text_side (is_emptied selected self.now) (side_lines selected self.now)) }
-        ensures err { IfErr result (λ error. error ≡ RecordError.OutOfMemory) }
+        text: SideText,
+    ) -> SelectedContents<'_>
+        requires tail { tail.now ≡ tail_of self.now.sections }
+        requires text { text ≡ joined (side_lines selected self.now) }
+        ensures { result ≡ text_side (is_emptied selected self.now) (side_lines selected self.now) }
     {
-        let mut text = String::new(alloc);
-        let mut has_line = false;
-        for section in tail {
-            let more = section.push_side(&mut text, selected)?;
-            has_line = has_line | more;
-        }
-        let is_text = has_line | self.is_emptied(tail, selected);
+        let is_text = text.has_line | self.is_emptied(tail, selected);
         if is_text {
-            Ok(SelectedContents::Text {
-                contents: OwnedText::from(text),
-            })
+            SelectedContents::Text {
+                contents: OwnedText::from(text.text),
+            }
         } else {
-            Ok(SelectedContents::Unchanged)
+            SelectedContents::Unchanged
         }
     }
 
     // A side, the selected one or the other.
-    fn side(&self, alloc: Global, selected: bool) -> Result<SelectedChanges<'_>, RecordError>
-        ensures ok { IfOk result (λ side. side ≡ side_of selected self.now) }
-        ensures err { IfErr result (λ error. error ≡ RecordError.OutOfMemory) }
+    fn side(&self, selected: bool, text: SideText) -> SelectedChanges<'_>
+        requires { text ≡ joined (side_lines selected self.now) }
+        ensures { result ≡ side_of selected self.now }
     {
         let (binary, tail) = self.tail();
         if let Some(
@@ -195,19 +163,18 @@ impl<'a> File<'a> {
         ) = binary
             && *is_checked == selected
         {
-            return Ok(SelectedChanges {
+            return SelectedChanges {
                 file_mode: self.side_mode(selected),
                 contents: SelectedContents::Binary {
                     old_description: borrowed(old_description),
                     new_description: borrowed(new_description),
                 },
-            });
+            };
         }
-        let contents = self.side_text(alloc, tail, selected)?;
-        Ok(SelectedChanges {
+        SelectedChanges {
             file_mode: self.side_mode(selected),
-            contents,
-        })
+            contents: self.side_text(tail, selected, text),
+        }
     }
 
     /// The two sides of the file: what is selected, and what is not.
@@ -234,8 +201,9 @@ impl<'a> File<'a> {
         ensures unselected { IfOk result (λ sides. sides.1 ≡ side_of false self.now) }
         ensures err { IfErr result (λ error. error ≡ RecordError.OutOfMemory) }
     {
-        let selected = self.side(alloc, true)?;
-        let unselected = self.side(alloc, false)?;
-        Ok((selected, unselected))
+        let (_, tail) = self.tail();
+        let (selected, unselected) = join_sides(alloc, tail)?;
+        let sides = (self.side(true, selected), self.side(false, unselected));
+        Ok(sides)
     }
 }
