@@ -21,7 +21,9 @@ use Rattle.scm_record.specs.declared.quit_dialog.QuitDialog.{QuitDialog}
 use Rattle.scm_record.specs.declared.quit_dialog.QuitDialogButtonId.{QuitDialogButtonId}
 use Rattle.scm_record.specs.declared.quit_dialog.QuitDialogButtonId.TheVariants.{Quit, GoBack}
 use Rattle.scm_record.specs.Keys.{file_of_section}
-use Rattle.scm_record.specs.Toggle.{modify, mark_after, with_changed_set, with_deletion_unchecked, with_mode_checked, after_lines, after_mode, after_section, with_file_toggled, with_section_set, with_this_section_toggled, with_section_toggled, with_line_inverted, line_mark, with_this_line_toggled, with_line_toggled, with_key_toggled, toggled_files}
+use Rattle.scm_types.specs.Edits.{modify}
+use Rattle.scm_types.proofs.EditLemmas.{map-modify-same}
+use Rattle.scm_record.specs.Toggle.{mark_after, with_changed_set, with_deletion_unchecked, with_mode_checked, after_lines, after_mode, after_section, with_file_toggled, with_section_set, with_this_section_toggled, with_section_toggled, with_line_inverted, line_mark, with_this_line_toggled, with_line_toggled, with_key_toggled, toggled_files}
 use Rattle.scm_record.specs.Script.{Read, Batch, BrokenRead}
 use Rattle.scm_record.specs.Session.{Session, start, padded, padded_state, with_dialog, message_count, changed_count, out_of, folding, selecting}
 use Rattle.scm_record.specs.Step.{Change, Stays, Accepts, Cancels, Lacks, change, closed, opened, by_dialog, pressed, asked_about}
@@ -33,11 +35,6 @@ use Rattle.scm_record.specs.Keeping.{IsKept, has_message}
 map-hidden : {A B : Type 0} (g : A → B) (f : A → A) → ((x : A) → g (f x) ≡ g x) → (xs : List A) → map g (map f xs) ≡ map g xs
 map-hidden g f h [] = refl
 map-hidden g f h (x ∷ xs) = ap (λ y. y ∷ map g (map f xs)) (h x) ∙ ap (λ ys. g x ∷ ys) (map-hidden g f h xs)
-
-modify-hidden : {A B : Type 0} (g : A → B) (f : A → A) → ((x : A) → g (f x) ≡ g x) → (xs : List A) (i : ℕ) → map g (modify f xs i) ≡ map g xs
-modify-hidden g f h [] i = refl
-modify-hidden g f h (x ∷ xs) zero = ap (λ y. y ∷ map g xs) (h x)
-modify-hidden g f h (x ∷ xs) (suc i) = ap (λ ys. g x ∷ ys) (modify-hidden g f h xs i)
 
 cond-hidden : {A B : Type 0} (g : A → B) (b : Bool) (x y z : A) → g x ≡ g z → g y ≡ g z → g (cond b x y) ≡ g z
 cond-hidden g true x y z e f = e
@@ -81,7 +78,7 @@ mode-hidden (sections.Binary is_checked old new) = refl
 line-hidden : (line : ℕ) (s : Section) → bare_section (with_line_inverted line s) ≡ bare_section s
 line-hidden line (sections.Unchanged lines) = refl
 line-hidden line (sections.Changed lines) =
-    ap sections.Changed (modify-hidden (line_with_mark (λ _. false)) (line_with_mark not) (λ l. refl) lines line)
+    ap sections.Changed (map-modify-same (line_with_mark (λ _. false)) (line_with_mark not) lines line (λ l. refl))
 line-hidden line (sections.FileMode is_checked mode) = refl
 line-hidden line (sections.Binary is_checked old new) = refl
 
@@ -111,7 +108,7 @@ section_set-hidden : (file : File) (index : ℕ) (s : Section) (checked : Bool) 
 section_set-hidden file index s checked =
     let set = modify (section_with_marks (λ _. checked)) file.sections index in
     ap (λ (list : List Section). record file { sections = list })
-    (after_section-hidden file.file_mode checked s set ∙ modify-hidden bare_section (section_with_marks (λ _. checked)) (marks-hidden (λ _. checked)) file.sections index)
+    (after_section-hidden file.file_mode checked s set ∙ map-modify-same bare_section (section_with_marks (λ _. checked)) file.sections index (marks-hidden (λ _. checked)))
 
 this_section-hidden : (file : File) (index : ℕ) (s : Option Section) → bare_file (with_this_section_toggled file index s) ≡ bare_file file
 this_section-hidden file index None = refl
@@ -125,7 +122,7 @@ this_line-hidden file section line None = refl
 this_line-hidden file section line (Some checked) =
     let set = modify (with_line_inverted line) file.sections section in
     ap (λ (list : List Section). record file { sections = list })
-    (after_lines-hidden file.file_mode (not checked) set ∙ modify-hidden bare_section (with_line_inverted line) (line-hidden line) file.sections section)
+    (after_lines-hidden file.file_mode (not checked) set ∙ map-modify-same bare_section (with_line_inverted line) file.sections section (line-hidden line))
 
 file_line-hidden : (section line : ℕ) (file : File) → bare_file (with_line_toggled section line file) ≡ bare_file file
 file_line-hidden section line file = this_line-hidden file section line (option_and_then (line_mark line) (slice_get file.sections section))
@@ -133,9 +130,9 @@ file_line-hidden section line file = this_line-hidden file section line (option_
 -- a toggle changes marks alone
 pub toggle-hidden : (key : SelectionKey) (files : List File) → map bare_file (with_key_toggled key files) ≡ map bare_file files
 toggle-hidden keys.None files = refl
-toggle-hidden (keys.File key) files = modify-hidden bare_file with_file_toggled file-hidden files key.file_idx
-toggle-hidden (keys.Section key) files = modify-hidden bare_file (with_section_toggled key.section_idx) (section-hidden key.section_idx) files key.file_idx
-toggle-hidden (keys.Line key) files = modify-hidden bare_file (with_line_toggled key.section_idx key.line_idx) (file_line-hidden key.section_idx key.line_idx) files key.file_idx
+toggle-hidden (keys.File key) files = map-modify-same bare_file with_file_toggled files key.file_idx file-hidden
+toggle-hidden (keys.Section key) files = map-modify-same bare_file (with_section_toggled key.section_idx) files key.file_idx (section-hidden key.section_idx)
+toggle-hidden (keys.Line key) files = map-modify-same bare_file (with_line_toggled key.section_idx key.line_idx) files key.file_idx (file_line-hidden key.section_idx key.line_idx)
 
 toggled_files-hidden : (read_only : Bool) (key : SelectionKey) (files : List File) → map bare_file (toggled_files read_only key files) ≡ map bare_file files
 toggled_files-hidden true key files = refl

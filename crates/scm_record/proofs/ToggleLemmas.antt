@@ -1,22 +1,10 @@
--- Lists of which one element is changed.
+-- What a toggle leaves as it was.
 use Rattle.std.proofs.Common.{◌≡◌, ◌⊎◌, inl, inr, ℕ, zero, suc, ◌<◌, ◌≤◌, Bool, List, [], ◌∷◌, length, get_or, slice_set, refl, ap, arith, Option, ◌++◌, append-nil, drop, take}
 use Rattle.std.proofs.lemmas.List.{drop_all, take_all}
 use Rattle.scm_types.specs.declared.modes.FileMode.{FileMode}
 use Rattle.scm_types.specs.declared.sections.Section.{Section}
 use Rattle.scm_types.specs.declared.sections.Section.TheVariants.{Unchanged, Binary}
-use Rattle.scm_record.specs.Toggle.{after_section, modify}
-
--- the one at an index is written
-pub modify-set : {A : Type 0} (f : A → A) (xs : List A) (i : ℕ) (d y : A) → i < length xs → y ≡ f (get_or xs i d) → slice_set xs i y ≡ modify f xs i
-modify-set f [] i d y h e = absurd (omega arith)
-modify-set f (x ∷ xs) zero d y h e = ap (λ z. z ∷ xs) e
-modify-set f (x ∷ xs) (suc i) d y h e = ap (λ ys. x ∷ ys) (modify-set f xs i d y (omega arith) e)
-
--- past the end nothing is changed
-pub modify-past : {A : Type 0} (f : A → A) (xs : List A) (i : ℕ) → length xs ≤ i → xs ≡ modify f xs i
-modify-past f [] i h = refl
-modify-past f (x ∷ xs) zero h = absurd (omega arith)
-modify-past f (x ∷ xs) (suc i) h = ap (λ ys. x ∷ ys) (modify-past f xs i (omega arith))
+use Rattle.scm_record.specs.Toggle.{after_section}
 
 -- from context and from a binary section nothing follows
 pub nothing_follows : (mode : FileMode) (checked : Bool) (list : List Section) (s : Section) → ((lines : List (List ℕ)) × (s ≡ Unchanged lines)) ⊎ ((b : Bool) × (old : Option (List ℕ)) × (new : Option (List ℕ)) × (s ≡ Binary b old new)) → after_section mode checked s list ≡ list

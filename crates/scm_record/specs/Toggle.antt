@@ -8,15 +8,10 @@ use Rattle.scm_types.specs.declared.files.File.{File}
 use Rattle.scm_types.specs.declared.tristates.Tristate.{Tristate}
 use Rattle.scm_types.specs.declared.tristates.Tristate.TheVariants as tristates
 use Rattle.scm_types.specs.Marks.{file_marks, section_marks, tristate_of, line_with_mark, section_with_marks, file_with_marks}
+use Rattle.scm_types.specs.Edits.{modify}
 use Rattle.scm_types.specs.Mode.{is_absent}
 use Rattle.scm_record.specs.declared.keys.SelectionKey.{SelectionKey}
 use Rattle.scm_record.specs.declared.keys.SelectionKey.TheVariants as keys
-
--- the list with f of the element at an index, if it has one there
-abbrev pub modify : {A : Type 0} → (A → A) → List A → ℕ → List A
-modify f [] i = []
-modify f (x ∷ xs) zero = f x ∷ xs
-modify f (x ∷ xs) (suc i) = x ∷ modify f xs i
 
 -- the mark that a toggle sets: what is unchecked becomes checked, all else unchecked
 abbrev pub mark_after : Tristate → Bool
