@@ -1,6 +1,6 @@
 -- A run draws few frames.
-use Rattle.std.proofs.Common.{◌≡◌, ℕ, zero, suc, ◌+◌, ◌-◌, ◌*◌, ◌^◌, ◌<◌, ◌≤◌, max, min, Bool, true, false, List, [], ◌∷◌, ◌++◌, length, Option, Some, None, cond, sym, ap, refl, subst, ◌∙◌, add-one, arith}
-use Rattle.std.specs.Prelude.{MatchOption, ◌==◌, ◌&&◌}
+use Rattle.std.proofs.Common.{◌≡◌, ℕ, zero, suc, ◌+◌, ◌-◌, ◌*◌, ◌^◌, ◌<◌, ◌≤◌, min, Bool, true, false, List, [], ◌∷◌, ◌++◌, length, Option, Some, None, cond, sym, ap, refl, ◌∙◌, add-one, arith}
+use Rattle.std.specs.Prelude.{MatchOption}
 use Rattle.scm_types.specs.Fault.{Fault, fault_of}
 use Rattle.scm_types.specs.declared.errors.RecordError.{RecordError}
 use Rattle.scm_record.specs.declared.events.Event.{Event}
@@ -12,11 +12,10 @@ use Rattle.scm_record.specs.declared.quit_dialog.QuitDialogButtonId.{QuitDialogB
 use Rattle.scm_record.specs.declared.quit_dialog.QuitDialogButtonId.TheVariants.{Quit, GoBack}
 use Rattle.scm_record.specs.Script.{Read, Batch, BrokenRead}
 use Rattle.scm_record.specs.Store.{count_up}
-use Rattle.scm_record.specs.KeySet.{has_key}
-use Rattle.scm_record.specs.Keys.{file_of_section, section_of_line}
+use Rattle.scm_record.specs.Keys.{file_of_section}
 use Rattle.scm_record.specs.Session.{Session, message_count, changed_count, with_dialog, out_of, folding, selecting}
 use Rattle.scm_record.specs.Step.{Change, Stays, Accepts, Cancels, Lacks, change, closed, opened, by_dialog, pressed, asked_about}
-use Rattle.scm_record.specs.Run.{World, Outcome, Goes, Ends, Breaks, Point, Before, Drawn, Within, Accepted, Failed, changed, step, resume, read, batch, after, Reaches, here, on, world_at, Shows, Stops}
+use Rattle.scm_record.specs.Run.{World, Point, Before, Drawn, Within, Accepted, Failed, changed, step, resume, read, batch, after, Reaches, here, on, world_at, Shows, Stops}
 use Rattle.scm_record.specs.Budget.{rank, rank_of, turns_left, Fits, counted, IsFew}
 
 -- a change leaves only events of lower rank pending

@@ -1,8 +1,7 @@
 -- A run changes marks alone.
-use Rattle.std.proofs.Common.{◌≡◌, ℕ, zero, suc, ◌≤◌, Bool, true, false, not, List, [], ◌∷◌, map, length, slice_get, Option, Some, None, cond, sym, ap, ◌∙◌, refl, subst, arith}
+use Rattle.std.proofs.Common.{◌≡◌, ℕ, ◌≤◌, Bool, true, false, not, List, [], ◌∷◌, map, length, slice_get, Option, Some, None, cond, sym, ap, ◌∙◌, refl, subst, arith}
 use Rattle.std.specs.Prelude.{IsTrue, option_and_then}
 use Rattle.std.proofs.lemmas.Bool.{and_parts, leb-true}
-use Rattle.scm_types.specs.declared.lines.SectionChangedLine.{SectionChangedLine}
 use Rattle.scm_types.specs.declared.modes.FileMode.{FileMode}
 use Rattle.scm_types.specs.declared.sections.Section.{Section}
 use Rattle.scm_types.specs.declared.sections.Section.TheVariants as sections
@@ -27,7 +26,7 @@ use Rattle.scm_record.specs.Toggle.{mark_after, with_changed_set, with_deletion_
 use Rattle.scm_record.specs.Script.{Read, Batch, BrokenRead}
 use Rattle.scm_record.specs.Session.{Session, start, padded, padded_state, with_dialog, message_count, changed_count, out_of, folding, selecting}
 use Rattle.scm_record.specs.Step.{Change, Stays, Accepts, Cancels, Lacks, change, closed, opened, by_dialog, pressed, asked_about}
-use Rattle.scm_record.specs.Run.{World, Point, Before, Drawn, Within, Accepted, Failed, changed, step, resume, read, batch, after, Reaches, here, on, world_at}
+use Rattle.scm_record.specs.Run.{World, Point, Before, Drawn, Within, Accepted, Failed, changed, resume, read, batch, after, Reaches, here, on, world_at}
 use Rattle.scm_record.specs.Keeping.{IsKept, has_message}
 
 -- what a change leaves as it was under a view

@@ -1,5 +1,5 @@
 -- Lemmas on steps and runs.
-use Rattle.std.proofs.Common.{◌≡◌, ℕ, ◌+◌, ◌<◌, ◌≤◌, List, [], ◌∷◌, length, drop, get_or, Option, Some, None, sym, ap, ◌∙◌, refl, subst, add-one, arith}
+use Rattle.std.proofs.Common.{◌≡◌, ℕ, ◌+◌, ◌<◌, ◌≤◌, List, [], ◌∷◌, length, drop, get_or, Option, Some, None, sym, ap, ◌∙◌, refl, subst, add-one}
 use Rattle.std.specs.Prelude.{MatchOption}
 use Rattle.std.proofs.Math.Seq.{drop-cons}
 use Rattle.std.proofs.lemmas.List.{drop_all}
@@ -9,11 +9,11 @@ use Rattle.scm_record.specs.declared.events.Event.{Event}
 use Rattle.scm_record.specs.declared.recording.Flow.{Flow}
 use Rattle.scm_record.specs.declared.recording.Flow.TheVariants as flows
 use Rattle.scm_record.specs.Session.{Session}
-use Rattle.scm_record.specs.Step.{Change, change}
+use Rattle.scm_record.specs.Step.{change}
 use Rattle.scm_record.specs.Flow.{change_of}
 use Rattle.scm_types.specs.declared.errors.RecordError.TheVariants.{OutOfMemory}
 use Rattle.scm_record.specs.Script.{Read, Edit}
-use Rattle.scm_record.specs.Run.{World, world, with_session, with_frame_drawn, Outcome, Point, Before, Drawn, Within, Accepted, Failed, changed, step, resume, after, batch, not_in_stage, Reaches, here, on, world_at, Shows, Stops}
+use Rattle.scm_record.specs.Run.{World, world, with_session, with_frame_drawn, Outcome, Point, Before, Drawn, Within, Failed, changed, step, resume, after, batch, Reaches, here, on, world_at, Shows, Stops}
 use Rattle.scm_record.specs.Turn.{outcome_of, point_of, Handles, BatchStops, IsFault}
 
 changed-flow : (w : World) (s s' : Session) (flow : Flow) → changed (with_session w s) (change_of flow s') ≡ outcome_of flow (with_session w s')
