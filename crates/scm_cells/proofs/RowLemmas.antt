@@ -13,7 +13,7 @@ abbrev pub cleared : ℕ → Place → Place
 cleared i p = record p { shown = blank }
 
 abbrev pub let_through : ℕ → Place → Place
-let_through i p = record p { shown = p.laid }
+let_through i p = record { shown = p.laid; laid = p.shown }
 
 abbrev pub blanked : ℕ → Place → Place
 blanked i p = record p { laid = blank }

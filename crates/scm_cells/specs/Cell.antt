@@ -1,5 +1,5 @@
 -- What one column of a row shows.
-use Rattle.std.specs.Prelude.{ℕ, ◌≤◌, List, [], ◌∷◌, ◌==◌, if◌then◌else◌, string_bytes, string_len, string_capacity}
+use Rattle.std.specs.Prelude.{ℕ, List, [], ◌∷◌, ◌==◌, if◌then◌else◌, string_bytes}
 use Rattle.scm_cells.specs.declared.column.Column.TheInside.{Inside}
 
 -- the symbol that begins here, or nothing at a later column of one; how many columns the symbol has, and how many of them are before this one
@@ -32,7 +32,3 @@ place_of c = record {
   shown = record { symbol = symbol_or_space (string_bytes c.symbol) c.offset; width = c.width; offset = c.offset };
   laid = record { symbol = symbol_or_space (string_bytes c.next_symbol) c.next_offset; width = c.next_width; offset = c.next_offset };
 }
-
--- what was laid has room to be shown
-abbrev pub HasRoom : Inside → Type 0
-HasRoom c = string_len c.next_symbol ≤ string_capacity c.symbol

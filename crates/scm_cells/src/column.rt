@@ -1,9 +1,10 @@
 //! One column of a row.
-ghost use Rattle.std.specs.Prelude.{◌≡◌, ◌-◌, ◌<◌, ◌≤◌, [], OnOk, OnErr, length, string_len, string_capacity};
+ghost use Rattle.std.specs.Prelude.{◌≡◌, ◌-◌, ◌<◌, [], OnOk, OnErr, length};
 ghost use Rattle.scm_cells.specs.Cell.{blank};
 
 use std::alloc::{AllocError, Global};
 use std::marker::Model;
+use std::mem;
 
 /// A column: what it shows, and what was laid on it to be shown next. Each of the two is a symbol
 /// that begins here with its width in columns, or, at an offset, a later column of one. A first
@@ -19,13 +20,11 @@ pub(crate) struct Column {
 }
 
 impl Model for Column {
-    ghost use Rattle.scm_cells.specs.Cell.{Place, place_of, HasRoom};
+    ghost use Rattle.scm_cells.specs.Cell.{Place, place_of};
 
     ghost Value = { Place };
 
     ghost view = { place_of };
-
-    ghost invariant = { HasRoom };
 }
 
 impl Column {
@@ -51,7 +50,8 @@ impl Column {
         self.offset = 0;
     }
 
-    /// Lays the first column of a symbol, and makes room to show it.
+    /// Lays the first column of a symbol. Both texts of the column get room for it, so that to lay it
+    /// here again takes no memory, whichever of them is then shown.
     pub(crate) fn lay_first(&mut self, symbol: &str, width: usize) -> Result<(), AllocError>
         requires { 0 < length symbol.now }
         ensures ok { OnOk result (self.new ≡ record self.old { laid = record { symbol = symbol.now; width = width; offset = 0 } }) }
@@ -85,17 +85,13 @@ impl Column {
         self.next_offset = 0;
     }
 
-    /// Shows what was laid.
+    /// Shows what was laid, and keeps what was shown in its place.
     pub(crate) fn show(&mut self)
-        ensures { self.new ≡ record self.old { shown = self.old.laid } }
+        ensures { self.new ≡ record { shown = self.old.laid; laid = self.old.shown } }
     {
-        self.symbol.clear();
-        match self.symbol.push_str(self.next_symbol.as_str()) {
-            Ok(()) => {}
-            Err(_) => unreachable!(),
-        }
-        self.width = self.next_width;
-        self.offset = self.next_offset;
+        mem::swap(&mut self.symbol, &mut self.next_symbol);
+        mem::swap(&mut self.width, &mut self.next_width);
+        mem::swap(&mut self.offset, &mut self.next_offset);
     }
 
     /// The symbol that is shown, nothing at a later column of one.
