@@ -1,9 +1,9 @@
 use Rattle.std.proofs.Common.{refl, sym, ap, ◌∙◌, arith}
-use Rattle.std.specs.Prelude.{◌≡◌, ℕ, ◌+◌, ◌-◌, ◌<◌, ◌≤◌, ℤ, pos, ◌+ℤ◌, ◌-ℤ◌, ◌<ℤ◌, List, [], ◌∷◌, ◌++◌, fold, Bool, true, false, ◌||◌, ◌==◌, if◌then◌else◌, cond}
+use Rattle.std.specs.Prelude.{◌≡◌, ℕ, ◌<◌, ℤ, pos, ◌+ℤ◌, ◌-ℤ◌, List, [], ◌∷◌, ◌++◌, Bool, true, false}
 use Rattle.std.specs.Int.{int_min, int_max}
 use Rattle.std.proofs.lemmas.Bool.Decides.{nat_tests}
 use Rattle.std.proofs.lemmas.List.Sums.{fold-append}
-use Rattle.scm_cells.specs.Rect.{RectInRange, union_of, is_empty, rect_between, end_x_of, end_y_of, or_zero, InRange}
+use Rattle.scm_cells.specs.Rect.{RectInRange, is_empty, rect_between, end_x_of, end_y_of, or_zero, InRange}
 use Rattle.scm_cells.proofs.RectLemmas.{rect_between-same, places, RectInRange-union, RectInRange-if}
 use Rattle.scm_cells.specs.declared.rectangle.Rect.{Rect}
 use Rattle.scm_render.specs.Around.{no_rect, join, around, AllRectsInRange}

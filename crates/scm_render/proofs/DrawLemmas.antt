@@ -1,6 +1,6 @@
 -- The puts of the drawing calls, step by step.
-use Rattle.std.proofs.Common.{◌≡◌, ◌≢◌, ℕ, zero, suc, ◌+◌, ◌-◌, ◌<◌, ◌≤◌, List, [], ◌∷◌, ◌++◌, length, drop, get_or, set, refl, sym, ap, ◌∙◌, arith, add-one, drop-cons, true, false, Bool, append_assoc, ◌⊎◌, inl, inr}
-use Rattle.std.specs.Prelude.{ℤ, pos, ◌+ℤ◌, ◌-ℤ◌, ◌≤ℤ◌, ◌<ℤ◌, ◌==◌, ◌||◌, min, take, map, fold, encode_utf8, sum_by}
+use Rattle.std.proofs.Common.{◌≡◌, ℕ, suc, ◌+◌, ◌-◌, ◌<◌, ◌≤◌, List, [], ◌∷◌, ◌++◌, length, drop, get_or, set, refl, sym, ap, ◌∙◌, arith, add-one, drop-cons, true, false, Bool, append_assoc, ◌⊎◌, inl, inr}
+use Rattle.std.specs.Prelude.{ℤ, pos, ◌+ℤ◌, ◌-ℤ◌, ◌≤ℤ◌, ◌<ℤ◌, min, take, encode_utf8}
 use Rattle.std.specs.Int.RustNames.{unsigned_abs}
 use Rattle.std.proofs.lemmas.List.{drop_all, take_min, take-map}
 use Rattle.std.proofs.lemmas.Int.{ints}
@@ -16,7 +16,7 @@ use Rattle.scm_render.specs.declared.filling.Filling.{Filling}
 use Rattle.scm_cells.specs.Row.{put}
 use Rattle.scm_render.specs.Marks.{Put, Marks, MarksInRange, followed_by, nothing}
 use Rattle.scm_render.specs.Around.{join}
-use Rattle.scm_render.specs.Canvas.{Row, Canvas, Sight, clipped, put_at, painted, marked}
+use Rattle.scm_render.specs.Canvas.{Row, Canvas, Sight, clipped, painted, marked}
 use Rattle.scm_render.specs.Drawing.{has_row, whole_put, text_puts, texts_puts, texts_width, symbol_at, row_text, rows_puts, lines_puts, body_texts, reach, row_rect, ellipsis, span_marks, line_marks, text_marks, fill_puts, blank_marks, title_room, body_room, frame_puts, frame_marks}
 use Rattle.scm_render.specs.declared.filling.Filling.TheVariants.{Blank, Border}
 use Rattle.scm_cells.specs.Rect.{RectInRange, is_empty, intersect_of}

@@ -1,5 +1,5 @@
 -- Who owns a point, by the boxes of parts that were drawn one after another.
-use Rattle.std.proofs.Common.{◌≡◌, ℕ, List, [], ◌∷◌, ◌++◌, refl, ap, arith, cond, true, false, Bool, ◌∙◌, sym}
+use Rattle.std.proofs.Common.{◌≡◌, ℕ, List, [], ◌∷◌, ◌++◌, refl, ap, cond, true, false, Bool, ◌∙◌, sym}
 use Rattle.std.specs.Prelude.{ℤ, ◌&&◌, ◌||◌, Option, Some, None}
 use Rattle.scm_render.specs.Marks.{Box}
 use Rattle.scm_render.specs.Hits.{holds, has_id, first_of_two, hit}

@@ -1,5 +1,4 @@
 -- When marks, and their parts, are in range.
-use Rattle.std.specs.Prelude.{List, [], ◌∷◌, ◌++◌}
 use Rattle.scm_cells.specs.Rect.{RectInRange}
 use Rattle.scm_cells.specs.declared.rectangle.Rect.{Rect}
 use Rattle.scm_render.specs.Around.{no_rect}

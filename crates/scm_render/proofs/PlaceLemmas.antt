@@ -1,8 +1,8 @@
 -- The part of a rectangle that is on the screen.
-use Rattle.std.proofs.Common.{◌≡◌, ℕ, ◌+◌, ◌<◌, ◌≤◌, ◌^◌, refl, sym, ap, ◌∙◌, arith, true, false}
+use Rattle.std.proofs.Common.{◌≡◌, ℕ, ◌<◌, ◌^◌, refl, sym, ap, ◌∙◌, arith, true, false}
 use Rattle.std.specs.Prelude.{Some, None}
 use Rattle.scm_render.specs.Places.{translated, on_screen}
-use Rattle.std.specs.Prelude.{ℤ, pos, ◌+ℤ◌, ◌-ℤ◌, ◌≤ℤ◌, ◌<ℤ◌, ◌==◌, ◌||◌}
+use Rattle.std.specs.Prelude.{ℤ, pos, ◌+ℤ◌, ◌-ℤ◌, ◌≤ℤ◌}
 use Rattle.std.specs.Int.{int_min, int_max}
 use Rattle.std.proofs.lemmas.Bool.Decides.{nat_tests}
 use Rattle.scm_cells.specs.Rect.{is_empty, intersect_of, rect_between, or_zero, end_x_of, end_y_of}

@@ -1,5 +1,5 @@
 -- The marks of each drawing call.
-use Rattle.std.specs.Prelude.{ℕ, zero, suc, ◌+◌, ◌-◌, ◌==◌, ◌&&◌, ◌||◌, ℤ, pos, ◌+ℤ◌, ◌-ℤ◌, int_le, int_lt, Bool, List, [], ◌∷◌, ◌++◌, Option, Some, None, if◌then◌else◌, sum_by, encode_utf8, take, map}
+use Rattle.std.specs.Prelude.{ℕ, zero, suc, ◌-◌, ◌&&◌, ℤ, pos, ◌+ℤ◌, ◌-ℤ◌, int_le, int_lt, Bool, List, [], ◌∷◌, ◌++◌, Option, Some, None, if◌then◌else◌, sum_by, encode_utf8, take, map}
 use denote.Ref.{Bor}
 use Rattle.std.specs.Ordering.{int_eq}
 use Rattle.scm_cells.specs.Rect.{RectInRange, is_empty, end_x_of, end_y_of, intersect_of}

@@ -1,5 +1,5 @@
 -- Places on the screen, and the boxes of a frame.
-use Rattle.std.specs.Prelude.{ℕ, ℤ, pos, ◌-ℤ◌, ◌+◌, List, [], ◌∷◌, length, Option, Some, None, if◌then◌else◌}
+use Rattle.std.specs.Prelude.{ℕ, ℤ, ◌-ℤ◌, ◌+◌, List, [], ◌∷◌, length, Option, Some, None, if◌then◌else◌}
 use Rattle.scm_cells.specs.Rect.{or_zero, is_empty, intersect_of}
 use Rattle.scm_cells.specs.Screen.{Screen}
 use Rattle.scm_cells.specs.declared.rectangle.Rect.{Rect}

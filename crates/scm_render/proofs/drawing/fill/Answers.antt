@@ -1,5 +1,4 @@
-use Rattle.std.proofs.Common.{arith, ◌≡◌, ◌∙◌, sym, ap, refl, FitsSigned, w64}
-use Rattle.std.specs.Prelude.{pos, ◌+ℤ◌}
+use Rattle.std.proofs.Common.{arith, ◌∙◌, FitsSigned, w64}
 use Rattle.std.proofs.lemmas.Int.{to_z-of_z}
 use Rattle.scm_cells.proofs.RectLemmas.{places}
 use Rattle.scm_render.proofs.DrawLemmas.{fill-step, fill-end}

@@ -1,5 +1,4 @@
-use Rattle.std.proofs.Common.{arith, ◌≡◌, ◌∙◌, ◌≤◌, sym, ap, refl, FitsSigned, w64, length, take, ℕ}
-use Rattle.std.specs.Prelude.{min}
+use Rattle.std.proofs.Common.{arith, ◌≤◌, ap, FitsSigned, w64, length, take}
 use Rattle.std.proofs.lemmas.Int.{to_z-of_z}
 use Rattle.std.proofs.lemmas.List.{length-take}
 use Rattle.scm_cells.proofs.RectLemmas.{places}

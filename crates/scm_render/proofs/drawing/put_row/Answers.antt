@@ -1,4 +1,4 @@
-use Rattle.std.proofs.Common.{arith, ◌≡◌, ◌∙◌, sym, ap, refl, length, ◌<◌, FitsSigned, w64}
+use Rattle.std.proofs.Common.{arith, ◌∙◌, ap, refl, FitsSigned, w64}
 use Rattle.std.proofs.lemmas.Int.{to_z-of_z}
 use Rattle.scm_cells.specs.Rect.{end_x_of}
 use Rattle.scm_cells.proofs.RectLemmas.{places}

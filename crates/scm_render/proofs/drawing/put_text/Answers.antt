@@ -1,4 +1,4 @@
-use Rattle.std.proofs.Common.{arith, ◌≡◌, ◌∙◌, sym, ap, refl, FitsSigned, w64}
+use Rattle.std.proofs.Common.{◌∙◌, sym, ap, FitsSigned, w64}
 use Rattle.std.proofs.lemmas.Int.{to_z-of_z}
 use Rattle.scm_render.specs.Canvas.{painted}
 use Rattle.scm_render.proofs.DrawLemmas.{text_puts-shown, text-hidden, text-off}

@@ -1,4 +1,4 @@
-use Rattle.std.proofs.Common.{◌≡◌, arith}
+use Rattle.std.proofs.Common.{arith}
 use Rattle.scm_render.proofs.MapLemmas.{timed_from-more, timed_from-end}
 use Rattle.scm_render.proofs.viewport.time_boxes.Goals as goal
 

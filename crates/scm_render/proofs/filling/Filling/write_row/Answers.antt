@@ -1,8 +1,7 @@
-use Rattle.std.proofs.Common.{arith, ◌≡◌, ◌∙◌, sym, ap, refl, FitsSigned, w64, append-nil, ◌++◌, ◌-◌}
+use Rattle.std.proofs.Common.{arith, ◌∙◌, sym, ap, FitsSigned, w64, append-nil, ◌++◌, ◌-◌}
 use Rattle.std.specs.Prelude.{pos, ◌+ℤ◌, string_bytes, encode_utf8}
 use Rattle.std.proofs.lemmas.Int.{to_z-of_z}
 use Rattle.scm_cells.proofs.RectLemmas.{places}
-use Rattle.scm_render.specs.Drawing.{symbol_at}
 use Rattle.scm_render.proofs.DrawLemmas.{row_text-step, row_text-none}
 use Rattle.scm_render.proofs.filling.Filling.write_row.Goals as goal
 

@@ -1,4 +1,4 @@
-use Rattle.std.proofs.Common.{arith, ◌≡◌, ◌∙◌, sym, ap, refl, cond, Some, ◌∷◌, [], length-append}
+use Rattle.std.proofs.Common.{arith, ◌∙◌, sym, ap, cond, Some, ◌∷◌, [], length-append}
 use Rattle.std.proofs.lemmas.List.Sums.{fold-append}
 use Rattle.std.specs.HashMap.{get}
 use Rattle.std.specs.Map.{update}

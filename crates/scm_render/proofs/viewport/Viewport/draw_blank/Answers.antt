@@ -1,7 +1,5 @@
-use Rattle.std.proofs.Common.{◌≡◌, ◌∙◌, sym, ap, refl, FitsSigned, w64}
-use Rattle.std.proofs.lemmas.Int.{to_z-of_z}
-use Rattle.scm_cells.specs.Rect.{RectInRange, intersect_of}
-use Rattle.scm_render.specs.Around.{join}
+use Rattle.std.proofs.Common.{◌∙◌, sym, ap, refl}
+use Rattle.scm_cells.specs.Rect.{intersect_of}
 use Rattle.scm_render.specs.Drawing.{reach}
 use Rattle.scm_render.proofs.AroundLemmas.{RectInRange-join}
 use Rattle.scm_render.proofs.DrawLemmas.{marked-blank, blank_in_range}

@@ -1,4 +1,4 @@
-use Rattle.std.proofs.Common.{arith, ◌≡◌, ◌∙◌, ◌+◌, ◌<◌, ◌++◌, ◌∷◌, [], List, length, sym, ap, refl, FitsSigned, w64, length-append, set, ℕ}
+use Rattle.std.proofs.Common.{arith, ◌≡◌, ◌∙◌, ◌<◌, ◌++◌, ◌∷◌, [], List, length, sym, ap, FitsSigned, w64, length-append, set, ℕ}
 use Rattle.std.proofs.lemmas.Int.{to_z-of_z}
 use Rattle.scm_render.proofs.MarksLemmas.{MarksInRange-part}
 use Rattle.scm_render.specs.Marks.{Marks, Box, box_rect}

@@ -1,4 +1,4 @@
-use Rattle.std.proofs.Common.{◌≡◌, ◌∙◌, sym, ap, refl, FitsSigned, w64}
+use Rattle.std.proofs.Common.{◌∙◌, sym, ap, refl, FitsSigned, w64}
 use Rattle.std.proofs.lemmas.Int.{to_z-of_z}
 use Rattle.scm_cells.specs.Rect.{RectInRange}
 use Rattle.scm_render.specs.Around.{join}

@@ -1,4 +1,4 @@
-use Rattle.std.proofs.Common.{◌≡◌, ◌∙◌, sym, ap, refl, FitsSigned, w64}
+use Rattle.std.proofs.Common.{◌∙◌, ap, refl, FitsSigned, w64}
 use Rattle.std.proofs.lemmas.Int.{to_z-of_z}
 use Rattle.scm_render.specs.Places.{timed}
 use Rattle.scm_render.proofs.CanvasLemmas.{part-rows, part-boxes}

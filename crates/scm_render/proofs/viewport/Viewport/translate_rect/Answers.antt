@@ -1,6 +1,5 @@
-use Rattle.std.proofs.Common.{◌≡◌, ◌∙◌, ◌<◌, ◌^◌, sym, ap, refl, arith, FitsSigned, w64}
+use Rattle.std.proofs.Common.{◌∙◌, sym, arith, FitsSigned, w64}
 use Rattle.std.proofs.lemmas.Int.{to_z-of_z}
-use Rattle.scm_cells.specs.declared.rectangle.Rect.{Rect}
 use Rattle.scm_cells.proofs.RectLemmas.{places}
 use Rattle.scm_render.proofs.PlaceLemmas.{IsSmall-part, translated-some, translated-none, same_rect}
 use Rattle.scm_render.proofs.viewport.Viewport.translate_rect.Goals as goal
