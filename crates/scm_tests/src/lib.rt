@@ -1,5 +1,7 @@
-//! Tests of the crates below, so that each of those is proved once.
+//! Tests of the crates below, so that each of those is proved once, and sample components.
 #![tactic(auto)]
+
+pub mod samples;
 
 #[cfg(test)]
 mod cells;
