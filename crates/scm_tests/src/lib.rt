@@ -1,11 +1,12 @@
 //! Tests of the crates below, so that each of those is proved once, and sample components.
 #![tactic(auto)]
 
-pub mod samples;
-
 #[cfg(test)]
 mod cells;
 #[cfg(test)]
 mod record;
+#[cfg(test)]
+mod render;
+pub mod samples;
 #[cfg(test)]
 mod types;
