@@ -445,3 +445,40 @@ fn rows_of_captions(rt: HostRuntime) -> Result<(), Fail> {
     );
     Ok(())
 }
+
+#[test]
+fn refused_memory_keeps_grids_and_traces(rt: HostRuntime) -> Result<(), Fail> {
+    let Ok(mut grid) = Grid::new(rt.alloc(), 6, 3) else {
+        return Ok(());
+    };
+    let pair = Pair {
+        id: 1,
+        first: Caption { id: 2, text: "ab" },
+        second: Caption { id: 3, text: "c" },
+    };
+    let drawn = render_pair(&rt, rt.alloc(), &mut grid, &pair);
+    assert_eq!(rt; grid.width(), 6);
+    assert_eq!(rt; grid.height(), 3);
+    if let Ok(drawn) = drawn {
+        assert_eq!(rt; drawn.len(), 3);
+    }
+    let mut trace: DrawTrace<u8> = DrawTrace::new(rt.alloc());
+    trace.merge_rect(rect(0, 0, 1, 1));
+    let mut other: DrawTrace<u8> = DrawTrace::new(rt.alloc());
+    other.merge_rect(rect(2, 0, 1, 1));
+    let box_of_seven = DrawnRect {
+        rect: rect(2, 0, 1, 1),
+        timestamp: 3,
+    };
+    if other.components.insert(7, box_of_seven).is_err() {
+        return Ok(());
+    }
+    match trace.merge(other) {
+        Ok(()) => assert_eq!(rt; trace.rect, rect(0, 0, 3, 1)),
+        Err(_) => {
+            assert_eq!(rt; trace.rect, rect(0, 0, 1, 1));
+            assert_eq!(rt; trace.components.len(), 0);
+        }
+    }
+    Ok(())
+}
