@@ -2,6 +2,7 @@
 //! them, beside cutting and measuring the same texts alone. Without an argument it prints nothing.
 //! With one, a number of frames, it prints the nanoseconds of all frames, each of 80 by 24 columns.
 #![tactic(auto)]
+
 ghost use Rattle.std.specs.Prelude.{◌≡◌, ◌≤◌, IfOk};
 ghost use Rattle.scm_cells.specs.Clusters.{text_width};
 ghost use Rattle.scm_render.specs.Drawing.{ellipsis};
@@ -114,7 +115,9 @@ fn measure<R: Print + Clock>(
     let start = Instant::now(rt)?;
     let columns = cut_frames(text, frames) ^ drawn_grid.width();
     let cut = start.elapsed(rt)?.as_nanos();
-    println!(rt; "{name}: {drawn} ns to draw, {filled} ns to fill, {cut} ns to cut and measure ({columns})")?;
+    println!(rt;
+        "{name}: {drawn} ns to draw, {filled} ns to fill, {cut} ns to cut and measure ({columns})"
+    )?;
     Ok(())
 }
 
