@@ -1,5 +1,5 @@
 -- The script of an input of the tests.
-use Rattle.std.specs.Prelude.{ℕ, List, map, Result, Ok, Err, String, string_bytes, Vec}
+use Rattle.std.specs.Prelude.{List, map, Result, Ok, Err, String, string_bytes, Vec}
 use Rattle.std.specs.declared.alloc.Global.{Global}
 use Rattle.scm_types.specs.Fault.{ReadInput}
 use Rattle.scm_record.specs.declared.events.Event.{Event}
