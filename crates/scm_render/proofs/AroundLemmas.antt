@@ -32,6 +32,10 @@ unfolding around
 RectInRange-around r [] p q = p
 RectInRange-around r (x ∷ xs) p q = RectInRange-around (join r x) xs (RectInRange-join r x p q.0) q.1
 
+pub AllRectsInRange-append : (xs ys : List Rect) → AllRectsInRange xs → AllRectsInRange ys → AllRectsInRange (xs ++ ys)
+AllRectsInRange-append [] ys p q = q
+AllRectsInRange-append (x ∷ xs) ys p q = (p.0, AllRectsInRange-append xs ys p.1 q)
+
 pub AllRectsInRange-left : (xs ys : List Rect) → AllRectsInRange (xs ++ ys) → AllRectsInRange xs
 AllRectsInRange-left [] ys p = tt
 AllRectsInRange-left (x ∷ xs) ys p = (p.0, AllRectsInRange-left xs ys p.1)

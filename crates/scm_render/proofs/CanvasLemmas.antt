@@ -1,7 +1,8 @@
 -- How marks follow one another on a canvas.
-use Rattle.std.specs.Prelude.{◌≡◌, List, [], ◌∷◌, ◌++◌, length, set}
+use Rattle.std.specs.Prelude.{◌≡◌, List, [], ◌∷◌, ◌++◌, length, set, Option, Some}
 use Rattle.std.proofs.Common.{refl, sym, ap, ◌∙◌, append_assoc, append-nil, set}
 use Rattle.scm_cells.specs.declared.rectangle.Rect.{Rect}
+use Rattle.scm_cells.specs.declared.masks.Mask.{Mask}
 use Rattle.scm_render.specs.Marks.{Box, Marks, nothing, part, followed_by, covering, box_rect}
 use Rattle.scm_render.specs.Around.{around, join, no_rect}
 use Rattle.scm_render.specs.Canvas.{Canvas, painted, marked}
@@ -56,6 +57,15 @@ module _ {K : Type 0} where
   -- marks that come after others: a step of a loop of parts
   pub marked-after : (c d : Canvas K) (a b : Marks K) → d ≡ marked c a → marked d b ≡ marked c (followed_by a b)
   marked-after c d a b p = ap (λ v. marked v b) p ∙ marked-then c a b
+
+  -- the canvas with this mask, or none
+  abbrev with_mask : Option Mask → Canvas K → Canvas K
+  with_mask mask c = record c { sight = record c.sight { mask = mask } }
+
+  -- a mask is set, marks are made under it, and the mask before is put back
+  pub marked-masked : (c d e f : Canvas K) (mask : Mask) (m : Marks K) → d ≡ with_mask (Some mask) c → e ≡ marked d m → f ≡ with_mask c.sight.mask e → f ≡ marked c m
+  unfolding marked
+  marked-masked c d e f mask m p q r = r ∙ ap (with_mask c.sight.mask) (q ∙ ap (λ v. marked v m) p)
 
   pub marked-covering : (c d : Canvas K) (r : Rect) → d.sight ≡ c.sight → d.rows ≡ c.rows → d.area ≡ join c.area r → d.boxes ≡ c.boxes → d ≡ marked c (covering r)
   unfolding covering

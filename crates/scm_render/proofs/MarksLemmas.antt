@@ -1,9 +1,10 @@
 -- When marks, and their parts, are in range.
+use Rattle.std.specs.Prelude.{Bool, true, false, if◌then◌else◌}
 use Rattle.scm_cells.specs.Rect.{RectInRange}
 use Rattle.scm_cells.specs.declared.rectangle.Rect.{Rect}
 use Rattle.scm_render.specs.Around.{no_rect}
 use Rattle.scm_render.specs.Marks.{Marks, MarksInRange, nothing, part, followed_by, covering, box_rect}
-use Rattle.scm_render.proofs.AroundLemmas.{AllRectsInRange-left, AllRectsInRange-right, RectInRange-around, RectInRange-no_rect}
+use Rattle.scm_render.proofs.AroundLemmas.{AllRectsInRange-append, AllRectsInRange-left, AllRectsInRange-right, RectInRange-around, RectInRange-no_rect}
 
 module _ {K : Type 0} where
   pub MarksInRange-nothing : MarksInRange {K = K} nothing
@@ -17,6 +18,14 @@ module _ {K : Type 0} where
   pub MarksInRange-as_part : (id : K) (m : Marks K) → MarksInRange m → MarksInRange (part id m)
   unfolding part
   MarksInRange-as_part id m r = record { areas = r.areas }
+
+  pub MarksInRange-followed : (a b : Marks K) → MarksInRange a → MarksInRange b → MarksInRange (followed_by a b)
+  unfolding followed_by
+  MarksInRange-followed a b p q = record { areas = AllRectsInRange-append a.areas b.areas p.areas q.areas }
+
+  pub MarksInRange-if : (c : Bool) (a b : Marks K) → MarksInRange a → MarksInRange b → MarksInRange (if c then a else b)
+  MarksInRange-if true a b p q = p
+  MarksInRange-if false a b p q = q
 
   pub MarksInRange-left : (a b : Marks K) → MarksInRange (followed_by a b) → MarksInRange a
   unfolding followed_by

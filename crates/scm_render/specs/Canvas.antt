@@ -24,6 +24,10 @@ abbrev pub MaskIsInRange : Option Mask → Type 0
 MaskIsInRange (Some m) = MaskInRange m
 MaskIsInRange None = Unit {0}
 
+-- the sight with this mask set
+abbrev pub under : Mask → Sight → Sight
+under m s = record s { mask = Some m }
+
 -- the sight, the rows of the screen, the least rectangle around what the component that is being drawn drew so far, and
 -- the boxes of all components that began
 pub record Canvas (K : Type 0) : Type 0 where

@@ -1,21 +1,19 @@
 -- What is drawn near the document's corner is in range.
-use Rattle.std.proofs.Common.{◌≡◌, ℕ, ◌+◌, ◌<◌, ◌≤◌, ℤ, pos, ◌+ℤ◌, ◌-ℤ◌, ◌≤ℤ◌, neg_ℤ, List, [], ◌∷◌, ◌++◌, length, drop, get_or, add-one, drop-cons, refl, Bool, true, false, if◌then◌else◌, arith}
+use Rattle.std.proofs.Common.{◌≡◌, ℕ, ◌+◌, ◌<◌, ◌≤◌, ℤ, pos, ◌+ℤ◌, ◌-ℤ◌, ◌≤ℤ◌, neg_ℤ, List, [], ◌∷◌, length, drop, get_or, add-one, drop-cons, refl, arith}
 use Rattle.std.specs.Int.{int_min, int_max}
 use Rattle.std.specs.Prelude.{int_lt}
 use Rattle.std.proofs.lemmas.List.{drop_all}
 use Rattle.scm_cells.specs.Rect.{RectInRange, end_x_of, or_zero, rect_between}
 use Rattle.scm_cells.specs.Clusters.{text_width}
-use Rattle.scm_cells.specs.declared.rectangle.Rect.{Rect}
 use Rattle.scm_cells.specs.declared.masks.Mask.{Mask}
 use Rattle.scm_cells.proofs.RectLemmas.{places}
-use Rattle.scm_render.specs.Marks.{Marks, MarksInRange, followed_by}
-use Rattle.scm_render.specs.Around.{AllRectsInRange}
-use Rattle.scm_render.specs.Canvas.{Sight}
+use Rattle.scm_render.specs.Marks.{MarksInRange}
+use Rattle.scm_render.specs.Canvas.{Sight, under}
 use Rattle.scm_render.specs.Drawing.{row_rect, reach, texts_width, ellipsis, span_marks, line_marks, text_marks}
 use Rattle.scm_render.proofs.DrawLemmas.{texts_width-more, texts_width-none}
-use Rattle.scm_render.proofs.MarksLemmas.{MarksInRange-as_part, MarksInRange-nothing}
+use Rattle.scm_render.proofs.MarksLemmas.{MarksInRange-as_part, MarksInRange-followed, MarksInRange-if, MarksInRange-nothing}
 use Rattle.scm_tests.specs.Near.{IsNear, SightIsNear, AreShort}
-use Rattle.scm_tests.specs.Samples.{under, caption_marks, pair_marks, pane_marks, nest_marks, column_marks}
+use Rattle.scm_tests.specs.Samples.{caption_marks, pair_marks, pane_marks, nest_marks, column_marks}
 use Rattle.scm_tests.specs.declared.samples.Caption.{Caption}
 use Rattle.scm_tests.specs.declared.samples.Pair.{Pair}
 use Rattle.scm_tests.specs.declared.samples.Pane.{Pane}
@@ -48,19 +46,7 @@ under-near m s n p = record { x = n.x; end_x = n.end_x; mask_x = p }
 
 -- ---- marks
 
-all-append : (rs qs : List Rect) → AllRectsInRange rs → AllRectsInRange qs → AllRectsInRange (rs ++ qs)
-all-append [] qs p q = q
-all-append (r ∷ rs) qs p q = (p.0, all-append rs qs p.1 q)
-
 module _ {K : Type 0} where
-  pub followed-in_range : (a b : Marks K) → MarksInRange a → MarksInRange b → MarksInRange (followed_by a b)
-  unfolding followed_by
-  followed-in_range a b p q = record { areas = all-append a.areas b.areas p.areas q.areas }
-
-  choice-in_range : (c : Bool) (a b : Marks K) → MarksInRange a → MarksInRange b → MarksInRange (if c then a else b)
-  choice-in_range true a b p q = p
-  choice-in_range false a b p q = q
-
   pub span-in_range : (s : Sight) (x y : ℤ) (t : List ℕ) → IsNear x → IsNear y → text_width t ≤ 100 → MarksInRange {K = K} (span_marks s x y t)
   unfolding span_marks
   span-in_range s x y t p q h = record { areas = (row-in_range x y (text_width t) p q h, tt) }
@@ -79,8 +65,8 @@ module _ {K : Type 0} where
       → MarksInRange {K = K} (text_marks s x y ts)
   unfolding text_marks
   text-in_range s x y ts n e p q h =
-      followed-in_range _ _ (line-in_range s x y ts p q h)
-      (choice-in_range (int_lt (end_x_of (reach s)) (x +ℤ pos (texts_width ts))) _ _ (ellipsis-in_range s y n e q) MarksInRange-nothing)
+      MarksInRange-followed _ _ (line-in_range s x y ts p q h)
+      (MarksInRange-if (int_lt (end_x_of (reach s)) (x +ℤ pos (texts_width ts))) _ _ (ellipsis-in_range s y n e q) MarksInRange-nothing)
 
 -- ---- sample components
 
@@ -96,7 +82,7 @@ pub pair-in_range : (c : Pair) (s : Sight) (x y : ℤ) → SightIsNear s → tex
     → text_width c.first.text.now ≤ 100 → text_width c.second.text.now ≤ 100 → MarksInRange (pair_marks c s x y)
 unfolding pair_marks
 pair-in_range c s x y n e p q r h k =
-    followed-in_range _ _ (MarksInRange-as_part _ _ (caption-in_range c.first s x y n e p q h))
+    MarksInRange-followed _ _ (MarksInRange-as_part _ _ (caption-in_range c.first s x y n e p q h))
     (MarksInRange-as_part _ _ (caption-in_range c.second s x (y +ℤ pos 1) n e p r k))
 
 pane-in_range : (c : Pane) (s : Sight) (x y : ℤ) → SightIsNear s → text_width ellipsis ≤ 100 → IsNear c.mask.x → IsNear x → IsNear y
@@ -109,7 +95,7 @@ pub nest-in_range : (c : Nest) (s : Sight) (x y : ℤ) → SightIsNear s → tex
 unfolding nest_marks
 nest-in_range c s x y n e m o p q r h k =
     let set = under-near c.mask s n m in
-    followed-in_range _ _ (MarksInRange-as_part _ _ (pane-in_range c.pane (under c.mask s) x y set e o p q h))
+    MarksInRange-followed _ _ (MarksInRange-as_part _ _ (pane-in_range c.pane (under c.mask s) x y set e o p q h))
     (MarksInRange-as_part _ _ (caption-in_range c.below (under c.mask s) x (y +ℤ pos 1) set e p r k))
 
 pub column-in_range : (cs : List Caption) (s : Sight) (x y : ℤ) → SightIsNear s → text_width ellipsis ≤ 100 → IsNear x → neg_ℤ (pos 1000) ≤ℤ y → (y +ℤ pos (length cs)) ≤ℤ pos 1000 → AreShort cs
@@ -118,7 +104,7 @@ unfolding column_marks
 column-in_range [] s x y n e p l h k = MarksInRange-nothing
 column-in_range (c ∷ cs) s x y n e p l h k =
     let at : IsNear y = record { low = l; high = omega (arith, places) } in
-    followed-in_range _ _ (MarksInRange-as_part _ _ (caption-in_range c s x y n e p at k.0))
+    MarksInRange-followed _ _ (MarksInRange-as_part _ _ (caption-in_range c s x y n e p at k.0))
     (column-in_range cs s x (y +ℤ pos 1) n e p (omega (arith, places)) (omega (arith, places)) k.1)
 
 -- a text that was found short, where those after it are

@@ -1,11 +1,10 @@
--- Texts on rows below one another, and masks that are put back.
-use Rattle.std.proofs.Common.{◌≡◌, ℕ, ◌+◌, ◌<◌, ◌≤◌, ℤ, pos, ◌+ℤ◌, List, [], ◌∷◌, Option, Some, length, drop, get_or, refl, arith, ap, ◌∙◌, add-one, drop-cons, FitsSigned, w64}
+-- Texts on rows below one another.
+use Rattle.std.proofs.Common.{◌≡◌, ℕ, ◌+◌, ◌<◌, ◌≤◌, ℤ, pos, ◌+ℤ◌, List, [], ◌∷◌, length, drop, get_or, refl, arith, add-one, drop-cons, FitsSigned, w64}
 use Rattle.std.proofs.lemmas.List.{drop_all}
 use Rattle.scm_cells.specs.Rect.{RectInRange, InRange}
-use Rattle.scm_cells.specs.declared.masks.Mask.{Mask}
 use Rattle.scm_cells.proofs.RectLemmas.{places}
 use Rattle.scm_render.specs.Marks.{Marks, MarksInRange, nothing, followed_by, part}
-use Rattle.scm_render.specs.Canvas.{Sight, Canvas, marked}
+use Rattle.scm_render.specs.Canvas.{Sight}
 use Rattle.scm_render.specs.Drawing.{row_rect, texts_width}
 use Rattle.scm_render.proofs.MarksLemmas.{MarksInRange-left, MarksInRange-part}
 use Rattle.scm_render.proofs.DrawLemmas.{text_marks-line, line_in_range}
@@ -34,13 +33,3 @@ column_marks-more cs i d s x y h = rw (add-one, drop-cons cs i d h) refl
 pub column_marks-end : (cs : List Caption) (i : ℕ) (s : Sight) (x y : ℤ) → length cs ≤ i → column_marks (drop i cs) s x y ≡ nothing
 unfolding column_marks
 column_marks-end cs i s x y h = rw (drop_all i cs h) refl
-
-module _ {K : Type 0} where
-  -- the canvas with this mask, or none
-  abbrev with_mask : Option Mask → Canvas K → Canvas K
-  with_mask mask c = record c { sight = record c.sight { mask = mask } }
-
-  -- a mask is set, marks are made under it, and the mask before is put back
-  pub marked-masked : (c d e f : Canvas K) (mask : Mask) (m : Marks K) → d ≡ with_mask (Some mask) c → e ≡ marked d m → f ≡ with_mask c.sight.mask e → f ≡ marked c m
-  unfolding marked
-  marked-masked c d e f mask m p q r = r ∙ ap (with_mask c.sight.mask) (q ∙ ap (λ v. marked v m) p)

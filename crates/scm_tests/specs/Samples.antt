@@ -1,17 +1,12 @@
 -- What the sample components draw.
-use Rattle.std.specs.Prelude.{ℕ, ℤ, pos, ◌+ℤ◌, List, [], ◌∷◌, Some}
-use Rattle.scm_cells.specs.declared.masks.Mask.{Mask}
+use Rattle.std.specs.Prelude.{ℕ, ℤ, pos, ◌+ℤ◌, List, [], ◌∷◌}
 use Rattle.scm_render.specs.Marks.{Marks, nothing, followed_by, part}
-use Rattle.scm_render.specs.Canvas.{Sight}
+use Rattle.scm_render.specs.Canvas.{Sight, under}
 use Rattle.scm_render.specs.Drawing.{text_marks}
 use Rattle.scm_tests.specs.declared.samples.Caption.{Caption}
 use Rattle.scm_tests.specs.declared.samples.Pair.{Pair}
 use Rattle.scm_tests.specs.declared.samples.Pane.{Pane}
 use Rattle.scm_tests.specs.declared.samples.Nest.{Nest}
-
--- the sight with this mask set
-abbrev pub under : Mask → Sight → Sight
-under m s = record { rect = s.rect; mask = Some m }
 
 unfoldable pub caption_marks : Caption → Sight → ℤ → ℤ → Marks ℕ
 caption_marks c s x y = text_marks s x y (c.text.now ∷ [])

@@ -1,12 +1,12 @@
 use Rattle.std.proofs.Common.{◌≡◌, ◌∙◌, ap, ◌+ℤ◌, pos, FitsSigned, w64, ℤ}
 use Rattle.std.proofs.lemmas.Int.{to_z-of_z}
 use Rattle.scm_render.specs.Marks.{MarksInRange}
-use Rattle.scm_render.specs.Canvas.{Sight}
+use Rattle.scm_render.specs.Canvas.{Sight, under}
 use Rattle.scm_render.proofs.MarksLemmas.{MarksInRange-left, MarksInRange-right, MarksInRange-part}
-use Rattle.scm_render.proofs.CanvasLemmas.{marked-sight, marked-twice}
-use Rattle.scm_tests.specs.Samples.{under, nest_marks}
+use Rattle.scm_render.proofs.CanvasLemmas.{marked-sight, marked-twice, marked-masked}
+use Rattle.scm_tests.specs.Samples.{nest_marks}
 use Rattle.scm_tests.specs.declared.samples.Nest.{Nest}
-use Rattle.scm_tests.proofs.SampleLemmas.{caption_row-fits, marked-masked}
+use Rattle.scm_tests.proofs.SampleLemmas.{caption_row-fits}
 use Rattle.scm_tests.proofs.samples.NestComponent.draw.Goals as goal
 
 pub draw_component-requires : goal.draw_component-requires

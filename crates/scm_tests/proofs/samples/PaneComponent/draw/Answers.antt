@@ -1,9 +1,9 @@
+use Rattle.scm_render.proofs.CanvasLemmas.{marked-masked}
 use Rattle.std.proofs.Common.{◌∙◌, ap, FitsSigned, w64}
 use Rattle.std.proofs.lemmas.Int.{to_z-of_z}
 use Rattle.scm_render.specs.Marks.{part}
 use Rattle.scm_render.specs.Canvas.{marked}
 use Rattle.scm_tests.specs.Samples.{caption_marks, pane_marks}
-use Rattle.scm_tests.proofs.SampleLemmas.{marked-masked}
 use Rattle.scm_tests.proofs.samples.PaneComponent.draw.Goals as goal
 
 pub draw_component-requires : goal.draw_component-requires
