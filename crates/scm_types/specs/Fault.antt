@@ -1,7 +1,7 @@
 -- The faults with which a selection ends, by their texts.
 use Rattle.std.specs.Prelude.{ℕ, List, Option, Some, None, string_bytes}
-use Rattle.scm_types.specs.declared.errors.RecordError.{RecordError}
-use Rattle.scm_types.specs.declared.errors.RecordError.TheVariants as errors
+use Rattle.scm_types.specs.declared.error.RecordError.{RecordError}
+use Rattle.scm_types.specs.declared.error.RecordError.TheVariants as errors
 
 pub data Fault : Type 0 where
   Cancelled : Fault

@@ -1,7 +1,7 @@
 -- What a list of the state ends as, once a borrow of its elements is over.
 use Rattle.std.specs.Prelude.{ℕ, List, Option, take, drop, length, ◌++◌, slice_set}
 use Rattle.std.specs.Borrow.{Lends, LendsIf, MutBor, Fml, Array, RattleType}
-use Rattle.scm_types.specs.contracts.lists.Items.{the_row}
+use Rattle.scm_types.specs.contracts.items.Items.{the_row}
 
 module _ (T : RattleType) (v : MutBor (List T.Denot)) where
   -- the elements are those that r shows last

@@ -4,11 +4,11 @@ ghost use Rattle.std.specs.List.{list_all};
 ghost use Rattle.std.specs.Option.{SomeIff};
 ghost use Rattle.scm_types.specs.Limits.{file_size, has_short_texts, has_short_texts_in_file, is_short_option, is_short_text, section_size};
 
-use crate::files::File;
-use crate::lines::SectionChangedLine;
-use crate::sections::Section;
-use crate::states::Commit;
-use crate::texts::{OwnedText, Text};
+use crate::file::File;
+use crate::line::SectionChangedLine;
+use crate::section::Section;
+use crate::state::Commit;
+use crate::text::{OwnedText, Text};
 
 // How many files, sections and lines a state may have.
 pub(crate) const MAX_ITEMS: usize = 1_000_000;
