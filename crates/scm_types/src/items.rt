@@ -1,17 +1,19 @@
 //! The lists of a state.
 ghost use Rattle.std.specs.Prelude.{◌≡◌, ◌<◌, ◌↔◌, ◌==◌, ◌++◌, ◌∷◌, ◌^◌, [], List, length, IfErr, IfSome, IsSome, is_ok, if◌then◌else◌, slice_get, slice_index_or};
-ghost use Rattle.std.specs.Option.{option_copied};
+ghost use Rattle.std.specs.Option.{option_copied, option_to_list};
 ghost use Rattle.std.specs.Cmp.Lexicographic.{pointwise, lists_per, lists_equiv};
 ghost use Rattle.std.specs.Borrow.{sem};
-ghost use Rattle.std.specs.Iterator.Runs.{EveryRun, ItemsMapTo};
-ghost use Rattle.std.specs.Slice.Iter.{iter_rest, iter_steps};
-ghost use Rattle.scm_types.specs.Lending.{lends_item, lends_item_if, lends_slice};
+ghost use Rattle.std.specs.declared.alloc.Global.{Global};
+ghost use Rattle.std.specs.Iterator.Runs.{EveryRun, ItemsAre, ItemsMapTo};
+ghost use Rattle.std.specs.Slice.Iter.{iter_mut_rest, iter_mut_steps, iter_rest, iter_steps};
+ghost use Rattle.std.specs.Vec.Iter.{into_iter_items, into_iter_len, into_iter_steps};
+ghost use Rattle.scm_types.specs.Lending.{lends_item, lends_item_if, lends_iter, lends_slice};
 
 use serde::{Described, Deserialize, Deserializer, Format, Serialize, Serializer};
-use std::alloc::{AllocFailed, Global};
+use std::alloc::{AllocError, AllocFailed, Global};
 use std::marker::Model;
 use std::ops::{DerefSlice, DerefSliceMut, Index, IndexMut};
-use std::slice;
+use std::{slice, vec};
 
 /// A list of the state: a `Vec` that contracts see as the list of its elements.
 ///
@@ -94,6 +96,14 @@ impl<T> Items<T> {
         self.inner.push(value)
     }
 
+    /// Takes the last element out, if there is one.
+    pub fn pop(&mut self) -> Option<T>
+        ensures items { self.old ≡ self.new ++ option_to_list result }
+        ensures variant { IsSome result ↔ (0 < length self.old) }
+    {
+        self.inner.pop()
+    }
+
     /// The elements as the `Vec` in which they stand.
     pub fn into_inner(self) -> Vec<T>
         ensures { result.items ≡ self }
@@ -162,6 +172,51 @@ impl<'a, T> IntoIterator for &'a Items<T> {
 
     fn into_iter(self) -> slice::Iter<'a, T> {
         self.as_slice().iter()
+    }
+}
+
+/// A loop that is to be reasoned about goes over `iter_mut()`.
+impl<'a, T> IntoIterator for &'a mut Items<T> {
+    type Item = &'a mut T;
+
+    type IntoIter = slice::IterMut<'a, T>;
+
+    ghost into_iter_gives = { λ xs it. (iter_mut_rest it ≡ xs.now) × (length (iter_mut_rest it) < 2 ^ 64)
+        × EveryRun (iter_mut_steps {A = T}) (λ p. ItemsMapTo p (λ x. x.now) (iter_mut_rest p.from)) };
+
+    fn into_iter(self) -> slice::IterMut<'a, T>
+        ensures* writes_back { sem 𝓛 (lends_iter T.row self.entry result) }
+        ensures into_iter_gives { (iter_mut_rest result ≡ self.old) × (length (iter_mut_rest result) < 2 ^ 64)
+            × EveryRun (iter_mut_steps {A = T}) (λ p. ItemsMapTo p (λ x. x.now) (iter_mut_rest p.from)) }
+    {
+        self.as_mut_slice().iter_mut()
+    }
+}
+
+impl<T: Drop> IntoIterator for Items<T> {
+    type Item = T;
+
+    type IntoIter = vec::IntoIter<T>;
+
+    ghost into_iter_gives = { λ xs it. (into_iter_items it ≡ xs) × (into_iter_len it < 2 ^ 64)
+        × EveryRun (into_iter_steps {X = T} {Z = Global}) (λ p. ItemsAre p (into_iter_items p.from)) };
+
+    fn into_iter(self) -> vec::IntoIter<T> {
+        self.into_inner().into_iter()
+    }
+}
+
+impl<T: Drop> FromIterator<T> for Items<T> {
+    type Alloc = Global;
+
+    ghost from_iter_gives = { λ xs items. items ≡ xs };
+
+    fn from_iter<U: IntoIterator<Item = T>>(
+        alloc: Global,
+        iter: U,
+    ) -> Result<Items<T>, AllocError> {
+        let list = Vec::from_iter(alloc, iter)?;
+        Ok(Items::from(list))
     }
 }
 

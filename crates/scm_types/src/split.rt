@@ -75,10 +75,7 @@ fn has_changed_line_in(sections: &[Section<'_>]) -> bool
 fn borrowed<'s>(text: &'s Option<Text<'_>>) -> Option<Text<'s>>
     ensures { result ≡ text.now }
 {
-    match text {
-        Some(text) => Some(text.borrowed()),
-        None => None,
-    }
+    text.as_ref().map(|text| text.borrowed())
 }
 
 impl<'a> File<'a> {
