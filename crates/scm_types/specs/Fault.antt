@@ -14,7 +14,7 @@ pub data Fault : Type 0 where
   Other : List ℕ → Fault
   Bug : List ℕ → Fault
 
--- the fault that an error is, none for want of memory
+-- the fault that an error is, none for running out of memory
 abbrev pub fault_of : RecordError → Option Fault
 fault_of errors.Cancelled = Some Cancelled
 fault_of (errors.SetUpTerminal text) = Some (SetUpTerminal (string_bytes text))

@@ -29,7 +29,7 @@ pub struct SectionChangedLine<'a> {
 }
 
 impl<'a> SectionChangedLine<'a> {
-    // The line stands in the text of the selected side, and else in that of the other side.
+    /// The line stands in the text of the selected side, and else in that of the other side.
     pub(crate) fn is_selected(&self) -> bool
         ensures selected { result ≡ takes true self.now }
         ensures unselected { result ≡ not (takes false self.now) }

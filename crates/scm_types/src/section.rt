@@ -68,6 +68,7 @@ impl<'a> Section<'a> {
         self.seen(Seen::none()).tristate()
     }
 
+    /// The section's marks, after those that were met before.
     pub(crate) fn seen(&self, before: Seen) -> Seen
         ensures { result ≡ with_marks before (section_marks self.now) }
     {

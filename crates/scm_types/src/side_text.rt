@@ -10,7 +10,7 @@ use crate::text::Text;
 use std::alloc::{AllocError, Global};
 use std::marker::Model;
 
-// The lines of a side, one after another, and whether there is one.
+/// The lines of a side, one after another, and whether there is one.
 #[derive(Drop)]
 pub(crate) struct SideText {
     pub(crate) text: String,
@@ -27,6 +27,7 @@ impl Model for SideText {
 }
 
 impl SideText {
+    /// No line.
     pub(crate) fn new(alloc: Global) -> SideText
         ensures { result ≡ nothing_joined }
     {
@@ -36,6 +37,7 @@ impl SideText {
         }
     }
 
+    /// Adds a line at the end.
     fn push(&mut self, line: &Text<'_>) -> Result<(), AllocError>
         ensures { OnOk result (self.new ≡ joined_after self.old (line.now ∷ [])) }
     {
@@ -45,7 +47,7 @@ impl SideText {
     }
 }
 
-// Both sides take lines of context.
+/// Both sides take lines of context.
 fn push_context(
     lines: &[Text<'_>],
     selected: &mut SideText,
@@ -61,7 +63,7 @@ fn push_context(
     Ok(())
 }
 
-// One side takes a changed line.
+/// One side takes a changed line.
 fn push_changes(
     lines: &[SectionChangedLine<'_>],
     selected: &mut SideText,
@@ -80,7 +82,7 @@ fn push_changes(
     Ok(())
 }
 
-// The sides take the lines of a section that they have.
+/// The sides take the lines of a section that they have.
 fn push_section(
     section: &Section<'_>,
     selected: &mut SideText,
@@ -96,7 +98,7 @@ fn push_section(
     }
 }
 
-// The texts of both sides of these sections: the selected one, and the other.
+/// The texts of both sides of these sections: the selected one, and the other.
 pub(crate) fn join_sides(
     alloc: Global,
     sections: &[Section<'_>],

@@ -46,14 +46,14 @@ pub enum SelectedContents<'a> {
 }
 
 impl<'a> Section<'a> {
-    // The section changes bytes.
+    /// The section changes bytes.
     fn is_binary(&self) -> bool
         ensures { result ≡ is_binary self.now }
     {
         matches!(self, Section::Binary { .. })
     }
 
-    // The section has a changed line.
+    /// The section has a changed line.
     fn has_changed_line(&self) -> bool
         ensures { result ≡ has_changed_line self.now }
     {
@@ -64,14 +64,14 @@ impl<'a> Section<'a> {
     }
 }
 
-// Some section has a changed line.
+/// Some section has a changed line.
 fn has_changed_line_in(sections: &[Section<'_>]) -> bool
     ensures { result ≡ list_any has_changed_line sections.now }
 {
     sections.iter().any(|section| section.has_changed_line())
 }
 
-// The same text, borrowed, if there is one.
+/// The same text, borrowed, if there is one.
 fn borrowed<'s>(text: &'s Option<Text<'_>>) -> Option<Text<'s>>
     ensures { result ≡ text.now }
 {
@@ -79,7 +79,7 @@ fn borrowed<'s>(text: &'s Option<Text<'_>>) -> Option<Text<'s>>
 }
 
 impl<'a> File<'a> {
-    // The mode of a side, the selected one or the other.
+    /// The mode of a side, the selected one or the other.
     fn side_mode(&self, selected: bool) -> FileMode
         ensures { result ≡ side_mode selected self.now }
     {
@@ -95,7 +95,7 @@ impl<'a> File<'a> {
         self.file_mode
     }
 
-    // The last binary section, and the sections after it, or all.
+    /// The last binary section, and the sections after it, or all.
     fn tail(&self) -> (Option<&Section<'a>>, &[Section<'a>])
         ensures binary { option_and_then binary_change (option_copied result.0)
             ≡ last_binary_change self.now.sections }
@@ -113,7 +113,7 @@ impl<'a> File<'a> {
         (binary, &sections[start..])
     }
 
-    // A side without lines is the empty text, and not unchanged.
+    /// A side without lines is the empty text, and not unchanged.
     fn is_emptied(&self, tail: &[Section<'a>], selected: bool) -> bool
         requires { tail.now ≡ tail_of self.now.sections }
         ensures { result ≡ is_emptied selected self.now }
@@ -124,7 +124,7 @@ impl<'a> File<'a> {
         is_there & (was_absent | (selected & has_changed_line))
     }
 
-    // The contents of a side that is no binary one.
+    /// The contents of a side that is no binary one.
     fn side_text(
         &self,
         tail: &[Section<'a>],
@@ -145,7 +145,7 @@ impl<'a> File<'a> {
         }
     }
 
-    // A side, the selected one or the other.
+    /// A side, the selected one or the other.
     fn side(&self, selected: bool, text: SideText) -> SelectedChanges<'_>
         requires { text ≡ joined (side_lines selected self.now) }
         ensures { result ≡ side_of selected self.now }
@@ -189,7 +189,7 @@ impl<'a> File<'a> {
     /// section that is the last one takes the place of its own side, the selected one if it is
     /// checked, with its descriptions borrowed.
     ///
-    /// The time grows with the size of the file alone. It is refused for want of memory alone.
+    /// The time grows with the size of the file alone. It fails only by running out of memory.
     pub fn get_selected_contents(
         &self,
         alloc: Global,

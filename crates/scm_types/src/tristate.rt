@@ -28,7 +28,7 @@ impl From<bool> for Tristate {
     }
 }
 
-// Which marks were met so far.
+/// Which marks were met so far.
 #[derive(Clone, Copy)]
 pub(crate) struct Seen {
     checked: bool,
@@ -36,6 +36,7 @@ pub(crate) struct Seen {
 }
 
 impl Seen {
+    /// No mark.
     pub(crate) fn none() -> Seen
         ensures { result ≡ none_seen }
     {
@@ -45,6 +46,7 @@ impl Seen {
         }
     }
 
+    /// One mark more.
     pub(crate) fn with(self, mark: bool) -> Seen
         ensures { result ≡ with_mark self mark }
     {
@@ -54,6 +56,7 @@ impl Seen {
         }
     }
 
+    /// What these marks make together.
     pub(crate) fn tristate(self) -> Tristate
         ensures { result ≡ seen_tristate self }
     {

@@ -16,14 +16,14 @@ use std::alloc::Global;
 ///
 /// Each type of a state has a method `try_clone` of its own too, which needs no import.
 pub trait TryClone: Sized + Drop {
-    /// A copy that equals its source. It is refused for want of memory alone.
+    /// A copy that equals its source. It fails only by running out of memory.
     fn try_clone(&self, alloc: Global) -> Result<Self, RecordError>
         ensures ok { IfOk result (λ copy. copy ≡ self.now) }
         ensures err { IfErr result (λ error. error ≡ OutOfMemory) };
 }
 
 impl<'a> Text<'a> {
-    /// A copy that equals the text. It is refused for want of memory alone.
+    /// A copy that equals the text. It fails only by running out of memory.
     pub fn try_clone(&self, _alloc: Global) -> Result<Text<'a>, RecordError>
         ensures ok { IfOk result (λ copy. copy ≡ self.now) }
         ensures err { IfErr result (λ error. error ≡ OutOfMemory) }
@@ -39,7 +39,7 @@ impl<'a> TryClone for Text<'a> {
 }
 
 impl OwnedText {
-    /// A copy that equals the text. It is refused for want of memory alone.
+    /// A copy that equals the text. It fails only by running out of memory.
     pub fn try_clone(&self, alloc: Global) -> Result<OwnedText, RecordError>
         ensures ok { IfOk result (λ copy. copy ≡ self.now) }
         ensures err { IfErr result (λ error. error ≡ OutOfMemory) }
@@ -64,7 +64,7 @@ impl<T: TryClone> TryClone for Option<T> {
 }
 
 impl<T: TryClone> Items<T> {
-    /// A copy that equals the list. It is refused for want of memory alone.
+    /// A copy that equals the list. It fails only by running out of memory.
     pub fn try_clone(&self, alloc: Global) -> Result<Items<T>, RecordError>
         ensures ok { IfOk result (λ copy. copy ≡ self.now) }
         ensures err { IfErr result (λ error. error ≡ OutOfMemory) }
@@ -78,7 +78,7 @@ impl<T: TryClone> Items<T> {
 }
 
 impl<'a> SectionChangedLine<'a> {
-    /// A copy that equals the line. It is refused for want of memory alone.
+    /// A copy that equals the line. It fails only by running out of memory.
     pub fn try_clone(&self, alloc: Global) -> Result<SectionChangedLine<'a>, RecordError>
         ensures ok { IfOk result (λ copy. copy ≡ self.now) }
         ensures err { IfErr result (λ error. error ≡ OutOfMemory) }
@@ -98,7 +98,7 @@ impl<'a> TryClone for SectionChangedLine<'a> {
 }
 
 impl<'a> Section<'a> {
-    /// A copy that equals the section. It is refused for want of memory alone.
+    /// A copy that equals the section. It fails only by running out of memory.
     pub fn try_clone(&self, alloc: Global) -> Result<Section<'a>, RecordError>
         ensures ok { IfOk result (λ copy. copy ≡ self.now) }
         ensures err { IfErr result (λ error. error ≡ OutOfMemory) }
@@ -134,7 +134,7 @@ impl<'a> TryClone for Section<'a> {
 }
 
 impl<'a> File<'a> {
-    /// A copy that equals the file. It is refused for want of memory alone.
+    /// A copy that equals the file. It fails only by running out of memory.
     pub fn try_clone(&self, alloc: Global) -> Result<File<'a>, RecordError>
         ensures ok { IfOk result (λ copy. copy ≡ self.now) }
         ensures err { IfErr result (λ error. error ≡ OutOfMemory) }
@@ -155,7 +155,7 @@ impl<'a> TryClone for File<'a> {
 }
 
 impl Commit {
-    /// A copy that equals the commit. It is refused for want of memory alone.
+    /// A copy that equals the commit. It fails only by running out of memory.
     pub fn try_clone(&self, alloc: Global) -> Result<Commit, RecordError>
         ensures ok { IfOk result (λ copy. copy ≡ self.now) }
         ensures err { IfErr result (λ error. error ≡ OutOfMemory) }
@@ -173,7 +173,7 @@ impl TryClone for Commit {
 }
 
 impl<'a> RecordState<'a> {
-    /// A copy that equals the state. It is refused for want of memory alone.
+    /// A copy that equals the state. It fails only by running out of memory.
     pub fn try_clone(&self, alloc: Global) -> Result<RecordState<'a>, RecordError>
         ensures ok { IfOk result (λ copy. copy ≡ self.now) }
         ensures err { IfErr result (λ error. error ≡ OutOfMemory) }
@@ -187,7 +187,7 @@ impl<'a> RecordState<'a> {
 }
 
 impl<'a> SelectedContents<'a> {
-    /// A copy that equals these contents. It is refused for want of memory alone.
+    /// A copy that equals these contents. It fails only by running out of memory.
     pub fn try_clone(&self, alloc: Global) -> Result<SelectedContents<'a>, RecordError>
         ensures ok { IfOk result (λ copy. copy ≡ self.now) }
         ensures err { IfErr result (λ error. error ≡ OutOfMemory) }
