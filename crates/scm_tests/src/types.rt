@@ -52,14 +52,14 @@ fn file_of(file_mode: FileMode, sections: Vec<Section<'static>>) -> File<'static
     }
 }
 
-// A new file: an addition and the creation, each checked or not.
-fn new_file(
-    alloc: Global,
-    is_line_checked: bool,
-    is_checked: bool,
-) -> Result<File<'static>, RecordError> {
+const CHECKED: [Line; 1] = [(true, ADDED, "n\n")];
+
+const UNCHECKED: [Line; 1] = [(false, ADDED, "n\n")];
+
+// A new file: these lines, and its creation, checked or not.
+fn new_file(alloc: Global, lines: &[Line], is_checked: bool) -> Result<File<'static>, RecordError> {
     let mut sections = Vec::new(alloc);
-    sections.push(changed(alloc, &[(is_line_checked, ADDED, "n\n")])?)?;
+    sections.push(changed(alloc, lines)?)?;
     sections.push(Section::FileMode {
         is_checked,
         mode: DEFAULT,
@@ -167,16 +167,34 @@ fn files_are_split(rt: HostRuntime) -> Result<(), Fail> {
     let nowhere = (FileMode::Absent, Side::Unchanged);
     let lost = (FileMode::Absent, Side::Text("n\n"));
     let written = (DEFAULT, Side::Text("n\n"));
-    check_split(&rt, alloc, &new_file(alloc, true, true)?, written, nowhere)?;
-    check_split(&rt, alloc, &new_file(alloc, false, true)?, emptied, lost)?;
     check_split(
         &rt,
         alloc,
-        &new_file(alloc, false, false)?,
+        &new_file(alloc, &CHECKED, true)?,
+        written,
+        nowhere,
+    )?;
+    check_split(
+        &rt,
+        alloc,
+        &new_file(alloc, &UNCHECKED, true)?,
+        emptied,
+        lost,
+    )?;
+    check_split(
+        &rt,
+        alloc,
+        &new_file(alloc, &UNCHECKED, false)?,
         nowhere,
         written,
     )?;
-    check_split(&rt, alloc, &new_file(alloc, true, false)?, lost, emptied)?;
+    check_split(
+        &rt,
+        alloc,
+        &new_file(alloc, &CHECKED, false)?,
+        lost,
+        emptied,
+    )?;
 
     let bytes = (DEFAULT, Side::OldBinary);
     let tail = (DEFAULT, Side::Text("z\n"));
@@ -241,7 +259,7 @@ fn copies_of_a_state_equal_it(rt: HostRuntime) -> Result<(), Fail> {
     assert!(rt; !state.is_read_only);
     assert!(rt; state.commits.is_empty());
     assert!(rt; state.files.is_empty());
-    state.files.push(new_file(alloc, false, false)?)?;
+    state.files.push(new_file(alloc, &UNCHECKED, false)?)?;
     assert!(rt; state.try_clone(alloc)? == state);
     for file in state.files.iter() {
         assert!(rt; file.try_clone(alloc)? == *file);
