@@ -1,9 +1,9 @@
 -- Which files a change keeps coherent.
 use Rattle.std.specs.Prelude.{◌≡◌, ℕ, Bool, false, ◌&&◌, List, Some, slice_get}
 use Rattle.std.specs.List.{list_any}
-use Rattle.scm_types.specs.declared.sections.Section.{Section}
-use Rattle.scm_types.specs.declared.sections.Section.TheVariants as sections
-use Rattle.scm_types.specs.declared.files.File.{File}
+use Rattle.scm_types.specs.declared.section.Section.{Section}
+use Rattle.scm_types.specs.declared.section.Section.TheVariants as sections
+use Rattle.scm_types.specs.declared.file.File.{File}
 use Rattle.scm_types.specs.Mode.{is_absent}
 use Rattle.scm_types.specs.Same.{IsCoherent}
 
