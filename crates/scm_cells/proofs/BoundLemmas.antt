@@ -26,11 +26,14 @@ use Rattle.scm_cells.specs.Clusters.{has_control, kept, kept_width, with_width, 
 -- ---- the bytes of a character
 
 -- at least so many bytes spell a character
-abbrev size : ℕ → ℕ
+abbrev pub size : ℕ → ℕ
 size c = if nat_lt c 128 then 1 else 2
 
 size-lead : (b : ℕ) → continuation_len b ≡ 0 → size (lead_bits b) ≤ 1
 size-lead b e = grind (arith, nat_tests)
+
+pub size-some : (c : ℕ) → 1 ≤ size c
+size-some c = grind arith
 
 size-le : (c : ℕ) → size c ≤ 2
 size-le c = grind arith
@@ -50,12 +53,12 @@ sizes-after (suc n) c before (b ∷ bs) last more =
     let rest = sizes-after n (c * 64 + (b - 128)) (before + 1) bs (λ e. omega (arith, some, two)) (λ left. omega arith) in
     omega (arith, rest)
 
-sizes-le : (bs : List ℕ) → sum_by size (chars bs) ≤ length bs
+pub sizes-le : (bs : List ℕ) → sum_by size (chars bs) ≤ length bs
 unfolding chars
 sizes-le [] = omega arith
 sizes-le (b ∷ bs) = let e = sizes-after (continuation_len b) (lead_bits b) 1 bs (size-lead b) (λ some. omega arith) in omega (arith, e)
 
-encode-size : (c : ℕ) → length (encode_utf8 c) ≤ 2 * size c
+pub encode-size : (c : ℕ) → length (encode_utf8 c) ≤ 2 * size c
 encode-size c = grind (arith, nat_tests, length-encode c)
 
 encodes-sizes : (cs : List ℕ) → length (encode_utf8_all cs) ≤ 2 * sum_by size cs
