@@ -20,7 +20,7 @@ use Rattle.unicode_width.specs.declared.state.Change.{Change}
 use Rattle.unicode_width.specs.declared.state.Change.TheVariants.{Less, Same, One, Three}
 use Rattle.unicode_width.specs.Kind.{kind}
 use Rattle.unicode_width.specs.Width.{before, is_striking, is_line_feed, is_plain, plain, single, of_kind, alone, changed, Reading, added, joined_or, past_selectors, in_context, past_emoji, joins, step, read_before, str_width, if_kept}
-use Rattle.scm_cells.specs.Cluster.{Cluster}
+use Rattle.scm_cells.specs.Cluster.{Cluster, IsNarrow}
 use Rattle.scm_cells.specs.Clusters.{has_control, kept, kept_width, with_width, clusters, text_width}
 
 -- ---- the bytes of a character
@@ -188,10 +188,6 @@ unfolding kept_width
 kept_width-le piece w e =
     let width = str_width false (chars piece) in
     if_none (has_control piece) (if width == 0 then None else Some width) (2 * length piece) w (if_some (width == 0) width (2 * length piece) w (str_width-le piece)) e
-
--- a cluster takes at most two columns a byte
-abbrev pub IsNarrow : Cluster → Type 0
-IsNarrow c = c.1 ≤ 2 * length c.0
 
 narrow_more : (o : Option ℕ) (piece : List ℕ) (rest : List Cluster) → ((w : ℕ) → o ≡ Some w → w ≤ 2 * length piece) → All IsNarrow rest
     → All IsNarrow (cons_option (option_map (λ w. (piece, w)) o) rest)
