@@ -3,12 +3,11 @@ use Rattle.std.proofs.Common.{◌≡◌, ℕ, zero, suc, ◌+◌, ◌-◌, ◌*�
 use Rattle.std.specs.Int.{is_in_range}
 use Rattle.std.specs.Prelude.{if◌then◌else◌, nat_le, nat_lt, ◌==◌, ◌&&◌, not, encode_utf8, encode_utf8_all, option_map}
 use Rattle.std.specs.List.{All, filter_map, cons_option}
-use Rattle.std.specs.Option.{option_map_or}
 use Rattle.std.specs.Str.{chars, chars_after, continuation_len, lead_bits, IsUtf8, all_scalars}
 use Rattle.std.proofs.lemmas.Bool.Decides.{nat_tests}
 use Rattle.std.proofs.lemmas.List.Sums.{sum_by-cons}
 use Rattle.std.proofs.lemmas.List.Elements.{All-nil, All-cons}
-use Rattle.std.proofs.lemmas.Str.{length-encode, len_utf8_bounds, encode_ascii, chars-encodes}
+use Rattle.std.proofs.lemmas.Str.{length-encode, chars-encodes}
 use Rattle.unicode_segmentation.specs.Segments.{Rule, cut, prepend, segments}
 use Rattle.unicode_segmentation.specs.Grapheme.{graphemes, is_grapheme_break}
 use Rattle.unicode_width.specs.declared.kind.Kind.{Kind}

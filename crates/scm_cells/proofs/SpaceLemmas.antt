@@ -1,6 +1,6 @@
 -- What a put of spaces makes of a row.
-use Rattle.std.proofs.Common.{◌≡◌, ℕ, zero, suc, ◌+◌, ◌-◌, ◌≤◌, true, List, [], ◌∷◌, ◌++◌, length, replicate, drop, append-nil, refl, sym, ap, ◌∙◌, arith}
-use Rattle.std.specs.Prelude.{ℤ, pos}
+use Rattle.std.proofs.Common.{◌≡◌, ℕ, zero, suc, ◌+◌, ◌-◌, ◌≤◌, true, List, [], ◌∷◌, length, replicate, drop, append-nil, refl, sym, ap, ◌∙◌, arith}
+use Rattle.std.specs.Prelude.{pos}
 use Rattle.std.specs.Int.{int_max}
 use Rattle.std.proofs.lemmas.List.{length-replicate, drop_all}
 use Rattle.scm_cells.specs.Rect.{or_zero}
@@ -10,7 +10,7 @@ use Rattle.scm_cells.specs.Cell.{Cell, blank}
 use Rattle.scm_cells.specs.Row.{cells_of, later_cells, whole_before, whole_after, written, overlay, put}
 use Rattle.scm_cells.specs.Laying.{fit}
 use Rattle.scm_cells.proofs.RectLemmas.{places}
-use Rattle.scm_cells.proofs.WrittenLemmas.{IsKept, AllKept, written-fit, fit-cons, fit-none}
+use Rattle.scm_cells.proofs.WrittenLemmas.{AllKept, written-fit, fit-cons, fit-none}
 use Rattle.scm_cells.proofs.PrintableLemmas.{clusters-printable, text_width-printable}
 
 -- a space as a cluster
@@ -36,7 +36,7 @@ AllKept-spaces : (n : ℕ) → AllKept (replicate n space)
 AllKept-spaces zero = tt
 AllKept-spaces (suc n) = (record { bytes = omega arith; columns = omega arith }, AllKept-spaces n)
 
-cells-space : cells_of space ≡ blank ∷ []
+pub cells-space : cells_of space ≡ blank ∷ []
 unfolding cells_of later_cells
 cells-space = refl
 

@@ -83,7 +83,7 @@ and_false : (b : Bool) → (b && false) ≡ false
 and_false true = refl
 and_false false = refl
 
-by_stop : {P : Type 0} (b : Bool) {x : Bool} → x ≡ b → (x ≡ true → P) → (x ≡ false → P) → P
+pub by_stop : {P : Type 0} (b : Bool) {x : Bool} → x ≡ b → (x ≡ true → P) → (x ≡ false → P) → P
 by_stop true e f g = f e
 by_stop false e f g = g e
 
@@ -97,13 +97,13 @@ pub written-none : (column : ℤ) (low high : ℕ) → written column [] low hig
 unfolding written placed
 written-none column low high = refl
 
-written-cons : (column : ℤ) (c : Cluster) (cs : List Cluster) (low high : ℕ) → passes low high (column, c) ≡ false
+pub written-cons : (column : ℤ) (c : Cluster) (cs : List Cluster) (low high : ℕ) → passes low high (column, c) ≡ false
     → written column (c ∷ cs) low high ≡ cells_past low high (column, c) ++ written (column +ℤ pos c.1) cs low high
 unfolding written placed
 written-cons column c cs low high e =
     ap (flat_map (cells_past low high)) (take_while-pass (λ p. not (passes low high p)) (column, c) (placed (column +ℤ pos c.1) cs) (ap not e))
 
-written-stop : (column : ℤ) (c : Cluster) (cs : List Cluster) (low high : ℕ) → passes low high (column, c) ≡ true → written column (c ∷ cs) low high ≡ []
+pub written-stop : (column : ℤ) (c : Cluster) (cs : List Cluster) (low high : ℕ) → passes low high (column, c) ≡ true → written column (c ∷ cs) low high ≡ []
 unfolding written placed
 written-stop column c cs low high e =
     ap (flat_map (cells_past low high)) (take_while-stop (λ p. not (passes low high p)) (column, c) (placed (column +ℤ pos c.1) cs) (ap not e))
