@@ -10,11 +10,15 @@ use std::alloc::Global;
 use std::marker::Model;
 
 /// Rows of symbols, whose columns and rows count from 0. A row has as many columns as the grid is
-/// wide, and each symbol takes as many of them as it has.
+/// wide, and is a list of whole symbols, each of which takes as many of them as it has.
 #[derive(Drop)]
 pub struct Grid {
     alloc: Global,
+
+    /// How many columns each row has.
     width: usize,
+
+    /// The columns of each row, from the top.
     rows: Vec<Vec<Column>>,
 }
 
@@ -73,7 +77,7 @@ impl Grid {
     /// before the first. Those that end by the column `low` are left out, one that goes on past it
     /// gives spaces from there, and the text ends before the first later one that would pass the
     /// column `high`. Of a symbol that is covered in part the other columns become spaces. Other
-    /// columns and rows stay. After want of memory the grid is as it was.
+    /// columns and rows stay. Where memory is refused the grid stays as it was.
     pub fn put(
         &mut self,
         row: usize,
