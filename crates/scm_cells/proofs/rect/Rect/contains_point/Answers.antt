@@ -1,6 +1,6 @@
 use Rattle.std.proofs.Common.{arith, refl}
 use Rattle.std.proofs.lemmas.Int.{ints}
-use Rattle.scm_cells.proofs.rectangle.Rect.contains_point.Goals as goal
+use Rattle.scm_cells.proofs.rect.Rect.contains_point.Goals as goal
 
 pub returns-then-is_between : goal.returns-then-is_between
 returns-then-is_between c = (

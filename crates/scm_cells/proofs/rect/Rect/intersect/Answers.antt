@@ -1,8 +1,8 @@
 use Rattle.std.proofs.Common.{arith, ◌∙◌}
 use Rattle.scm_cells.specs.Rect.{RectInRange}
 use Rattle.scm_cells.proofs.RectLemmas.{RectInRange-intersect, points-intersect, rect_between-same, places}
-use Rattle.scm_cells.specs.declared.rectangle.Rect.{Rect}
-use Rattle.scm_cells.proofs.rectangle.Rect.intersect.Goals as goal
+use Rattle.scm_cells.specs.declared.rect.Rect.{Rect}
+use Rattle.scm_cells.proofs.rect.Rect.intersect.Goals as goal
 
 pub returns-clause-fields : goal.returns-clause-fields
 returns-clause-fields c =

@@ -3,7 +3,7 @@ use Rattle.std.specs.Prelude.{List}
 use Rattle.scm_cells.specs.Cell.{Cell}
 use Rattle.scm_cells.specs.Screen.{blank_screen}
 use Rattle.scm_cells.proofs.ScreenLemmas.{IsScreen-blank, IsScreen-same}
-use Rattle.scm_cells.proofs.grid_rows.Grid.new.Goals as goal
+use Rattle.scm_cells.proofs.grid.Grid.new.Goals as goal
 
 pub invariant_of-result : goal.invariant_of-result
 invariant_of-result c =

@@ -1,7 +1,7 @@
 use Rattle.std.proofs.Common.{rules, FitsSigned, w64}
 use Rattle.std.proofs.lemmas.Int.{to_z-of_z}
 use Rattle.scm_cells.proofs.MaskLemmas.{RectInRange-sides, points-apply}
-use Rattle.scm_cells.proofs.masks.Mask.apply.Goals as goal
+use Rattle.scm_cells.proofs.mask.Mask.apply.Goals as goal
 
 pub intersect-requires-clause-left : goal.intersect-requires-clause-left
 intersect-requires-clause-left c =

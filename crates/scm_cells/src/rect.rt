@@ -1,8 +1,8 @@
 //! Rectangles of cells. Columns (`x`) and rows (`y`) count from 0, and may be negative off the screen.
 ghost use Rattle.std.specs.Prelude.{◌≡◌, ℤ, pos, ◌-ℤ◌, ◌≤ℤ◌, ◌<ℤ◌, ◌↔◌, IsTrue, false};
 ghost use Rattle.scm_cells.specs.Rect.{RectInRange, HasPoint, IsLeastAround, intersect_of, union_of, end_x_of, end_y_of, is_empty, or_zero, rect_between};
-ghost use Rattle.scm_cells.specs.declared.rectangle.Rect as rect;
-ghost use Rattle.scm_cells.specs.declared.rectangle.RectSize as rect_size;
+ghost use Rattle.scm_cells.specs.declared.rect.Rect as rect;
+ghost use Rattle.scm_cells.specs.declared.rect.RectSize as rect_size;
 
 use std::ops::Range;
 

@@ -5,7 +5,7 @@ use Rattle.scm_cells.specs.Row.{row_text}
 use Rattle.scm_cells.specs.GridView.{row_of}
 use Rattle.scm_cells.specs.Screen.{view_of}
 use Rattle.scm_cells.proofs.ScreenLemmas.{view-more}
-use Rattle.scm_cells.proofs.grid_rows.Grid.view.Goals as goal
+use Rattle.scm_cells.proofs.grid.Grid.view.Goals as goal
 
 pub rows-preserved : goal.rows-preserved
 rows-preserved c = view-more c.deref-columns-items.result.now c.rows.columns-index c.columns-item.result _ _ c.as_slice.result.now (omega arith) c.rows.invariant

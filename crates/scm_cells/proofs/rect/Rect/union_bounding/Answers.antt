@@ -1,6 +1,6 @@
 use Rattle.std.proofs.Common.{arith, ◌∙◌, sym}
 use Rattle.scm_cells.proofs.RectLemmas.{RectInRange-union, IsLeastAround-from_eq, rect_between-same, places}
-use Rattle.scm_cells.proofs.rectangle.Rect.union_bounding.Goals as goal
+use Rattle.scm_cells.proofs.rect.Rect.union_bounding.Goals as goal
 
 pub returns-else-is_empty-2-clause-fields : goal.returns-else-is_empty-2-clause-fields
 returns-else-is_empty-2-clause-fields c =

@@ -4,7 +4,7 @@ use Rattle.std.proofs.lemmas.List.{with_items_is}
 use Rattle.scm_cells.specs.GridView.{row_of}
 use Rattle.scm_cells.specs.Screen.{Screen, blank_screen}
 use Rattle.scm_cells.proofs.ScreenLemmas.{rows-cleared, screen-cleared, IsScreen-blank, IsScreen-same}
-use Rattle.scm_cells.proofs.grid_rows.Grid.clear.Goals as goal
+use Rattle.scm_cells.proofs.grid.Grid.clear.Goals as goal
 
 pub rows-preserved : goal.rows-preserved
 rows-preserved c =

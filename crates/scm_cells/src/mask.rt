@@ -3,7 +3,7 @@ ghost use Rattle.std.specs.Prelude.{◌≡◌, ℤ, ◌↔◌, Some};
 ghost use Rattle.scm_cells.specs.Rect.{RectInRange, HasPoint};
 ghost use Rattle.scm_cells.specs.Mask.{MaskInRange, InMask, apply_of, end_of, side_or};
 
-use crate::rectangle::{Rect, gap};
+use crate::rect::{Rect, gap};
 
 /// A limit on what is drawn: the columns from `x` on, as many as `width`, and the rows from `y` on,
 /// as many as `height`. A side of `None` has no end.

@@ -8,7 +8,7 @@ use Rattle.scm_cells.specs.GridView.{row_of}
 use Rattle.scm_cells.proofs.ScreenLemmas.{rows-set, row-read, whole-read, rows-unchanged, length-read, IsScreen-set, IsScreen-same}
 use Rattle.scm_cells.proofs.WholeLemmas.{IsWhole-put}
 use Rattle.scm_cells.proofs.WrittenLemmas.{on_err}
-use Rattle.scm_cells.proofs.grid_rows.Grid.put.Goals as goal
+use Rattle.scm_cells.proofs.grid.Grid.put.Goals as goal
 
 pub put_row-requires : goal.put_row-requires
 put_row-requires c =
