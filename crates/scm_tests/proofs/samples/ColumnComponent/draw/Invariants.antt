@@ -6,9 +6,9 @@ use Rattle.scm_tests.proofs.samples.ColumnComponent.draw.Given as goal
 
 abbrev pub invariant-loop-caption : goal.invariant-loop-caption
 invariant-loop-caption l =
-    let rest = column_picture (drop l.caption-index l.self.captions.items) l.fn.viewport.sight l.x l.row in
+    let rest = column_picture (drop l.caption-index l.self.captions.items) l.fn.viewport.canvas.sight l.x l.row in
     record {
-      sight : l.viewport.sight ≡ l.fn.viewport.sight;
+      sight : l.viewport.canvas.sight ≡ l.fn.viewport.canvas.sight;
       in_range : PictureInRange rest;
-      with_picture : with_picture l.viewport rest ≡ with_picture l.fn.viewport (column_picture l.self.captions.items l.fn.viewport.sight l.fn.x l.fn.y);
+      drawn : with_picture l.viewport.canvas rest ≡ with_picture l.fn.viewport.canvas (column_picture l.self.captions.items l.fn.viewport.canvas.sight l.fn.x l.fn.y);
     }

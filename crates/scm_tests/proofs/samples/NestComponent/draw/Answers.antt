@@ -30,7 +30,7 @@ unfolding nest_picture
 draw_component-requires-2 c =
     let fx : FitsSigned w64 c.args.x = c.ranges.x in
     let fy : FitsSigned w64 c.args.y = c.ranges.y in
-    let below = row_below-fits c.args.self.now c.args.viewport.now.sight c.args.x c.args.y c.requires in
+    let below = row_below-fits c.args.self.now c.args.viewport.now.canvas.sight c.args.x c.args.y c.requires in
     let first = simp to_z-of_z at c.in_ok-draw_component.ensures.ok in
     simp to_z-of_z (rw first (rw (with_picture-sight, c.swap_mask-outer.ensures.new) (PictureInRange-right _ _ c.requires)))
 
@@ -39,12 +39,12 @@ unfolding nest_picture
 returns-clause-ok c =
     let fx : FitsSigned w64 c.args.x = c.ranges.x in
     let fy : FitsSigned w64 c.args.y = c.ranges.y in
-    let below = row_below-fits c.args.self.now c.args.viewport.now.sight c.args.x c.args.y c.requires in
+    let below = row_below-fits c.args.self.now c.args.viewport.now.canvas.sight c.args.x c.args.y c.requires in
     let nest = c.args.self.now in
-    let inner = c.swap_mask-outer.new.self in
-    let set : inner.sight ≡ under nest.mask c.args.viewport.now.sight = ap (λ v. v.sight) c.swap_mask-outer.ensures.new in
+    let inner = c.swap_mask-outer.new.self.canvas in
+    let set : inner.sight ≡ under nest.mask c.args.viewport.now.canvas.sight = ap (λ v. v.sight) c.swap_mask-outer.ensures.new in
     let first = simp to_z-of_z at c.in_ok-draw_component.ensures.ok in
     let second = simp to_z-of_z at c.in_ok-draw_component-2.ensures.ok in
     let same = ap (λ v. v.sight) first ∙ with_picture-sight _ _ ∙ set in
     let both = with_picture-twice inner _ _ _ _ (simp set at first) (simp same at second) in
-    with_picture-masked _ inner c.draw_component-2.new.self _ nest.mask _ c.swap_mask-outer.ensures.new both (rw c.swap_mask-outer.ensures.old at c.swap_mask.ensures.new)
+    with_picture-masked _ inner c.draw_component-2.new.self.canvas _ nest.mask _ c.swap_mask-outer.ensures.new both (rw c.swap_mask-outer.ensures.old at c.swap_mask.ensures.new)

@@ -30,7 +30,7 @@ unfolding pair_picture
 draw_component-requires-2 c =
     let fx : FitsSigned w64 c.args.x = c.ranges.x in
     let fy : FitsSigned w64 c.args.y = c.ranges.y in
-    let below = second_row-fits c.args.self.now c.args.viewport.now.sight c.args.x c.args.y c.requires in
+    let below = second_row-fits c.args.self.now c.args.viewport.now.canvas.sight c.args.x c.args.y c.requires in
     let first = simp to_z-of_z at c.in_ok-draw_component.ensures.ok in
     simp to_z-of_z (rw first (rw with_picture-sight (PictureInRange-right _ _ c.requires)))
 
@@ -39,7 +39,7 @@ unfolding pair_picture
 returns-clause-ok c =
     let fx : FitsSigned w64 c.args.x = c.ranges.x in
     let fy : FitsSigned w64 c.args.y = c.ranges.y in
-    let below = second_row-fits c.args.self.now c.args.viewport.now.sight c.args.x c.args.y c.requires in
+    let below = second_row-fits c.args.self.now c.args.viewport.now.canvas.sight c.args.x c.args.y c.requires in
     let first = simp to_z-of_z at c.in_ok-draw_component.ensures.ok in
     let second = simp to_z-of_z at c.in_ok-draw_component-2.ensures.ok in
     let same = ap (λ v. v.sight) first ∙ with_picture-sight _ _ in

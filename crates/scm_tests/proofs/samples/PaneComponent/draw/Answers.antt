@@ -19,8 +19,8 @@ returns-clause-ok c =
     let fx : FitsSigned w64 c.args.x = c.ranges.x in
     let fy : FitsSigned w64 c.args.y = c.ranges.y in
     let caption = c.args.self.now.caption in
-    let inner = c.swap_mask-outer.new.self in
+    let inner = c.swap_mask-outer.new.self.canvas in
     let drawn = simp to_z-of_z at c.in_ok-draw_component.ensures.ok in
-    with_picture-masked _ inner c.draw_component.new.self _ c.args.self.now.mask _ c.swap_mask-outer.ensures.new
+    with_picture-masked _ inner c.draw_component.new.self.canvas _ c.args.self.now.mask _ c.swap_mask-outer.ensures.new
     (drawn ∙ ap (λ v. with_picture inner (part caption.id (caption_picture caption v.sight c.args.x c.args.y))) c.swap_mask-outer.ensures.new)
     (rw c.swap_mask-outer.ensures.old at c.swap_mask.ensures.new)
