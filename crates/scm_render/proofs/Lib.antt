@@ -11,3 +11,4 @@ pub mod PaintLemmas
 pub mod RowLemmas
 pub mod SpanLemmas
 pub mod PlaceLemmas
+pub mod TargetLemmas
