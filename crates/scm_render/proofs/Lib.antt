@@ -1,4 +1,5 @@
 pub mod AroundLemmas
+pub mod BoundLemmas
 pub mod CanvasLemmas
 pub mod DrawLemmas
 pub mod HitLemmas
@@ -12,3 +13,4 @@ pub mod RowLemmas
 pub mod SpanLemmas
 pub mod PlaceLemmas
 pub mod TargetLemmas
+pub mod FillLemmas
