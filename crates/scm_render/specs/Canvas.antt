@@ -36,6 +36,11 @@ pub record Canvas (K : Type 0) : Type 0 where
   pub area : Rect
   pub boxes : List (Box K)
 
+-- rows of the screen, and the part of the document that they show
+pub record SurfaceState : Type 0 where
+  pub rect : Rect
+  pub rows : List Row
+
 -- what a contract sees of a viewport
 pub record ViewportState (K : Type 0) : Type 0 where
   pub canvas : Canvas K
@@ -58,6 +63,10 @@ paint v (p ∷ ps) z row = paint v ps z (cond (int_eq z p.row) (put_at v p row) 
 unfoldable pub painted : Rect → List Put → ℤ → List Row → List Row
 painted v ps z [] = []
 painted v ps z (row ∷ rows) = paint v ps z row ∷ painted v ps (z +ℤ pos 1) rows
+
+-- the rows with the puts
+unfoldable pub with_puts : List Put → SurfaceState → SurfaceState
+with_puts ps s = record { rect = s.rect; rows = painted s.rect ps s.rect.y s.rows }
 
 module _ {K : Type 0} where
   -- the canvas with this mask set, or with none

@@ -1,12 +1,24 @@
+-- The least rectangle around several.
 pub mod Around
-pub mod Bounds
-pub mod Canvas
-pub mod Centring
-pub mod Drawing
-pub mod Hits
-pub mod Lines
+-- What drawing makes: texts that are put, boxes of components, rectangles that are covered.
 pub mod Picture
-pub mod OnScreen
+-- What a viewport holds, and what a picture makes of it.
+pub mod Canvas
+-- The picture that each drawing call makes.
+pub mod Drawing
+-- Places on the screen, and boxes with their times.
 pub mod Places
-pub mod Rows
+-- A rectangle in the middle of another.
+pub mod Centring
+-- Which component owns a point, by the list of boxes.
+pub mod Hits
+-- What a click hits, by the map of boxes.
 pub mod Target
+-- Bounds that what is drawn stays within.
+pub mod Bounds
+-- What texts make of a row.
+pub mod Rows
+-- Values that stand on consecutive rows.
+pub mod Lines
+-- The puts that a screen shows.
+pub mod OnScreen

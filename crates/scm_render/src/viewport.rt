@@ -11,6 +11,7 @@ ghost use Rattle.std.specs.HashMap.{IsFromIterResult};
 ghost use Rattle.scm_types.specs.declared.errors.RecordError.TheVariants.{OutOfMemory};
 
 use crate::component::Component;
+use crate::surface::Surface;
 use crate::trace::{DrawnRect, DrawnRects};
 use scm_cells::{Grid, Mask, Rect, ScreenRect};
 use scm_types::RecordError;
@@ -38,8 +39,7 @@ pub(crate) fn grown(area: Rect, rect: Rect) -> Rect
 #[derive(Drop)]
 pub struct Viewport<K> {
     alloc: Global,
-    pub(crate) grid: Grid,
-    pub(crate) rect: Rect,
+    pub(crate) surface: Surface,
     mask: Option<Mask>,
     pub(crate) area: Rect,
     boxes: Vec<(K, Rect)>,
@@ -53,23 +53,19 @@ impl<K> Model for Viewport<K> {
 
     ghost view = { λ v. record {
       canvas = record {
-        sight = record { rect = v.rect; mask = v.mask };
-        rows = v.grid.rows;
+        sight = record { rect = v.surface.rect; mask = v.mask };
+        rows = v.surface.rows;
         area = v.area;
         boxes = v.boxes.items;
       };
     } };
 
-    ghost use Rattle.std.specs.Prelude.{◌≡◌, length};
     ghost use Rattle.scm_cells.specs.Rect.{RectInRange};
     ghost use Rattle.scm_render.specs.Canvas.{MaskIsInRange};
 
     ghost invariant = { λ v. record {
-      rect : RectInRange v.rect;
       mask : MaskIsInRange v.mask;
       area : RectInRange v.area;
-      width : v.grid.width ≡ v.rect.width;
-      height : length v.grid.rows ≡ v.rect.height;
     } };
 }
 
@@ -84,8 +80,7 @@ impl<K: Copy + Eq + Hash + Drop> Viewport<K> {
     {
         Viewport {
             alloc,
-            grid,
-            rect,
+            surface: Surface::new(grid, rect),
             mask: None,
             area: Rect::default(),
             boxes: Vec::new(alloc),
@@ -99,8 +94,8 @@ impl<K: Copy + Eq + Hash + Drop> Viewport<K> {
         ensures height { length result.rows ≡ self.canvas.sight.rect.height }
         ensures rows { result.rows ≡ self.canvas.rows }
     {
-        let Viewport { grid, .. } = self;
-        grid
+        let Viewport { surface, .. } = self;
+        surface.into_grid()
     }
 
     /// The part of the document that is on the screen.
@@ -109,8 +104,7 @@ impl<K: Copy + Eq + Hash + Drop> Viewport<K> {
         ensures in_range { RectInRange result }
         ensures rows { length self.now.canvas.rows ≡ result.height }
     {
-        let Viewport { rect, .. } = self;
-        *rect
+        self.surface.rect()
     }
 
     /// The mask that was set, else the rectangle's.
@@ -120,7 +114,7 @@ impl<K: Copy + Eq + Hash + Drop> Viewport<K> {
     {
         match self.mask {
             Some(mask) => mask,
-            None => Mask::from(self.rect),
+            None => Mask::from(self.surface.rect()),
         }
     }
 
@@ -130,7 +124,7 @@ impl<K: Copy + Eq + Hash + Drop> Viewport<K> {
         ensures value { result ≡ reach self.now.canvas.sight }
         ensures in_range { RectInRange result }
     {
-        self.mask().apply(self.rect)
+        self.mask().apply(self.surface.rect())
     }
 
     /// Sets or takes away the mask, and gives the one that was set before.
@@ -150,11 +144,7 @@ impl<K: Copy + Eq + Hash + Drop> Viewport<K> {
         requires { RectInRange rect }
         ensures { result ≡ translated self.now.canvas.sight.rect rect }
     {
-        let screen = Rect {
-            width: self.grid.width(),
-            height: self.grid.height(),
-            ..self.rect
-        };
+        let screen = self.surface.rect();
         let part = screen.intersect(rect);
         if part.is_empty() {
             None
@@ -247,7 +237,7 @@ impl<K: Copy + Eq + Hash + Drop> Viewport<K> {
         ensures rows { result.0.rows ≡ self.canvas.rows }
         ensures boxes { result.1.items ≡ self.canvas.boxes }
     {
-        (self.grid, self.boxes)
+        (self.surface.into_grid(), self.boxes)
     }
 }
 

@@ -9,9 +9,6 @@ returns-clause-new g c = rw (sym c.self.view_is) (with_picture-covering _ _ _ re
 pub invariant_of-self : goal.invariant_of-self
 invariant_of-self g c =
     record {
-      rect = c.self.invariant.rect;
       mask = c.self.invariant.mask;
       area = rw c.grown-self-inside.ensures (RectInRange-join _ _ c.self.invariant.area c.requires);
-      width = c.self.invariant.width;
-      height = c.self.invariant.height;
     }

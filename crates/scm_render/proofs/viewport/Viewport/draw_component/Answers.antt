@@ -55,9 +55,6 @@ returns-clause-drawn g c =
 pub invariant_of-self-3 : goal.invariant_of-self-3
 invariant_of-self-3 g c =
     record {
-      rect = c.self-2.invariant.rect;
       mask = c.self-2.invariant.mask;
       area = rw c.grown-self-inside.ensures (RectInRange-join _ _ c.self.invariant.area c.self-2.invariant.area);
-      width = c.self-2.invariant.width;
-      height = c.self-2.invariant.height;
     }

@@ -8,8 +8,8 @@ use Rattle.scm_render.proofs.DrawLemmas.{frame_in_range, with_picture-frame, wit
 use Rattle.scm_render.proofs.viewport.Viewport.draw_frame.Goals as goal
 use Rattle.scm_render.proofs.viewport.Viewport.draw_frame.Goals.{then-rect-gt0+then-rect-gt0-2+in_ok-put_frame, else-rect-gt0, else-rect-gt0-via-then-rect-gt0+else-rect-gt0-2, else-rect-gt0-via-else-rect-gt0}
 
-pub put_frame-requires-clause-rect : goal.put_frame-requires-clause-rect
-put_frame-requires-clause-rect g c = frame_in_range _ _ _ _ c.requires
+pub put_frame-requires-clause-frame : goal.put_frame-requires-clause-frame
+put_frame-requires-clause-frame g c = frame_in_range _ _ _ _ c.requires
 
 pub grown-self-inside-requires-clause-rect : goal.grown-self-inside-requires-clause-rect
 grown-self-inside-requires-clause-rect g c = frame_in_range _ _ _ _ c.requires
@@ -20,8 +20,8 @@ returns-clause-ok g c = elim c.if-rect-gt0.branch [
       rw (w.self-inside-is, sym c.self.view_is)
       (with_picture-frame _ _ c.mask_rect-within.result c.args.rect c.args.title.now (body_texts c.args.body.now)
       (c.mask_rect-within.ensures.value ∙ ap (λ v. reach v.canvas.sight) (sym c.self.view_is))
-      (is_empty-in c.args.rect w.if-rect-gt0.true w.if-rect-gt0-2.true) refl
-      w.in_ok-put_frame.ensures.rows
+      (is_empty-in c.args.rect w.if-rect-gt0.true w.if-rect-gt0-2.true)
+      w.in_ok-put_frame.ensures.ok refl
       (c.grown-self-inside.ensures ∙ ap (λ i. join i.area c.args.rect) w.self-inside-is)
       refl)
   | else-rect-gt0 w ↦
@@ -36,18 +36,12 @@ pub invariant_of-self-2 : goal.invariant_of-self-2
 invariant_of-self-2 g c = elim c.if-rect-gt0.branch [
   | then-rect-gt0+then-rect-gt0-2+in_ok-put_frame w ↦
       rw (w.self-inside-is, c.grown-self-inside.ensures) (record {
-        rect = c.self.invariant.rect;
         mask = c.self.invariant.mask;
         area = rw w.self-inside-is (RectInRange-join _ _ c.self.invariant.area (frame_in_range _ _ _ _ c.requires));
-        width = w.in_ok-put_frame.ensures.width;
-        height = w.in_ok-put_frame.ensures.height;
       })
   | else-rect-gt0 w ↦
       rw (w.self-inside-is, c.grown-self-inside.ensures) (record {
-        rect = c.self.invariant.rect;
         mask = c.self.invariant.mask;
         area = rw w.self-inside-is (RectInRange-join _ _ c.self.invariant.area (frame_in_range _ _ _ _ c.requires));
-        width = c.self.invariant.width;
-        height = c.self.invariant.height;
       })
 ]
