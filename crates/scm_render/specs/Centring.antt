@@ -1,4 +1,4 @@
--- A rectangle in the middle of another, in hundredths of a cell, each way alone.
+-- A rectangle in the middle of another: its columns, and apart from them its rows, in hundredths of a cell.
 use Rattle.std.specs.Prelude.{ℕ, ◌-◌, ◌*◌, ◌/◌, min, max, pos, ◌+ℤ◌}
 use Rattle.scm_cells.specs.declared.rectangle.Rect.{Rect}
 use Rattle.scm_cells.specs.declared.rectangle.RectSize.{RectSize}

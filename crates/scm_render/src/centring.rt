@@ -34,7 +34,7 @@ fn centred_gap(room: usize, least: usize, percent: usize) -> usize
 }
 
 /// The rectangle in the middle of `rect` that takes so many per cent of its columns and rows, and at
-/// least the size `least` as far as `rect` has room for it. Each way alone it is reckoned in
+/// least the size `least` as far as `rect` has room for it. Columns and rows are reckoned apart, in
 /// hundredths of a cell; its place and its size are then rounded down to whole cells.
 #[tactic(auto, unfolding(crate::specs::Centring::centred))]
 pub fn centered_rect(
