@@ -3,7 +3,7 @@ use Rattle.std.proofs.Common.{◌≡◌, ℕ, ◌<◌, Bool, true, false, List, 
 use Rattle.std.specs.Prelude.{ℤ, pos, ◌+ℤ◌, ◌-ℤ◌, ◌≤ℤ◌, ◌<ℤ◌, int_lt, if◌then◌else◌}
 use Rattle.std.specs.Int.{int_min, int_max}
 use Rattle.std.proofs.lemmas.Int.{ints, clamps}
-use Rattle.scm_cells.specs.Rect.{RectInRange, InRange, is_empty, end_x_of, end_y_of, or_zero, rect_between}
+use Rattle.scm_cells.specs.Rect.{RectInRange, is_empty, end_x_of, or_zero, rect_between}
 use Rattle.scm_cells.specs.Clusters.{text_width}
 use Rattle.scm_cells.specs.Row.{ellipsis}
 use Rattle.scm_cells.specs.declared.rectangle.Rect.{Rect}

@@ -1,5 +1,5 @@
 -- How pictures follow one another on a canvas.
-use Rattle.std.specs.Prelude.{◌≡◌, List, [], ◌∷◌, ◌++◌, length, set, Option, Some}
+use Rattle.std.specs.Prelude.{◌≡◌, List, [], ◌∷◌, ◌++◌, length, set, Some}
 use Rattle.std.proofs.Common.{refl, sym, ap, ◌∙◌, append_assoc, append-nil, set}
 use Rattle.scm_cells.specs.declared.rectangle.Rect.{Rect}
 use Rattle.scm_cells.specs.declared.masks.Mask.{Mask}

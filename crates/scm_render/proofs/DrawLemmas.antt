@@ -14,7 +14,7 @@ use Rattle.scm_cells.specs.declared.text.Span.{Span}
 use Rattle.scm_cells.specs.declared.rectangle.Rect.{Rect}
 use Rattle.scm_render.specs.declared.filling.Filling.{Filling}
 use Rattle.scm_cells.specs.Row.{put, ellipsis}
-use Rattle.scm_render.specs.Picture.{Put, Picture, PictureInRange, followed_by, nothing}
+use Rattle.scm_render.specs.Picture.{Picture, PictureInRange, followed_by, nothing}
 use Rattle.scm_render.specs.Around.{around, join}
 use Rattle.scm_render.specs.Canvas.{Row, Canvas, Sight, SurfaceState, with_puts, with_picture}
 use Rattle.scm_render.specs.Rows.{limit}

@@ -1,11 +1,11 @@
 -- What stands on a row of the document after drawing, one row at a time.
-use Rattle.std.proofs.Common.{◌≡◌, ℕ, ◌<◌, ◌≤◌, List, [], ◌∷◌, ◌++◌, length, get_or, refl, sym, ap, ◌∙◌, arith, cond, true, false, Bool, inl, inr, ◌⊎◌, subst}
-use Rattle.std.specs.Prelude.{ℤ, pos, ◌+ℤ◌, ◌-ℤ◌, ◌≤ℤ◌, ◌<ℤ◌, int_lt, if◌then◌else◌, zero}
+use Rattle.std.proofs.Common.{◌≡◌, ℕ, ◌<◌, ◌≤◌, List, [], ◌∷◌, ◌++◌, length, get_or, refl, sym, ap, ◌∙◌, arith, cond, true, false, Bool, inl, inr}
+use Rattle.std.specs.Prelude.{ℤ, pos, ◌+ℤ◌, ◌-ℤ◌, ◌≤ℤ◌, int_lt, if◌then◌else◌}
 use Rattle.std.specs.Int.{int_min, int_max}
 use Rattle.std.specs.Ordering.{int_eq}
 use Rattle.std.proofs.lemmas.Bool.{cases_lt}
-use Rattle.std.proofs.lemmas.Int.{ints, clamps}
-use Rattle.scm_cells.specs.Rect.{end_x_of, intersect_of, rect_between, or_zero}
+use Rattle.std.proofs.lemmas.Int.{ints}
+use Rattle.scm_cells.specs.Rect.{end_x_of, rect_between, or_zero}
 use Rattle.scm_cells.specs.Clusters.{text_width, clusters}
 use Rattle.scm_cells.specs.Row.{put, say, ellipsis}
 use Rattle.scm_cells.specs.declared.rectangle.Rect.{Rect}
@@ -14,7 +14,7 @@ use Rattle.scm_cells.proofs.RowLemmas.{overlay-none}
 use Rattle.scm_cells.proofs.WrittenLemmas.{written-closed}
 use Rattle.scm_render.specs.Lines.{line}
 use Rattle.scm_render.specs.Picture.{Put, Picture, nothing, followed_by}
-use Rattle.scm_render.specs.Canvas.{Row, Sight, Canvas, clipped, put_at, paint, painted, with_picture}
+use Rattle.scm_render.specs.Canvas.{Row, Sight, Canvas, put_at, paint, painted, with_picture}
 use Rattle.scm_render.specs.Drawing.{reach, has_row, whole_put, text_puts, texts_puts, texts_width, line_picture, span_picture, text_picture}
 use Rattle.scm_render.specs.OnScreen.{shown_puts}
 use Rattle.scm_render.specs.Rows.{put_texts, say_texts, limit, put_within, put_texts_within, say_within}

@@ -1,5 +1,5 @@
 -- Looking through the boxes of a map finds what a click hits.
-use Rattle.std.proofs.Common.{◌≡◌, ◌≤◌, ◌⊎◌, ℕ, suc, Bool, true, false, cond, List, [], ◌∷◌, ◌++◌, refl, sym, ap, ◌∙◌, arith, inl, inr, fold, subst, append-nil, append_assoc}
+use Rattle.std.proofs.Common.{◌≡◌, ◌≤◌, ℕ, suc, Bool, true, false, cond, List, [], ◌∷◌, ◌++◌, refl, sym, ap, ◌∙◌, arith, inl, inr, fold, subst, append-nil, append_assoc}
 use Rattle.std.specs.Prelude.{ℤ, ◌&&◌, nat_le, Option, Some, None, option_map}
 use Rattle.std.specs.List.{Contains}
 use Rattle.std.specs.HashMap.{HashMap, get, IsUnique, IsFromIterResult}

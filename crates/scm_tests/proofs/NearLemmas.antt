@@ -12,7 +12,8 @@ use Rattle.scm_render.specs.Bounds.{Bounds, BoundsInRange, PictureWithin, SightW
 use Rattle.scm_render.proofs.DrawLemmas.{texts_width-more, texts_width-none}
 use Rattle.scm_render.proofs.BoundLemmas.{span-within, line-within, text-within, PictureWithin-nothing, PictureWithin-followed, PictureWithin-part, SightWithin-under, PictureInRange-within}
 use Rattle.scm_tests.specs.Near.{IsNear, near, AreShort}
-use Rattle.scm_tests.specs.Samples.{caption_picture, pair_picture, pane_picture, nest_picture, column_picture, boxed_text, tag_picture}
+use Rattle.scm_tests.specs.Samples.{caption_picture, pair_picture, pane_picture, nest_picture, column_picture}
+use Rattle.scm_tests.specs.Tags.{boxed_text, tag_picture}
 use Rattle.scm_tests.specs.declared.samples.Caption.{Caption}
 use Rattle.scm_tests.specs.declared.samples.Pair.{Pair}
 use Rattle.scm_tests.specs.declared.samples.Pane.{Pane}

@@ -1,8 +1,8 @@
 -- What the sample components draw.
-use Rattle.std.specs.Prelude.{ℕ, ℤ, pos, ◌+ℤ◌, Bool, List, [], ◌∷◌, ◌++◌, if◌then◌else◌}
+use Rattle.std.specs.Prelude.{ℕ, ℤ, pos, ◌+ℤ◌, List, [], ◌∷◌}
 use Rattle.scm_render.specs.Picture.{Picture, nothing, followed_by, part}
 use Rattle.scm_render.specs.Canvas.{Sight, under}
-use Rattle.scm_render.specs.Drawing.{span_picture, text_picture}
+use Rattle.scm_render.specs.Drawing.{text_picture}
 use Rattle.scm_tests.specs.declared.samples.Caption.{Caption}
 use Rattle.scm_tests.specs.declared.samples.Pair.{Pair}
 use Rattle.scm_tests.specs.declared.samples.Pane.{Pane}
@@ -29,10 +29,3 @@ nest_picture c s x y =
 unfoldable pub column_picture : List Caption → Sight → ℤ → ℤ → Picture ℕ
 column_picture [] s x y = nothing
 column_picture (c ∷ cs) s x y = followed_by (part c.id (caption_picture c s x y)) (column_picture cs s x (y +ℤ pos 1))
-
--- the label between brackets, which are round where it has the focus
-abbrev pub boxed_text : Bool → List ℕ → List ℕ
-boxed_text focused label = (if focused then 40 else 91) ∷ (label ++ ((if focused then 41 else 93) ∷ []))
-
-unfoldable pub tag_picture : {K : Type 0} → Bool → List ℕ → Sight → ℤ → ℤ → Picture K
-tag_picture focused label s x y = span_picture s x y (boxed_text focused label)

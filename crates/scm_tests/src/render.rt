@@ -6,7 +6,8 @@ ghost use Rattle.scm_render.specs.Drawing.{texts_width};
 ghost use Rattle.scm_render.specs.Bounds.{SightWithin};
 ghost use Rattle.scm_tests.specs.Near.{IsNear, near, AreShort};
 
-use crate::samples::{Caption, Column, Nest, Pair, Pane, Spot, Tag};
+use crate::samples::{Caption, Column, Nest, Pair, Pane};
+use crate::tags::{Spot, Tag};
 use scm_cells::{Grid, Line, Mask, Rect, RectSize, ScreenRect, Span, text_width};
 use scm_render::{DrawTrace, DrawnRect, DrawnRects, Viewport, centered_rect, find_target};
 use scm_types::RecordError;

@@ -1,7 +1,7 @@
 use Rattle.std.proofs.Common.{FitsSigned, w64}
 use Rattle.std.proofs.lemmas.Int.{to_z-of_z}
-use Rattle.scm_tests.specs.Samples.{tag_picture}
-use Rattle.scm_tests.proofs.samples.TagComponent.draw.Goals as goal
+use Rattle.scm_tests.specs.Tags.{tag_picture}
+use Rattle.scm_tests.proofs.tags.TagComponent.draw.Goals as goal
 
 pub draw_span-requires : goal.draw_span-requires
 unfolding tag_picture
