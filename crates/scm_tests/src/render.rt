@@ -540,24 +540,26 @@ fn texts_without_columns_and_texts_made_while_drawing(rt: HostRuntime) -> Result
 #[test]
 fn targets(rt: HostRuntime) -> Result<(), Fail> {
     let mut boxes: DrawnRects<Spot> = DrawnRects::new(rt.alloc());
-    for (id, rect, timestamp) in [
+    for (number, rect, timestamp) in [
         (0, rect(0, 0, 9, 9), 4),
         (1, rect(0, 0, 4, 2), 1),
         (2, rect(2, 1, 4, 2), 3),
         (3, rect(3, 1, 0, 2), 5),
     ] {
-        let _ = boxes.insert(Spot(id), DrawnRect { rect, timestamp })?;
+        let spot = Spot { number };
+        let _ = boxes.insert(spot, DrawnRect { rect, timestamp })?;
     }
     for (y, x, expected) in [
-        (0, 0, Some(Spot(1))),
-        (1, 2, Some(Spot(2))),
-        (1, 3, Some(Spot(2))),
-        (2, 5, Some(Spot(2))),
+        (0, 0, Some(1)),
+        (1, 2, Some(2)),
+        (1, 3, Some(2)),
+        (2, 5, Some(2)),
         (2, 6, None),
         (8, 8, None),
         (-1, 0, None),
     ] {
-        assert_eq!(rt; target_at(&boxes, y, x), expected);
+        let found = target_at(&boxes, y, x);
+        assert_eq!(rt; found.map(|spot| spot.number), expected);
     }
     Ok(())
 }

@@ -57,14 +57,16 @@ impl<'a, K: Copy + Eq + Hash + Drop> Component for Tag<'a, K> {
 
 /// A number as an id. A click acts on all but 0.
 #[derive(Clone, Copy, Debug, Eq, Hash, PartialEq)]
-pub struct Spot(pub u8);
+pub struct Spot {
+    pub number: u8,
+}
 
 impl Clickable for Spot {
     ghost use Rattle.std.specs.Prelude.{nat_lt};
 
-    ghost clicks = { λ spot. nat_lt 0 spot.0 };
+    ghost clicks = { λ spot. nat_lt 0 spot.number };
 
     fn is_clickable(&self) -> bool {
-        0 < self.0
+        0 < self.number
     }
 }
