@@ -120,6 +120,14 @@ fn script(alloc: Global, given: &[Read]) -> Result<ScriptInput, RecordError> {
     ScriptInput::new(alloc, 80, 24, reads, edits)
 }
 
+/// What the next edit answers, or the words of its error.
+fn edit_words(alloc: Global, input: &mut dyn RecordInput) -> Result<String, AllocError> {
+    match input.edit_commit_message("hello") {
+        Ok(answer) => Ok(answer),
+        Err(error) => format!(in alloc; "{error}"),
+    }
+}
+
 /// A run: the first commit's message, the reads, the outcome, how many frames are drawn, how many reads are left, and
 /// what the next edit is.
 type Row = (
@@ -221,13 +229,10 @@ fn a_script_keeps_what_is_left(rt: HostRuntime) -> Result<(), Fail> {
         let outcome = run_on(alloc, message, &mut input, &mut screens);
         let text = words(alloc, &outcome)?;
         assert_eq!(rt; text.as_str(), wanted);
-        assert_eq!(rt; screens.frames(), frames, "to {wanted}");
-        assert_eq!(rt; input.batches_left(), left, "to {wanted}");
-        let edit = match input.edit_commit_message("") {
-            Ok(answer) => answer,
-            Err(error) => format!(in alloc; "{error}")?,
-        };
-        assert_eq!(rt; edit.as_str(), next, "to {wanted}");
+        assert_eq!(rt; screens.frames(), frames, "to {text}");
+        assert_eq!(rt; input.batches_left(), left, "to {text}");
+        let edit = edit_words(alloc, &mut input)?;
+        assert_eq!(rt; edit.as_str(), next, "to {text}");
     }
     Ok(())
 }
@@ -338,10 +343,7 @@ fn a_testing_input_gives_its_events(rt: HostRuntime) -> Result<(), Fail> {
         .commit_messages
         .push_back(String::from_str(alloc, "bye")?)?;
     for wanted in ["bye", "No more commit messages available"] {
-        let edit = match input.edit_commit_message("hello") {
-            Ok(answer) => answer,
-            Err(error) => format!(in alloc; "{error}")?,
-        };
+        let edit = edit_words(alloc, &mut input)?;
         assert_eq!(rt; edit.as_str(), wanted);
     }
     Ok(())
