@@ -1,7 +1,7 @@
 use Rattle.std.proofs.Common.{◌≡◌, ◌++◌, drop, option_map}
 use Rattle.serde_json.specs.View.{items_view}
-use Rattle.scm_play.specs.Form.{all_of}
-use Rattle.scm_play.proofs.json_forms.ItemsFromJson.from_json.Given as goal
+use Rattle.scm_script.specs.Form.{all_of}
+use Rattle.scm_script.proofs.from_json.ItemsFromJson.from_json.Given as goal
 
 abbrev pub invariant-loop-value : goal.invariant-loop-value
 invariant-loop-value g l =

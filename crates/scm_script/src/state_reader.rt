@@ -3,9 +3,9 @@ ghost use Rattle.std.specs.Prelude.{◌≡◌, IfOk, IfErr, option_and_then, is_
 ghost use Rattle.scm_types.specs.declared.errors.RecordError.TheVariants.{OutOfMemory};
 ghost use Rattle.serde_json.specs.View.{view};
 ghost use Rattle.serde_json.specs.Read.{read};
-ghost use Rattle.scm_play.specs.Form as form_of;
+ghost use Rattle.scm_script.specs.Form as form_of;
 
-use crate::json_forms::{FromJson, has_members, member};
+use crate::from_json::{FromJson, has_members, member};
 use scm_types::{
     ChangeType, Commit, File, FileMode, Items, OwnedText, RecordError, RecordState, Section,
     SectionChangedLine, Text,

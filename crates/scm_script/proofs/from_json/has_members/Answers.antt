@@ -5,7 +5,7 @@ use Rattle.serde_json.specs.Events.{members_len}
 use Rattle.serde_json.specs.Find.{as_object}
 use Rattle.serde_json.specs.View.{view, members_view}
 use Rattle.serde_json.proofs.Views.{members_len-members_view}
-use Rattle.scm_play.proofs.json_forms.has_members.Goals as goal
+use Rattle.scm_script.proofs.from_json.has_members.Goals as goal
 
 pub returns-in-Some : goal.returns-in-Some
 returns-in-Some c =

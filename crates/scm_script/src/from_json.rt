@@ -4,7 +4,7 @@ ghost use Rattle.scm_types.specs.declared.errors.RecordError.TheVariants.{OutOfM
 ghost use Rattle.serde_json.specs.Data.{Data};
 ghost use Rattle.serde_json.specs.Find.{as_bool, as_str};
 ghost use Rattle.serde_json.specs.View.{view};
-ghost use Rattle.scm_play.specs.Form as form_of;
+ghost use Rattle.scm_script.specs.Form as form_of;
 
 use scm_types::{Items, OwnedText, RecordError, Text};
 use serde_json::Value;

@@ -2,80 +2,17 @@
 ghost use Rattle.std.specs.Prelude.{IsTrue};
 ghost use Rattle.scm_types.specs.Limits.{is_accepted_state};
 
+use crate::error::PlayError;
 use crate::report::accepted_text;
 use crate::script::{Script, read_script};
 use crate::state_reader::read_state;
 use scm_record::helpers::TestingInput;
 use scm_record::{RecordError, RecordState, Recorder, Screens};
-use std::alloc::{AllocError, AllocFailed, Global};
+use std::alloc::Global;
 use std::io::{ErrorKind, Read, Write};
-use thiserror::Error;
 
 /// The longest input, in bytes.
 const LONGEST_INPUT: u64 = 67_108_864;
-
-/// Why the program ends without an accepted state.
-#[derive(Debug, Drop, Error)]
-pub enum PlayError {
-    /// The run ended with a fault, or a request for memory was refused.
-    #[error("fault: {0}")]
-    Fault(RecordError),
-    /// The reader failed.
-    #[error("cannot read")]
-    CannotRead,
-    /// The input has more than 67,108,864 bytes.
-    #[error("bad input: too long")]
-    TooLong,
-    /// The input is no text.
-    #[error("bad input: not UTF-8")]
-    NotText,
-    /// The input has no line `script`.
-    #[error("bad input: no script")]
-    NoScript,
-    /// The line with this number, from 1, does not fit.
-    #[error("bad input: line {0}")]
-    BadLine(usize),
-    /// What stands before the line `script` is no state.
-    #[error("bad state")]
-    BadState,
-    /// The state is beyond the limits.
-    #[error("state not accepted")]
-    StateNotAccepted,
-}
-
-impl From<RecordError> for PlayError {
-    fn from(error: RecordError) -> PlayError {
-        PlayError::Fault(error)
-    }
-}
-
-impl From<AllocError> for PlayError {
-    fn from(error: AllocError) -> PlayError {
-        PlayError::Fault(error.into())
-    }
-}
-
-impl<T: Drop> From<AllocFailed<T>> for PlayError {
-    fn from(error: AllocFailed<T>) -> PlayError {
-        PlayError::Fault(error.into())
-    }
-}
-
-impl PlayError {
-    /// The status with which the program ends.
-    fn status(&self) -> u8 {
-        match self {
-            PlayError::Fault(_) => 1,
-            PlayError::CannotRead
-            | PlayError::TooLong
-            | PlayError::NotText
-            | PlayError::NoScript
-            | PlayError::BadLine(_)
-            | PlayError::BadState
-            | PlayError::StateNotAccepted => 2,
-        }
-    }
-}
 
 /// Runs the script that the reader gives, writes what came of it, and answers the program's status: 0 for an accepted
 /// state, 1 for a fault, 2 for a bad input and where the reader or the writer fails.
@@ -95,7 +32,7 @@ pub fn play<R: Read + Drop, W: Write + Drop>(alloc: Global, reader: R, mut write
 fn report<R: Read + Drop>(alloc: Global, reader: R) -> Result<String, PlayError> {
     let text = read_text(alloc, reader)?;
     let script = read_script(alloc, text.as_str())?;
-    let Some(state) = read_state(alloc, script.state.as_str())? else {
+    let Some(state) = read_state(alloc, script.state)? else {
         return Err(PlayError::BadState);
     };
     if !state.is_accepted() {
@@ -124,7 +61,7 @@ fn read_text<R: Read + Drop>(alloc: Global, reader: R) -> Result<String, PlayErr
 /// Runs the script on an accepted state.
 fn run(
     alloc: Global,
-    script: Script,
+    script: Script<'_>,
     state: RecordState<'static>,
 ) -> Result<RecordState<'static>, PlayError>
     requires { IsTrue (is_accepted_state state) }

@@ -1,6 +1,6 @@
 //! What the program prints of an accepted state.
 
-use crate::play::PlayError;
+use crate::error::PlayError;
 use scm_types::{File, RecordError, RecordState, SelectedChanges, SelectedContents};
 use serde::Serialize;
 use std::alloc::Global;
