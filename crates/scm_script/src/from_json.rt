@@ -82,10 +82,7 @@ impl<T: FromJson> FromJson for Option<T> {
         if value.is_null() {
             return Ok(Some(None));
         }
-        match T::from_json(alloc, value)? {
-            Some(inner) => Ok(Some(Some(inner))),
-            None => Ok(None),
-        }
+        Ok(T::from_json(alloc, value)?.map(Some))
     }
 }
 

@@ -16,6 +16,7 @@ pub fn accepted_text(alloc: Global, state: &RecordState<'_>) -> Result<String, P
     Ok(text)
 }
 
+/// Adds the two sides of a file.
 fn push_file(
     text: &mut String,
     alloc: Global,
@@ -29,6 +30,7 @@ fn push_file(
     push_side(text, alloc, "unselected", &unselected)
 }
 
+/// Adds a side of a file on a line: its name, its mode, and its contents.
 fn push_side(
     text: &mut String,
     alloc: Global,
@@ -58,6 +60,7 @@ fn push_side(
     Ok(())
 }
 
+/// Adds a value as JSON.
 fn push_json<T: Serialize>(text: &mut String, alloc: Global, value: &T) -> Result<(), PlayError> {
     let json = serde_json::to_string(alloc, value).map_err(|_| PlayError::Fault(
         RecordError::OutOfMemory,

@@ -32,20 +32,24 @@ pub fn read_state(alloc: Global, text: &str) -> Result<Option<RecordState<'stati
     }
 }
 
+/// The kind of a changed line, by its name.
+fn read_change_type(name: &str) -> Option<ChangeType>
+    ensures { result ≡ form_of.change_type_of_name name.now }
+{
+    if name == "Added" {
+        Some(ChangeType::Added)
+    } else if name == "Removed" {
+        Some(ChangeType::Removed)
+    } else {
+        None
+    }
+}
+
 impl FromJson for ChangeType {
     ghost form = { form_of.change_type_of };
 
     fn from_json(_alloc: Global, value: &Value) -> Result<Option<ChangeType>, RecordError> {
-        let Some(name) = value.as_str() else {
-            return Ok(None);
-        };
-        if name == "Added" {
-            Ok(Some(ChangeType::Added))
-        } else if name == "Removed" {
-            Ok(Some(ChangeType::Removed))
-        } else {
-            Ok(None)
-        }
+        Ok(value.as_str().and_then(read_change_type))
     }
 }
 
@@ -76,6 +80,7 @@ impl FromJson for SectionChangedLine<'static> {
     }
 }
 
+/// The mode of an object `{"Unix":N}`.
 fn read_unix(value: &Value) -> Option<FileMode>
     ensures { result ≡ form_of.unix_of (view value.now) }
 {
@@ -86,13 +91,11 @@ fn read_unix(value: &Value) -> Option<FileMode>
     Some(FileMode::Unix(bits as usize))
 }
 
+/// Whether the value is the text `"Absent"`.
 fn is_absent(value: &Value) -> bool
     ensures { result ≡ is_some (form_of.absent_of (view value.now)) }
 {
-    match value.as_str() {
-        Some(name) => name == "Absent",
-        None => false,
-    }
+    value.as_str().is_some_and(|name| name == "Absent")
 }
 
 impl FromJson for FileMode {
@@ -114,13 +117,12 @@ impl FromJson for Commit {
         if !has_members(value, 1) {
             return Ok(None);
         }
-        let Some(message) = member::<Option<OwnedText>>(alloc, value, "message")? else {
-            return Ok(None);
-        };
-        Ok(Some(Commit { message }))
+        let message = member::<Option<OwnedText>>(alloc, value, "message")?;
+        Ok(message.map(|message| Commit { message }))
     }
 }
 
+/// The section of context of an object `{"lines":[TEXT, ..]}`.
 fn read_unchanged(alloc: Global, value: &Value) -> Result<Option<Section<'static>>, RecordError>
     ensures ok { IfOk result (λ o. o ≡ form_of.unchanged_of (view value.now)) }
     ensures err { IfErr result (λ e. e ≡ RecordError.OutOfMemory) }
@@ -128,12 +130,11 @@ fn read_unchanged(alloc: Global, value: &Value) -> Result<Option<Section<'static
     if !has_members(value, 1) {
         return Ok(None);
     }
-    match member::<Items<Text<'static>>>(alloc, value, "lines")? {
-        Some(lines) => Ok(Some(Section::Unchanged { lines })),
-        None => Ok(None),
-    }
+    let lines = member::<Items<Text<'static>>>(alloc, value, "lines")?;
+    Ok(lines.map(|lines| Section::Unchanged { lines }))
 }
 
+/// The section of changed lines of an object `{"lines":[LINE, ..]}`.
 fn read_changed(alloc: Global, value: &Value) -> Result<Option<Section<'static>>, RecordError>
     ensures ok { IfOk result (λ o. o ≡ form_of.changed_of (view value.now)) }
     ensures err { IfErr result (λ e. e ≡ RecordError.OutOfMemory) }
@@ -141,12 +142,11 @@ fn read_changed(alloc: Global, value: &Value) -> Result<Option<Section<'static>>
     if !has_members(value, 1) {
         return Ok(None);
     }
-    match member::<Items<SectionChangedLine<'static>>>(alloc, value, "lines")? {
-        Some(lines) => Ok(Some(Section::Changed { lines })),
-        None => Ok(None),
-    }
+    let lines = member::<Items<SectionChangedLine<'static>>>(alloc, value, "lines")?;
+    Ok(lines.map(|lines| Section::Changed { lines }))
 }
 
+/// The section that sets a mode, of an object `{"is_checked":BOOL,"mode":MODE}`.
 fn read_file_mode(alloc: Global, value: &Value) -> Result<Option<Section<'static>>, RecordError>
     ensures ok { IfOk result (λ o. o ≡ form_of.file_mode_of (view value.now)) }
     ensures err { IfErr result (λ e. e ≡ RecordError.OutOfMemory) }
@@ -163,6 +163,7 @@ fn read_file_mode(alloc: Global, value: &Value) -> Result<Option<Section<'static
     Ok(Some(Section::FileMode { is_checked, mode }))
 }
 
+/// The section of bytes of an object `{"is_checked":BOOL,"old_description":TEXT,"new_description":TEXT}`, each text perhaps `null`.
 fn read_binary(alloc: Global, value: &Value) -> Result<Option<Section<'static>>, RecordError>
     ensures ok { IfOk result (λ o. o ≡ form_of.binary_of (view value.now)) }
     ensures err { IfErr result (λ e. e ≡ RecordError.OutOfMemory) }
