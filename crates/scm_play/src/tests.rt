@@ -121,6 +121,13 @@ fn each_script_has_its_output_and_status(rt: HostRuntime) -> Result<(), Fail> {
     Ok(())
 }
 
+/// A script of 74 bytes that ends in a comment, which may be made longer.
+const LONG_COMMENT: &str = "size 80 24 | «NOTHING» | script | batch q | #␃";
+
+/// A script that ends in an answer, which may be made longer and has to be closed.
+const LONG_ANSWER: &str =
+    "size 80 24 | «MESSAGES \"m\" null» | script | batch e | batch c | answer \"␃";
+
 /// A reader that gives so many bytes, one at a read, and then fails.
 #[derive(Drop)]
 struct BrokenReader {
@@ -186,17 +193,31 @@ fn broken_streams_and_long_inputs_are_named(rt: HostRuntime) -> Result<(), Fail>
         let whole = BrokenWriter { writes_left: 100 };
         assert_eq!(rt; play(alloc, input.as_bytes(), whole), status);
     }
-    for (length, output, status) in [
-        (67_108_864, "fault: cancelled by user\n", 1),
-        (67_108_865, "bad input: too long\n", 2),
+    for (row, more, end, output, status) in [
+        (
+            LONG_COMMENT,
+            67_108_790,
+            "",
+            "fault: cancelled by user\n",
+            1,
+        ),
+        (LONG_COMMENT, 67_108_791, "", "bad input: too long\n", 2),
+        (LONG_ANSWER, 1_000_000, "\"", "accepted\n", 0),
+        (
+            LONG_ANSWER,
+            1_000_001,
+            "\"",
+            "fault: commit message too long\n",
+            1,
+        ),
     ] {
-        let mut input = input_of(
-            alloc,
-            "size 80 24 | «NOTHING» | script | batch q | #␃",
-        )?.into_bytes();
+        let mut input = input_of(alloc, row)?.into_bytes();
+        let length = input.len().saturating_add(more);
         input.resize(length, b'-')?;
+        input.extend_from_slice(end.as_bytes())?;
         let (written, ended) = played(alloc, input.as_slice())?;
-        assert_eq!(rt; (written.as_str(), ended), (output, status));
+        assert!(rt; written.as_str().starts_with(output), "{row}");
+        assert_eq!(rt; ended, status, "{row}");
     }
     Ok(())
 }

@@ -6,8 +6,7 @@ use crate::error::PlayError;
 use crate::report::accepted_text;
 use crate::script::{Script, read_script};
 use crate::state_reader::read_state;
-use scm_record::helpers::TestingInput;
-use scm_record::{RecordError, RecordState, Recorder, Screens};
+use scm_record::{RecordError, RecordState, Recorder, Screens, ScriptInput};
 use std::alloc::Global;
 use std::io::{ErrorKind, Read, Write};
 
@@ -66,11 +65,11 @@ fn run(
 ) -> Result<RecordState<'static>, PlayError>
     requires { IsTrue (is_accepted_state state) }
 {
-    let mut input = TestingInput::new(
-        alloc,
+    let mut input = ScriptInput::new(
         script.width as usize,
         script.height as usize,
-        script.events,
+        script.reads,
+        script.edits,
     )?;
     let mut screens = Screens::new(alloc);
     Ok(Recorder::new(alloc, state)?.run(&mut input, &mut screens)?)
