@@ -6,7 +6,6 @@ mod rows;
 #[cfg(test)]
 mod tests;
 
-pub use scm_record as recorder;
 pub use scm_script::{play, read_state};
 use std::io;
 use std::process::ExitCode;

@@ -1,3 +1,4 @@
+//! The tests of the program: the table of scripts, and streams and inputs that a table cannot hold.
 use crate::rows::{ROWS, STATES};
 use crate::{play, read_state};
 use scm_record::RecordState;

@@ -2,7 +2,6 @@
 #![tactic(auto)]
 
 ghost use Rattle.std.specs.Prelude.{◌≡◌, IfErr, IfOk, IsTrue, true};
-ghost use Rattle.scm_types.specs.declared.errors.RecordError.TheVariants.{OutOfMemory};
 ghost use Rattle.scm_types.specs.Limits.{is_accepted_state};
 ghost use Rattle.scm_types.specs.Split.{side_of};
 ghost use Rattle.scm_record.specs.Keeping.{IsKept};
@@ -37,7 +36,7 @@ pub fn selected_side<'a>(
     file: &'a File<'_>,
 ) -> Result<SelectedChanges<'a>, RecordError>
     ensures ok { IfOk result (λ side. side ≡ side_of true file.now) }
-    ensures err { IfErr result (λ e. e ≡ OutOfMemory) }
+    ensures err { IfErr result (λ error. error ≡ RecordError.OutOfMemory) }
 {
     let (selected, _unselected) = file.get_selected_contents(alloc)?;
     Ok(selected)
