@@ -1,4 +1,4 @@
--- What the parts of a run say of the points that they come to.
+-- What the parts of a run say of the points that they reach.
 use Rattle.std.specs.Prelude.{◌≡◌, ℕ, List, None, MatchOption}
 use Rattle.scm_types.specs.declared.errors.RecordError.{RecordError}
 use Rattle.scm_types.specs.Fault.{Fault, fault_of}

@@ -476,10 +476,11 @@ impl<'state> Recorder<'state> {
     fn has_message(&self, commit: usize) -> bool
         ensures { result ≡ is_some (message_of self.now commit) }
     {
-        match self.state.commits.as_slice().get(commit) {
-            Some(commit) => commit.message.is_some(),
-            None => false,
-        }
+        self.state
+            .commits
+            .as_slice()
+            .get(commit)
+            .is_some_and(|commit| commit.message.is_some())
     }
 
     /// Asks that the first commit's message be edited, if it has one.
