@@ -28,11 +28,7 @@ use Rattle.scm_record.specs.Step.{change}
 use Rattle.scm_record.specs.Run.{World, with_session, with_edits, Goes, Breaks, too_long, answered, edited, outcome_by, Point, Before, Drawn, Within, Accepted, Failed, resume, read, batch, after, Reaches, here, on, world_at}
 use Rattle.scm_record.specs.Keeping.{IsKept, has_message}
 use Rattle.scm_record.proofs.StepLemmas as steps
-use Rattle.scm_record.proofs.StepLemmas.{Allows, Marks, toggled, inverted, all_set, leads}
-
--- the message of a commit in a list, if there is one
-abbrev message_at : List Commit → ℕ → Option (List ℕ)
-message_at cs i = option_and_then (λ (c : Commit). c.message) (slice_get cs i)
+use Rattle.scm_record.proofs.StepLemmas.{Allows, Marks, toggled, inverted, all_set, leads, marks-allow, message_at}
 
 message-first : (text : List ℕ) (message : Option (List ℕ)) (cs : List Commit) → is_some message ≡ true → emptied_commit (record { message = Some text }) ∷ cs ≡ emptied_commit (record { message = message }) ∷ cs
 message-first text None cs h = cc
@@ -195,20 +191,6 @@ marks-kept given event s _ _ toggled h = files_changed-kept given s (with_key_to
 marks-kept given event s _ _ (inverted e) h = files_changed-kept given s with_all_inverted (marked-hidden not) h
 marks-kept given event s _ _ all_set h = files_changed-kept given s with_all_set all_set-hidden h
 
-allows-same : (s t : Session) (flow : Flow) → s.state ≡ t.state → Allows s flow → Allows t flow
-allows-same s t flows.GoOn e h = tt
-allows-same s t flows.Accept e h = tt
-allows-same s t flows.Cancel e h = tt
-allows-same s t (flows.Edit commit) e h = ap (λ (state : RecordState). is_some (message_at state.commits commit)) (sym e) ∙ h
-allows-same s t flows.Lack e h = tt
-
--- and asks for an edit only where there is a message
-marks-allow : (event : Event) (s t : Session) (state : RecordState) (flow : Flow) → Marks event s state flow → state ≡ t.state → Allows t flow
-marks-allow event s t _ flow (steps.unmarked allowed) e = allows-same s t flow e allowed
-marks-allow event s t _ _ toggled e = tt
-marks-allow event s t _ _ (inverted is) e = tt
-marks-allow event s t _ _ all_set e = tt
-
 abbrev KeptAt : RecordState → Point → Type 0
 KeptAt given p = Kept given (world_at p).session.state
 
@@ -228,7 +210,7 @@ outcome-kept : (given : RecordState) (drawn : Session) (rest : List Event) (w : 
 outcome-kept given drawn rest w flows.GoOn k h = h
 outcome-kept given drawn rest w flows.Accept k h = h
 outcome-kept given drawn rest w flows.Cancel k h = h
-outcome-kept given drawn rest w (flows.Edit commit) k h = edited-kept given drawn rest w commit w.edits h k
+outcome-kept given drawn rest w (flows.Edit commit) k h = edited-kept given drawn rest w commit w.edits h k.1
 outcome-kept given drawn rest w flows.Lack k h = h
 
 read-kept : (given : RecordState) (w : World) (reads : List Read) → Kept given w.session.state → KeptAt given (read w reads)

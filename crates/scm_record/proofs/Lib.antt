@@ -11,8 +11,9 @@ pub mod EndLemmas
 -- what an event does to the state, and what it leaves pending
 pub mod Budget
 pub mod StepLemmas
--- how many frames are drawn, what is kept, what stays coherent
+-- how many frames are drawn, what is kept, what is not edited, what stays coherent
 pub mod BudgetLemmas
 pub mod EndingLemmas
 pub mod KeepingLemmas
+pub mod EditLemmas
 pub mod StepCoherenceLemmas

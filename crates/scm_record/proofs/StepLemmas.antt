@@ -1,7 +1,8 @@
 -- What an event does to the state of a session, and what it leaves pending.
-use Rattle.std.proofs.Common.{◌≡◌, ℕ, ◌+◌, ◌≤◌, Bool, true, false, List, [], ◌∷◌, ◌++◌, Option, Some, None, cond, ap, refl, arith}
-use Rattle.std.specs.Prelude.{is_some, option_map}
+use Rattle.std.proofs.Common.{◌≡◌, ℕ, ◌+◌, ◌≤◌, Bool, true, false, List, [], ◌∷◌, ◌++◌, Option, Some, None, cond, ap, sym, ◌∙◌, refl, arith}
+use Rattle.std.specs.Prelude.{is_some, option_and_then, option_map, slice_get}
 use Rattle.scm_types.specs.declared.files.File.{File}
+use Rattle.scm_types.specs.declared.states.Commit.{Commit}
 use Rattle.scm_types.specs.declared.states.RecordState.{RecordState}
 use Rattle.scm_view.specs.declared.keys.SelectionKey.{SelectionKey}
 use Rattle.scm_view.specs.declared.keys.SelectionKey.TheVariants as keys
@@ -21,12 +22,16 @@ use Rattle.scm_record.specs.Step.{Change, stays, accepts, cancels, change, press
 use Rattle.scm_record.specs.Coherence.{is_toggle_all}
 use Rattle.scm_record.proofs.Budget.{rank}
 
--- an edit is asked for only where there is a message
+-- the message of a commit in a list, if there is one
+abbrev pub message_at : List Commit → ℕ → Option (List ℕ)
+message_at cs i = option_and_then (λ (c : Commit). c.message) (slice_get cs i)
+
+-- an edit is asked for only of the first commit, and only where that has a message
 abbrev pub Allows : Session → Flow → Type 0
 Allows s flows.GoOn = Unit {0}
 Allows s flows.Accept = Unit {0}
 Allows s flows.Cancel = Unit {0}
-Allows s (flows.Edit commit) = is_some (message_of s commit) ≡ true
+Allows s (flows.Edit commit) = (commit ≡ 0) × (is_some (message_of s commit) ≡ true)
 Allows s flows.Lack = Unit {0}
 
 -- the state is left as it was, toggled, or set to one mark; `ToggleAll` alone inverts it
@@ -78,9 +83,9 @@ module _ (event : Event) (s : Session) where
   presses Quit = ends flows.Cancel tt
   presses GoBack = closes
 
-  edits_message : 1 ≤ rank event → (commit : ℕ) (message : Option (List ℕ)) → message_of s commit ≡ message → Leads event s (edit_of_message commit (with_pushed s events.Redraw) message)
-  edits_message k commit None e = record { marks = unmarked tt; pushes = pushed events.Redraw k }
-  edits_message k commit (Some text) e = record { marks = unmarked (ap is_some e); pushes = pushed events.Redraw k }
+  edits_message : 1 ≤ rank event → (message : Option (List ℕ)) → message_of s 0 ≡ message → Leads event s (edit_of_message 0 (with_pushed s events.Redraw) message)
+  edits_message k None e = record { marks = unmarked tt; pushes = pushed events.Redraw k }
+  edits_message k (Some text) e = record { marks = unmarked (refl, ap is_some e); pushes = pushed events.Redraw k }
 
   module _ (k : 1 ≤ rank event) where
     selects : (key : SelectionKey) → Leads event s (stays (after_select s key))
@@ -128,7 +133,7 @@ leads scene s events.ToggleAll = either-leads _ _ s (stays s) (stays (after_togg
 leads scene s events.ToggleAllUniform = either-leads _ _ s (stays s) (stays (after_toggle_all_uniform s)) (idle _ s) (record { marks = all_set; pushes = rw (files_change events.ToggleAllUniform s _) nothing })
 leads scene s events.ExpandItem = either-leads _ _ s (stays s) (stays (after_expand s)) (idle _ s) (record { marks = unmarked tt; pushes = pushed events.EnsureSelectionInViewport (omega arith) })
 leads scene s events.ExpandAll = either-leads _ _ s (stays s) (stays (after_expand_all s)) (idle _ s) (flips_all _ s (omega arith) (same_set s.expanded (key_set (all_keys s.state.files))))
-leads scene s events.EditCommitMessage = either-leads _ _ s (stays s) (edit_of s 0) (idle _ s) (edits_message _ s (omega arith) 0 (message_of s 0) refl)
+leads scene s events.EditCommitMessage = either-leads _ _ s (stays s) (edit_of s 0) (idle _ s) (edits_message _ s (omega arith) (message_of s 0) refl)
 leads scene s (events.TakeScreenshot shot) = ends _ s flows.Lack tt
 leads scene s events.ScrollUp = ends _ s flows.Lack tt
 leads scene s events.ScrollDown = ends _ s flows.Lack tt
@@ -139,3 +144,17 @@ leads scene s events.FocusNextPage = ends _ s flows.Lack tt
 leads scene s (events.Click row column) = ends _ s flows.Lack tt
 leads scene s events.ToggleCommitViewMode = ends _ s flows.Lack tt
 leads scene s events.Help = ends _ s flows.Lack tt
+
+allows-same : (s t : Session) (flow : Flow) → s.state ≡ t.state → Allows s flow → Allows t flow
+allows-same s t flows.GoOn e h = tt
+allows-same s t flows.Accept e h = tt
+allows-same s t flows.Cancel e h = tt
+allows-same s t (flows.Edit commit) e h = (h.0, ap (λ (state : RecordState). is_some (message_at state.commits commit)) (sym e) ∙ h.1)
+allows-same s t flows.Lack e h = tt
+
+-- what an event asks for is allowed in the session after it
+pub marks-allow : (event : Event) (s t : Session) (state : RecordState) (flow : Flow) → Marks event s state flow → state ≡ t.state → Allows t flow
+marks-allow event s t _ flow (unmarked allowed) e = allows-same s t flow e allowed
+marks-allow event s t _ _ toggled e = tt
+marks-allow event s t _ _ (inverted is) e = tt
+marks-allow event s t _ _ all_set e = tt

@@ -1,12 +1,12 @@
 //! Runs: a session over an input, from its first frame to its end.
-ghost use Rattle.std.specs.Prelude.{◌≡◌, ℕ, ◌+◌, ◌≤◌, false, IfErr, IfOk, IsTrue, List, OnErr, OnOk, Option, string_bytes};
+ghost use Rattle.std.specs.Prelude.{◌≡◌, ℕ, ◌+◌, ◌≤◌, false, IfErr, IfOk, IsTrue, List, None, OnOk, Option, string_bytes};
 ghost use Rattle.scm_types.specs.declared.errors.RecordError.TheVariants.{OutOfMemory};
 ghost use Rattle.scm_types.specs.declared.states.RecordState.{RecordState};
 ghost use Rattle.scm_types.specs.Limits.{is_accepted_state, is_short_text};
 ghost use Rattle.scm_record.specs.declared.events.Event.{Event};
 ghost use Rattle.scm_record.specs.Script.{TakesOr, edit_of, no_more};
 ghost use Rattle.scm_record.specs.Store.{Store, count_up};
-ghost use Rattle.scm_record.specs.Session.{Session, start};
+ghost use Rattle.scm_record.specs.Session.{Session, message_of, start};
 ghost use Rattle.scm_record.specs.Run.{Before, Within, Goes, World, batch, edited, not_in_stage, setting, too_long, world_in, HasOneEnd, Reaches, Stops};
 ghost use Rattle.scm_record.specs.Turn.{BatchStops, Ceases, Follows, Handles, IsFault, Refused, Refuses, point_of};
 ghost use Rattle.scm_record.specs.Ending.{EndsWith, FailsWith};
@@ -242,6 +242,8 @@ impl<'state> Recorder<'state> {
         // what a recorder of an accepted state keeps of it
         ensures kept { IfOk result (λ state. (given : RecordState) →
             IsTrue (is_accepted_state given) → self.entry ≡ start given → IsKept given state) }
+        // without a message to edit no edit is taken
+        ensures unedited { message_of self.entry 0 ≡ None → edits input.new ≡ edits input.old }
         // what each event but `ToggleAll` keeps
         ensures coherent { (drawn : Session) (w : World) (event : Event) → is_toggle_all event ≡ false →
             StepKeepsCoherent drawn w event }

@@ -30,6 +30,8 @@ pub enum ScriptEdit {
 /// script is as it was.
 #[derive(Drop)]
 pub struct ScriptInput {
+    /// Where memory for the words of faults comes from.
+    alloc: Global,
     width: usize,
     height: usize,
     reads: VecDeque<ScriptRead>,
@@ -43,6 +45,7 @@ impl ScriptInput {
 
     /// An input of these reads and edits, with a screen of so many columns and rows.
     pub fn new(
+        alloc: Global,
         width: usize,
         height: usize,
         reads: Vec<ScriptRead>,
@@ -54,6 +57,7 @@ impl ScriptInput {
         ensures edits { IfOk result (λ i. i.edits.items ≡ edits.items) }
     {
         Ok(ScriptInput {
+            alloc,
             width,
             height,
             reads: VecDeque::from(reads),
@@ -95,10 +99,7 @@ impl RecordInput for ScriptInput {
         match self.reads.pop_front() {
             Some(ScriptRead::Batch(events)) => Ok(events),
             Some(ScriptRead::Fault(text)) => Err(RecordError::ReadInput(text)),
-            None => Err(RecordError::ReadInput(String::from_str(
-                *self.reads.allocator(),
-                "no events left",
-            )?)),
+            None => Err(RecordError::ReadInput(String::from_str(self.alloc, "no events left")?)),
         }
     }
 
@@ -113,7 +114,7 @@ impl RecordInput for ScriptInput {
             Some(ScriptEdit::Answer(text)) => Ok(text),
             Some(ScriptEdit::Fault(text)) => Err(RecordError::Other(text)),
             None => Err(RecordError::Other(String::from_str(
-                *self.edits.allocator(),
+                self.alloc,
                 "No more commit messages available",
             )?)),
         }

@@ -117,7 +117,7 @@ fn script(alloc: Global, given: &[Read]) -> Result<ScriptInput, RecordError> {
     let mut edits = Vec::new(alloc);
     edits.push(ScriptEdit::Answer(String::from_str(alloc, "bye")?))?;
     edits.push(ScriptEdit::Fault(String::from_str(alloc, "gone")?))?;
-    ScriptInput::new(80, 24, reads, edits)
+    ScriptInput::new(alloc, 80, 24, reads, edits)
 }
 
 /// A run: the first commit's message, the reads, the outcome, how many frames are drawn, how many reads are left, and
@@ -250,7 +250,7 @@ fn long_scripts_and_messages(rt: HostRuntime) -> Result<(), Fail> {
         };
         let mut edits = Vec::new(alloc);
         edits.push(ScriptEdit::Answer(answer))?;
-        let mut input = ScriptInput::new(80, 24, reads, edits)?;
+        let mut input = ScriptInput::new(alloc, 80, 24, reads, edits)?;
         let outcome = run_on(alloc, HELLO, &mut input, &mut Screens::new(alloc));
         let text = words(alloc, &outcome)?;
         assert!(rt; text.as_str().starts_with(wanted));
