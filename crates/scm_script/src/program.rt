@@ -66,6 +66,7 @@ fn run(
     requires { IsTrue (is_accepted_state state) }
 {
     let mut input = ScriptInput::new(
+        alloc,
         script.width as usize,
         script.height as usize,
         script.reads,
