@@ -1,3 +1,4 @@
 pub mod Masks
 pub mod Near
 pub mod Samples
+pub mod Tags
