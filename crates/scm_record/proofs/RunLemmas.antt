@@ -3,7 +3,7 @@ use Rattle.std.proofs.Common.{◌≡◌, ℕ, ◌+◌, ◌<◌, ◌≤◌, List,
 use Rattle.std.specs.Prelude.{MatchOption}
 use Rattle.std.proofs.Math.Seq.{drop-cons}
 use Rattle.std.proofs.lemmas.List.{drop_all}
-use Rattle.scm_types.specs.declared.errors.RecordError.{RecordError}
+use Rattle.scm_types.specs.declared.error.RecordError.{RecordError}
 use Rattle.scm_types.specs.Fault.{Fault, fault_of}
 use Rattle.scm_record.specs.declared.events.Event.{Event}
 use Rattle.scm_record.specs.declared.recording.Flow.{Flow}
@@ -11,7 +11,7 @@ use Rattle.scm_record.specs.declared.recording.Flow.TheVariants as flows
 use Rattle.scm_record.specs.Session.{Session}
 use Rattle.scm_record.specs.Step.{change}
 use Rattle.scm_record.specs.Flow.{change_of}
-use Rattle.scm_types.specs.declared.errors.RecordError.TheVariants.{OutOfMemory}
+use Rattle.scm_types.specs.declared.error.RecordError.TheVariants.{OutOfMemory}
 use Rattle.scm_record.specs.Script.{Read, Edit}
 use Rattle.scm_record.specs.Run.{World, world, with_session, with_frame_drawn, Outcome, Point, Before, Drawn, Within, Failed, changed, step, resume, after, batch, Reaches, here, on, world_at, Shows, Stops}
 use Rattle.scm_record.specs.Turn.{outcome_of, point_of, Handles, BatchStops, IsFault}

@@ -1,6 +1,6 @@
 -- What the parts of a run say of the points that they come to.
 use Rattle.std.specs.Prelude.{◌≡◌, List, MatchOption}
-use Rattle.scm_types.specs.declared.errors.RecordError.{RecordError}
+use Rattle.scm_types.specs.declared.error.RecordError.{RecordError}
 use Rattle.scm_types.specs.Fault.{Fault, Cancelled, fault_of}
 use Rattle.scm_record.specs.declared.events.Event.{Event}
 use Rattle.scm_record.specs.declared.recording.Flow.{Flow}

@@ -1,6 +1,6 @@
 //! The recorder's session, and what each event makes of it.
 ghost use Rattle.std.specs.Prelude.{◌≡◌, count_by, IfErr, IfOk, OnOk};
-ghost use Rattle.scm_types.specs.declared.errors.RecordError.TheVariants.{OutOfMemory};
+ghost use Rattle.scm_types.specs.declared.error.RecordError.TheVariants.{OutOfMemory};
 ghost use Rattle.scm_record.specs.Keys.{file_of_line, file_of_section, section_of_line};
 ghost use Rattle.scm_record.specs.Session.{is_changed, is_text, padded, with_keys_above};
 
@@ -52,7 +52,7 @@ impl<'state> Model for Recorder<'state> {
 
 impl<'state> Recorder<'state> {
     ghost use Rattle.std.specs.Prelude.{◌≡◌, ◌↔◌, ◌<◌, IfErr, IfOk, IsTrue, OnOk, length};
-    ghost use Rattle.scm_types.specs.declared.errors.RecordError.TheVariants.{OutOfMemory};
+    ghost use Rattle.scm_types.specs.declared.error.RecordError.TheVariants.{OutOfMemory};
     ghost use Rattle.scm_types.specs.Limits.{is_accepted_state};
     ghost use Rattle.scm_record.specs.Session.{Session, start, seen_keys, ensuring, selecting, folding, to_next, to_previous, to_inner, to_outer, toggling, without_pending};
     ghost use Rattle.scm_record.specs.Step.{asking, change, closed, opened, pressed};

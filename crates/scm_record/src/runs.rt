@@ -1,9 +1,9 @@
 //! Runs: a session over an input, from its first frame to its end.
 ghost use Rattle.std.specs.Prelude.{◌≡◌, ℕ, ◌+◌, ◌≤◌, IfErr, IfOk, IsTrue, List, OnOk, Option};
-ghost use Rattle.scm_types.specs.declared.errors.RecordError.TheVariants.{OutOfMemory};
-ghost use Rattle.scm_types.specs.declared.states.RecordState.{RecordState};
+ghost use Rattle.scm_types.specs.declared.error.RecordError.TheVariants.{OutOfMemory};
+ghost use Rattle.scm_types.specs.declared.state.RecordState.{RecordState};
 ghost use Rattle.scm_types.specs.Limits.{is_accepted_state};
-ghost use Rattle.scm_types.specs.declared.files.File.{File};
+ghost use Rattle.scm_types.specs.declared.file.File.{File};
 ghost use Rattle.scm_record.specs.declared.keys.SelectionKey.{SelectionKey};
 ghost use Rattle.scm_record.specs.Coherence.{KeepsCoherent};
 ghost use Rattle.scm_record.specs.Toggle.{with_key_toggled};

@@ -2,7 +2,7 @@
 ghost use Rattle.std.specs.Prelude.{◌≡◌, ℤ, OnOk, IfErr};
 ghost use Rattle.scm_render.specs.Marks.{Marks, MarksInRange};
 ghost use Rattle.scm_render.specs.Canvas.{Sight, Canvas, marked};
-ghost use Rattle.scm_types.specs.declared.errors.RecordError.TheVariants.{OutOfMemory};
+ghost use Rattle.scm_types.specs.declared.error.RecordError.TheVariants.{OutOfMemory};
 
 use crate::viewport::Viewport;
 use scm_types::RecordError;

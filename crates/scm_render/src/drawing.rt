@@ -6,7 +6,7 @@ ghost use Rattle.scm_cells.specs.Clusters.{text_width};
 ghost use Rattle.scm_render.specs.Marks.{MarksInRange};
 ghost use Rattle.scm_render.specs.Canvas.{clipped, painted, marked};
 ghost use Rattle.scm_render.specs.Drawing.{has_row, whole_put, title_room, body_room, text_puts, texts_puts, texts_width, row_rect, span_marks, line_marks, text_marks, fill_puts, FillingIsInRange, lines_puts, body_texts, frame_puts, blank_marks, frame_marks};
-ghost use Rattle.scm_types.specs.declared.errors.RecordError.TheVariants.{OutOfMemory};
+ghost use Rattle.scm_types.specs.declared.error.RecordError.TheVariants.{OutOfMemory};
 
 use crate::filling::Filling;
 use crate::viewport::{Viewport, grown};

@@ -52,12 +52,16 @@ fn file_of(file_mode: FileMode, sections: Vec<Section<'static>>) -> File<'static
     }
 }
 
-// A new file: an addition and the creation, both unchecked.
-fn new_file(alloc: Global) -> Result<File<'static>, RecordError> {
+const CHECKED: [Line; 1] = [(true, ADDED, "n\n")];
+
+const UNCHECKED: [Line; 1] = [(false, ADDED, "n\n")];
+
+// A new file: these lines, and its creation, checked or not.
+fn new_file(alloc: Global, lines: &[Line], is_checked: bool) -> Result<File<'static>, RecordError> {
     let mut sections = Vec::new(alloc);
-    sections.push(changed(alloc, &[(false, ADDED, "n\n")])?)?;
+    sections.push(changed(alloc, lines)?)?;
     sections.push(Section::FileMode {
-        is_checked: false,
+        is_checked,
         mode: DEFAULT,
     })?;
     Ok(file_of(FileMode::Absent, sections))
@@ -160,9 +164,82 @@ fn files_are_split(rt: HostRuntime) -> Result<(), Fail> {
     let deleted = (FileMode::Absent, Side::Unchanged);
     check_split(&rt, alloc, &removal(alloc, true)?, deleted, rest)?;
 
+    let nowhere = (FileMode::Absent, Side::Unchanged);
+    let lost = (FileMode::Absent, Side::Text("n\n"));
+    let written = (DEFAULT, Side::Text("n\n"));
+    check_split(
+        &rt,
+        alloc,
+        &new_file(alloc, &CHECKED, true)?,
+        written,
+        nowhere,
+    )?;
+    check_split(
+        &rt,
+        alloc,
+        &new_file(alloc, &UNCHECKED, true)?,
+        emptied,
+        lost,
+    )?;
+    check_split(
+        &rt,
+        alloc,
+        &new_file(alloc, &UNCHECKED, false)?,
+        nowhere,
+        written,
+    )?;
+    check_split(
+        &rt,
+        alloc,
+        &new_file(alloc, &CHECKED, false)?,
+        lost,
+        emptied,
+    )?;
+
     let bytes = (DEFAULT, Side::OldBinary);
     let tail = (DEFAULT, Side::Text("z\n"));
     check_split(&rt, alloc, &binary_file(alloc)?, bytes, tail)?;
+    Ok(())
+}
+
+fn text_len(contents: &SelectedContents<'_>) -> usize {
+    match contents {
+        SelectedContents::Text { contents } => contents.len(),
+        SelectedContents::Unchanged | SelectedContents::Binary { .. } => 0,
+    }
+}
+
+// Copies and splits a file of these lines, whose selected text is to have so many bytes.
+fn check_size(
+    rt: &impl Abort,
+    alloc: Global,
+    texts: &[&'static str],
+    lines: &[Line],
+    bytes: usize,
+) -> Result<(), RecordError> {
+    let mut sections = Vec::new(alloc);
+    sections.push(context(alloc, texts)?)?;
+    sections.push(changed(alloc, lines)?)?;
+    let file = file_of(DEFAULT, sections);
+    assert!(rt; file.try_clone(alloc)? == file);
+    let sides = file.get_selected_contents(alloc)?;
+    assert_eq!(rt; text_len(&sides.0.contents), bytes);
+    Ok(())
+}
+
+#[test]
+fn files_of_any_size_are_copied_and_split(rt: HostRuntime) -> Result<(), Fail> {
+    let alloc = rt.alloc();
+    let (text, line) = ("a\n", (true, ADDED, "b\n"));
+    let mut texts = Vec::new(alloc);
+    let mut lines = Vec::new(alloc);
+    for _ in 0..10_000 {
+        texts.push(text)?;
+        lines.push(line)?;
+    }
+    check_size(&rt, alloc, &[], &[], 0)?;
+    check_size(&rt, alloc, &[text], &[line], 4)?;
+    check_size(&rt, alloc, texts.as_slice(), lines.as_slice(), 40_000)?;
     Ok(())
 }
 
@@ -182,7 +259,7 @@ fn copies_of_a_state_equal_it(rt: HostRuntime) -> Result<(), Fail> {
     assert!(rt; !state.is_read_only);
     assert!(rt; state.commits.is_empty());
     assert!(rt; state.files.is_empty());
-    state.files.push(new_file(alloc)?)?;
+    state.files.push(new_file(alloc, &UNCHECKED, false)?)?;
     assert!(rt; state.try_clone(alloc)? == state);
     for file in state.files.iter() {
         assert!(rt; file.try_clone(alloc)? == *file);
@@ -306,8 +383,14 @@ fn sizes_are_converted(rt: HostRuntime) -> Result<(), Fail> {
         assert_eq!(rt; IsizeExt::clamp_into_u16(place), nearest);
         assert_eq!(rt; IsizeExt::clamp_into_usize(place), size);
     }
-    let description = make_binary_description(rt.alloc(), "abc123", 42)?;
-    assert!(rt; description.as_str() == "abc123 (42 bytes)");
+    for (hash, size, text) in [
+        ("", 0, " (0 bytes)"),
+        ("abc123", 42, "abc123 (42 bytes)"),
+        ("é", u64::MAX, "é (18446744073709551615 bytes)"),
+    ] {
+        let description = make_binary_description(rt.alloc(), hash, size)?;
+        assert!(rt; description.as_str() == text);
+    }
     assert!(rt; ENV_VAR_DUMP_UI_STATE == "SCM_RECORD_DUMP_UI_STATE");
     assert!(rt; DUMP_UI_STATE_FILENAME == "scm_record_ui_state.json");
     assert!(rt; ENV_VAR_DEBUG_UI == "SCM_RECORD_DEBUG_UI");
@@ -334,6 +417,23 @@ fn lists_are_read_and_changed(rt: HostRuntime) -> Result<(), Fail> {
     let list = items.into_inner();
     assert!(rt; list.as_slice() == [5, 4, 7].as_slice());
     assert!(rt; Items::from(list).iter().all(|item| *item > 3));
+    Ok(())
+}
+
+#[test]
+fn lists_are_collected_and_gone_through(rt: HostRuntime) -> Result<(), Fail> {
+    let alloc = rt.alloc();
+    let mut items: Items<u8> = [3_u8, 5, 8].into_iter().collect(alloc)?;
+    for item in &mut items {
+        *item ^= 1;
+    }
+    assert_eq!(rt; items.pop(), Some(9));
+    let mut rest = Items::new(alloc);
+    for item in items {
+        rest.push(item)?;
+    }
+    assert!(rt; rest.as_slice() == [2, 4].as_slice());
+    assert!(rt; rest.pop().is_some() && rest.pop().is_some() && rest.pop().is_none());
     Ok(())
 }
 

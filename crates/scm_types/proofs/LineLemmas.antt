@@ -3,13 +3,13 @@ use Rattle.std.proofs.Common.{◌≡◌, ℕ, Bool, true, false, not, List, [], 
 use Rattle.std.specs.List.{flat_map, list_any, concat}
 use Rattle.std.proofs.lemmas.List.{map-append}
 use Rattle.std.proofs.lemmas.List.Elements.{filter-append}
-use Rattle.scm_types.specs.declared.lines.ChangeType.{ChangeType}
-use Rattle.scm_types.specs.declared.lines.ChangeType.TheVariants.{Added, Removed}
-use Rattle.scm_types.specs.declared.lines.SectionChangedLine.{SectionChangedLine}
-use Rattle.scm_types.specs.declared.sections.Section.{Section}
-use Rattle.scm_types.specs.declared.sections.Section.TheVariants.{Unchanged, Changed, FileMode, Binary}
-use Rattle.scm_types.specs.declared.files.File.{File}
-use Rattle.scm_types.specs.declared.splits.SelectedContents.TheVariants as contents
+use Rattle.scm_types.specs.declared.line.ChangeType.{ChangeType}
+use Rattle.scm_types.specs.declared.line.ChangeType.TheVariants.{Added, Removed}
+use Rattle.scm_types.specs.declared.line.SectionChangedLine.{SectionChangedLine}
+use Rattle.scm_types.specs.declared.section.Section.{Section}
+use Rattle.scm_types.specs.declared.section.Section.TheVariants.{Unchanged, Changed, FileMode, Binary}
+use Rattle.scm_types.specs.declared.file.File.{File}
+use Rattle.scm_types.specs.declared.split.SelectedContents.TheVariants as contents
 use Rattle.scm_types.specs.Split.{takes, takes_change, is_binary, tail_of, section_lines, side_lines, last_binary_change, side_contents, is_emptied}
 use Rattle.scm_types.specs.Laws.{FileLine, Context, Change, line_text, lines_of_section, stands_in, joined_lines, has_binary, KeepsEveryLine, counted}
 use Rattle.scm_types.proofs.LawLemmas.{counted_text}

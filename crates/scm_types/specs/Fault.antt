@@ -1,7 +1,7 @@
 -- The faults with which a selection ends, by their texts.
 use Rattle.std.specs.Prelude.{ℕ, List, Option, Some, None, string_bytes}
-use Rattle.scm_types.specs.declared.errors.RecordError.{RecordError}
-use Rattle.scm_types.specs.declared.errors.RecordError.TheVariants as errors
+use Rattle.scm_types.specs.declared.error.RecordError.{RecordError}
+use Rattle.scm_types.specs.declared.error.RecordError.TheVariants as errors
 
 pub data Fault : Type 0 where
   Cancelled : Fault
@@ -14,7 +14,7 @@ pub data Fault : Type 0 where
   Other : List ℕ → Fault
   Bug : List ℕ → Fault
 
--- the fault that an error is, none for want of memory
+-- the fault that an error is, none for running out of memory
 abbrev pub fault_of : RecordError → Option Fault
 fault_of errors.Cancelled = Some Cancelled
 fault_of (errors.SetUpTerminal text) = Some (SetUpTerminal (string_bytes text))

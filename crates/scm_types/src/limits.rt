@@ -1,21 +1,22 @@
-// The limits within which a state is accepted.
+//! The limits within which a state is accepted.
 ghost use Rattle.std.specs.Prelude.{◌≡◌, ◌≤◌, ◌+◌, ◌-◌, length, nat_le, sum_by};
 ghost use Rattle.std.specs.List.{list_all};
 ghost use Rattle.std.specs.Option.{SomeIff};
 ghost use Rattle.scm_types.specs.Limits.{file_size, has_short_texts, has_short_texts_in_file, is_short_option, is_short_text, section_size};
 
-use crate::files::File;
-use crate::lines::SectionChangedLine;
-use crate::sections::Section;
-use crate::states::Commit;
-use crate::texts::{OwnedText, Text};
+use crate::file::File;
+use crate::line::SectionChangedLine;
+use crate::section::Section;
+use crate::state::Commit;
+use crate::text::{OwnedText, Text};
 
-// How many files, sections and lines a state may have.
+/// How many files, sections and lines a state may have.
 pub(crate) const MAX_ITEMS: usize = 1_000_000;
 
-// How many bytes a text may have.
+/// How many bytes a text may have.
 const MAX_TEXT: usize = 1_000_000;
 
+/// The text is within its limit, if there is one.
 fn is_short_option(text: &Option<Text<'_>>) -> bool
     ensures { result ≡ is_short_option text.now }
 {
@@ -25,6 +26,7 @@ fn is_short_option(text: &Option<Text<'_>>) -> bool
     }
 }
 
+/// Likewise, of a message.
 fn is_short_message(text: &Option<OwnedText>) -> bool
     ensures { result ≡ is_short_option text.now }
 {
@@ -34,6 +36,7 @@ fn is_short_message(text: &Option<OwnedText>) -> bool
     }
 }
 
+/// Each message is within its limit.
 pub(crate) fn has_short_messages(commits: &[Commit]) -> bool
     ensures { result ≡ list_all (λ c. is_short_option c.message) commits.now }
 {
@@ -42,18 +45,21 @@ pub(crate) fn has_short_messages(commits: &[Commit]) -> bool
         .all(|commit| is_short_message(&commit.message))
 }
 
+/// Each line of context is within its limit.
 fn has_short_lines(lines: &[Text<'_>]) -> bool
     ensures { result ≡ list_all is_short_text lines.now }
 {
     lines.iter().all(|line| line.len() <= MAX_TEXT)
 }
 
+/// Each changed line is within its limit.
 fn has_short_changed_lines(lines: &[SectionChangedLine<'_>]) -> bool
     ensures { result ≡ list_all (λ l. is_short_text l.line) lines.now }
 {
     lines.iter().all(|line| line.line.len() <= MAX_TEXT)
 }
 
+/// Each text of the section is within its limit.
 fn has_short_texts(section: &Section<'_>) -> bool
     ensures { result ≡ has_short_texts section.now }
 {
@@ -69,12 +75,14 @@ fn has_short_texts(section: &Section<'_>) -> bool
     }
 }
 
+/// Each text of the sections is within its limit.
 fn has_short_texts_in_sections(sections: &[Section<'_>]) -> bool
     ensures { result ≡ list_all has_short_texts sections.now }
 {
     sections.iter().all(|section| has_short_texts(section))
 }
 
+/// Each text of the file is within its limit.
 fn has_short_texts_in_file(file: &File<'_>) -> bool
     ensures { result ≡ has_short_texts_in_file file.now }
 {
@@ -83,13 +91,14 @@ fn has_short_texts_in_file(file: &File<'_>) -> bool
         && has_short_texts_in_sections(file.sections.as_slice())
 }
 
+/// Each text of the files is within its limit.
 pub(crate) fn has_short_texts_in_files(files: &[File<'_>]) -> bool
     ensures { result ≡ list_all has_short_texts_in_file files.now }
 {
     files.iter().all(|file| has_short_texts_in_file(file))
 }
 
-// How many lines the section has.
+/// How many lines the section has.
 fn section_size(section: &Section<'_>) -> usize
     ensures { result ≡ section_size section.now }
 {
@@ -100,7 +109,7 @@ fn section_size(section: &Section<'_>) -> usize
     }
 }
 
-// What is left of a room for items after those of the file.
+/// What is left of a room for items after those of the file.
 fn room_after_file(room: usize, file: &File<'_>) -> Option<usize>
     ensures { SomeIff result (file_size file.now ≤ room) (room - file_size file.now) }
 {
@@ -111,7 +120,7 @@ fn room_after_file(room: usize, file: &File<'_>) -> Option<usize>
     Some(left)
 }
 
-// The files, with their sections and lines, number at most the room.
+/// The files, with their sections and lines, number at most the room.
 pub(crate) fn fits(room: usize, files: &[File<'_>]) -> bool
     ensures { result ≡ nat_le (length files.now + sum_by file_size files.now) room }
 {

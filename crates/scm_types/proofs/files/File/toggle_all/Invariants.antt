@@ -1,6 +1,0 @@
-use Rattle.std.proofs.Common.{◌≡◌, not, map, take, drop, ◌++◌}
-use Rattle.scm_types.specs.Marks.{section_with_marks}
-use Rattle.scm_types.proofs.files.File.toggle_all.Given as goal
-
-abbrev pub invariant-loop-section : goal.invariant-loop-section
-invariant-loop-section l = l.section-items ≡ map (section_with_marks not) (take l.section-index l.initial.section-items) ++ drop l.section-index l.initial.section-items

@@ -1,0 +1,57 @@
+//! A file with its changes, and their marks.
+ghost use Rattle.std.specs.Prelude.{◌≡◌, not};
+ghost use Rattle.scm_types.specs.Marks.{file_marks, file_with_marks, tristate_of};
+
+use crate::file_mode::FileMode;
+use crate::items::Items;
+use crate::section::Section;
+use crate::text::Text;
+use crate::tristate::{Seen, Tristate};
+use serde::{Deserialize, Serialize};
+
+/// A file with its changes.
+#[derive(Debug, Drop, PartialEq, Eq, Serialize, Deserialize)]
+pub struct File<'a> {
+    /// The path before a rename or a copy.
+    pub old_path: Option<Text<'a>>,
+
+    /// The path.
+    pub path: Text<'a>,
+
+    /// The mode before any change.
+    pub file_mode: FileMode,
+
+    /// The sections, in the order in which they stand in the file.
+    pub sections: Items<Section<'a>>,
+}
+
+impl<'a> File<'a> {
+    /// How many of the items of all sections are checked.
+    pub fn tristate(&self) -> Tristate
+        ensures { result ≡ tristate_of (file_marks self.now) }
+    {
+        let mut seen = Seen::none();
+        for section in self.sections.iter() {
+            seen = section.seen(seen);
+        }
+        seen.tristate()
+    }
+
+    /// Checks every item of the file, or unchecks every one. All else stays.
+    pub fn set_checked(&mut self, checked: bool)
+        ensures { self.new ≡ file_with_marks (λ _. checked) self.old }
+    {
+        for section in self.sections.iter_mut() {
+            section.set_checked(checked);
+        }
+    }
+
+    /// Inverts the mark of every item of the file. All else stays.
+    pub fn toggle_all(&mut self)
+        ensures { self.new ≡ file_with_marks not self.old }
+    {
+        for section in self.sections.iter_mut() {
+            section.toggle_all();
+        }
+    }
+}
