@@ -1,7 +1,7 @@
 //! A grid of cells, as a screen shows it.
 ghost use Rattle.std.specs.Prelude.{◌≡◌, ◌<◌, ◌≤◌, IfOk, IfErr, OnOk, OnErr, length, string_bytes};
 ghost use Rattle.scm_cells.specs.Screen.{IsScreen, blank_screen, put_on, view_of};
-ghost use Rattle.scm_types.specs.declared.errors.RecordError.TheVariants.{OutOfMemory};
+ghost use Rattle.scm_types.specs.declared.error.RecordError.TheVariants.{OutOfMemory};
 
 use crate::column::Column;
 use crate::row;
