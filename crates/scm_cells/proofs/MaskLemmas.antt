@@ -3,8 +3,8 @@ use Rattle.std.specs.Prelude.{ℤ, pos, ◌+ℤ◌, ◌≤ℤ◌, ◌<ℤ◌, �
 use Rattle.scm_cells.specs.Rect.{InRange, RectInRange, HasPoint, end_x_of, end_y_of}
 use Rattle.scm_cells.specs.Mask.{MaskInRange, SideInRange, InMask, IsBeforeEnd, side_or, mask_rect_of, apply_of}
 use Rattle.scm_cells.proofs.RectLemmas.{in_end, places, points-intersect}
-use Rattle.scm_cells.specs.declared.rectangle.Rect.{Rect}
-use Rattle.scm_cells.specs.declared.masks.Mask.{Mask}
+use Rattle.scm_cells.specs.declared.rect.Rect.{Rect}
+use Rattle.scm_cells.specs.declared.mask.Mask.{Mask}
 
 pub SideInRange-or : (side : Option ℕ) (z end : ℤ) → InRange z → SideInRange z side → InRange end → InRange (z +ℤ pos (side_or side z end))
 SideInRange-or (Some n) z end p q r = q

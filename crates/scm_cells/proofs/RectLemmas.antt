@@ -5,7 +5,7 @@ use Rattle.std.proofs.lemmas.Bool.Decides.{nat_tests}
 use borrow.Author.Differences.{up, down}
 use Rattle.std.proofs.lemmas.Int.{ints, clamps}
 use Rattle.scm_cells.specs.Rect.{InRange, RectInRange, HasPoint, IsWithin, IsLeastAround, end_x_of, end_y_of, or_zero, is_empty, rect_between, intersect_of, union_of}
-use Rattle.scm_cells.specs.declared.rectangle.Rect.{Rect}
+use Rattle.scm_cells.specs.declared.rect.Rect.{Rect}
 
 -- ---- on one side
 

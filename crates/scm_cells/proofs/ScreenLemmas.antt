@@ -7,9 +7,10 @@ use Rattle.std.proofs.lemmas.List.{with_items_is, length-map, map-set, get_or-ma
 use Rattle.std.proofs.lemmas.List.Concat.{flat_map-append}
 use Rattle.std.proofs.lemmas.List.Elements.{All-head, All-tail, All-replicate, All-set}
 use Rattle.scm_cells.specs.Cell.{Cell, Place, blank, shown}
-use Rattle.scm_cells.specs.Row.{row_text}
+use Rattle.scm_cells.specs.Row.{IsWhole, row_text}
 use Rattle.scm_cells.specs.Screen.{Screen, IsScreen, blank_screen}
 use Rattle.scm_cells.specs.GridView.{row_of}
+use Rattle.scm_cells.proofs.WholeLemmas.{IsWhole-blanks}
 use Rattle.scm_cells.proofs.MapFrom.{map_from, so_far, so_far-more, so_far-all}
 
 -- ---- every row is cleared
@@ -53,6 +54,7 @@ length-rows (suc n) row = ap suc (length-rows n row)
 pub IsScreen-blank : (width height : ℕ) → width < 2 ^ 16 → height < 2 ^ 16 → IsScreen (blank_screen width height)
 IsScreen-blank width height w h = record {
   columns = All-replicate (λ (r : List Cell). length r ≡ width) height (replicate width blank) (length-blanks width);
+  symbols = All-replicate IsWhole height (replicate width blank) (IsWhole-blanks width);
   width = w;
   height = let e = length-rows height (replicate width blank) in omega arith;
 }
@@ -78,9 +80,17 @@ length-read rows i width v cols h e same screen =
     let inside : i < length (map row_of rows) = omega (arith, length-map rows row_of) in
     sym (length-map cols shown) ∙ ap length (row-read rows i v cols h e same) ∙ screen.columns i [] inside
 
-pub IsScreen-set : (s : Screen) (i : ℕ) (row : List Cell) → IsScreen s → length row ≡ s.width → IsScreen (record s { rows = set s.rows i row })
-IsScreen-set s i row h e = record {
+-- and of whole symbols
+pub whole-read : {Z : Type 0} (rows : List (Vec Place Z)) (i width : ℕ) (v : Vec Place Z) (cols : List Place) → i < length rows → v ≡ get_or rows i v → cols ≡ v.items
+    → IsScreen (record { width = width; rows = map row_of rows }) → IsWhole (map shown cols)
+whole-read rows i width v cols h e same screen =
+    let inside : i < length (map row_of rows) = omega (arith, length-map rows row_of) in
+    subst IsWhole (sym (row-read rows i v cols h e same)) (screen.symbols i [] inside)
+
+pub IsScreen-set : (s : Screen) (i : ℕ) (row : List Cell) → IsScreen s → length row ≡ s.width → IsWhole row → IsScreen (record s { rows = set s.rows i row })
+IsScreen-set s i row h e whole = record {
   columns = All-set (λ (r : List Cell). length r ≡ s.width) s.rows i row e h.columns;
+  symbols = All-set IsWhole s.rows i row whole h.symbols;
   width = h.width;
   height = let size = length-set s.rows i row in let high = h.height in omega arith;
 }

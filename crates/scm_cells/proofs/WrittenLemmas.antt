@@ -12,10 +12,14 @@ use Rattle.std.proofs.lemmas.Slice.{take-put_mid}
 use borrow.Rule.Slice.PartMut.{put_mid}
 use Rattle.std.proofs.lemmas.Int.{ints, by_lt_z}
 use Rattle.std.proofs.lemmas.Str.{chars-nil}
+use Rattle.unicode_segmentation.specs.Grapheme.{graphemes}
 use Rattle.unicode_width.specs.Width.{str_width}
 use Rattle.scm_cells.specs.Rect.{or_zero}
-use Rattle.scm_cells.specs.Clusters.{Cluster, clusters, clusters_left, with_width, kept_width, has_control}
+use Rattle.scm_cells.specs.Cluster.{Cluster, bytes_as_clusters}
+use Rattle.scm_cells.specs.Clusters.{clusters, clusters_left, rest_left, kept, with_width, kept_width, has_control}
 use Rattle.scm_cells.specs.declared.text.Clusters.{Clusters}
+use Rattle.scm_cells.specs.declared.text.Rest.{Rest}
+use Rattle.scm_cells.specs.declared.text.Rest.TheVariants.{Bytes, Graphemes}
 use Rattle.scm_cells.specs.Cell.{Cell, Place, blank, shown, laid}
 use Rattle.scm_cells.specs.Row.{placed, passes, cells_past, cells_of, written, overlay, put}
 use Rattle.scm_cells.specs.Laying.{fit, IsPassed, IsBegun}
@@ -35,11 +39,11 @@ empty_width : kept_width [] ≡ None
 unfolding kept_width has_control str_width
 empty_width = rw chars-nil refl
 
-kept_columns : (piece : List ℕ) (width : ℕ) → kept_width piece ≡ Some width → 0 < width
+pub kept_columns : (piece : List ℕ) (width : ℕ) → kept_width piece ≡ Some width → 0 < width
 unfolding kept_width
 kept_columns piece width e = grind (arith, nat_tests)
 
-kept_bytes : (piece : List ℕ) (width : ℕ) → kept_width piece ≡ Some width → 0 < length piece
+pub kept_bytes : (piece : List ℕ) (width : ℕ) → kept_width piece ≡ Some width → 0 < length piece
 kept_bytes [] width e = let none = sym empty_width ∙ e in cc
 kept_bytes (b ∷ bs) width e = omega arith
 
@@ -52,9 +56,23 @@ AllKept-pieces : (pieces : List (List ℕ)) → AllKept (filter_map with_width p
 AllKept-pieces [] = tt
 AllKept-pieces (p ∷ ps) = AllKept-cons p ps (kept_width p) refl (AllKept-pieces ps)
 
+AllKept-bytes : (text : List ℕ) → AllKept (bytes_as_clusters text)
+unfolding bytes_as_clusters
+AllKept-bytes [] = tt
+AllKept-bytes (b ∷ bs) = (record { bytes = omega arith; columns = omega arith }, AllKept-bytes bs)
+
+AllKept-rest : (rest : Rest) → AllKept (rest_left rest)
+unfolding kept
+AllKept-rest (Bytes text) = AllKept-bytes _
+AllKept-rest (Graphemes pieces) = AllKept-pieces _
+
 pub AllKept-left : (s : Clusters) → AllKept (clusters_left s)
 unfolding clusters_left
-AllKept-left s = AllKept-pieces _
+AllKept-left s = AllKept-rest s.rest
+
+pub AllKept-clusters : (text : List ℕ) → AllKept (clusters text)
+unfolding clusters kept
+AllKept-clusters text = AllKept-pieces (graphemes true text)
 
 pub AllKept-first : (cs rest : List Cluster) (c : Cluster) → AllKept cs → cs ≡ c ∷ rest → IsKept c
 AllKept-first cs rest c h e = (subst AllKept e h).0
@@ -65,7 +83,7 @@ and_false : (b : Bool) → (b && false) ≡ false
 and_false true = refl
 and_false false = refl
 
-by_stop : {P : Type 0} (b : Bool) {x : Bool} → x ≡ b → (x ≡ true → P) → (x ≡ false → P) → P
+pub by_stop : {P : Type 0} (b : Bool) {x : Bool} → x ≡ b → (x ≡ true → P) → (x ≡ false → P) → P
 by_stop true e f g = f e
 by_stop false e f g = g e
 
@@ -79,13 +97,13 @@ pub written-none : (column : ℤ) (low high : ℕ) → written column [] low hig
 unfolding written placed
 written-none column low high = refl
 
-written-cons : (column : ℤ) (c : Cluster) (cs : List Cluster) (low high : ℕ) → passes low high (column, c) ≡ false
+pub written-cons : (column : ℤ) (c : Cluster) (cs : List Cluster) (low high : ℕ) → passes low high (column, c) ≡ false
     → written column (c ∷ cs) low high ≡ cells_past low high (column, c) ++ written (column +ℤ pos c.1) cs low high
 unfolding written placed
 written-cons column c cs low high e =
     ap (flat_map (cells_past low high)) (take_while-pass (λ p. not (passes low high p)) (column, c) (placed (column +ℤ pos c.1) cs) (ap not e))
 
-written-stop : (column : ℤ) (c : Cluster) (cs : List Cluster) (low high : ℕ) → passes low high (column, c) ≡ true → written column (c ∷ cs) low high ≡ []
+pub written-stop : (column : ℤ) (c : Cluster) (cs : List Cluster) (low high : ℕ) → passes low high (column, c) ≡ true → written column (c ∷ cs) low high ≡ []
 unfolding written placed
 written-stop column c cs low high e =
     ap (flat_map (cells_past low high)) (take_while-stop (λ p. not (passes low high p)) (column, c) (placed (column +ℤ pos c.1) cs) (ap not e))

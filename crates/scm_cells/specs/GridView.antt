@@ -2,7 +2,7 @@
 use Rattle.std.specs.Prelude.{List, map, Vec}
 use Rattle.scm_cells.specs.Cell.{Cell, Place, shown}
 use Rattle.scm_cells.specs.Screen.{Screen, IsScreen}
-use Rattle.scm_cells.specs.declared.grid_rows.Grid.TheInside.{Inside}
+use Rattle.scm_cells.specs.declared.grid.Grid.TheInside.{Inside}
 
 -- what the columns of a row show
 abbrev pub row_of : {Z : Type 0} → Vec Place Z → List Cell

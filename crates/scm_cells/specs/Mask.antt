@@ -1,8 +1,8 @@
 -- Masks: rectangles whose sides may be open.
 use Rattle.std.specs.Prelude.{ℕ, ℤ, pos, ◌+ℤ◌, ◌-ℤ◌, ◌≤ℤ◌, ◌<ℤ◌, Option, Some, None}
 use Rattle.scm_cells.specs.Rect.{InRange, or_zero, intersect_of, end_x_of, end_y_of}
-use Rattle.scm_cells.specs.declared.rectangle.Rect.{Rect}
-use Rattle.scm_cells.specs.declared.masks.Mask.{Mask}
+use Rattle.scm_cells.specs.declared.rect.Rect.{Rect}
+use Rattle.scm_cells.specs.declared.mask.Mask.{Mask}
 
 -- a side that begins here has its end in range, if it has one
 abbrev pub SideInRange : ℤ → Option ℕ → Type 0

@@ -1,7 +1,7 @@
 -- Rectangles as sets of points.
 use Rattle.std.specs.Prelude.{ℕ, ◌^◌, ℤ, pos, negsuc, neg_ℤ, ◌+ℤ◌, ◌-ℤ◌, ◌≤ℤ◌, ◌<ℤ◌, Bool, ◌||◌, ◌==◌, if◌then◌else◌}
 use Rattle.std.specs.Int.{int_min, int_max}
-use Rattle.scm_cells.specs.declared.rectangle.Rect.{Rect}
+use Rattle.scm_cells.specs.declared.rect.Rect.{Rect}
 
 -- a place that rectangles may have: between -2^62 and 2^62, so that a difference of two fits too
 pub record InRange (z : ℤ) : Type 0 where

@@ -2,16 +2,17 @@
 use Rattle.std.specs.Prelude.{◌≡◌, ℕ, ◌<◌, ◌^◌, List, [], length, replicate, slice_index_or, slice_set, ℤ}
 use Rattle.std.specs.List.{All, flat_map}
 use Rattle.scm_cells.specs.Cell.{Cell, blank}
-use Rattle.scm_cells.specs.Row.{put, row_text}
+use Rattle.scm_cells.specs.Row.{IsWhole, put, row_text}
 
 -- a grid: its rows, and how many columns each has
 pub record Screen : Type 0 where
   pub width : ℕ
   pub rows : List (List Cell)
 
--- each row has that many columns, and both sizes fit a screen's
+-- each row has that many columns, which whole symbols take, and both sizes fit a screen's
 pub record IsScreen (s : Screen) : Type 0 where
   pub columns : All (λ row. length row ≡ s.width) s.rows
+  pub symbols : All IsWhole s.rows
   pub width : s.width < 2 ^ 16
   pub height : length s.rows < 2 ^ 16
 

@@ -11,9 +11,16 @@ use std::mem;
 /// column without a symbol is a space.
 #[derive(Drop)]
 pub(crate) struct Column {
+    /// The symbol that is shown and begins here, or nothing.
     symbol: String,
+
+    /// How many columns that symbol has.
     width: usize,
+
+    /// How many of them are before this one.
     offset: usize,
+
+    /// The same three of what was laid.
     next_symbol: String,
     next_width: usize,
     next_offset: usize,
@@ -28,6 +35,7 @@ impl Model for Column {
 }
 
 impl Column {
+    /// A column that shows a space, and on which one was laid.
     pub(crate) fn blank(alloc: Global) -> Column
         ensures { result ≡ record { shown = blank; laid = blank } }
     {

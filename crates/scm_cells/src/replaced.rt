@@ -119,8 +119,8 @@ fn push_within<'a>(spans: &mut Vec<Span<'a>>, text: &'a str)
 
 /// Adds the spans of a line to the list, where each replaced character stands as a span of its
 /// own: the text before it (which may be empty), what stands for it, and at the end the rest, if
-/// there is any. The list has room for all of them before the first is added, so after want of
-/// memory it is as it was.
+/// there is any. The list has room for all of them before the first is added, so where memory
+/// is refused it stays as it was.
 pub fn push_spans_from_line<'a>(line: &'a str, spans: &mut Vec<Span<'a>>) -> Result<(), RecordError>
     ensures ok { OnOk result (span_texts spans.new.items ≡ span_texts spans.old.items ++ line_pieces line.now) }
     ensures unchanged { OnErr result (spans.new.items ≡ spans.old.items) }

@@ -309,6 +309,43 @@ fn texts_on_a_grid(rt: HostRuntime) -> Result<(), Fail> {
 }
 
 #[test]
+fn empty_small_and_large_values(rt: HostRuntime) -> Result<(), Fail> {
+    let sizes: [(u16, u16, usize); 5] = [
+        (0, 0, 0),
+        (0, 3, 0),
+        (3, 0, 0),
+        (1, 1, 4),
+        (400, 50, 20150),
+    ];
+    for (width, height, bytes) in sizes {
+        let grid = Grid::new(rt.alloc(), width, height)?;
+        assert_eq!(rt; grid.view()?.len(), bytes, "{width} by {height}");
+    }
+    let mut grid = Grid::new(rt.alloc(), 400, 1)?;
+    let texts = [
+        ("", 1, 403, 0),
+        ("a", 1, 403, 1),
+        ("a", 5000, 403, 1),
+        ("日", 5000, 603, 1),
+        ("a日", 5000, 536, 1),
+        ("\t", 5000, 403, 10000),
+    ];
+    for (text, times, bytes, pieces) in texts {
+        let mut long = String::new(rt.alloc());
+        for _ in 0..times {
+            long.push_str(text)?;
+        }
+        grid.clear();
+        put(&rt, &mut grid, 0, 0, long.as_str(), 0, 400)?;
+        assert_eq!(rt; grid.view()?.len(), bytes, "{times} times {text:?}");
+        let mut spans = Vec::new(rt.alloc());
+        push_spans_from_line(long.as_str(), &mut spans)?;
+        assert_eq!(rt; spans.len(), pieces, "{times} times {text:?}");
+    }
+    Ok(())
+}
+
+#[test]
 fn wide_symbols_under_others(rt: HostRuntime) -> Result<(), Fail> {
     let mut grid = Grid::new(rt.alloc(), 6, 2)?;
     put(&rt, &mut grid, 1, 0, "日本語", 0, 6)?;

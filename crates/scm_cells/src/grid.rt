@@ -1,0 +1,112 @@
+//! A grid of cells, as a screen shows it.
+ghost use Rattle.std.specs.Prelude.{◌≡◌, ◌<◌, ◌≤◌, IfOk, IfErr, OnOk, OnErr, length, string_bytes};
+ghost use Rattle.scm_cells.specs.Screen.{IsScreen, blank_screen, put_on, view_of};
+ghost use Rattle.scm_types.specs.declared.error.RecordError.TheVariants.{OutOfMemory};
+
+use crate::column::Column;
+use crate::row;
+use scm_types::RecordError;
+use std::alloc::Global;
+use std::marker::Model;
+
+/// Rows of symbols, whose columns and rows count from 0. A row has as many columns as the grid is
+/// wide, and is a list of whole symbols, each of which takes as many of them as it has.
+#[derive(Drop)]
+pub struct Grid {
+    alloc: Global,
+
+    /// How many columns each row has.
+    width: usize,
+
+    /// The columns of each row, from the top.
+    rows: Vec<Vec<Column>>,
+}
+
+impl Model for Grid {
+    ghost use Rattle.scm_cells.specs.Screen.{Screen};
+    ghost use Rattle.scm_cells.specs.GridView.{screen_of, HasRows};
+
+    ghost Value = { Screen };
+
+    ghost view = { screen_of };
+
+    ghost invariant = { HasRows };
+}
+
+impl Grid {
+    /// A grid of spaces.
+    pub fn new(alloc: Global, width: u16, height: u16) -> Result<Grid, RecordError>
+        ensures ok { IfOk result (λ grid. grid ≡ blank_screen width height) }
+        ensures err { IfErr result (λ e. e ≡ OutOfMemory) }
+    {
+        let width = width as usize;
+        let height = height as usize;
+        let mut rows = Vec::with_capacity(alloc, height)?;
+        'rows: for _ in 0..height {
+            rows.push(row::blank_row(alloc, width)?)?;
+        }
+        Ok(Grid { alloc, width, rows })
+    }
+
+    /// How many columns each row has.
+    pub fn width(&self) -> usize
+        ensures value { result ≡ self.now.width }
+        ensures sizes { IsScreen self.now }
+    {
+        self.width
+    }
+
+    /// How many rows there are.
+    pub fn height(&self) -> usize
+        ensures value { result ≡ length self.now.rows }
+        ensures sizes { IsScreen self.now }
+    {
+        self.rows.len()
+    }
+
+    /// Makes every column a space, and keeps the room for symbols.
+    pub fn clear(&mut self)
+        ensures { self.new ≡ blank_screen self.old.width (length self.old.rows) }
+    {
+        'rows: for columns in self.rows.iter_mut() {
+            row::clear_row(columns.as_mut_slice());
+        }
+    }
+
+    /// Puts a text on a row: its clusters stand one after another from a column on, which may be
+    /// before the first. Those that end by the column `low` are left out, one that goes on past it
+    /// gives spaces from there, and the text ends before the first later one that would pass the
+    /// column `high`. Of a symbol that is covered in part the other columns become spaces. Other
+    /// columns and rows stay. Where memory is refused the grid stays as it was.
+    pub fn put(
+        &mut self,
+        row: usize,
+        column: isize,
+        text: &str,
+        low: usize,
+        high: usize,
+    ) -> Result<(), RecordError>
+        requires row { row < length self.old.rows }
+        requires high { high ≤ self.old.width }
+        ensures ok { OnOk result (self.new ≡ put_on self.old row column text.now low high) }
+        ensures unchanged { OnErr result (self.new ≡ self.old) }
+        ensures err { IfErr result (λ e. e ≡ OutOfMemory) }
+    {
+        let columns = &mut self.rows[row];
+        row::put_row(columns.as_mut_slice(), column, text, low, high)?;
+        Ok(())
+    }
+
+    /// The rows as text: for each a quote, its symbols, a quote and a newline. A grid without columns
+    /// gives the empty text.
+    pub fn view(&self) -> Result<String, RecordError>
+        ensures ok { IfOk result (λ text. string_bytes text ≡ view_of self.now) }
+        ensures err { IfErr result (λ e. e ≡ OutOfMemory) }
+    {
+        let mut text = String::new(self.alloc);
+        'rows: for columns in &self.rows {
+            row::push_row(&mut text, columns.as_slice())?;
+        }
+        Ok(text)
+    }
+}
