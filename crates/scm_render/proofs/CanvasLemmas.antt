@@ -1,8 +1,8 @@
 -- How pictures follow one another on a canvas.
 use Rattle.std.specs.Prelude.{◌≡◌, List, [], ◌∷◌, ◌++◌, length, set, Some}
 use Rattle.std.proofs.Common.{refl, sym, ap, ◌∙◌, append_assoc, append-nil, set}
-use Rattle.scm_cells.specs.declared.rectangle.Rect.{Rect}
-use Rattle.scm_cells.specs.declared.masks.Mask.{Mask}
+use Rattle.scm_cells.specs.declared.rect.Rect.{Rect}
+use Rattle.scm_cells.specs.declared.mask.Mask.{Mask}
 use Rattle.scm_render.specs.Picture.{Box, Picture, nothing, part, followed_by, covering, box_rect}
 use Rattle.scm_render.specs.Around.{around, join, no_rect}
 use Rattle.scm_render.specs.Canvas.{Canvas, painted, with_mask, with_picture}

@@ -1,8 +1,8 @@
 -- Where a centred rectangle lies: within the one that it is centred in.
 use Rattle.std.proofs.Common.{ℕ, ◌+◌, ◌*◌, ◌≤◌, arith}
 use Rattle.scm_cells.specs.Rect.{RectInRange}
-use Rattle.scm_cells.specs.declared.rectangle.Rect.{Rect}
-use Rattle.scm_cells.specs.declared.rectangle.RectSize.{RectSize}
+use Rattle.scm_cells.specs.declared.rect.Rect.{Rect}
+use Rattle.scm_cells.specs.declared.rect.RectSize.{RectSize}
 use Rattle.scm_cells.proofs.RectLemmas.{places}
 use Rattle.scm_render.specs.Centring.{hundredths, centred_size, centred_gap, centred}
 

@@ -11,7 +11,7 @@ use Rattle.scm_cells.specs.Clusters.{text_width}
 use denote.Ref.{Bor}
 use Rattle.scm_cells.specs.Spans.{span_texts}
 use Rattle.scm_cells.specs.declared.text.Span.{Span}
-use Rattle.scm_cells.specs.declared.rectangle.Rect.{Rect}
+use Rattle.scm_cells.specs.declared.rect.Rect.{Rect}
 use Rattle.scm_render.specs.declared.filling.Filling.{Filling}
 use Rattle.scm_cells.specs.Row.{put, ellipsis}
 use Rattle.scm_render.specs.Picture.{Picture, PictureInRange, followed_by, nothing}

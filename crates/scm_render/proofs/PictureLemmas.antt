@@ -1,7 +1,7 @@
 -- When a picture, and its parts, are in range.
 use Rattle.std.specs.Prelude.{Bool, true, false, if◌then◌else◌}
 use Rattle.scm_cells.specs.Rect.{RectInRange}
-use Rattle.scm_cells.specs.declared.rectangle.Rect.{Rect}
+use Rattle.scm_cells.specs.declared.rect.Rect.{Rect}
 use Rattle.scm_render.specs.Around.{no_rect}
 use Rattle.scm_render.specs.Picture.{Picture, PictureInRange, nothing, part, followed_by, covering, box_rect}
 use Rattle.scm_render.proofs.AroundLemmas.{AllRectsInRange-append, AllRectsInRange-left, AllRectsInRange-right, RectInRange-around, RectInRange-no_rect}

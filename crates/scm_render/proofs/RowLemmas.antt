@@ -8,7 +8,7 @@ use Rattle.std.proofs.lemmas.Int.{ints}
 use Rattle.scm_cells.specs.Rect.{end_x_of, rect_between, or_zero}
 use Rattle.scm_cells.specs.Clusters.{text_width, clusters}
 use Rattle.scm_cells.specs.Row.{put, say, ellipsis}
-use Rattle.scm_cells.specs.declared.rectangle.Rect.{Rect}
+use Rattle.scm_cells.specs.declared.rect.Rect.{Rect}
 use Rattle.scm_cells.proofs.RectLemmas.{places}
 use Rattle.scm_cells.proofs.RowLemmas.{overlay-none}
 use Rattle.scm_cells.proofs.WrittenLemmas.{written-closed}

@@ -2,7 +2,7 @@
 use Rattle.std.proofs.Common.{◌≡◌, ◌∙◌, sym, ap, refl, arith, FitsSigned, w64}
 use Rattle.std.specs.Prelude.{ℤ, List, ℕ, Some}
 use Rattle.scm_cells.specs.Rect.{InRange}
-use Rattle.scm_cells.specs.declared.masks.Mask.{Mask}
+use Rattle.scm_cells.specs.declared.mask.Mask.{Mask}
 use Rattle.scm_cells.proofs.RectLemmas.{places}
 use Rattle.scm_render.specs.Picture.{Picture, PictureInRange, nothing, followed_by}
 use Rattle.scm_render.specs.Canvas.{Sight, Canvas, with_mask, with_picture, under}

@@ -7,7 +7,7 @@ use Rattle.std.specs.Cmp.{IsEquivalence}
 use Rattle.std.proofs.lemmas.Bool.Decides.{nat_tests}
 use Rattle.std.proofs.lemmas.List.Elements.{Contains-push, Contains-push_cases, Contains-append_left}
 use Rattle.std.proofs.lemmas.Map.Views.{Contains-from_lookup, lookup-from_Contains}
-use Rattle.scm_cells.specs.declared.rectangle.Rect.{Rect}
+use Rattle.scm_cells.specs.declared.rect.Rect.{Rect}
 use Rattle.scm_render.specs.Picture.{Box}
 use Rattle.scm_render.specs.Places.{timed}
 use Rattle.scm_render.specs.Hits.{holds, Catches, IsLawful, IsLatest, second_or, drawn_of, box_of, latest}

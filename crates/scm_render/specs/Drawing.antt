@@ -4,8 +4,8 @@ use denote.Ref.{Bor}
 use Rattle.std.specs.Ordering.{int_eq}
 use Rattle.scm_cells.specs.Rect.{RectInRange, is_empty, end_x_of, end_y_of, intersect_of}
 use Rattle.scm_cells.specs.Mask.{apply_of}
-use Rattle.scm_cells.specs.declared.rectangle.Rect.{Rect}
-use Rattle.scm_cells.specs.declared.masks.Mask.{Mask}
+use Rattle.scm_cells.specs.declared.rect.Rect.{Rect}
+use Rattle.scm_cells.specs.declared.mask.Mask.{Mask}
 use Rattle.scm_cells.specs.Clusters.{text_width}
 use Rattle.scm_cells.specs.Row.{ellipsis}
 use Rattle.scm_render.specs.Picture.{Put, Picture, nothing, followed_by}

@@ -1,6 +1,6 @@
 -- What drawing makes: a picture of texts that are put, and of boxes of components, in places of the document.
 use Rattle.std.specs.Prelude.{ℕ, ℤ, List, [], ◌∷◌, ◌++◌}
-use Rattle.scm_cells.specs.declared.rectangle.Rect.{Rect}
+use Rattle.scm_cells.specs.declared.rect.Rect.{Rect}
 use Rattle.scm_render.specs.Around.{no_rect, around, AllRectsInRange}
 
 -- a text at a row and a column, cut to the columns from `low` on and before `high`

@@ -2,7 +2,7 @@
 ghost use Rattle.std.specs.Prelude.{◌≡◌, ℤ, OnOk, IfErr};
 ghost use Rattle.scm_render.specs.Picture.{Picture, PictureInRange};
 ghost use Rattle.scm_render.specs.Canvas.{Sight, Canvas, with_picture};
-ghost use Rattle.scm_types.specs.declared.errors.RecordError.TheVariants.{OutOfMemory};
+ghost use Rattle.scm_types.specs.declared.error.RecordError.TheVariants.{OutOfMemory};
 
 use crate::viewport::Viewport;
 use scm_types::RecordError;

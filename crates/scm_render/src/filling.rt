@@ -2,7 +2,7 @@
 ghost use Rattle.std.specs.Prelude.{◌≡◌, pos, ◌+ℤ◌, OnOk, IfErr, string_bytes};
 ghost use Rattle.scm_cells.specs.Rect.{InRange, RectInRange};
 ghost use Rattle.scm_render.specs.Drawing.{edge_symbol, border_symbol, symbol_at, row_text, FillingIsInRange};
-ghost use Rattle.scm_types.specs.declared.errors.RecordError.TheVariants.{OutOfMemory};
+ghost use Rattle.scm_types.specs.declared.error.RecordError.TheVariants.{OutOfMemory};
 
 use scm_cells::Rect;
 use scm_types::RecordError;

@@ -3,7 +3,7 @@ ghost use Rattle.std.specs.Prelude.{◌≡◌, [], OnOk, OnErr, IfErr};
 ghost use Rattle.std.specs.HashMap.{InsertsAll, IsUnchanged};
 ghost use Rattle.scm_cells.specs.Rect.{RectInRange, union_of};
 ghost use Rattle.scm_render.specs.Around.{no_rect};
-ghost use Rattle.scm_types.specs.declared.errors.RecordError.TheVariants.{OutOfMemory};
+ghost use Rattle.scm_types.specs.declared.error.RecordError.TheVariants.{OutOfMemory};
 
 use scm_cells::Rect;
 use scm_types::RecordError;

@@ -8,7 +8,7 @@ ghost use Rattle.scm_render.specs.Canvas.{painted, with_mask, with_picture, Mask
 ghost use Rattle.scm_render.specs.Drawing.{mask_or, reach};
 ghost use Rattle.scm_render.specs.Places.{translated, timed, screen_rect, whole_sight};
 ghost use Rattle.std.specs.HashMap.{IsFromIterResult};
-ghost use Rattle.scm_types.specs.declared.errors.RecordError.TheVariants.{OutOfMemory};
+ghost use Rattle.scm_types.specs.declared.error.RecordError.TheVariants.{OutOfMemory};
 
 use crate::component::Component;
 use crate::surface::Surface;
