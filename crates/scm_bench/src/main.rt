@@ -5,7 +5,6 @@
 
 ghost use Rattle.std.specs.Prelude.{◌≡◌, ◌≤◌, IfOk};
 ghost use Rattle.scm_cells.specs.Clusters.{text_width};
-ghost use Rattle.scm_render.specs.Drawing.{ellipsis};
 
 use scm_cells::{Grid, Rect, Span, text_width};
 use scm_render::Viewport;
@@ -34,7 +33,6 @@ fn fill(grid: &mut Grid, text: &str) -> anyhow::Result<()> {
 fn draw(alloc: Global, mut grid: Grid, text: &str) -> anyhow::Result<Grid>
     requires screen { grid.width ≤ 100 }
     requires text { text_width text.now ≤ 100 }
-    requires mark { text_width ellipsis ≤ 100 }
     ensures { IfOk result (λ drawn. drawn.width ≡ grid.width) }
 {
     grid.clear();
@@ -63,7 +61,6 @@ fn fill_frames(grid: &mut Grid, text: &str, frames: u64) -> anyhow::Result<()> {
 fn draw_frames(alloc: Global, grid: Grid, text: &str, frames: u64) -> anyhow::Result<Grid>
     requires screen { grid.width ≤ 100 }
     requires text { text_width text.now ≤ 100 }
-    requires mark { text_width ellipsis ≤ 100 }
 {
     let mut drawn = grid;
     for _ in 0..frames {
@@ -101,7 +98,7 @@ fn measure<R: Print + Clock>(
     frames: u64,
 ) -> anyhow::Result<()> {
     let mut grid = Grid::new(alloc, WIDTH, HEIGHT)?;
-    if grid.width() > 100 || text_width(text) > 100 || text_width("…") > 100 {
+    if grid.width() > 100 || text_width(text) > 100 {
         return Ok(());
     }
     fill(&mut grid, text)?;

@@ -5,7 +5,7 @@ use Rattle.std.proofs.lemmas.Bool.Decides.{nat_tests}
 use Rattle.std.proofs.lemmas.List.Sums.{fold-append}
 use Rattle.scm_cells.specs.Rect.{RectInRange, is_empty, rect_between, end_x_of, end_y_of, or_zero, InRange}
 use Rattle.scm_cells.proofs.RectLemmas.{rect_between-same, places, RectInRange-union, RectInRange-if}
-use Rattle.scm_cells.specs.declared.rectangle.Rect.{Rect}
+use Rattle.scm_cells.specs.declared.rect.Rect.{Rect}
 use Rattle.scm_render.specs.Around.{no_rect, join, around, AllRectsInRange}
 
 pub no_rect-from : (r : Rect) → r.x ≡ pos 0 → r.y ≡ pos 0 → r.width ≡ 0 → r.height ≡ 0 → r ≡ no_rect

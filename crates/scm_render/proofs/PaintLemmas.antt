@@ -1,12 +1,12 @@
 -- Puts on rows, one row at a time.
-use Rattle.std.proofs.Common.{◌≡◌, ℕ, zero, suc, ◌<◌, List, [], ◌∷◌, ◌++◌, length, get_or, set, refl, ap, arith, cond, true, false, Bool, ◌∙◌}
+use Rattle.std.proofs.Common.{◌≡◌, ℕ, zero, suc, ◌<◌, List, [], ◌∷◌, ◌++◌, length, get_or, set, refl, sym, ap, arith, cond, true, false, Bool, ◌∙◌}
 use Rattle.std.specs.Prelude.{ℤ, pos, ◌+ℤ◌, ◌≤ℤ◌, ◌<ℤ◌}
 use Rattle.std.specs.Ordering.{int_eq}
 use Rattle.std.proofs.lemmas.Int.{ints}
 use Rattle.std.proofs.lemmas.Bool.Decides.{Decides-int_eq}
-use Rattle.scm_cells.specs.declared.rectangle.Rect.{Rect}
-use Rattle.scm_render.specs.Marks.{Put}
-use Rattle.scm_render.specs.Canvas.{Row, put_at, paint, painted}
+use Rattle.scm_cells.specs.declared.rect.Rect.{Rect}
+use Rattle.scm_render.specs.Picture.{Put}
+use Rattle.scm_render.specs.Canvas.{Row, SurfaceState, put_at, paint, painted, with_puts}
 
 pub paint-none : (v : Rect) (z : ℤ) (row : Row) → paint v [] z row ≡ row
 unfolding paint
@@ -88,3 +88,36 @@ int_eq-false a b h = go (int_eq a b) refl
     go : (t : Bool) → int_eq a b ≡ t → t ≡ false
     go true e = absurd (h ((Decides-int_eq a b).0 e))
     go false e = refl
+
+-- ---- a surface with puts
+
+pub with_puts-is : (ps : List Put) (s : SurfaceState) → with_puts ps s ≡ record { rect = s.rect; rows = painted s.rect ps s.rect.y s.rows }
+unfolding with_puts
+with_puts-is ps s = refl
+
+pub with_puts-rect : (ps : List Put) (s : SurfaceState) → (with_puts ps s).rect ≡ s.rect
+unfolding with_puts
+with_puts-rect ps s = refl
+
+-- puts that leave the rows as they are
+pub with_puts-same : (ps : List Put) (s : SurfaceState) → painted s.rect ps s.rect.y s.rows ≡ s.rows → with_puts ps s ≡ s
+unfolding with_puts
+with_puts-same ps s e = ap (λ rows. record { rect = s.rect; rows = rows }) e
+
+pub with_puts-none : (s : SurfaceState) → with_puts [] s ≡ s
+with_puts-none s = with_puts-same [] s (painted-none s.rect s.rect.y s.rows)
+
+pub with_puts-append : (ps qs : List Put) (s : SurfaceState) → with_puts (ps ++ qs) s ≡ with_puts qs (with_puts ps s)
+unfolding with_puts
+with_puts-append ps qs s = ap (λ rows. record { rect = s.rect; rows = rows }) (painted-append s.rect ps qs s.rect.y s.rows)
+
+-- what is left to put after the first of several
+pub with_puts-rest : (a b all : SurfaceState) (ps qs rs : List Put) → rs ≡ ps ++ qs → b ≡ with_puts ps a → with_puts rs a ≡ all → with_puts qs b ≡ all
+with_puts-rest a b all ps qs rs e p h = ap (with_puts qs) p ∙ sym (with_puts-append ps qs a) ∙ ap (λ w. with_puts w a) (sym e) ∙ h
+
+pub with_puts-end : (a all : SurfaceState) (rs : List Put) → rs ≡ [] → with_puts rs a ≡ all → a ≡ all
+with_puts-end a all rs e h = sym (with_puts-none a) ∙ ap (λ w. with_puts w a) (sym e) ∙ h
+
+pub with_puts-three : (ps qs rs : List Put) (a b c d : SurfaceState) → b ≡ with_puts ps a → c ≡ with_puts qs b → d ≡ with_puts rs c → d ≡ with_puts (ps ++ (qs ++ rs)) a
+with_puts-three ps qs rs a b c d p q r =
+    r ∙ ap (with_puts rs) (q ∙ ap (with_puts qs) p) ∙ sym (with_puts-append qs rs (with_puts ps a)) ∙ sym (with_puts-append ps (qs ++ rs) a)

@@ -6,7 +6,7 @@ use Rattle.std.specs.Prelude.{ℤ, pos, ◌+ℤ◌, ◌-ℤ◌, ◌≤ℤ◌}
 use Rattle.std.specs.Int.{int_min, int_max}
 use Rattle.std.proofs.lemmas.Bool.Decides.{nat_tests}
 use Rattle.scm_cells.specs.Rect.{is_empty, intersect_of, rect_between, or_zero, end_x_of, end_y_of}
-use Rattle.scm_cells.specs.declared.rectangle.Rect.{Rect}
+use Rattle.scm_cells.specs.declared.rect.Rect.{Rect}
 use Rattle.scm_cells.proofs.RectLemmas.{places}
 
 one_way : (a b ea eb : ℤ) (n : ℕ) → n ≡ or_zero (int_min ea eb -ℤ int_max a b) → 0 < n → (a ≤ℤ int_max a b) × ((int_max a b +ℤ pos n) ≤ℤ ea)

@@ -1,7 +1,7 @@
 -- The least rectangle around several, where empty ones count as nothing.
 use Rattle.std.specs.Prelude.{pos, List, [], ◌∷◌, fold, if◌then◌else◌}
 use Rattle.scm_cells.specs.Rect.{RectInRange, union_of, is_empty}
-use Rattle.scm_cells.specs.declared.rectangle.Rect.{Rect}
+use Rattle.scm_cells.specs.declared.rect.Rect.{Rect}
 
 abbrev pub no_rect : Rect
 no_rect = record { x = pos 0; y = pos 0; width = 0; height = 0 }

@@ -1,13 +1,13 @@
--- What a viewport holds, and what marks make of it.
+-- What a viewport holds, and what a picture makes of it.
 use Rattle.std.specs.Prelude.{ℕ, min, ℤ, pos, ◌+ℤ◌, ◌-ℤ◌, List, [], ◌∷◌, ◌++◌, Option, Some, None, cond}
 use Rattle.std.specs.Ordering.{int_eq}
 use Rattle.scm_cells.specs.Rect.{or_zero}
-use Rattle.scm_cells.specs.declared.rectangle.Rect.{Rect}
-use Rattle.scm_cells.specs.declared.masks.Mask.{Mask}
+use Rattle.scm_cells.specs.declared.rect.Rect.{Rect}
+use Rattle.scm_cells.specs.declared.mask.Mask.{Mask}
 use Rattle.scm_cells.specs.Mask.{MaskInRange}
 use Rattle.scm_cells.specs.Cell.{Cell}
 use Rattle.scm_cells.specs.Row.{put}
-use Rattle.scm_render.specs.Marks.{Put, Box, Marks}
+use Rattle.scm_render.specs.Picture.{Put, Box, Picture}
 use Rattle.scm_render.specs.Around.{around}
 
 -- a row of the screen, as its cells
@@ -36,6 +36,15 @@ pub record Canvas (K : Type 0) : Type 0 where
   pub area : Rect
   pub boxes : List (Box K)
 
+-- rows of the screen, and the part of the document that they show
+pub record SurfaceState : Type 0 where
+  pub rect : Rect
+  pub rows : List Row
+
+-- what a contract sees of a viewport
+pub record ViewportState (K : Type 0) : Type 0 where
+  pub canvas : Canvas K
+
 -- a place as a number of columns, at most the limit
 abbrev pub clipped : ℕ → ℤ → ℕ
 clipped n z = min n (or_zero z)
@@ -55,10 +64,18 @@ unfoldable pub painted : Rect → List Put → ℤ → List Row → List Row
 painted v ps z [] = []
 painted v ps z (row ∷ rows) = paint v ps z row ∷ painted v ps (z +ℤ pos 1) rows
 
+-- the rows with the puts
+unfoldable pub with_puts : List Put → SurfaceState → SurfaceState
+with_puts ps s = record { rect = s.rect; rows = painted s.rect ps s.rect.y s.rows }
+
 module _ {K : Type 0} where
-  -- the canvas with the marks
-  unfoldable pub marked : Canvas K → Marks K → Canvas K
-  marked c m = record {
+  -- the canvas with this mask set, or with none
+  abbrev pub with_mask : Option Mask → Canvas K → Canvas K
+  with_mask mask c = record c { sight = record c.sight { mask = mask } }
+
+  -- the canvas with the picture
+  unfoldable pub with_picture : Canvas K → Picture K → Canvas K
+  with_picture c m = record {
     sight = c.sight;
     rows = painted c.sight.rect m.puts c.sight.rect.y c.rows;
     area = around c.area m.areas;

@@ -1,7 +1,7 @@
--- A rectangle in the middle of another, in hundredths of a cell, each way alone.
+-- A rectangle in the middle of another: its columns, and apart from them its rows, in hundredths of a cell.
 use Rattle.std.specs.Prelude.{ℕ, ◌-◌, ◌*◌, ◌/◌, min, max, pos, ◌+ℤ◌}
-use Rattle.scm_cells.specs.declared.rectangle.Rect.{Rect}
-use Rattle.scm_cells.specs.declared.rectangle.RectSize.{RectSize}
+use Rattle.scm_cells.specs.declared.rect.Rect.{Rect}
+use Rattle.scm_cells.specs.declared.rect.RectSize.{RectSize}
 
 -- the size in hundredths: so many per cent of the room, or the least size where that is more, as far as the room goes
 abbrev pub hundredths : ℕ → ℕ → ℕ → ℕ

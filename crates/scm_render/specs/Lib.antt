@@ -1,9 +1,24 @@
+-- The least rectangle around several.
 pub mod Around
+-- What drawing makes: texts that are put, boxes of components, rectangles that are covered.
+pub mod Picture
+-- What a viewport holds, and what a picture makes of it.
 pub mod Canvas
-pub mod Centring
+-- The picture that each drawing call makes.
 pub mod Drawing
-pub mod Hits
-pub mod Lines
-pub mod Marks
-pub mod OnScreen
+-- Places on the screen, and boxes with their times.
 pub mod Places
+-- A rectangle in the middle of another.
+pub mod Centring
+-- Which component owns a point, by the list of boxes.
+pub mod Hits
+-- What a click hits, by the map of boxes.
+pub mod Target
+-- Bounds that what is drawn stays within.
+pub mod Bounds
+-- What texts make of a row.
+pub mod Rows
+-- Values that stand on consecutive rows.
+pub mod Lines
+-- The puts that a screen shows.
+pub mod OnScreen

@@ -2,10 +2,10 @@
 use Rattle.std.specs.Prelude.{ℕ, ℤ, ◌-ℤ◌, ◌+◌, List, [], ◌∷◌, length, Option, Some, None, if◌then◌else◌}
 use Rattle.scm_cells.specs.Rect.{or_zero, is_empty, intersect_of}
 use Rattle.scm_cells.specs.Screen.{Screen}
-use Rattle.scm_cells.specs.declared.rectangle.Rect.{Rect}
-use Rattle.scm_cells.specs.declared.rectangle.ScreenRect.{ScreenRect}
+use Rattle.scm_cells.specs.declared.rect.Rect.{Rect}
+use Rattle.scm_cells.specs.declared.rect.ScreenRect.{ScreenRect}
 use Rattle.scm_render.specs.Canvas.{Sight}
-use Rattle.scm_render.specs.Marks.{Box}
+use Rattle.scm_render.specs.Picture.{Box}
 use Rattle.scm_render.specs.declared.trace.DrawnRect.{DrawnRect}
 
 -- a part of the screen, its places counted from the screen's corner

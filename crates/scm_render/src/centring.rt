@@ -34,7 +34,7 @@ fn centred_gap(room: usize, least: usize, percent: usize) -> usize
 }
 
 /// The rectangle in the middle of `rect` that takes so many per cent of its columns and rows, and at
-/// least the size `least` as far as `rect` has room for it. Each way alone it is reckoned in
+/// least the size `least` as far as `rect` has room for it. Columns and rows are reckoned apart, in
 /// hundredths of a cell; its place and its size are then rounded down to whole cells.
 #[tactic(auto, unfolding(crate::specs::Centring::centred))]
 pub fn centered_rect(
@@ -46,7 +46,8 @@ pub fn centered_rect(
     requires rect { RectInRange rect }
     requires width { percent_width ≤ 100 }
     requires height { percent_height ≤ 100 }
-    ensures { result ≡ centred rect least percent_width percent_height }
+    ensures value { result ≡ centred rect least percent_width percent_height }
+    ensures in_range { RectInRange result }
 {
     let left = centred_gap(rect.width, least.width, percent_width);
     let above = centred_gap(rect.height, least.height, percent_height);

@@ -1,111 +1,87 @@
 -- What is drawn near the document's corner is in range.
-use Rattle.std.proofs.Common.{◌≡◌, ℕ, ◌+◌, ◌<◌, ◌≤◌, ℤ, pos, ◌+ℤ◌, ◌-ℤ◌, ◌≤ℤ◌, neg_ℤ, List, [], ◌∷◌, length, drop, get_or, add-one, drop-cons, refl, arith}
-use Rattle.std.specs.Int.{int_min, int_max}
-use Rattle.std.specs.Prelude.{int_lt}
+use Rattle.std.proofs.Common.{◌≡◌, ℕ, ◌+◌, ◌<◌, ◌≤◌, ℤ, pos, ◌+ℤ◌, ◌≤ℤ◌, neg_ℤ, List, [], ◌∷◌, Bool, length, length-append, drop, get_or, add-one, drop-cons, refl, arith}
+use Rattle.std.specs.Prelude.{if◌then◌else◌}
 use Rattle.std.proofs.lemmas.List.{drop_all}
-use Rattle.scm_cells.specs.Rect.{RectInRange, end_x_of, or_zero, rect_between}
 use Rattle.scm_cells.specs.Clusters.{text_width}
-use Rattle.scm_cells.specs.declared.masks.Mask.{Mask}
 use Rattle.scm_cells.proofs.RectLemmas.{places}
-use Rattle.scm_render.specs.Marks.{MarksInRange}
+use Rattle.scm_cells.proofs.BoundLemmas.{text_width-le}
+use Rattle.scm_render.specs.Picture.{Picture, PictureInRange, part}
 use Rattle.scm_render.specs.Canvas.{Sight, under}
-use Rattle.scm_render.specs.Drawing.{row_rect, reach, texts_width, ellipsis, span_marks, line_marks, text_marks}
+use Rattle.scm_render.specs.Drawing.{texts_width, span_picture, line_picture, text_picture}
+use Rattle.scm_render.specs.Bounds.{Bounds, BoundsInRange, PictureWithin, SightWithin}
 use Rattle.scm_render.proofs.DrawLemmas.{texts_width-more, texts_width-none}
-use Rattle.scm_render.proofs.MarksLemmas.{MarksInRange-as_part, MarksInRange-followed, MarksInRange-if, MarksInRange-nothing}
-use Rattle.scm_tests.specs.Near.{IsNear, SightIsNear, AreShort}
-use Rattle.scm_tests.specs.Samples.{caption_marks, pair_marks, pane_marks, nest_marks, column_marks}
+use Rattle.scm_render.proofs.BoundLemmas.{span-within, line-within, text-within, PictureWithin-nothing, PictureWithin-followed, PictureWithin-part, SightWithin-under, PictureInRange-within}
+use Rattle.scm_tests.specs.Near.{IsNear, near, AreShort}
+use Rattle.scm_tests.specs.Samples.{caption_picture, pair_picture, pane_picture, nest_picture, column_picture}
+use Rattle.scm_tests.specs.Tags.{boxed_text, tag_picture}
 use Rattle.scm_tests.specs.declared.samples.Caption.{Caption}
 use Rattle.scm_tests.specs.declared.samples.Pair.{Pair}
 use Rattle.scm_tests.specs.declared.samples.Pane.{Pane}
 use Rattle.scm_tests.specs.declared.samples.Nest.{Nest}
 
--- ---- rectangles
-
--- a row of few columns that begins hardly before the near places
-few : (x y : ℤ) (n : ℕ) → neg_ℤ (pos 1001) ≤ℤ x → x ≤ℤ pos 1000 → IsNear y → n ≤ 100 → RectInRange (row_rect x y n)
-few x y n p q r h = record {
-  x = record { low = omega (arith, places); high = omega (arith, places) };
-  end_x = record { low = omega (arith, places); high = omega (arith, places) };
-  y = record { low = omega (arith, places); high = omega (arith, places) };
-  end_y = record { low = omega (arith, places); high = omega (arith, places) };
+near-in_range : BoundsInRange near
+near-in_range = record {
+  left = record { low = omega (arith, places); high = omega (arith, places) };
+  right = record { low = omega (arith, places); high = omega (arith, places) };
+  top = record { low = omega (arith, places); high = omega (arith, places) };
+  bottom = record { low = omega (arith, places); high = omega (arith, places) };
 }
 
-pub row-in_range : (x y : ℤ) (n : ℕ) → IsNear x → IsNear y → n ≤ 100 → RectInRange (row_rect x y n)
-row-in_range x y n p q h = few x y n (omega (arith, places)) p.high q h
-
--- where an intersection ends
-end-near : (a b e f : ℤ) → IsNear a → IsNear b → IsNear f → IsNear (int_max a b +ℤ pos (or_zero (int_min e f -ℤ int_max a b)))
-end-near a b e f p q r = record { low = omega (arith, places); high = omega (arith, places) }
-
-reach-near : (s : Sight) → SightIsNear s → IsNear (end_x_of (reach s))
-unfolding reach rect_between
-reach-near s n = end-near _ _ _ _ n.mask_x n.x n.end_x
-
-pub under-near : (m : Mask) (s : Sight) → SightIsNear s → IsNear m.x → SightIsNear (under m s)
-under-near m s n p = record { x = n.x; end_x = n.end_x; mask_x = p }
-
--- ---- marks
+pub in_range : {K : Type 0} (p : Picture K) → PictureWithin near p → PictureInRange p
+in_range p h = PictureInRange-within near p near-in_range h
 
 module _ {K : Type 0} where
-  pub span-in_range : (s : Sight) (x y : ℤ) (t : List ℕ) → IsNear x → IsNear y → text_width t ≤ 100 → MarksInRange {K = K} (span_marks s x y t)
-  unfolding span_marks
-  span-in_range s x y t p q h = record { areas = (row-in_range x y (text_width t) p q h, tt) }
+  pub span-near : (s : Sight) (x y : ℤ) (t : List ℕ) → IsNear x → IsNear y → text_width t ≤ 100 → PictureWithin {K = K} near (span_picture s x y t)
+  span-near s x y t p q h = span-within near s x y t (omega (arith, places, p.low)) (omega (arith, places, p.high, h)) (omega (arith, places, q.low)) (omega (arith, places, q.high))
 
-  pub line-in_range : (s : Sight) (x y : ℤ) (ts : List (List ℕ)) → IsNear x → IsNear y → texts_width ts ≤ 100 → MarksInRange {K = K} (line_marks s x y ts)
-  unfolding line_marks
-  line-in_range s x y ts p q h = record { areas = (row-in_range x y (texts_width ts) p q h, tt) }
+  pub line-near : (s : Sight) (x y : ℤ) (ts : List (List ℕ)) → IsNear x → IsNear y → texts_width ts ≤ 100 → PictureWithin {K = K} near (line_picture s x y ts)
+  line-near s x y ts p q h = line-within near s x y ts (omega (arith, places, p.low)) (omega (arith, places, p.high, h)) (omega (arith, places, q.low)) (omega (arith, places, q.high))
 
-  ellipsis-in_range : (s : Sight) (y : ℤ) → SightIsNear s → text_width ellipsis ≤ 100 → IsNear y → MarksInRange {K = K} (span_marks s (end_x_of (reach s) -ℤ pos 1) y ellipsis)
-  unfolding span_marks
-  ellipsis-in_range s y n e q =
-      let end : IsNear (end_x_of (reach s)) = reach-near s n in
-      record { areas = (few (end_x_of (reach s) -ℤ pos 1) y (text_width ellipsis) (omega (arith, places)) (omega (arith, places)) q e, tt) }
-
-  pub text-in_range : (s : Sight) (x y : ℤ) (ts : List (List ℕ)) → SightIsNear s → text_width ellipsis ≤ 100 → IsNear x → IsNear y → texts_width ts ≤ 100
-      → MarksInRange {K = K} (text_marks s x y ts)
-  unfolding text_marks
-  text-in_range s x y ts n e p q h =
-      MarksInRange-followed _ _ (line-in_range s x y ts p q h)
-      (MarksInRange-if (int_lt (end_x_of (reach s)) (x +ℤ pos (texts_width ts))) _ _ (ellipsis-in_range s y n e q) MarksInRange-nothing)
+  pub text-near : (s : Sight) (x y : ℤ) (ts : List (List ℕ)) → SightWithin near s → IsNear x → IsNear y → texts_width ts ≤ 100 → PictureWithin {K = K} near (text_picture s x y ts)
+  text-near s x y ts w p q h = text-within near s x y ts w (omega (arith, places, p.low)) (omega (arith, places, p.high, h)) (omega (arith, places, q.low)) (omega (arith, places, q.high))
 
 -- ---- sample components
 
-pub caption-in_range : (c : Caption) (s : Sight) (x y : ℤ) → SightIsNear s → text_width ellipsis ≤ 100 → IsNear x → IsNear y → text_width c.text.now ≤ 100
-    → MarksInRange (caption_marks c s x y)
-unfolding caption_marks
-caption-in_range c s x y n e p q h =
+pub caption-near : (c : Caption) (s : Sight) (x y : ℤ) → SightWithin near s → IsNear x → IsNear y → text_width c.text.now ≤ 100 → PictureWithin near (caption_picture c s x y)
+unfolding caption_picture
+caption-near c s x y w p q h =
     let one : texts_width (c.text.now ∷ []) ≡ text_width c.text.now + texts_width [] = texts_width-more c.text.now [] (c.text.now ∷ []) refl in
     let more : texts_width [] ≡ 0 = texts_width-none [] refl in
-    text-in_range s x y (c.text.now ∷ []) n e p q (omega arith)
+    text-near s x y (c.text.now ∷ []) w p q (omega arith)
 
-pub pair-in_range : (c : Pair) (s : Sight) (x y : ℤ) → SightIsNear s → text_width ellipsis ≤ 100 → IsNear x → IsNear y → IsNear (y +ℤ pos 1)
-    → text_width c.first.text.now ≤ 100 → text_width c.second.text.now ≤ 100 → MarksInRange (pair_marks c s x y)
-unfolding pair_marks
-pair-in_range c s x y n e p q r h k =
-    MarksInRange-followed _ _ (MarksInRange-as_part _ _ (caption-in_range c.first s x y n e p q h))
-    (MarksInRange-as_part _ _ (caption-in_range c.second s x (y +ℤ pos 1) n e p r k))
+part-near : (c : Caption) (s : Sight) (x y : ℤ) → SightWithin near s → IsNear x → IsNear y → text_width c.text.now ≤ 100 → PictureWithin near (part c.id (caption_picture c s x y))
+part-near c s x y w p q h = PictureWithin-part near _ _ (caption-near c s x y w p q h)
 
-pane-in_range : (c : Pane) (s : Sight) (x y : ℤ) → SightIsNear s → text_width ellipsis ≤ 100 → IsNear c.mask.x → IsNear x → IsNear y
-    → text_width c.caption.text.now ≤ 100 → MarksInRange (pane_marks c s x y)
-unfolding pane_marks
-pane-in_range c s x y n e m p q h = MarksInRange-as_part _ _ (caption-in_range c.caption (under c.mask s) x y (under-near c.mask s n m) e p q h)
+pub pair-near : (c : Pair) (s : Sight) (x y : ℤ) → SightWithin near s → IsNear x → IsNear y → IsNear (y +ℤ pos 1) → text_width c.first.text.now ≤ 100 → text_width c.second.text.now ≤ 100 → PictureWithin near (pair_picture c s x y)
+unfolding pair_picture
+pair-near c s x y w p q r h k = PictureWithin-followed near _ _ (part-near c.first s x y w p q h) (part-near c.second s x (y +ℤ pos 1) w p r k)
 
-pub nest-in_range : (c : Nest) (s : Sight) (x y : ℤ) → SightIsNear s → text_width ellipsis ≤ 100 → IsNear c.mask.x → IsNear c.pane.mask.x → IsNear x → IsNear y → IsNear (y +ℤ pos 1)
-    → text_width c.pane.caption.text.now ≤ 100 → text_width c.below.text.now ≤ 100 → MarksInRange (nest_marks c s x y)
-unfolding nest_marks
-nest-in_range c s x y n e m o p q r h k =
-    let set = under-near c.mask s n m in
-    MarksInRange-followed _ _ (MarksInRange-as_part _ _ (pane-in_range c.pane (under c.mask s) x y set e o p q h))
-    (MarksInRange-as_part _ _ (caption-in_range c.below (under c.mask s) x (y +ℤ pos 1) set e p r k))
+pane-near : (c : Pane) (s : Sight) (x y : ℤ) → SightWithin near s → IsNear c.mask.x → IsNear x → IsNear y → text_width c.caption.text.now ≤ 100 → PictureWithin near (pane_picture c s x y)
+unfolding pane_picture
+pane-near c s x y w m p q h = part-near c.caption (under c.mask s) x y (SightWithin-under near c.mask s w (omega (arith, places, m.high))) p q h
 
-pub column-in_range : (cs : List Caption) (s : Sight) (x y : ℤ) → SightIsNear s → text_width ellipsis ≤ 100 → IsNear x → neg_ℤ (pos 1000) ≤ℤ y → (y +ℤ pos (length cs)) ≤ℤ pos 1000 → AreShort cs
-    → MarksInRange (column_marks cs s x y)
-unfolding column_marks
-column-in_range [] s x y n e p l h k = MarksInRange-nothing
-column-in_range (c ∷ cs) s x y n e p l h k =
+pub nest-near : (c : Nest) (s : Sight) (x y : ℤ) → SightWithin near s → IsNear c.mask.x → IsNear c.pane.mask.x → IsNear x → IsNear y → IsNear (y +ℤ pos 1)
+    → text_width c.pane.caption.text.now ≤ 100 → text_width c.below.text.now ≤ 100 → PictureWithin near (nest_picture c s x y)
+unfolding nest_picture
+nest-near c s x y w m o p q r h k =
+    let set = SightWithin-under near c.mask s w (omega (arith, places, m.high)) in
+    PictureWithin-followed near _ _ (PictureWithin-part near _ _ (pane-near c.pane (under c.mask s) x y set o p q h)) (part-near c.below (under c.mask s) x (y +ℤ pos 1) set p r k)
+
+pub column-near : (cs : List Caption) (s : Sight) (x y : ℤ) → SightWithin near s → IsNear x → neg_ℤ (pos 1000) ≤ℤ y → (y +ℤ pos (length cs)) ≤ℤ pos 1000 → AreShort cs → PictureWithin near (column_picture cs s x y)
+unfolding column_picture
+column-near [] s x y w p l h k = PictureWithin-nothing near
+column-near (c ∷ cs) s x y w p l h k =
     let at : IsNear y = record { low = l; high = omega (arith, places) } in
-    MarksInRange-followed _ _ (MarksInRange-as_part _ _ (caption-in_range c s x y n e p at k.0))
-    (column-in_range cs s x (y +ℤ pos 1) n e p (omega (arith, places)) (omega (arith, places)) k.1)
+    PictureWithin-followed near _ _ (part-near c s x y w p at k.0) (column-near cs s x (y +ℤ pos 1) w p (omega (arith, places)) (omega (arith, places)) k.1)
+
+-- a label of at most ten bytes, between brackets
+pub tag-near : {K : Type 0} (focused : Bool) (label : List ℕ) (s : Sight) → length label ≤ 10 → PictureWithin {K = K} near (tag_picture focused label s (pos 0) (pos 0))
+unfolding tag_picture
+tag-near focused label s h =
+    let corner : IsNear (pos 0) = record { low = omega (arith, places); high = omega (arith, places) } in
+    let bound = text_width-le (boxed_text focused label) in
+    let bytes = length-append label ((if focused then 41 else 93) ∷ []) in
+    span-near s (pos 0) (pos 0) (boxed_text focused label) corner corner (omega (arith, bound, bytes))
 
 -- a text that was found short, where those after it are
 pub short-more : (cs : List Caption) (i : ℕ) (d : Caption) → i < length cs → text_width (get_or cs i d).text.now ≤ 100 → AreShort (drop (i + 1) cs) → AreShort (drop i cs)

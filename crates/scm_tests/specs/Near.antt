@@ -1,9 +1,7 @@
 -- Places near the document's corner, where tests draw.
 use Rattle.std.specs.Prelude.{◌≤◌, ℤ, pos, neg_ℤ, ◌≤ℤ◌, List, [], ◌∷◌}
 use Rattle.scm_cells.specs.Clusters.{text_width}
-use Rattle.scm_cells.specs.Rect.{end_x_of}
-use Rattle.scm_render.specs.Canvas.{Sight}
-use Rattle.scm_render.specs.Drawing.{mask_or}
+use Rattle.scm_render.specs.Bounds.{Bounds}
 use Rattle.scm_tests.specs.declared.samples.Caption.{Caption}
 
 -- a column or row that is near: at most 1000 away
@@ -11,11 +9,9 @@ pub record IsNear (z : ℤ) : Type 0 where
   pub low : neg_ℤ (pos 1000) ≤ℤ z
   pub high : z ≤ℤ pos 1000
 
--- the columns that the screen shows are near, and the mask's first one
-pub record SightIsNear (s : Sight) : Type 0 where
-  pub x : IsNear s.rect.x
-  pub end_x : IsNear (end_x_of s.rect)
-  pub mask_x : IsNear (mask_or s.mask s.rect).x
+-- what is drawn near the corner stays within these bounds
+abbrev pub near : Bounds
+near = record { left = neg_ℤ (pos 2000); right = pos 2000; top = neg_ℤ (pos 2000); bottom = pos 2000 }
 
 -- texts of at most 100 columns each
 abbrev pub AreShort : List Caption → Type 0

@@ -8,5 +8,6 @@ mod record;
 #[cfg(test)]
 mod render;
 pub mod samples;
+pub mod tags;
 #[cfg(test)]
 mod types;

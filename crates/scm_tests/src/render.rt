@@ -2,12 +2,14 @@
 ghost use Rattle.std.specs.Prelude.{◌≡◌, ◌≤◌, pos, Some, None};
 ghost use Rattle.scm_cells.specs.Clusters.{text_width};
 ghost use Rattle.scm_cells.specs.Spans.{span_texts};
-ghost use Rattle.scm_render.specs.Drawing.{texts_width, ellipsis};
-ghost use Rattle.scm_tests.specs.Near.{IsNear, SightIsNear, AreShort};
+ghost use Rattle.scm_render.specs.Drawing.{texts_width};
+ghost use Rattle.scm_render.specs.Bounds.{SightWithin};
+ghost use Rattle.scm_tests.specs.Near.{IsNear, near, AreShort};
 
 use crate::samples::{Caption, Column, Nest, Pair, Pane};
+use crate::tags::{Spot, Tag};
 use scm_cells::{Grid, Line, Mask, Rect, RectSize, ScreenRect, Span, text_width};
-use scm_render::{DrawTrace, DrawnRect, DrawnRects, Viewport, centered_rect};
+use scm_render::{DrawTrace, DrawnRect, DrawnRects, Viewport, centered_rect, find_target};
 use scm_types::RecordError;
 use std::alloc::Global;
 use std::process::Abort;
@@ -47,15 +49,13 @@ fn check_near(rt: &impl Abort, place: isize)
 
 /// Checks that what the viewport shows is near the document's corner, and its mask too.
 fn check_sight(rt: &impl Abort, viewport: &Viewport<u8>)
-    ensures sight { SightIsNear viewport.now.sight }
-    ensures mark { text_width ellipsis ≤ 100 }
+    ensures { SightWithin near viewport.now.canvas.sight }
 {
     let shown = viewport.rect();
     let mask = viewport.mask();
     check_near(rt, shown.x);
     check_near(rt, shown.end_x());
     check_near(rt, mask.x);
-    check_text(rt, "…");
 }
 
 /// Checks that a text is short: at most 100 columns.
@@ -182,7 +182,6 @@ fn render_pair(
     grid: &mut Grid,
     pair: &Pair,
 ) -> Result<DrawnRects<u8>, RecordError> {
-    check_text(rt, "…");
     check_text(rt, pair.first.text);
     check_text(rt, pair.second.text);
     assert!(rt; grid.width() <= 100);
@@ -206,12 +205,26 @@ fn render_column(
     grid: &mut Grid,
     column: &Column,
 ) -> Result<DrawnRects<u8>, RecordError> {
-    check_text(rt, "…");
     check_captions(rt, column.captions.as_slice());
-    assert!(rt; column.captions.len() <= 100);
+    assert!(rt; column.captions.len() <= 1000);
     assert!(rt; grid.width() <= 100);
     assert!(rt; grid.height() <= 100);
     Viewport::render_top_level(alloc, grid, 0, 0, column)
+}
+
+/// Draws a tag with a short label at the document's corner.
+fn draw_tag(
+    rt: &impl Abort,
+    viewport: &mut Viewport<u8>,
+    tag: &Tag<u8>,
+) -> Result<Rect, RecordError> {
+    assert!(rt; tag.label.len() <= 10);
+    viewport.draw_component(0, 0, tag)
+}
+
+/// What a click hits in row `y` and column `x`.
+fn target_at(boxes: &DrawnRects<Spot>, y: isize, x: isize) -> Option<Spot> {
+    find_target(boxes, y, x)
 }
 
 #[test]
@@ -345,6 +358,7 @@ fn frames(rt: HostRuntime) -> Result<(), Fail> {
         (1, 2, "\"┌\"\n\"└\"\n"),
         (2, 1, "\"┌┐\"\n"),
         (0, 0, ""),
+        (0, 2, ""),
         (3, 3, "\"┌Q┐\"\n\"│b│\"\n\"└─┘\"\n"),
     ] {
         let whole = rect(0, 0, width as usize, height as usize);
@@ -479,6 +493,73 @@ fn refused_memory_keeps_grids_and_traces(rt: HostRuntime) -> Result<(), Fail> {
             assert_eq!(rt; trace.rect, rect(0, 0, 1, 1));
             assert_eq!(rt; trace.components.len(), 0);
         }
+    }
+    Ok(())
+}
+
+#[test]
+fn a_thousand_boxes(rt: HostRuntime) -> Result<(), Fail> {
+    let alloc = rt.alloc();
+    let mut grid = Grid::new(alloc, 6, 4)?;
+    let mut captions = Vec::new(alloc);
+    for row in 0..1000 {
+        captions.push(Caption {
+            id: (row % 200) as u8,
+            text: "a",
+        })?;
+    }
+    let column = Column { id: 255, captions };
+    let drawn = render_column(&rt, alloc, &mut grid, &column)?;
+    assert_eq!(rt; drawn.len(), 201);
+    let last = DrawnRect {
+        rect: rect(0, 807, 1, 1),
+        timestamp: 808,
+    };
+    assert_eq!(rt; drawn.get(&7).copied(), Some(last));
+    Ok(())
+}
+
+#[test]
+fn texts_without_columns_and_texts_made_while_drawing(rt: HostRuntime) -> Result<(), Fail> {
+    let alloc = rt.alloc();
+    let mut viewport = viewport_at(alloc, 0, 0, 6, 1)?;
+    let tag = Tag {
+        id: 1,
+        label: "ab",
+        is_focused: true,
+    };
+    assert_eq!(rt; draw_tag(&rt, &mut viewport, &tag)?, rect(0, 0, 4, 1));
+    assert_eq!(rt;
+        draw_span(&rt, &mut viewport, 5, 0, &Span(""))?,
+        rect(5, 0, 0, 1)
+    );
+    assert_eq!(rt; viewport.into_grid().view()?.as_str(), "\"(ab)  \"\n");
+    Ok(())
+}
+
+#[test]
+fn targets(rt: HostRuntime) -> Result<(), Fail> {
+    let mut boxes: DrawnRects<Spot> = DrawnRects::new(rt.alloc());
+    for (number, rect, timestamp) in [
+        (0, rect(0, 0, 9, 9), 4),
+        (1, rect(0, 0, 4, 2), 1),
+        (2, rect(2, 1, 4, 2), 3),
+        (3, rect(3, 1, 0, 2), 5),
+    ] {
+        let spot = Spot { number };
+        let _ = boxes.insert(spot, DrawnRect { rect, timestamp })?;
+    }
+    for (y, x, expected) in [
+        (0, 0, Some(1)),
+        (1, 2, Some(2)),
+        (1, 3, Some(2)),
+        (2, 5, Some(2)),
+        (2, 6, None),
+        (8, 8, None),
+        (-1, 0, None),
+    ] {
+        let found = target_at(&boxes, y, x);
+        assert_eq!(rt; found.map(|spot| spot.number), expected);
     }
     Ok(())
 }

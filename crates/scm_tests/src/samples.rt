@@ -1,11 +1,12 @@
-//! Sample components, from a text to texts under nested masks. Each has its marks, and is proved to
-//! draw them.
+//! Sample components, from a text to texts under nested masks. Each has its picture, and is proved to
+//! draw it.
 ghost use Rattle.scm_cells.specs.Mask.{MaskInRange};
 ghost use Rattle.scm_tests.specs.Masks.{MaskInRange-prop};
 
 use scm_cells::{Mask, Span};
 use scm_render::{Component, Viewport};
 use scm_types::RecordError;
+use std::alloc::Global;
 
 /// A text.
 #[derive(Drop)]
@@ -17,17 +18,23 @@ pub struct Caption {
 impl Component for Caption {
     type Id = u8;
 
-    ghost use Rattle.scm_tests.specs.Samples.{caption_marks};
+    ghost use Rattle.scm_tests.specs.Samples.{caption_picture};
 
     ghost key = { λ c. c.id };
 
-    ghost marks = { caption_marks };
+    ghost picture = { caption_picture };
 
     fn id(&self) -> u8 {
         self.id
     }
 
-    fn draw(&self, viewport: &mut Viewport<u8>, x: isize, y: isize) -> Result<(), RecordError> {
+    fn draw(
+        &self,
+        _alloc: Global,
+        viewport: &mut Viewport<u8>,
+        x: isize,
+        y: isize,
+    ) -> Result<(), RecordError> {
         viewport.draw_text(x, y, &[Span(self.text)])?;
         Ok(())
     }
@@ -44,17 +51,23 @@ pub struct Pair {
 impl Component for Pair {
     type Id = u8;
 
-    ghost use Rattle.scm_tests.specs.Samples.{pair_marks};
+    ghost use Rattle.scm_tests.specs.Samples.{pair_picture};
 
     ghost key = { λ c. c.id };
 
-    ghost marks = { pair_marks };
+    ghost picture = { pair_picture };
 
     fn id(&self) -> u8 {
         self.id
     }
 
-    fn draw(&self, viewport: &mut Viewport<u8>, x: isize, y: isize) -> Result<(), RecordError> {
+    fn draw(
+        &self,
+        _alloc: Global,
+        viewport: &mut Viewport<u8>,
+        x: isize,
+        y: isize,
+    ) -> Result<(), RecordError> {
         viewport.draw_component(x, y, &self.first)?;
         viewport.draw_component(x, y + 1, &self.second)?;
         Ok(())
@@ -73,17 +86,23 @@ pub struct Pane {
 impl Component for Pane {
     type Id = u8;
 
-    ghost use Rattle.scm_tests.specs.Samples.{pane_marks};
+    ghost use Rattle.scm_tests.specs.Samples.{pane_picture};
 
     ghost key = { λ c. c.id };
 
-    ghost marks = { pane_marks };
+    ghost picture = { pane_picture };
 
     fn id(&self) -> u8 {
         self.id
     }
 
-    fn draw(&self, viewport: &mut Viewport<u8>, x: isize, y: isize) -> Result<(), RecordError> {
+    fn draw(
+        &self,
+        _alloc: Global,
+        viewport: &mut Viewport<u8>,
+        x: isize,
+        y: isize,
+    ) -> Result<(), RecordError> {
         let outer = viewport.swap_mask(Some(self.mask));
         viewport.draw_component(x, y, &self.caption)?;
         viewport.swap_mask(outer);
@@ -104,17 +123,23 @@ pub struct Nest {
 impl Component for Nest {
     type Id = u8;
 
-    ghost use Rattle.scm_tests.specs.Samples.{nest_marks};
+    ghost use Rattle.scm_tests.specs.Samples.{nest_picture};
 
     ghost key = { λ c. c.id };
 
-    ghost marks = { nest_marks };
+    ghost picture = { nest_picture };
 
     fn id(&self) -> u8 {
         self.id
     }
 
-    fn draw(&self, viewport: &mut Viewport<u8>, x: isize, y: isize) -> Result<(), RecordError> {
+    fn draw(
+        &self,
+        _alloc: Global,
+        viewport: &mut Viewport<u8>,
+        x: isize,
+        y: isize,
+    ) -> Result<(), RecordError> {
         let outer = viewport.swap_mask(Some(self.mask));
         viewport.draw_component(x, y, &self.pane)?;
         viewport.draw_component(x, y + 1, &self.below)?;
@@ -133,17 +158,23 @@ pub struct Column {
 impl Component for Column {
     type Id = u8;
 
-    ghost use Rattle.scm_tests.specs.Samples.{column_marks};
+    ghost use Rattle.scm_tests.specs.Samples.{column_picture};
 
     ghost key = { λ c. c.id };
 
-    ghost marks = { λ c s x y. column_marks c.captions.items s x y };
+    ghost picture = { λ c s x y. column_picture c.captions.items s x y };
 
     fn id(&self) -> u8 {
         self.id
     }
 
-    fn draw(&self, viewport: &mut Viewport<u8>, x: isize, y: isize) -> Result<(), RecordError> {
+    fn draw(
+        &self,
+        _alloc: Global,
+        viewport: &mut Viewport<u8>,
+        x: isize,
+        y: isize,
+    ) -> Result<(), RecordError> {
         let mut row = y;
         for caption in &self.captions {
             viewport.draw_component(x, row, caption)?;

@@ -1,9 +1,10 @@
 use Rattle.std.proofs.Common.{◌≡◌}
-use Rattle.scm_tests.specs.Near.{SightIsNear}
+use Rattle.scm_render.specs.Bounds.{SightWithin}
+use Rattle.scm_bench.proofs.ScreenLemmas.{screen}
 use Rattle.scm_bench.proofs.draw.Given as goal
 
 abbrev pub invariant-loop-row : goal.invariant-loop-row
 invariant-loop-row l = record {
-  near : SightIsNear l.viewport.sight;
-  width : l.viewport.sight.rect.width ≡ l.fn.grid.width;
+  near : SightWithin screen l.viewport.canvas.sight;
+  width : l.viewport.canvas.sight.rect.width ≡ l.fn.grid.width;
 }

@@ -1,0 +1,260 @@
+//! A grid that shows a part of a document.
+ghost use Rattle.std.specs.Prelude.{◌≡◌, ◌<◌, ◌≤◌, ◌^◌, ◌+ℤ◌, pos, ◌∷◌, [], length, OnOk, IfOk, IfErr, IsTrue, ◌≤ℤ◌, ◌<ℤ◌, ◌↔◌};
+ghost use Rattle.scm_cells.specs.Rect.{RectInRange, InRange, end_y_of};
+ghost use Rattle.scm_cells.specs.Spans.{span_texts};
+ghost use Rattle.scm_render.specs.Canvas.{with_puts};
+ghost use Rattle.scm_render.specs.Rows.{limit};
+ghost use Rattle.scm_render.specs.Drawing.{has_row, whole_put, title_room, body_room, text_puts, texts_puts, texts_width, fill_puts, FillingIsInRange, lines_puts, body_texts, frame_puts};
+ghost use Rattle.scm_types.specs.declared.error.RecordError.TheVariants.{OutOfMemory};
+
+use crate::filling::Filling;
+use scm_cells::{Grid, Rect, Span, text_width};
+use scm_types::RecordError;
+use std::marker::Model;
+
+/// Whether the rectangle has the row.
+fn has_row(rect: Rect, y: isize) -> bool
+    requires { RectInRange rect }
+    ensures test { result ≡ has_row rect y }
+    ensures holds { IsTrue result ↔ ((rect.y ≤ℤ y) × (y <ℤ end_y_of rect)) }
+{
+    rect.y <= y && y < rect.end_y()
+}
+
+/// A frame's top row without its corners, where the title stands.
+fn title_room(frame: Rect) -> Rect
+    requires frame { RectInRange frame }
+    requires width { 0 < frame.width }
+    requires height { 0 < frame.height }
+    ensures room { result ≡ title_room frame }
+    ensures in_range { RectInRange result }
+{
+    Rect {
+        x: frame.x + 1,
+        y: frame.y,
+        width: frame.width.saturating_sub(2),
+        height: 1,
+    }
+}
+
+/// What a frame's border leaves free, where the lines of the body stand.
+fn body_room(frame: Rect) -> Rect
+    requires frame { RectInRange frame }
+    requires width { 0 < frame.width }
+    requires height { 0 < frame.height }
+    ensures room { result ≡ body_room frame }
+    ensures in_range { RectInRange result }
+{
+    Rect {
+        x: frame.x + 1,
+        y: frame.y + 1,
+        width: frame.width.saturating_sub(2),
+        height: frame.height.saturating_sub(2),
+    }
+}
+
+/// A grid, and the part of the document that it shows, which has the grid's size. Texts are put at
+/// places of the document; rows that the grid does not show are left out, and texts are cut to the
+/// columns of a rectangle `within`.
+#[derive(Drop)]
+pub(crate) struct Surface {
+    grid: Grid,
+    rect: Rect,
+}
+
+impl Model for Surface {
+    ghost use Rattle.scm_render.specs.Canvas.{SurfaceState};
+
+    ghost Value = { SurfaceState };
+
+    ghost view = { λ s. record { rect = s.rect; rows = s.grid.rows } };
+
+    ghost use Rattle.std.specs.Prelude.{◌≡◌, length};
+    ghost use Rattle.scm_cells.specs.Rect.{RectInRange};
+
+    ghost invariant = { λ s. record {
+      rect : RectInRange s.rect;
+      width : s.grid.width ≡ s.rect.width;
+      height : length s.grid.rows ≡ s.rect.height;
+    } };
+}
+
+impl Surface {
+    /// The grid as the part `rect` of the document, of the same size.
+    pub(crate) fn new(grid: Grid, rect: Rect) -> Surface
+        requires rect { RectInRange rect }
+        requires width { grid.width ≡ rect.width }
+        requires height { length grid.rows ≡ rect.height }
+        ensures { result ≡ record { rect = rect; rows = grid.rows } }
+    {
+        Surface { grid, rect }
+    }
+
+    /// The grid.
+    pub(crate) fn into_grid(self) -> Grid
+        ensures width { result.width ≡ self.rect.width }
+        ensures height { length result.rows ≡ self.rect.height }
+        ensures rows { result.rows ≡ self.rows }
+    {
+        let Surface { grid, .. } = self;
+        grid
+    }
+
+    /// The part of the document that the grid shows.
+    pub(crate) fn rect(&self) -> Rect
+        ensures value { result ≡ self.now.rect }
+        ensures in_range { RectInRange result }
+        ensures rows { length self.now.rows ≡ result.height }
+        ensures narrow { result.width < 2 ^ 16 }
+        ensures low { result.height < 2 ^ 16 }
+    {
+        Rect {
+            width: self.grid.width(),
+            height: self.grid.height(),
+            ..self.rect
+        }
+    }
+
+    /// A column of the document as a column of the grid, where columns past its edges are those
+    /// edges.
+    fn column(&self, x: isize) -> usize
+        ensures value { result ≡ limit self.now.rect x }
+        ensures bound { result ≤ self.now.rect.width }
+    {
+        if self.rect.x < x {
+            self.rect.x.abs_diff(x).min(self.rect.width)
+        } else {
+            0
+        }
+    }
+
+    /// Puts a text on a row that the grid shows.
+    fn put_row(&mut self, within: Rect, x: isize, y: isize, text: &str) -> Result<(), RecordError>
+        requires within { RectInRange within }
+        requires x { InRange x }
+        requires top { self.old.rect.y ≤ℤ y }
+        requires bottom { y <ℤ end_y_of self.old.rect }
+        ensures ok { OnOk result (self.new ≡ with_puts (whole_put within x y text.now ∷ []) self.old) }
+        ensures rect { self.new.rect ≡ self.old.rect }
+        ensures err { IfErr result (λ e. e ≡ OutOfMemory) }
+    {
+        let low = self.column(within.x);
+        let high = self.column(within.end_x());
+        let row = self.rect.y.abs_diff(y);
+        self.grid.put(row, x - self.rect.x, text, low, high)?;
+        Ok(())
+    }
+
+    /// Puts a text, if `within` and the grid have its row.
+    pub(crate) fn put_text(
+        &mut self,
+        within: Rect,
+        x: isize,
+        y: isize,
+        text: &str,
+    ) -> Result<(), RecordError>
+        requires within { RectInRange within }
+        requires x { InRange x }
+        ensures ok { OnOk result (self.new ≡ with_puts (text_puts within x y text.now) self.old) }
+        ensures rect { self.new.rect ≡ self.old.rect }
+        ensures err { IfErr result (λ e. e ≡ OutOfMemory) }
+    {
+        if has_row(within, y) && has_row(self.rect, y) {
+            self.put_row(within, x, y, text)?;
+        }
+        Ok(())
+    }
+
+    /// Puts the texts of spans one after another, and gives the columns that they take.
+    pub(crate) fn put_spans(
+        &mut self,
+        within: Rect,
+        x: isize,
+        y: isize,
+        spans: &[Span],
+    ) -> Result<usize, RecordError>
+        requires within { RectInRange within }
+        requires x { InRange x }
+        requires end { InRange (x +ℤ pos (texts_width (span_texts spans.now))) }
+        ensures ok { OnOk result (self.new ≡ with_puts (texts_puts within x y (span_texts spans.now)) self.old) }
+        ensures columns { IfOk result (λ n. n ≡ texts_width (span_texts spans.now)) }
+        ensures rect { self.new.rect ≡ self.old.rect }
+        ensures err { IfErr result (λ e. e ≡ OutOfMemory) }
+    {
+        let mut columns = 0;
+        for span in spans {
+            self.put_text(within, x.strict_add_unsigned(columns), y, span.0)?;
+            columns += text_width(span.0);
+        }
+        Ok(columns)
+    }
+
+    /// Puts texts one below another.
+    fn put_lines(
+        &mut self,
+        within: Rect,
+        x: isize,
+        y: isize,
+        lines: &[&str],
+    ) -> Result<(), RecordError>
+        requires within { RectInRange within }
+        requires x { InRange x }
+        requires end { InRange (y +ℤ pos (length lines.now)) }
+        ensures ok { OnOk result (self.new ≡ with_puts (lines_puts within x y (body_texts lines.now)) self.old) }
+        ensures rect { self.new.rect ≡ self.old.rect }
+        ensures err { IfErr result (λ e. e ≡ OutOfMemory) }
+    {
+        for (offset, line) in lines.iter().enumerate() {
+            self.put_text(within, x, y.strict_add_unsigned(offset), line)?;
+        }
+        Ok(())
+    }
+
+    /// Fills a rectangle, row by row. The text `scratch` is written anew for each row.
+    pub(crate) fn fill(
+        &mut self,
+        scratch: &mut String,
+        rect: Rect,
+        filling: Filling,
+    ) -> Result<(), RecordError>
+        requires rect { RectInRange rect }
+        requires filling { FillingIsInRange filling }
+        ensures ok { OnOk result (self.new ≡ with_puts (fill_puts filling rect) self.old) }
+        ensures rect { self.new.rect ≡ self.old.rect }
+        ensures err { IfErr result (λ e. e ≡ OutOfMemory) }
+    {
+        for offset in 0..rect.height {
+            let y = rect.y.strict_add_unsigned(offset);
+            filling.write_row(scratch, rect.x, y, rect.width)?;
+            self.put_text(rect, rect.x, y, scratch.as_str())?;
+        }
+        Ok(())
+    }
+
+    /// Puts a frame that has a cell: its border with spaces inside, its title, and the lines of its
+    /// body that it has rows for.
+    pub(crate) fn put_frame(
+        &mut self,
+        scratch: &mut String,
+        within: Rect,
+        frame: Rect,
+        title: &str,
+        body: &[&str],
+    ) -> Result<(), RecordError>
+        requires within { RectInRange within }
+        requires frame { RectInRange frame }
+        requires columns { 0 < frame.width }
+        requires lines { 0 < frame.height }
+        ensures ok { OnOk result (self.new ≡ with_puts (frame_puts within frame title.now (body_texts body.now)) self.old) }
+        ensures rect { self.new.rect ≡ self.old.rect }
+        ensures err { IfErr result (λ e. e ≡ OutOfMemory) }
+    {
+        self.fill(scratch, frame.intersect(within), Filling::Border(frame))?;
+        let top = title_room(frame);
+        self.put_text(top.intersect(within), top.x, top.y, title)?;
+        let room = body_room(frame);
+        let shown = &body[..room.height.min(body.len())];
+        self.put_lines(room.intersect(within), room.x, room.y, shown)?;
+        Ok(())
+    }
+}
