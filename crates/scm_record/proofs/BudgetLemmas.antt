@@ -2,7 +2,7 @@
 use Rattle.std.proofs.Common.{◌≡◌, ℕ, zero, suc, ◌+◌, ◌-◌, ◌*◌, ◌^◌, ◌<◌, ◌≤◌, min, Bool, true, false, List, [], ◌∷◌, ◌++◌, length, Option, Some, None, cond, sym, ap, refl, ◌∙◌, add-one, arith}
 use Rattle.std.specs.Prelude.{MatchOption}
 use Rattle.scm_types.specs.Fault.{Fault, fault_of}
-use Rattle.scm_types.specs.declared.errors.RecordError.{RecordError}
+use Rattle.scm_types.specs.declared.error.RecordError.{RecordError}
 use Rattle.scm_types.specs.Limits.{is_short_text}
 use Rattle.scm_record.specs.declared.events.Event.{Event}
 use Rattle.scm_record.specs.declared.events.Event.TheVariants as events

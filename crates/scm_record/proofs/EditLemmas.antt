@@ -1,10 +1,10 @@
 -- A run whose first commit has no message asks for no edit.
 use Rattle.std.proofs.Common.{◌≡◌, Bool, true, false, List, [], ◌∷◌, Option, Some, None, cond, ap, ◌∙◌, refl}
 use Rattle.std.specs.Prelude.{MatchOption}
-use Rattle.scm_types.specs.declared.errors.RecordError.{RecordError}
-use Rattle.scm_types.specs.declared.files.File.{File}
-use Rattle.scm_types.specs.declared.states.Commit.{Commit}
-use Rattle.scm_types.specs.declared.states.RecordState.{RecordState}
+use Rattle.scm_types.specs.declared.error.RecordError.{RecordError}
+use Rattle.scm_types.specs.declared.file.File.{File}
+use Rattle.scm_types.specs.declared.state.Commit.{Commit}
+use Rattle.scm_types.specs.declared.state.RecordState.{RecordState}
 use Rattle.scm_types.specs.Fault.{Fault, fault_of}
 use Rattle.scm_record.specs.declared.events.Event.{Event}
 use Rattle.scm_record.specs.declared.recording.Flow.{Flow}

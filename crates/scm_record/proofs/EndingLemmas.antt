@@ -1,6 +1,6 @@
 -- How a run ends, from the points that it reaches.
 use Rattle.std.proofs.Common.{◌≡◌, ℕ, ◌+◌, ◌∙◌, refl}
-use Rattle.scm_types.specs.declared.errors.RecordError.{RecordError}
+use Rattle.scm_types.specs.declared.error.RecordError.{RecordError}
 use Rattle.scm_record.specs.Session.{Session}
 use Rattle.scm_record.specs.Run.{Setting, world_in, Before, Accepted, Reaches, Stops}
 use Rattle.scm_record.proofs.Budget.{counted}

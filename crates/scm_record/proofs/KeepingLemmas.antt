@@ -2,12 +2,12 @@
 use Rattle.std.proofs.Common.{◌≡◌, ℕ, zero, suc, ◌≤◌, Bool, true, false, not, List, [], ◌∷◌, map, length, slice_get, Option, Some, None, cond, sym, ap, ◌∙◌, refl, subst, arith}
 use Rattle.std.specs.Prelude.{IsTrue, is_some, option_and_then}
 use Rattle.std.proofs.lemmas.Bool.{and_parts, leb-true}
-use Rattle.scm_types.specs.declared.modes.FileMode.{FileMode}
-use Rattle.scm_types.specs.declared.sections.Section.{Section}
-use Rattle.scm_types.specs.declared.sections.Section.TheVariants as sections
-use Rattle.scm_types.specs.declared.files.File.{File}
-use Rattle.scm_types.specs.declared.states.Commit.{Commit}
-use Rattle.scm_types.specs.declared.states.RecordState.{RecordState}
+use Rattle.scm_types.specs.declared.file_mode.FileMode.{FileMode}
+use Rattle.scm_types.specs.declared.section.Section.{Section}
+use Rattle.scm_types.specs.declared.section.Section.TheVariants as sections
+use Rattle.scm_types.specs.declared.file.File.{File}
+use Rattle.scm_types.specs.declared.state.Commit.{Commit}
+use Rattle.scm_types.specs.declared.state.RecordState.{RecordState}
 use Rattle.scm_types.specs.Limits.{is_accepted_state}
 use Rattle.scm_types.specs.Marks.{file_marks, section_marks, tristate_of, line_with_mark, section_with_marks, file_with_marks}
 use Rattle.scm_types.specs.Same.{unmarked, emptied_commit}

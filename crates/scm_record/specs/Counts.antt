@@ -1,10 +1,10 @@
 -- What a user would lose: the messages and the files that the quit dialog counts.
 use Rattle.std.specs.Prelude.{ℕ, Bool, true, false, List, [], ◌∷◌, count_by, Option, Some, None}
-use Rattle.scm_types.specs.declared.states.Commit.{Commit}
-use Rattle.scm_types.specs.declared.files.File.{File}
-use Rattle.scm_types.specs.declared.states.RecordState.{RecordState}
-use Rattle.scm_types.specs.declared.tristates.Tristate.{Tristate}
-use Rattle.scm_types.specs.declared.tristates.Tristate.TheVariants as tristates
+use Rattle.scm_types.specs.declared.state.Commit.{Commit}
+use Rattle.scm_types.specs.declared.file.File.{File}
+use Rattle.scm_types.specs.declared.state.RecordState.{RecordState}
+use Rattle.scm_types.specs.declared.tristate.Tristate.{Tristate}
+use Rattle.scm_types.specs.declared.tristate.Tristate.TheVariants as tristates
 use Rattle.scm_types.specs.Marks.{file_marks, tristate_of}
 
 abbrev pub is_text : Option (List ℕ) → Bool

@@ -1,7 +1,7 @@
 -- How a run ends.
 use Rattle.std.specs.Prelude.{◌≡◌, ℕ, ◌+◌, ◌*◌, ◌-◌, ◌^◌, ◌≤◌, List, [], length, min}
-use Rattle.scm_types.specs.declared.errors.RecordError.{RecordError}
-use Rattle.scm_types.specs.declared.states.RecordState.{RecordState}
+use Rattle.scm_types.specs.declared.error.RecordError.{RecordError}
+use Rattle.scm_types.specs.declared.state.RecordState.{RecordState}
 use Rattle.scm_record.specs.Script.{Read}
 use Rattle.scm_record.specs.Store.{Store}
 use Rattle.scm_record.specs.Session.{Session}

@@ -1,9 +1,9 @@
 -- The keys of a state in order, and which of them are visible.
 use Rattle.std.specs.Prelude.{ℕ, ◌+◌, Bool, true, false, ◌&&◌, List, [], ◌∷◌, ◌++◌, filter}
-use Rattle.scm_types.specs.declared.lines.SectionChangedLine.{SectionChangedLine}
-use Rattle.scm_types.specs.declared.sections.Section.{Section}
-use Rattle.scm_types.specs.declared.sections.Section.TheVariants as sections
-use Rattle.scm_types.specs.declared.files.File.{File}
+use Rattle.scm_types.specs.declared.line.SectionChangedLine.{SectionChangedLine}
+use Rattle.scm_types.specs.declared.section.Section.{Section}
+use Rattle.scm_types.specs.declared.section.Section.TheVariants as sections
+use Rattle.scm_types.specs.declared.file.File.{File}
 use Rattle.scm_view.specs.declared.keys.SectionKey.{SectionKey}
 use Rattle.scm_view.specs.declared.keys.LineKey.{LineKey}
 use Rattle.scm_view.specs.declared.keys.SelectionKey.{SelectionKey}

@@ -1,6 +1,6 @@
 -- Runs, as steps from point to point.
 use Rattle.std.specs.Prelude.{◌≡◌, ℕ, ◌+◌, List, [], ◌∷◌, Option, MatchOption, codes, if◌then◌else◌}
-use Rattle.scm_types.specs.declared.errors.RecordError.{RecordError}
+use Rattle.scm_types.specs.declared.error.RecordError.{RecordError}
 use Rattle.scm_types.specs.Fault.{Fault, Cancelled, Other, fault_of}
 use Rattle.scm_types.specs.Limits.{is_short_text}
 use Rattle.scm_record.specs.declared.events.Event.{Event}

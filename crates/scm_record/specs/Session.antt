@@ -1,9 +1,9 @@
 -- A session, as values: the state, what the user has selected, unfolded and opened, how far the screen is scrolled, whether it
 -- was cleared since the last frame, and what is pending. And what becomes of it by each thing that a user does to the document.
 use Rattle.std.specs.Prelude.{ℕ, Bool, true, false, ◌&&◌, List, [], ◌∷◌, ◌++◌, filter, Option, Some, None, option_and_then, slice_get, if◌then◌else◌}
-use Rattle.scm_types.specs.declared.states.Commit.{Commit}
-use Rattle.scm_types.specs.declared.files.File.{File}
-use Rattle.scm_types.specs.declared.states.RecordState.{RecordState}
+use Rattle.scm_types.specs.declared.state.Commit.{Commit}
+use Rattle.scm_types.specs.declared.file.File.{File}
+use Rattle.scm_types.specs.declared.state.RecordState.{RecordState}
 use Rattle.scm_types.specs.Edits.{modify}
 use Rattle.scm_view.specs.declared.keys.SelectionKey.{SelectionKey}
 use Rattle.scm_view.specs.declared.keys.SelectionKey.TheVariants as keys

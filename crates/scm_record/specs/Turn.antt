@@ -1,6 +1,6 @@
 -- What the parts of a run say of the points that they reach.
 use Rattle.std.specs.Prelude.{◌≡◌, ℕ, List, None, MatchOption}
-use Rattle.scm_types.specs.declared.errors.RecordError.{RecordError}
+use Rattle.scm_types.specs.declared.error.RecordError.{RecordError}
 use Rattle.scm_types.specs.Fault.{Fault, fault_of}
 use Rattle.scm_record.specs.declared.events.Event.{Event}
 use Rattle.scm_record.specs.declared.runs.Next.{Next}

@@ -1,6 +1,6 @@
 //! The recorder's session, and what each event makes of it.
 ghost use Rattle.std.specs.Prelude.{◌≡◌, IfErr, IfOk, OnOk, string_bytes};
-ghost use Rattle.scm_types.specs.declared.errors.RecordError.TheVariants.{OutOfMemory};
+ghost use Rattle.scm_types.specs.declared.error.RecordError.TheVariants.{OutOfMemory};
 ghost use Rattle.scm_types.specs.Edits.{modify};
 ghost use Rattle.scm_record.specs.Session.{commit_saying, padded, with_keys_above};
 
@@ -59,7 +59,7 @@ impl<'state> Model for Recorder<'state> {
 
 impl<'state> Recorder<'state> {
     ghost use Rattle.std.specs.Prelude.{◌≡◌, ◌↔◌, ◌<◌, IfErr, IfOk, IsTrue, OnOk, length, is_some, option_map, string_bytes, if◌then◌else◌};
-    ghost use Rattle.scm_types.specs.declared.errors.RecordError.TheVariants.{OutOfMemory};
+    ghost use Rattle.scm_types.specs.declared.error.RecordError.TheVariants.{OutOfMemory};
     ghost use Rattle.scm_types.specs.Limits.{is_accepted_state};
     ghost use Rattle.scm_view.specs.declared.quit_dialog.QuitDialogButtonId.TheVariants.{Quit, GoBack};
     ghost use Rattle.scm_record.specs.declared.inputs.TerminalKind.{TerminalKind};

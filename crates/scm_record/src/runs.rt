@@ -1,7 +1,7 @@
 //! Runs: a session over an input, from its first frame to its end.
 ghost use Rattle.std.specs.Prelude.{◌≡◌, ℕ, ◌+◌, ◌≤◌, false, IfErr, IfOk, IsTrue, List, None, OnOk, Option, string_bytes};
-ghost use Rattle.scm_types.specs.declared.errors.RecordError.TheVariants.{OutOfMemory};
-ghost use Rattle.scm_types.specs.declared.states.RecordState.{RecordState};
+ghost use Rattle.scm_types.specs.declared.error.RecordError.TheVariants.{OutOfMemory};
+ghost use Rattle.scm_types.specs.declared.state.RecordState.{RecordState};
 ghost use Rattle.scm_types.specs.Limits.{is_accepted_state, is_short_text};
 ghost use Rattle.scm_record.specs.declared.events.Event.{Event};
 ghost use Rattle.scm_record.specs.Script.{TakesOr, edit_of, no_more};

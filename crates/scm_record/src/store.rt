@@ -25,7 +25,7 @@ impl Model for Screens {
 
 impl Screens {
     ghost use Rattle.std.specs.Prelude.{◌≡◌, length, IfErr, IfOk, OnErr, OnOk, []};
-    ghost use Rattle.scm_types.specs.declared.errors.RecordError.TheVariants.{OutOfMemory};
+    ghost use Rattle.scm_types.specs.declared.error.RecordError.TheVariants.{OutOfMemory};
     ghost use Rattle.scm_record.specs.Store.{Store, text_at, with_place, with_frame};
 
     /// A store without places and frames.

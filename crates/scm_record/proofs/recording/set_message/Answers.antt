@@ -1,6 +1,6 @@
 use Rattle.std.proofs.Common.{Some, ap, sym}
 use Rattle.std.specs.Prelude.{ℕ, List, string_bytes}
-use Rattle.scm_types.specs.declared.states.Commit.{Commit}
+use Rattle.scm_types.specs.declared.state.Commit.{Commit}
 use Rattle.scm_types.proofs.EditLemmas.{slice_set-changed, modify-past}
 use Rattle.scm_record.specs.Session.{commit_saying}
 use Rattle.scm_record.proofs.recording.set_message.Goals as goal
