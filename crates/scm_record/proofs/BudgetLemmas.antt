@@ -3,91 +3,56 @@ use Rattle.std.proofs.Common.{◌≡◌, ℕ, zero, suc, ◌+◌, ◌-◌, ◌*�
 use Rattle.std.specs.Prelude.{MatchOption}
 use Rattle.scm_types.specs.Fault.{Fault, fault_of}
 use Rattle.scm_types.specs.declared.error.RecordError.{RecordError}
+use Rattle.scm_types.specs.Limits.{is_short_text}
 use Rattle.scm_record.specs.declared.events.Event.{Event}
 use Rattle.scm_record.specs.declared.events.Event.TheVariants as events
-use Rattle.scm_record.specs.declared.keys.SelectionKey.{SelectionKey}
-use Rattle.scm_record.specs.declared.keys.SelectionKey.TheVariants as keys
-use Rattle.scm_record.specs.declared.quit_dialog.QuitDialog.{QuitDialog}
-use Rattle.scm_record.specs.declared.quit_dialog.QuitDialogButtonId.{QuitDialogButtonId}
-use Rattle.scm_record.specs.declared.quit_dialog.QuitDialogButtonId.TheVariants.{Quit, GoBack}
-use Rattle.scm_record.specs.Script.{Read, Batch, BrokenRead}
+use Rattle.scm_record.specs.declared.recording.Flow.{Flow}
+use Rattle.scm_record.specs.declared.recording.Flow.TheVariants as flows
+use Rattle.scm_record.specs.Script.{Read, Batch, BrokenRead, Edit, Answer, BrokenEdit, no_more}
 use Rattle.scm_record.specs.Store.{count_up}
-use Rattle.scm_record.specs.Keys.{file_of_section}
-use Rattle.scm_record.specs.Session.{Session, message_count, changed_count, with_dialog, out_of, folding, selecting}
-use Rattle.scm_record.specs.Step.{Change, Stays, Accepts, Cancels, Lacks, change, closed, opened, by_dialog, pressed, asked_about}
-use Rattle.scm_record.specs.Run.{World, Point, Before, Drawn, Within, Accepted, Failed, changed, step, resume, read, batch, after, Reaches, here, on, world_at, Shows, Stops}
-use Rattle.scm_record.specs.Budget.{rank, rank_of, turns_left, Fits, counted, IsFew}
+use Rattle.scm_record.specs.Session.{Session, with_message}
+use Rattle.scm_record.specs.Frames.{scene_of}
+use Rattle.scm_record.specs.Step.{change}
+use Rattle.scm_record.specs.Run.{World, with_session, with_edits, Point, Before, Drawn, Within, Accepted, Failed, Goes, Breaks, too_long, answered, edited, outcome_by, step, resume, read, batch, after, Reaches, here, on, world_at, Shows, Stops}
+use Rattle.scm_record.specs.Ending.{IsFew}
+use Rattle.scm_record.proofs.Budget.{rank, rank_of, turns_left, Fits, counted}
+use Rattle.scm_record.proofs.StepLemmas.{Pushes, nothing, pushed, leads}
 
--- a change leaves only events of lower rank pending
-abbrev IsQuiet : ℕ → Change → Type 0
-IsQuiet r (Stays s) = rank_of s.pending ≤ r
-IsQuiet r (Accepts s) = Unit {0}
-IsQuiet r (Cancels s) = Unit {0}
-IsQuiet r (Lacks s) = Unit {0}
+-- an event of lower rank is pushed
+rank_of-push : (pending : List Event) (event : Event) (r : ℕ) → rank_of pending ≤ r → rank event + 1 ≤ r → rank_of (pending ++ event ∷ []) ≤ r
+rank_of-push [] event r h k = omega (arith, k)
+rank_of-push (first ∷ rest) event r h k = omega (arith, rank_of-push rest event r (omega arith) k)
 
-rank_of-push : (pending : List Event) (r : ℕ) → rank_of pending ≤ r → 1 ≤ r → rank_of (pending ++ events.EnsureSelectionInViewport ∷ []) ≤ r
-rank_of-push [] r h k = omega arith
-rank_of-push (event ∷ rest) r h k = omega (arith, rank_of-push rest r (omega arith) k)
+-- what an event leaves pending
+pushes-quiet : (r : ℕ) (event : Event) (old new : List Event) → Pushes event old new → rank_of old ≤ r → rank event ≤ r → rank_of new ≤ r
+pushes-quiet r event old _ nothing h k = h
+pushes-quiet r event old _ (pushed next below) h k = rank_of-push old next r h (omega (arith, below, k))
 
-asking-quiet : (b : Bool) (r : ℕ) (s s' : Session) → rank_of s'.pending ≤ r → IsQuiet r (cond b (Cancels s) (Stays s'))
-asking-quiet true r s s' h = tt
-asking-quiet false r s s' h = h
+module _ (b r : ℕ) (drawn : Session) (rest : List Event) (left : rank_of rest ≤ r + 1) where
+  short-fits : (is_short : Bool) (w v : World) → w.frames + 3 * length w.reads + r ≤ b → rank_of w.session.pending ≤ r → v.frames ≡ w.frames → v.reads ≡ w.reads → v.session.pending ≡ w.session.pending → Fits b (resume drawn rest (cond is_short (Goes v) (Breaks too_long w)))
+  short-fits true w v fits h e f g = (r, left, rw g h, rw (e, f) fits)
+  short-fits false w v fits h e f g = omega arith
 
-folding-quiet : (b : Bool) (r : ℕ) (s s' : Session) → rank_of s.pending ≤ r → rank_of s'.pending ≤ r → rank_of (cond b s s').pending ≤ r
-folding-quiet true r s s' h k = h
-folding-quiet false r s s' h k = k
+  answered-fits : (w : World) (commit : ℕ) (edit : Edit) → w.frames + 3 * length w.reads + r ≤ b → rank_of w.session.pending ≤ r → Fits b (resume drawn rest (answered w commit edit))
+  answered-fits w commit (Answer text) fits h = short-fits (is_short_text text) w (with_session w (with_message w.session commit text)) fits h refl refl refl
+  answered-fits w commit (BrokenEdit fault) fits h = omega arith
 
-outer-quiet : (r : ℕ) (s : Session) (fold_section : Bool) (selection : SelectionKey) → rank_of s.pending ≤ r → 1 ≤ r → rank_of (out_of s fold_section selection).pending ≤ r
-outer-quiet r s fold_section keys.None h k = h
-outer-quiet r s fold_section (keys.File key) h k = rank_of-push s.pending r h k
-outer-quiet r s fold_section (keys.Section key) h k =
-    let pushed = rank_of-push s.pending r h k in
-    folding-quiet _ r (folding s (keys.Section key)) (selecting s (file_of_section key)) pushed pushed
-outer-quiet r s fold_section (keys.Line key) h k = rank_of-push s.pending r h k
+  edited-fits : (w : World) (commit : ℕ) (edits : List Edit) → w.frames + 3 * length w.reads + r ≤ b → rank_of w.session.pending ≤ r → Fits b (resume drawn rest (edited w commit edits))
+  edited-fits w commit [] fits h = answered-fits (with_edits w []) commit no_more fits h
+  edited-fits w commit (edit ∷ edits) fits h = answered-fits (with_edits w edits) commit edit fits h
 
-closed-quiet : (r : ℕ) (s : Session) (event : Event) → rank_of s.pending ≤ r → rank event ≤ r → IsQuiet r (closed s event)
-closed-quiet r s events.None h k = h
-closed-quiet r s events.QuitAccept h k = tt
-closed-quiet r s events.QuitCancel h k = asking-quiet _ r s (with_dialog s (Some (asked_about (message_count s) (changed_count s)))) h
-closed-quiet r s events.QuitInterrupt h k = asking-quiet _ r s (with_dialog s (Some (asked_about (message_count s) (changed_count s)))) h
-closed-quiet r s events.EnsureSelectionInViewport h k = h
-closed-quiet r s events.FocusPrev h k = rank_of-push s.pending r h k
-closed-quiet r s events.FocusNext h k = rank_of-push s.pending r h k
-closed-quiet r s events.FocusInner h k = rank_of-push s.pending r h k
-closed-quiet r s (events.FocusOuter fold_section) h k = outer-quiet r s fold_section s.selection h k
-closed-quiet r s events.ToggleItem h k = h
-closed-quiet r s _ h k = tt
+module _ (b r : ℕ) (drawn : Session) (rest : List Event) (left : rank_of rest ≤ r + 1) where
+  outcome-fits : (w : World) (flow : Flow) → w.frames + 3 * length w.reads + r ≤ b → rank_of w.session.pending ≤ r → Fits b (resume drawn rest (outcome_by w flow))
+  outcome-fits w flows.GoOn fits h = (r, left, h, fits)
+  outcome-fits w flows.Accept fits h = omega arith
+  outcome-fits w flows.Cancel fits h = omega arith
+  outcome-fits w (flows.Edit commit) fits h = edited-fits b r drawn rest left w commit w.edits fits h
+  outcome-fits w flows.Lack fits h = omega arith
 
-pressed-quiet : (r : ℕ) (s : Session) (button : QuitDialogButtonId) → rank_of s.pending ≤ r → IsQuiet r (pressed s button)
-pressed-quiet r s Quit h = tt
-pressed-quiet r s GoBack h = h
-
-opened-quiet : (r : ℕ) (s : Session) (dialog : QuitDialog) (event : Event) → rank_of s.pending ≤ r → IsQuiet r (opened s dialog event)
-opened-quiet r s dialog events.None h = h
-opened-quiet r s dialog events.QuitAccept h = h
-opened-quiet r s dialog events.QuitCancel h = h
-opened-quiet r s dialog events.QuitInterrupt h = tt
-opened-quiet r s dialog events.EnsureSelectionInViewport h = h
-opened-quiet r s dialog events.FocusPrev h = h
-opened-quiet r s dialog events.FocusNext h = h
-opened-quiet r s dialog events.FocusInner h = h
-opened-quiet r s dialog (events.FocusOuter fold_section) h = h
-opened-quiet r s dialog events.ToggleItem h = pressed-quiet r s dialog.focused_button h
-opened-quiet r s dialog _ h = tt
-
-change-quiet : (r : ℕ) (s : Session) (event : Event) (dialog : Option QuitDialog) → rank_of s.pending ≤ r → rank event ≤ r → IsQuiet r (by_dialog s event dialog)
-change-quiet r s event None h k = closed-quiet r s event h k
-change-quiet r s event (Some dialog) h k = opened-quiet r s dialog event h
-
-module _ (b r : ℕ) (drawn : Session) (w : World) (rest : List Event) (fits : w.frames + 3 * length w.reads + r ≤ b) (left : rank_of rest ≤ r + 1) (quiet : rank_of w.session.pending ≤ r) where
-  changed-fits : (change : Change) → IsQuiet r change → Fits b (resume drawn rest (changed w change))
-  changed-fits (Stays s) h = (r, left, h, fits)
-  changed-fits (Accepts s) h = omega arith
-  changed-fits (Cancels s) h = omega arith
-  changed-fits (Lacks s) h = omega arith
-
-  step-fits : (event : Event) → rank event ≤ r → Fits b (resume drawn rest (step drawn w event))
-  step-fits event k = changed-fits (change w.session event) (change-quiet r w.session event w.session.quit_dialog quiet k)
+  step-fits : (w : World) (event : Event) → w.frames + 3 * length w.reads + r ≤ b → rank_of w.session.pending ≤ r → rank event ≤ r → Fits b (resume drawn rest (step drawn w event))
+  step-fits w event fits quiet k =
+      let c = change (scene_of w.kind drawn) w.session event in
+      outcome-fits (with_session w c.session) c.flow fits (pushes-quiet r event w.session.pending c.session.pending (leads (scene_of w.kind drawn) w.session event).pushes quiet k)
 
 rank-le : (event : Event) → rank event ≤ 2
 rank-le events.None = omega arith
@@ -110,7 +75,7 @@ after-fits : (b : ℕ) (p : Point) → Fits b p → Fits b (after p)
 after-fits b (Before w) h = omega arith
 after-fits b (Drawn w) h = batch-fits b w w.session.pending refl (omega arith)
 after-fits b (Within drawn w []) h = omega (arith, h.1, h.2, h.3)
-after-fits b (Within drawn w (event ∷ rest)) h = step-fits b h.0 drawn w rest h.3 (omega (arith, h.1)) h.2 event (omega (arith, h.1))
+after-fits b (Within drawn w (event ∷ rest)) h = step-fits b h.0 drawn rest (omega (arith, h.1)) w event h.3 h.2 (omega (arith, h.1))
 after-fits b (Accepted w) h = h
 after-fits b (Failed fault w) h = h
 

@@ -2,9 +2,9 @@
 use Rattle.std.proofs.Common.{◌≡◌, ℕ, ◌+◌, ◌∙◌, refl}
 use Rattle.scm_types.specs.declared.error.RecordError.{RecordError}
 use Rattle.scm_record.specs.Session.{Session}
-use Rattle.scm_record.specs.Run.{Before, Accepted, Reaches, Stops}
-use Rattle.scm_record.specs.Budget.{counted}
-use Rattle.scm_record.specs.Ending.{Setting, world_in, EndsWith, FailsWith}
+use Rattle.scm_record.specs.Run.{Setting, world_in, Before, Accepted, Reaches, Stops}
+use Rattle.scm_record.proofs.Budget.{counted}
+use Rattle.scm_record.specs.Ending.{EndsWith, FailsWith}
 use Rattle.scm_record.proofs.BudgetLemmas.{few-reached, few-stopped, counted-min}
 
 module _ (s last : Session) (old new : Setting) (n : ℕ) (count : new.store.frames ≡ counted (n + 1) old.store.frames) where

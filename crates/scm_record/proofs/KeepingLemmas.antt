@@ -1,6 +1,6 @@
 -- A run changes marks alone.
-use Rattle.std.proofs.Common.{◌≡◌, ℕ, ◌≤◌, Bool, true, false, not, List, [], ◌∷◌, map, length, slice_get, Option, Some, None, cond, sym, ap, ◌∙◌, refl, subst, arith}
-use Rattle.std.specs.Prelude.{IsTrue, option_and_then}
+use Rattle.std.proofs.Common.{◌≡◌, ℕ, zero, suc, ◌≤◌, Bool, true, false, not, List, [], ◌∷◌, map, length, slice_get, Option, Some, None, cond, sym, ap, ◌∙◌, refl, subst, arith}
+use Rattle.std.specs.Prelude.{IsTrue, is_some, option_and_then}
 use Rattle.std.proofs.lemmas.Bool.{and_parts, leb-true}
 use Rattle.scm_types.specs.declared.file_mode.FileMode.{FileMode}
 use Rattle.scm_types.specs.declared.section.Section.{Section}
@@ -10,24 +10,29 @@ use Rattle.scm_types.specs.declared.state.Commit.{Commit}
 use Rattle.scm_types.specs.declared.state.RecordState.{RecordState}
 use Rattle.scm_types.specs.Limits.{is_accepted_state}
 use Rattle.scm_types.specs.Marks.{file_marks, section_marks, tristate_of, line_with_mark, section_with_marks, file_with_marks}
-use Rattle.scm_types.specs.Same.{unmarked}
+use Rattle.scm_types.specs.Same.{unmarked, emptied_commit}
 use Rattle.scm_types.specs.Mode.{is_absent}
-use Rattle.scm_record.specs.declared.events.Event.{Event}
-use Rattle.scm_record.specs.declared.events.Event.TheVariants as events
-use Rattle.scm_record.specs.declared.keys.SelectionKey.{SelectionKey}
-use Rattle.scm_record.specs.declared.keys.SelectionKey.TheVariants as keys
-use Rattle.scm_record.specs.declared.quit_dialog.QuitDialog.{QuitDialog}
-use Rattle.scm_record.specs.declared.quit_dialog.QuitDialogButtonId.{QuitDialogButtonId}
-use Rattle.scm_record.specs.declared.quit_dialog.QuitDialogButtonId.TheVariants.{Quit, GoBack}
-use Rattle.scm_record.specs.Keys.{file_of_section}
+use Rattle.scm_view.specs.declared.keys.SelectionKey.{SelectionKey}
+use Rattle.scm_view.specs.declared.keys.SelectionKey.TheVariants as keys
 use Rattle.scm_types.specs.Edits.{modify}
+use Rattle.scm_types.specs.Limits.{is_short_text}
 use Rattle.scm_types.proofs.EditLemmas.{map-modify-same}
-use Rattle.scm_record.specs.Toggle.{mark_after, with_changed_set, with_deletion_unchecked, with_mode_checked, after_lines, after_mode, after_section, with_file_toggled, with_section_set, with_this_section_toggled, with_section_toggled, with_line_inverted, line_mark, with_this_line_toggled, with_line_toggled, with_key_toggled, toggled_files}
-use Rattle.scm_record.specs.Script.{Read, Batch, BrokenRead}
-use Rattle.scm_record.specs.Session.{Session, start, padded, padded_state, with_dialog, message_count, changed_count, out_of, folding, selecting}
-use Rattle.scm_record.specs.Step.{Change, Stays, Accepts, Cancels, Lacks, change, closed, opened, by_dialog, pressed, asked_about}
-use Rattle.scm_record.specs.Run.{World, Point, Before, Drawn, Within, Accepted, Failed, changed, resume, read, batch, after, Reaches, here, on, world_at}
+use Rattle.scm_record.specs.declared.events.Event.{Event}
+use Rattle.scm_record.specs.declared.recording.Flow.{Flow}
+use Rattle.scm_record.specs.declared.recording.Flow.TheVariants as flows
+use Rattle.scm_record.specs.Toggle.{mark_after, with_changed_set, with_deletion_unchecked, with_mode_checked, after_lines, after_mode, after_section, with_file_toggled, with_section_set, with_this_section_toggled, with_section_toggled, with_line_inverted, line_mark, with_this_line_toggled, with_line_toggled, with_key_toggled, with_all_inverted, with_all_set}
+use Rattle.scm_record.specs.Script.{Read, Batch, BrokenRead, Edit, Answer, BrokenEdit, no_more}
+use Rattle.scm_record.specs.Session.{Session, start, padded, padded_state, with_files_changed, with_message, message_of, commit_saying}
+use Rattle.scm_record.specs.Frames.{scene_of}
+use Rattle.scm_record.specs.Step.{change}
+use Rattle.scm_record.specs.Run.{World, with_session, with_edits, Goes, Breaks, too_long, answered, edited, outcome_by, Point, Before, Drawn, Within, Accepted, Failed, resume, read, batch, after, Reaches, here, on, world_at}
 use Rattle.scm_record.specs.Keeping.{IsKept, has_message}
+use Rattle.scm_record.proofs.StepLemmas as steps
+use Rattle.scm_record.proofs.StepLemmas.{Allows, Marks, toggled, inverted, all_set, leads, marks-allow, message_at}
+
+message-first : (text : List ℕ) (message : Option (List ℕ)) (cs : List Commit) → is_some message ≡ true → emptied_commit (record { message = Some text }) ∷ cs ≡ emptied_commit (record { message = message }) ∷ cs
+message-first text None cs h = cc
+message-first text (Some other) cs h = refl
 
 -- what a change leaves as it was under a view
 
@@ -133,77 +138,80 @@ toggle-hidden (keys.File key) files = map-modify-same bare_file with_file_toggle
 toggle-hidden (keys.Section key) files = map-modify-same bare_file (with_section_toggled key.section_idx) files key.file_idx (section-hidden key.section_idx)
 toggle-hidden (keys.Line key) files = map-modify-same bare_file (with_line_toggled key.section_idx key.line_idx) files key.file_idx (file_line-hidden key.section_idx key.line_idx)
 
-toggled_files-hidden : (read_only : Bool) (key : SelectionKey) (files : List File) → map bare_file (toggled_files read_only key files) ≡ map bare_file files
-toggled_files-hidden true key files = refl
-toggled_files-hidden false key files = toggle-hidden key files
+-- each file with other marks
+marked-hidden : (f : Bool → Bool) (files : List File) → map bare_file (map (file_with_marks f) files) ≡ map bare_file files
+marked-hidden f files = map-hidden bare_file (file_with_marks f) (λ file. ap (λ (list : List Section). record file { sections = list }) (map-hidden bare_section (section_with_marks f) (marks-hidden f) file.sections)) files
+
+all_set-hidden : (files : List File) → map bare_file (with_all_set files) ≡ map bare_file files
+all_set-hidden files = marked-hidden _ files
 
 -- a state is the padded given one but for marks, and whole where it is read-only
 record Kept (given state : RecordState) : Type 0 where
   same : unmarked (padded_state given) ≡ unmarked state
-  commits : state.commits ≡ padded given.commits
+  commits : map has_message state.commits ≡ map has_message (padded given.commits)
   flag : state.is_read_only ≡ given.is_read_only
   files : IsTrue given.is_read_only → state.files ≡ given.files
 
-toggled-read_only : (read_only : Bool) (key : SelectionKey) (files : List File) → IsTrue read_only → toggled_files read_only key files ≡ files
-toggled-read_only true key files h = refl
-toggled-read_only false key files h = cc
-
-toggling-kept : (given state : RecordState) (key : SelectionKey) → Kept given state → Kept given (record state { files = toggled_files state.is_read_only key state.files })
-toggling-kept given state key h = record {
-  same = h.same ∙ ap (λ (fs : List File). record (unmarked state) { files = fs }) (sym (toggled_files-hidden state.is_read_only key state.files));
+files-kept : (read_only : Bool) (given : RecordState) (s : Session) (f : List File → List File) → ((files : List File) → map bare_file (f files) ≡ map bare_file files) → s.state.is_read_only ≡ read_only → Kept given s.state → Kept given (cond read_only s (record s { state = record s.state { files = f s.state.files } })).state
+files-kept true given s f hidden e h = h
+files-kept false given s f hidden e h = record {
+  same = h.same ∙ ap (λ (fs : List File). record (unmarked s.state) { files = fs }) (sym (hidden s.state.files));
   commits = h.commits;
   flag = h.flag;
-  files = λ r. toggled-read_only state.is_read_only key state.files (subst (λ (b : Bool). IsTrue b) (sym h.flag) r) ∙ h.files r;
+  files = λ r. let flag = h.flag in cc;
 }
 
--- a change leaves such a state
-abbrev KeepsOn : RecordState → Change → Type 0
-KeepsOn given (Stays s) = Kept given s.state
-KeepsOn given (Accepts s) = Kept given s.state
-KeepsOn given (Cancels s) = Kept given s.state
-KeepsOn given (Lacks s) = Kept given s.state
+-- marks that change unless the state is read-only
+files_changed-kept : (given : RecordState) (s : Session) (f : List File → List File) → ((files : List File) → map bare_file (f files) ≡ map bare_file files) → Kept given s.state → Kept given (with_files_changed f s).state
+files_changed-kept given s f hidden h = files-kept s.state.is_read_only given s f hidden refl h
 
-asking-kept : (b : Bool) (given : RecordState) (s s' : Session) → Kept given s.state → Kept given s'.state → KeepsOn given (cond b (Cancels s) (Stays s'))
-asking-kept true given s s' h k = h
-asking-kept false given s s' h k = k
+message-emptied : (text : List ℕ) (cs : List Commit) (i : ℕ) → is_some (message_at cs i) ≡ true → map emptied_commit (modify (commit_saying text) cs i) ≡ map emptied_commit cs
+message-emptied text [] i h = refl
+message-emptied text (c ∷ cs) zero h = message-first text c.message (map emptied_commit cs) h
+message-emptied text (c ∷ cs) (suc i) h = ap (λ ds. emptied_commit c ∷ ds) (message-emptied text cs i h)
 
-cond-kept : (b : Bool) (given : RecordState) (s s' : Session) → Kept given s.state → Kept given s'.state → Kept given (cond b s s').state
-cond-kept true given s s' h k = h
-cond-kept false given s s' h k = k
+message-has : (text : List ℕ) (cs : List Commit) (i : ℕ) → is_some (message_at cs i) ≡ true → map has_message (modify (commit_saying text) cs i) ≡ map has_message cs
+message-has text [] i h = refl
+message-has text (c ∷ cs) zero h = ap (λ b. b ∷ map has_message cs) (sym h)
+message-has text (c ∷ cs) (suc i) h = ap (λ ds. has_message c ∷ ds) (message-has text cs i h)
 
-outer-kept : (given : RecordState) (s : Session) (fold_section : Bool) (selection : SelectionKey) → Kept given s.state → Kept given (out_of s fold_section selection).state
-outer-kept given s fold_section keys.None h = h
-outer-kept given s fold_section (keys.File key) h = h
-outer-kept given s fold_section (keys.Section key) h = cond-kept _ given (folding s (keys.Section key)) (selecting s (file_of_section key)) h h
-outer-kept given s fold_section (keys.Line key) h = h
+-- a message in place of another one
+message-kept : (given : RecordState) (s : Session) (commit : ℕ) (text : List ℕ) → Kept given s.state → is_some (message_of s commit) ≡ true → Kept given (with_message s commit text).state
+message-kept given s commit text h k = record {
+  same = h.same ∙ ap (λ (cs : List Commit). record (unmarked s.state) { commits = cs }) (sym (message-emptied text s.state.commits commit k));
+  commits = message-has text s.state.commits commit k ∙ h.commits;
+  flag = h.flag;
+  files = h.files;
+}
 
-closed-kept : (given : RecordState) (s : Session) (event : Event) → Kept given s.state → KeepsOn given (closed s event)
-closed-kept given s events.QuitCancel h = asking-kept _ given s (with_dialog s (Some (asked_about (message_count s) (changed_count s)))) h h
-closed-kept given s events.QuitInterrupt h = asking-kept _ given s (with_dialog s (Some (asked_about (message_count s) (changed_count s)))) h h
-closed-kept given s (events.FocusOuter fold_section) h = outer-kept given s fold_section s.selection h
-closed-kept given s events.ToggleItem h = toggling-kept given s.state s.selection h
-closed-kept given s _ h = h
-
-pressed-kept : (given : RecordState) (s : Session) (button : QuitDialogButtonId) → Kept given s.state → KeepsOn given (pressed s button)
-pressed-kept given s Quit h = h
-pressed-kept given s GoBack h = h
-
-opened-kept : (given : RecordState) (s : Session) (dialog : QuitDialog) (event : Event) → Kept given s.state → KeepsOn given (opened s dialog event)
-opened-kept given s dialog events.ToggleItem h = pressed-kept given s dialog.focused_button h
-opened-kept given s dialog _ h = h
-
-change-kept : (given : RecordState) (s : Session) (event : Event) (dialog : Option QuitDialog) → Kept given s.state → KeepsOn given (by_dialog s event dialog)
-change-kept given s event None h = closed-kept given s event h
-change-kept given s event (Some dialog) h = opened-kept given s dialog event h
+-- what an event makes of a session keeps it
+marks-kept : (given : RecordState) (event : Event) (s : Session) (state : RecordState) (flow : Flow) → Marks event s state flow → Kept given s.state → Kept given state
+marks-kept given event s _ _ (steps.unmarked allowed) h = h
+marks-kept given event s _ _ toggled h = files_changed-kept given s (with_key_toggled s.selection) (toggle-hidden s.selection) h
+marks-kept given event s _ _ (inverted e) h = files_changed-kept given s with_all_inverted (marked-hidden not) h
+marks-kept given event s _ _ all_set h = files_changed-kept given s with_all_set all_set-hidden h
 
 abbrev KeptAt : RecordState → Point → Type 0
 KeptAt given p = Kept given (world_at p).session.state
 
-changed-kept : (given : RecordState) (drawn : Session) (rest : List Event) (w : World) (change : Change) → KeepsOn given change → KeptAt given (resume drawn rest (changed w change))
-changed-kept given drawn rest w (Stays s) h = h
-changed-kept given drawn rest w (Accepts s) h = h
-changed-kept given drawn rest w (Cancels s) h = h
-changed-kept given drawn rest w (Lacks s) h = h
+short-kept : (given : RecordState) (drawn : Session) (rest : List Event) (b : Bool) (w v : World) → Kept given v.session.state → Kept given w.session.state → KeptAt given (resume drawn rest (cond b (Goes v) (Breaks too_long w)))
+short-kept given drawn rest true w v k h = k
+short-kept given drawn rest false w v k h = h
+
+answered-kept : (given : RecordState) (drawn : Session) (rest : List Event) (w : World) (commit : ℕ) (edit : Edit) → Kept given w.session.state → is_some (message_of w.session commit) ≡ true → KeptAt given (resume drawn rest (answered w commit edit))
+answered-kept given drawn rest w commit (Answer text) h k = short-kept given drawn rest (is_short_text text) w (with_session w (with_message w.session commit text)) (message-kept given w.session commit text h k) h
+answered-kept given drawn rest w commit (BrokenEdit fault) h k = h
+
+edited-kept : (given : RecordState) (drawn : Session) (rest : List Event) (w : World) (commit : ℕ) (edits : List Edit) → Kept given w.session.state → is_some (message_of w.session commit) ≡ true → KeptAt given (resume drawn rest (edited w commit edits))
+edited-kept given drawn rest w commit [] h k = answered-kept given drawn rest (with_edits w []) commit no_more h k
+edited-kept given drawn rest w commit (edit ∷ edits) h k = answered-kept given drawn rest (with_edits w edits) commit edit h k
+
+outcome-kept : (given : RecordState) (drawn : Session) (rest : List Event) (w : World) (flow : Flow) → Allows w.session flow → Kept given w.session.state → KeptAt given (resume drawn rest (outcome_by w flow))
+outcome-kept given drawn rest w flows.GoOn k h = h
+outcome-kept given drawn rest w flows.Accept k h = h
+outcome-kept given drawn rest w flows.Cancel k h = h
+outcome-kept given drawn rest w (flows.Edit commit) k h = edited-kept given drawn rest w commit w.edits h k.1
+outcome-kept given drawn rest w flows.Lack k h = h
 
 read-kept : (given : RecordState) (w : World) (reads : List Read) → Kept given w.session.state → KeptAt given (read w reads)
 read-kept given w [] h = h
@@ -219,7 +227,9 @@ after-kept given (Before w) h = h
 after-kept given (Drawn w) h = batch-kept given w w.session.pending h
 after-kept given (Within drawn w []) h = h
 after-kept given (Within drawn w (event ∷ rest)) h =
-    changed-kept given drawn rest w (change w.session event) (change-kept given w.session event w.session.quit_dialog h)
+    let c = change (scene_of w.kind drawn) w.session event in
+    let marks = (leads (scene_of w.kind drawn) w.session event).marks in
+    outcome-kept given drawn rest (with_session w c.session) c.flow (marks-allow event w.session c.session c.session.state c.flow marks refl) (marks-kept given event w.session c.session.state c.flow marks h)
 after-kept given (Accepted w) h = h
 after-kept given (Failed fault w) h = h
 
@@ -239,6 +249,10 @@ padded-two [] h = refl
 padded-two (first ∷ []) h = refl
 padded-two (first ∷ second ∷ rest) h = omega arith
 
+length-mapped : {A B : Type 0} (f : A → B) (xs : List A) → length (map f xs) ≡ length xs
+length-mapped f [] = refl
+length-mapped f (x ∷ xs) = ap suc (length-mapped f xs)
+
 -- what is reached from the start of an accepted state keeps it
 pub kept-reached : (given answer : RecordState) (s : Session) (w : World) (q : Point) → IsTrue (is_accepted_state given) → s ≡ start given → w.session ≡ s → Reaches (Before w) q → (world_at q).session.state ≡ answer → IsKept given answer
 kept-reached given answer s w q accepted started is_session r returned =
@@ -246,7 +260,7 @@ kept-reached given answer s w q accepted started is_session r returned =
     let kept : Kept given answer = subst (λ (state : RecordState). Kept given state) returned (reaches-kept given (Before w) r begun) in
     record {
       same = kept.same;
-      commits = ap length kept.commits ∙ padded-two given.commits (few_commits given accepted);
-      messages = ap (map has_message) kept.commits;
+      commits = sym (length-mapped has_message answer.commits) ∙ ap length kept.commits ∙ length-mapped has_message (padded given.commits) ∙ padded-two given.commits (few_commits given accepted);
+      messages = kept.commits;
       read_only = kept.files;
     }

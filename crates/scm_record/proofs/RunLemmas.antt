@@ -1,30 +1,22 @@
 -- Lemmas on steps and runs.
-use Rattle.std.proofs.Common.{◌≡◌, ℕ, ◌+◌, ◌<◌, ◌≤◌, List, [], ◌∷◌, length, drop, get_or, Option, Some, None, sym, ap, ◌∙◌, refl, subst, add-one}
-use Rattle.std.specs.Prelude.{MatchOption}
+use Rattle.std.proofs.Common.{◌≡◌, ℕ, ◌+◌, ◌<◌, ◌≤◌, Bool, false, cond, List, [], ◌∷◌, length, drop, get_or, Option, Some, None, sym, ap, ◌∙◌, refl, subst, add-one}
+use Rattle.std.specs.Prelude.{MatchOption, option_map}
 use Rattle.std.proofs.Math.Seq.{drop-cons}
 use Rattle.std.proofs.lemmas.List.{drop_all}
 use Rattle.scm_types.specs.declared.error.RecordError.{RecordError}
 use Rattle.scm_types.specs.Fault.{Fault, fault_of}
 use Rattle.scm_record.specs.declared.events.Event.{Event}
+use Rattle.scm_record.specs.declared.inputs.TerminalKind.{TerminalKind}
+use Rattle.scm_record.specs.declared.runs.Next.{Next}
+use Rattle.scm_types.specs.Limits.{is_short_text}
 use Rattle.scm_record.specs.declared.recording.Flow.{Flow}
-use Rattle.scm_record.specs.declared.recording.Flow.TheVariants as flows
-use Rattle.scm_record.specs.Session.{Session}
-use Rattle.scm_record.specs.Step.{change}
-use Rattle.scm_record.specs.Flow.{change_of}
-use Rattle.scm_types.specs.declared.error.RecordError.TheVariants.{OutOfMemory}
-use Rattle.scm_record.specs.Script.{Read, Edit}
-use Rattle.scm_record.specs.Run.{World, world, with_session, with_frame_drawn, Outcome, Point, Before, Drawn, Within, Failed, changed, step, resume, after, batch, Reaches, here, on, world_at, Shows, Stops}
-use Rattle.scm_record.specs.Turn.{outcome_of, point_of, Handles, BatchStops, IsFault}
-
-changed-flow : (w : World) (s s' : Session) (flow : Flow) → changed (with_session w s) (change_of flow s') ≡ outcome_of flow (with_session w s')
-changed-flow w s s' flows.GoOn = refl
-changed-flow w s s' flows.Accept = refl
-changed-flow w s s' flows.Cancel = refl
-changed-flow w s s' flows.Lack = refl
-
--- the step of an event by what it makes of the session
-pub step-flow : (drawn : Session) (w : World) (s s' : Session) (event : Event) (flow : Flow) → change s event ≡ change_of flow s' → step drawn (with_session w s) event ≡ outcome_of flow (with_session w s')
-step-flow drawn w s s' event flow e = ap (changed (with_session w s)) e ∙ changed-flow w s s' flow
+use Rattle.scm_record.specs.Step.{Change, change}
+use Rattle.scm_record.specs.Frames.{scene_of}
+use Rattle.scm_record.specs.Store.{Store, with_frame}
+use Rattle.scm_record.specs.Session.{Session, after_frame, with_message}
+use Rattle.scm_record.specs.Script.{Read, Edit, Answer, BrokenEdit, TakesOr, no_more}
+use Rattle.scm_record.specs.Run.{Setting, setting, World, world_in, with_session, with_edits, with_frame_drawn, Outcome, Goes, Breaks, Point, Before, Drawn, Within, Failed, too_long, answered, edited, outcome_by, changed, step, resume, after, batch, Reaches, here, on, world_at, Shows, Stops}
+use Rattle.scm_record.specs.Turn.{outcome_of, point_of, BatchStops, Ceases, Handles, IsFault, Refuses, faulty, out_of_memory}
 
 -- a run goes on by the next event of a batch
 reaches-event : (p : Point) (drawn : Session) (w : World) (events : List Event) (i : ℕ) (d : Event) → i < length events → Reaches p (Within drawn w (drop i events)) → Reaches p (resume drawn (drop (i + 1) events) (step drawn w (get_or events i d)))
@@ -33,11 +25,11 @@ reaches-event p drawn w events i d h r =
     let P : List Event → Type 0 = λ rest. Reaches p (after (Within drawn w rest)) in
     subst P left (on r)
 
--- the same where it is known by which flow
-pub reaches-flow : (p : Point) (drawn : Session) (w : World) (s s' : Session) (events : List Event) (i : ℕ) (d : Event) (flow known : Flow) → i < length events → Reaches p (Within drawn (with_session w s) (drop i events)) → change s (get_or events i d) ≡ change_of flow s' → flow ≡ known → Reaches p (resume drawn (drop (i + 1) events) (outcome_of known (with_session w s')))
-reaches-flow p drawn w s s' events i d flow known h r e k =
-    let outcome = step-flow drawn w s s' (get_or events i d) flow e ∙ ap (λ (f : Flow). outcome_of f (with_session w s')) k in
-    subst (λ (o : Outcome). Reaches p (resume drawn (drop (i + 1) events) o)) outcome (reaches-event p drawn (with_session w s) events i d h r)
+-- the same where it is known what comes next
+pub reaches-next : (p : Point) (drawn : Session) (w v : World) (events : List Event) (i : ℕ) (d : Event) (next known : Next) → i < length events → Reaches p (Within drawn w (drop i events)) → step drawn w (get_or events i d) ≡ outcome_of next v → next ≡ known → Reaches p (resume drawn (drop (i + 1) events) (outcome_of known v))
+reaches-next p drawn w v events i d next known h r e k =
+    let outcome = e ∙ ap (λ (n : Next). outcome_of n v) k in
+    subst (λ (o : Outcome). Reaches p (resume drawn (drop (i + 1) events) o)) outcome (reaches-event p drawn w events i d h r)
 
 -- at the end of a batch a run goes on to the next frame
 pub reaches-end : (p : Point) (drawn : Session) (w : World) (events : List Event) (i : ℕ) → length events ≤ i → Reaches p (Within drawn w (drop i events)) → Reaches p (Before w)
@@ -62,7 +54,7 @@ batch-stops-by (Some fault) p w v w' r r' h = subst (λ (q : Point). Reaches (Be
 pub batch-stops : (error : RecordError) (w w' : World) → BatchStops error (batch (with_frame_drawn w) w.session.pending) (with_frame_drawn w) w' → Stops error (Before w) w'
 batch-stops error w w' h = batch-stops-by (fault_of error) _ w (with_frame_drawn w) w' (on here) (on (on here)) h
 
--- want of memory stops a run where it stands
+-- refused memory stops a run where it stands
 pub stops-memory : (error : RecordError) (p q : Point) (w : World) → fault_of error ≡ None → Reaches p q → Shows w (world_at q) → Stops error p w
 stops-memory error p q w e r h =
     let P : Option Fault → Type 0 = λ f. MatchOption f ((q : Point) × Reaches p q × Shows w (world_at q)) (λ fault. Reaches p (Failed fault w)) in
@@ -84,19 +76,86 @@ stops-by-fault expected (Some fault) p w r h = subst (λ (x : Fault). Reaches p 
 pub stops-fault : (error : RecordError) (expected : Fault) (p : Point) (w : World) → Reaches p (Failed expected w) → IsFault expected error → Stops error p w
 stops-fault error expected p w r h = stops-by-fault expected (fault_of error) p w r h
 
--- a turn that goes on by a known flow
-pub reaches-turn : (p : Point) (w : World) (flow known : Flow) → Reaches p (point_of flow w) → flow ≡ known → Reaches p (point_of known w)
-reaches-turn p w flow known r e = subst (λ (f : Flow). Reaches p (point_of f w)) e r
+-- a turn that is known to go on so
+pub reaches-turn : (p : Point) (w : World) (next known : Next) → Reaches p (point_of next w) → next ≡ known → Reaches p (point_of known w)
+reaches-turn p w next known r e = subst (λ (n : Next). Reaches p (point_of n w)) e r
 
-module _ (w : World) (s : Session) (reads : List Read) (edits : List Edit) (events : List Event) (begins : batch (with_frame_drawn w) w.session.pending ≡ Within w.session (world s reads edits w.texts (w.frames + 1)) events) (texts : List (Option (List ℕ))) (same_texts : texts ≡ w.texts) where
-  -- a turn goes as its batch is handled
-  pub turn-goes : (handled : List Event) (flow : Flow) (new : Session) → handled ≡ events → Handles s handled flow new → Reaches (Before w) (point_of flow (world new reads edits texts (w.frames + 1)))
-  turn-goes handled flow new e h =
-      let P : List (Option (List ℕ)) → Type 0 = λ t. Reaches (Before w) (point_of flow (world new reads edits t (w.frames + 1))) in
-      let Q : List Event → Type 0 = λ list. Reaches (Within w.session (world s reads edits w.texts (w.frames + 1)) list) (point_of flow (world new reads edits w.texts (w.frames + 1))) in
-      subst P (sym same_texts) (reaches-trans (reaches-batch w _ begins) (subst Q e (h w.session (world s reads edits w.texts (w.frames + 1)))))
+-- ---- events that are refused
 
-  -- want of memory within its batch stops it
-  pub turn-stops : (error : RecordError) (new : Session) → error ≡ OutOfMemory → Stops error (Before w) (world new reads edits texts (w.frames + 1))
-  turn-stops error new e =
-      stops-memory error (Before w) _ (world new reads edits texts (w.frames + 1)) (ap fault_of e) (reaches-batch w _ begins) (record { reads = refl; edits = refl; texts = same_texts; frames = refl })
+refused-by : (error : RecordError) (p : Point) (drawn : Session) (w v : World) (rest : List Event) (outcome : Outcome) → Reaches p (resume drawn rest outcome) → (q : Point) → Reaches p q → world_at q ≡ w → Refuses error w outcome v → Stops error p v
+refused-by error p drawn w v rest outcome r q b e (faulty fault is f) =
+    stops-fault error fault p v (subst (λ (o : Outcome). Reaches p (resume drawn rest o)) is r) f
+refused-by error p drawn w v rest outcome r q b e (out_of_memory none shows) =
+    stops-memory error p q v none b (subst (λ (x : World). Shows v x) (sym e) shows)
+
+-- a refused event stops its batch
+pub refused-stops : (error : RecordError) (p : Point) (drawn : Session) (w v : World) (events : List Event) (i : ℕ) (d : Event) → i < length events → Reaches p (Within drawn w (drop i events)) → Refuses error w (step drawn w (get_or events i d)) v → Stops error p v
+refused-stops error p drawn w v events i d h r k =
+    refused-by error p drawn w v (drop (i + 1) events) (step drawn w (get_or events i d)) (reaches-event p drawn w events i d h r) (Within drawn w (drop i events)) r refl k
+
+-- the same from a world with another session, and of an equal outcome
+pub refuses-as : (error : RecordError) (w w' v : World) (outcome outcome' : Outcome) → Shows w w' → outcome' ≡ outcome → Refuses error w outcome v → Refuses error w' outcome' v
+refuses-as error w w' v outcome outcome' s e (faulty fault is f) = faulty fault (e ∙ is) f
+refuses-as error w w' v outcome outcome' s e (out_of_memory none shows) =
+    out_of_memory none (record { reads = shows.reads ∙ s.reads; edits = shows.edits ∙ s.edits; texts = shows.texts ∙ s.texts; frames = shows.frames ∙ s.frames })
+
+-- the step of an event by what it makes of the session, where it is known what follows
+pub step-of : (a : Setting) (s s' : Session) (frames : ℕ) (drawn : Session) (event : Event) (flow known : Flow) → change (scene_of a.kind drawn) s event ≡ record { session = s'; flow = flow } → flow ≡ known → step drawn (world_in a s frames) event ≡ outcome_by (world_in a s' frames) known
+step-of a s s' frames drawn event flow known e k =
+    ap (λ (c : Change). changed (world_in a s frames) c) e ∙ ap (λ (f : Flow). outcome_by (world_in a s' frames) f) k
+
+-- an edit takes the first of the edits
+pub edited-takes : (w : World) (commit : ℕ) (answer : Edit) (old new : List Edit) → TakesOr no_more (Some answer) old new → edited w commit old ≡ answered (with_edits w new) commit answer
+edited-takes w commit answer [] new h = rw (h.0, h.1) refl
+edited-takes w commit answer (first ∷ rest) new h = rw (h.0, h.1) refl
+
+edit-refuses-by : (error : RecordError) (f : Option Fault) (w : World) (commit : ℕ) (new : List Edit) → fault_of error ≡ f → TakesOr no_more (option_map BrokenEdit f) w.edits new → Refuses error w (edited w commit w.edits) (with_edits w new)
+edit-refuses-by error None w commit new e h = out_of_memory e (record { reads = refl; edits = h; texts = refl; frames = refl })
+edit-refuses-by error (Some fault) w commit new e h =
+    faulty fault (edited-takes w commit (BrokenEdit fault) w.edits new h) (subst (λ (f : Option Fault). MatchOption f (Unit {0}) (λ x. x ≡ fault)) (sym e) refl)
+
+module _ (error : RecordError) (a : Setting) (s : Session) (frames : ℕ) (commit : ℕ) (kind : TerminalKind) (reads : List Read) (edits : List Edit) (same_kind : kind ≡ a.kind) (same_reads : reads ≡ a.reads) where
+  -- a fault in place of an edit
+  pub edit-refuses : TakesOr no_more (option_map BrokenEdit (fault_of error)) a.edits edits → Refuses error (world_in a s frames) (edited (world_in a s frames) commit a.edits) (world_in (setting kind reads edits a.store) s frames)
+  edit-refuses h = rw (same_kind, same_reads) (edit-refuses-by error (fault_of error) (world_in a s frames) commit edits refl h)
+
+  -- an answer that is too long
+  pub edit-too_long : (text : List ℕ) → TakesOr no_more (Some (Answer text)) a.edits edits → is_short_text text ≡ false → IsFault too_long error → Refuses error (world_in a s frames) (edited (world_in a s frames) commit a.edits) (world_in (setting kind reads edits a.store) s frames)
+  edit-too_long text h long f =
+      let v = with_edits (world_in a s frames) edits in
+      let long-outcome = ap (λ (b : Bool). cond b (Goes (with_session v (with_message s commit text))) (Breaks too_long v)) long in
+      rw (same_kind, same_reads) (faulty too_long (edited-takes (world_in a s frames) commit (Answer text) a.edits edits h ∙ long-outcome) f)
+
+-- ---- turns
+
+module _ (a : Setting) (s0 s s1 : Session) (frames : ℕ) (kind : TerminalKind) (reads : List Read) (edits : List Edit) (store : Store) (events : List Event) (is_drawn : s ≡ after_frame s0) (is_counted : store ≡ with_frame a.store) (same_kind : kind ≡ a.kind) (begins : batch (world_in a s (frames + 1)) s.pending ≡ Within s (world_in (setting a.kind reads edits a.store) s1 (frames + 1)) events) where
+  -- a frame is drawn, and a batch begins
+  pub turn-begins : Reaches (Before (world_in a s0 frames)) (Within s (world_in (setting kind reads edits store) s1 (frames + 1)) events)
+  turn-begins =
+      let drawn : Reaches (Before (world_in a s0 frames)) (batch (world_in a s (frames + 1)) s.pending) =
+      subst (λ (x : Session). Reaches (Before (world_in a s0 frames)) (batch (world_in a x (frames + 1)) x.pending)) (sym is_drawn) (on (on here)) in
+      let begun = subst (λ (p : Point). Reaches (Before (world_in a s0 frames)) p) begins drawn in
+      let counted = subst (λ (y : Store). Reaches (Before (world_in a s0 frames)) (Within s (world_in (setting a.kind reads edits y) s1 (frames + 1)) events)) (sym is_counted) begun in
+      subst (λ (k : TerminalKind). Reaches (Before (world_in a s0 frames)) (Within s (world_in (setting k reads edits store) s1 (frames + 1)) events)) (sym same_kind) counted
+
+  -- and the turn goes as its batch
+  pub turn-goes : (handled : List Event) (next : Next) (t : Session) (b : Setting) → handled ≡ events → Handles handled next s1 (setting kind reads edits store) t b → Reaches (Before (world_in a s0 frames)) (point_of next (world_in b t (frames + 1)))
+  turn-goes handled next t b e k =
+      reaches-trans turn-begins (subst (λ (list : List Event). Reaches (Within s (world_in (setting kind reads edits store) s1 (frames + 1)) list) (point_of next (world_in b t (frames + 1)))) e (k s (frames + 1)))
+
+  -- or ends with it
+  pub turn-ceases : (handled : List Event) (error : RecordError) (t : Session) (b : Setting) → handled ≡ events → Ceases handled error s1 (setting kind reads edits store) t b → Stops error (Before (world_in a s0 frames)) (world_in b t (frames + 1))
+  turn-ceases handled error t b e k =
+      stops-after error _ _ _ turn-begins (subst (λ (list : List Event). Stops error (Within s (world_in (setting kind reads edits store) s1 (frames + 1)) list) (world_in b t (frames + 1))) e (k s (frames + 1)))
+
+module _ (a : Setting) (s0 s : Session) (frames : ℕ) (store : Store) (is_drawn : s ≡ after_frame s0) (is_counted : store ≡ with_frame a.store) where
+  -- no batch comes
+  pub no_batch-stops : (error : RecordError) (kind : TerminalKind) (reads : List Read) (edits : List Edit) (t : Session) → kind ≡ a.kind
+      → BatchStops error (batch (world_in a s (frames + 1)) s.pending) (world_in a s (frames + 1)) (world_in (setting a.kind reads edits a.store) t (frames + 1))
+      → Stops error (Before (world_in a s0 frames)) (world_in (setting kind reads edits store) t (frames + 1))
+  no_batch-stops error kind reads edits t same_kind h =
+      let there : BatchStops error (batch (with_frame_drawn (world_in a s0 frames)) s0.pending) (with_frame_drawn (world_in a s0 frames)) (world_in (setting a.kind reads edits a.store) t (frames + 1)) =
+      subst (λ (x : Session). BatchStops error (batch (world_in a x (frames + 1)) x.pending) (world_in a x (frames + 1)) (world_in (setting a.kind reads edits a.store) t (frames + 1))) is_drawn h in
+      let stops = batch-stops error (world_in a s0 frames) (world_in (setting a.kind reads edits a.store) t (frames + 1)) there in
+      let counted = subst (λ (y : Store). Stops error (Before (world_in a s0 frames)) (world_in (setting a.kind reads edits y) t (frames + 1))) (sym is_counted) stops in
+      subst (λ (k : TerminalKind). Stops error (Before (world_in a s0 frames)) (world_in (setting k reads edits store) t (frames + 1))) (sym same_kind) counted

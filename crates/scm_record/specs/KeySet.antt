@@ -2,10 +2,10 @@
 use Rattle.std.specs.Prelude.{ℕ, Bool, true, false, ◌&&◌, List, [], ◌∷◌, nat_eq, fold, if◌then◌else◌}
 use Rattle.std.specs.declared.cmp.Ordering.{Ordering}
 use Rattle.std.specs.Ordering.{nat_cmp, match_ordering}
-use Rattle.std.specs.Cmp.Lexicographic.{slice_cmp}
+use Rattle.std.specs.Cmp.Lexicographic.{pointwise, slice_cmp}
 use Rattle.std.specs.List.{list_any}
-use Rattle.scm_record.specs.declared.keys.SelectionKey.{SelectionKey}
-use Rattle.scm_record.specs.declared.keys.SelectionKey.TheVariants as keys
+use Rattle.scm_view.specs.declared.keys.SelectionKey.{SelectionKey}
+use Rattle.scm_view.specs.declared.keys.SelectionKey.TheVariants as keys
 
 -- the kind of a key and its numbers, which tell it from any other
 abbrev pub numbers_of : SelectionKey → List ℕ
@@ -41,6 +41,14 @@ abbrev pub without_key : List SelectionKey → SelectionKey → List SelectionKe
 without_key [] key = []
 without_key (k ∷ ks) key = if is_key key k then ks else k ∷ without_key ks key
 
+-- the set with the key if it lacks it, and else without it
+abbrev pub with_key_flipped : List SelectionKey → SelectionKey → List SelectionKey
+with_key_flipped set key = if has_key set key then without_key set key else with_key set key
+
 -- the set of these keys
 abbrev pub key_set : List SelectionKey → List SelectionKey
 key_set ks = fold with_key [] ks
+
+-- whether two sets have the same keys, which stand in the same order
+abbrev pub same_set : List SelectionKey → List SelectionKey → Bool
+same_set a b = pointwise is_key a b

@@ -1,13 +1,13 @@
--- The keys of a state in order, and which of them a user sees.
+-- The keys of a state in order, and which of them are visible.
 use Rattle.std.specs.Prelude.{ℕ, ◌+◌, Bool, true, false, ◌&&◌, List, [], ◌∷◌, ◌++◌, filter}
 use Rattle.scm_types.specs.declared.line.SectionChangedLine.{SectionChangedLine}
 use Rattle.scm_types.specs.declared.section.Section.{Section}
 use Rattle.scm_types.specs.declared.section.Section.TheVariants as sections
 use Rattle.scm_types.specs.declared.file.File.{File}
-use Rattle.scm_record.specs.declared.keys.SectionKey.{SectionKey}
-use Rattle.scm_record.specs.declared.keys.LineKey.{LineKey}
-use Rattle.scm_record.specs.declared.keys.SelectionKey.{SelectionKey}
-use Rattle.scm_record.specs.declared.keys.SelectionKey.TheVariants as keys
+use Rattle.scm_view.specs.declared.keys.SectionKey.{SectionKey}
+use Rattle.scm_view.specs.declared.keys.LineKey.{LineKey}
+use Rattle.scm_view.specs.declared.keys.SelectionKey.{SelectionKey}
+use Rattle.scm_view.specs.declared.keys.SelectionKey.TheVariants as keys
 
 -- the key of a file, of a section and of a line in the view of the first commit
 abbrev pub file_key : ℕ → SelectionKey
@@ -57,14 +57,21 @@ abbrev pub section_of_line : LineKey → SelectionKey
 section_of_line key =
     keys.Section (record { commit_idx = key.commit_idx; file_idx = key.file_idx; section_idx = key.section_idx })
 
--- files are seen, sections in expanded files, and lines in expanded sections of expanded files
+-- the file that the key is of or in
+abbrev pub file_of : SelectionKey → SelectionKey
+file_of keys.None = keys.None
+file_of (keys.File key) = keys.File key
+file_of (keys.Section key) = file_of_section key
+file_of (keys.Line key) = file_of_line key
+
+-- files are visible, sections in expanded files, and lines in expanded sections of expanded files
 abbrev pub is_visible : (SelectionKey → Bool) → SelectionKey → Bool
 is_visible is_expanded keys.None = false
 is_visible is_expanded (keys.File key) = true
 is_visible is_expanded (keys.Section key) = is_expanded (file_of_section key)
 is_visible is_expanded (keys.Line key) = is_expanded (file_of_line key) && is_expanded (section_of_line key)
 
--- the keys that are seen, in order
+-- the visible keys, in order
 abbrev pub visible_keys : (SelectionKey → Bool) → List File → List SelectionKey
 visible_keys is_expanded files = filter (is_visible is_expanded) (all_keys files)
 
@@ -72,6 +79,12 @@ visible_keys is_expanded files = filter (is_visible is_expanded) (all_keys files
 abbrev pub first_key : List File → SelectionKey
 first_key [] = keys.None
 first_key (f ∷ fs) = file_key 0
+
+abbrev pub is_file : SelectionKey → Bool
+is_file keys.None = false
+is_file (keys.File key) = true
+is_file (keys.Section key) = false
+is_file (keys.Line key) = false
 
 abbrev pub is_section : SelectionKey → Bool
 is_section keys.None = false

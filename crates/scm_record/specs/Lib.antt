@@ -1,18 +1,38 @@
+-- the keys of a state in order, and which of them are visible
 pub mod Keys
+-- sets of keys, as of those that are expanded
 pub mod KeySet
+-- where the selection moves to
 pub mod Moves
+-- what a toggle makes of the files
 pub mod Toggle
+-- what the quit dialog counts
+pub mod Counts
+-- a session, and what becomes of it by each thing that a user does to the document
 pub mod Session
+-- what was drawn last, as a step asks it
+pub mod Frames
+-- what an event makes of a session: begin here
 pub mod Step
+-- what an input answers
 pub mod Script
+-- the script of a testing input
 pub mod Testing
+-- the script of a script input
+pub mod Scripted
+-- the store of screens
 pub mod Store
-pub mod Stored
-pub mod Flow
-pub mod SessionView
+-- runs, as steps from point to point
 pub mod Run
-pub mod Turn
-pub mod Budget
-pub mod Keeping
-pub mod Ending
+-- which files an event keeps coherent
 pub mod Coherence
+-- what a run keeps of the state that it was given
+pub mod Keeping
+-- how a run ends
+pub mod Ending
+-- what the parts of a run say of the points that they reach
+pub mod Turn
+-- what the fields of a recorder stand for
+pub mod SessionView
+-- what the fields of a store stand for
+pub mod Stored

@@ -1,23 +1,41 @@
 -- Runs, as steps from point to point.
-use Rattle.std.specs.Prelude.{◌≡◌, ℕ, ◌+◌, List, [], ◌∷◌, Option, MatchOption, codes}
+use Rattle.std.specs.Prelude.{◌≡◌, ℕ, ◌+◌, List, [], ◌∷◌, Option, MatchOption, codes, if◌then◌else◌}
 use Rattle.scm_types.specs.declared.error.RecordError.{RecordError}
-use Rattle.scm_types.specs.Fault.{Fault, Cancelled, Other, ReadInput, fault_of}
+use Rattle.scm_types.specs.Fault.{Fault, Cancelled, Other, fault_of}
+use Rattle.scm_types.specs.Limits.{is_short_text}
 use Rattle.scm_record.specs.declared.events.Event.{Event}
-use Rattle.scm_record.specs.Script.{Read, Batch, BrokenRead, Edit}
-use Rattle.scm_record.specs.Session.{Session, without_pending}
-use Rattle.scm_record.specs.Step.{Change, Stays, Accepts, Cancels, Lacks, change}
+use Rattle.scm_record.specs.declared.inputs.TerminalKind.{TerminalKind}
+use Rattle.scm_record.specs.declared.recording.Flow.{Flow}
+use Rattle.scm_record.specs.declared.recording.Flow.TheVariants as flows
+use Rattle.scm_record.specs.Script.{Read, Batch, BrokenRead, Edit, Answer, BrokenEdit, no_events_left, no_more}
+use Rattle.scm_record.specs.Store.{Store}
+use Rattle.scm_record.specs.Session.{Session, after_frame, with_message, without_pending}
+use Rattle.scm_record.specs.Frames.{scene_of}
+use Rattle.scm_record.specs.Step.{Change, change}
 
--- a session, what is left of its script, the texts of the store, and how many frames were drawn
+-- what a run goes by: the screen, what is left of a script, and a store
+pub record Setting : Type 0 where
+  pub kind : TerminalKind
+  pub reads : List Read
+  pub edits : List Edit
+  pub store : Store
+
+abbrev pub setting : TerminalKind → List Read → List Edit → Store → Setting
+setting kind reads edits store = record { kind = kind; reads = reads; edits = edits; store = store }
+
+-- a session, the screen, what is left of its script, the texts of the store, and how many frames were drawn
 pub record World : Type 0 where
   pub session : Session
+  pub kind : TerminalKind
   pub reads : List Read
   pub edits : List Edit
   pub texts : List (Option (List ℕ))
   pub frames : ℕ
 
-abbrev pub world : Session → List Read → List Edit → List (Option (List ℕ)) → ℕ → World
-world session reads edits texts frames =
-    record { session = session; reads = reads; edits = edits; texts = texts; frames = frames }
+-- the world of a session in a setting, after so many frames
+abbrev pub world_in : Setting → Session → ℕ → World
+world_in a s frames =
+    record { session = s; kind = a.kind; reads = a.reads; edits = a.edits; texts = a.store.texts; frames = frames }
 
 abbrev pub with_session : World → Session → World
 with_session w s = record w { session = s }
@@ -25,8 +43,12 @@ with_session w s = record w { session = s }
 abbrev pub with_reads : World → List Read → World
 with_reads w reads = record w { reads = reads }
 
+abbrev pub with_edits : World → List Edit → World
+with_edits w edits = record w { edits = edits }
+
+-- a frame is drawn, of what was cleared too
 abbrev pub with_frame_drawn : World → World
-with_frame_drawn w = record w { frames = w.frames + 1 }
+with_frame_drawn w = record w { session = after_frame w.session; frames = w.frames + 1 }
 
 -- what an event makes of a world: the run goes on, is accepted, or fails
 pub data Outcome : Type 0 where
@@ -45,19 +67,34 @@ pub data Point : Type 0 where
 abbrev pub not_in_stage : Fault
 not_in_stage = Other (codes "event not in this stage")
 
-abbrev pub no_events_left : Fault
-no_events_left = ReadInput (codes "no events left")
+abbrev pub too_long : Fault
+too_long = Other (codes "commit message too long")
 
--- what a change of the session does
+-- the answer of an edit becomes the message of a commit
+abbrev pub answered : World → ℕ → Edit → Outcome
+answered w commit (Answer text) =
+    if is_short_text text then Goes (with_session w (with_message w.session commit text)) else Breaks too_long w
+answered w commit (BrokenEdit fault) = Breaks fault w
+
+-- the first of the edits that are left
+abbrev pub edited : World → ℕ → List Edit → Outcome
+edited w commit [] = answered (with_edits w []) commit no_more
+edited w commit (edit ∷ edits) = answered (with_edits w edits) commit edit
+
+-- what follows in a world whose session the event has changed
+abbrev pub outcome_by : World → Flow → Outcome
+outcome_by w flows.GoOn = Goes w
+outcome_by w flows.Accept = Ends w
+outcome_by w flows.Cancel = Breaks Cancelled w
+outcome_by w (flows.Edit commit) = edited w commit w.edits
+outcome_by w flows.Lack = Breaks not_in_stage w
+
 abbrev pub changed : World → Change → Outcome
-changed w (Stays s) = Goes (with_session w s)
-changed w (Accepts s) = Ends (with_session w s)
-changed w (Cancels s) = Breaks Cancelled (with_session w s)
-changed w (Lacks s) = Breaks not_in_stage (with_session w s)
+changed w c = outcome_by (with_session w c.session) c.flow
 
 -- an event, with the session that was drawn last
 abbrev pub step : Session → World → Event → Outcome
-step drawn w event = changed w (change w.session event)
+step drawn w event = changed w (change (scene_of w.kind drawn) w.session event)
 
 abbrev pub resume : Session → List Event → Outcome → Point
 resume drawn rest (Goes w) = Within drawn w rest
@@ -115,7 +152,7 @@ pub record Shows (w v : World) : Type 0 where
   pub texts : w.texts ≡ v.texts
   pub frames : w.frames ≡ v.frames
 
--- the error ends what begins at p: a fault by the steps, and want of memory at a point that is reached
+-- the error ends what begins at p: a fault by the steps, and refused memory at a point that is reached
 abbrev pub Stops : RecordError → Point → World → Type 0
 Stops error p w =
     MatchOption (fault_of error) ((q : Point) × Reaches p q × Shows w (world_at q)) (λ fault. Reaches p (Failed fault w))

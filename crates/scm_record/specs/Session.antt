@@ -1,27 +1,30 @@
--- A session, as values: the state, and what the user has selected, unfolded and opened.
-use Rattle.std.specs.Prelude.{ℕ, Bool, true, false, ◌&&◌, List, [], ◌∷◌, ◌++◌, filter, count_by, Option, Some, None, if◌then◌else◌}
+-- A session, as values: the state, what the user has selected, unfolded and opened, how far the screen is scrolled, whether it
+-- was cleared since the last frame, and what is pending. And what becomes of it by each thing that a user does to the document.
+use Rattle.std.specs.Prelude.{ℕ, Bool, true, false, ◌&&◌, List, [], ◌∷◌, ◌++◌, filter, Option, Some, None, option_and_then, slice_get, if◌then◌else◌}
 use Rattle.scm_types.specs.declared.state.Commit.{Commit}
 use Rattle.scm_types.specs.declared.file.File.{File}
 use Rattle.scm_types.specs.declared.state.RecordState.{RecordState}
-use Rattle.scm_types.specs.declared.tristate.Tristate.{Tristate}
-use Rattle.scm_types.specs.declared.tristate.Tristate.TheVariants as tristates
-use Rattle.scm_types.specs.Marks.{file_marks, tristate_of}
+use Rattle.scm_types.specs.Edits.{modify}
+use Rattle.scm_view.specs.declared.keys.SelectionKey.{SelectionKey}
+use Rattle.scm_view.specs.declared.keys.SelectionKey.TheVariants as keys
+use Rattle.scm_view.specs.declared.quit_dialog.QuitDialog.{QuitDialog}
 use Rattle.scm_record.specs.declared.events.Event.{Event}
 use Rattle.scm_record.specs.declared.events.Event.TheVariants as events
-use Rattle.scm_record.specs.declared.keys.SelectionKey.{SelectionKey}
-use Rattle.scm_record.specs.declared.keys.SelectionKey.TheVariants as keys
-use Rattle.scm_record.specs.declared.quit_dialog.QuitDialog.{QuitDialog}
-use Rattle.scm_record.specs.Keys.{all_keys, visible_keys, first_key, is_section, file_of_section, file_of_line, section_of_line}
-use Rattle.scm_record.specs.KeySet.{has_key, with_key, without_key, key_set}
-use Rattle.scm_record.specs.Moves.{next_key, previous_key, inner_key}
-use Rattle.scm_record.specs.Toggle.{toggled_files}
+use Rattle.scm_record.specs.Keys.{all_keys, visible_keys, first_key, is_section, file_of, file_of_section, file_of_line, section_of_line}
+use Rattle.scm_record.specs.KeySet.{has_key, same_set, with_key, without_key, with_key_flipped, key_set}
+use Rattle.scm_record.specs.Moves.{next_key, previous_key, inner_key, of_kind}
+use Rattle.scm_record.specs.Toggle.{with_key_toggled, with_all_inverted, with_all_set}
 
 pub record Session : Type 0 where
   pub state : RecordState
   pub selection : SelectionKey
   pub expanded : List SelectionKey
   pub quit_dialog : Option QuitDialog
+  pub scroll : ℕ
+  pub cleared : Bool
   pub pending : List Event
+
+-- ---- the beginning
 
 abbrev pub no_message : Commit
 no_message = record { message = None }
@@ -42,12 +45,47 @@ start state = record {
   selection = first_key state.files;
   expanded = key_set (filter is_section (all_keys state.files));
   quit_dialog = None;
+  scroll = 0;
+  cleared = false;
   pending = [];
 }
 
--- the selection is to be brought onto the screen
-abbrev pub ensuring : Session → Session
-ensuring s = record s { pending = s.pending ++ events.EnsureSelectionInViewport ∷ [] }
+-- ---- parts that change alone
+
+-- the event is to be handled after the next frame
+abbrev pub with_pushed : Session → Event → Session
+with_pushed s event = record s { pending = s.pending ++ event ∷ [] }
+
+-- the selection is to be brought onto the screen after the next frame
+abbrev pub with_ensure : Session → Session
+with_ensure s = with_pushed s events.EnsureSelectionInViewport
+
+abbrev pub without_pending : Session → Session
+without_pending s = record s { pending = [] }
+
+abbrev pub with_dialog : Session → Option QuitDialog → Session
+with_dialog s dialog = record s { quit_dialog = dialog }
+
+abbrev pub with_scroll : Session → ℕ → Session
+with_scroll s scroll = record s { scroll = scroll }
+
+-- the screen is cleared
+abbrev pub after_redraw : Session → Session
+after_redraw s = record s { cleared = true }
+
+-- a frame is drawn over what was cleared
+abbrev pub after_frame : Session → Session
+after_frame s = record s { cleared = false }
+
+-- ---- moves
+
+-- the visible keys, in order
+abbrev pub visible : Session → List SelectionKey
+visible s = visible_keys (has_key s.expanded) s.state.files
+
+-- those of the selection's kind
+abbrev pub visible_of_kind : Session → List SelectionKey
+visible_of_kind s = of_kind (visible s) s.selection
 
 -- the set with the file and the section that the key is in
 abbrev pub with_keys_above : List SelectionKey → SelectionKey → List SelectionKey
@@ -57,67 +95,95 @@ with_keys_above expanded (keys.Section key) = with_key expanded (file_of_section
 with_keys_above expanded (keys.Line key) = with_key (with_key expanded (file_of_line key)) (section_of_line key)
 
 -- the key is selected, and what it is in is expanded
-abbrev pub selecting : Session → SelectionKey → Session
-selecting s key = ensuring (record s { selection = key; expanded = with_keys_above s.expanded key })
+abbrev pub at_key : Session → SelectionKey → Session
+at_key s key = record s { selection = key; expanded = with_keys_above s.expanded key }
+
+-- likewise by a key of the keyboard, which also brings it onto the screen
+abbrev pub after_select : Session → SelectionKey → Session
+after_select s key = with_ensure (at_key s key)
+
+-- where the selection isn't visible these four go to the first file
+abbrev pub after_next : Session → Session
+after_next s = after_select s (next_key (visible s) s.selection (first_key s.state.files))
+
+abbrev pub after_previous : Session → Session
+after_previous s = after_select s (previous_key (visible s) s.selection (first_key s.state.files))
+
+abbrev pub after_next_same_kind : Session → Session
+after_next_same_kind s = after_select s (next_key (visible_of_kind s) s.selection (first_key s.state.files))
+
+abbrev pub after_previous_same_kind : Session → Session
+after_previous_same_kind s = after_select s (previous_key (visible_of_kind s) s.selection (first_key s.state.files))
+
+-- the next key of the kind is selected, and nothing where the selection isn't visible
+abbrev pub after_advance : Session → Session
+after_advance s = after_select s (next_key (visible_of_kind s) s.selection keys.None)
+
+abbrev pub after_inner : Session → Session
+after_inner s = after_select s (inner_key (all_keys s.state.files) s.selection)
+
+-- ---- folds
 
 -- the key is folded
-abbrev pub folding : Session → SelectionKey → Session
-folding s key = ensuring (record s { expanded = without_key s.expanded key })
-
--- the keys that are seen
-abbrev pub seen_keys : Session → List SelectionKey
-seen_keys s = visible_keys (has_key s.expanded) s.state.files
-
-abbrev pub to_next : Session → Session
-to_next s = selecting s (next_key (seen_keys s) s.selection (first_key s.state.files))
-
-abbrev pub to_previous : Session → Session
-to_previous s = selecting s (previous_key (seen_keys s) s.selection (first_key s.state.files))
-
-abbrev pub to_inner : Session → Session
-to_inner s = selecting s (inner_key (all_keys s.state.files) s.selection)
+abbrev pub after_fold : Session → SelectionKey → Session
+after_fold s key = with_ensure (record s { expanded = without_key s.expanded key })
 
 -- a file is folded, a section folded or left for its file, a line left for its section
-abbrev pub out_of : Session → Bool → SelectionKey → Session
-out_of s fold_section keys.None = s
-out_of s fold_section (keys.File key) = folding s (keys.File key)
-out_of s fold_section (keys.Section key) =
+abbrev pub outside_of : Session → Bool → SelectionKey → Session
+outside_of s fold_section keys.None = s
+outside_of s fold_section (keys.File key) = after_fold s (keys.File key)
+outside_of s fold_section (keys.Section key) =
     if fold_section && has_key s.expanded (keys.Section key)
-    then folding s (keys.Section key)
-    else selecting s (file_of_section key)
-out_of s fold_section (keys.Line key) = selecting s (section_of_line key)
+    then after_fold s (keys.Section key)
+    else after_select s (file_of_section key)
+outside_of s fold_section (keys.Line key) = after_select s (section_of_line key)
 
-abbrev pub to_outer : Session → Bool → Session
-to_outer s fold_section = out_of s fold_section s.selection
+abbrev pub after_outer : Session → Bool → Session
+after_outer s fold_section = outside_of s fold_section s.selection
+
+-- the set with the fold of a file or of a section flipped; nothing else has a fold
+abbrev pub with_fold_flipped : List SelectionKey → SelectionKey → List SelectionKey
+with_fold_flipped expanded keys.None = expanded
+with_fold_flipped expanded (keys.File key) = with_key_flipped expanded (keys.File key)
+with_fold_flipped expanded (keys.Section key) = with_key_flipped expanded (keys.Section key)
+with_fold_flipped expanded (keys.Line key) = expanded
+
+abbrev pub after_expand : Session → Session
+after_expand s = with_ensure (record s { expanded = with_fold_flipped s.expanded s.selection })
+
+-- where exactly all keys are expanded all is folded and the selection's file selected, else all keys are expanded
+abbrev pub with_all_flipped : Session → Session
+with_all_flipped s =
+    if same_set s.expanded (key_set (all_keys s.state.files))
+    then record s { selection = file_of s.selection; expanded = [] }
+    else record s { expanded = key_set (all_keys s.state.files) }
+
+abbrev pub after_expand_all : Session → Session
+after_expand_all s = with_ensure (with_all_flipped s)
+
+-- ---- marks and messages
+
+-- the files changed so, but as they were where the state is read-only
+abbrev pub with_files_changed : (List File → List File) → Session → Session
+with_files_changed change s =
+    if s.state.is_read_only then s else record s { state = record s.state { files = change s.state.files } }
 
 -- what is selected is toggled
-abbrev pub toggling : Session → Session
-toggling s = record s { state = record s.state { files = toggled_files s.state.is_read_only s.selection s.state.files } }
+abbrev pub after_toggle : Session → Session
+after_toggle s = with_files_changed (with_key_toggled s.selection) s
 
-abbrev pub is_text : Option (List ℕ) → Bool
-is_text None = false
-is_text (Some []) = false
-is_text (Some (byte ∷ bytes)) = true
+abbrev pub after_toggle_all : Session → Session
+after_toggle_all s = with_files_changed with_all_inverted s
 
--- how many commits have a message that isn't empty
-abbrev pub message_count : Session → ℕ
-message_count s = count_by (λ (c : Commit). is_text c.message) s.state.commits
+abbrev pub after_toggle_all_uniform : Session → Session
+after_toggle_all_uniform s = with_files_changed with_all_set s
 
-abbrev pub is_changed_by : Tristate → Bool
-is_changed_by tristates.False = false
-is_changed_by tristates.Partial = true
-is_changed_by tristates.True = true
+-- the message of a commit, if there is one
+abbrev pub message_of : Session → ℕ → Option (List ℕ)
+message_of s i = option_and_then (λ (c : Commit). c.message) (slice_get s.state.commits i)
 
--- whether a file isn't wholly unchecked
-abbrev pub is_changed : File → Bool
-is_changed file = is_changed_by (tristate_of (file_marks file))
+abbrev pub commit_saying : List ℕ → Commit → Commit
+commit_saying text c = record c { message = Some text }
 
--- how many files aren't wholly unchecked
-abbrev pub changed_count : Session → ℕ
-changed_count s = count_by is_changed s.state.files
-
-abbrev pub with_dialog : Session → Option QuitDialog → Session
-with_dialog s dialog = record s { quit_dialog = dialog }
-
-abbrev pub without_pending : Session → Session
-without_pending s = record s { pending = [] }
+abbrev pub with_message : Session → ℕ → List ℕ → Session
+with_message s i text = record s { state = record s.state { commits = modify (commit_saying text) s.state.commits i } }

@@ -8,5 +8,7 @@ session_of r = record {
   selection = r.selection;
   expanded = r.expanded;
   quit_dialog = r.quit_dialog;
+  scroll = r.scroll;
+  cleared = r.cleared;
   pending = r.pending.items;
 }

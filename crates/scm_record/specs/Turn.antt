@@ -1,36 +1,53 @@
--- What the parts of a run say of the points that they come to.
-use Rattle.std.specs.Prelude.{◌≡◌, List, MatchOption}
+-- What the parts of a run say of the points that they reach.
+use Rattle.std.specs.Prelude.{◌≡◌, ℕ, List, None, MatchOption}
 use Rattle.scm_types.specs.declared.error.RecordError.{RecordError}
-use Rattle.scm_types.specs.Fault.{Fault, Cancelled, fault_of}
+use Rattle.scm_types.specs.Fault.{Fault, fault_of}
 use Rattle.scm_record.specs.declared.events.Event.{Event}
-use Rattle.scm_record.specs.declared.recording.Flow.{Flow}
-use Rattle.scm_record.specs.declared.recording.Flow.TheVariants as flows
+use Rattle.scm_record.specs.declared.runs.Next.{Next}
+use Rattle.scm_record.specs.declared.runs.Next.TheVariants as nexts
 use Rattle.scm_record.specs.Session.{Session}
-use Rattle.scm_record.specs.Run.{World, with_session, Outcome, Goes, Ends, Breaks, Point, Before, Within, Accepted, Failed, not_in_stage, Reaches, Shows}
+use Rattle.scm_record.specs.Run.{Setting, World, world_in, Outcome, Goes, Ends, Breaks, step, Point, Before, Within, Accepted, Failed, Reaches, Shows, Stops}
 
--- the outcome that a flow and the world after it stand for
-abbrev pub outcome_of : Flow → World → Outcome
-outcome_of flows.GoOn w = Goes w
-outcome_of flows.Accept w = Ends w
-outcome_of flows.Cancel w = Breaks Cancelled w
-outcome_of flows.Lack w = Breaks not_in_stage w
+-- the outcome that stands for what comes next, in the world after it
+abbrev pub outcome_of : Next → World → Outcome
+outcome_of nexts.GoOn w = Goes w
+outcome_of nexts.Accept w = Ends w
 
--- the point that a flow and the world after it stand for
-abbrev pub point_of : Flow → World → Point
-point_of flows.GoOn w = Before w
-point_of flows.Accept w = Accepted w
-point_of flows.Cancel w = Failed Cancelled w
-point_of flows.Lack w = Failed not_in_stage w
+-- the point that stands for what comes next
+abbrev pub point_of : Next → World → Point
+point_of nexts.GoOn w = Before w
+point_of nexts.Accept w = Accepted w
 
--- in whatever world, the events lead by this flow to this session
-abbrev pub Handles : Session → List Event → Flow → Session → Type 0
-Handles s events flow new =
-    (drawn : Session) (w : World) → Reaches (Within drawn (with_session w s) events) (point_of flow (with_session w new))
+-- the error is this fault, or memory was refused
+abbrev pub IsFault : Fault → RecordError → Type 0
+IsFault expected error = MatchOption (fault_of error) (Unit {0}) (λ fault. fault ≡ expected)
+
+-- the error ends a step from w with this outcome, and leaves v: by the outcome's fault, also where memory for its words is
+-- refused, or by memory refused before the script and the store were changed
+pub data Refuses (error : RecordError) (w : World) (outcome : Outcome) (v : World) : Type 0 where
+  faulty : (fault : Fault) → outcome ≡ Breaks fault v → IsFault fault error → Refuses error w outcome v
+  out_of_memory : fault_of error ≡ None → Shows v w → Refuses error w outcome v
+
+-- an event leads from a session and a setting to the next ones, whatever was drawn last, after any number of frames
+abbrev pub Follows : Event → Next → Session → Setting → Session → Setting → Type 0
+Follows event next s a t b =
+    (drawn : Session) (frames : ℕ) → step drawn (world_in a s frames) event ≡ outcome_of next (world_in b t frames)
+
+-- the error refuses an event
+abbrev pub Refused : Event → RecordError → Session → Setting → Session → Setting → Type 0
+Refused event error s a t b =
+    (drawn : Session) (frames : ℕ) → Refuses error (world_in a s frames) (step drawn (world_in a s frames) event) (world_in b t frames)
+
+-- the events of a batch lead on
+abbrev pub Handles : List Event → Next → Session → Setting → Session → Setting → Type 0
+Handles events next s a t b =
+    (drawn : Session) (frames : ℕ) → Reaches (Within drawn (world_in a s frames) events) (point_of next (world_in b t frames))
+
+-- the error ends the batch
+abbrev pub Ceases : List Event → RecordError → Session → Setting → Session → Setting → Type 0
+Ceases events error s a t b =
+    (drawn : Session) (frames : ℕ) → Stops error (Within drawn (world_in a s frames) events) (world_in b t frames)
 
 -- an error where a batch is due: that fault comes by the steps, or memory was refused and the script and the store are as before
 abbrev pub BatchStops : RecordError → Point → World → World → Type 0
 BatchStops error p old new = MatchOption (fault_of error) (Shows new old) (λ fault. p ≡ Failed fault new)
-
--- the error is this fault, or want of memory
-abbrev pub IsFault : Fault → RecordError → Type 0
-IsFault expected error = MatchOption (fault_of error) (Unit {0}) (λ fault. fault ≡ expected)

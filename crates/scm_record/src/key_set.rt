@@ -1,10 +1,10 @@
 //! A set of keys, as of those that are expanded.
 ghost use Rattle.std.specs.Prelude.{◌≡◌, [], IfErr, OnErr, OnOk, IfOk};
 ghost use Rattle.scm_types.specs.declared.error.RecordError.TheVariants.{OutOfMemory};
-ghost use Rattle.scm_record.specs.KeySet.{has_key, key_set, with_key, without_key};
+ghost use Rattle.scm_record.specs.KeySet.{has_key, key_set, same_set, with_key, with_key_flipped, without_key};
 
-use crate::keys::SelectionKey;
 use scm_types::RecordError;
+use scm_view::SelectionKey;
 use std::alloc::Global;
 use std::collections::BTreeSet;
 use std::marker::Model;
@@ -17,7 +17,7 @@ pub struct KeySet {
 
 impl Model for KeySet {
     ghost use Rattle.std.specs.Prelude.{List};
-    ghost use Rattle.scm_record.specs.declared.keys.SelectionKey.{SelectionKey};
+    ghost use Rattle.scm_view.specs.declared.keys.SelectionKey.{SelectionKey};
 
     ghost Value = { List SelectionKey };
 
@@ -41,7 +41,14 @@ impl KeySet {
         self.keys.contains(&key)
     }
 
-    /// Adds the key. Where memory is wanting the set is as it was.
+    /// Whether two sets have the same keys.
+    pub fn is_same(&self, other: &KeySet) -> bool
+        ensures { result ≡ same_set self.now other.now }
+    {
+        self.keys == other.keys
+    }
+
+    /// Adds the key. Where memory is refused the set is as it was.
     pub fn insert(&mut self, key: SelectionKey) -> Result<(), RecordError>
         ensures ok { OnOk result (self.new ≡ with_key self.old key) }
         ensures unchanged { OnErr result (self.new ≡ self.old) }
@@ -56,6 +63,20 @@ impl KeySet {
         ensures { self.new ≡ without_key self.old key }
     {
         self.keys.remove(&key);
+    }
+
+    /// Adds the key, or takes it out if the set has it. Where memory is refused the set is as it was.
+    pub fn flip(&mut self, key: SelectionKey) -> Result<(), RecordError>
+        ensures ok { OnOk result (self.new ≡ with_key_flipped self.old key) }
+        ensures unchanged { OnErr result (self.new ≡ self.old) }
+        ensures err { IfErr result (λ e. e ≡ OutOfMemory) }
+    {
+        if self.contains(key) {
+            self.remove(key);
+            Ok(())
+        } else {
+            self.insert(key)
+        }
     }
 }
 

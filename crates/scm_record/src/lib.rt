@@ -1,31 +1,39 @@
 //! The recorder: what a user does to a state of changes, one event after the other.
 //!
 //! A [`Recorder`] is made of a state, and run on an input and a store of screens. The names of
-//! the state's crate stand here too.
+//! the crates below stand here too.
 #![tactic(auto)]
 
+mod counts;
 pub mod events;
 pub mod helpers;
 pub mod inputs;
 mod key_lists;
 mod key_set;
-pub mod keys;
 mod moves;
-pub mod quit_dialog;
+mod parents;
 pub mod recording;
 mod runs;
+pub mod scripts;
 pub mod store;
 pub mod toggles;
 
 pub use events::{Event, TestingScreenshot};
 pub use helpers::TestingInput;
 pub use inputs::{RecordInput, TerminalKind};
-pub use keys::{FileKey, LineKey, SectionKey, SelectionKey};
-pub use quit_dialog::{QuitDialog, QuitDialogButtonId};
 pub use recording::Recorder;
+pub use scm_cells::{
+    Clusters, Grid, Line, Mask, Rect, RectSize, ScreenRect, Span, push_spans_from_line,
+    replace_control_character, text_width,
+};
+pub use scm_render::{Component, DrawTrace, DrawnRect, DrawnRects, Viewport, centered_rect};
 pub use scm_types::{
     ChangeType, Commit, File, FileMode, IsizeExt, Items, OwnedText, RecordError, RecordState,
     Section, SectionChangedLine, SelectedChanges, SelectedContents, Text, Tristate, TryClone,
     UsizeExt, consts, laws, make_binary_description,
 };
+pub use scm_view::{
+    ComponentId, FileKey, LineKey, QuitDialog, QuitDialogButtonId, SectionKey, SelectionKey,
+};
+pub use scripts::{ScriptEdit, ScriptInput, ScriptRead};
 pub use store::Screens;

@@ -1,19 +1,19 @@
 //! Where the selection moves to, in lists of keys.
 ghost use Rattle.std.specs.Prelude.{◌≡◌, find, position};
 ghost use Rattle.scm_record.specs.KeySet.{is_key};
-ghost use Rattle.scm_record.specs.Keys.{is_line, is_section};
-ghost use Rattle.scm_record.specs.Moves.{inner_key, is_inside, next_key, previous_key};
+ghost use Rattle.scm_record.specs.Keys.{is_file, is_line, is_section};
+ghost use Rattle.scm_record.specs.Moves.{inner_key, is_inside, is_same_kind, next_key, of_kind, previous_key};
 
-use crate::keys::SelectionKey;
+use scm_view::SelectionKey;
 
-// Whether two keys are the same.
-fn is_key(key: SelectionKey, other: SelectionKey) -> bool
+/// Whether two keys are the same.
+pub(crate) fn is_key(key: SelectionKey, other: SelectionKey) -> bool
     ensures { result ≡ is_key key other }
 {
     key == other
 }
 
-// The place of a key in the list.
+/// The place of a key in the list.
 fn position_of(list: &[SelectionKey], key: SelectionKey) -> Option<usize>
     ensures { result ≡ position (is_key key) list.now }
 {
@@ -49,6 +49,17 @@ pub(crate) fn previous_key(
     }
 }
 
+/// Whether a key is a file's.
+fn is_file(key: SelectionKey) -> bool
+    ensures { result ≡ is_file key }
+{
+    match key {
+        SelectionKey::File(_) => true,
+        SelectionKey::None | SelectionKey::Section(_) | SelectionKey::Line(_) => false,
+    }
+}
+
+/// Whether a key is a section's.
 fn is_section(key: SelectionKey) -> bool
     ensures { result ≡ is_section key }
 {
@@ -58,6 +69,7 @@ fn is_section(key: SelectionKey) -> bool
     }
 }
 
+/// Whether a key is a line's.
 fn is_line(key: SelectionKey) -> bool
     ensures { result ≡ is_line key }
 {
@@ -67,7 +79,7 @@ fn is_line(key: SelectionKey) -> bool
     }
 }
 
-// Whether a key is of the kind that lies inside the selection.
+/// Whether a key is of the kind that lies inside the selection.
 fn is_inside(selection: SelectionKey, key: SelectionKey) -> bool
     ensures { result ≡ is_inside selection key }
 {
@@ -78,7 +90,7 @@ fn is_inside(selection: SelectionKey, key: SelectionKey) -> bool
     }
 }
 
-// The first key of the kind that lies inside the selection.
+/// The first key of the kind that lies inside the selection.
 fn first_inside(list: &[SelectionKey], selection: SelectionKey) -> Option<SelectionKey>
     ensures { result ≡ find (is_inside selection) list.now }
 {
@@ -93,4 +105,23 @@ pub(crate) fn inner_key(list: &[SelectionKey], selection: SelectionKey) -> Selec
         None => selection,
         Some(index) => first_inside(&list[index + 1..], selection).unwrap_or(selection),
     }
+}
+
+/// Whether a key is a file as the selection is, or a section, or a line.
+fn is_same_kind(selection: SelectionKey, key: SelectionKey) -> bool
+    ensures { result ≡ is_same_kind selection key }
+{
+    match selection {
+        SelectionKey::None => false,
+        SelectionKey::File(_) => is_file(key),
+        SelectionKey::Section(_) => is_section(key),
+        SelectionKey::Line(_) => is_line(key),
+    }
+}
+
+/// Leaves the keys of the selection's kind in the list.
+pub(crate) fn keep_kind(list: &mut Vec<SelectionKey>, selection: SelectionKey)
+    ensures { list.new.items ≡ of_kind list.old.items selection }
+{
+    list.retain(|key| is_same_kind(selection, *key));
 }

@@ -1,19 +1,17 @@
 //! Runs: a session over an input, from its first frame to its end.
-ghost use Rattle.std.specs.Prelude.{◌≡◌, ℕ, ◌+◌, ◌≤◌, IfErr, IfOk, IsTrue, List, OnOk, Option};
+ghost use Rattle.std.specs.Prelude.{◌≡◌, ℕ, ◌+◌, ◌≤◌, false, IfErr, IfOk, IsTrue, List, None, OnOk, Option, string_bytes};
 ghost use Rattle.scm_types.specs.declared.error.RecordError.TheVariants.{OutOfMemory};
 ghost use Rattle.scm_types.specs.declared.state.RecordState.{RecordState};
-ghost use Rattle.scm_types.specs.Limits.{is_accepted_state};
-ghost use Rattle.scm_types.specs.declared.file.File.{File};
-ghost use Rattle.scm_record.specs.declared.keys.SelectionKey.{SelectionKey};
-ghost use Rattle.scm_record.specs.Coherence.{KeepsCoherent};
-ghost use Rattle.scm_record.specs.Toggle.{with_key_toggled};
-ghost use Rattle.scm_record.specs.Store.{count_up};
-ghost use Rattle.scm_record.specs.Session.{Session, start};
-ghost use Rattle.scm_record.specs.Run.{Before, Within, Accepted, World, world, batch, not_in_stage, HasOneEnd, Reaches, Stops};
-ghost use Rattle.scm_record.specs.Turn.{BatchStops, Handles, IsFault, point_of};
-ghost use Rattle.scm_record.specs.Budget.{counted, turns_left};
-ghost use Rattle.scm_record.specs.Ending.{EndsWith, FailsWith, setting, world_in};
+ghost use Rattle.scm_types.specs.Limits.{is_accepted_state, is_short_text};
+ghost use Rattle.scm_record.specs.declared.events.Event.{Event};
+ghost use Rattle.scm_record.specs.Script.{TakesOr, edit_of, no_more};
+ghost use Rattle.scm_record.specs.Store.{Store, count_up};
+ghost use Rattle.scm_record.specs.Session.{Session, message_of, start};
+ghost use Rattle.scm_record.specs.Run.{Before, Within, Goes, World, batch, edited, not_in_stage, setting, too_long, world_in, HasOneEnd, Reaches, Stops};
+ghost use Rattle.scm_record.specs.Turn.{BatchStops, Ceases, Follows, Handles, IsFault, Refused, Refuses, point_of};
+ghost use Rattle.scm_record.specs.Ending.{EndsWith, FailsWith};
 ghost use Rattle.scm_record.specs.Keeping.{IsKept};
+ghost use Rattle.scm_record.specs.Coherence.{StepKeepsCoherent, is_toggle_all};
 
 use crate::events::Event;
 use crate::inputs::RecordInput;
@@ -22,7 +20,16 @@ use crate::store::Screens;
 use scm_types::{RecordError, RecordState};
 use std::alloc::Global;
 
-// The fault of an event that can't be handled yet.
+/// What follows the events of a batch.
+#[derive(Clone, Copy)]
+pub(crate) enum Next {
+    /// The run goes on.
+    GoOn,
+    /// The changes are accepted.
+    Accept,
+}
+
+/// The fault of an event that can't be handled yet.
 fn event_not_in_stage(alloc: Global) -> RecordError
     ensures { IsFault not_in_stage result }
 {
@@ -32,34 +39,121 @@ fn event_not_in_stage(alloc: Global) -> RecordError
     }
 }
 
-// Handles the events of a batch, up to one that ends the run.
-fn handle_all(recorder: &mut Recorder<'_>, events: &[Event]) -> Result<Flow, RecordError>
-    ensures ok { IfOk result (λ flow. Handles recorder.old events.now flow recorder.new) }
-    ensures err { IfErr result (λ e. e ≡ OutOfMemory) }
+/// The fault of a message that is too long.
+fn too_long(alloc: Global) -> RecordError
+    ensures { IsFault too_long result }
 {
-    for event in events {
-        match recorder.change(*event)? {
-            Flow::GoOn => {}
-            Flow::Accept => return Ok(Flow::Accept),
-            Flow::Cancel => return Ok(Flow::Cancel),
-            Flow::Lack => return Ok(Flow::Lack),
-        }
+    match String::from_str(alloc, "commit message too long") {
+        Ok(words) => RecordError::Other(words),
+        Err(_) => RecordError::OutOfMemory,
     }
-    Ok(Flow::GoOn)
 }
 
-// The next batch: all pending events, or the next read.
+/// Whether a message is within its limit of 1,000,000 bytes.
+fn is_short(text: &String) -> bool
+    ensures { result ≡ is_short_text (string_bytes text.now) }
+{
+    text.len() <= 1_000_000
+}
+
+/// Asks the input for the message of a commit.
+fn ask(
+    recorder: &Recorder<'_>,
+    input: &mut dyn RecordInput,
+    commit: usize,
+) -> Result<String, RecordError>
+    ensures edit { TakesOr no_more (edit_of result) (edits input.old) (edits input.new) }
+    ensures reads { reads input.new ≡ reads input.old }
+    ensures kind { kind input.new ≡ kind input.old }
+{
+    input.edit_commit_message(recorder.message(commit))
+}
+
+/// Gives a commit the message that the input answers.
+fn edit(
+    recorder: &mut Recorder<'_>,
+    input: &mut dyn RecordInput,
+    commit: usize,
+) -> Result<(), RecordError>
+    ensures ok { OnOk result ((store : Store) (frames : ℕ) →
+        edited (world_in (setting (kind input.old) (reads input.old) (edits input.old) store) recorder.old frames) commit (edits input.old)
+        ≡ Goes (world_in (setting (kind input.new) (reads input.new) (edits input.new) store) recorder.new frames)) }
+    ensures err { IfErr result (λ e. (store : Store) (frames : ℕ) →
+        Refuses e (world_in (setting (kind input.old) (reads input.old) (edits input.old) store) recorder.old frames)
+        (edited (world_in (setting (kind input.old) (reads input.old) (edits input.old) store) recorder.old frames) commit (edits input.old))
+        (world_in (setting (kind input.new) (reads input.new) (edits input.new) store) recorder.new frames)) }
+    ensures kind { kind input.new ≡ kind input.old }
+{
+    let text = ask(recorder, input, commit)?;
+    if is_short(&text) {
+        recorder.set_message(commit, text);
+        Ok(())
+    } else {
+        Err(too_long(recorder.allocator()))
+    }
+}
+
+/// Handles one event.
+fn handle(
+    recorder: &mut Recorder<'_>,
+    input: &mut dyn RecordInput,
+    event: Event,
+) -> Result<Next, RecordError>
+    ensures ok { IfOk result (λ next. (store : Store) → Follows event next
+        recorder.old (setting (kind input.old) (reads input.old) (edits input.old) store)
+        recorder.new (setting (kind input.new) (reads input.new) (edits input.new) store)) }
+    ensures err { IfErr result (λ e. (store : Store) → Refused event e
+        recorder.old (setting (kind input.old) (reads input.old) (edits input.old) store)
+        recorder.new (setting (kind input.new) (reads input.new) (edits input.new) store)) }
+    ensures kind { kind input.new ≡ kind input.old }
+{
+    match recorder.change(event)? {
+        Flow::GoOn => Ok(Next::GoOn),
+        Flow::Accept => Ok(Next::Accept),
+        Flow::Cancel => Err(RecordError::Cancelled),
+        Flow::Edit(commit) => {
+            edit(recorder, input, commit)?;
+            Ok(Next::GoOn)
+        }
+        Flow::Lack => Err(event_not_in_stage(recorder.allocator())),
+    }
+}
+
+/// Handles the events of a batch, up to one that ends the run.
+fn handle_all(
+    recorder: &mut Recorder<'_>,
+    input: &mut dyn RecordInput,
+    events: &[Event],
+) -> Result<Next, RecordError>
+    ensures ok { IfOk result (λ next. (store : Store) → Handles events.now next
+        recorder.old (setting (kind input.old) (reads input.old) (edits input.old) store)
+        recorder.new (setting (kind input.new) (reads input.new) (edits input.new) store)) }
+    ensures err { IfErr result (λ e. (store : Store) → Ceases events.now e
+        recorder.old (setting (kind input.old) (reads input.old) (edits input.old) store)
+        recorder.new (setting (kind input.new) (reads input.new) (edits input.new) store)) }
+    ensures kind { kind input.new ≡ kind input.old }
+{
+    for event in events {
+        match handle(recorder, input, *event)? {
+            Next::GoOn => {}
+            Next::Accept => return Ok(Next::Accept),
+        }
+    }
+    Ok(Next::GoOn)
+}
+
+/// The next batch: all pending events, or the next read.
 fn next_batch(
     recorder: &mut Recorder<'_>,
     input: &mut dyn RecordInput,
 ) -> Result<Vec<Event>, RecordError>
-    ensures ok { IfOk result (λ events. (texts : List (Option (List ℕ))) (frames : ℕ) →
-        batch (world recorder.old (reads input.old) (edits input.old) texts frames) recorder.old.pending
-        ≡ Within recorder.old (world recorder.new (reads input.new) (edits input.new) texts frames) events.items) }
-    ensures err { IfErr result (λ e. (texts : List (Option (List ℕ))) (frames : ℕ) →
-        BatchStops e (batch (world recorder.old (reads input.old) (edits input.old) texts frames) recorder.old.pending)
-        (world recorder.old (reads input.old) (edits input.old) texts frames)
-        (world recorder.new (reads input.new) (edits input.new) texts frames)) }
+    ensures ok { IfOk result (λ events. (store : Store) (frames : ℕ) →
+        batch (world_in (setting (kind input.old) (reads input.old) (edits input.old) store) recorder.old frames) recorder.old.pending
+        ≡ Within recorder.old (world_in (setting (kind input.old) (reads input.new) (edits input.new) store) recorder.new frames) events.items) }
+    ensures err { IfErr result (λ e. (store : Store) (frames : ℕ) →
+        BatchStops e (batch (world_in (setting (kind input.old) (reads input.old) (edits input.old) store) recorder.old frames) recorder.old.pending)
+        (world_in (setting (kind input.old) (reads input.old) (edits input.old) store) recorder.old frames)
+        (world_in (setting (kind input.old) (reads input.new) (edits input.new) store) recorder.new frames)) }
     ensures kind { kind input.new ≡ kind input.old }
 {
     if recorder.has_pending() {
@@ -72,28 +166,29 @@ fn next_batch(
     input.next_events()
 }
 
-// One turn: a frame, and a batch.
+/// One turn: a frame, and a batch.
 fn turn(
     recorder: &mut Recorder<'_>,
     input: &mut dyn RecordInput,
     screens: &mut Screens,
-) -> Result<Flow, RecordError>
-    ensures ok { IfOk result (λ flow. (frames : ℕ) →
-        Reaches (Before (world recorder.old (reads input.old) (edits input.old) screens.old.texts frames))
-        (point_of flow (world recorder.new (reads input.new) (edits input.new) screens.new.texts (frames + 1)))) }
+) -> Result<Next, RecordError>
+    ensures ok { IfOk result (λ next. (frames : ℕ) →
+        Reaches (Before (world_in (setting (kind input.old) (reads input.old) (edits input.old) screens.old) recorder.old frames))
+        (point_of next (world_in (setting (kind input.new) (reads input.new) (edits input.new) screens.new) recorder.new (frames + 1)))) }
     ensures err { IfErr result (λ e. (frames : ℕ) →
-        Stops e (Before (world recorder.old (reads input.old) (edits input.old) screens.old.texts frames))
-        (world recorder.new (reads input.new) (edits input.new) screens.new.texts (frames + 1))) }
+        Stops e (Before (world_in (setting (kind input.old) (reads input.old) (edits input.old) screens.old) recorder.old frames))
+        (world_in (setting (kind input.new) (reads input.new) (edits input.new) screens.new) recorder.new (frames + 1))) }
     ensures counted { screens.new.frames ≡ count_up screens.old.frames }
     ensures kind { kind input.new ≡ kind input.old }
 {
     screens.add_frame();
+    recorder.begin_frame();
     let batch = next_batch(recorder, input)?;
-    let flow = handle_all(recorder, &batch)?;
-    Ok(flow)
+    let next = handle_all(recorder, input, &batch)?;
+    Ok(next)
 }
 
-// Turn after turn, until the user accepts or the run fails.
+/// Turn after turn, until the user accepts or the run fails.
 fn run_to_end(
     recorder: &mut Recorder<'_>,
     input: &mut dyn RecordInput,
@@ -101,21 +196,19 @@ fn run_to_end(
 ) -> Result<(), RecordError>
     ensures ok { OnOk result (
         EndsWith recorder.old
-        (setting (reads input.old) (edits input.old) screens.old)
-        (setting (reads input.new) (edits input.new) screens.new)
+        (setting (kind input.old) (reads input.old) (edits input.old) screens.old)
+        (setting (kind input.new) (reads input.new) (edits input.new) screens.new)
         recorder.new.state) }
     ensures err { IfErr result (λ e.
         FailsWith recorder.old
-        (setting (reads input.old) (edits input.old) screens.old)
-        (setting (reads input.new) (edits input.new) screens.new) e) }
+        (setting (kind input.old) (reads input.old) (edits input.old) screens.old)
+        (setting (kind input.new) (reads input.new) (edits input.new) screens.new) e) }
     ensures kind { kind input.new ≡ kind input.old }
 {
     loop {
         match turn(recorder, input, screens)? {
-            Flow::GoOn => {}
-            Flow::Accept => return Ok(()),
-            Flow::Cancel => return Err(RecordError::Cancelled),
-            Flow::Lack => return Err(event_not_in_stage(recorder.allocator())),
+            Next::GoOn => {}
+            Next::Accept => return Ok(()),
         }
     }
 }
@@ -126,8 +219,9 @@ impl<'state> Recorder<'state> {
     /// In turns a frame is drawn, and then all pending events are handled in order, or those of
     /// the next read where none is pending. A fault ends the run at once: `Cancelled` where the
     /// user gives up, the input's own fault, `ReadInput("no events left")` where a read is due and
-    /// none is left, `Other("event not in this stage")`, or `OutOfMemory`. The state is then
-    /// gone, and the store keeps the screens taken.
+    /// none is left, `Other("commit message too long")` for an answer of more than 1,000,000 bytes,
+    /// `Other("event not in this stage")`, or `OutOfMemory`. The state is then gone, and the store
+    /// keeps the screens taken.
     pub fn run(
         mut self,
         input: &mut dyn RecordInput,
@@ -136,21 +230,23 @@ impl<'state> Recorder<'state> {
         // the state of the session in which the steps are accepted, or the fault that they meet
         ensures ok { IfOk result (λ state.
             EndsWith self.entry
-            (setting (reads input.old) (edits input.old) screens.old)
-            (setting (reads input.new) (edits input.new) screens.new) state) }
+            (setting (kind input.old) (reads input.old) (edits input.old) screens.old)
+            (setting (kind input.new) (reads input.new) (edits input.new) screens.new) state) }
         ensures err { IfErr result (λ e.
             FailsWith self.entry
-            (setting (reads input.old) (edits input.old) screens.old)
-            (setting (reads input.new) (edits input.new) screens.new) e) }
+            (setting (kind input.old) (reads input.old) (edits input.old) screens.old)
+            (setting (kind input.new) (reads input.new) (edits input.new) screens.new) e) }
         // the steps come to one end
-        ensures one_end { let old = setting (reads input.old) (edits input.old) screens.old in
+        ensures one_end { let old = setting (kind input.old) (reads input.old) (edits input.old) screens.old in
             HasOneEnd (Before (world_in old self.entry 0)) }
         // what a recorder of an accepted state keeps of it
         ensures kept { IfOk result (λ state. (given : RecordState) →
             IsTrue (is_accepted_state given) → self.entry ≡ start given → IsKept given state) }
-        // what each toggle keeps
-        ensures coherent { (files : List File) (key : SelectionKey) →
-            KeepsCoherent files (with_key_toggled key files) }
+        // without a message to edit no edit is taken
+        ensures unedited { message_of self.entry 0 ≡ None → edits input.new ≡ edits input.old }
+        // what each event but `ToggleAll` keeps
+        ensures coherent { (drawn : Session) (w : World) (event : Event) → is_toggle_all event ≡ false →
+            StepKeepsCoherent drawn w event }
         ensures kind { kind input.new ≡ kind input.old }
     {
         run_to_end(&mut self, input, screens)?;

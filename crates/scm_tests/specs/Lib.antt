@@ -1,5 +1,3 @@
 pub mod Masks
 pub mod Near
 pub mod Samples
-pub mod Scripted
-pub mod Tags

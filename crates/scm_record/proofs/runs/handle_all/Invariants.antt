@@ -1,10 +1,15 @@
-use Rattle.std.proofs.Common.{drop}
+use Rattle.std.proofs.Common.{◌≡◌, ℕ, drop}
+use Rattle.scm_record.specs.Store.{Store}
 use Rattle.scm_record.specs.Session.{Session}
-use Rattle.scm_record.specs.Run.{World, with_session, Within, Reaches}
+use Rattle.scm_record.specs.Run.{setting, world_in, Within, Reaches}
 use Rattle.scm_record.proofs.runs.handle_all.Given as goal
 
 -- the events so far lead here
 abbrev pub invariant-loop-event : goal.invariant-loop-event
-invariant-loop-event l =
-    (drawn : Session) (w : World) → Reaches (Within drawn (with_session w l.fn.recorder) l.events)
-    (Within drawn (with_session w l.recorder) (drop l.event-index l.events))
+invariant-loop-event g l =
+    let begun = (goal.RecordInput-dyn g l.fn.input.now) in
+    let now = (goal.RecordInput-dyn g l.input.now) in
+    ((store : Store) (drawn : Session) (frames : ℕ)
+    → Reaches (Within drawn (world_in (setting (begun.kind l.fn.input.now.1) (begun.reads l.fn.input.now.1) (begun.edits l.fn.input.now.1) store) l.fn.recorder frames) l.events)
+    (Within drawn (world_in (setting (now.kind l.input.now.1) (now.reads l.input.now.1) (now.edits l.input.now.1) store) l.recorder frames) (drop l.event-index l.events)))
+    × (now.kind l.input.now.1 ≡ begun.kind l.fn.input.now.1)

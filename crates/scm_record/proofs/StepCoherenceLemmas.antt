@@ -1,0 +1,53 @@
+-- Where an event leads on, each file stays coherent.
+use Rattle.std.proofs.Common.{◌≡◌, ℕ, Bool, true, false, List, [], ◌∷◌, cond}
+use Rattle.scm_types.specs.declared.file.File.{File}
+use Rattle.scm_types.specs.declared.state.RecordState.{RecordState}
+use Rattle.scm_types.specs.Limits.{is_short_text}
+use Rattle.scm_record.specs.declared.events.Event.{Event}
+use Rattle.scm_record.specs.declared.recording.Flow.{Flow}
+use Rattle.scm_record.specs.declared.recording.Flow.TheVariants as flows
+use Rattle.scm_record.specs.Script.{Edit, Answer, BrokenEdit, no_more}
+use Rattle.scm_record.specs.Toggle.{with_key_toggled, with_all_set}
+use Rattle.scm_record.specs.Session.{Session, with_message}
+use Rattle.scm_record.specs.Frames.{scene_of}
+use Rattle.scm_record.specs.Step.{change}
+use Rattle.scm_record.specs.Run.{World, with_session, with_edits, Goes, Breaks, too_long, answered, edited, outcome_by}
+use Rattle.scm_record.specs.Coherence.{KeepsCoherent, OutcomeKeepsCoherent, StepKeepsCoherent, is_toggle_all}
+use Rattle.scm_record.proofs.CoherenceLemmas.{keeps_coherent-same, toggle_keeps_coherent, all_set_keeps_coherent}
+use Rattle.scm_record.proofs.StepLemmas.{Marks, unmarked, toggled, inverted, all_set, leads}
+
+-- marks that change unless the state is read-only
+changed-keeps : (read_only : Bool) (s : Session) (f : List File → List File) → KeepsCoherent s.state.files (f s.state.files) → KeepsCoherent s.state.files (cond read_only s (record s { state = record s.state { files = f s.state.files } })).state.files
+changed-keeps true s f h = keeps_coherent-same s.state.files
+changed-keeps false s f h = h
+
+marks-keep : (event : Event) (s : Session) (state : RecordState) (flow : Flow) → is_toggle_all event ≡ false → Marks event s state flow → KeepsCoherent s.state.files state.files
+marks-keep event s _ _ e (unmarked allowed) = keeps_coherent-same s.state.files
+marks-keep event s _ _ e toggled = changed-keeps s.state.is_read_only s (with_key_toggled s.selection) (toggle_keeps_coherent s.state.files s.selection)
+marks-keep event s _ _ e (inverted is) = cc
+marks-keep event s _ _ e all_set = changed-keeps s.state.is_read_only s with_all_set (all_set_keeps_coherent s.state.files)
+
+module _ (w : World) where
+  short-keeps : (b : Bool) (v u : World) → KeepsCoherent w.session.state.files v.session.state.files → OutcomeKeepsCoherent w (cond b (Goes v) (Breaks too_long u))
+  short-keeps true v u h = h
+  short-keeps false v u h = tt
+
+  answered-keeps : (v : World) (commit : ℕ) (edit : Edit) → KeepsCoherent w.session.state.files v.session.state.files → OutcomeKeepsCoherent w (answered v commit edit)
+  answered-keeps v commit (Answer text) h = short-keeps (is_short_text text) (with_session v (with_message v.session commit text)) v h
+  answered-keeps v commit (BrokenEdit fault) h = tt
+
+  edited-keeps : (v : World) (commit : ℕ) (edits : List Edit) → KeepsCoherent w.session.state.files v.session.state.files → OutcomeKeepsCoherent w (edited v commit edits)
+  edited-keeps v commit [] h = answered-keeps (with_edits v []) commit no_more h
+  edited-keeps v commit (edit ∷ edits) h = answered-keeps (with_edits v edits) commit edit h
+
+  outcome-keeps : (v : World) (flow : Flow) → KeepsCoherent w.session.state.files v.session.state.files → OutcomeKeepsCoherent w (outcome_by v flow)
+  outcome-keeps v flows.GoOn h = h
+  outcome-keeps v flows.Accept h = h
+  outcome-keeps v flows.Cancel h = tt
+  outcome-keeps v (flows.Edit commit) h = edited-keeps v commit v.edits h
+  outcome-keeps v flows.Lack h = tt
+
+pub step_keeps_coherent : (drawn : Session) (w : World) (event : Event) → is_toggle_all event ≡ false → StepKeepsCoherent drawn w event
+step_keeps_coherent drawn w event e =
+    let c = change (scene_of w.kind drawn) w.session event in
+    outcome-keeps w (with_session w c.session) c.flow (marks-keep event w.session c.session.state c.flow e (leads (scene_of w.kind drawn) w.session event).marks)
