@@ -5,16 +5,16 @@ use Rattle.std.specs.Str.{bytes_eq}
 use Rattle.serde_json.specs.Data.{Data, null, boolean, number, string, array, object, Items, no_items, item}
 use Rattle.serde_json.specs.Events.{members_len}
 use Rattle.serde_json.specs.Find.{get, as_bool, as_str, as_array, as_object, as_number, as_u64}
-use Rattle.scm_types.specs.declared.lines.ChangeType.{ChangeType}
-use Rattle.scm_types.specs.declared.lines.ChangeType.TheVariants.{Added, Removed}
-use Rattle.scm_types.specs.declared.modes.FileMode.{FileMode}
-use Rattle.scm_types.specs.declared.modes.FileMode.TheVariants.{Unix, Absent}
-use Rattle.scm_types.specs.declared.lines.SectionChangedLine.{SectionChangedLine}
-use Rattle.scm_types.specs.declared.sections.Section.{Section}
-use Rattle.scm_types.specs.declared.sections.Section.TheVariants as section
-use Rattle.scm_types.specs.declared.files.File.{File}
-use Rattle.scm_types.specs.declared.states.Commit.{Commit}
-use Rattle.scm_types.specs.declared.states.RecordState.{RecordState}
+use Rattle.scm_types.specs.declared.line.ChangeType.{ChangeType}
+use Rattle.scm_types.specs.declared.line.ChangeType.TheVariants.{Added, Removed}
+use Rattle.scm_types.specs.declared.file_mode.FileMode.{FileMode}
+use Rattle.scm_types.specs.declared.file_mode.FileMode.TheVariants.{Unix, Absent}
+use Rattle.scm_types.specs.declared.line.SectionChangedLine.{SectionChangedLine}
+use Rattle.scm_types.specs.declared.section.Section.{Section}
+use Rattle.scm_types.specs.declared.section.Section.TheVariants as section
+use Rattle.scm_types.specs.declared.file.File.{File}
+use Rattle.scm_types.specs.declared.state.Commit.{Commit}
+use Rattle.scm_types.specs.declared.state.RecordState.{RecordState}
 
 -- an object of n members
 abbrev pub has_members : ℕ → Data → Bool
