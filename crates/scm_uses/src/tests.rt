@@ -1,0 +1,47 @@
+use crate::{mark_first_line, selected_side};
+use scm_record::{
+    ChangeType, File, FileMode, Items, RecordState, Section, SectionChangedLine, SelectedContents,
+    Text,
+};
+use std::alloc::Global;
+use std::test::Fail;
+
+/// A file of one added line.
+fn state_of_one_line(alloc: Global) -> Result<RecordState<'static>, Fail> {
+    let line = SectionChangedLine {
+        is_checked: false,
+        change_type: ChangeType::Added,
+        line: Text::from("a\n"),
+    };
+    let section = Section::Changed {
+        lines: Items::from(vec![in alloc; line]?),
+    };
+    let file = File {
+        old_path: None,
+        path: Text::from("f"),
+        file_mode: FileMode::FILE_DEFAULT,
+        sections: Items::from(vec![in alloc; section]?),
+    };
+    Ok(RecordState {
+        is_read_only: false,
+        commits: Items::new(alloc),
+        files: Items::from(vec![in alloc; file]?),
+    })
+}
+
+#[test]
+fn the_first_line_goes_into_the_commit(rt: HostRuntime) -> Result<(), Fail> {
+    let alloc = rt.alloc();
+    let state = state_of_one_line(alloc)?;
+    assert!(rt; state.is_accepted());
+    let marked = mark_first_line(alloc, state)?;
+    assert_eq!(rt; marked.files.len(), 1);
+    for file in marked.files.as_slice() {
+        let side = selected_side(alloc, file)?;
+        assert_eq!(rt; side.file_mode, FileMode::FILE_DEFAULT);
+        assert!(rt;
+            matches!(&side.contents, SelectedContents::Text { contents } if contents.as_str() == "a\n")
+        );
+    }
+    Ok(())
+}
