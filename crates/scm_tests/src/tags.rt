@@ -1,7 +1,7 @@
 //! A sample component that takes memory, for ids of any type, and an id that a click may hit.
 ghost use Rattle.std.specs.Prelude.{◌≡◌, IfOk, IfErr, string_bytes};
 ghost use Rattle.scm_tests.specs.Tags.{boxed_text};
-ghost use Rattle.scm_types.specs.declared.errors.RecordError.TheVariants.{OutOfMemory};
+ghost use Rattle.scm_types.specs.declared.error.RecordError.TheVariants.{OutOfMemory};
 
 use scm_cells::Span;
 use scm_render::{Clickable, Component, Viewport};
