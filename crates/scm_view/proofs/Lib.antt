@@ -1,3 +1,4 @@
+pub mod ExampleLemmas
 pub mod FilesLemmas
 pub mod NearLemmas
 pub mod RowsLemmas

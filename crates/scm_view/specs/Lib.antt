@@ -6,3 +6,5 @@ pub mod Layers
 pub mod Blanks
 pub mod Strips
 pub mod Places
+pub mod Keys
+pub mod Shown
