@@ -6,7 +6,9 @@ pub mod LatestLemmas
 pub mod LineLemmas
 pub mod MapLemmas
 pub mod PictureLemmas
+pub mod StepLemmas
 pub mod PaintLemmas
 pub mod RowLemmas
 pub mod SpanLemmas
 pub mod PlaceLemmas
+pub mod TargetLemmas

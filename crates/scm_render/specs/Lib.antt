@@ -7,3 +7,4 @@ pub mod Lines
 pub mod Picture
 pub mod OnScreen
 pub mod Places
+pub mod Target

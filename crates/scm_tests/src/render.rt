@@ -47,7 +47,7 @@ fn check_near(rt: &impl Abort, place: isize)
 
 /// Checks that what the viewport shows is near the document's corner, and its mask too.
 fn check_sight(rt: &impl Abort, viewport: &Viewport<u8>)
-    ensures sight { SightIsNear viewport.now.sight }
+    ensures sight { SightIsNear viewport.now.canvas.sight }
     ensures mark { text_width ellipsis ≤ 100 }
 {
     let shown = viewport.rect();
