@@ -1,5 +1,7 @@
 pub mod AroundLemmas
+pub mod BoundLemmas
 pub mod CanvasLemmas
+pub mod CentringLemmas
 pub mod DrawLemmas
 pub mod HitLemmas
 pub mod LatestLemmas
@@ -12,3 +14,4 @@ pub mod RowLemmas
 pub mod SpanLemmas
 pub mod PlaceLemmas
 pub mod TargetLemmas
+pub mod FillLemmas

@@ -11,7 +11,7 @@ use Rattle.scm_cells.specs.declared.rectangle.Rect.{Rect}
 use Rattle.scm_render.specs.Picture.{Box}
 use Rattle.scm_render.specs.Places.{timed}
 use Rattle.scm_render.specs.Hits.{holds, Catches, IsLawful, IsLatest, second_or, drawn_of, box_of, latest}
-use Rattle.scm_render.proofs.LatestLemmas.{hit_is_latest, no_hit_is_none}
+use Rattle.scm_render.proofs.LatestLemmas.{first_or_later, hit_is_latest, no_hit_is_none}
 use Rattle.scm_render.proofs.MapLemmas.{drawn_in_map}
 use Rattle.scm_render.specs.declared.trace.DrawnRect.{DrawnRect}
 use Rattle.scm_render.specs.Target.{later_of, look, IsTargetOf, IsLastDrawn}
@@ -127,19 +127,6 @@ module _ {K : Type 0} (same_id : K → K → Bool) where
       go true None p e = rw (sym e) refl
       go false None p e = rw (sym e) refl
 
-  abbrev IsFirst : ℕ → K → Box K → List (Box K) → DrawnRect → Type 0
-  IsFirst t j b bs d = (drawn_of same_id (suc t) j bs ≡ Some d) ⊎ ((same_id j b.0 ≡ true) × (d.timestamp ≡ t))
-
-  -- a drawn box is the first one or a later one
-  first_or_later : (t : ℕ) (j : K) (b : Box K) (bs : List (Box K)) (d : DrawnRect) → drawn_of same_id t j (b ∷ bs) ≡ Some d → IsFirst t j b bs d
-  unfolding drawn_of
-  first_or_later t j b bs d h = go (same_id j b.0) (drawn_of same_id (suc t) j bs) h
-    where
-      go : (s : Bool) (o : Option DrawnRect) → second_or (cond s (Some (record { rect = b.1; timestamp = t })) None) o ≡ Some d → (o ≡ Some d) ⊎ ((s ≡ true) × (d.timestamp ≡ t))
-      go s (Some e) q = inl q
-      go true None q = let same : d ≡ record { rect = b.1; timestamp = t } = cc q in inr (refl, ap (λ (d : DrawnRect). d.timestamp) same)
-      go false None q = absurd (cc q)
-
   drawn-none : (t : ℕ) (i : K) → drawn_of same_id t i [] ≡ None
   unfolding drawn_of
   drawn-none t i = refl
@@ -148,20 +135,23 @@ module _ {K : Type 0} (same_id : K → K → Bool) where
   drawn-late : (t : ℕ) (i : K) (bs : List (Box K)) (d : DrawnRect) → drawn_of same_id t i bs ≡ Some d → t ≤ d.timestamp
   drawn-late t i [] d e = absurd (cc (drawn-none t i, e))
   drawn-late t i (b ∷ bs) d e =
-      elim (first_or_later t i b bs d e) [ inl p ↦ (let l = drawn-late (suc t) i bs d p in omega (arith, l)) | inr p ↦ omega (arith, p.1) ]
+      elim (first_or_later same_id t i b bs d e) [
+        | inl p ↦ (let l = drawn-late (suc t) i bs d p in omega (arith, l))
+        | inr p ↦ (let now = ap (λ (k : DrawnRect). k.timestamp) p.2 in omega (arith, now))
+      ]
 
   -- two boxes of one time are of one id
   one_time : (law : IsLawful same_id) (t : ℕ) (i j : K) (bs : List (Box K)) (d e : DrawnRect) → drawn_of same_id t i bs ≡ Some d → drawn_of same_id t j bs ≡ Some e → d.timestamp ≡ e.timestamp → i ≡ j
   one_time law t i j [] d e p q same = absurd (cc (drawn-none t i, p))
   one_time law t i j (b ∷ bs) d e p q same =
-      elim (first_or_later t i b bs d p) [
-        | inl k ↦ elim (first_or_later t j b bs e q) [
+      elim (first_or_later same_id t i b bs d p) [
+        | inl k ↦ elim (first_or_later same_id t j b bs e q) [
           | inl l ↦ one_time law (suc t) i j bs d e k l same
-          | inr l ↦ (let late = drawn-late (suc t) i bs d k in absurd (omega (arith, late, l.1, same)))
+          | inr l ↦ (let late = drawn-late (suc t) i bs d k in let now = ap (λ (r : DrawnRect). r.timestamp) l.2 in absurd (omega (arith, late, now, same)))
         ]
-        | inr k ↦ elim (first_or_later t j b bs e q) [
-          | inl l ↦ (let late = drawn-late (suc t) j bs e l in absurd (omega (arith, late, k.1, same)))
-          | inr l ↦ law.same i b.0 k.0 ∙ sym (law.same j b.0 l.0)
+        | inr k ↦ elim (first_or_later same_id t j b bs e q) [
+          | inl l ↦ (let late = drawn-late (suc t) j bs e l in let now = ap (λ (r : DrawnRect). r.timestamp) k.2 in absurd (omega (arith, late, now, same)))
+          | inr l ↦ law.same i b.0 k.1 ∙ sym (law.same j b.0 l.1)
         ]
       ]
 

@@ -2,7 +2,8 @@
 ghost use Rattle.std.specs.Prelude.{◌≡◌, ◌≤◌, pos, Some, None};
 ghost use Rattle.scm_cells.specs.Clusters.{text_width};
 ghost use Rattle.scm_cells.specs.Spans.{span_texts};
-ghost use Rattle.scm_render.specs.Drawing.{texts_width, ellipsis};
+ghost use Rattle.scm_cells.specs.Row.{ellipsis};
+ghost use Rattle.scm_render.specs.Drawing.{texts_width};
 ghost use Rattle.scm_tests.specs.Near.{IsNear, SightIsNear, AreShort};
 
 use crate::samples::{Caption, Column, Nest, Pair, Pane};
