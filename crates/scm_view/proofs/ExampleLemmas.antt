@@ -12,7 +12,7 @@ use Rattle.scm_types.specs.declared.lines.ChangeType.TheVariants.{Added, Removed
 use Rattle.scm_types.specs.declared.modes.FileMode.TheVariants.{Unix}
 use Rattle.scm_types.specs.declared.sections.Section.{Section}
 use Rattle.scm_types.specs.declared.sections.Section.TheVariants.{Unchanged, Changed, FileMode}
-use Rattle.scm_cells.specs.Clusters.{text_width, clusters, with_width, kept_width, has_control}
+use Rattle.scm_cells.specs.Clusters.{text_width, clusters, kept, with_width, kept_width, has_control}
 use Rattle.scm_cells.specs.Replaced.{line_pieces, pieces_from, replacement}
 use Rattle.scm_cells.specs.Row.{put, overlay, written, placed, whole_before, whole_after, cells_of, later_cells, row_text}
 use Rattle.scm_cells.specs.Screen.{view_of}
@@ -26,11 +26,12 @@ use Rattle.scm_view.specs.declared.commit_view.CommitViewMode.TheVariants as mod
 use Rattle.scm_view.specs.Blanks.{blank_row}
 use Rattle.scm_view.specs.Layers.{Strip}
 use Rattle.scm_view.specs.Rows.{Document, DocRow, document_of, shown_file, shown_sections, section_rows, context_rows, changed_rows, numbered_rows, file_rows, files_rows, sections_rows}
-use Rattle.scm_view.specs.Strips.{laid, row_strip, document_layer, message_strips, files_strips, file_strips, sections_strips, section_strips, no_files_layer, files_layer}
-use Rattle.scm_view.specs.Shown.{Shown, commit_view_of, file_views_of, section_views_of, are_all_expanded}
+use Rattle.scm_render.specs.Rows.{put_texts, say_texts}
+use Rattle.scm_view.specs.Strips.{row_strip, files_layer, message_strips, files_strips, file_strips, sections_strips, section_strips}
+use Rattle.scm_view.specs.Shown.{Shown, commit_at, commit_view_of, file_views_of, section_views_of, are_all_expanded}
 
 abbrev strips_of : ℕ → ℕ → Document → List (Strip ComponentId)
-strips_of w m d = (document_layer w 5 m 0 d).strips
+strips_of w m d = (files_layer w m 0 d).strips
 
 -- the rows that strips make of blank ones
 abbrev rows_of : ℕ → List (Strip ComponentId) → List Row
@@ -67,7 +68,7 @@ two_changes = record {
 
 two_changes_rows : view_of (record { width = 24; rows = rows_of 24 (strips_of 24 0 (document_of (commit_view_of two_changes 0))) })
     ≡ quoted (codes "[◐] f                [-]") ++ (quoted (codes "        1 a⏎            ") ++ (quoted (codes "  (◐) Section 1/1    (-)") ++ (quoted (codes "    [ ] - b⏎            ") ++ quoted (codes "    [●] + c⏎            "))))
-unfolding digits file_views_of section_views_of are_all_expanded shown_file shown_sections section_rows context_rows changed_rows numbered_rows file_rows files_rows sections_rows message_strips files_strips file_strips sections_strips section_strips no_files_layer files_layer row_strip laid line_pieces pieces_from replacement texts_width text_width clusters with_width kept_width has_control put overlay written placed whole_before whole_after cells_of later_cells row_text encode unicode_segmentation unicode_width
+unfolding digits commit_at file_views_of section_views_of are_all_expanded shown_file shown_sections section_rows context_rows changed_rows numbered_rows file_rows files_rows sections_rows message_strips files_strips file_strips sections_strips section_strips row_strip put_texts say_texts line_pieces pieces_from replacement texts_width text_width clusters kept with_width kept_width has_control put overlay written placed whole_before whole_after cells_of later_cells row_text encode unicode_segmentation unicode_width
 two_changes_rows = refl
 
 -- ---- two changed lines with seven lines of context between them: the first section is selected
@@ -88,7 +89,7 @@ three_sections = record two_changes {
 three_sections_rows : view_of (record { width = 24; rows = rows_of 24 (strips_of 24 0 (document_of (commit_view_of three_sections 0))) })
     ≡ quoted (codes "[ ] f                [-]") ++ (quoted (codes "  ( ) Section 1/2    (-)") ++ (quoted (codes "    [ ] + x⏎            ") ++ (quoted (codes "        1 a⏎            ") ++ (quoted (codes "        2 b⏎            ") ++ (quoted (codes "        3 c⏎            ")
     ++ (quoted (codes "        ⋮               ") ++ (quoted (codes "        5 e⏎            ") ++ (quoted (codes "        6 f⏎            ") ++ (quoted (codes "        7 g⏎            ") ++ (quoted (codes "  [ ] Section 2/2    [-]") ++ quoted (codes "    [ ] - y⏎            ")))))))))))
-unfolding digits file_views_of section_views_of are_all_expanded shown_file shown_sections section_rows context_rows changed_rows numbered_rows file_rows files_rows sections_rows message_strips files_strips file_strips sections_strips section_strips no_files_layer files_layer row_strip laid line_pieces pieces_from replacement texts_width text_width clusters with_width kept_width has_control put overlay written placed whole_before whole_after cells_of later_cells row_text encode unicode_segmentation unicode_width
+unfolding digits commit_at file_views_of section_views_of are_all_expanded shown_file shown_sections section_rows context_rows changed_rows numbered_rows file_rows files_rows sections_rows message_strips files_strips file_strips sections_strips section_strips row_strip put_texts say_texts line_pieces pieces_from replacement texts_width text_width clusters kept with_width kept_width has_control put overlay written placed whole_before whole_after cells_of later_cells row_text encode unicode_segmentation unicode_width
 three_sections_rows = refl
 
 -- ---- who owns each of twelve columns
@@ -121,7 +122,7 @@ mixed_owners : owners_of (strips_of 12 0 (document_of (commit_view_of mixed 0)))
     ∷ ((item 2 file_key ++ (toggle (key 0) ++ (item 4 (key 0) ++ fold (key 0))))
     ∷ (item 12 (line 1 0)
     ∷ ((item 2 (key 2) ++ (toggle (key 2) ++ item 7 (key 2))) ∷ [])))
-unfolding digits file_views_of section_views_of are_all_expanded shown_file shown_sections section_rows context_rows changed_rows numbered_rows file_rows files_rows sections_rows message_strips files_strips file_strips sections_strips section_strips no_files_layer files_layer row_strip
+unfolding digits commit_at file_views_of section_views_of are_all_expanded shown_file shown_sections section_rows context_rows changed_rows numbered_rows file_rows files_rows sections_rows message_strips files_strips file_strips sections_strips section_strips row_strip
 mixed_owners = refl
 
 -- where the header is pinned, on row 1 of five rows from row 0 on, the file owns its own first row
@@ -130,5 +131,5 @@ pinned_owners : owners_of (strips_of 12 1 (document_of (commit_view_of mixed 0))
     ∷ ((item 2 file_key ++ (toggle (key 0) ++ (item 4 (key 0) ++ fold (key 0))))
     ∷ (item 12 (line 1 0)
     ∷ ((item 2 (key 2) ++ (toggle (key 2) ++ item 7 (key 2))) ∷ [])))
-unfolding digits file_views_of section_views_of are_all_expanded shown_file shown_sections section_rows context_rows changed_rows numbered_rows file_rows files_rows sections_rows message_strips files_strips file_strips sections_strips section_strips no_files_layer files_layer row_strip
+unfolding digits commit_at file_views_of section_views_of are_all_expanded shown_file shown_sections section_rows context_rows changed_rows numbered_rows file_rows files_rows sections_rows message_strips files_strips file_strips sections_strips section_strips row_strip
 pinned_owners = refl

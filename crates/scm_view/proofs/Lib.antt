@@ -1,7 +1,8 @@
-pub mod ExampleLemmas
-pub mod FilesLemmas
-pub mod NearLemmas
+pub mod HeadingLemmas
 pub mod RowsLemmas
 pub mod SectionsLemmas
-pub mod StepLemmas
-pub mod WidthLemmas
+pub mod FilesLemmas
+pub mod NearLemmas
+pub mod LimitLemmas
+pub mod StripLemmas
+pub mod ExampleLemmas

@@ -1,25 +1,23 @@
 -- What is drawn near the document's corner is in range.
 use Rattle.std.proofs.Common.{◌≡◌, ℕ, ◌+◌, ◌≤◌, ◌^◌, Bool, ℤ, pos, ◌+ℤ◌, ◌-ℤ◌, ◌≤ℤ◌, neg_ℤ, List, [], ◌∷◌, length, length-append, refl, arith, suc}
 use Rattle.std.specs.Int.{int_min, int_max}
-use Rattle.std.specs.Prelude.{int_lt}
-use Rattle.unicode_segmentation.proofs.Computing.{unicode_segmentation}
-use Rattle.unicode_width.proofs.Computing.{unicode_width}
-use Rattle.scm_cells.specs.Clusters.{has_control, kept_width, with_width, clusters, text_width}
+use Rattle.std.specs.Prelude.{int_lt, min, ◌==◌, Option, Some, None}
+use Rattle.std.specs.Char.{encode_utf8}
+use Rattle.scm_cells.proofs.BoundLemmas.{text_width-le}
+use Rattle.scm_render.specs.Centring.{centred, centred_gap}
+use Rattle.scm_cells.specs.Clusters.{text_width}
+use Rattle.scm_cells.specs.Row.{ellipsis}
+use Rattle.scm_cells.proofs.WidthLemmas.{width-ellipsis}
 use Rattle.scm_cells.specs.Rect.{RectInRange, end_x_of, or_zero, rect_between}
 use Rattle.scm_cells.proofs.RectLemmas.{places}
 use Rattle.scm_render.specs.Picture.{PictureInRange}
 use Rattle.scm_render.specs.Canvas.{Sight, under}
-use Rattle.scm_render.specs.Drawing.{row_rect, reach, texts_width, ellipsis, span_picture, line_picture, text_picture, blank_picture}
+use Rattle.scm_render.specs.Drawing.{row_rect, reach, texts_width, span_picture, line_picture, text_picture, blank_picture}
 use Rattle.scm_render.proofs.PictureLemmas.{PictureInRange-as_part, PictureInRange-followed, PictureInRange-if, PictureInRange-nothing, PictureInRange-covering}
-use Rattle.scm_view.specs.Near.{IsNear, SightIsNear, IsNarrow, IsNarrowBox, IsNarrowHeading, IsNarrowRow, AreNarrow, AreNarrowSections}
-use Rattle.scm_view.specs.Texts.{box_text}
-use Rattle.scm_view.specs.Rows.{IdBox, Heading, DocRow, HeaderRow, SectionRow, LineRow, MarkRow, ContextRow, DotsRow, BlankRow, ShownSection, ShownFile, sections_rows, file_rows}
-use Rattle.scm_view.specs.Pictures.{to_end, rest_of_row, whole_row, box_picture, box_part, fold_column, heading_width, heading_mask, title_picture, heading_picture, changed_picture, context_picture, highlight, row_picture, rows_picture, sections_picture, shown_file_picture}
-
--- the ellipsis has one column
-pub ellipsis-width : text_width ellipsis ≡ 1
-unfolding unicode_segmentation unicode_width has_control kept_width with_width clusters text_width
-ellipsis-width = refl
+use Rattle.scm_view.specs.Near.{IsNear, SightIsNear, IsNarrow, IsNarrowBox, IsNarrowHeading, IsNarrowRow, AreNarrow, AreNarrowSections, IsNarrowFile, AreNarrowFiles, IsNarrowMessage, IsNarrowDocument, IsClose, SightIsClose}
+use Rattle.scm_view.specs.Texts.{box_text, button_text, divider_text, message_text, no_files_text}
+use Rattle.scm_view.specs.Rows.{IdBox, Heading, DocRow, HeaderRow, SectionRow, LineRow, MarkRow, ContextRow, DotsRow, BlankRow, ShownSection, ShownFile, Document, sections_rows, file_rows, files_rows, message_height}
+use Rattle.scm_view.specs.Pictures.{to_end, rest_of_row, whole_row, box_picture, box_part, fold_column, heading_width, heading_mask, title_picture, heading_picture, changed_picture, context_picture, highlight, row_picture, rows_picture, sections_picture, shown_file_picture, file_mask, pinned_mask, mask_row, is_pinned, pinned_picture, one_file_picture, files_picture, edit_button, button_picture, beside_button, message_picture, no_files_picture, document_picture}
 
 -- ---- rectangles
 
@@ -64,7 +62,7 @@ module _ {K : Type 0} where
   ellipsis-in : (s : Sight) (y : ℤ) → SightIsNear s → IsNear y → PictureInRange {K = K} (span_picture s (end_x_of (reach s) -ℤ pos 1) y ellipsis)
   ellipsis-in s y n q =
       let e : IsNear (end_x_of (reach s)) = (reach-near s n).end_x in
-      let w : text_width ellipsis ≤ 2 ^ 60 = omega (arith, ellipsis-width) in
+      let w : text_width ellipsis ≤ 2 ^ 60 = omega (arith, width-ellipsis) in
       span-in s (end_x_of (reach s) -ℤ pos 1) y ellipsis (omega (arith, places)) (omega (arith, places)) q w
 
   text-in : (s : Sight) (x y : ℤ) (ts : List (List ℕ)) → SightIsNear s → neg_ℤ (pos (2 ^ 60 + 100)) ≤ℤ x → x ≤ℤ pos (2 ^ 60 + 100) → IsNear y → IsNarrow ts → PictureInRange {K = K} (text_picture s x y ts)
@@ -177,3 +175,110 @@ unfolding shown_file_picture file_rows
 file-near f s x y n p p2 q e w v =
     let next = next-near y (length (sections_rows f.sections)) q e in
     PictureInRange-followed _ _ (row-near (HeaderRow f.key f.heading) s x y n p q w) (sections-near f.sections s (x +ℤ pos 2) (y +ℤ pos 1) n p2 next.0 next.1 v)
+
+file_mask-near : (s : Sight) (x y : ℤ) → SightIsNear s → IsNear x → SightIsNear (under (file_mask s x y) s)
+file_mask-near s x y n p = record { x = n.x; end_x = n.end_x; mask_x = p }
+
+pinned_mask-near : (s : Sight) (x y : ℤ) → SightIsNear s → IsNear x → SightIsNear (under (pinned_mask s x y) s)
+pinned_mask-near s x y n p = record { x = n.x; end_x = n.end_x; mask_x = p }
+
+pub one_file-near : (f : ShownFile) (s : Sight) (x y : ℤ) → SightIsNear s → IsNear (mask_row s) → IsNear x → IsNear (x +ℤ pos 2) → IsNear y → IsNear (y +ℤ pos (length (file_rows f))) → IsNarrowFile f
+    → PictureInRange (one_file_picture f s x y)
+unfolding one_file_picture pinned_picture
+one_file-near f s x y n m p p2 q e w =
+    PictureInRange-followed _ _ (PictureInRange-as_part _ _ (file-near f (under (file_mask s x y) s) x y (file_mask-near s x y n p) p p2 q e w.heading w.sections))
+    (PictureInRange-if (is_pinned (mask_row s) y (length (file_rows f))) _ _
+    (row-near (HeaderRow f.key f.heading) (under (pinned_mask s x (mask_row s)) s) x (mask_row s) (pinned_mask-near s x (mask_row s) n p) p m w.heading) PictureInRange-nothing)
+
+pub files-near : (fs : List ShownFile) (s : Sight) (x y : ℤ) → SightIsNear s → IsNear (mask_row s) → IsNear x → IsNear (x +ℤ pos 2) → IsNear y → IsNear (y +ℤ pos (length (files_rows fs))) → AreNarrowFiles fs
+    → PictureInRange (files_picture fs s x y)
+unfolding files_picture files_rows
+files-near [] s x y n m p p2 q e w = PictureInRange-nothing
+files-near (f ∷ fs) s x y n m p p2 q e w =
+    let next = between-near y (length (file_rows f)) (length (files_rows fs)) q (rw (length-append (file_rows f) (files_rows fs)) at e) in
+    PictureInRange-followed _ _ (one_file-near f s x y n m p p2 q next.0 w.0) (files-near fs s x (y +ℤ pos (length (file_rows f))) n m p p2 next.0 next.1 w.1)
+
+-- ---- messages
+
+button-narrow : (commit : ℕ) → text_width (button_text (edit_button commit)) ≤ 2 ^ 60
+button-narrow commit =
+    let bytes : length (button_text (edit_button commit)) ≡ 14 = refl in
+    omega (arith, text_width-le (button_text (edit_button commit)))
+
+divider-narrow : text_width divider_text ≤ 2 ^ 60
+unfolding encode_utf8
+divider-narrow =
+    let bytes : length divider_text ≡ 5 = refl in
+    omega (arith, text_width-le divider_text)
+
+three_rows-in : (s : Sight) (x y : ℤ) → SightIsNear s → IsNear x → IsNear y → RectInRange (record { x = x; y = y; width = to_end s x; height = 3 })
+three_rows-in s x y n p q =
+    let r : RectInRange (rest_of_row s x y) = rest_of_row-in s x y n p q in
+    record { x = r.x; end_x = r.end_x; y = r.y; end_y = record { low = omega (arith, places); high = omega (arith, places) } }
+
+pub message-near : (commit : ℕ) (m : Option (List ℕ)) (s : Sight) (x y : ℤ) → SightIsNear s → IsNear x → IsNear y → IsNear (y +ℤ pos 1) → IsNarrowMessage m → PictureInRange (message_picture commit m s x y)
+unfolding message_picture beside_button button_picture
+message-near commit None s x y n p q e w = PictureInRange-nothing
+message-near commit (Some m) s x y n p q e w =
+    PictureInRange-followed _ _ (PictureInRange-covering _ (three_rows-in s x y n p q))
+    (PictureInRange-followed _ _ (PictureInRange-as_part _ _ (span-in s x (y +ℤ pos 1) (button_text (edit_button commit)) (omega (arith, places)) (omega (arith, places)) e (button-narrow commit)))
+    (PictureInRange-followed _ _ (span-in s (x +ℤ pos 15) (y +ℤ pos 1) divider_text (omega (arith, places)) (omega (arith, places)) e divider-narrow)
+    (text-in s (x +ℤ pos 19) (y +ℤ pos 1) (message_text m ∷ []) n (omega (arith, places)) (omega (arith, places)) e w)))
+
+-- ---- a document
+
+gap-small_room : (n least : ℕ) → centred_gap (min n 65535) least 50 ≤ 65535
+gap-small_room n least = omega arith
+
+words-narrow : texts_width (no_files_text ∷ []) ≤ 2 ^ 60
+unfolding texts_width
+words-narrow =
+    let bytes : length no_files_text ≡ 29 = refl in
+    omega (arith, text_width-le no_files_text)
+
+pub no_files-near : (s : Sight) (x y : ℤ) → SightIsNear s → IsNear x → IsNear y → IsNear (x +ℤ pos 65535) → IsNear (y +ℤ pos 65535) → PictureInRange (no_files_picture s x y)
+unfolding no_files_picture centred
+no_files-near s x y n p q p2 q2 =
+    let a = gap-small_room (reach s).width 29 in
+    let b = gap-small_room (reach s).height 1 in
+    text-in s (x +ℤ (pos 0 +ℤ pos (centred_gap (min (reach s).width 65535) 29 50))) (y +ℤ (pos 0 +ℤ pos (centred_gap (min (reach s).height 65535) 1 50))) (no_files_text ∷ []) n
+    (above x _ p) (below x _ p2 a) (record { low = lower y _ q; high = upper y _ q2 b }) words-narrow
+  where
+    lower : (z : ℤ) (g : ℕ) → IsNear z → neg_ℤ (pos (2 ^ 60)) ≤ℤ (z +ℤ (pos 0 +ℤ pos g))
+    lower z g n = omega (arith, places)
+
+    upper : (z : ℤ) (g : ℕ) → IsNear (z +ℤ pos 65535) → g ≤ 65535 → (z +ℤ (pos 0 +ℤ pos g)) ≤ℤ pos (2 ^ 60)
+    upper z g n h = omega (arith, places)
+
+    above : (z : ℤ) (g : ℕ) → IsNear z → neg_ℤ (pos (2 ^ 60 + 100)) ≤ℤ (z +ℤ (pos 0 +ℤ pos g))
+    above z g n = omega (arith, places)
+
+    below : (z : ℤ) (g : ℕ) → IsNear (z +ℤ pos 65535) → g ≤ 65535 → (z +ℤ (pos 0 +ℤ pos g)) ≤ℤ pos (2 ^ 60 + 100)
+    below z g n h = omega (arith, places)
+
+-- close places are near, and so is what is not far from them
+close-near : (z : ℤ) (n : ℕ) → IsClose z → n ≤ 2 ^ 59 → IsNear (z +ℤ pos n)
+close-near z n c h = record { low = omega (arith, places); high = omega (arith, places) }
+
+still-near : (z : ℤ) → IsClose z → IsNear z
+still-near z c = record { low = omega (arith, places); high = omega (arith, places) }
+
+then-near : (z : ℤ) (n m : ℕ) → IsClose z → n ≤ 3 → m ≤ 2 ^ 59 → IsNear ((z +ℤ pos n) +ℤ pos m)
+then-near z n m c h k = record { low = omega (arith, places); high = omega (arith, places) }
+
+height-small : (m : Option (List ℕ)) → message_height m ≤ 3
+height-small None = omega arith
+height-small (Some m) = omega arith
+
+pub document-near : (d : Document) (s : Sight) (x y : ℤ) → SightIsClose s → IsClose x → IsClose y → length (files_rows d.files) ≤ 2 ^ 59 → IsNarrowDocument d → PictureInRange (document_picture d s x y)
+unfolding document_picture
+document-near d s x y c p q h w =
+    let n : SightIsNear s = record { x = still-near _ c.x; end_x = still-near _ c.end_x; mask_x = still-near _ c.mask_x } in
+    let px = still-near x p in
+    let py = still-near y q in
+    let three = height-small d.message in
+    PictureInRange-followed _ _ (PictureInRange-as_part _ _ (message-near d.commit d.message s x y n px py (close-near y 1 q (omega arith)) w.message))
+    (PictureInRange-if (length d.files == 0) _ _
+    (no_files-near s x y n px py (close-near x 65535 p (omega arith)) (close-near y 65535 q (omega arith)))
+    (files-near d.files s x (y +ℤ pos (message_height d.message)) n (still-near _ c.mask_y) px (close-near x 2 p (omega arith)) (close-near y (message_height d.message) q (omega arith))
+    (then-near y (message_height d.message) (length (files_rows d.files)) q three h) w.files))

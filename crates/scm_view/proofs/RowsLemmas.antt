@@ -12,7 +12,8 @@ use Rattle.scm_view.specs.declared.ids.ComponentId.{ComponentId}
 use Rattle.scm_view.specs.declared.section_view.SectionView.{SectionView}
 use Rattle.scm_view.specs.Rows.{IdBox, DocRow, HeaderRow, SectionRow, LineRow, MarkRow, ContextRow, DotsRow, BlankRow, changed_row, changed_rows, numbered_row, numbered_rows}
 use Rattle.scm_view.specs.Pictures.{IdPicture, row_picture, rows_picture, box_picture, changed_picture, context_picture}
-use Rattle.scm_view.proofs.StepLemmas.{step, rest, heading-rect, span-rect, text-place, in-fits}
+use Rattle.scm_render.proofs.StepLemmas.{step, rest, span-place, text-place, InRange-fits}
+use Rattle.scm_view.proofs.HeadingLemmas.{heading-rect}
 
 -- the row below one that is in range is too
 pub row-end : (r : DocRow) (s : Sight) (x y : ℤ) → PictureInRange (row_picture r s x y) → InRange (y +ℤ pos 1)
@@ -56,7 +57,7 @@ numbered_rows-end v first ls i h = rw (drop_all i ls h) refl
 -- the place of a line that is in range is too
 pub changed-place : (b : IdBox) (ts : List (List ℕ)) (s : Sight) (x y : ℤ) → PictureInRange (changed_picture b ts s x y) → InRange x
 unfolding changed_picture box_picture
-changed-place b ts s x y r = (span-rect s x y _ (PictureInRange-part _ _ (PictureInRange-left _ _ (PictureInRange-right _ _ r)))).0
+changed-place b ts s x y r = (span-place s x y _ (PictureInRange-part _ _ (PictureInRange-left _ _ (PictureInRange-right _ _ r)))).0
 
 pub context-place : (ts : List (List ℕ)) (s : Sight) (x y : ℤ) → PictureInRange (context_picture ts s x y) → InRange x
 unfolding context_picture
@@ -95,7 +96,7 @@ pub rows-fit : (rs : List DocRow) (s : Sight) (x y : ℤ) → FitsSigned w64 y �
 unfolding rows_picture
 rows-fit [] s x y f r = let same : y ≡ y +ℤ pos 0 = omega (arith, ints) in rw (sym same) f
 rows-fit (a ∷ rs) s x y f r =
-    let one : FitsSigned w64 (y +ℤ pos 1) = in-fits _ (row-end a s x y (PictureInRange-left _ _ r)) in
+    let one : FitsSigned w64 (y +ℤ pos 1) = InRange-fits _ (row-end a s x y (PictureInRange-left _ _ r)) in
     let more = rows-fit rs s x (y +ℤ pos 1) one (PictureInRange-right _ _ r) in
     let same : (y +ℤ pos 1) +ℤ pos (length rs) ≡ y +ℤ pos (suc (length rs)) = omega (arith, ints) in
     rw same at more

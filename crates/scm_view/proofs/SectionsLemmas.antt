@@ -14,12 +14,12 @@ use Rattle.scm_view.specs.declared.ids.ComponentId.{ComponentId}
 use Rattle.scm_view.specs.declared.section_view.SectionView.{SectionView}
 use Rattle.scm_view.specs.Rows.{DocRow, DotsRow, BlankRow, HeaderRow, ShownSection, ShownFile, file_rows, section_id, is_first, is_fold_open, is_open, is_first_open, is_shown, are_all_shown, lines_above, has_dots, first_below, rows_below, shown_lines, context_rows, lines_height, section_height, changed_rows, numbered_rows, rows_of, section_rows, shown_section, shown_sections, sections_rows}
 use Rattle.scm_view.specs.Pictures.{row_picture, rows_picture, sections_picture, shown_file_picture}
-use Rattle.scm_view.proofs.StepLemmas.{heading-rect}
+use Rattle.scm_view.proofs.HeadingLemmas.{heading-rect}
 use Rattle.scm_view.proofs.RowsLemmas.{followed-assoc, nothing-followed, followed-nothing, row-end, length-numbered, length-taken}
 
 -- ---- heights
 
-at_most : (a b : Bool) (n : ℕ) → (if a then n else if b then 0 else min n 3) ≤ n
+pub at_most : (a b : Bool) (n : ℕ) → (if a then n else if b then 0 else min n 3) ≤ n
 at_most true b n = omega arith
 at_most false true n = omega arith
 at_most false false n = omega arith

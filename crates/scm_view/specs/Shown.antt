@@ -1,7 +1,7 @@
 -- What is shown of a session: all on which the screen depends but its size and how far it is scrolled, and the views that show
 -- it. Where a view lends a text or a section, only what is lent counts, and not where it lies: a view shows a session if the
 -- documents of the two views are the same.
-use Rattle.std.specs.Prelude.{ℕ, suc, ◌+◌, ◌==◌, List, [], ◌∷◌, length, map, count_by, Bool, true, false, ◌&&◌, if◌then◌else◌, Option, Some, None, option_map}
+use Rattle.std.specs.Prelude.{◌≡◌, ℕ, zero, suc, ◌+◌, ◌==◌, List, [], ◌∷◌, length, map, count_by, Bool, true, false, ◌&&◌, if◌then◌else◌, Option, Some, None, option_map}
 use Rattle.std.specs.Borrow.{Bor}
 use Rattle.scm_types.specs.declared.files.File.{File}
 use Rattle.scm_types.specs.declared.lines.ChangeType.{ChangeType}
@@ -28,7 +28,7 @@ use Rattle.scm_view.specs.declared.file_view.FileView.{FileView}
 use Rattle.scm_view.specs.declared.commit_view.CommitView.{CommitView}
 use Rattle.scm_view.specs.declared.commit_view.CommitViewMode.{CommitViewMode}
 use Rattle.scm_view.specs.Keys.{is_key, has_key}
-use Rattle.scm_view.specs.Rows.{IdBox}
+use Rattle.scm_view.specs.Rows.{IdBox, document_of}
 
 pub record Shown : Type 0 where
   pub state : RecordState
@@ -170,13 +170,10 @@ file_views_of s commit i [] = []
 file_views_of s commit i (f ∷ fs) = file_view_of s (record { commit_idx = commit; file_idx = i }) f ∷ file_views_of s commit (suc i) fs
 
 -- the commit at an index, or one without a message
-abbrev pub commit_at : ℕ → List Commit → Commit
+unfoldable pub commit_at : ℕ → List Commit → Commit
 commit_at n [] = record { message = None }
-commit_at n (c ∷ cs) = if n == 0 then c else second n cs
-  where
-    second : ℕ → List Commit → Commit
-    second n [] = record { message = None }
-    second n (c ∷ cs) = if n == 1 then c else record { message = None }
+commit_at zero (c ∷ cs) = c
+commit_at (suc n) (c ∷ cs) = commit_at n cs
 
 -- the view of a commit, commit 0 in the inline view
 abbrev pub commit_view_of : Shown → ℕ → CommitView
@@ -184,3 +181,7 @@ commit_view_of s commit = record {
   commit_message_view = record { commit_idx = commit; commit = lent (commit_at commit s.state.commits) };
   file_views = file_views_of s commit 0 s.state.files;
 }
+
+-- the view shows the commit of the session
+abbrev pub Shows : CommitView → Shown → ℕ → Type 0
+Shows v s commit = document_of v ≡ document_of (commit_view_of s commit)

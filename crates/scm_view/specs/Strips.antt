@@ -1,31 +1,20 @@
 -- The document row by row: what each row makes of the row under it, and who owns each of its columns. Columns count from 0 on
 -- a screen of w columns; there are no masks and no boxes here.
-use Rattle.std.specs.Prelude.{ℕ, suc, pos, ◌+◌, ◌-◌, ◌==◌, nat_le, nat_lt, List, [], ◌∷◌, ◌++◌, length, replicate, map, Bool, true, false, ◌&&◌, ◌||◌, cond, Option, Some, None}
+use Rattle.std.specs.Prelude.{ℕ, pos, ◌+◌, ◌-◌, ◌==◌, nat_le, nat_lt, List, [], ◌∷◌, ◌++◌, length, map, Bool, true, false, ◌&&◌, ◌||◌, cond, Option, Some, None}
 use Rattle.std.specs.List.{list_any}
-use Rattle.scm_cells.specs.Clusters.{text_width}
 use Rattle.scm_cells.specs.Row.{put}
 use Rattle.scm_render.specs.Canvas.{Row}
 use Rattle.scm_render.specs.Centring.{centred_gap}
-use Rattle.scm_render.specs.Drawing.{texts_width, ellipsis}
+use Rattle.scm_render.specs.Rows.{say_texts}
 use Rattle.scm_view.specs.declared.ids.ComponentId.{ComponentId}
 use Rattle.scm_view.specs.declared.ids.ComponentId.TheVariants as ids
 use Rattle.scm_view.specs.Blanks.{blanked}
-use Rattle.scm_view.specs.Layers.{Strip, Layer, clear, over, owned, laid_over}
+use Rattle.scm_view.specs.Layers.{Strip, Layer, clear, over, owned}
 use Rattle.scm_view.specs.Texts.{box_text, button_text, divider_text, message_text, no_files_text}
 use Rattle.scm_view.specs.Rows.{IdBox, file_id, section_id, line_id, Heading, DocRow, HeaderRow, SectionRow, LineRow, MarkRow, ContextRow, DotsRow, BlankRow, ShownSection, ShownFile, Document, file_rows}
 use Rattle.scm_view.specs.Pictures.{edit_button}
 
 -- ---- texts and boxes on a row
-
--- texts put one after another from column c on
-unfoldable pub laid : Row → ℕ → List (List ℕ) → ℕ → ℕ → Row
-laid row c [] low high = row
-laid row c (t ∷ ts) low high = laid (put row (pos c) t low high) (c + text_width t) ts low high
-
--- texts, and an ellipsis in the last column where they are too wide
-abbrev pub say_texts : Row → ℕ → List (List ℕ) → ℕ → ℕ → Row
-say_texts row c ts low high =
-    cond (nat_lt high (c + texts_width ts)) (put (laid row c ts low high) (pos (high - 1)) ellipsis low high) (laid row c ts low high)
 
 -- whether a column is one of n from c on
 abbrev pub is_among : ℕ → ℕ → ℕ → Bool
@@ -40,7 +29,7 @@ only_shows f = record { shows = f; owner = λ x. None }
 
 -- a text from column c on, in the columns from low to high; no click acts on it
 abbrev pub text_strip : ℕ → List (List ℕ) → ℕ → ℕ → Strip ComponentId
-text_strip c ts low high = only_shows (λ row. say_texts row c ts low high)
+text_strip c ts low high = only_shows (λ row. say_texts row (pos c) ts low high)
 
 -- a box in three columns, which it owns
 abbrev pub box_strip : ℕ → IdBox → ℕ → ℕ → Strip ComponentId
@@ -136,37 +125,37 @@ unfoldable pub message_strips : ℕ → ℕ → Option (List ℕ) → List (Stri
 message_strips w commit None = []
 message_strips w commit (Some message) = clear ∷ (message_strip w commit message ∷ (clear ∷ []))
 
--- ---- the document of a commit, from row top on, on h rows
+-- ---- the document of a commit, from row top on, where m is the first row on which drawing shows anything
 
 -- the words that there are no files, in the middle of w columns
 abbrev pub no_files_strip : ℕ → Strip ComponentId
 no_files_strip w = text_strip (centred_gap w 29 50) (no_files_text ∷ []) 0 w
 
--- how many rows stand above these words
+-- how many of h rows stand above these words
 abbrev pub no_files_gap : ℕ → ℕ
 no_files_gap h = centred_gap h 1 50
 
--- strips, and rows on which nothing stands up to this number
-abbrev pub filled_up : ℕ → List (Strip ComponentId) → List (Strip ComponentId)
-filled_up n ss = ss ++ replicate (n - length ss) clear
+abbrev pub no_files_layer : ℕ → ℕ → ℕ → Layer ComponentId
+no_files_layer w h top = record { first = top + no_files_gap h; strips = no_files_strip w ∷ [] }
 
--- without files the words stand over what the message shows; a message's rows are part of the document either way
-unfoldable pub no_files_layer : ℕ → ℕ → ℕ → ℕ → Option (List ℕ) → Layer ComponentId
-no_files_layer w h top commit None = record { first = top + no_files_gap h; strips = no_files_strip w ∷ [] }
-no_files_layer w h top commit (Some message) = record {
-  first = top;
-  strips = laid_over (no_files_gap h) (no_files_strip w ∷ []) (filled_up (suc (no_files_gap h)) (message_strips w commit (Some message)));
-}
+abbrev pub message_layer : ℕ → ℕ → ℕ → List ℕ → Layer ComponentId
+message_layer w top commit message = record { first = top; strips = message_strips w commit (Some message) }
 
--- a document with files
-unfoldable pub files_layer : ℕ → ℕ → ℕ → Document → Layer ComponentId
+-- without files the words stand over the message, if there is one
+abbrev pub no_files_layers : ℕ → ℕ → ℕ → ℕ → Option (List ℕ) → List (Layer ComponentId)
+no_files_layers w h top commit None = no_files_layer w h top ∷ []
+no_files_layers w h top commit (Some message) = message_layer w top commit message ∷ (no_files_layer w h top ∷ [])
+
+-- the message, and below it the files
+abbrev pub files_layer : ℕ → ℕ → ℕ → Document → Layer ComponentId
 files_layer w m top d =
     let above = message_strips w d.commit d.message in
     record { first = top; strips = above ++ files_strips w m (top + length above) d.files }
 
-abbrev pub document_layer : ℕ → ℕ → ℕ → ℕ → Document → Layer ComponentId
-document_layer w h m top d = cond (length d.files == 0) (no_files_layer w h top d.commit d.message) (files_layer w m top d)
+-- the rows of a document, of which drawing shows h rows of w columns
+abbrev pub document_layers : ℕ → ℕ → ℕ → ℕ → Document → List (Layer ComponentId)
+document_layers w h m top d = cond (length d.files == 0) (no_files_layers w h top d.commit d.message) (files_layer w m top d ∷ [])
 
--- the header that is pinned on row m
+-- the header that is pinned on row m, which lies over them
 abbrev pub pinned_layer : ℕ → ℕ → ℕ → Document → Layer ComponentId
 pinned_layer w m top d = record { first = m; strips = pinned_strips w m (top + length (message_strips w d.commit d.message)) d.files }

@@ -22,6 +22,7 @@ mod file_view_header;
 mod heading;
 mod ids;
 mod keys;
+pub mod laws;
 mod no_files;
 mod quit_dialog;
 mod reach;

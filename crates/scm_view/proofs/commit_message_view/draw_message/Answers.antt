@@ -8,7 +8,7 @@ use Rattle.scm_render.specs.Canvas.{Sight}
 use Rattle.scm_render.proofs.PictureLemmas.{PictureInRange-left, RectInRange-covering}
 use Rattle.scm_view.specs.Texts.{message_text}
 use Rattle.scm_view.specs.Pictures.{IdPicture, button_picture, edit_button, beside_button, message_picture}
-use Rattle.scm_view.proofs.StepLemmas.{three, second, third}
+use Rattle.scm_render.proofs.StepLemmas.{three, second, third}
 use Rattle.scm_view.proofs.commit_message_view.draw_message.Goals as goal
 
 one-more : (y : ℤ) → InRange y → FitsSigned w64 (y +ℤ pos 1)

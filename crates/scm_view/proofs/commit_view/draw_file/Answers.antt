@@ -5,7 +5,7 @@ use Rattle.scm_render.proofs.PictureLemmas.{PictureInRange-left, PictureInRange-
 use Rattle.scm_render.proofs.CanvasLemmas.{with_picture-twice, with_picture-nothing}
 use Rattle.scm_view.specs.Rows.{shown_file, file_rows}
 use Rattle.scm_view.specs.Pictures.{mask_row, is_pinned, pinned_header, file_picture, pinned_picture, one_file_picture}
-use Rattle.scm_view.proofs.StepLemmas.{step, sight-after, in-fits}
+use Rattle.scm_render.proofs.StepLemmas.{step, sight-after, InRange-fits}
 use Rattle.scm_view.proofs.RowsLemmas.{on-ok}
 use Rattle.scm_view.proofs.SectionsLemmas.{file-fits}
 use Rattle.scm_view.proofs.commit_view.draw_file.Goals as goal
@@ -49,8 +49,8 @@ draw_pinned-requires c =
     let s = c.args.viewport.now.canvas.sight in
     let f = shown_file c.args.file.now in
     let fits = file-fits f _ _ _ (PictureInRange-part _ _ (PictureInRange-left _ _ c.requires)) in
-    let ft : FitsSigned w64 (mask_row s) = in-fits _ (rw c.mask_row-top.ensures.row at c.mask_row-top.ensures.in_range) in
-    let fb : FitsSigned w64 (c.args.y +ℤ pos (length (file_rows f))) = in-fits _ fits.end in
+    let ft : FitsSigned w64 (mask_row s) = InRange-fits _ (rw c.mask_row-top.ensures.row at c.mask_row-top.ensures.in_range) in
+    let fb : FitsSigned w64 (c.args.y +ℤ pos (length (file_rows f))) = InRange-fits _ fits.end in
     let below = simp to_z-of_z at c.row_below-below.ensures in
     let between = simp to_z-of_z at (rw (c.mask_row-top.ensures.row, below) at c.is_between.ensures) in
     let test : is_pinned (mask_row s) c.args.y (length (file_rows f)) ≡ true = sym between ∙ c.if-is_between.true in
@@ -66,8 +66,8 @@ returns-then-is_between-clause-ok c =
     let s = c.args.viewport.now.canvas.sight in
     let f = shown_file c.args.file.now in
     let fits = file-fits f _ _ _ (PictureInRange-part _ _ (PictureInRange-left _ _ c.requires)) in
-    let ft : FitsSigned w64 (mask_row s) = in-fits _ (rw c.mask_row-top.ensures.row at c.mask_row-top.ensures.in_range) in
-    let fb : FitsSigned w64 (c.args.y +ℤ pos (length (file_rows f))) = in-fits _ fits.end in
+    let ft : FitsSigned w64 (mask_row s) = InRange-fits _ (rw c.mask_row-top.ensures.row at c.mask_row-top.ensures.in_range) in
+    let fb : FitsSigned w64 (c.args.y +ℤ pos (length (file_rows f))) = InRange-fits _ fits.end in
     let below = simp to_z-of_z at c.row_below-below.ensures in
     let between = simp to_z-of_z at (rw (c.mask_row-top.ensures.row, below) at c.is_between.ensures) in
     let test : is_pinned (mask_row s) c.args.y (length (file_rows f)) ≡ true = sym between ∙ c.if-is_between.true in
@@ -83,8 +83,8 @@ returns-else-is_between-clause-ok c =
     let s = c.args.viewport.now.canvas.sight in
     let f = shown_file c.args.file.now in
     let fits = file-fits f _ _ _ (PictureInRange-part _ _ (PictureInRange-left _ _ c.requires)) in
-    let ft : FitsSigned w64 (mask_row s) = in-fits _ (rw c.mask_row-top.ensures.row at c.mask_row-top.ensures.in_range) in
-    let fb : FitsSigned w64 (c.args.y +ℤ pos (length (file_rows f))) = in-fits _ fits.end in
+    let ft : FitsSigned w64 (mask_row s) = InRange-fits _ (rw c.mask_row-top.ensures.row at c.mask_row-top.ensures.in_range) in
+    let fb : FitsSigned w64 (c.args.y +ℤ pos (length (file_rows f))) = InRange-fits _ fits.end in
     let below = simp to_z-of_z at c.row_below-below.ensures in
     let between = simp to_z-of_z at (rw (c.mask_row-top.ensures.row, below) at c.is_between.ensures) in
     let test : is_pinned (mask_row s) c.args.y (length (file_rows f)) ≡ false = sym between ∙ c.if-is_between.false in

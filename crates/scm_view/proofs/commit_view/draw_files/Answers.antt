@@ -3,7 +3,7 @@ use Rattle.std.proofs.lemmas.Int.{to_z-of_z}
 use Rattle.scm_render.proofs.PictureLemmas.{PictureInRange-left, PictureInRange-right}
 use Rattle.scm_render.proofs.CanvasLemmas.{with_picture-after, with_picture-sight, with_picture-nothing}
 use Rattle.scm_view.specs.Rows.{shown_file, file_rows}
-use Rattle.scm_view.proofs.StepLemmas.{in-fits}
+use Rattle.scm_render.proofs.StepLemmas.{InRange-fits}
 use Rattle.scm_view.proofs.FilesLemmas.{one_file-fits, files_picture-more, files_picture-end}
 use Rattle.scm_view.proofs.commit_view.draw_files.Goals as goal
 
@@ -38,7 +38,7 @@ loop-file-preserved c =
     let more = rw (sym c.file-item.is) at (files_picture-more c.args.files.now c.loop-file.file-index v c.args.viewport.now.canvas.sight c.args.x c.loop-file.row c.loop-file-test.true) in
     let all = rw more at (simp (to_z-of_z, c.loop-file.row-is) at c.loop-file.invariant.in_range) in
     let whole = rw more at (simp (to_z-of_z, c.loop-file.row-is) at c.loop-file.invariant.whole) in
-    let fits : FitsSigned w64 (c.loop-file.row +ℤ pos (length (file_rows (shown_file v)))) = in-fits _ (one_file-fits (shown_file v) _ _ _ (PictureInRange-left _ _ all)).end in
+    let fits : FitsSigned w64 (c.loop-file.row +ℤ pos (length (file_rows (shown_file v)))) = InRange-fits _ (one_file-fits (shown_file v) _ _ _ (PictureInRange-left _ _ all)).end in
     let drawn = simp c.loop-file.invariant.sight at (simp (to_z-of_z, c.loop-file.row-is) at c.in_ok-draw_file.ensures.ok) in
     let row = simp c.loop-file.row-is at c.row_below-row.ensures in
     rw row (simp to_z-of_z (record {

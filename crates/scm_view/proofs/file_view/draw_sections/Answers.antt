@@ -4,7 +4,7 @@ use Rattle.scm_cells.specs.Rect.{InRange}
 use Rattle.scm_render.proofs.PictureLemmas.{PictureInRange-left, PictureInRange-right}
 use Rattle.scm_render.proofs.CanvasLemmas.{with_picture-after, with_picture-sight, with_picture-nothing}
 use Rattle.scm_view.specs.Rows.{is_shown, is_open, is_first_open, shown_section, shown_sections, sections_rows}
-use Rattle.scm_view.proofs.StepLemmas.{in-fits}
+use Rattle.scm_render.proofs.StepLemmas.{InRange-fits}
 use Rattle.scm_view.proofs.SectionsLemmas.{sections_picture-append, sections-in, shown_sections-more, shown_sections-end}
 use Rattle.scm_view.proofs.file_view.draw_sections.Goals as goal
 
@@ -49,7 +49,7 @@ loop-index-preserved c =
     let whole = rw split at (rw more at (simp (to_z-of_z, c.loop-index.row-is) at c.loop-index.invariant.whole)) in
     let at_row : InRange c.loop-index.row = simp c.loop-index.row-is at c.loop-index.invariant.row in
     let next = sections-in _ _ _ _ at_row (PictureInRange-left _ _ all) in
-    let fits : FitsSigned w64 (c.loop-index.row +ℤ pos (length (sections_rows (shown_section c.is_shown-shown.result v)))) = in-fits _ next in
+    let fits : FitsSigned w64 (c.loop-index.row +ℤ pos (length (sections_rows (shown_section c.is_shown-shown.result v)))) = InRange-fits _ next in
     let drawn = simp c.loop-index.invariant.sight at (simp (to_z-of_z, c.loop-index.row-is) at c.in_ok-draw_section.ensures.ok) in
     let row = simp c.loop-index.row-is at c.row_below-row.ensures in
     rw (row, c.is_open-before.ensures) (simp to_z-of_z (record {

@@ -2,7 +2,7 @@ use Rattle.std.proofs.Common.{◌≡◌, ◌∙◌, sym, ap, arith, FitsSigned, 
 use Rattle.std.specs.Prelude.{pos, ◌+ℤ◌}
 use Rattle.std.proofs.lemmas.Int.{to_z-of_z, ints}
 use Rattle.scm_view.specs.Rows.{section_height}
-use Rattle.scm_view.proofs.StepLemmas.{in-fits}
+use Rattle.scm_render.proofs.StepLemmas.{InRange-fits}
 use Rattle.scm_view.proofs.SectionsLemmas.{one-height, none-height}
 use Rattle.scm_view.proofs.file_view.row_below.Goals as goal
 
@@ -15,7 +15,7 @@ pub returns-then-is_shown : goal.returns-then-is_shown
 returns-then-is_shown c =
     let fy : FitsSigned w64 c.args.y = c.ranges.y in
     let end = rw (one-height c.args.view.now) at (rw c.if-is_shown.true at c.requires.end) in
-    let fits : FitsSigned w64 (c.args.y +ℤ pos (section_height c.args.view.now c.args.view.now.section.now)) = in-fits _ end in
+    let fits : FitsSigned w64 (c.args.y +ℤ pos (section_height c.args.view.now c.args.view.now.section.now)) = InRange-fits _ end in
     rw (c.row_below.ensures, c.if-is_shown.true) (simp to_z-of_z (ap (λ n. c.args.y +ℤ pos n) (sym (one-height c.args.view.now))))
 
 pub returns-else-is_shown : goal.returns-else-is_shown

@@ -3,7 +3,7 @@ use Rattle.std.proofs.lemmas.Int.{to_z-of_z, ints}
 use Rattle.scm_cells.specs.Rect.{InRange}
 use Rattle.scm_cells.proofs.RectLemmas.{places}
 use Rattle.scm_view.specs.Rows.{is_shown, is_open, is_first_open, shown_section, shown_sections, sections_rows}
-use Rattle.scm_view.proofs.StepLemmas.{in-fits}
+use Rattle.scm_render.proofs.StepLemmas.{InRange-fits}
 use Rattle.scm_view.proofs.SectionsLemmas.{shown_sections-more, length-sections, no-sections}
 use Rattle.scm_view.proofs.file_view.sections_below.Goals as goal
 
@@ -41,7 +41,7 @@ loop-index-preserved c =
     let end = rw sum at (rw more at (simp (to_z-of_z, c.loop-index.row-is) at c.loop-index.invariant.end)) in
     let at_row : InRange c.loop-index.row = simp c.loop-index.row-is at c.loop-index.invariant.row in
     let next = between _ _ _ _ at_row c.requires.end end in
-    let fits : FitsSigned w64 (c.loop-index.row +ℤ pos (length (sections_rows (shown_section c.is_shown-shown.result v)))) = in-fits _ next in
+    let fits : FitsSigned w64 (c.loop-index.row +ℤ pos (length (sections_rows (shown_section c.is_shown-shown.result v)))) = InRange-fits _ next in
     let row = simp c.loop-index.row-is at c.row_below-row.ensures in
     rw (row, c.is_open-before.ensures) (simp to_z-of_z (record { row = next; end = further c.loop-index.row (length (sections_rows (shown_section c.is_shown-shown.result v))) (length (sections_rows (shown_sections (is_open v) (drop (i + 1) views)))) _ end }))
 

@@ -6,7 +6,7 @@ use Rattle.scm_render.specs.Drawing.{text_picture}
 use Rattle.scm_render.proofs.PictureLemmas.{PictureInRange-left}
 use Rattle.scm_view.specs.Rows.{IdBox}
 use Rattle.scm_view.specs.Pictures.{IdPicture, box_part, title_picture}
-use Rattle.scm_view.proofs.StepLemmas.{three, second, third, text-place, in-fits}
+use Rattle.scm_render.proofs.StepLemmas.{three, second, third, text-place, InRange-fits}
 use Rattle.scm_view.proofs.heading.draw_before_fold.Goals as goal
 
 abbrev box : IdBox → ℤ → ℤ → Sight → IdPicture
@@ -37,7 +37,7 @@ overflow_add-x c =
     let fy : FitsSigned w64 c.args.y = c.ranges.y in
     let blank = simp to_z-of_z at c.in_ok-draw_blank.ensures.ok in
     let toggle = simp to_z-of_z at c.in_ok-draw_component.ensures.ok in
-    simp to_z-of_z (in-fits _ (text-place _ _ _ _ (third _ _ _ _ (box c.args.toggle_box.now c.args.x c.args.y) (text c.args.title.now c.args.x c.args.y) blank toggle c.requires)).0)
+    simp to_z-of_z (InRange-fits _ (text-place _ _ _ _ (third _ _ _ _ (box c.args.toggle_box.now c.args.x c.args.y) (text c.args.title.now c.args.x c.args.y) blank toggle c.requires)).0)
 
 pub draw_text-requires : goal.draw_text-requires
 unfolding title_picture
@@ -47,7 +47,7 @@ draw_text-requires c =
     let blank = simp to_z-of_z at c.in_ok-draw_blank.ensures.ok in
     let toggle = simp to_z-of_z at c.in_ok-draw_component.ensures.ok in
     let last = third _ _ _ _ (box c.args.toggle_box.now c.args.x c.args.y) (text c.args.title.now c.args.x c.args.y) blank toggle c.requires in
-    let fits : FitsSigned w64 (c.args.x +ℤ pos 4) = in-fits _ (text-place _ _ _ _ last).0 in
+    let fits : FitsSigned w64 (c.args.x +ℤ pos 4) = InRange-fits _ (text-place _ _ _ _ last).0 in
     simp to_z-of_z last
 
 pub returns-clause-ok : goal.returns-clause-ok
@@ -58,5 +58,5 @@ returns-clause-ok c =
     let blank = simp to_z-of_z at c.in_ok-draw_blank.ensures.ok in
     let toggle = simp to_z-of_z at c.in_ok-draw_component.ensures.ok in
     let last = third _ _ _ _ (box c.args.toggle_box.now c.args.x c.args.y) (text c.args.title.now c.args.x c.args.y) blank toggle c.requires in
-    let fits : FitsSigned w64 (c.args.x +ℤ pos 4) = in-fits _ (text-place _ _ _ _ last).0 in
+    let fits : FitsSigned w64 (c.args.x +ℤ pos 4) = InRange-fits _ (text-place _ _ _ _ last).0 in
     three _ _ _ _ _ (box c.args.toggle_box.now c.args.x c.args.y) (text c.args.title.now c.args.x c.args.y) blank toggle (simp to_z-of_z at c.in_ok-draw_text.ensures.ok)

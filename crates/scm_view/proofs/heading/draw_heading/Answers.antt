@@ -5,7 +5,8 @@ use Rattle.scm_render.specs.Canvas.{Sight, under}
 use Rattle.scm_render.proofs.PictureLemmas.{PictureInRange-left, PictureInRange-right}
 use Rattle.scm_view.specs.Rows.{IdBox}
 use Rattle.scm_view.specs.Pictures.{IdPicture, fold_column, heading_width, heading_mask, title_picture, heading_picture}
-use Rattle.scm_view.proofs.StepLemmas.{step, masked, sight-after, heading-fold, heading-mask, in-fits}
+use Rattle.scm_render.proofs.StepLemmas.{step, masked, sight-after, InRange-fits}
+use Rattle.scm_view.proofs.HeadingLemmas.{heading-fold, heading-mask}
 use Rattle.scm_view.proofs.heading.draw_heading.Goals as goal
 
 -- what is drawn before the box of the fold
@@ -18,7 +19,7 @@ draw_component-requires c =
     let fx : FitsSigned w64 c.args.x = c.ranges.x in
     let fy : FitsSigned w64 c.args.y = c.ranges.y in
     let column = c.fold_column-fold_x.ensures.column in
-    let fits : FitsSigned w64 (fold_column c.args.viewport.now.canvas.sight) = in-fits _ (heading-fold _ _ _ _ c.requires) in
+    let fits : FitsSigned w64 (fold_column c.args.viewport.now.canvas.sight) = InRange-fits _ (heading-fold _ _ _ _ c.requires) in
     rw column (simp to_z-of_z (PictureInRange-left _ _ c.requires))
 
 pub swap_mask-outer-requires : goal.swap_mask-outer-requires
@@ -26,7 +27,7 @@ swap_mask-outer-requires c =
     let fx : FitsSigned w64 c.args.x = c.ranges.x in
     let fy : FitsSigned w64 c.args.y = c.ranges.y in
     let column = c.fold_column-fold_x.ensures.column in
-    let fits : FitsSigned w64 (fold_column c.args.viewport.now.canvas.sight) = in-fits _ (heading-fold _ _ _ _ c.requires) in
+    let fits : FitsSigned w64 (fold_column c.args.viewport.now.canvas.sight) = InRange-fits _ (heading-fold _ _ _ _ c.requires) in
     let width = simp to_z-of_z at (rw column at c.columns-width.ensures) in
     rw width (simp to_z-of_z (heading-mask _ _ _ _ c.requires))
 
@@ -36,7 +37,7 @@ draw_before_fold-requires c =
     let fx : FitsSigned w64 c.args.x = c.ranges.x in
     let fy : FitsSigned w64 c.args.y = c.ranges.y in
     let column = c.fold_column-fold_x.ensures.column in
-    let fits : FitsSigned w64 (fold_column c.args.viewport.now.canvas.sight) = in-fits _ (heading-fold _ _ _ _ c.requires) in
+    let fits : FitsSigned w64 (fold_column c.args.viewport.now.canvas.sight) = InRange-fits _ (heading-fold _ _ _ _ c.requires) in
     let width = simp to_z-of_z at (rw column at c.columns-width.ensures) in
     let fold = simp to_z-of_z at (rw column at c.in_ok-draw_component.ensures.ok) in
     let set = simp to_z-of_z at (rw width at c.swap_mask-outer.ensures.new) in
@@ -50,7 +51,7 @@ returns-clause-ok c =
     let fy : FitsSigned w64 c.args.y = c.ranges.y in
     let s = c.args.viewport.now.canvas.sight in
     let column = c.fold_column-fold_x.ensures.column in
-    let fits : FitsSigned w64 (fold_column s) = in-fits _ (heading-fold _ _ _ _ c.requires) in
+    let fits : FitsSigned w64 (fold_column s) = InRange-fits _ (heading-fold _ _ _ _ c.requires) in
     let width = simp to_z-of_z at (rw column at c.columns-width.ensures) in
     let fold = simp to_z-of_z at (rw column at c.in_ok-draw_component.ensures.ok) in
     let set = simp to_z-of_z at (rw width at c.swap_mask-outer.ensures.new) in

@@ -1,5 +1,5 @@
 use Rattle.std.proofs.Common.{ap}
-use Rattle.scm_view.proofs.StepLemmas.{sight-after}
+use Rattle.scm_render.proofs.StepLemmas.{sight-after}
 use Rattle.scm_view.proofs.reach.cover_rect.Goals as goal
 
 pub returns-clause-rect : goal.returns-clause-rect

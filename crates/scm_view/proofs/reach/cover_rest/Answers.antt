@@ -1,7 +1,7 @@
 use Rattle.std.proofs.Common.{ap, FitsSigned, w64}
 use Rattle.std.proofs.lemmas.Int.{to_z-of_z}
 use Rattle.scm_render.proofs.PictureLemmas.{RectInRange-covering}
-use Rattle.scm_view.proofs.StepLemmas.{sight-after}
+use Rattle.scm_render.proofs.StepLemmas.{sight-after}
 use Rattle.scm_view.proofs.reach.cover_rest.Goals as goal
 
 pub cover-requires : goal.cover-requires

@@ -8,7 +8,7 @@ use Rattle.scm_render.proofs.PictureLemmas.{PictureInRange-left}
 use Rattle.scm_view.specs.Rows.{IdBox, line_texts}
 use Rattle.scm_view.specs.Texts.{sign_text}
 use Rattle.scm_view.specs.Pictures.{IdPicture, box_part, changed_picture}
-use Rattle.scm_view.proofs.StepLemmas.{three, second, third, text-place, in-fits}
+use Rattle.scm_render.proofs.StepLemmas.{three, second, third, text-place, InRange-fits}
 use Rattle.scm_view.proofs.section_line_view.draw_changed_line.Goals as goal
 
 abbrev box : IdBox → ℤ → ℤ → Sight → IdPicture
@@ -39,7 +39,7 @@ overflow_add-x c =
     let cover = simp to_z-of_z at c.cover_row.ensures.new in
     let toggle = simp to_z-of_z at c.in_ok-draw_component.ensures.ok in
     let last = third _ _ _ _ (box c.args.toggle_box.now c.args.x c.args.y) (texts c.args.change_type c.args.line.now c.args.x c.args.y) cover toggle c.requires in
-    simp to_z-of_z (in-fits _ (text-place _ _ _ _ last).0)
+    simp to_z-of_z (InRange-fits _ (text-place _ _ _ _ last).0)
 
 pub draw_line_texts-requires : goal.draw_line_texts-requires
 unfolding changed_picture
@@ -49,7 +49,7 @@ draw_line_texts-requires c =
     let cover = simp to_z-of_z at c.cover_row.ensures.new in
     let toggle = simp to_z-of_z at c.in_ok-draw_component.ensures.ok in
     let last = third _ _ _ _ (box c.args.toggle_box.now c.args.x c.args.y) (texts c.args.change_type c.args.line.now c.args.x c.args.y) cover toggle c.requires in
-    let fits : FitsSigned w64 (c.args.x +ℤ pos 4) = in-fits _ (text-place _ _ _ _ last).0 in
+    let fits : FitsSigned w64 (c.args.x +ℤ pos 4) = InRange-fits _ (text-place _ _ _ _ last).0 in
     rw c.sign_text.ensures (simp to_z-of_z last)
 
 pub returns-clause-ok : goal.returns-clause-ok
@@ -60,6 +60,6 @@ returns-clause-ok c =
     let cover = simp to_z-of_z at c.cover_row.ensures.new in
     let toggle = simp to_z-of_z at c.in_ok-draw_component.ensures.ok in
     let last = third _ _ _ _ (box c.args.toggle_box.now c.args.x c.args.y) (texts c.args.change_type c.args.line.now c.args.x c.args.y) cover toggle c.requires in
-    let fits : FitsSigned w64 (c.args.x +ℤ pos 4) = in-fits _ (text-place _ _ _ _ last).0 in
+    let fits : FitsSigned w64 (c.args.x +ℤ pos 4) = InRange-fits _ (text-place _ _ _ _ last).0 in
     let drawn = rw c.sign_text.ensures at (simp to_z-of_z at c.in_ok-draw_line_texts.ensures.ok) in
     three _ _ _ _ _ (box c.args.toggle_box.now c.args.x c.args.y) (texts c.args.change_type c.args.line.now c.args.x c.args.y) cover toggle drawn

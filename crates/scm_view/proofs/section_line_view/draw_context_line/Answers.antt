@@ -7,7 +7,7 @@ use Rattle.scm_render.proofs.PictureLemmas.{PictureInRange-left}
 use Rattle.scm_view.specs.Rows.{line_texts}
 use Rattle.scm_view.specs.Texts.{number_text}
 use Rattle.scm_view.specs.Pictures.{IdPicture, context_picture}
-use Rattle.scm_view.proofs.StepLemmas.{step, rest}
+use Rattle.scm_render.proofs.StepLemmas.{step, rest}
 use Rattle.scm_view.proofs.section_line_view.draw_context_line.Goals as goal
 
 abbrev texts : ℕ → List ℕ → ℤ → ℤ → Sight → IdPicture

@@ -5,7 +5,7 @@ use Rattle.scm_render.specs.Canvas.{Sight}
 use Rattle.scm_render.proofs.PictureLemmas.{PictureInRange-left}
 use Rattle.scm_view.specs.Rows.{ShownFile, shown_file, message_height}
 use Rattle.scm_view.specs.Pictures.{IdPicture, commit_message_picture, body_picture, document_picture, commit_picture}
-use Rattle.scm_view.proofs.StepLemmas.{step, rest}
+use Rattle.scm_render.proofs.StepLemmas.{step, rest}
 use Rattle.scm_view.proofs.RowsLemmas.{on-ok}
 use Rattle.scm_view.proofs.commit_view.CommitViewComponent.draw.Goals as goal
 

@@ -5,7 +5,7 @@ use Rattle.scm_render.specs.Canvas.{Sight}
 use Rattle.scm_render.proofs.PictureLemmas.{PictureInRange-left}
 use Rattle.scm_view.specs.Rows.{is_selected}
 use Rattle.scm_view.specs.Pictures.{IdPicture, row_picture, highlight}
-use Rattle.scm_view.proofs.StepLemmas.{step, rest}
+use Rattle.scm_render.proofs.StepLemmas.{step, rest}
 use Rattle.scm_view.proofs.section_view.SectionView.draw_header.Goals as goal
 
 abbrev light : Bool → ℤ → Sight → IdPicture

@@ -6,7 +6,7 @@ use Rattle.scm_render.specs.Drawing.{text_picture}
 use Rattle.scm_render.proofs.PictureLemmas.{PictureInRange-left}
 use Rattle.scm_view.specs.Rows.{IdBox, is_selected, section_box}
 use Rattle.scm_view.specs.Pictures.{IdPicture, box_part, row_picture, highlight}
-use Rattle.scm_view.proofs.StepLemmas.{four, second-of-four, second, third, text-place, in-fits}
+use Rattle.scm_render.proofs.StepLemmas.{four, second-of-four, second, third, text-place, InRange-fits}
 use Rattle.scm_view.proofs.section_view.SectionView.draw_mark.Goals as goal
 
 abbrev light : Bool → ℤ → Sight → IdPicture
@@ -44,7 +44,7 @@ overflow_add-x c =
     let cover = simp to_z-of_z at c.cover_rest.ensures.new in
     let toggle = rw c.section_box-toggle_box.ensures at (simp to_z-of_z at c.in_ok-draw_component.ensures.ok) in
     let more = second-of-four _ _ _ (box b c.args.x c.args.y) (text c.args.text.now c.args.x c.args.y) (light (is_selected c.args.self.now) c.args.y) cover c.requires in
-    simp to_z-of_z (in-fits _ (text-place _ _ _ _ (second _ _ _ (text c.args.text.now c.args.x c.args.y) (light (is_selected c.args.self.now) c.args.y) toggle more)).0)
+    simp to_z-of_z (InRange-fits _ (text-place _ _ _ _ (second _ _ _ (text c.args.text.now c.args.x c.args.y) (light (is_selected c.args.self.now) c.args.y) toggle more)).0)
 
 pub draw_text-requires : goal.draw_text-requires
 unfolding row_picture
@@ -56,7 +56,7 @@ draw_text-requires c =
     let toggle = rw c.section_box-toggle_box.ensures at (simp to_z-of_z at c.in_ok-draw_component.ensures.ok) in
     let more = second-of-four _ _ _ (box b c.args.x c.args.y) (text c.args.text.now c.args.x c.args.y) (light (is_selected c.args.self.now) c.args.y) cover c.requires in
     let own = second _ _ _ (text c.args.text.now c.args.x c.args.y) (light (is_selected c.args.self.now) c.args.y) toggle more in
-    let fits : FitsSigned w64 (c.args.x +ℤ pos 4) = in-fits _ (text-place _ _ _ _ own).0 in
+    let fits : FitsSigned w64 (c.args.x +ℤ pos 4) = InRange-fits _ (text-place _ _ _ _ own).0 in
     simp to_z-of_z own
 
 pub highlight-requires : goal.highlight-requires
@@ -69,7 +69,7 @@ highlight-requires c =
     let toggle = rw c.section_box-toggle_box.ensures at (simp to_z-of_z at c.in_ok-draw_component.ensures.ok) in
     let more = second-of-four _ _ _ (box b c.args.x c.args.y) (text c.args.text.now c.args.x c.args.y) (light (is_selected c.args.self.now) c.args.y) cover c.requires in
     let own = second _ _ _ (text c.args.text.now c.args.x c.args.y) (light (is_selected c.args.self.now) c.args.y) toggle more in
-    let fits : FitsSigned w64 (c.args.x +ℤ pos 4) = in-fits _ (text-place _ _ _ _ own).0 in
+    let fits : FitsSigned w64 (c.args.x +ℤ pos 4) = InRange-fits _ (text-place _ _ _ _ own).0 in
     let drawn = simp to_z-of_z at c.in_ok-draw_text.ensures.ok in
     rw c.is_selected.ensures (simp to_z-of_z (third _ _ _ _ (text c.args.text.now c.args.x c.args.y) (light (is_selected c.args.self.now) c.args.y) toggle drawn more))
 
@@ -83,7 +83,7 @@ returns-clause-ok c =
     let toggle = rw c.section_box-toggle_box.ensures at (simp to_z-of_z at c.in_ok-draw_component.ensures.ok) in
     let more = second-of-four _ _ _ (box b c.args.x c.args.y) (text c.args.text.now c.args.x c.args.y) (light (is_selected c.args.self.now) c.args.y) cover c.requires in
     let own = second _ _ _ (text c.args.text.now c.args.x c.args.y) (light (is_selected c.args.self.now) c.args.y) toggle more in
-    let fits : FitsSigned w64 (c.args.x +ℤ pos 4) = in-fits _ (text-place _ _ _ _ own).0 in
+    let fits : FitsSigned w64 (c.args.x +ℤ pos 4) = InRange-fits _ (text-place _ _ _ _ own).0 in
     let drawn = simp to_z-of_z at c.in_ok-draw_text.ensures.ok in
     let lit = rw c.is_selected.ensures at (simp to_z-of_z at c.highlight.ensures.new) in
     four _ _ _ _ _ _ (box b c.args.x c.args.y) (text c.args.text.now c.args.x c.args.y) (light (is_selected c.args.self.now) c.args.y) cover toggle drawn lit
