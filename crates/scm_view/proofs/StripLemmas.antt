@@ -5,8 +5,8 @@ use Rattle.std.specs.Int.{int_min, int_max}
 use Rattle.std.proofs.lemmas.Int.{ints}
 use Rattle.std.proofs.lemmas.List.{length-map}
 use Rattle.scm_cells.specs.Rect.{end_x_of, end_y_of, or_zero, rect_between, intersect_of}
-use Rattle.scm_cells.specs.declared.rectangle.Rect.{Rect}
-use Rattle.scm_cells.specs.declared.masks.Mask.{Mask}
+use Rattle.scm_cells.specs.declared.rect.Rect.{Rect}
+use Rattle.scm_cells.specs.declared.mask.Mask.{Mask}
 use Rattle.scm_cells.specs.Mask.{mask_rect_of}
 use Rattle.scm_cells.specs.Row.{put}
 use Rattle.scm_cells.proofs.RectLemmas.{places}
