@@ -14,16 +14,16 @@ use Rattle.scm_cells.specs.declared.text.Span.{Span}
 use Rattle.scm_cells.specs.declared.rectangle.Rect.{Rect}
 use Rattle.scm_render.specs.declared.filling.Filling.{Filling}
 use Rattle.scm_cells.specs.Row.{put}
-use Rattle.scm_render.specs.Marks.{Put, Marks, MarksInRange, followed_by, nothing}
+use Rattle.scm_render.specs.Picture.{Put, Picture, PictureInRange, followed_by, nothing}
 use Rattle.scm_render.specs.Around.{join}
-use Rattle.scm_render.specs.Canvas.{Row, Canvas, Sight, clipped, painted, marked}
-use Rattle.scm_render.specs.Drawing.{has_row, whole_put, text_puts, texts_puts, texts_width, symbol_at, row_text, rows_puts, lines_puts, body_texts, reach, row_rect, ellipsis, span_marks, line_marks, text_marks, fill_puts, blank_marks, title_room, body_room, frame_puts, frame_marks}
+use Rattle.scm_render.specs.Canvas.{Row, Canvas, Sight, clipped, painted, with_picture}
+use Rattle.scm_render.specs.Drawing.{has_row, whole_put, text_puts, texts_puts, texts_width, symbol_at, row_text, rows_puts, lines_puts, body_texts, reach, row_rect, ellipsis, span_picture, line_picture, text_picture, fill_puts, blank_picture, title_room, body_room, frame_puts, frame_picture}
 use Rattle.scm_render.specs.declared.filling.Filling.TheVariants.{Blank, Border}
 use Rattle.scm_cells.specs.Rect.{RectInRange, is_empty, intersect_of}
 use Rattle.std.specs.Prelude.{int_lt}
 use Rattle.scm_render.proofs.AroundLemmas.{around-one}
-use Rattle.scm_render.proofs.MarksLemmas.{MarksInRange-left, MarksInRange-right}
-use Rattle.scm_render.proofs.CanvasLemmas.{marked-plain, marked-sight, marked-twice, marked-nothing, marked-then}
+use Rattle.scm_render.proofs.PictureLemmas.{PictureInRange-left, PictureInRange-right}
+use Rattle.scm_render.proofs.CanvasLemmas.{with_picture-plain, with_picture-sight, with_picture-twice, with_picture-nothing, with_picture-then}
 use Rattle.scm_render.proofs.PaintLemmas.{painted-none, painted-append, painted-above, painted-below, painted-at}
 
 -- a text put on a row of the screen
@@ -213,101 +213,101 @@ frame-rows v m r i j k t b title body shown rows p q s ei et ej eb ek es hp hq h
     ∙ ap (λ w. painted v (lines_puts (intersect_of w m) w.x w.y (body_texts (take (min w.height (length body)) body))) v.y q) eb
     ∙ ap (λ w. painted v (lines_puts (intersect_of (body_room r) m) (r.x +ℤ pos 1) (r.y +ℤ pos 1) w) v.y q) (shown_lines body (r.height - 2)))
 
--- ---- the marks of the calls on a canvas
+-- ---- the pictures of the calls on a canvas
 
 module _ {K : Type 0} where
-  pub marked-span : (c d : Canvas K) (m : Rect) (x y : ℤ) (t : List ℕ) → m ≡ reach c.sight → d.sight ≡ c.sight
+  pub with_picture-span : (c d : Canvas K) (m : Rect) (x y : ℤ) (t : List ℕ) → m ≡ reach c.sight → d.sight ≡ c.sight
       → d.rows ≡ painted c.sight.rect (text_puts m x y t) c.sight.rect.y c.rows → d.area ≡ join c.area (row_rect x y (text_width t)) → d.boxes ≡ c.boxes
-      → d ≡ marked c (span_marks c.sight x y t)
-  unfolding span_marks
-  marked-span c d m x y t e s w a b =
-      marked-plain c d (span_marks c.sight x y t) s (w ∙ ap (λ k. painted c.sight.rect (text_puts k x y t) c.sight.rect.y c.rows) e) (a ∙ sym (around-one c.area (row_rect x y (text_width t)))) b refl
+      → d ≡ with_picture c (span_picture c.sight x y t)
+  unfolding span_picture
+  with_picture-span c d m x y t e s w a b =
+      with_picture-plain c d (span_picture c.sight x y t) s (w ∙ ap (λ k. painted c.sight.rect (text_puts k x y t) c.sight.rect.y c.rows) e) (a ∙ sym (around-one c.area (row_rect x y (text_width t)))) b refl
 
-  pub marked-line : (c d : Canvas K) (m : Rect) (x y : ℤ) (ts : List (List ℕ)) → m ≡ reach c.sight → d.sight ≡ c.sight
+  pub with_picture-line : (c d : Canvas K) (m : Rect) (x y : ℤ) (ts : List (List ℕ)) → m ≡ reach c.sight → d.sight ≡ c.sight
       → d.rows ≡ painted c.sight.rect (texts_puts m x y ts) c.sight.rect.y c.rows → d.area ≡ join c.area (row_rect x y (texts_width ts)) → d.boxes ≡ c.boxes
-      → d ≡ marked c (line_marks c.sight x y ts)
-  unfolding line_marks
-  marked-line c d m x y ts e s w a b =
-      marked-plain c d (line_marks c.sight x y ts) s (w ∙ ap (λ k. painted c.sight.rect (texts_puts k x y ts) c.sight.rect.y c.rows) e) (a ∙ sym (around-one c.area (row_rect x y (texts_width ts)))) b refl
+      → d ≡ with_picture c (line_picture c.sight x y ts)
+  unfolding line_picture
+  with_picture-line c d m x y ts e s w a b =
+      with_picture-plain c d (line_picture c.sight x y ts) s (w ∙ ap (λ k. painted c.sight.rect (texts_puts k x y ts) c.sight.rect.y c.rows) e) (a ∙ sym (around-one c.area (row_rect x y (texts_width ts)))) b refl
 
-  pub marked-blank : (c d : Canvas K) (m r : Rect) → m ≡ intersect_of r (reach c.sight) → d.sight ≡ c.sight
+  pub with_picture-blank : (c d : Canvas K) (m r : Rect) → m ≡ intersect_of r (reach c.sight) → d.sight ≡ c.sight
       → d.rows ≡ painted c.sight.rect (fill_puts Blank m) c.sight.rect.y c.rows → d.area ≡ join c.area r → d.boxes ≡ c.boxes
-      → d ≡ marked c (blank_marks c.sight r)
-  unfolding blank_marks
-  marked-blank c d m r e s w a b =
-      marked-plain c d (blank_marks c.sight r) s (w ∙ ap (λ k. painted c.sight.rect (fill_puts Blank k) c.sight.rect.y c.rows) e) (a ∙ sym (around-one c.area r)) b refl
+      → d ≡ with_picture c (blank_picture c.sight r)
+  unfolding blank_picture
+  with_picture-blank c d m r e s w a b =
+      with_picture-plain c d (blank_picture c.sight r) s (w ∙ ap (λ k. painted c.sight.rect (fill_puts Blank k) c.sight.rect.y c.rows) e) (a ∙ sym (around-one c.area r)) b refl
 
-  pub marked-frame : (c d : Canvas K) (m r : Rect) (title : List ℕ) (body : List (List ℕ)) → m ≡ reach c.sight → is_empty r ≡ false → d.sight ≡ c.sight
+  pub with_picture-frame : (c d : Canvas K) (m r : Rect) (title : List ℕ) (body : List (List ℕ)) → m ≡ reach c.sight → is_empty r ≡ false → d.sight ≡ c.sight
       → d.rows ≡ painted c.sight.rect (frame_puts m r title body) c.sight.rect.y c.rows → d.area ≡ join c.area r → d.boxes ≡ c.boxes
-      → d ≡ marked c (frame_marks c.sight r title body)
-  unfolding frame_marks
-  marked-frame c d m r title body e full s w a b =
-      marked-plain c d (frame_marks c.sight r title body) s
+      → d ≡ with_picture c (frame_picture c.sight r title body)
+  unfolding frame_picture
+  with_picture-frame c d m r title body e full s w a b =
+      with_picture-plain c d (frame_picture c.sight r title body) s
       (w ∙ ap (λ k. painted c.sight.rect (frame_puts k r title body) c.sight.rect.y c.rows) e ∙ rw full refl)
       (a ∙ sym (around-one c.area r)) b refl
 
-  pub marked-no_frame : (c d : Canvas K) (r : Rect) (title : List ℕ) (body : List (List ℕ)) → is_empty r ≡ true → d.sight ≡ c.sight
-      → d.rows ≡ c.rows → d.area ≡ join c.area r → d.boxes ≡ c.boxes → d ≡ marked c (frame_marks c.sight r title body)
-  unfolding frame_marks
-  marked-no_frame c d r title body none s w a b =
-      marked-plain c d (frame_marks c.sight r title body) s
+  pub with_picture-no_frame : (c d : Canvas K) (r : Rect) (title : List ℕ) (body : List (List ℕ)) → is_empty r ≡ true → d.sight ≡ c.sight
+      → d.rows ≡ c.rows → d.area ≡ join c.area r → d.boxes ≡ c.boxes → d ≡ with_picture c (frame_picture c.sight r title body)
+  unfolding frame_picture
+  with_picture-no_frame c d r title body none s w a b =
+      with_picture-plain c d (frame_picture c.sight r title body) s
       (w ∙ sym (painted-none c.sight.rect c.sight.rect.y c.rows) ∙ rw none refl)
       (a ∙ sym (around-one c.area r)) b refl
 
   -- a text with its ellipsis, and one without
-  pub text_marks-long : (s : Sight) (x y : ℤ) (ts : List (List ℕ)) → end_x_of (reach s) <ℤ (x +ℤ pos (texts_width ts))
-      → text_marks {K = K} s x y ts ≡ followed_by (line_marks s x y ts) (span_marks s (end_x_of (reach s) -ℤ pos 1) y ellipsis)
-  unfolding text_marks
-  text_marks-long s x y ts h = let e : int_lt (end_x_of (reach s)) (x +ℤ pos (texts_width ts)) ≡ true = grind (arith, ints) in rw e refl
+  pub text_picture-long : (s : Sight) (x y : ℤ) (ts : List (List ℕ)) → end_x_of (reach s) <ℤ (x +ℤ pos (texts_width ts))
+      → text_picture {K = K} s x y ts ≡ followed_by (line_picture s x y ts) (span_picture s (end_x_of (reach s) -ℤ pos 1) y ellipsis)
+  unfolding text_picture
+  text_picture-long s x y ts h = let e : int_lt (end_x_of (reach s)) (x +ℤ pos (texts_width ts)) ≡ true = grind (arith, ints) in rw e refl
 
-  pub text_marks-short : (s : Sight) (x y : ℤ) (ts : List (List ℕ)) → (x +ℤ pos (texts_width ts)) ≤ℤ end_x_of (reach s)
-      → text_marks {K = K} s x y ts ≡ followed_by (line_marks s x y ts) nothing
-  unfolding text_marks
-  text_marks-short s x y ts h = let e : int_lt (end_x_of (reach s)) (x +ℤ pos (texts_width ts)) ≡ false = grind (arith, ints) in rw e refl
+  pub text_picture-short : (s : Sight) (x y : ℤ) (ts : List (List ℕ)) → (x +ℤ pos (texts_width ts)) ≤ℤ end_x_of (reach s)
+      → text_picture {K = K} s x y ts ≡ followed_by (line_picture s x y ts) nothing
+  unfolding text_picture
+  text_picture-short s x y ts h = let e : int_lt (end_x_of (reach s)) (x +ℤ pos (texts_width ts)) ≡ false = grind (arith, ints) in rw e refl
 
-  pub text_marks-line : (s : Sight) (x y : ℤ) (ts : List (List ℕ)) → MarksInRange {K = K} (text_marks s x y ts) → MarksInRange {K = K} (line_marks s x y ts)
-  unfolding text_marks
-  text_marks-line s x y ts r = MarksInRange-left _ _ r
+  pub text_picture-line : (s : Sight) (x y : ℤ) (ts : List (List ℕ)) → PictureInRange {K = K} (text_picture s x y ts) → PictureInRange {K = K} (line_picture s x y ts)
+  unfolding text_picture
+  text_picture-line s x y ts r = PictureInRange-left _ _ r
 
-  pub marked-short : (c : Canvas K) (m : Marks K) → marked c (followed_by m nothing) ≡ marked c m
-  marked-short c m = sym (marked-then c m nothing) ∙ marked-nothing (marked c m)
+  pub with_picture-short : (c : Canvas K) (m : Picture K) → with_picture c (followed_by m nothing) ≡ with_picture c m
+  with_picture-short c m = sym (with_picture-then c m nothing) ∙ with_picture-nothing (with_picture c m)
 
-  pub line_in_range : (s : Sight) (x y : ℤ) (ts : List (List ℕ)) → MarksInRange {K = K} (line_marks s x y ts) → RectInRange (row_rect x y (texts_width ts))
-  unfolding line_marks
+  pub line_in_range : (s : Sight) (x y : ℤ) (ts : List (List ℕ)) → PictureInRange {K = K} (line_picture s x y ts) → RectInRange (row_rect x y (texts_width ts))
+  unfolding line_picture
   line_in_range s x y ts r = r.areas.0
 
-  pub span_in_range : (s : Sight) (x y : ℤ) (t : List ℕ) → MarksInRange {K = K} (span_marks s x y t) → RectInRange (row_rect x y (text_width t))
-  unfolding span_marks
+  pub span_in_range : (s : Sight) (x y : ℤ) (t : List ℕ) → PictureInRange {K = K} (span_picture s x y t) → RectInRange (row_rect x y (text_width t))
+  unfolding span_picture
   span_in_range s x y t r = r.areas.0
 
-  pub blank_in_range : (s : Sight) (r : Rect) → MarksInRange {K = K} (blank_marks s r) → RectInRange r
-  unfolding blank_marks
+  pub blank_in_range : (s : Sight) (r : Rect) → PictureInRange {K = K} (blank_picture s r) → RectInRange r
+  unfolding blank_picture
   blank_in_range s r p = p.areas.0
 
-  pub frame_in_range : (s : Sight) (r : Rect) (title : List ℕ) (body : List (List ℕ)) → MarksInRange {K = K} (frame_marks s r title body) → RectInRange r
-  unfolding frame_marks
+  pub frame_in_range : (s : Sight) (r : Rect) (title : List ℕ) (body : List (List ℕ)) → PictureInRange {K = K} (frame_picture s r title body) → RectInRange r
+  unfolding frame_picture
   frame_in_range s r title body p = p.areas.0
 
   -- a text that goes past what drawing reaches
-  pub ellipsis_in_range : (c d : Canvas K) (m : Rect) (end x y : ℤ) (ts : List (List ℕ)) → d ≡ marked c (line_marks c.sight x y ts) → m ≡ reach d.sight → end ≡ end_x_of m
-      → end <ℤ (x +ℤ pos (texts_width ts)) → MarksInRange {K = K} (text_marks c.sight x y ts) → MarksInRange {K = K} (span_marks d.sight (end -ℤ pos 1) y ellipsis)
+  pub ellipsis_in_range : (c d : Canvas K) (m : Rect) (end x y : ℤ) (ts : List (List ℕ)) → d ≡ with_picture c (line_picture c.sight x y ts) → m ≡ reach d.sight → end ≡ end_x_of m
+      → end <ℤ (x +ℤ pos (texts_width ts)) → PictureInRange {K = K} (text_picture c.sight x y ts) → PictureInRange {K = K} (span_picture d.sight (end -ℤ pos 1) y ellipsis)
   ellipsis_in_range c d m end x y ts h e f l r =
-      let s : d.sight ≡ c.sight = ap (λ v. v.sight) h ∙ marked-sight c (line_marks c.sight x y ts) in
+      let s : d.sight ≡ c.sight = ap (λ v. v.sight) h ∙ with_picture-sight c (line_picture c.sight x y ts) in
       let at : end ≡ end_x_of (reach c.sight) = f ∙ ap end_x_of (e ∙ ap reach s) in
-      rw (s, at) (MarksInRange-right _ _ (rw (text_marks-long c.sight x y ts (rw at at l)) at r))
+      rw (s, at) (PictureInRange-right _ _ (rw (text_picture-long c.sight x y ts (rw at at l)) at r))
 
-  pub marked-long : (c d e : Canvas K) (m : Rect) (end x y : ℤ) (ts : List (List ℕ)) → d ≡ marked c (line_marks c.sight x y ts) → m ≡ reach d.sight → end ≡ end_x_of m
-      → end <ℤ (x +ℤ pos (texts_width ts)) → e ≡ marked d (span_marks d.sight (end -ℤ pos 1) y ellipsis) → e ≡ marked c (text_marks c.sight x y ts)
-  marked-long c d e m end x y ts h p f l k =
-      let s : d.sight ≡ c.sight = ap (λ v. v.sight) h ∙ marked-sight c (line_marks c.sight x y ts) in
+  pub with_picture-long : (c d e : Canvas K) (m : Rect) (end x y : ℤ) (ts : List (List ℕ)) → d ≡ with_picture c (line_picture c.sight x y ts) → m ≡ reach d.sight → end ≡ end_x_of m
+      → end <ℤ (x +ℤ pos (texts_width ts)) → e ≡ with_picture d (span_picture d.sight (end -ℤ pos 1) y ellipsis) → e ≡ with_picture c (text_picture c.sight x y ts)
+  with_picture-long c d e m end x y ts h p f l k =
+      let s : d.sight ≡ c.sight = ap (λ v. v.sight) h ∙ with_picture-sight c (line_picture c.sight x y ts) in
       let at : end ≡ end_x_of (reach c.sight) = f ∙ ap end_x_of (p ∙ ap reach s) in
-      marked-twice c d e (line_marks c.sight x y ts) (span_marks c.sight (end_x_of (reach c.sight) -ℤ pos 1) y ellipsis) h
-      (k ∙ ap (λ w. marked d (span_marks w (end -ℤ pos 1) y ellipsis)) s ∙ ap (λ w. marked d (span_marks c.sight (w -ℤ pos 1) y ellipsis)) at)
-      ∙ ap (marked c) (sym (text_marks-long c.sight x y ts (rw at at l)))
+      with_picture-twice c d e (line_picture c.sight x y ts) (span_picture c.sight (end_x_of (reach c.sight) -ℤ pos 1) y ellipsis) h
+      (k ∙ ap (λ w. with_picture d (span_picture w (end -ℤ pos 1) y ellipsis)) s ∙ ap (λ w. with_picture d (span_picture c.sight (w -ℤ pos 1) y ellipsis)) at)
+      ∙ ap (with_picture c) (sym (text_picture-long c.sight x y ts (rw at at l)))
 
-  pub marked-fitting : (c d : Canvas K) (m : Rect) (end x y : ℤ) (ts : List (List ℕ)) → d ≡ marked c (line_marks c.sight x y ts) → m ≡ reach d.sight → end ≡ end_x_of m
-      → (x +ℤ pos (texts_width ts)) ≤ℤ end → d ≡ marked c (text_marks c.sight x y ts)
-  marked-fitting c d m end x y ts h p f l =
-      let s : d.sight ≡ c.sight = ap (λ v. v.sight) h ∙ marked-sight c (line_marks c.sight x y ts) in
+  pub with_picture-fitting : (c d : Canvas K) (m : Rect) (end x y : ℤ) (ts : List (List ℕ)) → d ≡ with_picture c (line_picture c.sight x y ts) → m ≡ reach d.sight → end ≡ end_x_of m
+      → (x +ℤ pos (texts_width ts)) ≤ℤ end → d ≡ with_picture c (text_picture c.sight x y ts)
+  with_picture-fitting c d m end x y ts h p f l =
+      let s : d.sight ≡ c.sight = ap (λ v. v.sight) h ∙ with_picture-sight c (line_picture c.sight x y ts) in
       let at : end ≡ end_x_of (reach c.sight) = f ∙ ap end_x_of (p ∙ ap reach s) in
-      h ∙ sym (marked-short c (line_marks c.sight x y ts)) ∙ ap (marked c) (sym (text_marks-short c.sight x y ts (rw at at l)))
+      h ∙ sym (with_picture-short c (line_picture c.sight x y ts)) ∙ ap (with_picture c) (sym (text_picture-short c.sight x y ts (rw at at l)))

@@ -1,7 +1,7 @@
 -- Who owns a point, by the boxes of parts that were drawn one after another.
 use Rattle.std.proofs.Common.{◌≡◌, ℕ, List, [], ◌∷◌, ◌++◌, refl, ap, cond, true, false, Bool, ◌∙◌, sym}
 use Rattle.std.specs.Prelude.{ℤ, ◌&&◌, ◌||◌, Option, Some, None}
-use Rattle.scm_render.specs.Marks.{Box}
+use Rattle.scm_render.specs.Picture.{Box}
 use Rattle.scm_render.specs.Hits.{holds, has_id, first_of_two, hit}
 
 or_false : (b : Bool) → (b || false) ≡ b

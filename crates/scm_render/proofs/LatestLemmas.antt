@@ -1,7 +1,7 @@
 -- The last box of the list that no later one replaces is the latest in the map of boxes.
 use Rattle.std.proofs.Common.{◌≡◌, ℕ, ◌≤◌, List, [], ◌∷◌, refl, ap, arith, cond, true, false, Bool, ◌∙◌, sym, subst, ◌⊎◌, inl, inr}
 use Rattle.std.specs.Prelude.{ℤ, suc, ◌&&◌, ◌||◌, not, Option, Some, None}
-use Rattle.scm_render.specs.Marks.{Box}
+use Rattle.scm_render.specs.Picture.{Box}
 use Rattle.scm_render.specs.declared.trace.DrawnRect.{DrawnRect}
 use Rattle.scm_render.specs.Hits.{hit, has_id, holds, first_of_two, second_or, drawn_of, Catches, IsLatest, IsLawful}
 

@@ -5,7 +5,7 @@ pub mod HitLemmas
 pub mod LatestLemmas
 pub mod LineLemmas
 pub mod MapLemmas
-pub mod MarksLemmas
+pub mod PictureLemmas
 pub mod PaintLemmas
 pub mod RowLemmas
 pub mod SpanLemmas

@@ -3,7 +3,7 @@ use Rattle.std.proofs.Common.{◌≡◌, ℕ, ◌+◌, List, [], ◌∷◌, refl
 use Rattle.std.proofs.lemmas.List.{drop_all}
 use Rattle.std.specs.Prelude.{Option, Some, None, suc}
 use Rattle.std.specs.Map.{update, update_all}
-use Rattle.scm_render.specs.Marks.{Box}
+use Rattle.scm_render.specs.Picture.{Box}
 use Rattle.scm_render.specs.Places.{timed, timed_from}
 use Rattle.scm_render.specs.Hits.{IsLawful, second_or, drawn_of}
 use Rattle.scm_render.specs.declared.trace.DrawnRect.{DrawnRect}

@@ -5,7 +5,7 @@ use Rattle.std.specs.Ordering.{int_eq}
 use Rattle.std.proofs.lemmas.Int.{ints}
 use Rattle.std.proofs.lemmas.Bool.Decides.{Decides-int_eq}
 use Rattle.scm_cells.specs.declared.rectangle.Rect.{Rect}
-use Rattle.scm_render.specs.Marks.{Put}
+use Rattle.scm_render.specs.Picture.{Put}
 use Rattle.scm_render.specs.Canvas.{Row, put_at, paint, painted}
 
 pub paint-none : (v : Rect) (z : ℤ) (row : Row) → paint v [] z row ≡ row

@@ -4,19 +4,19 @@ use Rattle.std.specs.Prelude.{ℤ, pos, ◌+ℤ◌}
 use Rattle.std.specs.Ordering.{int_eq}
 use Rattle.scm_cells.specs.declared.rectangle.Rect.{Rect}
 use Rattle.scm_render.specs.Lines.{line}
-use Rattle.scm_render.specs.Marks.{Put, Marks}
-use Rattle.scm_render.specs.Canvas.{Row, Canvas, put_at, paint, painted, marked}
+use Rattle.scm_render.specs.Picture.{Put, Picture}
+use Rattle.scm_render.specs.Canvas.{Row, Canvas, put_at, paint, painted, with_picture}
 use Rattle.scm_render.specs.Drawing.{has_row, whole_put, text_puts}
 use Rattle.scm_render.specs.OnScreen.{shown_puts}
 use Rattle.scm_render.proofs.LineLemmas.{line-append}
 use Rattle.scm_render.proofs.PaintLemmas.{paint-append, paint-none, paint-more, row-painted, painted-append, painted-above, painted-below, length-painted, int_eq-false}
 use Rattle.scm_render.proofs.DrawLemmas.{off_cases, text_puts-shown, text_puts-hidden}
-use Rattle.scm_render.proofs.CanvasLemmas.{marked-rows}
+use Rattle.scm_render.proofs.CanvasLemmas.{with_picture-rows}
 
--- row r of the screen after the marks is what the puts make of it that stand on document row r below the screen's first
-pub row-marked : {K : Type 0} (c : Canvas K) (m : Marks K) (r : ℕ) (d : Row) → r < length c.rows
-    → get_or (marked c m).rows r d ≡ paint c.sight.rect m.puts (c.sight.rect.y +ℤ pos r) (get_or c.rows r d)
-row-marked c m r d h = ap (λ w. get_or w r d) (marked-rows c m) ∙ row-painted c.sight.rect m.puts c.sight.rect.y c.rows r d h
+-- row r of the screen with the picture is what the puts make of it that stand on document row r below the screen's first
+pub row-with_picture : {K : Type 0} (c : Canvas K) (m : Picture K) (r : ℕ) (d : Row) → r < length c.rows
+    → get_or (with_picture c m).rows r d ≡ paint c.sight.rect m.puts (c.sight.rect.y +ℤ pos r) (get_or c.rows r d)
+row-with_picture c m r d h = ap (λ w. get_or w r d) (with_picture-rows c m) ∙ row-painted c.sight.rect m.puts c.sight.rect.y c.rows r d h
 
 -- ---- puts off the screen
 

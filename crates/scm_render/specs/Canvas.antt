@@ -1,4 +1,4 @@
--- What a viewport holds, and what marks make of it.
+-- What a viewport holds, and what a picture makes of it.
 use Rattle.std.specs.Prelude.{ℕ, min, ℤ, pos, ◌+ℤ◌, ◌-ℤ◌, List, [], ◌∷◌, ◌++◌, Option, Some, None, cond}
 use Rattle.std.specs.Ordering.{int_eq}
 use Rattle.scm_cells.specs.Rect.{or_zero}
@@ -7,7 +7,7 @@ use Rattle.scm_cells.specs.declared.masks.Mask.{Mask}
 use Rattle.scm_cells.specs.Mask.{MaskInRange}
 use Rattle.scm_cells.specs.Cell.{Cell}
 use Rattle.scm_cells.specs.Row.{put}
-use Rattle.scm_render.specs.Marks.{Put, Box, Marks}
+use Rattle.scm_render.specs.Picture.{Put, Box, Picture}
 use Rattle.scm_render.specs.Around.{around}
 
 -- a row of the screen, as its cells
@@ -36,6 +36,10 @@ pub record Canvas (K : Type 0) : Type 0 where
   pub area : Rect
   pub boxes : List (Box K)
 
+-- what a contract sees of a viewport
+pub record ViewportState (K : Type 0) : Type 0 where
+  pub canvas : Canvas K
+
 -- a place as a number of columns, at most the limit
 abbrev pub clipped : ℕ → ℤ → ℕ
 clipped n z = min n (or_zero z)
@@ -56,9 +60,13 @@ painted v ps z [] = []
 painted v ps z (row ∷ rows) = paint v ps z row ∷ painted v ps (z +ℤ pos 1) rows
 
 module _ {K : Type 0} where
-  -- the canvas with the marks
-  unfoldable pub marked : Canvas K → Marks K → Canvas K
-  marked c m = record {
+  -- the canvas with this mask set, or with none
+  abbrev pub with_mask : Option Mask → Canvas K → Canvas K
+  with_mask mask c = record c { sight = record c.sight { mask = mask } }
+
+  -- the canvas with the picture
+  unfoldable pub with_picture : Canvas K → Picture K → Canvas K
+  with_picture c m = record {
     sight = c.sight;
     rows = painted c.sight.rect m.puts c.sight.rect.y c.rows;
     area = around c.area m.areas;

@@ -1,4 +1,4 @@
--- The marks of each drawing call.
+-- The picture that each drawing call makes.
 use Rattle.std.specs.Prelude.{ℕ, zero, suc, ◌-◌, ◌&&◌, ℤ, pos, ◌+ℤ◌, ◌-ℤ◌, int_le, int_lt, Bool, List, [], ◌∷◌, ◌++◌, Option, Some, None, if◌then◌else◌, sum_by, encode_utf8, take, map}
 use denote.Ref.{Bor}
 use Rattle.std.specs.Ordering.{int_eq}
@@ -7,7 +7,7 @@ use Rattle.scm_cells.specs.Mask.{apply_of}
 use Rattle.scm_cells.specs.declared.rectangle.Rect.{Rect}
 use Rattle.scm_cells.specs.declared.masks.Mask.{Mask}
 use Rattle.scm_cells.specs.Clusters.{text_width}
-use Rattle.scm_render.specs.Marks.{Put, Marks, nothing, followed_by}
+use Rattle.scm_render.specs.Picture.{Put, Picture, nothing, followed_by}
 use Rattle.scm_render.specs.declared.filling.Filling.{Filling}
 use Rattle.scm_render.specs.declared.filling.Filling.TheVariants.{Blank, Border}
 use Rattle.scm_render.specs.Canvas.{Sight}
@@ -59,27 +59,27 @@ ellipsis = 0xE2 ∷ 0x80 ∷ 0xA6 ∷ []
 
 module _ {K : Type 0} where
   -- a text, cut where drawing does not reach
-  unfoldable pub span_marks : Sight → ℤ → ℤ → List ℕ → Marks K
-  span_marks s x y t = record {
+  unfoldable pub span_picture : Sight → ℤ → ℤ → List ℕ → Picture K
+  span_picture s x y t = record {
     puts = text_puts (reach s) x y t;
     boxes = [];
     areas = row_rect x y (text_width t) ∷ [];
   }
 
   -- a line: its spans one after another
-  unfoldable pub line_marks : Sight → ℤ → ℤ → List (List ℕ) → Marks K
-  line_marks s x y ts = record {
+  unfoldable pub line_picture : Sight → ℤ → ℤ → List (List ℕ) → Picture K
+  line_picture s x y ts = record {
     puts = texts_puts (reach s) x y ts;
     boxes = [];
     areas = row_rect x y (texts_width ts) ∷ [];
   }
 
   -- a line, and an ellipsis in the last column that drawing reaches where the line goes past it
-  unfoldable pub text_marks : Sight → ℤ → ℤ → List (List ℕ) → Marks K
-  text_marks s x y ts =
+  unfoldable pub text_picture : Sight → ℤ → ℤ → List (List ℕ) → Picture K
+  text_picture s x y ts =
       let end = end_x_of (reach s) in
-      followed_by (line_marks s x y ts)
-      (if int_lt end (x +ℤ pos (texts_width ts)) then span_marks s (end -ℤ pos 1) y ellipsis else nothing)
+      followed_by (line_picture s x y ts)
+      (if int_lt end (x +ℤ pos (texts_width ts)) then span_picture s (end -ℤ pos 1) y ellipsis else nothing)
 
 -- ---- symbols over a rectangle
 
@@ -121,8 +121,8 @@ fill_puts f r = rows_puts f r r.y r.height
 
 module _ {K : Type 0} where
   -- spaces over the part of the rectangle that drawing reaches
-  unfoldable pub blank_marks : Sight → Rect → Marks K
-  blank_marks s r = record { puts = fill_puts Blank (intersect_of r (reach s)); boxes = []; areas = r ∷ [] }
+  unfoldable pub blank_picture : Sight → Rect → Picture K
+  blank_picture s r = record { puts = fill_puts Blank (intersect_of r (reach s)); boxes = []; areas = r ∷ [] }
 
 -- ---- frames
 
@@ -152,8 +152,8 @@ frame_puts m r title body =
 
 module _ {K : Type 0} where
   -- a bordered frame; nothing is put where it has no cell
-  unfoldable pub frame_marks : Sight → Rect → List ℕ → List (List ℕ) → Marks K
-  frame_marks s r title body = record {
+  unfoldable pub frame_picture : Sight → Rect → List ℕ → List (List ℕ) → Picture K
+  frame_picture s r title body = record {
     puts = if is_empty r then [] else frame_puts (reach s) r title body;
     boxes = [];
     areas = r ∷ [];

@@ -2,7 +2,7 @@
 use Rattle.std.specs.Prelude.{◌≡◌, ℕ, suc, ◌≤◌, ℤ, int_le, int_lt, Bool, true, false, not, ◌&&◌, ◌||◌, cond, List, [], ◌∷◌, Option, Some, None}
 use Rattle.scm_cells.specs.Rect.{end_x_of, end_y_of}
 use Rattle.scm_cells.specs.declared.rectangle.Rect.{Rect}
-use Rattle.scm_render.specs.Marks.{Box}
+use Rattle.scm_render.specs.Picture.{Box}
 use Rattle.scm_render.specs.declared.trace.DrawnRect.{DrawnRect}
 
 -- whether the rectangle holds the point in row y and column x

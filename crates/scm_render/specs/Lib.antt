@@ -4,6 +4,6 @@ pub mod Centring
 pub mod Drawing
 pub mod Hits
 pub mod Lines
-pub mod Marks
+pub mod Picture
 pub mod OnScreen
 pub mod Places

@@ -1,7 +1,7 @@
 -- The puts that a screen shows.
 use Rattle.std.specs.Prelude.{List, [], ◌∷◌, if◌then◌else◌}
 use Rattle.scm_cells.specs.declared.rectangle.Rect.{Rect}
-use Rattle.scm_render.specs.Marks.{Put}
+use Rattle.scm_render.specs.Picture.{Put}
 use Rattle.scm_render.specs.Drawing.{has_row}
 
 -- the puts on rows that the screen shows

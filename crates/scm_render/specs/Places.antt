@@ -5,7 +5,7 @@ use Rattle.scm_cells.specs.Screen.{Screen}
 use Rattle.scm_cells.specs.declared.rectangle.Rect.{Rect}
 use Rattle.scm_cells.specs.declared.rectangle.ScreenRect.{ScreenRect}
 use Rattle.scm_render.specs.Canvas.{Sight}
-use Rattle.scm_render.specs.Marks.{Box}
+use Rattle.scm_render.specs.Picture.{Box}
 use Rattle.scm_render.specs.declared.trace.DrawnRect.{DrawnRect}
 
 -- a part of the screen, its places counted from the screen's corner

@@ -3,9 +3,9 @@ ghost use Rattle.std.specs.Prelude.{◌≡◌, ◌<◌, ◌≤◌, ◌+ℤ◌, �
 ghost use Rattle.scm_cells.specs.Rect.{RectInRange, InRange, end_y_of};
 ghost use Rattle.scm_cells.specs.Spans.{span_texts};
 ghost use Rattle.scm_cells.specs.Clusters.{text_width};
-ghost use Rattle.scm_render.specs.Marks.{MarksInRange};
-ghost use Rattle.scm_render.specs.Canvas.{clipped, painted, marked};
-ghost use Rattle.scm_render.specs.Drawing.{has_row, whole_put, title_room, body_room, text_puts, texts_puts, texts_width, row_rect, span_marks, line_marks, text_marks, fill_puts, FillingIsInRange, lines_puts, body_texts, frame_puts, blank_marks, frame_marks};
+ghost use Rattle.scm_render.specs.Picture.{PictureInRange};
+ghost use Rattle.scm_render.specs.Canvas.{clipped, painted, with_picture};
+ghost use Rattle.scm_render.specs.Drawing.{has_row, whole_put, title_room, body_room, text_puts, texts_puts, texts_width, row_rect, span_picture, line_picture, text_picture, fill_puts, FillingIsInRange, lines_puts, body_texts, frame_puts, blank_picture, frame_picture};
 ghost use Rattle.scm_types.specs.declared.errors.RecordError.TheVariants.{OutOfMemory};
 
 use crate::filling::Filling;
@@ -263,10 +263,10 @@ impl<K: Copy + Eq + Hash + Drop> Viewport<K> {
     /// Draws a text with its first column at `x` on the row `y`, cut to the mask. The box is the whole
     /// text's.
     pub fn draw_span(&mut self, x: isize, y: isize, span: &Span) -> Result<Rect, RecordError>
-        requires { MarksInRange {K = K} (span_marks self.old.sight x y span.now.0.now) }
-        ensures ok { OnOk result (self.new ≡ marked self.old (span_marks self.old.sight x y span.now.0.now)) }
+        requires { PictureInRange {K = K} (span_picture self.old.canvas.sight x y span.now.0.now) }
+        ensures ok { OnOk result (self.new.canvas ≡ with_picture self.old.canvas (span_picture self.old.canvas.sight x y span.now.0.now)) }
         ensures drawn { IfOk result (λ r. r ≡ row_rect x y (text_width span.now.0.now)) }
-        ensures rect { self.new.sight.rect ≡ self.old.sight.rect }
+        ensures rect { self.new.canvas.sight.rect ≡ self.old.canvas.sight.rect }
         ensures err { IfErr result (λ e. e ≡ OutOfMemory) }
     {
         let within = self.mask_rect();
@@ -278,10 +278,10 @@ impl<K: Copy + Eq + Hash + Drop> Viewport<K> {
 
     /// Draws spans one after another.
     fn draw_spans(&mut self, x: isize, y: isize, spans: &[Span]) -> Result<Rect, RecordError>
-        requires { MarksInRange {K = K} (line_marks self.old.sight x y (span_texts spans.now)) }
-        ensures ok { OnOk result (self.new ≡ marked self.old (line_marks self.old.sight x y (span_texts spans.now))) }
+        requires { PictureInRange {K = K} (line_picture self.old.canvas.sight x y (span_texts spans.now)) }
+        ensures ok { OnOk result (self.new.canvas ≡ with_picture self.old.canvas (line_picture self.old.canvas.sight x y (span_texts spans.now))) }
         ensures drawn { IfOk result (λ r. r ≡ row_rect x y (texts_width (span_texts spans.now))) }
-        ensures rect { self.new.sight.rect ≡ self.old.sight.rect }
+        ensures rect { self.new.canvas.sight.rect ≡ self.old.canvas.sight.rect }
         ensures err { IfErr result (λ e. e ≡ OutOfMemory) }
     {
         let within = self.mask_rect();
@@ -293,10 +293,10 @@ impl<K: Copy + Eq + Hash + Drop> Viewport<K> {
 
     /// Draws a line, its spans one after another, cut to the mask. The box is the whole line's.
     pub fn draw_line(&mut self, x: isize, y: isize, line: &Line) -> Result<Rect, RecordError>
-        requires { MarksInRange {K = K} (line_marks self.old.sight x y (span_texts line.now.0.items)) }
-        ensures ok { OnOk result (self.new ≡ marked self.old (line_marks self.old.sight x y (span_texts line.now.0.items))) }
+        requires { PictureInRange {K = K} (line_picture self.old.canvas.sight x y (span_texts line.now.0.items)) }
+        ensures ok { OnOk result (self.new.canvas ≡ with_picture self.old.canvas (line_picture self.old.canvas.sight x y (span_texts line.now.0.items))) }
         ensures drawn { IfOk result (λ r. r ≡ row_rect x y (texts_width (span_texts line.now.0.items))) }
-        ensures rect { self.new.sight.rect ≡ self.old.sight.rect }
+        ensures rect { self.new.canvas.sight.rect ≡ self.old.canvas.sight.rect }
         ensures err { IfErr result (λ e. e ≡ OutOfMemory) }
     {
         self.draw_spans(x, y, line.0.as_slice())
@@ -306,10 +306,10 @@ impl<K: Copy + Eq + Hash + Drop> Viewport<K> {
     /// mask lets through if they go past it, even if they begin past it. The box that is given is the
     /// one of the whole spans.
     pub fn draw_text(&mut self, x: isize, y: isize, spans: &[Span]) -> Result<Rect, RecordError>
-        requires { MarksInRange {K = K} (text_marks self.old.sight x y (span_texts spans.now)) }
-        ensures ok { OnOk result (self.new ≡ marked self.old (text_marks self.old.sight x y (span_texts spans.now))) }
+        requires { PictureInRange {K = K} (text_picture self.old.canvas.sight x y (span_texts spans.now)) }
+        ensures ok { OnOk result (self.new.canvas ≡ with_picture self.old.canvas (text_picture self.old.canvas.sight x y (span_texts spans.now))) }
         ensures drawn { IfOk result (λ r. r ≡ row_rect x y (texts_width (span_texts spans.now))) }
-        ensures rect { self.new.sight.rect ≡ self.old.sight.rect }
+        ensures rect { self.new.canvas.sight.rect ≡ self.old.canvas.sight.rect }
         ensures err { IfErr result (λ e. e ≡ OutOfMemory) }
     {
         let drawn = self.draw_spans(x, y, spans)?;
@@ -322,10 +322,10 @@ impl<K: Copy + Eq + Hash + Drop> Viewport<K> {
 
     /// Draws spaces over the rectangle, as far as the mask goes, and gives the rectangle.
     pub fn draw_blank(&mut self, rect: Rect) -> Result<Rect, RecordError>
-        requires { MarksInRange {K = K} (blank_marks self.old.sight rect) }
-        ensures ok { OnOk result (self.new ≡ marked self.old (blank_marks self.old.sight rect)) }
+        requires { PictureInRange {K = K} (blank_picture self.old.canvas.sight rect) }
+        ensures ok { OnOk result (self.new.canvas ≡ with_picture self.old.canvas (blank_picture self.old.canvas.sight rect)) }
         ensures drawn { IfOk result (λ r. r ≡ rect) }
-        ensures rect { self.new.sight.rect ≡ self.old.sight.rect }
+        ensures rect { self.new.canvas.sight.rect ≡ self.old.canvas.sight.rect }
         ensures err { IfErr result (λ e. e ≡ OutOfMemory) }
     {
         let part = rect.intersect(self.mask_rect());
@@ -351,10 +351,10 @@ impl<K: Copy + Eq + Hash + Drop> Viewport<K> {
         title: &str,
         body: &[&str],
     ) -> Result<Rect, RecordError>
-        requires { MarksInRange {K = K} (frame_marks self.old.sight rect title.now (body_texts body.now)) }
-        ensures ok { OnOk result (self.new ≡ marked self.old (frame_marks self.old.sight rect title.now (body_texts body.now))) }
+        requires { PictureInRange {K = K} (frame_picture self.old.canvas.sight rect title.now (body_texts body.now)) }
+        ensures ok { OnOk result (self.new.canvas ≡ with_picture self.old.canvas (frame_picture self.old.canvas.sight rect title.now (body_texts body.now))) }
         ensures drawn { IfOk result (λ r. r ≡ rect) }
-        ensures rect { self.new.sight.rect ≡ self.old.sight.rect }
+        ensures rect { self.new.canvas.sight.rect ≡ self.old.canvas.sight.rect }
         ensures err { IfErr result (λ e. e ≡ OutOfMemory) }
     {
         let within = self.mask_rect();

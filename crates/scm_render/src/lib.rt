@@ -1,4 +1,4 @@
-//! Drawing components on a part of a document: what each call marks, and the boxes of components.
+//! Drawing components on a part of a document: the picture that each call makes, and the boxes of components.
 #![tactic(auto)]
 
 pub use centring::centered_rect;

@@ -52,7 +52,8 @@ impl<Id: Copy + Eq + Hash + Drop> DrawTrace<Id> {
     }
 
     /// Takes over what another trace drew: its rectangle by [`DrawTrace::merge_rect`], and its boxes,
-    /// which take the place of those of the same ids. After want of memory the trace is as before.
+    /// which take the place of those of the same ids. Where memory is refused the trace is as
+    /// before.
     pub fn merge(&mut self, other: DrawTrace<Id>) -> Result<(), RecordError>
         requires left { RectInRange self.old.rect }
         requires right { RectInRange other.rect }

@@ -3,10 +3,9 @@ ghost use Rattle.std.specs.Prelude.{◌≡◌, ◌<◌, ◌≤◌, OnOk, OnErr, 
 ghost use Rattle.scm_cells.specs.Rect.{RectInRange, InRange};
 ghost use Rattle.scm_cells.specs.Mask.{MaskInRange, apply_of};
 ghost use Rattle.scm_render.specs.Around.{join, no_rect};
-ghost use Rattle.scm_render.specs.Marks.{MarksInRange, part, box_rect, covering};
-ghost use Rattle.scm_render.specs.Canvas.{marked, MaskIsInRange};
+ghost use Rattle.scm_render.specs.Picture.{PictureInRange, part, box_rect, covering};
+ghost use Rattle.scm_render.specs.Canvas.{painted, with_mask, with_picture, MaskIsInRange};
 ghost use Rattle.scm_render.specs.Drawing.{mask_or, reach};
-ghost use Rattle.scm_render.specs.Canvas.{painted};
 ghost use Rattle.scm_render.specs.Places.{translated, timed, screen_rect, whole_sight};
 ghost use Rattle.std.specs.HashMap.{IsFromIterResult};
 ghost use Rattle.scm_types.specs.declared.errors.RecordError.TheVariants.{OutOfMemory};
@@ -38,6 +37,7 @@ pub(crate) fn grown(area: Rect, rect: Rect) -> Rect
 /// does not show, and still counts for the boxes of components.
 #[derive(Drop)]
 pub struct Viewport<K> {
+    alloc: Global,
     pub(crate) grid: Grid,
     pub(crate) rect: Rect,
     mask: Option<Mask>,
@@ -47,15 +47,17 @@ pub struct Viewport<K> {
 }
 
 impl<K> Model for Viewport<K> {
-    ghost use Rattle.scm_render.specs.Canvas.{Canvas};
+    ghost use Rattle.scm_render.specs.Canvas.{ViewportState};
 
-    ghost Value = { Canvas K };
+    ghost Value = { ViewportState K };
 
     ghost view = { λ v. record {
-      sight = record { rect = v.rect; mask = v.mask };
-      rows = v.grid.rows;
-      area = v.area;
-      boxes = v.boxes.items;
+      canvas = record {
+        sight = record { rect = v.rect; mask = v.mask };
+        rows = v.grid.rows;
+        area = v.area;
+        boxes = v.boxes.items;
+      };
     } };
 
     ghost use Rattle.std.specs.Prelude.{◌≡◌, length};
@@ -78,9 +80,10 @@ impl<K: Copy + Eq + Hash + Drop> Viewport<K> {
         requires rect { RectInRange rect }
         requires width { grid.width ≡ rect.width }
         requires height { length grid.rows ≡ rect.height }
-        ensures { result ≡ record { sight = record { rect = rect; mask = None }; rows = grid.rows; area = no_rect; boxes = [] } }
+        ensures { result.canvas ≡ record { sight = record { rect = rect; mask = None }; rows = grid.rows; area = no_rect; boxes = [] } }
     {
         Viewport {
+            alloc,
             grid,
             rect,
             mask: None,
@@ -92,9 +95,9 @@ impl<K: Copy + Eq + Hash + Drop> Viewport<K> {
 
     /// The grid that was drawn on.
     pub fn into_grid(self) -> Grid
-        ensures width { result.width ≡ self.sight.rect.width }
-        ensures height { length result.rows ≡ self.sight.rect.height }
-        ensures rows { result.rows ≡ self.rows }
+        ensures width { result.width ≡ self.canvas.sight.rect.width }
+        ensures height { length result.rows ≡ self.canvas.sight.rect.height }
+        ensures rows { result.rows ≡ self.canvas.rows }
     {
         let Viewport { grid, .. } = self;
         grid
@@ -102,8 +105,9 @@ impl<K: Copy + Eq + Hash + Drop> Viewport<K> {
 
     /// The part of the document that is on the screen.
     pub fn rect(&self) -> Rect
-        ensures value { result ≡ self.now.sight.rect }
+        ensures value { result ≡ self.now.canvas.sight.rect }
         ensures in_range { RectInRange result }
+        ensures rows { length self.now.canvas.rows ≡ result.height }
     {
         let Viewport { rect, .. } = self;
         *rect
@@ -111,7 +115,7 @@ impl<K: Copy + Eq + Hash + Drop> Viewport<K> {
 
     /// The mask that was set, else the rectangle's.
     pub fn mask(&self) -> Mask
-        ensures value { result ≡ mask_or self.now.sight.mask self.now.sight.rect }
+        ensures value { result ≡ mask_or self.now.canvas.sight.mask self.now.canvas.sight.rect }
         ensures in_range { MaskInRange result }
     {
         match self.mask {
@@ -123,7 +127,7 @@ impl<K: Copy + Eq + Hash + Drop> Viewport<K> {
     /// The part of the rectangle that the mask lets through.
     #[tactic(auto, unfolding(crate::specs::Drawing::reach))]
     pub fn mask_rect(&self) -> Rect
-        ensures value { result ≡ reach self.now.sight }
+        ensures value { result ≡ reach self.now.canvas.sight }
         ensures in_range { RectInRange result }
     {
         self.mask().apply(self.rect)
@@ -132,8 +136,8 @@ impl<K: Copy + Eq + Hash + Drop> Viewport<K> {
     /// Sets or takes away the mask, and gives the one that was set before.
     pub fn swap_mask(&mut self, mask: Option<Mask>) -> Option<Mask>
         requires { MaskIsInRange mask }
-        ensures old { result ≡ self.old.sight.mask }
-        ensures new { self.new ≡ record self.old { sight = record self.old.sight { mask = mask } } }
+        ensures old { result ≡ self.old.canvas.sight.mask }
+        ensures new { self.new.canvas ≡ with_mask mask self.old.canvas }
         ensures in_range { MaskIsInRange result }
     {
         mem::replace(&mut self.mask, mask)
@@ -144,7 +148,7 @@ impl<K: Copy + Eq + Hash + Drop> Viewport<K> {
     #[tactic(auto, unfolding(crate::specs::Places::translated))]
     pub fn translate_rect(&self, rect: Rect) -> Option<ScreenRect>
         requires { RectInRange rect }
-        ensures { result ≡ translated self.now.sight.rect rect }
+        ensures { result ≡ translated self.now.canvas.sight.rect rect }
     {
         let screen = Rect {
             width: self.grid.width(),
@@ -167,7 +171,7 @@ impl<K: Copy + Eq + Hash + Drop> Viewport<K> {
     /// Records that a rectangle is covered, and gives it back. Nothing is put on the grid.
     pub fn cover(&mut self, rect: Rect) -> Rect
         requires { RectInRange rect }
-        ensures new { self.new ≡ marked self.old (covering rect) }
+        ensures new { self.new.canvas ≡ with_picture self.old.canvas (covering rect) }
         ensures rect { result ≡ rect }
     {
         self.area = grown(self.area, rect);
@@ -182,10 +186,10 @@ impl<K: Copy + Eq + Hash + Drop> Viewport<K> {
         y: isize,
         component: &C,
     ) -> Result<Rect, RecordError>
-        requires { MarksInRange (part (C.key component.now) (C.marks component.now self.old.sight x y)) }
-        ensures ok { OnOk result (self.new ≡ marked self.old (part (C.key component.now) (C.marks component.now self.old.sight x y))) }
-        ensures drawn { IfOk result (λ r. r ≡ box_rect (C.marks component.now self.old.sight x y)) }
-        ensures rect { self.new.sight.rect ≡ self.old.sight.rect }
+        requires { PictureInRange (part (C.key component.now) (C.picture component.now self.old.canvas.sight x y)) }
+        ensures ok { OnOk result (self.new.canvas ≡ with_picture self.old.canvas (part (C.key component.now) (C.picture component.now self.old.canvas.sight x y))) }
+        ensures drawn { IfOk result (λ r. r ≡ box_rect (C.picture component.now self.old.canvas.sight x y)) }
+        ensures rect { self.new.canvas.sight.rect ≡ self.old.canvas.sight.rect }
         ensures err { IfErr result (λ e. e ≡ OutOfMemory) }
     {
         let id = component.id();
@@ -193,7 +197,7 @@ impl<K: Copy + Eq + Hash + Drop> Viewport<K> {
         self.boxes.push((id, Rect::default()))?;
         let outer = self.area;
         self.area = Rect::default();
-        component.draw(self, x, y)?;
+        component.draw(self.alloc, self, x, y)?;
         let rect = self.area;
         self.boxes[place] = (id, rect);
         self.area = grown(outer, rect);
@@ -202,7 +206,8 @@ impl<K: Copy + Eq + Hash + Drop> Viewport<K> {
 
     /// Draws a component at the document's column 0 and row 0 on a grid that shows the document from
     /// its column `x` and row `y` on, over what the grid holds, and gives the boxes of all components
-    /// that were drawn. After want of memory too the grid has its size.
+    /// that were drawn. Where memory is
+    /// refused, too, the grid has its size.
     pub fn render_top_level<C: Component<Id = K>>(
         alloc: Global,
         grid: &mut Grid,
@@ -211,9 +216,9 @@ impl<K: Copy + Eq + Hash + Drop> Viewport<K> {
         component: &C,
     ) -> Result<DrawnRects<K>, RecordError>
         requires place { RectInRange (screen_rect grid.old x y) }
-        requires marks { MarksInRange (part (C.key component.now) (C.marks component.now (whole_sight grid.old x y) (pos 0) (pos 0))) }
-        ensures rows { OnOk result (grid.new.rows ≡ painted (screen_rect grid.old x y) (C.marks component.now (whole_sight grid.old x y) (pos 0) (pos 0)).puts y grid.old.rows) }
-        ensures boxes { IfOk result (IsFromIterResult K.eq (timed (part (C.key component.now) (C.marks component.now (whole_sight grid.old x y) (pos 0) (pos 0))).boxes)) }
+        requires picture { PictureInRange (part (C.key component.now) (C.picture component.now (whole_sight grid.old x y) (pos 0) (pos 0))) }
+        ensures rows { OnOk result (grid.new.rows ≡ painted (screen_rect grid.old x y) (C.picture component.now (whole_sight grid.old x y) (pos 0) (pos 0)).puts y grid.old.rows) }
+        ensures boxes { IfOk result (IsFromIterResult K.eq (timed (part (C.key component.now) (C.picture component.now (whole_sight grid.old x y) (pos 0) (pos 0))).boxes)) }
         ensures width { grid.new.width ≡ grid.old.width }
         ensures height { length grid.new.rows ≡ length grid.old.rows }
         ensures err { IfErr result (λ e. e ≡ OutOfMemory) }
@@ -237,10 +242,10 @@ impl<K: Copy + Eq + Hash + Drop> Viewport<K> {
 
     /// The grid that was drawn on, and the boxes.
     fn into_parts(self) -> (Grid, Vec<(K, Rect)>)
-        ensures width { result.0.width ≡ self.sight.rect.width }
-        ensures height { length result.0.rows ≡ self.sight.rect.height }
-        ensures rows { result.0.rows ≡ self.rows }
-        ensures boxes { result.1.items ≡ self.boxes }
+        ensures width { result.0.width ≡ self.canvas.sight.rect.width }
+        ensures height { length result.0.rows ≡ self.canvas.sight.rect.height }
+        ensures rows { result.0.rows ≡ self.canvas.rows }
+        ensures boxes { result.1.items ≡ self.canvas.boxes }
     {
         (self.grid, self.boxes)
     }

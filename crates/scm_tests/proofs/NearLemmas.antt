@@ -7,13 +7,13 @@ use Rattle.scm_cells.specs.Rect.{RectInRange, end_x_of, or_zero, rect_between}
 use Rattle.scm_cells.specs.Clusters.{text_width}
 use Rattle.scm_cells.specs.declared.masks.Mask.{Mask}
 use Rattle.scm_cells.proofs.RectLemmas.{places}
-use Rattle.scm_render.specs.Marks.{MarksInRange}
+use Rattle.scm_render.specs.Picture.{PictureInRange}
 use Rattle.scm_render.specs.Canvas.{Sight, under}
-use Rattle.scm_render.specs.Drawing.{row_rect, reach, texts_width, ellipsis, span_marks, line_marks, text_marks}
+use Rattle.scm_render.specs.Drawing.{row_rect, reach, texts_width, ellipsis, span_picture, line_picture, text_picture}
 use Rattle.scm_render.proofs.DrawLemmas.{texts_width-more, texts_width-none}
-use Rattle.scm_render.proofs.MarksLemmas.{MarksInRange-as_part, MarksInRange-followed, MarksInRange-if, MarksInRange-nothing}
+use Rattle.scm_render.proofs.PictureLemmas.{PictureInRange-as_part, PictureInRange-followed, PictureInRange-if, PictureInRange-nothing}
 use Rattle.scm_tests.specs.Near.{IsNear, SightIsNear, AreShort}
-use Rattle.scm_tests.specs.Samples.{caption_marks, pair_marks, pane_marks, nest_marks, column_marks}
+use Rattle.scm_tests.specs.Samples.{caption_picture, pair_picture, pane_picture, nest_picture, column_picture}
 use Rattle.scm_tests.specs.declared.samples.Caption.{Caption}
 use Rattle.scm_tests.specs.declared.samples.Pair.{Pair}
 use Rattle.scm_tests.specs.declared.samples.Pane.{Pane}
@@ -44,67 +44,67 @@ reach-near s n = end-near _ _ _ _ n.mask_x n.x n.end_x
 pub under-near : (m : Mask) (s : Sight) → SightIsNear s → IsNear m.x → SightIsNear (under m s)
 under-near m s n p = record { x = n.x; end_x = n.end_x; mask_x = p }
 
--- ---- marks
+-- ---- picture
 
 module _ {K : Type 0} where
-  pub span-in_range : (s : Sight) (x y : ℤ) (t : List ℕ) → IsNear x → IsNear y → text_width t ≤ 100 → MarksInRange {K = K} (span_marks s x y t)
-  unfolding span_marks
+  pub span-in_range : (s : Sight) (x y : ℤ) (t : List ℕ) → IsNear x → IsNear y → text_width t ≤ 100 → PictureInRange {K = K} (span_picture s x y t)
+  unfolding span_picture
   span-in_range s x y t p q h = record { areas = (row-in_range x y (text_width t) p q h, tt) }
 
-  pub line-in_range : (s : Sight) (x y : ℤ) (ts : List (List ℕ)) → IsNear x → IsNear y → texts_width ts ≤ 100 → MarksInRange {K = K} (line_marks s x y ts)
-  unfolding line_marks
+  pub line-in_range : (s : Sight) (x y : ℤ) (ts : List (List ℕ)) → IsNear x → IsNear y → texts_width ts ≤ 100 → PictureInRange {K = K} (line_picture s x y ts)
+  unfolding line_picture
   line-in_range s x y ts p q h = record { areas = (row-in_range x y (texts_width ts) p q h, tt) }
 
-  ellipsis-in_range : (s : Sight) (y : ℤ) → SightIsNear s → text_width ellipsis ≤ 100 → IsNear y → MarksInRange {K = K} (span_marks s (end_x_of (reach s) -ℤ pos 1) y ellipsis)
-  unfolding span_marks
+  ellipsis-in_range : (s : Sight) (y : ℤ) → SightIsNear s → text_width ellipsis ≤ 100 → IsNear y → PictureInRange {K = K} (span_picture s (end_x_of (reach s) -ℤ pos 1) y ellipsis)
+  unfolding span_picture
   ellipsis-in_range s y n e q =
       let end : IsNear (end_x_of (reach s)) = reach-near s n in
       record { areas = (few (end_x_of (reach s) -ℤ pos 1) y (text_width ellipsis) (omega (arith, places)) (omega (arith, places)) q e, tt) }
 
   pub text-in_range : (s : Sight) (x y : ℤ) (ts : List (List ℕ)) → SightIsNear s → text_width ellipsis ≤ 100 → IsNear x → IsNear y → texts_width ts ≤ 100
-      → MarksInRange {K = K} (text_marks s x y ts)
-  unfolding text_marks
+      → PictureInRange {K = K} (text_picture s x y ts)
+  unfolding text_picture
   text-in_range s x y ts n e p q h =
-      MarksInRange-followed _ _ (line-in_range s x y ts p q h)
-      (MarksInRange-if (int_lt (end_x_of (reach s)) (x +ℤ pos (texts_width ts))) _ _ (ellipsis-in_range s y n e q) MarksInRange-nothing)
+      PictureInRange-followed _ _ (line-in_range s x y ts p q h)
+      (PictureInRange-if (int_lt (end_x_of (reach s)) (x +ℤ pos (texts_width ts))) _ _ (ellipsis-in_range s y n e q) PictureInRange-nothing)
 
 -- ---- sample components
 
 pub caption-in_range : (c : Caption) (s : Sight) (x y : ℤ) → SightIsNear s → text_width ellipsis ≤ 100 → IsNear x → IsNear y → text_width c.text.now ≤ 100
-    → MarksInRange (caption_marks c s x y)
-unfolding caption_marks
+    → PictureInRange (caption_picture c s x y)
+unfolding caption_picture
 caption-in_range c s x y n e p q h =
     let one : texts_width (c.text.now ∷ []) ≡ text_width c.text.now + texts_width [] = texts_width-more c.text.now [] (c.text.now ∷ []) refl in
     let more : texts_width [] ≡ 0 = texts_width-none [] refl in
     text-in_range s x y (c.text.now ∷ []) n e p q (omega arith)
 
 pub pair-in_range : (c : Pair) (s : Sight) (x y : ℤ) → SightIsNear s → text_width ellipsis ≤ 100 → IsNear x → IsNear y → IsNear (y +ℤ pos 1)
-    → text_width c.first.text.now ≤ 100 → text_width c.second.text.now ≤ 100 → MarksInRange (pair_marks c s x y)
-unfolding pair_marks
+    → text_width c.first.text.now ≤ 100 → text_width c.second.text.now ≤ 100 → PictureInRange (pair_picture c s x y)
+unfolding pair_picture
 pair-in_range c s x y n e p q r h k =
-    MarksInRange-followed _ _ (MarksInRange-as_part _ _ (caption-in_range c.first s x y n e p q h))
-    (MarksInRange-as_part _ _ (caption-in_range c.second s x (y +ℤ pos 1) n e p r k))
+    PictureInRange-followed _ _ (PictureInRange-as_part _ _ (caption-in_range c.first s x y n e p q h))
+    (PictureInRange-as_part _ _ (caption-in_range c.second s x (y +ℤ pos 1) n e p r k))
 
 pane-in_range : (c : Pane) (s : Sight) (x y : ℤ) → SightIsNear s → text_width ellipsis ≤ 100 → IsNear c.mask.x → IsNear x → IsNear y
-    → text_width c.caption.text.now ≤ 100 → MarksInRange (pane_marks c s x y)
-unfolding pane_marks
-pane-in_range c s x y n e m p q h = MarksInRange-as_part _ _ (caption-in_range c.caption (under c.mask s) x y (under-near c.mask s n m) e p q h)
+    → text_width c.caption.text.now ≤ 100 → PictureInRange (pane_picture c s x y)
+unfolding pane_picture
+pane-in_range c s x y n e m p q h = PictureInRange-as_part _ _ (caption-in_range c.caption (under c.mask s) x y (under-near c.mask s n m) e p q h)
 
 pub nest-in_range : (c : Nest) (s : Sight) (x y : ℤ) → SightIsNear s → text_width ellipsis ≤ 100 → IsNear c.mask.x → IsNear c.pane.mask.x → IsNear x → IsNear y → IsNear (y +ℤ pos 1)
-    → text_width c.pane.caption.text.now ≤ 100 → text_width c.below.text.now ≤ 100 → MarksInRange (nest_marks c s x y)
-unfolding nest_marks
+    → text_width c.pane.caption.text.now ≤ 100 → text_width c.below.text.now ≤ 100 → PictureInRange (nest_picture c s x y)
+unfolding nest_picture
 nest-in_range c s x y n e m o p q r h k =
     let set = under-near c.mask s n m in
-    MarksInRange-followed _ _ (MarksInRange-as_part _ _ (pane-in_range c.pane (under c.mask s) x y set e o p q h))
-    (MarksInRange-as_part _ _ (caption-in_range c.below (under c.mask s) x (y +ℤ pos 1) set e p r k))
+    PictureInRange-followed _ _ (PictureInRange-as_part _ _ (pane-in_range c.pane (under c.mask s) x y set e o p q h))
+    (PictureInRange-as_part _ _ (caption-in_range c.below (under c.mask s) x (y +ℤ pos 1) set e p r k))
 
 pub column-in_range : (cs : List Caption) (s : Sight) (x y : ℤ) → SightIsNear s → text_width ellipsis ≤ 100 → IsNear x → neg_ℤ (pos 1000) ≤ℤ y → (y +ℤ pos (length cs)) ≤ℤ pos 1000 → AreShort cs
-    → MarksInRange (column_marks cs s x y)
-unfolding column_marks
-column-in_range [] s x y n e p l h k = MarksInRange-nothing
+    → PictureInRange (column_picture cs s x y)
+unfolding column_picture
+column-in_range [] s x y n e p l h k = PictureInRange-nothing
 column-in_range (c ∷ cs) s x y n e p l h k =
     let at : IsNear y = record { low = l; high = omega (arith, places) } in
-    MarksInRange-followed _ _ (MarksInRange-as_part _ _ (caption-in_range c s x y n e p at k.0))
+    PictureInRange-followed _ _ (PictureInRange-as_part _ _ (caption-in_range c s x y n e p at k.0))
     (column-in_range cs s x (y +ℤ pos 1) n e p (omega (arith, places)) (omega (arith, places)) k.1)
 
 -- a text that was found short, where those after it are

@@ -1,4 +1,4 @@
-//! Sample components, from a text to texts under nested masks. Each has its marks, and is proved to
+//! Sample components, from a text to texts under nested masks. Each has its picture, and is proved to
 //! draw them.
 ghost use Rattle.scm_cells.specs.Mask.{MaskInRange};
 ghost use Rattle.scm_tests.specs.Masks.{MaskInRange-prop};
@@ -17,11 +17,11 @@ pub struct Caption {
 impl Component for Caption {
     type Id = u8;
 
-    ghost use Rattle.scm_tests.specs.Samples.{caption_marks};
+    ghost use Rattle.scm_tests.specs.Samples.{caption_picture};
 
     ghost key = { λ c. c.id };
 
-    ghost marks = { caption_marks };
+    ghost picture = { caption_picture };
 
     fn id(&self) -> u8 {
         self.id
@@ -44,11 +44,11 @@ pub struct Pair {
 impl Component for Pair {
     type Id = u8;
 
-    ghost use Rattle.scm_tests.specs.Samples.{pair_marks};
+    ghost use Rattle.scm_tests.specs.Samples.{pair_picture};
 
     ghost key = { λ c. c.id };
 
-    ghost marks = { pair_marks };
+    ghost picture = { pair_picture };
 
     fn id(&self) -> u8 {
         self.id
@@ -73,11 +73,11 @@ pub struct Pane {
 impl Component for Pane {
     type Id = u8;
 
-    ghost use Rattle.scm_tests.specs.Samples.{pane_marks};
+    ghost use Rattle.scm_tests.specs.Samples.{pane_picture};
 
     ghost key = { λ c. c.id };
 
-    ghost marks = { pane_marks };
+    ghost picture = { pane_picture };
 
     fn id(&self) -> u8 {
         self.id
@@ -104,11 +104,11 @@ pub struct Nest {
 impl Component for Nest {
     type Id = u8;
 
-    ghost use Rattle.scm_tests.specs.Samples.{nest_marks};
+    ghost use Rattle.scm_tests.specs.Samples.{nest_picture};
 
     ghost key = { λ c. c.id };
 
-    ghost marks = { nest_marks };
+    ghost picture = { nest_picture };
 
     fn id(&self) -> u8 {
         self.id
@@ -133,11 +133,11 @@ pub struct Column {
 impl Component for Column {
     type Id = u8;
 
-    ghost use Rattle.scm_tests.specs.Samples.{column_marks};
+    ghost use Rattle.scm_tests.specs.Samples.{column_picture};
 
     ghost key = { λ c. c.id };
 
-    ghost marks = { λ c s x y. column_marks c.captions.items s x y };
+    ghost picture = { λ c s x y. column_picture c.captions.items s x y };
 
     fn id(&self) -> u8 {
         self.id

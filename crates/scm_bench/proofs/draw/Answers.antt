@@ -3,7 +3,7 @@ use Rattle.std.proofs.lemmas.Int.{to_z_pos}
 use Rattle.scm_cells.proofs.RectLemmas.{places}
 use Rattle.scm_cells.specs.Clusters.{text_width}
 use Rattle.scm_render.specs.Drawing.{texts_width}
-use Rattle.scm_render.proofs.CanvasLemmas.{marked-sight}
+use Rattle.scm_render.proofs.CanvasLemmas.{with_picture-sight}
 use Rattle.scm_render.proofs.DrawLemmas.{texts_width-more, texts_width-none}
 use Rattle.scm_tests.specs.Near.{IsNear}
 use Rattle.scm_tests.proofs.NearLemmas.{text-in_range}
@@ -32,4 +32,4 @@ draw_text-requires c =
 
 pub loop-row-preserved : goal.loop-row-preserved
 loop-row-preserved c =
-    rw (c.in_ok-draw_text.ensures.ok, marked-sight c.loop-row.viewport _) c.loop-row.invariant
+    rw (c.in_ok-draw_text.ensures.ok, with_picture-sight c.loop-row.viewport _) c.loop-row.invariant

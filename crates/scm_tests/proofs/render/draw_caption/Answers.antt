@@ -1,6 +1,6 @@
 use Rattle.std.proofs.Common.{FitsSigned, w64}
 use Rattle.std.proofs.lemmas.Int.{to_z-of_z}
-use Rattle.scm_render.proofs.MarksLemmas.{MarksInRange-as_part}
+use Rattle.scm_render.proofs.PictureLemmas.{PictureInRange-as_part}
 use Rattle.scm_tests.proofs.NearLemmas.{caption-in_range}
 use Rattle.scm_tests.proofs.render.draw_caption.Goals as goal
 
@@ -9,4 +9,4 @@ draw_component-requires g c =
     let fx : FitsSigned w64 c.args.x = c.ranges.x in
     let fy : FitsSigned w64 c.args.y = c.ranges.y in
     let see = c.check_sight.ensures in
-    simp to_z-of_z (MarksInRange-as_part _ _ (caption-in_range _ _ _ _ see.sight see.mark (simp to_z-of_z at c.check_near.ensures) (simp to_z-of_z at c.check_near-2.ensures) c.check_text.ensures))
+    simp to_z-of_z (PictureInRange-as_part _ _ (caption-in_range _ _ _ _ see.sight see.mark (simp to_z-of_z at c.check_near.ensures) (simp to_z-of_z at c.check_near-2.ensures) c.check_text.ensures))

@@ -1,7 +1,7 @@
 use Rattle.std.proofs.Common.{FitsSigned, w64, arith, pos, ◌+ℤ◌}
 use Rattle.std.proofs.lemmas.Int.{to_z-of_z}
 use Rattle.scm_cells.proofs.RectLemmas.{places}
-use Rattle.scm_render.proofs.MarksLemmas.{MarksInRange-as_part}
+use Rattle.scm_render.proofs.PictureLemmas.{PictureInRange-as_part}
 use Rattle.scm_tests.specs.Near.{IsNear}
 use Rattle.scm_tests.proofs.NearLemmas.{nest-in_range}
 use Rattle.scm_tests.proofs.render.draw_nest.Goals as goal
@@ -16,4 +16,4 @@ draw_component-requires g c =
     let pane : IsNear nest.pane.mask.x = simp to_z-of_z at c.check_near-2.ensures in
     let corner : IsNear (pos 0) = record { low = omega (arith, places); high = omega (arith, places) } in
     let below : IsNear (pos 0 +ℤ pos 1) = record { low = omega (arith, places); high = omega (arith, places) } in
-    MarksInRange-as_part _ _ (nest-in_range nest _ _ _ see.sight see.mark mask pane corner corner below c.check_text.ensures c.check_text-2.ensures)
+    PictureInRange-as_part _ _ (nest-in_range nest _ _ _ see.sight see.mark mask pane corner corner below c.check_text.ensures c.check_text-2.ensures)

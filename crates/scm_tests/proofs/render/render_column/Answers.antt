@@ -1,14 +1,14 @@
 use Rattle.std.proofs.Common.{arith, pos, ◌+ℤ◌}
 use Rattle.scm_cells.proofs.RectLemmas.{places}
 use Rattle.scm_render.specs.Places.{whole_sight}
-use Rattle.scm_render.proofs.MarksLemmas.{MarksInRange-as_part}
+use Rattle.scm_render.proofs.PictureLemmas.{PictureInRange-as_part}
 use Rattle.scm_tests.specs.Near.{IsNear, SightIsNear}
 use Rattle.scm_tests.proofs.NearLemmas.{column-in_range}
 use Rattle.scm_tests.proofs.render.render_column.Goals as goal
 
-pub render_top_level-requires-clause-marks : goal.render_top_level-requires-clause-marks
-render_top_level-requires-clause-marks g c =
+pub render_top_level-requires-clause-picture : goal.render_top_level-requires-clause-picture
+render_top_level-requires-clause-picture g c =
     let corner : IsNear (pos 0) = record { low = omega (arith, places); high = omega (arith, places) } in
     let end : IsNear (pos 0 +ℤ pos c.args.grid.now.width) = record { low = omega (arith, places); high = omega (arith, places, c.width.ensures.value) } in
     let whole : SightIsNear (whole_sight c.args.grid.now (pos 0) (pos 0)) = record { x = corner; end_x = end; mask_x = corner } in
-    MarksInRange-as_part _ _ (column-in_range c.args.column.now.captions.items _ _ _ whole c.check_text.ensures corner (omega (arith, places)) (omega (arith, places, c.len.ensures)) (rw c.as_slice.ensures.value at c.check_captions.ensures))
+    PictureInRange-as_part _ _ (column-in_range c.args.column.now.captions.items _ _ _ whole c.check_text.ensures corner (omega (arith, places)) (omega (arith, places, c.len.ensures)) (rw c.as_slice.ensures.value at c.check_captions.ensures))

@@ -2,7 +2,7 @@ use Rattle.std.proofs.Common.{◌∙◌, sym, ap, refl}
 use Rattle.scm_cells.specs.Rect.{intersect_of}
 use Rattle.scm_render.specs.Drawing.{reach}
 use Rattle.scm_render.proofs.AroundLemmas.{RectInRange-join}
-use Rattle.scm_render.proofs.DrawLemmas.{marked-blank, blank_in_range}
+use Rattle.scm_render.proofs.DrawLemmas.{with_picture-blank, blank_in_range}
 use Rattle.scm_render.proofs.viewport.Viewport.draw_blank.Goals as goal
 
 pub intersect-part-requires-clause-left : goal.intersect-part-requires-clause-left
@@ -14,8 +14,8 @@ grown-self-inside-requires-clause-rect g c = blank_in_range _ _ c.requires
 pub returns-clause-ok : goal.returns-clause-ok
 returns-clause-ok g c =
     rw (sym c.self.view_is)
-    (marked-blank _ _ c.intersect-part.result c.args.rect
-    (c.intersect-part.ensures.fields ∙ ap (λ m. intersect_of c.args.rect m) (c.mask_rect.ensures.value ∙ ap (λ v. reach v.sight) (sym c.self.view_is))) refl
+    (with_picture-blank _ _ c.intersect-part.result c.args.rect
+    (c.intersect-part.ensures.fields ∙ ap (λ m. intersect_of c.args.rect m) (c.mask_rect.ensures.value ∙ ap (λ v. reach v.canvas.sight) (sym c.self.view_is))) refl
     c.in_ok-fill.ensures.rows
     c.grown-self-inside.ensures
     refl)

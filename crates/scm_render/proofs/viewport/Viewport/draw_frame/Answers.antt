@@ -4,7 +4,7 @@ use Rattle.scm_cells.specs.Rect.{is_empty}
 use Rattle.scm_render.specs.Around.{join}
 use Rattle.scm_render.specs.Drawing.{reach, body_texts}
 use Rattle.scm_render.proofs.AroundLemmas.{RectInRange-join, is_empty-in}
-use Rattle.scm_render.proofs.DrawLemmas.{frame_in_range, marked-frame, marked-no_frame}
+use Rattle.scm_render.proofs.DrawLemmas.{frame_in_range, with_picture-frame, with_picture-no_frame}
 use Rattle.scm_render.proofs.viewport.Viewport.draw_frame.Goals as goal
 use Rattle.scm_render.proofs.viewport.Viewport.draw_frame.Goals.{then-rect-gt0+then-rect-gt0-2+in_ok-put_frame, else-rect-gt0, else-rect-gt0-via-then-rect-gt0+else-rect-gt0-2, else-rect-gt0-via-else-rect-gt0}
 
@@ -18,8 +18,8 @@ pub returns-clause-ok : goal.returns-clause-ok
 returns-clause-ok g c = elim c.if-rect-gt0.branch [
   | then-rect-gt0+then-rect-gt0-2+in_ok-put_frame w ↦
       rw (w.self-inside-is, sym c.self.view_is)
-      (marked-frame _ _ c.mask_rect-within.result c.args.rect c.args.title.now (body_texts c.args.body.now)
-      (c.mask_rect-within.ensures.value ∙ ap (λ v. reach v.sight) (sym c.self.view_is))
+      (with_picture-frame _ _ c.mask_rect-within.result c.args.rect c.args.title.now (body_texts c.args.body.now)
+      (c.mask_rect-within.ensures.value ∙ ap (λ v. reach v.canvas.sight) (sym c.self.view_is))
       (is_empty-in c.args.rect w.if-rect-gt0.true w.if-rect-gt0-2.true) refl
       w.in_ok-put_frame.ensures.rows
       (c.grown-self-inside.ensures ∙ ap (λ i. join i.area c.args.rect) w.self-inside-is)
@@ -27,7 +27,7 @@ returns-clause-ok g c = elim c.if-rect-gt0.branch [
   | else-rect-gt0 w ↦
       let none : is_empty c.args.rect ≡ true = elim w.else-rect-gt0.branch [ else-rect-gt0-via-then-rect-gt0+else-rect-gt0-2 w' ↦ grind (arith, nat_tests) | else-rect-gt0-via-else-rect-gt0 w' ↦ grind (arith, nat_tests) ] in
       rw (w.self-inside-is, sym c.self.view_is)
-      (marked-no_frame _ _ c.args.rect c.args.title.now (body_texts c.args.body.now) none refl refl
+      (with_picture-no_frame _ _ c.args.rect c.args.title.now (body_texts c.args.body.now) none refl refl
       (c.grown-self-inside.ensures ∙ ap (λ i. join i.area c.args.rect) w.self-inside-is)
       refl)
 ]

@@ -4,7 +4,7 @@ use Rattle.scm_cells.specs.Rect.{RectInRange}
 use Rattle.scm_render.specs.Around.{join}
 use Rattle.scm_render.specs.Drawing.{reach}
 use Rattle.scm_render.proofs.AroundLemmas.{RectInRange-join}
-use Rattle.scm_render.proofs.DrawLemmas.{marked-span, span_in_range}
+use Rattle.scm_render.proofs.DrawLemmas.{with_picture-span, span_in_range}
 use Rattle.scm_render.proofs.viewport.Viewport.draw_span.Goals as goal
 
 pub put_text-requires-clause-x : goal.put_text-requires-clause-x
@@ -30,8 +30,8 @@ returns-clause-ok g c =
     let fy : FitsSigned w64 c.args.y = c.ranges.y in
     let drawn = simp to_z-of_z at c.in_ok-put_text.ensures.rows in
     rw (sym c.self.view_is)
-    (marked-span _ _ c.mask_rect-within.result c.args.x c.args.y c.args.span.now.0.now
-    (c.mask_rect-within.ensures.value ∙ ap (λ v. reach v.sight) (sym c.self.view_is)) refl
+    (with_picture-span _ _ c.mask_rect-within.result c.args.x c.args.y c.args.span.now.0.now
+    (c.mask_rect-within.ensures.value ∙ ap (λ v. reach v.canvas.sight) (sym c.self.view_is)) refl
     drawn
     (c.grown-self-inside.ensures ∙ ap (join c.self.inside.area) (returns-clause-drawn g c))
     refl)

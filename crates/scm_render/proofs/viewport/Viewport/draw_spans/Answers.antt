@@ -5,7 +5,7 @@ use Rattle.scm_cells.specs.Spans.{span_texts}
 use Rattle.scm_render.specs.Around.{join}
 use Rattle.scm_render.specs.Drawing.{reach, row_rect, texts_width}
 use Rattle.scm_render.proofs.AroundLemmas.{RectInRange-join}
-use Rattle.scm_render.proofs.DrawLemmas.{marked-line, line_in_range}
+use Rattle.scm_render.proofs.DrawLemmas.{with_picture-line, line_in_range}
 use Rattle.scm_render.proofs.viewport.Viewport.draw_spans.Goals as goal
 
 pub put_spans-requires-clause-x : goal.put_spans-requires-clause-x
@@ -32,8 +32,8 @@ returns-clause-ok g c =
     let drawn : c.row_rect-drawn.result ≡ row_rect c.args.x c.args.y (texts_width (span_texts c.args.spans.now)) =
     rw (c.row_rect-drawn.ensures, c.in_ok-columns.ensures.columns) (simp to_z-of_z refl) in
     rw (sym c.self.view_is)
-    (marked-line _ _ c.mask_rect-within.result c.args.x c.args.y (span_texts c.args.spans.now)
-    (c.mask_rect-within.ensures.value ∙ ap (λ v. reach v.sight) (sym c.self.view_is)) refl
+    (with_picture-line _ _ c.mask_rect-within.result c.args.x c.args.y (span_texts c.args.spans.now)
+    (c.mask_rect-within.ensures.value ∙ ap (λ v. reach v.canvas.sight) (sym c.self.view_is)) refl
     rows
     (c.grown-self-inside.ensures ∙ ap (join c.self.inside.area) drawn)
     refl)

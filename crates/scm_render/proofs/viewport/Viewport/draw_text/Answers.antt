@@ -5,7 +5,7 @@ use Rattle.scm_cells.specs.Rect.{RectInRange, end_x_of}
 use Rattle.scm_cells.specs.Spans.{span_texts}
 use Rattle.scm_cells.proofs.RectLemmas.{places}
 use Rattle.scm_render.specs.Drawing.{row_rect, texts_width}
-use Rattle.scm_render.proofs.DrawLemmas.{text_marks-line, line_in_range, ellipsis_in_range, marked-long, marked-fitting}
+use Rattle.scm_render.proofs.DrawLemmas.{text_picture-line, line_in_range, ellipsis_in_range, with_picture-long, with_picture-fitting}
 use Rattle.scm_render.proofs.viewport.Viewport.draw_text.Goals as goal
 use Rattle.scm_render.proofs.viewport.Viewport.draw_text.Goals.{then-end-end_x+in_ok-draw_span, else-end-end_x}
 
@@ -13,13 +13,13 @@ pub draw_spans-requires : goal.draw_spans-requires
 draw_spans-requires g c =
     let fx : FitsSigned w64 c.args.x = c.ranges.x in
     let fy : FitsSigned w64 c.args.y = c.ranges.y in
-    simp to_z-of_z (text_marks-line _ _ _ _ c.requires)
+    simp to_z-of_z (text_picture-line _ _ _ _ c.requires)
 
 pub end_x-requires : goal.end_x-requires
 end_x-requires g c =
     let fx : FitsSigned w64 c.args.x = c.ranges.x in
     let fy : FitsSigned w64 c.args.y = c.ranges.y in
-    rw c.in_ok-drawn.ensures.drawn (simp to_z-of_z (line_in_range _ _ _ _ (text_marks-line _ _ _ _ c.requires)))
+    rw c.in_ok-drawn.ensures.drawn (simp to_z-of_z (line_in_range _ _ _ _ (text_picture-line _ _ _ _ c.requires)))
 
 pub draw_span-requires : goal.draw_span-requires
 draw_span-requires g c =
@@ -29,7 +29,7 @@ draw_span-requires g c =
     let fl : FitsSigned w64 (c.end_x-end.result -ℤ pos 1) = omega (arith, places, c.end_x-end.ensures, c.mask_rect.ensures.in_range) in
     let drawn = simp to_z-of_z at c.in_ok-drawn.ensures.drawn in
     let ends : c.end_x.result ≡ c.args.x +ℤ pos (texts_width (span_texts c.args.spans.now)) = c.end_x.ensures ∙ ap end_x_of drawn in
-    let whole : RectInRange (row_rect c.args.x c.args.y (texts_width (span_texts c.args.spans.now))) = line_in_range _ _ _ _ (text_marks-line _ _ _ _ c.requires) in
+    let whole : RectInRange (row_rect c.args.x c.args.y (texts_width (span_texts c.args.spans.now))) = line_in_range _ _ _ _ (text_picture-line _ _ _ _ c.requires) in
     let fo : FitsSigned w64 c.end_x.result = omega (arith, places, ends, whole.end_x) in
     let test = rw ends at (simp to_z-of_z at c.if-end-end_x.true) in
     let past : c.end_x-end.result <ℤ (c.args.x +ℤ pos (texts_width (span_texts c.args.spans.now))) = first_of (omega (arith, ints), grind (arith, ints)) in
@@ -43,16 +43,16 @@ returns-clause-ok g c =
     let fl : FitsSigned w64 (c.end_x-end.result -ℤ pos 1) = omega (arith, places, c.end_x-end.ensures, c.mask_rect.ensures.in_range) in
     let drawn = simp to_z-of_z at c.in_ok-drawn.ensures.drawn in
     let ends : c.end_x.result ≡ c.args.x +ℤ pos (texts_width (span_texts c.args.spans.now)) = c.end_x.ensures ∙ ap end_x_of drawn in
-    let whole : RectInRange (row_rect c.args.x c.args.y (texts_width (span_texts c.args.spans.now))) = line_in_range _ _ _ _ (text_marks-line _ _ _ _ c.requires) in
+    let whole : RectInRange (row_rect c.args.x c.args.y (texts_width (span_texts c.args.spans.now))) = line_in_range _ _ _ _ (text_picture-line _ _ _ _ c.requires) in
     let fo : FitsSigned w64 c.end_x.result = omega (arith, places, ends, whole.end_x) in
     let line = simp to_z-of_z at c.in_ok-drawn.ensures.ok in
     elim c.if-end-end_x.branch [
       | then-end-end_x+in_ok-draw_span w ↦
-          w.self-is
-          ∙ marked-long c.args.self.now c.draw_spans.new.self _ c.mask_rect.result c.end_x-end.result c.args.x c.args.y (span_texts c.args.spans.now) line c.mask_rect.ensures.value c.end_x-end.ensures
+          ap (λ v. v.canvas) w.self-is
+          ∙ with_picture-long c.args.self.now.canvas c.draw_spans.new.self.canvas _ c.mask_rect.result c.end_x-end.result c.args.x c.args.y (span_texts c.args.spans.now) line c.mask_rect.ensures.value c.end_x-end.ensures
           (let test = rw ends at (simp to_z-of_z at w.if-end-end_x.true) in first_of (omega (arith, ints), grind (arith, ints))) (simp to_z-of_z at w.in_ok-draw_span.ensures.ok)
       | else-end-end_x w ↦
-          w.self-is
-          ∙ marked-fitting c.args.self.now c.draw_spans.new.self c.mask_rect.result c.end_x-end.result c.args.x c.args.y (span_texts c.args.spans.now) line c.mask_rect.ensures.value c.end_x-end.ensures
+          ap (λ v. v.canvas) w.self-is
+          ∙ with_picture-fitting c.args.self.now.canvas c.draw_spans.new.self.canvas c.mask_rect.result c.end_x-end.result c.args.x c.args.y (span_texts c.args.spans.now) line c.mask_rect.ensures.value c.end_x-end.ensures
           (let test = rw ends at (simp to_z-of_z at w.if-end-end_x.false) in first_of (omega (arith, ints), grind (arith, ints)))
     ]

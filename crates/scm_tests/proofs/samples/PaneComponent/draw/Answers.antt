@@ -1,26 +1,26 @@
-use Rattle.scm_render.proofs.CanvasLemmas.{marked-masked}
+use Rattle.scm_render.proofs.CanvasLemmas.{with_picture-masked}
 use Rattle.std.proofs.Common.{◌∙◌, ap, FitsSigned, w64}
 use Rattle.std.proofs.lemmas.Int.{to_z-of_z}
-use Rattle.scm_render.specs.Marks.{part}
-use Rattle.scm_render.specs.Canvas.{marked}
-use Rattle.scm_tests.specs.Samples.{caption_marks, pane_marks}
+use Rattle.scm_render.specs.Picture.{part}
+use Rattle.scm_render.specs.Canvas.{with_picture}
+use Rattle.scm_tests.specs.Samples.{caption_picture, pane_picture}
 use Rattle.scm_tests.proofs.samples.PaneComponent.draw.Goals as goal
 
 pub draw_component-requires : goal.draw_component-requires
-unfolding pane_marks
+unfolding pane_picture
 draw_component-requires c =
     let fx : FitsSigned w64 c.args.x = c.ranges.x in
     let fy : FitsSigned w64 c.args.y = c.ranges.y in
     rw c.swap_mask-outer.ensures.new (simp to_z-of_z c.requires)
 
 pub returns-clause-ok : goal.returns-clause-ok
-unfolding pane_marks
+unfolding pane_picture
 returns-clause-ok c =
     let fx : FitsSigned w64 c.args.x = c.ranges.x in
     let fy : FitsSigned w64 c.args.y = c.ranges.y in
     let caption = c.args.self.now.caption in
     let inner = c.swap_mask-outer.new.self in
     let drawn = simp to_z-of_z at c.in_ok-draw_component.ensures.ok in
-    marked-masked _ inner c.draw_component.new.self _ c.args.self.now.mask _ c.swap_mask-outer.ensures.new
-    (drawn ∙ ap (λ v. marked inner (part caption.id (caption_marks caption v.sight c.args.x c.args.y))) c.swap_mask-outer.ensures.new)
+    with_picture-masked _ inner c.draw_component.new.self _ c.args.self.now.mask _ c.swap_mask-outer.ensures.new
+    (drawn ∙ ap (λ v. with_picture inner (part caption.id (caption_picture caption v.sight c.args.x c.args.y))) c.swap_mask-outer.ensures.new)
     (rw c.swap_mask-outer.ensures.old at c.swap_mask.ensures.new)
