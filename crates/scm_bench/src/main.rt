@@ -5,7 +5,7 @@
 
 ghost use Rattle.std.specs.Prelude.{◌≡◌, ◌≤◌, IfOk};
 ghost use Rattle.scm_cells.specs.Clusters.{text_width};
-ghost use Rattle.scm_render.specs.Drawing.{ellipsis};
+ghost use Rattle.scm_cells.specs.Row.{ellipsis};
 
 use scm_cells::{Grid, Rect, Span, text_width};
 use scm_render::Viewport;

@@ -14,8 +14,11 @@ use Rattle.std.proofs.lemmas.Int.{ints, by_lt_z}
 use Rattle.std.proofs.lemmas.Str.{chars-nil}
 use Rattle.unicode_width.specs.Width.{str_width}
 use Rattle.scm_cells.specs.Rect.{or_zero}
-use Rattle.scm_cells.specs.Clusters.{Cluster, clusters, clusters_left, with_width, kept_width, has_control}
+use Rattle.scm_cells.specs.Cluster.{Cluster, bytes_as_clusters}
+use Rattle.scm_cells.specs.Clusters.{clusters, clusters_left, rest_left, kept, with_width, kept_width, has_control}
 use Rattle.scm_cells.specs.declared.text.Clusters.{Clusters}
+use Rattle.scm_cells.specs.declared.text.Rest.{Rest}
+use Rattle.scm_cells.specs.declared.text.Rest.TheVariants.{Bytes, Graphemes}
 use Rattle.scm_cells.specs.Cell.{Cell, Place, blank, shown, laid}
 use Rattle.scm_cells.specs.Row.{placed, passes, cells_past, cells_of, written, overlay, put}
 use Rattle.scm_cells.specs.Laying.{fit, IsPassed, IsBegun}
@@ -35,11 +38,11 @@ empty_width : kept_width [] ≡ None
 unfolding kept_width has_control str_width
 empty_width = rw chars-nil refl
 
-kept_columns : (piece : List ℕ) (width : ℕ) → kept_width piece ≡ Some width → 0 < width
+pub kept_columns : (piece : List ℕ) (width : ℕ) → kept_width piece ≡ Some width → 0 < width
 unfolding kept_width
 kept_columns piece width e = grind (arith, nat_tests)
 
-kept_bytes : (piece : List ℕ) (width : ℕ) → kept_width piece ≡ Some width → 0 < length piece
+pub kept_bytes : (piece : List ℕ) (width : ℕ) → kept_width piece ≡ Some width → 0 < length piece
 kept_bytes [] width e = let none = sym empty_width ∙ e in cc
 kept_bytes (b ∷ bs) width e = omega arith
 
@@ -52,9 +55,19 @@ AllKept-pieces : (pieces : List (List ℕ)) → AllKept (filter_map with_width p
 AllKept-pieces [] = tt
 AllKept-pieces (p ∷ ps) = AllKept-cons p ps (kept_width p) refl (AllKept-pieces ps)
 
+AllKept-bytes : (text : List ℕ) → AllKept (bytes_as_clusters text)
+unfolding bytes_as_clusters
+AllKept-bytes [] = tt
+AllKept-bytes (b ∷ bs) = (record { bytes = omega arith; columns = omega arith }, AllKept-bytes bs)
+
+AllKept-rest : (rest : Rest) → AllKept (rest_left rest)
+unfolding kept
+AllKept-rest (Bytes text) = AllKept-bytes _
+AllKept-rest (Graphemes pieces) = AllKept-pieces _
+
 pub AllKept-left : (s : Clusters) → AllKept (clusters_left s)
 unfolding clusters_left
-AllKept-left s = AllKept-pieces _
+AllKept-left s = AllKept-rest s.rest
 
 pub AllKept-first : (cs rest : List Cluster) (c : Cluster) → AllKept cs → cs ≡ c ∷ rest → IsKept c
 AllKept-first cs rest c h e = (subst AllKept e h).0

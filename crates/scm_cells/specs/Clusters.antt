@@ -2,16 +2,14 @@
 use Rattle.std.specs.Prelude.{ℕ, List, Bool, true, false, ◌==◌, if◌then◌else◌, Option, Some, None, option_map, sum_by}
 use Rattle.std.specs.List.{list_any, filter_map}
 use Rattle.std.specs.Char.{is_control}
-use denote.Ref.{Bor}
 use Rattle.std.specs.Str.{chars}
 use Rattle.unicode_segmentation.specs.Grapheme.{graphemes}
 use Rattle.unicode_segmentation.specs.Iter.{graphemes_left}
 use Rattle.unicode_width.specs.Width.{str_width}
+use Rattle.scm_cells.specs.Cluster.{Cluster, bytes_as_clusters}
 use Rattle.scm_cells.specs.declared.text.Clusters.{Clusters}
-
--- a cluster: its bytes, and how many columns it takes
-abbrev pub Cluster : Type 0
-Cluster = List ℕ × ℕ
+use Rattle.scm_cells.specs.declared.text.Rest.{Rest}
+use Rattle.scm_cells.specs.declared.text.Rest.TheVariants.{Bytes, Graphemes}
 
 -- whether a text holds a character from U+0000 to U+001F or from U+007F to U+009F
 unfoldable pub has_control : List ℕ → Bool
@@ -26,18 +24,22 @@ kept_width piece =
 unfoldable pub with_width : List ℕ → Option Cluster
 with_width piece = option_map (λ width. (piece, width)) (kept_width piece)
 
--- the clusters of a text that are kept: its extended grapheme clusters that have a width
+-- the clusters of these pieces that are kept: those that have a width
+unfoldable pub kept : List (List ℕ) → List Cluster
+kept pieces = filter_map with_width pieces
+
+-- the clusters of a text: its extended grapheme clusters that are kept
 unfoldable pub clusters : List ℕ → List Cluster
-clusters text = filter_map with_width (graphemes true text)
+clusters text = kept (graphemes true text)
 
 -- the columns that a text takes
 unfoldable pub text_width : List ℕ → ℕ
 text_width text = sum_by (λ c. c.1) (clusters text)
 
+abbrev pub rest_left : Rest → List Cluster
+rest_left (Bytes text) = bytes_as_clusters text.text.now
+rest_left (Graphemes pieces) = kept (graphemes_left pieces)
+
 -- the clusters that an iterator has left
 unfoldable pub clusters_left : Clusters → List Cluster
-clusters_left s = filter_map with_width (graphemes_left s.pieces)
-
--- an item of the iterator as a cluster
-abbrev pub cluster : Bor (List ℕ) × ℕ → Cluster
-cluster item = (item.0.now, item.1)
+clusters_left s = rest_left s.rest

@@ -8,7 +8,7 @@ ghost use Rattle.scm_cells.specs.Row.{cells_of, later_cells, whole_before, whole
 ghost use Rattle.scm_cells.specs.Laying.{fit, IsPassed, IsBegun};
 
 use crate::column::Column;
-use crate::text::Clusters;
+use crate::text::{Clusters, NextCluster, Rest};
 use std::alloc::{AllocError, Global};
 
 /// A row of spaces.
@@ -104,6 +104,31 @@ fn lay_symbol(columns: &mut [Column], symbol: &str) -> Result<(), AllocError>
 
 /// Lays the clusters that have room, from a column on, up to the first one that has not; the
 /// column after the last.
+fn lay_each<'a, C: NextCluster<'a>>(
+    columns: &mut [Column],
+    clusters: C,
+    start: usize,
+) -> Result<usize, AllocError>
+    requires start { start ≤ length columns.old }
+    ensures shown { map shown columns.new ≡ map shown columns.old }
+    ensures within { IfOk result (λ end. end ≤ length columns.old) }
+    ensures laid { IfOk result (λ end. map laid (take end columns.new) ≡ map laid (take start columns.old) ++ fit (length columns.old - start) (C.left clusters)) }
+{
+    let mut clusters = clusters;
+    let mut end = start;
+    'clusters: while let Some((symbol, width)) = clusters.next_cluster() {
+        if width > columns.len() - end {
+            return Ok(end);
+        }
+        lay_symbol(&mut columns[end..end + width], symbol)?;
+        end += width;
+    }
+    Ok(end)
+}
+
+/// Lays the clusters that have room, in a loop of its own for each of the ways to cut a text: one loop
+/// that chose at each cluster would be slower.
+#[tactic(auto, unfolding(crate::specs::Clusters::clusters_left))]
 fn lay_clusters(
     columns: &mut [Column],
     clusters: Clusters<'_>,
@@ -114,15 +139,10 @@ fn lay_clusters(
     ensures within { IfOk result (λ end. end ≤ length columns.old) }
     ensures laid { IfOk result (λ end. map laid (take end columns.new) ≡ map laid (take start columns.old) ++ fit (length columns.old - start) (clusters_left clusters.entry)) }
 {
-    let mut end = start;
-    'clusters: for (symbol, width) in clusters {
-        if width > columns.len() - end {
-            return Ok(end);
-        }
-        lay_symbol(&mut columns[end..end + width], symbol)?;
-        end += width;
+    match clusters.rest {
+        Rest::Bytes(text) => lay_each(columns, text, start),
+        Rest::Graphemes(pieces) => lay_each(columns, pieces, start),
     }
-    Ok(end)
 }
 
 /// Passes over the clusters that begin within so many columns before a limit; how many columns the

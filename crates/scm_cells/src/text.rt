@@ -1,9 +1,12 @@
 //! The clusters of a text that a screen shows. A text is cut into extended grapheme clusters
 //! (Unicode Standard Annex 29), and a cluster takes the columns that a terminal gives it.
-ghost use Rattle.std.specs.Prelude.{◌≡◌, ◌+◌, ◌*◌, ◌≤◌, ◌<◌, ◌^◌, length, chars, sum_by, IfSome};
+ghost use Rattle.std.specs.Prelude.{◌≡◌, List, ◌+◌, ◌*◌, ◌≤◌, ◌<◌, ◌^◌, length, chars, sum_by, IfSome};
 ghost use Rattle.std.specs.Iterator.{YieldsFirstBy, item_count};
-ghost use Rattle.scm_cells.specs.Clusters.{has_control, kept_width, text_width};
+ghost use Rattle.unicode_segmentation.specs.Iter.{graphemes_left};
+ghost use Rattle.scm_cells.specs.Cluster.{Cluster, cluster, bytes_as_clusters};
+ghost use Rattle.scm_cells.specs.Clusters.{has_control, kept_width, kept, text_width};
 
+use crate::printable::{Printable, is_printable};
 use unicode_segmentation::{Graphemes, UnicodeSegmentation};
 use unicode_width::UnicodeWidthStr;
 
@@ -36,39 +39,36 @@ fn kept_width(piece: &str) -> Option<usize>
     if width == 0 { None } else { Some(width) }
 }
 
-/// The clusters of a text that a screen shows, each with the number of its columns. Dropped are
-/// clusters with a control character (U+0000 to U+001F, U+007F to U+009F) and those of width 0.
-#[derive(Drop)]
-pub struct Clusters<'a> {
-    pieces: Graphemes<'a>,
+/// A text that gives its clusters one after another.
+pub(crate) trait NextCluster<'a>: Drop {
+    ghost left: { Self → List Cluster };
+
+    /// The first cluster that is left, with its columns.
+    fn next_cluster(&mut self) -> Option<(&'a str, usize)>
+        ensures steps { YieldsFirstBy cluster left self.old result self.new }
+        ensures bytes { IfSome result (λ c. 0 < length c.0.now) }
+        ensures columns { IfSome result (λ c. 0 < c.1) };
 }
 
-impl<'a> Clusters<'a> {
-    ghost use Rattle.scm_cells.specs.Clusters.{clusters, clusters_left};
+impl<'a> NextCluster<'a> for Printable<'a> {
+    ghost left = { λ text. bytes_as_clusters text.text.now };
 
-    /// The clusters of the text.
-    #[tactic(auto, unfolding(crate::specs::Clusters::clusters, crate::specs::Clusters::clusters_left))]
-    pub fn new(text: &'a str) -> Clusters<'a>
-        ensures { clusters_left result ≡ clusters text.now }
-    {
-        Clusters {
-            pieces: text.graphemes(true),
+    fn next_cluster(&mut self) -> Option<(&'a str, usize)> {
+        if self.text.is_empty() {
+            return None;
         }
+        let (first, text) = self.text.split_at(1);
+        *self = Printable { text };
+        Some((first, 1))
     }
 }
 
-impl<'a> Iterator for Clusters<'a> {
-    ghost use Rattle.scm_cells.specs.Clusters.{cluster, clusters_left};
+impl<'a> NextCluster<'a> for Graphemes<'a> {
+    ghost left = { λ pieces. kept (graphemes_left pieces) };
 
-    type Item = (&'a str, usize);
-
-    ghost next_gives = { YieldsFirstBy cluster clusters_left };
-
-    ghost remaining = { item_count clusters_left };
-
-    #[tactic(auto, unfolding(crate::specs::Clusters::clusters_left, crate::specs::Clusters::with_width))]
-    fn next(&mut self) -> Option<(&'a str, usize)> {
-        'pieces: while let Some(piece) = self.pieces.next() {
+    #[tactic(auto, unfolding(crate::specs::Clusters::kept, crate::specs::Clusters::with_width))]
+    fn next_cluster(&mut self) -> Option<(&'a str, usize)> {
+        'pieces: while let Some(piece) = self.next() {
             if let Some(width) = kept_width(piece) {
                 return Some((piece, width));
             }
@@ -77,11 +77,63 @@ impl<'a> Iterator for Clusters<'a> {
     }
 }
 
+/// What is left of a text, by the way in which it is cut.
+#[derive(Drop)]
+pub(crate) enum Rest<'a> {
+    Bytes(Printable<'a>),
+    Graphemes(Graphemes<'a>),
+}
+
+/// The clusters of a text that a screen shows, each with the number of its columns. Dropped are
+/// clusters with a control character (U+0000 to U+001F, U+007F to U+009F) and those of width 0.
+#[derive(Drop)]
+pub struct Clusters<'a> {
+    pub(crate) rest: Rest<'a>,
+}
+
+impl<'a> Clusters<'a> {
+    ghost use Rattle.scm_cells.specs.Clusters.{clusters, clusters_left};
+
+    /// The clusters of the text.
+    pub fn new(text: &'a str) -> Clusters<'a>
+        ensures { clusters_left result ≡ clusters text.now }
+    {
+        let rest = if is_printable(text) {
+            Rest::Bytes(Printable { text })
+        } else {
+            Rest::Graphemes(text.graphemes(true))
+        };
+        Clusters { rest }
+    }
+}
+
+impl<'a> Iterator for Clusters<'a> {
+    ghost use Rattle.scm_cells.specs.Clusters.{clusters_left};
+
+    type Item = (&'a str, usize);
+
+    ghost next_gives = { YieldsFirstBy cluster clusters_left };
+
+    ghost remaining = { item_count clusters_left };
+
+    #[tactic(auto, unfolding(crate::specs::Clusters::clusters_left))]
+    fn next(&mut self) -> Option<(&'a str, usize)> {
+        match &mut self.rest {
+            Rest::Bytes(text) => text.next_cluster(),
+            Rest::Graphemes(pieces) => pieces.next_cluster(),
+        }
+    }
+}
+
 /// How many columns a text takes: the sum over its kept clusters.
-#[tactic(auto, unfolding(crate::specs::Clusters::text_width, crate::specs::Clusters::clusters, crate::specs::Clusters::with_width))]
+#[tactic(auto, unfolding(crate::specs::Clusters::text_width, crate::specs::Clusters::clusters, crate::specs::Clusters::kept, crate::specs::Clusters::with_width))]
 pub fn text_width(text: &str) -> usize
-    ensures { result ≡ text_width text.now }
+    ensures value { result ≡ text_width text.now }
+    ensures bound { result ≤ 2 * length text.now }
 {
+    if is_printable(text) {
+        return text.len();
+    }
     let mut width = 0;
     'pieces: for piece in text.graphemes(true) {
         if let Some(columns) = kept_width(piece) {

@@ -13,11 +13,11 @@ use Rattle.scm_cells.specs.Spans.{span_texts}
 use Rattle.scm_cells.specs.declared.text.Span.{Span}
 use Rattle.scm_cells.specs.declared.rectangle.Rect.{Rect}
 use Rattle.scm_render.specs.declared.filling.Filling.{Filling}
-use Rattle.scm_cells.specs.Row.{put}
+use Rattle.scm_cells.specs.Row.{put, ellipsis}
 use Rattle.scm_render.specs.Picture.{Put, Picture, PictureInRange, followed_by, nothing}
 use Rattle.scm_render.specs.Around.{join}
 use Rattle.scm_render.specs.Canvas.{Row, Canvas, Sight, clipped, painted, with_picture}
-use Rattle.scm_render.specs.Drawing.{has_row, whole_put, text_puts, texts_puts, texts_width, symbol_at, row_text, rows_puts, lines_puts, body_texts, reach, row_rect, ellipsis, span_picture, line_picture, text_picture, fill_puts, blank_picture, title_room, body_room, frame_puts, frame_picture}
+use Rattle.scm_render.specs.Drawing.{has_row, whole_put, text_puts, texts_puts, texts_width, symbol_at, row_text, rows_puts, lines_puts, body_texts, reach, row_rect, span_picture, line_picture, text_picture, fill_puts, blank_picture, title_room, body_room, frame_puts, frame_picture}
 use Rattle.scm_render.specs.declared.filling.Filling.TheVariants.{Blank, Border}
 use Rattle.scm_cells.specs.Rect.{RectInRange, is_empty, intersect_of}
 use Rattle.std.specs.Prelude.{int_lt}

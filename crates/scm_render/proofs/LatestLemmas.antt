@@ -5,18 +5,7 @@ use Rattle.scm_render.specs.Picture.{Box}
 use Rattle.scm_render.specs.declared.trace.DrawnRect.{DrawnRect}
 use Rattle.scm_render.specs.Hits.{hit, has_id, holds, first_of_two, second_or, drawn_of, Catches, IsLatest, IsLawful}
 
-module _ {K : Type 0} (same_id : K → K → Bool) (is_clickable : K → Bool) where
-  pub record Answer (rep : K → Bool) (t : ℕ) (bs : List (Box K)) (y x : ℤ) (i : K) : Type 0 where
-    pub drawn : DrawnRect
-    pub found : drawn_of same_id t i bs ≡ Some drawn
-    pub catches : Catches is_clickable i drawn y x
-    pub from : t ≤ drawn.timestamp
-    pub latest : (j : K) (d : DrawnRect) → rep j ≡ false → drawn_of same_id t j bs ≡ Some d → Catches is_clickable j d y x → d.timestamp ≤ drawn.timestamp
-
-  abbrev Result : (K → Bool) → ℕ → List (Box K) → ℤ → ℤ → Option K → Type 0
-  Result rep t bs y x None = (j : K) (d : DrawnRect) → rep j ≡ false → drawn_of same_id t j bs ≡ Some d → Catches is_clickable j d y x → ⊥
-  Result rep t bs y x (Some i) = Answer rep t bs y x i
-
+module _ {K : Type 0} (same_id : K → K → Bool) where
   none_drawn : (t : ℕ) (i : K) (bs : List (Box K)) → has_id same_id i bs ≡ false → drawn_of same_id t i bs ≡ None
   unfolding drawn_of has_id
   none_drawn t i [] h = refl
@@ -38,7 +27,7 @@ module _ {K : Type 0} (same_id : K → K → Bool) (is_clickable : K → Bool) w
       go false (Some d) q ih = absurd (cc q)
 
   -- a drawn box is the first one or a later one
-  first_or_later : (t : ℕ) (j : K) (b : Box K) (bs : List (Box K)) (d : DrawnRect) → drawn_of same_id t j (b ∷ bs) ≡ Some d
+  pub first_or_later : (t : ℕ) (j : K) (b : Box K) (bs : List (Box K)) (d : DrawnRect) → drawn_of same_id t j (b ∷ bs) ≡ Some d
       → (drawn_of same_id (suc t) j bs ≡ Some d) ⊎ ((drawn_of same_id (suc t) j bs ≡ None) × (same_id j b.0 ≡ true) × (d ≡ record { rect = b.1; timestamp = t }))
   unfolding drawn_of
   first_or_later t j b bs d h = go (same_id j b.0) (drawn_of same_id (suc t) j bs) refl h
@@ -56,6 +45,18 @@ module _ {K : Type 0} (same_id : K → K → Bool) (is_clickable : K → Bool) w
   unfolding drawn_of
   first_drawn t b bs s h = rw (s, none_drawn (suc t) b.0 bs h) refl
 
+module _ {K : Type 0} (same_id : K → K → Bool) (is_clickable : K → Bool) where
+  pub record Answer (rep : K → Bool) (t : ℕ) (bs : List (Box K)) (y x : ℤ) (i : K) : Type 0 where
+    pub drawn : DrawnRect
+    pub found : drawn_of same_id t i bs ≡ Some drawn
+    pub catches : Catches is_clickable i drawn y x
+    pub from : t ≤ drawn.timestamp
+    pub latest : (j : K) (d : DrawnRect) → rep j ≡ false → drawn_of same_id t j bs ≡ Some d → Catches is_clickable j d y x → d.timestamp ≤ drawn.timestamp
+
+  abbrev Result : (K → Bool) → ℕ → List (Box K) → ℤ → ℤ → Option K → Type 0
+  Result rep t bs y x None = (j : K) (d : DrawnRect) → rep j ≡ false → drawn_of same_id t j bs ≡ Some d → Catches is_clickable j d y x → ⊥
+  Result rep t bs y x (Some i) = Answer rep t bs y x i
+
   step : (law : IsLawful same_id) (rep : K → Bool) (t : ℕ) (b : Box K) (bs : List (Box K)) (y x : ℤ) (o : Option K) → Result rep (suc t) bs y x o
       → Result rep t (b ∷ bs) y x (first_of_two o (cond (is_clickable b.0 && (not (rep b.0 || has_id same_id b.0 bs) && holds b.1 y x)) (Some b.0) None))
   step law rep t b bs y x (Some i) ih =
@@ -64,11 +65,11 @@ module _ {K : Type 0} (same_id : K → K → Bool) (is_clickable : K → Bool) w
         found = later_found;
         catches = ih.catches;
         from = omega (arith, ih.from);
-        latest = λ j d r e c. older j d r c (first_or_later t j b bs d e);
+        latest = λ j d r e c. older j d r c (first_or_later same_id t j b bs d e);
       }
     where
       later_found : drawn_of same_id t i (b ∷ bs) ≡ Some ih.drawn
-      later_found = later_drawn t i b bs ih.drawn ih.found
+      later_found = later_drawn same_id t i b bs ih.drawn ih.found
 
       older : (j : K) (d : DrawnRect) → rep j ≡ false → Catches is_clickable j d y x → (drawn_of same_id (suc t) j bs ≡ Some d) ⊎ ((drawn_of same_id (suc t) j bs ≡ None) × (same_id j b.0 ≡ true) × (d ≡ record { rect = b.1; timestamp = t })) → d.timestamp ≤ ih.drawn.timestamp
       older j d r c (inl e) = ih.latest j d r e c
@@ -76,13 +77,13 @@ module _ {K : Type 0} (same_id : K → K → Bool) (is_clickable : K → Bool) w
   step law rep t b bs y x None ih = go (is_clickable b.0) (rep b.0) (has_id same_id b.0 bs) (holds b.1 y x) refl refl refl refl
     where
       never : (j : K) (d : DrawnRect) → rep j ≡ false → drawn_of same_id t j (b ∷ bs) ≡ Some d → Catches is_clickable j d y x → (is_clickable b.0 ≡ true → rep b.0 ≡ false → has_id same_id b.0 bs ≡ false → holds b.1 y x ≡ true → ⊥) → ⊥
-      never j d r e c refute = sort (first_or_later t j b bs d e)
+      never j d r e c refute = sort (first_or_later same_id t j b bs d e)
         where
           sort : (drawn_of same_id (suc t) j bs ≡ Some d) ⊎ ((drawn_of same_id (suc t) j bs ≡ None) × (same_id j b.0 ≡ true) × (d ≡ record { rect = b.1; timestamp = t })) → ⊥
           sort (inl f) = ih j d r f c
           sort (inr q) =
               let is : j ≡ b.0 = law.same j b.0 q.1 in
-              let here : has_id same_id j bs ≡ false = drawn_none (suc t) j bs q.0 in
+              let here : has_id same_id j bs ≡ false = drawn_none same_id (suc t) j bs q.0 in
               let held : holds b.1 y x ≡ true = ap (λ (k : DrawnRect). holds k.rect y x) (sym q.2) ∙ c.inside in
               refute (ap is_clickable (sym is) ∙ c.click) (ap rep (sym is) ∙ r) (ap (λ k. has_id same_id k bs) (sym is) ∙ here) held
 
@@ -94,10 +95,10 @@ module _ {K : Type 0} (same_id : K → K → Bool) (is_clickable : K → Bool) w
       go true false false true ec er eh el =
           record {
             drawn = record { rect = b.1; timestamp = t };
-            found = first_drawn t b bs (law.self b.0) eh;
+            found = first_drawn same_id t b bs (law.self b.0) eh;
             catches = record { click = ec; inside = el };
             from = omega arith;
-            latest = λ j d r e c. latest_of j d r c (first_or_later t j b bs d e);
+            latest = λ j d r e c. latest_of j d r c (first_or_later same_id t j b bs d e);
           }
       go true false false false ec er eh el = λ j d r e c. never j d r e c (λ p q u v. cc)
       go true false true l ec er eh el = λ j d r e c. never j d r e c (λ p q u v. cc)

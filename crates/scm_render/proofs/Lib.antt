@@ -1,4 +1,5 @@
 pub mod AroundLemmas
+pub mod BoundLemmas
 pub mod CanvasLemmas
 pub mod DrawLemmas
 pub mod HitLemmas
@@ -6,7 +7,10 @@ pub mod LatestLemmas
 pub mod LineLemmas
 pub mod MapLemmas
 pub mod PictureLemmas
+pub mod StepLemmas
 pub mod PaintLemmas
 pub mod RowLemmas
 pub mod SpanLemmas
 pub mod PlaceLemmas
+pub mod TargetLemmas
+pub mod FillLemmas

@@ -7,6 +7,7 @@ use Rattle.scm_cells.specs.Mask.{apply_of}
 use Rattle.scm_cells.specs.declared.rectangle.Rect.{Rect}
 use Rattle.scm_cells.specs.declared.masks.Mask.{Mask}
 use Rattle.scm_cells.specs.Clusters.{text_width}
+use Rattle.scm_cells.specs.Row.{ellipsis}
 use Rattle.scm_render.specs.Picture.{Put, Picture, nothing, followed_by}
 use Rattle.scm_render.specs.declared.filling.Filling.{Filling}
 use Rattle.scm_render.specs.declared.filling.Filling.TheVariants.{Blank, Border}
@@ -52,10 +53,6 @@ texts_width ts = sum_by text_width ts
 unfoldable pub texts_puts : Rect → ℤ → ℤ → List (List ℕ) → List Put
 texts_puts r x y [] = []
 texts_puts r x y (t ∷ ts) = text_puts r x y t ++ texts_puts r (x +ℤ pos (text_width t)) y ts
-
--- the ellipsis, U+2026, in UTF-8
-abbrev pub ellipsis : List ℕ
-ellipsis = 0xE2 ∷ 0x80 ∷ 0xA6 ∷ []
 
 module _ {K : Type 0} where
   -- a text, cut where drawing does not reach

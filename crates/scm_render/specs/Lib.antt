@@ -1,4 +1,5 @@
 pub mod Around
+pub mod Bounds
 pub mod Canvas
 pub mod Centring
 pub mod Drawing
@@ -7,3 +8,5 @@ pub mod Lines
 pub mod Picture
 pub mod OnScreen
 pub mod Places
+pub mod Rows
+pub mod Target

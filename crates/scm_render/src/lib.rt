@@ -3,6 +3,7 @@
 
 pub use centring::centered_rect;
 pub use component::Component;
+pub use target::{Clickable, find_target};
 pub use trace::{DrawTrace, DrawnRect, DrawnRects};
 pub use viewport::Viewport;
 
@@ -10,5 +11,6 @@ mod centring;
 mod component;
 mod drawing;
 mod filling;
+mod target;
 mod trace;
 mod viewport;

@@ -5,11 +5,12 @@ use Rattle.std.specs.Prelude.{int_lt}
 use Rattle.std.proofs.lemmas.List.{drop_all}
 use Rattle.scm_cells.specs.Rect.{RectInRange, end_x_of, or_zero, rect_between}
 use Rattle.scm_cells.specs.Clusters.{text_width}
+use Rattle.scm_cells.specs.Row.{ellipsis}
 use Rattle.scm_cells.specs.declared.masks.Mask.{Mask}
 use Rattle.scm_cells.proofs.RectLemmas.{places}
 use Rattle.scm_render.specs.Picture.{PictureInRange}
 use Rattle.scm_render.specs.Canvas.{Sight, under}
-use Rattle.scm_render.specs.Drawing.{row_rect, reach, texts_width, ellipsis, span_picture, line_picture, text_picture}
+use Rattle.scm_render.specs.Drawing.{row_rect, reach, texts_width, span_picture, line_picture, text_picture}
 use Rattle.scm_render.proofs.DrawLemmas.{texts_width-more, texts_width-none}
 use Rattle.scm_render.proofs.PictureLemmas.{PictureInRange-as_part, PictureInRange-followed, PictureInRange-if, PictureInRange-nothing}
 use Rattle.scm_tests.specs.Near.{IsNear, SightIsNear, AreShort}

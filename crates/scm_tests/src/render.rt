@@ -2,7 +2,8 @@
 ghost use Rattle.std.specs.Prelude.{◌≡◌, ◌≤◌, pos, Some, None};
 ghost use Rattle.scm_cells.specs.Clusters.{text_width};
 ghost use Rattle.scm_cells.specs.Spans.{span_texts};
-ghost use Rattle.scm_render.specs.Drawing.{texts_width, ellipsis};
+ghost use Rattle.scm_cells.specs.Row.{ellipsis};
+ghost use Rattle.scm_render.specs.Drawing.{texts_width};
 ghost use Rattle.scm_tests.specs.Near.{IsNear, SightIsNear, AreShort};
 
 use crate::samples::{Caption, Column, Nest, Pair, Pane};
@@ -47,7 +48,7 @@ fn check_near(rt: &impl Abort, place: isize)
 
 /// Checks that what the viewport shows is near the document's corner, and its mask too.
 fn check_sight(rt: &impl Abort, viewport: &Viewport<u8>)
-    ensures sight { SightIsNear viewport.now.sight }
+    ensures sight { SightIsNear viewport.now.canvas.sight }
     ensures mark { text_width ellipsis ≤ 100 }
 {
     let shown = viewport.rect();

@@ -6,6 +6,7 @@ ghost use Rattle.scm_tests.specs.Masks.{MaskInRange-prop};
 use scm_cells::{Mask, Span};
 use scm_render::{Component, Viewport};
 use scm_types::RecordError;
+use std::alloc::Global;
 
 /// A text.
 #[derive(Drop)]
@@ -27,7 +28,13 @@ impl Component for Caption {
         self.id
     }
 
-    fn draw(&self, viewport: &mut Viewport<u8>, x: isize, y: isize) -> Result<(), RecordError> {
+    fn draw(
+        &self,
+        _alloc: Global,
+        viewport: &mut Viewport<u8>,
+        x: isize,
+        y: isize,
+    ) -> Result<(), RecordError> {
         viewport.draw_text(x, y, &[Span(self.text)])?;
         Ok(())
     }
@@ -54,7 +61,13 @@ impl Component for Pair {
         self.id
     }
 
-    fn draw(&self, viewport: &mut Viewport<u8>, x: isize, y: isize) -> Result<(), RecordError> {
+    fn draw(
+        &self,
+        _alloc: Global,
+        viewport: &mut Viewport<u8>,
+        x: isize,
+        y: isize,
+    ) -> Result<(), RecordError> {
         viewport.draw_component(x, y, &self.first)?;
         viewport.draw_component(x, y + 1, &self.second)?;
         Ok(())
@@ -83,7 +96,13 @@ impl Component for Pane {
         self.id
     }
 
-    fn draw(&self, viewport: &mut Viewport<u8>, x: isize, y: isize) -> Result<(), RecordError> {
+    fn draw(
+        &self,
+        _alloc: Global,
+        viewport: &mut Viewport<u8>,
+        x: isize,
+        y: isize,
+    ) -> Result<(), RecordError> {
         let outer = viewport.swap_mask(Some(self.mask));
         viewport.draw_component(x, y, &self.caption)?;
         viewport.swap_mask(outer);
@@ -114,7 +133,13 @@ impl Component for Nest {
         self.id
     }
 
-    fn draw(&self, viewport: &mut Viewport<u8>, x: isize, y: isize) -> Result<(), RecordError> {
+    fn draw(
+        &self,
+        _alloc: Global,
+        viewport: &mut Viewport<u8>,
+        x: isize,
+        y: isize,
+    ) -> Result<(), RecordError> {
         let outer = viewport.swap_mask(Some(self.mask));
         viewport.draw_component(x, y, &self.pane)?;
         viewport.draw_component(x, y + 1, &self.below)?;
@@ -143,7 +168,13 @@ impl Component for Column {
         self.id
     }
 
-    fn draw(&self, viewport: &mut Viewport<u8>, x: isize, y: isize) -> Result<(), RecordError> {
+    fn draw(
+        &self,
+        _alloc: Global,
+        viewport: &mut Viewport<u8>,
+        x: isize,
+        y: isize,
+    ) -> Result<(), RecordError> {
         let mut row = y;
         for caption in &self.captions {
             viewport.draw_component(x, row, caption)?;

@@ -28,8 +28,8 @@ draw_text-requires c =
     let y : IsNear (pos c.loop-row.row) = record { low = omega (arith, places); high = omega (arith, places, c.loop-row-test.true) } in
     let one : texts_width (c.args.text.now ∷ []) ≡ text_width c.args.text.now + texts_width [] = texts_width-more c.args.text.now [] (c.args.text.now ∷ []) refl in
     let none : texts_width [] ≡ 0 = texts_width-none [] refl in
-    rw row (text-in_range c.loop-row.viewport.sight (pos 0) (pos c.loop-row.row) (c.args.text.now ∷ []) c.loop-row.invariant.near c.requires.mark x y (omega (arith, one, none, c.requires.text)))
+    rw row (text-in_range c.loop-row.viewport.canvas.sight (pos 0) (pos c.loop-row.row) (c.args.text.now ∷ []) c.loop-row.invariant.near c.requires.mark x y (omega (arith, one, none, c.requires.text)))
 
 pub loop-row-preserved : goal.loop-row-preserved
 loop-row-preserved c =
-    rw (c.in_ok-draw_text.ensures.ok, with_picture-sight c.loop-row.viewport _) c.loop-row.invariant
+    rw (c.in_ok-draw_text.ensures.ok, with_picture-sight c.loop-row.viewport.canvas _) c.loop-row.invariant

@@ -10,7 +10,7 @@ use Rattle.scm_render.proofs.drawing.put_spans.Goals as goal
 pub overflow_add-columns : goal.overflow_add-columns
 overflow_add-columns c =
     let fits : c.loop-span.columns + c.text_width-columns.result ≤ texts_width (span_texts c.args.spans.now) =
-    spans_width-fits c.args.spans.now c.loop-span.span-index c.loop-span.columns c.text_width-columns.result _ _ (omega arith) c.text_width-columns.ensures c.loop-span.invariant.columns in
+    spans_width-fits c.args.spans.now c.loop-span.span-index c.loop-span.columns c.text_width-columns.result _ _ (omega arith) c.text_width-columns.ensures.value c.loop-span.invariant.columns in
     omega (arith, places)
 
 pub loop-span-preserved : goal.loop-span-preserved
@@ -24,8 +24,8 @@ loop-span-preserved c =
     record {
       width = c.in_ok-put_text.ensures.width;
       height = c.in_ok-put_text.ensures.height;
-      columns = rw c.text_width-columns.ensures (spans_width-step c.args.spans.now c.loop-span.span-index c.loop-span.columns _ _ (omega arith) c.loop-span.invariant.columns);
-      rows = simp (to_z-of_z, c.text_width-columns.ensures) (spans-step c.args.screen c.args.within c.args.x c.args.y c.args.spans.now c.loop-span.span-index c.loop-span.columns _ _ _ _ (omega arith) drawn so_far);
+      columns = rw c.text_width-columns.ensures.value (spans_width-step c.args.spans.now c.loop-span.span-index c.loop-span.columns _ _ (omega arith) c.loop-span.invariant.columns);
+      rows = simp (to_z-of_z, c.text_width-columns.ensures.value) (spans-step c.args.screen c.args.within c.args.x c.args.y c.args.spans.now c.loop-span.span-index c.loop-span.columns _ _ _ _ (omega arith) drawn so_far);
     }
 
 pub returns-clause-rows : goal.returns-clause-rows

@@ -16,13 +16,13 @@ pub grown-self-inside-requires-clause-rect : goal.grown-self-inside-requires-cla
 grown-self-inside-requires-clause-rect g c =
     let fx : FitsSigned w64 c.args.x = c.ranges.x in
     let fy : FitsSigned w64 c.args.y = c.ranges.y in
-    rw (c.row_rect-drawn.ensures, c.text_width.ensures) (simp to_z-of_z (span_in_range _ _ _ _ c.requires))
+    rw (c.row_rect-drawn.ensures, c.text_width.ensures.value) (simp to_z-of_z (span_in_range _ _ _ _ c.requires))
 
 pub returns-clause-drawn : goal.returns-clause-drawn
 returns-clause-drawn g c =
     let fx : FitsSigned w64 c.args.x = c.ranges.x in
     let fy : FitsSigned w64 c.args.y = c.ranges.y in
-    rw (c.row_rect-drawn.ensures, c.text_width.ensures) (simp to_z-of_z refl)
+    rw (c.row_rect-drawn.ensures, c.text_width.ensures.value) (simp to_z-of_z refl)
 
 pub returns-clause-ok : goal.returns-clause-ok
 returns-clause-ok g c =
@@ -40,7 +40,7 @@ pub invariant_of-self-2 : goal.invariant_of-self-2
 invariant_of-self-2 g c =
     let fx : FitsSigned w64 c.args.x = c.ranges.x in
     let fy : FitsSigned w64 c.args.y = c.ranges.y in
-    let drawn : RectInRange c.row_rect-drawn.result = rw (c.row_rect-drawn.ensures, c.text_width.ensures) (simp to_z-of_z (span_in_range _ _ _ _ c.requires)) in
+    let drawn : RectInRange c.row_rect-drawn.result = rw (c.row_rect-drawn.ensures, c.text_width.ensures.value) (simp to_z-of_z (span_in_range _ _ _ _ c.requires)) in
     record {
       rect = c.self.invariant.rect;
       mask = c.self.invariant.mask;

@@ -1,13 +1,16 @@
-use Rattle.std.proofs.Common.{◌∙◌, ap, ◌+ℤ◌, pos, FitsSigned, w64, ℤ}
+use Rattle.std.proofs.Common.{ℕ, ℤ, pos, ◌+ℤ◌, FitsSigned, w64}
 use Rattle.std.proofs.lemmas.Int.{to_z-of_z}
-use Rattle.scm_render.specs.Picture.{PictureInRange}
+use Rattle.scm_render.specs.Picture.{Picture, PictureInRange, part}
 use Rattle.scm_render.specs.Canvas.{Sight}
 use Rattle.scm_render.proofs.PictureLemmas.{PictureInRange-left, PictureInRange-right, PictureInRange-part}
-use Rattle.scm_render.proofs.CanvasLemmas.{with_picture-sight, with_picture-twice}
-use Rattle.scm_tests.specs.Samples.{pair_picture}
+use Rattle.scm_render.proofs.StepLemmas.{step, rest}
+use Rattle.scm_tests.specs.Samples.{caption_picture, pair_picture}
 use Rattle.scm_tests.specs.declared.samples.Pair.{Pair}
 use Rattle.scm_tests.proofs.SampleLemmas.{caption_row-fits}
 use Rattle.scm_tests.proofs.samples.PairComponent.draw.Goals as goal
+
+abbrev lower : Pair → ℤ → ℤ → Sight → Picture ℕ
+lower p x y s = part p.second.id (caption_picture p.second s x (y +ℤ pos 1))
 
 pub draw_component-requires : goal.draw_component-requires
 unfolding pair_picture
@@ -30,17 +33,16 @@ unfolding pair_picture
 draw_component-requires-2 c =
     let fx : FitsSigned w64 c.args.x = c.ranges.x in
     let fy : FitsSigned w64 c.args.y = c.ranges.y in
-    let below = second_row-fits c.args.self.now c.args.viewport.now.sight c.args.x c.args.y c.requires in
+    let below = second_row-fits c.args.self.now c.args.viewport.now.canvas.sight c.args.x c.args.y c.requires in
     let first = simp to_z-of_z at c.in_ok-draw_component.ensures.ok in
-    simp to_z-of_z (rw first (rw with_picture-sight (PictureInRange-right _ _ c.requires)))
+    simp to_z-of_z (rest _ _ _ (lower c.args.self.now c.args.x c.args.y) first c.requires)
 
 pub returns-clause-ok : goal.returns-clause-ok
 unfolding pair_picture
 returns-clause-ok c =
     let fx : FitsSigned w64 c.args.x = c.ranges.x in
     let fy : FitsSigned w64 c.args.y = c.ranges.y in
-    let below = second_row-fits c.args.self.now c.args.viewport.now.sight c.args.x c.args.y c.requires in
+    let below = second_row-fits c.args.self.now c.args.viewport.now.canvas.sight c.args.x c.args.y c.requires in
     let first = simp to_z-of_z at c.in_ok-draw_component.ensures.ok in
     let second = simp to_z-of_z at c.in_ok-draw_component-2.ensures.ok in
-    let same = ap (λ v. v.sight) first ∙ with_picture-sight _ _ in
-    with_picture-twice _ _ _ _ _ first (simp same at second)
+    step _ _ _ _ (lower c.args.self.now c.args.x c.args.y) first second

@@ -1,8 +1,7 @@
-use Rattle.scm_render.proofs.CanvasLemmas.{with_picture-masked}
-use Rattle.std.proofs.Common.{◌∙◌, ap, FitsSigned, w64}
+use Rattle.std.proofs.Common.{FitsSigned, w64}
 use Rattle.std.proofs.lemmas.Int.{to_z-of_z}
 use Rattle.scm_render.specs.Picture.{part}
-use Rattle.scm_render.specs.Canvas.{with_picture}
+use Rattle.scm_render.proofs.StepLemmas.{masked}
 use Rattle.scm_tests.specs.Samples.{caption_picture, pane_picture}
 use Rattle.scm_tests.proofs.samples.PaneComponent.draw.Goals as goal
 
@@ -19,8 +18,8 @@ returns-clause-ok c =
     let fx : FitsSigned w64 c.args.x = c.ranges.x in
     let fy : FitsSigned w64 c.args.y = c.ranges.y in
     let caption = c.args.self.now.caption in
-    let inner = c.swap_mask-outer.new.self in
     let drawn = simp to_z-of_z at c.in_ok-draw_component.ensures.ok in
-    with_picture-masked _ inner c.draw_component.new.self _ c.args.self.now.mask _ c.swap_mask-outer.ensures.new
-    (drawn ∙ ap (λ v. with_picture inner (part caption.id (caption_picture caption v.sight c.args.x c.args.y))) c.swap_mask-outer.ensures.new)
+    masked _ c.swap_mask-outer.new.self.canvas c.draw_component.new.self.canvas _ c.args.self.now.mask
+    (λ s. part caption.id (caption_picture caption s c.args.x c.args.y))
+    c.swap_mask-outer.ensures.new drawn
     (rw c.swap_mask-outer.ensures.old at c.swap_mask.ensures.new)

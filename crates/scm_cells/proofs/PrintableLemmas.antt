@@ -1,0 +1,105 @@
+-- A text of printable ASCII is its own list of clusters: each byte is one, of one column.
+use Rattle.std.proofs.Common.{◌≡◌, ℕ, ◌<◌, Bool, true, false, not, ◌||◌, ◌==◌, List, [], ◌∷◌, ◌++◌, length, map, refl, sym, ap, ap₂, ◌∙◌, arith, Some, sum_by, encode_utf8, encode_utf8_all, take, drop}
+use Rattle.std.specs.Int.{is_in_range}
+use Rattle.std.specs.Str.{chars, IsAscii}
+use Rattle.std.proofs.lemmas.Bool.{and_parts}
+use Rattle.std.proofs.lemmas.Bool.Decides.{nat_tests}
+use Rattle.std.proofs.lemmas.Str.{chars-IsAscii, encode_ascii}
+use Rattle.std.proofs.lemmas.List.Sums.{sum_by-cons}
+use Rattle.std.proofs.lemmas.Str.Ascii.{IsAscii-nil, IsAscii-cons}
+use Rattle.ucd_table.proofs.Facts.{Stepped-below}
+use Rattle.ucd_breaks.specs.GraphemeClusterBreak.{grapheme_cluster_break, grapheme_cluster_break_number}
+use Rattle.ucd_breaks.specs.declared.GraphemeClusterBreak.TheVariants.{Other}
+use Rattle.ucd_breaks.proofs.Computing.{ucd_breaks}
+use Rattle.ucd_breaks.proofs.GraphemeClusterBreakLemmas.{grapheme_cluster_break_stepped, grapheme_cluster_break_number_injective}
+use Rattle.unicode_segmentation.specs.Grapheme.{is_grapheme_break}
+use Rattle.unicode_segmentation.specs.Segments.{cut, segments}
+use Rattle.unicode_segmentation.proofs.GraphemeLemmas.{is_grapheme_break-others}
+use Rattle.unicode_width.specs.Width.{str_width}
+use Rattle.unicode_width.proofs.Rules.{str_width-printable}
+use Rattle.scm_cells.specs.Cluster.{Cluster, is_printable, bytes_as_clusters}
+use Rattle.scm_cells.specs.Clusters.{clusters, kept, kept_width, has_control, with_width, text_width}
+
+-- ---- a printable character
+
+abbrev is_printable_char : ℕ → Bool
+is_printable_char = is_in_range 0x20 0x7E
+
+printable-ascii : (c : ℕ) → is_printable_char c ≡ true → c < 128
+printable-ascii c h = grind (arith, nat_tests)
+
+printable-encodes : (c : ℕ) → is_printable_char c ≡ true → encode_utf8 c ≡ c ∷ []
+printable-encodes c h = encode_ascii c (printable-ascii c h)
+
+IsAscii-printable : (cs : List ℕ) → is_printable cs ≡ true → IsAscii cs
+IsAscii-printable [] h = IsAscii-nil
+IsAscii-printable (c ∷ cs) h = let parts = and_parts (is_printable_char c) (is_printable cs) h in IsAscii-cons c cs (printable-ascii c parts.0) (IsAscii-printable cs parts.1)
+
+chars-printable : (text : List ℕ) → is_printable text ≡ true → chars text ≡ text
+chars-printable text h = chars-IsAscii text (IsAscii-printable text h)
+
+-- whether a character is not printable, or this is the class of one that is
+abbrev is_printable_class : ℕ → ℕ → Bool
+is_printable_class c class = not (is_printable_char c) || (class == grapheme_cluster_break_number Other)
+
+printable-class : (c : ℕ) → is_printable_char c ≡ true → Other ≡ grapheme_cluster_break c
+unfolding ucd_breaks
+printable-class c h =
+    let checked : is_printable_class c (grapheme_cluster_break_number (grapheme_cluster_break c)) ≡ true =
+    Stepped-below grapheme_cluster_break grapheme_cluster_break_stepped (λ x v. is_printable_class x (grapheme_cluster_break_number v)) 128 refl c (printable-ascii c h) in
+    grapheme_cluster_break_number_injective _ _ (grind (arith, nat_tests))
+
+printable-kept : (c : ℕ) → is_printable_char c ≡ true → with_width (c ∷ []) ≡ Some (c ∷ [], 1)
+unfolding with_width kept_width has_control
+printable-kept c h =
+    let one : is_printable (c ∷ []) ≡ true = rw h refl in
+    let same = chars-printable (c ∷ []) one in
+    let width : str_width false (chars (c ∷ [])) ≡ 1 = rw same (str_width-printable false (c ∷ []) one) in
+    grind (arith, nat_tests)
+
+-- ---- a text of printable characters
+
+printable-breaks : (c : ℕ) (before cs : List ℕ) → is_printable_char c ≡ true → is_printable cs ≡ true → is_grapheme_break true (c ∷ before) (cs ++ []) ≡ true
+unfolding is_grapheme_break
+printable-breaks c before [] h g = refl
+printable-breaks c before (d ∷ cs) h g =
+    let parts = and_parts (is_printable_char d) (is_printable cs) g in
+    let small = printable-ascii d parts.0 in
+    sym (is_grapheme_break-others true (c ∷ before) d (cs ++ []) (omega arith) (omega arith) (printable-class c h) (printable-class d parts.0))
+
+kept-printable_first : (c : ℕ) (pieces : List (List ℕ)) → is_printable_char c ≡ true → kept (encode_utf8_all (c ∷ []) ∷ pieces) ≡ (c ∷ [], 1) ∷ kept pieces
+unfolding kept
+kept-printable_first c pieces h = rw (printable-encodes c h, printable-kept c h) refl
+
+cut-printable : (cs before : List ℕ) → is_printable cs ≡ true → kept (map encode_utf8_all (cut (is_grapheme_break true) before cs [])) ≡ bytes_as_clusters cs
+unfolding cut kept bytes_as_clusters
+cut-printable [] before h = refl
+cut-printable (c ∷ cs) before h =
+    let parts = and_parts (is_printable_char c) (is_printable cs) h in
+    rw (printable-breaks c before cs parts.0 parts.1)
+    (kept-printable_first c (map encode_utf8_all (cut (is_grapheme_break true) (c ∷ before) cs [])) parts.0 ∙ ap (λ t. (c ∷ [], 1) ∷ t) (cut-printable cs (c ∷ before) parts.1))
+
+pub clusters-printable : (text : List ℕ) → is_printable text ≡ true → clusters text ≡ bytes_as_clusters text
+unfolding clusters segments
+clusters-printable text h = ap (λ cs. kept (map encode_utf8_all (cut (is_grapheme_break true) [] cs []))) (chars-printable text h) ∙ cut-printable text [] h
+
+width-bytes_as_clusters : (text : List ℕ) → sum_by (λ c. c.1) (bytes_as_clusters text) ≡ length text
+unfolding bytes_as_clusters
+width-bytes_as_clusters [] = refl
+width-bytes_as_clusters (b ∷ bs) = let e = width-bytes_as_clusters bs in sum_by-cons (λ (c : Cluster). c.1) (b ∷ [], 1) (bytes_as_clusters bs) ∙ omega (arith, e)
+
+pub text_width-printable : (text : List ℕ) → is_printable text ≡ true → text_width text ≡ length text
+unfolding text_width
+text_width-printable text h = ap (sum_by (λ c. c.1)) (clusters-printable text h) ∙ width-bytes_as_clusters text
+
+-- ---- one byte after another
+
+pub bytes_as_clusters-none : (text : List ℕ) → length text ≡ 0 → bytes_as_clusters text ≡ []
+unfolding bytes_as_clusters
+bytes_as_clusters-none [] e = refl
+bytes_as_clusters-none (b ∷ bs) e = cc
+
+pub bytes_as_clusters-more : (text front back : List ℕ) → 0 < length text → front ≡ take 1 text → back ≡ drop 1 text → bytes_as_clusters text ≡ (front, 1) ∷ bytes_as_clusters back
+unfolding bytes_as_clusters
+bytes_as_clusters-more [] front back some f g = absurd (omega arith)
+bytes_as_clusters-more (b ∷ bs) front back some f g = ap₂ (λ t u. (t, 1) ∷ bytes_as_clusters u) (sym f) (sym g)

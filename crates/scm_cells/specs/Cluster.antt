@@ -1,0 +1,21 @@
+-- A cluster, and texts of which each byte is one.
+use Rattle.std.specs.Prelude.{ℕ, List, [], ◌∷◌, Bool, map}
+use Rattle.std.specs.Int.{is_in_range}
+use Rattle.std.specs.List.{list_all}
+use denote.Ref.{Bor}
+
+-- a cluster: its bytes, and how many columns it takes
+abbrev pub Cluster : Type 0
+Cluster = List ℕ × ℕ
+
+-- an item of an iterator over clusters as a cluster
+abbrev pub cluster : Bor (List ℕ) × ℕ → Cluster
+cluster item = (item.0.now, item.1)
+
+-- whether each byte is a printable character of ASCII, from a space to a tilde
+abbrev pub is_printable : List ℕ → Bool
+is_printable text = list_all (is_in_range 0x20 0x7E) text
+
+-- bytes as clusters of one column each
+unfoldable pub bytes_as_clusters : List ℕ → List Cluster
+bytes_as_clusters text = map (λ b. (b ∷ [], 1)) text
