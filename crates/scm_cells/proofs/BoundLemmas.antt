@@ -20,17 +20,20 @@ use Rattle.unicode_width.specs.declared.state.Change.{Change}
 use Rattle.unicode_width.specs.declared.state.Change.TheVariants.{Less, Same, One, Three}
 use Rattle.unicode_width.specs.Kind.{kind}
 use Rattle.unicode_width.specs.Width.{before, is_striking, is_line_feed, is_plain, plain, single, of_kind, alone, changed, Reading, added, joined_or, past_selectors, in_context, past_emoji, joins, step, read_before, str_width, if_kept}
-use Rattle.scm_cells.specs.Cluster.{Cluster}
+use Rattle.scm_cells.specs.Cluster.{Cluster, IsNarrow}
 use Rattle.scm_cells.specs.Clusters.{has_control, kept, kept_width, with_width, clusters, text_width}
 
 -- ---- the bytes of a character
 
 -- at least so many bytes spell a character
-abbrev size : ℕ → ℕ
+abbrev pub size : ℕ → ℕ
 size c = if nat_lt c 128 then 1 else 2
 
 size-lead : (b : ℕ) → continuation_len b ≡ 0 → size (lead_bits b) ≤ 1
 size-lead b e = grind (arith, nat_tests)
+
+pub size-some : (c : ℕ) → 1 ≤ size c
+size-some c = grind arith
 
 size-le : (c : ℕ) → size c ≤ 2
 size-le c = grind arith
@@ -50,12 +53,12 @@ sizes-after (suc n) c before (b ∷ bs) last more =
     let rest = sizes-after n (c * 64 + (b - 128)) (before + 1) bs (λ e. omega (arith, some, two)) (λ left. omega arith) in
     omega (arith, rest)
 
-sizes-le : (bs : List ℕ) → sum_by size (chars bs) ≤ length bs
+pub sizes-le : (bs : List ℕ) → sum_by size (chars bs) ≤ length bs
 unfolding chars
 sizes-le [] = omega arith
 sizes-le (b ∷ bs) = let e = sizes-after (continuation_len b) (lead_bits b) 1 bs (size-lead b) (λ some. omega arith) in omega (arith, e)
 
-encode-size : (c : ℕ) → length (encode_utf8 c) ≤ 2 * size c
+pub encode-size : (c : ℕ) → length (encode_utf8 c) ≤ 2 * size c
 encode-size c = grind (arith, nat_tests, length-encode c)
 
 encodes-sizes : (cs : List ℕ) → length (encode_utf8_all cs) ≤ 2 * sum_by size cs
@@ -185,10 +188,6 @@ unfolding kept_width
 kept_width-le piece w e =
     let width = str_width false (chars piece) in
     if_none (has_control piece) (if width == 0 then None else Some width) (2 * length piece) w (if_some (width == 0) width (2 * length piece) w (str_width-le piece)) e
-
--- a cluster takes at most two columns a byte
-abbrev pub IsNarrow : Cluster → Type 0
-IsNarrow c = c.1 ≤ 2 * length c.0
 
 narrow_more : (o : Option ℕ) (piece : List ℕ) (rest : List Cluster) → ((w : ℕ) → o ≡ Some w → w ≤ 2 * length piece) → All IsNarrow rest
     → All IsNarrow (cons_option (option_map (λ w. (piece, w)) o) rest)

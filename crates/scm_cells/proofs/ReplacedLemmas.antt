@@ -1,7 +1,15 @@
-use Rattle.std.proofs.Common.{◌≡◌, ℕ, ◌+◌, ◌<◌, List, [], ◌∷◌, ◌++◌, length, encode_utf8, Option, Some, None, refl, sym, ap, ◌∙◌, arith, append_assoc, append-nil, length-append, take, take_at, subst, slice_range, ◌-◌}
-use Rattle.std.specs.Str.{chars, IsUtf8, IsCharBoundary}
+use Rattle.std.proofs.Common.{◌*◌, ◌≤◌, Bool, true, false, sum_by, ◌≡◌, ℕ, ◌+◌, ◌<◌, List, [], ◌∷◌, ◌++◌, length, encode_utf8, Option, Some, None, refl, sym, ap, ◌∙◌, arith, append_assoc, append-nil, length-append, take, take_at, subst, slice_range, ◌-◌}
+use Rattle.std.specs.Prelude.{if◌then◌else◌, nat_lt, ◌==◌, unwrap_or}
+use Rattle.std.specs.Str.{chars, IsUtf8, IsCharBoundary, all_scalars}
+use Rattle.std.proofs.lemmas.Bool.Decides.{nat_tests}
+use Rattle.std.proofs.lemmas.List.Sums.{sum_by-cons}
+use Rattle.unicode_segmentation.proofs.Computing.{unicode_segmentation}
+use Rattle.unicode_width.proofs.Computing.{unicode_width}
+use Rattle.unicode_width.specs.Width.{char_width}
 use Rattle.std.proofs.lemmas.List.{nil_from_length}
 use Rattle.std.proofs.lemmas.Str.{chars_past_char, chars-nil, IsUtf8-past_char, length-encode, len_utf8_bounds, IsCharBoundary-at_seam}
+use Rattle.scm_cells.specs.Clusters.{text_width, clusters, kept, with_width, kept_width, has_control}
+use Rattle.scm_cells.proofs.BoundLemmas.{size, size-some, sizes-le, encode-size, text_width-le, text_width-utf8}
 use Rattle.scm_cells.specs.Replaced.{replacement, pieces_from, line_pieces, last_piece}
 
 -- a line of which so many bytes were read, without a replaced character, before the rest
@@ -52,6 +60,10 @@ pub shorter_past : (line rest next : List ℕ) (n c : ℕ) → HasRead line n re
 shorter_past line rest next n c h first =
     omega (arith, ap length h.parts, length-append h.read rest, ap length first, length-append (encode_utf8 c) next, length-encode c, (len_utf8_bounds c).0)
 
+pieces_from-end : (piece : List ℕ) → pieces_from piece [] ≡ last_piece piece
+unfolding pieces_from
+pieces_from-end piece = refl
+
 -- no character is left
 pub pieces-end : (line rest : List ℕ) (n : ℕ) → HasRead line n rest → length rest ≡ 0 → line_pieces line ≡ last_piece line
 unfolding pieces_from
@@ -74,3 +86,60 @@ last_piece-some (b ∷ bs) h = refl
 pub last_piece-none : (line : List ℕ) → length line ≡ 0 → last_piece line ≡ []
 last_piece-none [] e = refl
 last_piece-none (b ∷ bs) e = cc
+
+-- ---- columns
+
+width-char : (c : ℕ) → all_scalars (c ∷ []) ≡ true → text_width (encode_utf8 c) ≤ 8
+width-char c s =
+    let e = text_width-utf8 (encode_utf8 c) (c ∷ [], (s, append-nil (encode_utf8 c))) in
+    omega (arith, e, length-encode c, (len_utf8_bounds c).1)
+
+width-tab : text_width (encode_utf8 0x2192 ++ 0x20 ∷ 0x20 ∷ 0x20 ∷ []) ≡ 4
+unfolding text_width clusters kept with_width kept_width has_control unicode_segmentation unicode_width
+width-tab = refl
+
+control-picture : (c : ℕ) → nat_lt c 0x20 ≡ true → all_scalars ((0x2400 + c) ∷ []) ≡ true
+control-picture c h = grind (arith, nat_tests)
+
+either-width : (b : Bool) (x r : List ℕ) (o : Option (List ℕ)) → (if b then Some x else o) ≡ Some r → (b ≡ true → text_width x ≤ 8) → (o ≡ Some r → text_width r ≤ 8) → text_width r ≤ 8
+either-width true x r o e h k = let same : x ≡ r = cc e in rw (sym same) (h refl)
+either-width false x r o e h k = k e
+
+width-replacement : (c : ℕ) (r : List ℕ) → replacement c ≡ Some r → text_width r ≤ 8
+unfolding replacement
+width-replacement c r e =
+    either-width (c == 0x09) _ r _ e (λ _. let w = width-tab in omega (arith, w))
+    (λ e. either-width (c == 0x0A) _ r _ e (λ _. width-char 0x23CE refl)
+    (λ e. either-width (nat_lt c 0x20) _ r _ e (λ low. width-char (0x2400 + c) (control-picture c low))
+    (λ e. either-width (c == 0x7F) _ r _ e (λ _. width-char 0x2421 refl)
+    (λ e. either-width (unwrap_or (char_width false c) 0 == 0) _ r _ e (λ _. width-char 0xFFFD refl) (λ none. absurd (cc none))))))
+
+width-pieces : (piece cs : List ℕ) → sum_by text_width (pieces_from piece cs) ≤ 4 * length piece + 8 * sum_by size cs
+width-pieces [] [] = rw (pieces_from-end []) (omega arith)
+width-pieces (b ∷ bs) [] =
+    let e = sum_by-cons text_width (b ∷ bs) [] in
+    let w = text_width-le (b ∷ bs) in
+    rw (pieces_from-end (b ∷ bs)) (omega (arith, e, w))
+width-pieces piece (c ∷ cs) = by_replacement (replacement c) refl (width-pieces [] cs) (width-pieces (piece ++ encode_utf8 c) cs)
+  where
+    by_replacement : (o : Option (List ℕ)) → replacement c ≡ o → sum_by text_width (pieces_from [] cs) ≤ 4 * 0 + 8 * sum_by size cs
+        → sum_by text_width (pieces_from (piece ++ encode_utf8 c) cs) ≤ 4 * length (piece ++ encode_utf8 c) + 8 * sum_by size cs
+        → sum_by text_width (pieces_from piece (c ∷ cs)) ≤ 4 * length piece + 8 * sum_by size (c ∷ cs)
+    by_replacement (Some r) e after longer =
+        let front = sum_by-cons text_width piece (r ∷ pieces_from [] cs) in
+        let next = sum_by-cons text_width r (pieces_from [] cs) in
+        let w = text_width-le piece in
+        let v = width-replacement c r e in
+        let sizes = sum_by-cons size c cs in
+        let some = size-some c in
+        rw (pieces_from-replaced piece r c cs e) (omega (arith, front, next, after, w, v, sizes, some))
+    by_replacement None e after longer =
+        let joined = length-append piece (encode_utf8 c) in
+        let bytes = encode-size c in
+        let sizes = sum_by-cons size c cs in
+        rw (pieces_from-stays piece c cs e) (omega (arith, longer, joined, bytes, sizes))
+
+-- the pieces of a line take at most eight columns for each of its bytes, whatever they are
+pub text_width-line_pieces : (line : List ℕ) → sum_by text_width (line_pieces line) ≤ 8 * length line
+unfolding line_pieces
+text_width-line_pieces line = let e = width-pieces [] (chars line) in let f = sizes-le line in omega (arith, e, f)

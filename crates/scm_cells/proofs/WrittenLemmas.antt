@@ -12,6 +12,7 @@ use Rattle.std.proofs.lemmas.Slice.{take-put_mid}
 use borrow.Rule.Slice.PartMut.{put_mid}
 use Rattle.std.proofs.lemmas.Int.{ints, by_lt_z}
 use Rattle.std.proofs.lemmas.Str.{chars-nil}
+use Rattle.unicode_segmentation.specs.Grapheme.{graphemes}
 use Rattle.unicode_width.specs.Width.{str_width}
 use Rattle.scm_cells.specs.Rect.{or_zero}
 use Rattle.scm_cells.specs.Cluster.{Cluster, bytes_as_clusters}
@@ -68,6 +69,10 @@ AllKept-rest (Graphemes pieces) = AllKept-pieces _
 pub AllKept-left : (s : Clusters) → AllKept (clusters_left s)
 unfolding clusters_left
 AllKept-left s = AllKept-rest s.rest
+
+pub AllKept-clusters : (text : List ℕ) → AllKept (clusters text)
+unfolding clusters kept
+AllKept-clusters text = AllKept-pieces (graphemes true text)
 
 pub AllKept-first : (cs rest : List Cluster) (c : Cluster) → AllKept cs → cs ≡ c ∷ rest → IsKept c
 AllKept-first cs rest c h e = (subst AllKept e h).0

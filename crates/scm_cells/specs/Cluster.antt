@@ -1,5 +1,5 @@
 -- A cluster, and texts of which each byte is one.
-use Rattle.std.specs.Prelude.{ℕ, List, [], ◌∷◌, Bool, map}
+use Rattle.std.specs.Prelude.{ℕ, ◌*◌, ◌≤◌, length, List, [], ◌∷◌, Bool, map}
 use Rattle.std.specs.Int.{is_in_range}
 use Rattle.std.specs.List.{list_all}
 use denote.Ref.{Bor}
@@ -11,6 +11,10 @@ Cluster = List ℕ × ℕ
 -- an item of an iterator over clusters as a cluster
 abbrev pub cluster : Bor (List ℕ) × ℕ → Cluster
 cluster item = (item.0.now, item.1)
+
+-- a cluster takes at most two columns a byte
+abbrev pub IsNarrow : Cluster → Type 0
+IsNarrow c = c.1 ≤ 2 * length c.0
 
 -- whether each byte is a printable character of ASCII, from a space to a tilde
 abbrev pub is_printable : List ℕ → Bool

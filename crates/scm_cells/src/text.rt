@@ -92,11 +92,14 @@ pub struct Clusters<'a> {
 }
 
 impl<'a> Clusters<'a> {
+    ghost use Rattle.std.specs.List.{All};
+    ghost use Rattle.scm_cells.specs.Cluster.{IsNarrow};
     ghost use Rattle.scm_cells.specs.Clusters.{clusters, clusters_left};
 
-    /// The clusters of the text.
+    /// The clusters of the text, none of which takes more than two columns a byte.
     pub fn new(text: &'a str) -> Clusters<'a>
-        ensures { clusters_left result ≡ clusters text.now }
+        ensures clusters { clusters_left result ≡ clusters text.now }
+        ensures narrow { All IsNarrow (clusters_left result) }
     {
         let rest = if is_printable(text) {
             Rest::Bytes(Printable { text })

@@ -1,6 +1,7 @@
 pub mod AroundLemmas
 pub mod BoundLemmas
 pub mod CanvasLemmas
+pub mod CentringLemmas
 pub mod DrawLemmas
 pub mod HitLemmas
 pub mod LatestLemmas

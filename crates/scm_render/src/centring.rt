@@ -46,7 +46,8 @@ pub fn centered_rect(
     requires rect { RectInRange rect }
     requires width { percent_width ≤ 100 }
     requires height { percent_height ≤ 100 }
-    ensures { result ≡ centred rect least percent_width percent_height }
+    ensures value { result ≡ centred rect least percent_width percent_height }
+    ensures in_range { RectInRange result }
 {
     let left = centred_gap(rect.width, least.width, percent_width);
     let above = centred_gap(rect.height, least.height, percent_height);

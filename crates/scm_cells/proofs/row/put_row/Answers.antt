@@ -11,7 +11,7 @@ pub returns-then-from-high-clause-ok : goal.returns-then-from-high-clause-ok
 returns-then-from-high-clause-ok c =
     let fits : FitsSigned w64 c.args.column = search rules in
     let begun = simp to_z-of_z at c.begin-from.ensures.begun in
-    put-none _ c.args.column _ c.args.low c.args.high (ap (λ t. written c.args.column t c.args.low c.args.high) (sym c.new-clusters.ensures)
+    put-none _ c.args.column _ c.args.low c.args.high (ap (λ t. written c.args.column t c.args.low c.args.high) (sym c.new-clusters.ensures.clusters)
     ∙ written-past c.args.column c.args.low c.args.high _ _ _ _ begun (AllKept-left c.begin-from.new.clusters) (omega arith) (omega arith))
 
 pub returns-in_err-width-clause-err : goal.returns-in_err-width-clause-err
@@ -25,5 +25,5 @@ returns-clause-ok c =
     let start = c.begin-from.result.0 in
     let size : length (take (c.args.high - start) (drop start c.args.columns.now)) ≡ c.args.high - start = simp (length-take, length-drop) (omega arith) in
     put-some c.args.columns.now _ c.show_between.new.columns c.args.column c.args.text.now c.args.low c.args.high c.begin-from.result.0 c.begin-from.result.1 c.in_ok-width.width c.lay.new.columns
-    _ _ from c.new-clusters.ensures begun (omega arith) (omega arith) c.requires refl
+    _ _ from c.new-clusters.ensures.clusters begun (omega arith) (omega arith) c.requires refl
     (c.lay.auto.columns ∙ size) (rw size at c.in_ok-width.ensures.within) c.lay.ensures.shown (rw size at c.in_ok-width.ensures.laid) c.show_between.ensures
