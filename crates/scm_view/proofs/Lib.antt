@@ -5,3 +5,13 @@ pub mod RowsLemmas
 pub mod SectionsLemmas
 pub mod StepLemmas
 pub mod WidthLemmas
+pub mod ButtonRowLemmas
+pub mod DialogPlaceLemmas
+pub mod MenuPartsLemmas
+pub mod Draws
+pub mod ButtonLemmas
+pub mod MenuLemmas
+pub mod DialogLemmas
+pub mod RangeLemmas
+pub mod FixedLemmas
+pub mod OverlayExampleLemmas

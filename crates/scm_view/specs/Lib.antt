@@ -8,3 +8,10 @@ pub mod Strips
 pub mod Places
 pub mod Keys
 pub mod Shown
+pub mod Buttons
+pub mod Menus
+pub mod Dialogs
+pub mod Tables
+pub mod Screens
+pub mod Clicks
+pub mod Ranges
