@@ -15,3 +15,4 @@ pub mod DialogLemmas
 pub mod RangeLemmas
 pub mod FixedLemmas
 pub mod OverlayExampleLemmas
+pub mod OverlayLemmas

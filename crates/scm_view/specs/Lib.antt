@@ -15,3 +15,4 @@ pub mod Tables
 pub mod Screens
 pub mod Clicks
 pub mod Ranges
+pub mod Overlays
