@@ -7,7 +7,7 @@ use Rattle.std.proofs.lemmas.Int.{ints}
 use Rattle.scm_cells.specs.Row.{put}
 use Rattle.scm_cells.specs.Rect.{end_x_of, end_y_of, or_zero, rect_between, intersect_of}
 use Rattle.scm_cells.specs.Clusters.{text_width}
-use Rattle.scm_cells.specs.declared.rectangle.Rect.{Rect}
+use Rattle.scm_cells.specs.declared.rect.Rect.{Rect}
 use Rattle.scm_cells.proofs.RectLemmas.{places}
 use Rattle.scm_render.specs.Picture.{Picture, part, box_rect}
 use Rattle.scm_render.specs.Around.{join, around, no_rect}

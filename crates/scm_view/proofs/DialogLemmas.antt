@@ -7,7 +7,7 @@ use Rattle.std.proofs.lemmas.Bool.Decides.{nat_tests}
 use Rattle.std.proofs.lemmas.List.{length-replicate, length-map, map-append}
 use Rattle.scm_cells.specs.Row.{put}
 use Rattle.scm_cells.specs.Rect.{end_x_of, intersect_of, is_empty}
-use Rattle.scm_cells.specs.declared.rectangle.Rect.{Rect}
+use Rattle.scm_cells.specs.declared.rect.Rect.{Rect}
 use Rattle.scm_cells.proofs.RectLemmas.{places}
 use Rattle.scm_render.specs.Picture.{Put, Picture, nothing, followed_by, part, box_rect}
 use Rattle.scm_render.specs.Around.{join, around, no_rect}

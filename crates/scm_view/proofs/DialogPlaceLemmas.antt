@@ -1,7 +1,7 @@
 -- The place of a dialog.
 use Rattle.std.proofs.Common.{◌≡◌, refl, ℕ, ◌+◌, ◌-◌, ◌<◌, ◌^◌, min, ℤ, pos, ◌+ℤ◌, ◌-ℤ◌, arith, FitsSigned, w64}
 use Rattle.scm_cells.specs.Rect.{RectInRange, InRange}
-use Rattle.scm_cells.specs.declared.rectangle.Rect.{Rect}
+use Rattle.scm_cells.specs.declared.rect.Rect.{Rect}
 use Rattle.scm_cells.proofs.RectLemmas.{places}
 use Rattle.scm_render.specs.Centring.{centred}
 

@@ -5,7 +5,7 @@ use Rattle.std.specs.Ordering.{int_eq}
 use Rattle.std.proofs.lemmas.Int.{ints}
 use Rattle.std.proofs.lemmas.Bool.Decides.{Decides-int_eq}
 use Rattle.scm_cells.specs.Rect.{end_x_of}
-use Rattle.scm_cells.specs.declared.rectangle.Rect.{Rect}
+use Rattle.scm_cells.specs.declared.rect.Rect.{Rect}
 use Rattle.scm_render.specs.Picture.{Put, Box, Picture, nothing, followed_by, part, box_rect}
 use Rattle.scm_render.specs.Around.{join, around, no_rect}
 use Rattle.scm_render.specs.Canvas.{Row, clipped, put_at, paint}

@@ -5,13 +5,13 @@ use Rattle.std.specs.Prelude.{codes, Some, None, Option, List, ◌++◌, encode_
 use lib.Utf8.{encode}
 use Rattle.unicode_segmentation.proofs.Computing.{unicode_segmentation}
 use Rattle.unicode_width.proofs.Computing.{unicode_width}
-use Rattle.scm_types.specs.declared.states.RecordState.{RecordState}
-use Rattle.scm_types.specs.declared.lines.SectionChangedLine.{SectionChangedLine}
-use Rattle.scm_types.specs.declared.lines.ChangeType.{ChangeType}
-use Rattle.scm_types.specs.declared.lines.ChangeType.TheVariants.{Added, Removed}
-use Rattle.scm_types.specs.declared.modes.FileMode.TheVariants.{Unix}
-use Rattle.scm_types.specs.declared.sections.Section.{Section}
-use Rattle.scm_types.specs.declared.sections.Section.TheVariants.{Unchanged, Changed, FileMode}
+use Rattle.scm_types.specs.declared.state.RecordState.{RecordState}
+use Rattle.scm_types.specs.declared.line.SectionChangedLine.{SectionChangedLine}
+use Rattle.scm_types.specs.declared.line.ChangeType.{ChangeType}
+use Rattle.scm_types.specs.declared.line.ChangeType.TheVariants.{Added, Removed}
+use Rattle.scm_types.specs.declared.file_mode.FileMode.TheVariants.{Unix}
+use Rattle.scm_types.specs.declared.section.Section.{Section}
+use Rattle.scm_types.specs.declared.section.Section.TheVariants.{Unchanged, Changed, FileMode}
 use Rattle.scm_cells.specs.Clusters.{text_width, clusters, with_width, kept_width, has_control}
 use Rattle.scm_cells.specs.Replaced.{line_pieces, pieces_from, replacement}
 use Rattle.scm_cells.specs.Row.{put, overlay, written, placed, whole_before, whole_after, cells_of, later_cells, row_text}

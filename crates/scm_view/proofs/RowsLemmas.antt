@@ -4,7 +4,7 @@ use Rattle.std.proofs.lemmas.List.{drop_all, take_all, length-drop, length-take}
 use Rattle.std.specs.Prelude.{Result, Ok, Err, OnOk, take, ◌-◌}
 use Rattle.std.proofs.lemmas.Int.{ints}
 use Rattle.scm_cells.specs.Rect.{InRange}
-use Rattle.scm_types.specs.declared.lines.SectionChangedLine.{SectionChangedLine}
+use Rattle.scm_types.specs.declared.line.SectionChangedLine.{SectionChangedLine}
 use Rattle.scm_render.specs.Picture.{PictureInRange, nothing, followed_by}
 use Rattle.scm_render.specs.Canvas.{Sight, Canvas, with_picture}
 use Rattle.scm_render.proofs.PictureLemmas.{PictureInRange-left, PictureInRange-right, PictureInRange-part, RectInRange-covering}

@@ -3,7 +3,7 @@ use Rattle.std.proofs.Common.{◌≡◌, ◌∙◌, ap, arith, FitsSigned, w64}
 use Rattle.std.specs.Prelude.{ℕ, ℤ, List, Option, Some}
 use Rattle.scm_cells.specs.Rect.{RectInRange, InRange}
 use Rattle.scm_cells.specs.Mask.{MaskInRange}
-use Rattle.scm_cells.specs.declared.masks.Mask.{Mask}
+use Rattle.scm_cells.specs.declared.mask.Mask.{Mask}
 use Rattle.scm_cells.proofs.RectLemmas.{places}
 use Rattle.scm_render.specs.Picture.{Picture, PictureInRange, followed_by}
 use Rattle.scm_render.specs.Canvas.{Sight, Canvas, with_picture, with_mask, under}

@@ -3,8 +3,8 @@ use Rattle.std.specs.Prelude.{◌≡◌, ◌⊎◌, ◌<◌, ℕ, ◌+◌, ◌-�
 use Rattle.std.specs.List.{concat}
 use Rattle.scm_cells.specs.Row.{put}
 use Rattle.scm_cells.specs.Clusters.{text_width}
-use Rattle.scm_cells.specs.declared.rectangle.Rect.{Rect}
-use Rattle.scm_cells.specs.declared.rectangle.RectSize.{RectSize}
+use Rattle.scm_cells.specs.declared.rect.Rect.{Rect}
+use Rattle.scm_cells.specs.declared.rect.RectSize.{RectSize}
 use Rattle.scm_render.specs.Canvas.{Sight}
 use Rattle.scm_render.specs.Centring.{centred, centred_gap, centred_size}
 use Rattle.scm_render.specs.Picture.{Picture, followed_by}

@@ -1,8 +1,8 @@
 -- What each part of the document draws: the picture of each row, and those of the parts, row by row.
 use Rattle.std.specs.Prelude.{ℕ, min, ◌==◌, ℤ, pos, codes, ◌+ℤ◌, ◌-ℤ◌, int_lt, List, [], ◌∷◌, length, Bool, false, ◌&&◌, if◌then◌else◌, Option, Some, None}
 use Rattle.scm_cells.specs.Rect.{or_zero, end_x_of}
-use Rattle.scm_cells.specs.declared.rectangle.Rect.{Rect}
-use Rattle.scm_cells.specs.declared.masks.Mask.{Mask}
+use Rattle.scm_cells.specs.declared.rect.Rect.{Rect}
+use Rattle.scm_cells.specs.declared.mask.Mask.{Mask}
 use Rattle.scm_render.specs.Picture.{Picture, nothing, followed_by, covering, part}
 use Rattle.scm_render.specs.Canvas.{Sight, under}
 use Rattle.scm_render.specs.Drawing.{reach, mask_or, row_rect, span_picture, text_picture, blank_picture}

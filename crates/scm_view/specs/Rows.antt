@@ -1,11 +1,11 @@
 -- The rows of the document: what stands on each row of a section, of a file and of a commit.
 use Rattle.std.specs.Prelude.{ℕ, suc, ◌+◌, ◌-◌, ◌^◌, min, ◌==◌, nat_le, nat_lt, List, [], ◌∷◌, ◌++◌, length, take, drop, map, Bool, true, false, not, ◌&&◌, ◌||◌, if◌then◌else◌, Option, Some, None, option_map}
 use denote.Ref.{Bor}
-use Rattle.scm_types.specs.declared.lines.SectionChangedLine.{SectionChangedLine}
-use Rattle.scm_types.specs.declared.sections.Section.{Section}
-use Rattle.scm_types.specs.declared.sections.Section.TheVariants.{Unchanged, Changed, FileMode, Binary}
-use Rattle.scm_types.specs.declared.tristates.Tristate.{Tristate}
-use Rattle.scm_types.specs.declared.tristates.Tristate.TheVariants as tristate
+use Rattle.scm_types.specs.declared.line.SectionChangedLine.{SectionChangedLine}
+use Rattle.scm_types.specs.declared.section.Section.{Section}
+use Rattle.scm_types.specs.declared.section.Section.TheVariants.{Unchanged, Changed, FileMode, Binary}
+use Rattle.scm_types.specs.declared.tristate.Tristate.{Tristate}
+use Rattle.scm_types.specs.declared.tristate.Tristate.TheVariants as tristate
 use Rattle.scm_types.specs.Marks.{is_editable_section}
 use Rattle.scm_cells.specs.Replaced.{line_pieces}
 use Rattle.scm_view.specs.declared.keys.FileKey.{FileKey}

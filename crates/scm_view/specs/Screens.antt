@@ -1,6 +1,6 @@
 -- A screen that shows the document from a row on.
 use Rattle.std.specs.Prelude.{ℕ, pos, None}
-use Rattle.scm_cells.specs.declared.rectangle.Rect.{Rect}
+use Rattle.scm_cells.specs.declared.rect.Rect.{Rect}
 use Rattle.scm_render.specs.Canvas.{Sight}
 
 -- a screen of w columns and h rows at row s of the document

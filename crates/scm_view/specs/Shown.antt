@@ -3,16 +3,16 @@
 -- documents of the two views are the same.
 use Rattle.std.specs.Prelude.{ℕ, suc, ◌+◌, ◌==◌, List, [], ◌∷◌, length, map, count_by, Bool, true, false, ◌&&◌, if◌then◌else◌, Option, Some, None, option_map}
 use Rattle.std.specs.Borrow.{Bor}
-use Rattle.scm_types.specs.declared.files.File.{File}
-use Rattle.scm_types.specs.declared.lines.ChangeType.{ChangeType}
-use Rattle.scm_types.specs.declared.lines.ChangeType.TheVariants.{Added, Removed}
-use Rattle.scm_types.specs.declared.lines.SectionChangedLine.{SectionChangedLine}
-use Rattle.scm_types.specs.declared.sections.Section.{Section}
-use Rattle.scm_types.specs.declared.sections.Section.TheVariants.{Unchanged, Changed, FileMode, Binary}
-use Rattle.scm_types.specs.declared.states.Commit.{Commit}
-use Rattle.scm_types.specs.declared.states.RecordState.{RecordState}
-use Rattle.scm_types.specs.declared.tristates.Tristate.{Tristate}
-use Rattle.scm_types.specs.declared.tristates.Tristate.TheVariants as tristate
+use Rattle.scm_types.specs.declared.file.File.{File}
+use Rattle.scm_types.specs.declared.line.ChangeType.{ChangeType}
+use Rattle.scm_types.specs.declared.line.ChangeType.TheVariants.{Added, Removed}
+use Rattle.scm_types.specs.declared.line.SectionChangedLine.{SectionChangedLine}
+use Rattle.scm_types.specs.declared.section.Section.{Section}
+use Rattle.scm_types.specs.declared.section.Section.TheVariants.{Unchanged, Changed, FileMode, Binary}
+use Rattle.scm_types.specs.declared.state.Commit.{Commit}
+use Rattle.scm_types.specs.declared.state.RecordState.{RecordState}
+use Rattle.scm_types.specs.declared.tristate.Tristate.{Tristate}
+use Rattle.scm_types.specs.declared.tristate.Tristate.TheVariants as tristate
 use Rattle.scm_types.specs.Marks.{tristate_of, section_marks, file_marks, is_editable_section}
 use Rattle.scm_view.specs.declared.keys.FileKey.{FileKey}
 use Rattle.scm_view.specs.declared.keys.SectionKey.{SectionKey}

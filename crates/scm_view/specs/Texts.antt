@@ -3,12 +3,12 @@ use Rattle.std.specs.Prelude.{ℕ, ◌-◌, ◌==◌, List, [], ◌∷◌, ◌++
 use Rattle.std.specs.Fmt.{digits}
 use Rattle.std.specs.List.{before_first, repeat}
 use Rattle.std.specs.Str.{trim}
-use Rattle.scm_types.specs.declared.lines.ChangeType.{ChangeType}
-use Rattle.scm_types.specs.declared.lines.ChangeType.TheVariants.{Added, Removed}
-use Rattle.scm_types.specs.declared.modes.FileMode.{FileMode}
-use Rattle.scm_types.specs.declared.modes.FileMode.TheVariants.{Unix, Absent}
-use Rattle.scm_types.specs.declared.tristates.Tristate.{Tristate}
-use Rattle.scm_types.specs.declared.tristates.Tristate.TheVariants.{False, Partial, True}
+use Rattle.scm_types.specs.declared.line.ChangeType.{ChangeType}
+use Rattle.scm_types.specs.declared.line.ChangeType.TheVariants.{Added, Removed}
+use Rattle.scm_types.specs.declared.file_mode.FileMode.{FileMode}
+use Rattle.scm_types.specs.declared.file_mode.FileMode.TheVariants.{Unix, Absent}
+use Rattle.scm_types.specs.declared.tristate.Tristate.{Tristate}
+use Rattle.scm_types.specs.declared.tristate.Tristate.TheVariants.{False, Partial, True}
 use Rattle.scm_view.specs.declared.tristate_box.TristateIconStyle.{TristateIconStyle}
 use Rattle.scm_view.specs.declared.tristate_box.TristateIconStyle.TheVariants.{Check, Expand}
 use Rattle.scm_view.specs.declared.tristate_box.TristateBox.{TristateBox}

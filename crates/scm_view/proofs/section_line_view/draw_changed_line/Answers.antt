@@ -1,7 +1,7 @@
 use Rattle.std.proofs.Common.{List, ℕ, FitsSigned, w64}
 use Rattle.std.specs.Prelude.{ℤ, pos, ◌+ℤ◌}
 use Rattle.std.proofs.lemmas.Int.{to_z-of_z}
-use Rattle.scm_types.specs.declared.lines.ChangeType.{ChangeType}
+use Rattle.scm_types.specs.declared.line.ChangeType.{ChangeType}
 use Rattle.scm_render.specs.Canvas.{Sight}
 use Rattle.scm_render.specs.Drawing.{text_picture}
 use Rattle.scm_render.proofs.PictureLemmas.{PictureInRange-left}
