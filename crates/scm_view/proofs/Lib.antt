@@ -6,3 +6,16 @@ pub mod NearLemmas
 pub mod LimitLemmas
 pub mod StripLemmas
 pub mod ExampleLemmas
+pub mod StepLemmas
+pub mod WidthLemmas
+pub mod ButtonRowLemmas
+pub mod DialogPlaceLemmas
+pub mod MenuPartsLemmas
+pub mod Draws
+pub mod ButtonLemmas
+pub mod MenuLemmas
+pub mod DialogLemmas
+pub mod RangeLemmas
+pub mod FixedLemmas
+pub mod OverlayExampleLemmas
+pub mod OverlayLemmas

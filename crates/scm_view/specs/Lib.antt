@@ -20,3 +20,11 @@ pub mod Places
 pub mod Near
 -- What follows from the definitions.
 pub mod Laws
+pub mod Buttons
+pub mod Menus
+pub mod Dialogs
+pub mod Tables
+pub mod Screens
+pub mod Clicks
+pub mod Ranges
+pub mod Overlays
