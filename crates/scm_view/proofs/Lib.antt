@@ -6,8 +6,6 @@ pub mod NearLemmas
 pub mod LimitLemmas
 pub mod StripLemmas
 pub mod ExampleLemmas
-pub mod StepLemmas
-pub mod WidthLemmas
 pub mod ButtonRowLemmas
 pub mod DialogPlaceLemmas
 pub mod MenuPartsLemmas
