@@ -1,0 +1,30 @@
+-- The texts that the parts of the document show.
+pub mod Texts
+-- The rows of the document: what stands on each row of a section, of a file and of a commit.
+pub mod Rows
+-- Whether two keys are the same, and whether a list has a key.
+pub mod Keys
+-- What is shown of a session, and the views that show it.
+pub mod Shown
+-- What each part of the document draws.
+pub mod Pictures
+-- Rows over rows: what stands on consecutive rows, and who owns each of their columns.
+pub mod Layers
+-- Columns that are blanked.
+pub mod Blanks
+-- The document row by row: what each row makes of the row under it, and who owns its columns.
+pub mod Strips
+-- Where the keys stand in the document.
+pub mod Places
+-- Places and texts with which all that is drawn is in range.
+pub mod Near
+-- What follows from the definitions.
+pub mod Laws
+pub mod Buttons
+pub mod Menus
+pub mod Dialogs
+pub mod Tables
+pub mod Screens
+pub mod Clicks
+pub mod Ranges
+pub mod Overlays

@@ -1,11 +1,41 @@
-//! The parts of the selector's screen: the keys of what can be selected, the ids of what is drawn, and
-//! what each part shows of a state.
+//! The parts of the selector's screen: the keys of what can be selected, the ids of what is drawn, what
+//! each part shows of a state, and the rows of the document that they make together.
 #![tactic(auto)]
 
+pub use button::Button;
+pub use commit_message_view::CommitMessageView;
+pub use commit_view::{CommitView, CommitViewMode};
+pub use dialog::Dialog;
+pub use file_view::FileView;
+pub use file_view_header::FileViewHeader;
+pub use help_dialog::HelpDialog;
 pub use ids::ComponentId;
 pub use keys::{FileKey, LineKey, SectionKey, SelectionKey};
+pub use menu::{Menu, MenuItem};
+pub use menu_bar::MenuBar;
 pub use quit_dialog::{QuitDialog, QuitDialogButtonId};
+pub use section_line_view::{SectionLineView, SectionLineViewInner};
+pub use section_view::{SectionSelection, SectionView};
+pub use tristate_box::{TristateBox, TristateIconStyle};
 
+mod button;
+mod button_row;
+mod commit_message_view;
+mod commit_view;
+mod dialog;
+mod file_view;
+mod file_view_header;
+mod heading;
+mod help_dialog;
 mod ids;
 mod keys;
+pub mod laws;
+mod menu;
+mod menu_bar;
+mod no_files;
 mod quit_dialog;
+mod reach;
+mod section_line_view;
+mod section_view;
+mod texts;
+mod tristate_box;

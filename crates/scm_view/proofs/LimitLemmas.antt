@@ -1,0 +1,395 @@
+-- From the limits of an accepted state: how many rows its document has, and that each text of it is narrow.
+use Rattle.std.proofs.Common.{◌≡◌, ℕ, zero, suc, ◌+◌, ◌-◌, ◌*◌, ◌/◌, ◌%◌, ◌<◌, ◌≤◌, ◌^◌, Bool, true, false, cond, ◌==◌, ℤ, List, [], ◌∷◌, ◌++◌, length, length-append, take, drop, map, refl, sym, ap, ◌∙◌, arith}
+use Rattle.std.specs.Prelude.{◌&&◌, if◌then◌else◌, nat_le, sum_by, Option, Some, None, codes, encode_utf8_all, decimal, option_map}
+use Rattle.std.specs.Char.{encode_utf8, is_whitespace}
+use Rattle.std.specs.Fmt.{digits, digits_onto, digit_glyph}
+use Rattle.std.specs.List.{list_all, repeat, before_first, position_or_len}
+use Rattle.std.specs.Str.{trim, trim_start, trim_end, chars, chars_after, skip_leading_whitespace, drop_trailing_whitespace, continuation_len, lead_bits}
+use Rattle.std.proofs.lemmas.List.Sums.{sum_by-cons}
+use Rattle.std.proofs.lemmas.List.{length-take}
+use Rattle.std.proofs.lemmas.Str.{length-encode, len_utf8_bounds}
+use Rattle.scm_types.specs.declared.file.File.{File}
+use Rattle.scm_types.specs.declared.line.SectionChangedLine.{SectionChangedLine}
+use Rattle.scm_types.specs.declared.line.ChangeType.{ChangeType}
+use Rattle.scm_types.specs.declared.line.ChangeType.TheVariants.{Added, Removed}
+use Rattle.scm_types.specs.declared.file_mode.FileMode.TheVariants as mode
+use Rattle.scm_types.specs.declared.section.Section.{Section}
+use Rattle.scm_types.specs.declared.section.Section.TheVariants.{Unchanged, Changed, FileMode, Binary}
+use Rattle.scm_types.specs.declared.state.Commit.{Commit}
+use Rattle.scm_types.specs.declared.tristate.Tristate.{Tristate}
+use Rattle.scm_types.specs.declared.tristate.Tristate.TheVariants as tristate
+use Rattle.scm_types.specs.Marks.{is_editable_section}
+use Rattle.scm_types.specs.declared.file_mode.FileMode.{FileMode as AnyMode}
+use Rattle.scm_types.specs.Limits.{max_text, is_short_text, is_short_option, has_short_texts, has_short_texts_in_file, is_accepted_state, section_size, file_size, state_size}
+use Rattle.scm_cells.specs.Clusters.{text_width}
+use Rattle.scm_cells.specs.Replaced.{line_pieces}
+use Rattle.scm_cells.proofs.BoundLemmas.{text_width-le}
+use Rattle.scm_cells.proofs.ReplacedLemmas.{text_width-line_pieces}
+use Rattle.scm_render.specs.Picture.{PictureInRange}
+use Rattle.scm_render.specs.Canvas.{Sight}
+use Rattle.scm_render.specs.Drawing.{texts_width}
+use Rattle.scm_view.specs.declared.keys.FileKey.{FileKey}
+use Rattle.scm_view.specs.declared.tristate_box.TristateIconStyle.{TristateIconStyle}
+use Rattle.scm_view.specs.declared.tristate_box.TristateIconStyle.TheVariants.{Check, Expand}
+use Rattle.scm_view.specs.declared.section_view.SectionView.{SectionView}
+use Rattle.scm_view.specs.declared.commit_view.CommitView.{CommitView}
+use Rattle.scm_view.specs.Texts.{icon_text, bracketed, box_text, path_text, section_text, mode_change_text, binary_text, number_text, sign_text, dots_text, message_text}
+use Rattle.scm_view.specs.Rows.{IdBox, Heading, DocRow, DotsRow, BlankRow, ShownSection, ShownFile, line_texts, line_box, section_box, is_first, is_last, is_fold_open, are_all_shown, lines_above, has_dots, first_below, rows_below, shown_lines, context_rows, lines_height, context_height, changed_height, section_height, changed_rows, numbered_rows, rows_of, section_rows, is_shown, is_open, is_first_open, shown_section, shown_sections, sections_rows, shown_file, lent_text, file_rows, files_rows, document_of, line_number, section_heading}
+use Rattle.scm_view.specs.Pictures.{commit_picture}
+use Rattle.scm_view.specs.Shown.{Shown, Shows, lent, Totals, totals_of, section_key_of, section_view_of, section_views_of, file_view_of, file_views_of, commit_at, commit_view_of, old_lines}
+use Rattle.scm_view.specs.Near.{IsNarrow, IsNarrowBox, IsNarrowHeading, IsNarrowRow, AreNarrow, AreNarrowSections, IsNarrowFile, AreNarrowFiles, IsNarrowMessage, IsNarrowDocument, IsClose, SightIsClose}
+use Rattle.scm_view.proofs.SectionsLemmas.{at_most, height-of, length-sections}
+use Rattle.scm_view.proofs.NearLemmas.{document-near}
+
+-- ---- tests that pass
+
+first_true : (a b : Bool) → (a && b) ≡ true → a ≡ true
+first_true true b h = refl
+first_true false b h = absurd (cc h)
+
+second_true : (a b : Bool) → (a && b) ≡ true → b ≡ true
+second_true true b h = h
+second_true false b h = absurd (cc h)
+
+within : (n m : ℕ) → nat_le n m ≡ true → n ≤ m
+within n m h = grind (arith, h)
+
+all-take : {X : Type 0} (p : X → Bool) (n : ℕ) (xs : List X) → list_all p xs ≡ true → list_all p (take n xs) ≡ true
+all-take p zero xs h = refl
+all-take p (suc n) [] h = refl
+all-take p (suc n) (x ∷ xs) h = rw (first_true (p x) (list_all p xs) h) (all-take p n xs (second_true (p x) (list_all p xs) h))
+
+all-drop : {X : Type 0} (p : X → Bool) (n : ℕ) (xs : List X) → list_all p xs ≡ true → list_all p (drop n xs) ≡ true
+all-drop p zero xs h = h
+all-drop p (suc n) [] h = refl
+all-drop p (suc n) (x ∷ xs) h = all-drop p n xs (second_true (p x) (list_all p xs) h)
+
+-- ---- lengths of texts
+
+length-digits_onto : (k base : ℕ) (upper : Bool) (n : ℕ) (acc : List ℕ) → length (digits_onto k base upper n acc) ≤ k + length acc
+length-digits_onto zero base upper n acc = omega arith
+length-digits_onto (suc k) base upper n acc = go (n / base == 0) (length-digits_onto k base upper (n / base) (digit_glyph upper (n % base) ∷ acc))
+  where
+    go : (b : Bool) → length (digits_onto k base upper (n / base) (digit_glyph upper (n % base) ∷ acc)) ≤ k + suc (length acc) → length (if b then digit_glyph upper (n % base) ∷ acc else digits_onto k base upper (n / base) (digit_glyph upper (n % base) ∷ acc)) ≤ suc k + length acc
+    go true h = omega arith
+    go false h = omega (arith, h)
+
+length-digits : (base : ℕ) (upper : Bool) (n : ℕ) → length (digits base upper n) ≤ 64
+unfolding digits
+length-digits base upper n = omega (arith, length-digits_onto 64 base upper n [])
+
+length-chars_after : (n c : ℕ) (bs : List ℕ) → length (chars_after n c bs) ≤ length bs + 1
+length-chars_after zero c [] = omega arith
+length-chars_after zero c (b ∷ bs) = omega (arith, length-chars_after (continuation_len b) (lead_bits b) bs)
+length-chars_after (suc n) c [] = omega arith
+length-chars_after (suc n) c (b ∷ bs) = omega (arith, length-chars_after n (c * 64 + (b - 128)) bs)
+
+length-chars : (bs : List ℕ) → length (chars bs) ≤ length bs
+unfolding chars
+length-chars [] = omega arith
+length-chars (b ∷ bs) = omega (arith, length-chars_after (continuation_len b) (lead_bits b) bs)
+
+length-encoded : (cs : List ℕ) → length (encode_utf8_all cs) ≤ 4 * length cs
+length-encoded [] = omega arith
+length-encoded (c ∷ cs) = omega (arith, length-append (encode_utf8 c) (encode_utf8_all cs), length-encode c, (len_utf8_bounds c).1, length-encoded cs)
+
+length-skipped : (cs : List ℕ) → length (skip_leading_whitespace cs) ≤ length cs
+length-skipped [] = omega arith
+length-skipped (c ∷ cs) = go (is_whitespace c) (length-skipped cs)
+  where
+    go : (b : Bool) → length (skip_leading_whitespace cs) ≤ length cs → length (cond b (skip_leading_whitespace cs) (c ∷ cs)) ≤ suc (length cs)
+    go true h = omega (arith, h)
+    go false h = omega arith
+
+length-dropped : (cs : List ℕ) → length (drop_trailing_whitespace cs) ≤ length cs
+length-dropped [] = omega arith
+length-dropped (c ∷ cs) = go (is_whitespace c && length (drop_trailing_whitespace cs) == 0) (length-dropped cs)
+  where
+    go : (b : Bool) → length (drop_trailing_whitespace cs) ≤ length cs → length (cond b [] (c ∷ drop_trailing_whitespace cs)) ≤ suc (length cs)
+    go true h = omega arith
+    go false h = omega (arith, h)
+
+length-trim : (bs : List ℕ) → length (trim bs) ≤ 16 * length bs
+unfolding trim_start trim_end
+length-trim bs =
+    let cs = skip_leading_whitespace (chars bs) in
+    let ds = drop_trailing_whitespace (chars (encode_utf8_all cs)) in
+    omega (arith, length-encoded ds, length-dropped (chars (encode_utf8_all cs)), length-chars (encode_utf8_all cs), length-encoded cs, length-skipped (chars bs), length-chars bs)
+
+length-before : (p : ℕ → Bool) (bs : List ℕ) → length (before_first p bs) ≤ length bs
+length-before p bs = omega (arith, length-take (position_or_len p bs) bs)
+
+length-spaces : (n : ℕ) → length (repeat n (codes " ")) ≡ n
+length-spaces zero = refl
+length-spaces (suc n) = ap suc (length-spaces n)
+
+-- ---- narrow texts
+
+narrow : (t : List ℕ) → length t ≤ 2 ^ 50 → text_width t ≤ 2 ^ 60
+narrow t h = omega (arith, text_width-le t)
+
+narrow-one : (t : List ℕ) → length t ≤ 2 ^ 50 → IsNarrow (t ∷ [])
+unfolding texts_width
+narrow-one t h = omega (arith, text_width-le t)
+
+length-icon : (unicode : Bool) (style : TristateIconStyle) (t : Tristate) → length (icon_text unicode style t) ≤ 3
+unfolding encode_utf8
+length-icon true Check tristate.False = omega arith
+length-icon false Check tristate.False = omega arith
+length-icon true Check tristate.Partial = omega arith
+length-icon false Check tristate.Partial = omega arith
+length-icon true Check tristate.True = omega arith
+length-icon false Check tristate.True = omega arith
+length-icon true Expand tristate.False = omega arith
+length-icon false Expand tristate.False = omega arith
+length-icon true Expand tristate.Partial = omega arith
+length-icon false Expand tristate.Partial = omega arith
+length-icon true Expand tristate.True = omega arith
+length-icon false Expand tristate.True = omega arith
+
+length-bracketed : (read_only focused : Bool) (t : List ℕ) → length (bracketed read_only focused t) ≡ length t + 2
+length-bracketed true focused t = omega (arith, length-append t (codes ">"))
+length-bracketed false true t = omega (arith, length-append t (codes ")"))
+length-bracketed false false t = omega (arith, length-append t (codes "]"))
+
+box-narrow : (b : IdBox) → IsNarrowBox b
+box-narrow b =
+    let icon = icon_text b.use_unicode b.icon_style b.tristate in
+    narrow (box_text b) (omega (arith, length-bracketed b.is_read_only b.is_focused icon, length-icon b.use_unicode b.icon_style b.tristate))
+
+section-narrow : (n m : ℕ) → IsNarrow (section_text n m ∷ [])
+section-narrow n m =
+    narrow-one (section_text n m) (omega (arith, length-append (codes "Section ") (decimal n ++ (codes "/" ++ decimal m)), length-append (decimal n) (codes "/" ++ decimal m), length-digits 10 false n, length-digits 10 false m))
+
+mode-narrow : (m : AnyMode) → IsNarrow (mode_change_text m ∷ [])
+mode-narrow (mode.Unix bits) = narrow-one (mode_change_text (mode.Unix bits)) (omega (arith, length-append (codes "File mode set to ") (digits 8 false bits), length-digits 8 false bits))
+mode-narrow mode.Absent = narrow-one (mode_change_text mode.Absent) (omega arith)
+
+short : (t : List ℕ) → is_short_text t ≡ true → length t ≤ 1000000
+short t h = within (length t) 1000000 h
+
+binary-narrow : (old new : Option (List ℕ)) → is_short_option old ≡ true → is_short_option new ≡ true → IsNarrow (binary_text old new ∷ [])
+binary-narrow (Some old) (Some new) p q =
+    let all = codes "(binary contents: " ++ (old ++ (codes " -> " ++ (new ++ codes ")"))) in
+    narrow-one all (omega (arith, length-append (codes "(binary contents: ") (old ++ (codes " -> " ++ (new ++ codes ")"))), length-append old (codes " -> " ++ (new ++ codes ")")), length-append new (codes ")"), short old p, short new q))
+binary-narrow (Some old) None p q =
+    narrow-one (codes "(binary contents: " ++ (old ++ codes ")")) (omega (arith, length-append (codes "(binary contents: ") (old ++ codes ")"), length-append old (codes ")"), short old p))
+binary-narrow None (Some new) p q =
+    narrow-one (codes "(binary contents: " ++ (new ++ codes ")")) (omega (arith, length-append (codes "(binary contents: ") (new ++ codes ")"), length-append new (codes ")"), short new q))
+binary-narrow None None p q = narrow-one (codes "(binary contents )") (omega arith)
+
+path-narrow : (old : Option (List ℕ)) (path : List ℕ) → is_short_option old ≡ true → is_short_text path ≡ true → IsNarrow (path_text old path ∷ [])
+path-narrow None path p q = narrow-one path (omega (arith, short path q))
+path-narrow (Some old) path p q =
+    narrow-one (old ++ (codes " => " ++ path)) (omega (arith, length-append old (codes " => " ++ path), short old p, short path q))
+
+line-narrow : (front line : List ℕ) → length front ≤ 200 → is_short_text line ≡ true → IsNarrow (line_texts front line)
+unfolding texts_width
+line-narrow front line h p =
+    omega (arith, sum_by-cons text_width front (line_pieces line), text_width-le front, text_width-line_pieces line, short line p)
+
+length-sign : (c : ChangeType) → length (sign_text c) ≤ 200
+length-sign Added = omega arith
+length-sign Removed = omega arith
+
+length-number : (n : ℕ) → length (number_text n) ≤ 200
+length-number n =
+    omega (arith, length-append (repeat (5 - length (decimal n)) (codes " ")) (decimal n ++ codes " "), length-spaces (5 - length (decimal n)), length-append (decimal n) (codes " "), length-digits 10 false n)
+
+dots-narrow : (unicode : Bool) → text_width (dots_text unicode) ≤ 2 ^ 60
+unfolding encode_utf8
+dots-narrow true = narrow (dots_text true) (omega arith)
+dots-narrow false = narrow (dots_text false) (omega arith)
+
+message-narrow : (m : Option (List ℕ)) → is_short_option m ≡ true → IsNarrowMessage m
+unfolding message_text
+message-narrow None h = tt
+message-narrow (Some m) h =
+    let line = before_first (λ b. b == 10) m in
+    go (length (trim line) == 0) (omega (arith, length-trim line, length-before (λ b. b == 10) m, short m h))
+  where
+    go : (b : Bool) → length (trim (before_first (λ b. b == 10) m)) ≤ 16000000 → IsNarrow ((if b then codes "(no message)" else trim (before_first (λ b. b == 10) m)) ∷ [])
+    go true k = narrow-one (codes "(no message)") (omega arith)
+    go false k = narrow-one (trim (before_first (λ b. b == 10) m)) (omega (arith, k))
+
+-- ---- narrow rows
+
+narrow-append : (rs qs : List DocRow) → AreNarrow rs → AreNarrow qs → AreNarrow (rs ++ qs)
+narrow-append [] qs p q = q
+narrow-append (r ∷ rs) qs p q = (p.0, narrow-append rs qs p.1 q)
+
+numbered-narrow : (v : SectionView) (i : ℕ) (ls : List (List ℕ)) → list_all is_short_text ls ≡ true → AreNarrow (numbered_rows v i ls)
+unfolding numbered_rows
+numbered-narrow v i [] h = tt
+numbered-narrow v i (l ∷ ls) h = (
+  line-narrow (number_text (line_number v.line_start_num i)) l (length-number (line_number v.line_start_num i)) (first_true (is_short_text l) (list_all is_short_text ls) h),
+  numbered-narrow v (suc i) ls (second_true (is_short_text l) (list_all is_short_text ls) h),
+)
+
+changed-narrow : (v : SectionView) (i : ℕ) (ls : List SectionChangedLine) → list_all (λ (l : SectionChangedLine). is_short_text l.line) ls ≡ true → AreNarrow (changed_rows v i ls)
+unfolding changed_rows
+changed-narrow v i [] h = tt
+changed-narrow v i (l ∷ ls) h = (
+  (box-narrow (line_box v i l.is_checked), line-narrow (sign_text l.change_type) l.line (length-sign l.change_type) (first_true (is_short_text l.line) (list_all (λ (k : SectionChangedLine). is_short_text k.line) ls) h)),
+  changed-narrow v (suc i) ls (second_true (is_short_text l.line) (list_all (λ (k : SectionChangedLine). is_short_text k.line) ls) h),
+)
+
+dots_row-narrow : (b : Bool) (v : SectionView) → AreNarrow (if b then DotsRow (dots_text v.use_unicode) ∷ [] else [])
+dots_row-narrow true v = (dots-narrow v.use_unicode, tt)
+dots_row-narrow false v = tt
+
+context-narrow : (v : SectionView) (ls : List (List ℕ)) → list_all is_short_text ls ≡ true → AreNarrow (context_rows v ls)
+unfolding context_rows
+context-narrow v ls h = go (length ls == 0)
+  where
+    shown : AreNarrow (shown_lines v ls)
+    shown =
+        narrow-append (numbered_rows v 0 (take (lines_above v (length ls)) ls)) (rows_below v ls) (numbered-narrow v 0 (take (lines_above v (length ls)) ls) (all-take is_short_text (lines_above v (length ls)) ls h))
+        (narrow-append (if has_dots v (length ls) then DotsRow (dots_text v.use_unicode) ∷ [] else []) (numbered_rows v (first_below v (length ls)) (drop (first_below v (length ls)) ls)) (dots_row-narrow (has_dots v (length ls)) v)
+        (numbered-narrow v (first_below v (length ls)) (drop (first_below v (length ls)) ls) (all-drop is_short_text (first_below v (length ls)) ls h)))
+
+    go : (b : Bool) → AreNarrow (if b then BlankRow ∷ [] else shown_lines v ls)
+    go true = (tt, tt)
+    go false = shown
+
+some-narrow : (b : Bool) (rs : List DocRow) → AreNarrow rs → AreNarrow (if b then rs else [])
+some-narrow true rs h = h
+some-narrow false rs h = tt
+
+heading-narrow : (h : Heading) → IsNarrow (h.title ∷ []) → IsNarrowHeading h
+heading-narrow h w = record { toggle = box-narrow h.toggle; fold = box-narrow h.fold; title = w }
+
+pub rows-narrow : (v : SectionView) (section : Section) → has_short_texts section ≡ true → AreNarrow (rows_of v section)
+rows-narrow v (Unchanged ls) h = context-narrow v ls h
+rows-narrow v (Changed ls) h =
+    (heading-narrow (section_heading v) (section-narrow v.editable_section_num v.total_num_editable_sections), some-narrow (is_fold_open v.expand_box) (changed_rows v 0 ls) (changed-narrow v 0 ls h))
+rows-narrow v (FileMode checked m) h = ((box-narrow (section_box v checked), mode-narrow m), tt)
+rows-narrow v (Binary checked old new) h = ((box-narrow (section_box v checked), binary-narrow old new (first_true (is_short_option old) (is_short_option new) h) (second_true (is_short_option old) (is_short_option new) h)), tt)
+
+-- ---- narrow sections and files
+
+sections-append : (ps qs : List ShownSection) → AreNarrowSections ps → AreNarrowSections qs → AreNarrowSections (ps ++ qs)
+sections-append [] qs p q = q
+sections-append (a ∷ ps) qs p q = (p.0, sections-append ps qs p.1 q)
+
+shown-narrow : (b : Bool) (v : SectionView) → has_short_texts v.section.now ≡ true → AreNarrowSections (shown_section b v)
+unfolding section_rows
+shown-narrow true v h = (rows-narrow v v.section.now h, tt)
+shown-narrow false v h = tt
+
+sections-narrow : (s : Shown) (totals : Totals) (k : FileKey) (before : Bool) (i editable line : ℕ) (sections : List Section) → list_all has_short_texts sections ≡ true
+    → AreNarrowSections (shown_sections before (section_views_of s totals k i editable line sections))
+unfolding shown_sections section_views_of
+sections-narrow s totals k before i editable line [] h = tt
+sections-narrow s totals k before i editable line (section ∷ more) h =
+    let v = section_view_of s totals (section_key_of k i) editable line section in
+    sections-append (shown_section _ v) _ (shown-narrow _ v (first_true (has_short_texts section) (list_all has_short_texts more) h))
+    (sections-narrow s totals k (is_open v) (suc i) _ _ more (second_true (has_short_texts section) (list_all has_short_texts more) h))
+
+shown_if-narrow : (b : Bool) (ps : List ShownSection) → AreNarrowSections ps → AreNarrowSections (if b then ps else [])
+shown_if-narrow true ps h = h
+shown_if-narrow false ps h = tt
+
+file-narrow : (s : Shown) (k : FileKey) (f : File) → has_short_texts_in_file f ≡ true → IsNarrowFile (shown_file (file_view_of s k f))
+unfolding shown_file
+file-narrow s k f h =
+    let paths = first_true (is_short_option f.old_path && is_short_text f.path) (list_all has_short_texts f.sections) h in
+    let texts = second_true (is_short_option f.old_path && is_short_text f.path) (list_all has_short_texts f.sections) h in
+    let v = file_view_of s k f in
+    record {
+      heading = heading-narrow (shown_file v).heading (path-narrow (lent_text v.old_path) f.path (old f.old_path (first_true (is_short_option f.old_path) (is_short_text f.path) paths)) (second_true (is_short_option f.old_path) (is_short_text f.path) paths));
+      sections = shown_if-narrow (is_fold_open v.expand_box) (shown_sections false v.section_views) (sections-narrow s (totals_of f.sections) k false 0 0 0 f.sections texts);
+    }
+  where
+    old : (o : Option (List ℕ)) → is_short_option o ≡ true → is_short_option (option_map (λ b. b.now) (option_map lent o)) ≡ true
+    old None h = refl
+    old (Some t) h = h
+
+files-narrow : (s : Shown) (commit i : ℕ) (fs : List File) → list_all has_short_texts_in_file fs ≡ true → AreNarrowFiles (map shown_file (file_views_of s commit i fs))
+unfolding file_views_of
+files-narrow s commit i [] h = tt
+files-narrow s commit i (f ∷ fs) h =
+    (file-narrow s (record { commit_idx = commit; file_idx = i }) f (first_true (has_short_texts_in_file f) (list_all has_short_texts_in_file fs) h), files-narrow s commit (suc i) fs (second_true (has_short_texts_in_file f) (list_all has_short_texts_in_file fs) h))
+
+-- ---- numbers of rows
+
+lines-few : (v : SectionView) (n : ℕ) → lines_height v n ≤ 2 * n + 1
+lines-few v n = omega (arith, at_most (are_all_shown v n) (is_first v) n, one (has_dots v n))
+  where
+    one : (b : Bool) → (if b then 1 else 0) ≤ 1
+    one true = omega arith
+    one false = omega arith
+
+rows-few : (v : SectionView) (section : Section) → section_height v section ≤ 2 * section_size section + 1
+rows-few v (Unchanged ls) = go (length ls == 0)
+  where
+    go : (b : Bool) → (if b then 1 else lines_height v (length ls)) ≤ 2 * length ls + 1
+    go true = omega arith
+    go false = lines-few v (length ls)
+rows-few v (Changed ls) = go (is_fold_open v.expand_box)
+  where
+    go : (b : Bool) → (if b then 1 + length ls else 1) ≤ 2 * length ls + 1
+    go true = omega arith
+    go false = omega arith
+rows-few v (FileMode checked m) = omega arith
+rows-few v (Binary checked old new) = omega arith
+
+shown-few : (b : Bool) (v : SectionView) → length (sections_rows (shown_section b v)) ≤ 2 * section_size v.section.now + 1
+unfolding sections_rows section_rows
+shown-few true v = omega (arith, length-append (rows_of v v.section.now) [], height-of v v.section.now, rows-few v v.section.now)
+shown-few false v = omega arith
+
+sections-few : (s : Shown) (totals : Totals) (k : FileKey) (before : Bool) (i editable line : ℕ) (sections : List Section)
+    → length (sections_rows (shown_sections before (section_views_of s totals k i editable line sections))) ≤ 2 * sum_by section_size sections + length sections
+unfolding shown_sections section_views_of sections_rows
+sections-few s totals k before i editable line [] = omega arith
+sections-few s totals k before i editable line (section ∷ more) =
+    let v = section_view_of s totals (section_key_of k i) editable line section in
+    let rest = shown_sections (is_open v) (section_views_of s totals k (suc i) (if is_editable_section section then editable + 1 else editable) (line + old_lines section) more) in
+    let first = shown_section (is_shown before v (is_first_open (section_views_of s totals k (suc i) (if is_editable_section section then editable + 1 else editable) (line + old_lines section) more))) v in
+    omega (
+      arith,
+      length-sections first rest,
+      shown-few (is_shown before v (is_first_open (section_views_of s totals k (suc i) (if is_editable_section section then editable + 1 else editable) (line + old_lines section) more))) v,
+      sections-few s totals k (is_open v) (suc i) (if is_editable_section section then editable + 1 else editable) (line + old_lines section) more,
+      sum_by-cons section_size section more,
+    )
+
+file-few : (s : Shown) (k : FileKey) (f : File) → length (file_rows (shown_file (file_view_of s k f))) ≤ 2 * file_size f + 1
+unfolding file_rows shown_file sections_rows
+file-few s k f = go _ (sections-few s (totals_of f.sections) k false 0 0 0 f.sections)
+  where
+    go : (b : Bool) → length (sections_rows (shown_sections false (section_views_of s (totals_of f.sections) k 0 0 0 f.sections))) ≤ 2 * sum_by section_size f.sections + length f.sections
+        → suc (length (sections_rows (if b then shown_sections false (section_views_of s (totals_of f.sections) k 0 0 0 f.sections) else []))) ≤ 2 * file_size f + 1
+    go true h = omega (arith, h)
+    go false h = omega arith
+
+files-few : (s : Shown) (commit i : ℕ) (fs : List File) → length (files_rows (map shown_file (file_views_of s commit i fs))) ≤ 2 * sum_by file_size fs + length fs
+unfolding file_views_of files_rows
+files-few s commit i [] = omega arith
+files-few s commit i (f ∷ fs) =
+    let k : FileKey = record { commit_idx = commit; file_idx = i } in
+    omega (arith, length-append (file_rows (shown_file (file_view_of s k f))) (files_rows (map shown_file (file_views_of s commit (suc i) fs))), file-few s k f, files-few s commit (suc i) fs, sum_by-cons file_size f fs)
+
+-- ---- an accepted state
+
+short-commit : (n : ℕ) (cs : List Commit) → list_all (λ (c : Commit). is_short_option c.message) cs ≡ true → is_short_option (commit_at n cs).message ≡ true
+unfolding commit_at
+short-commit n [] h = refl
+short-commit zero (c ∷ cs) h = first_true (is_short_option c.message) (list_all (λ (c : Commit). is_short_option c.message) cs) h
+short-commit (suc n) (c ∷ cs) h = short-commit n cs (second_true (is_short_option c.message) (list_all (λ (c : Commit). is_short_option c.message) cs) h)
+
+pub commits-in-range : (shown : Shown) (commit : ℕ) (v : CommitView) (s : Sight) (x y : ℤ) → is_accepted_state shown.state ≡ true → Shows v shown commit
+    → SightIsClose s → IsClose x → IsClose y → PictureInRange (commit_picture v s x y)
+unfolding commit_picture
+commits-in-range shown commit v s x y a e c p q =
+    let cs = shown.state.commits in
+    let fs = shown.state.files in
+    let messages = list_all (λ (c : Commit). is_short_option c.message) cs in
+    let size = nat_le (state_size shown.state) 1000000 in
+    let texts = list_all has_short_texts_in_file fs in
+    let two = nat_le (length cs) 2 in
+    let first = first_true ((two && messages) && size) texts a in
+    let few : state_size shown.state ≤ 1000000 = within (state_size shown.state) 1000000 (second_true (two && messages) size first) in
+    rw e (document-near (document_of (commit_view_of shown commit)) s x y c p q (omega (arith, files-few shown commit 0 fs, few))
+    (record { message = message-narrow _ (short-commit commit cs (second_true two messages (first_true (two && messages) size first))); files = files-narrow shown commit 0 fs (second_true ((two && messages) && size) texts a) }))

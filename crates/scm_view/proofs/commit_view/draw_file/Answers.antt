@@ -1,0 +1,93 @@
+use Rattle.std.proofs.Common.{◌≡◌, ◌∙◌, sym, length, true, false, FitsSigned, w64}
+use Rattle.std.specs.Prelude.{pos, ◌+ℤ◌}
+use Rattle.std.proofs.lemmas.Int.{to_z-of_z}
+use Rattle.scm_render.proofs.PictureLemmas.{PictureInRange-left, PictureInRange-right, PictureInRange-part}
+use Rattle.scm_render.proofs.CanvasLemmas.{with_picture-twice, with_picture-nothing}
+use Rattle.scm_view.specs.Rows.{shown_file, file_rows}
+use Rattle.scm_view.specs.Pictures.{mask_row, is_pinned, pinned_header, file_picture, pinned_picture, one_file_picture}
+use Rattle.scm_render.proofs.StepLemmas.{step, sight-after, InRange-fits}
+use Rattle.scm_view.proofs.RowsLemmas.{on-ok}
+use Rattle.scm_view.proofs.SectionsLemmas.{file-fits}
+use Rattle.scm_view.proofs.commit_view.draw_file.Goals as goal
+
+pub row_below-below-requires-clause-y : goal.row_below-below-requires-clause-y
+unfolding one_file_picture
+row_below-below-requires-clause-y c =
+    let fy : FitsSigned w64 c.args.y = c.ranges.y in
+    simp to_z-of_z (file-fits (shown_file c.args.file.now) _ _ _ (PictureInRange-part _ _ (PictureInRange-left _ _ c.requires))).next
+
+pub row_below-below-requires-clause-end : goal.row_below-below-requires-clause-end
+unfolding one_file_picture
+row_below-below-requires-clause-end c =
+    let fy : FitsSigned w64 c.args.y = c.ranges.y in
+    simp to_z-of_z (file-fits (shown_file c.args.file.now) _ _ _ (PictureInRange-part _ _ (PictureInRange-left _ _ c.requires))).end
+
+pub file_mask-rows-requires-clause-x : goal.file_mask-rows-requires-clause-x
+unfolding one_file_picture
+file_mask-rows-requires-clause-x c =
+    let fx : FitsSigned w64 c.args.x = c.ranges.x in
+    simp to_z-of_z (file-fits (shown_file c.args.file.now) _ _ _ (PictureInRange-part _ _ (PictureInRange-left _ _ c.requires))).left
+
+pub file_mask-rows-requires-clause-y : goal.file_mask-rows-requires-clause-y
+unfolding one_file_picture
+file_mask-rows-requires-clause-y c =
+    let fy : FitsSigned w64 c.args.y = c.ranges.y in
+    simp to_z-of_z (file-fits (shown_file c.args.file.now) _ _ _ (PictureInRange-part _ _ (PictureInRange-left _ _ c.requires))).top
+
+pub draw_under-requires-clause-picture : goal.draw_under-requires-clause-picture
+unfolding one_file_picture file_picture shown_file
+draw_under-requires-clause-picture c =
+    let fx : FitsSigned w64 c.args.x = c.ranges.x in
+    let fy : FitsSigned w64 c.args.y = c.ranges.y in
+    rw c.file_mask-rows.ensures.mask (simp to_z-of_z (PictureInRange-left _ _ c.requires))
+
+pub draw_pinned-requires : goal.draw_pinned-requires
+unfolding one_file_picture pinned_picture
+draw_pinned-requires c =
+    let fx : FitsSigned w64 c.args.x = c.ranges.x in
+    let fy : FitsSigned w64 c.args.y = c.ranges.y in
+    let s = c.args.viewport.now.canvas.sight in
+    let f = shown_file c.args.file.now in
+    let fits = file-fits f _ _ _ (PictureInRange-part _ _ (PictureInRange-left _ _ c.requires)) in
+    let ft : FitsSigned w64 (mask_row s) = InRange-fits _ (rw c.mask_row-top.ensures.row at c.mask_row-top.ensures.in_range) in
+    let fb : FitsSigned w64 (c.args.y +ℤ pos (length (file_rows f))) = InRange-fits _ fits.end in
+    let below = simp to_z-of_z at c.row_below-below.ensures in
+    let between = simp to_z-of_z at (rw (c.mask_row-top.ensures.row, below) at c.is_between.ensures) in
+    let test : is_pinned (mask_row s) c.args.y (length (file_rows f)) ≡ true = sym between ∙ c.if-is_between.true in
+    let drawn = simp to_z-of_z at (rw c.file_mask-rows.ensures.mask at c.in_ok-draw_under.ensures.ok) in
+    let same = sight-after _ _ _ drawn in
+    rw (c.mask_row-top.ensures.row, same) (simp to_z-of_z (rw test at (PictureInRange-right _ _ c.requires)))
+
+pub returns-then-is_between-clause-ok : goal.returns-then-is_between-clause-ok
+unfolding one_file_picture pinned_picture file_picture shown_file
+returns-then-is_between-clause-ok c =
+    let fx : FitsSigned w64 c.args.x = c.ranges.x in
+    let fy : FitsSigned w64 c.args.y = c.ranges.y in
+    let s = c.args.viewport.now.canvas.sight in
+    let f = shown_file c.args.file.now in
+    let fits = file-fits f _ _ _ (PictureInRange-part _ _ (PictureInRange-left _ _ c.requires)) in
+    let ft : FitsSigned w64 (mask_row s) = InRange-fits _ (rw c.mask_row-top.ensures.row at c.mask_row-top.ensures.in_range) in
+    let fb : FitsSigned w64 (c.args.y +ℤ pos (length (file_rows f))) = InRange-fits _ fits.end in
+    let below = simp to_z-of_z at c.row_below-below.ensures in
+    let between = simp to_z-of_z at (rw (c.mask_row-top.ensures.row, below) at c.is_between.ensures) in
+    let test : is_pinned (mask_row s) c.args.y (length (file_rows f)) ≡ true = sym between ∙ c.if-is_between.true in
+    let drawn = simp to_z-of_z at (rw c.file_mask-rows.ensures.mask at c.in_ok-draw_under.ensures.ok) in
+    let same = sight-after _ _ _ drawn in
+    rw test (on-ok _ (step _ _ _ _ (λ t. pinned_header f t c.args.x (mask_row s)) drawn) (simp to_z-of_z at (rw c.mask_row-top.ensures.row at c.draw_pinned.ensures.ok)))
+
+pub returns-else-is_between-clause-ok : goal.returns-else-is_between-clause-ok
+unfolding one_file_picture pinned_picture file_picture shown_file
+returns-else-is_between-clause-ok c =
+    let fx : FitsSigned w64 c.args.x = c.ranges.x in
+    let fy : FitsSigned w64 c.args.y = c.ranges.y in
+    let s = c.args.viewport.now.canvas.sight in
+    let f = shown_file c.args.file.now in
+    let fits = file-fits f _ _ _ (PictureInRange-part _ _ (PictureInRange-left _ _ c.requires)) in
+    let ft : FitsSigned w64 (mask_row s) = InRange-fits _ (rw c.mask_row-top.ensures.row at c.mask_row-top.ensures.in_range) in
+    let fb : FitsSigned w64 (c.args.y +ℤ pos (length (file_rows f))) = InRange-fits _ fits.end in
+    let below = simp to_z-of_z at c.row_below-below.ensures in
+    let between = simp to_z-of_z at (rw (c.mask_row-top.ensures.row, below) at c.is_between.ensures) in
+    let test : is_pinned (mask_row s) c.args.y (length (file_rows f)) ≡ false = sym between ∙ c.if-is_between.false in
+    let drawn = simp to_z-of_z at (rw c.file_mask-rows.ensures.mask at c.in_ok-draw_under.ensures.ok) in
+    let same = sight-after _ _ _ drawn in
+    rw test (with_picture-twice _ _ _ _ _ drawn (sym (with_picture-nothing _)))

@@ -1,0 +1,56 @@
+use Rattle.std.proofs.Common.{◌∙◌, sym, ap, length, FitsSigned, w64, ◌+ℤ◌, pos}
+use Rattle.std.proofs.lemmas.Int.{to_z-of_z}
+use Rattle.scm_render.proofs.PictureLemmas.{PictureInRange-left, PictureInRange-right}
+use Rattle.scm_render.proofs.CanvasLemmas.{with_picture-after, with_picture-sight, with_picture-nothing}
+use Rattle.scm_view.specs.Rows.{shown_file, file_rows}
+use Rattle.scm_render.proofs.StepLemmas.{InRange-fits}
+use Rattle.scm_view.proofs.FilesLemmas.{one_file-fits, files_picture-more, files_picture-end}
+use Rattle.scm_view.proofs.commit_view.draw_files.Goals as goal
+
+pub draw_file-requires : goal.draw_file-requires
+draw_file-requires c =
+    let fx : FitsSigned w64 c.args.x = c.ranges.x in
+    let v = c.file-item.result in
+    let more = rw (sym c.file-item.is) at (files_picture-more c.args.files.now c.loop-file.file-index v c.args.viewport.now.canvas.sight c.args.x c.loop-file.row c.loop-file-test.true) in
+    let all = rw more at (simp (to_z-of_z, c.loop-file.row-is) at c.loop-file.invariant.in_range) in
+    simp (to_z-of_z, c.loop-file.row-is) (simp c.loop-file.invariant.sight (PictureInRange-left _ _ all))
+
+pub row_below-row-requires-clause-y : goal.row_below-row-requires-clause-y
+row_below-row-requires-clause-y c =
+    let fx : FitsSigned w64 c.args.x = c.ranges.x in
+    let v = c.file-item.result in
+    let more = rw (sym c.file-item.is) at (files_picture-more c.args.files.now c.loop-file.file-index v c.args.viewport.now.canvas.sight c.args.x c.loop-file.row c.loop-file-test.true) in
+    let all = rw more at (simp (to_z-of_z, c.loop-file.row-is) at c.loop-file.invariant.in_range) in
+    simp c.loop-file.row-is (one_file-fits (shown_file v) _ _ _ (PictureInRange-left _ _ all)).next
+
+pub row_below-row-requires-clause-end : goal.row_below-row-requires-clause-end
+row_below-row-requires-clause-end c =
+    let fx : FitsSigned w64 c.args.x = c.ranges.x in
+    let v = c.file-item.result in
+    let more = rw (sym c.file-item.is) at (files_picture-more c.args.files.now c.loop-file.file-index v c.args.viewport.now.canvas.sight c.args.x c.loop-file.row c.loop-file-test.true) in
+    let all = rw more at (simp (to_z-of_z, c.loop-file.row-is) at c.loop-file.invariant.in_range) in
+    simp c.loop-file.row-is (one_file-fits (shown_file v) _ _ _ (PictureInRange-left _ _ all)).end
+
+pub loop-file-preserved : goal.loop-file-preserved
+loop-file-preserved c =
+    let fx : FitsSigned w64 c.args.x = c.ranges.x in
+    let v = c.file-item.result in
+    let more = rw (sym c.file-item.is) at (files_picture-more c.args.files.now c.loop-file.file-index v c.args.viewport.now.canvas.sight c.args.x c.loop-file.row c.loop-file-test.true) in
+    let all = rw more at (simp (to_z-of_z, c.loop-file.row-is) at c.loop-file.invariant.in_range) in
+    let whole = rw more at (simp (to_z-of_z, c.loop-file.row-is) at c.loop-file.invariant.whole) in
+    let fits : FitsSigned w64 (c.loop-file.row +ℤ pos (length (file_rows (shown_file v)))) = InRange-fits _ (one_file-fits (shown_file v) _ _ _ (PictureInRange-left _ _ all)).end in
+    let drawn = simp c.loop-file.invariant.sight at (simp (to_z-of_z, c.loop-file.row-is) at c.in_ok-draw_file.ensures.ok) in
+    let row = simp c.loop-file.row-is at c.row_below-row.ensures in
+    rw row (simp to_z-of_z (record {
+      sight = ap (λ w. w.sight) drawn ∙ with_picture-sight _ _ ∙ c.loop-file.invariant.sight;
+      in_range = PictureInRange-right _ _ all;
+      whole = with_picture-after _ _ _ _ drawn ∙ whole;
+    }))
+
+pub returns-clause-ok : goal.returns-clause-ok
+returns-clause-ok c =
+    let fx : FitsSigned w64 c.args.x = c.ranges.x in
+    let fy : FitsSigned w64 c.args.y = c.ranges.y in
+    let end = files_picture-end c.args.files.now c.loop-file.file-index c.args.viewport.now.canvas.sight c.args.x c.loop-file.row c.loop-file-test.false in
+    let whole = rw end at (simp (to_z-of_z, c.loop-file.row-is) at c.loop-file.invariant.whole) in
+    sym (with_picture-nothing _) ∙ whole

@@ -1,0 +1,24 @@
+use Rattle.std.proofs.Common.{sym, FitsSigned, w64}
+use Rattle.std.proofs.lemmas.Int.{to_z-of_z}
+use Rattle.scm_render.proofs.CanvasLemmas.{with_picture-nothing}
+use Rattle.scm_view.specs.Pictures.{section_picture, sections_picture}
+use Rattle.scm_view.proofs.SectionsLemmas.{one-first, one-alone}
+use Rattle.scm_view.proofs.file_view.draw_section.Goals as goal
+
+pub draw_component-requires : goal.draw_component-requires
+unfolding section_picture
+draw_component-requires c =
+    let fx : FitsSigned w64 c.args.x = c.ranges.x in
+    let fy : FitsSigned w64 c.args.y = c.ranges.y in
+    simp to_z-of_z (one-first _ _ _ _ (rw c.if-is_shown.true at c.requires))
+
+pub returns-in_ok-draw_component-clause-ok : goal.returns-in_ok-draw_component-clause-ok
+unfolding section_picture
+returns-in_ok-draw_component-clause-ok c =
+    let fx : FitsSigned w64 c.args.x = c.ranges.x in
+    let fy : FitsSigned w64 c.args.y = c.ranges.y in
+    rw c.if-is_shown.true (one-alone _ _ _ _ _ (simp to_z-of_z at c.in_ok-draw_component.ensures.ok))
+
+pub returns-else-is_shown-clause-ok : goal.returns-else-is_shown-clause-ok
+unfolding sections_picture
+returns-else-is_shown-clause-ok c = rw c.if-is_shown.false (sym (with_picture-nothing _))

@@ -1,0 +1,10 @@
+use Rattle.std.proofs.Common.{drop}
+use Rattle.scm_render.proofs.StepLemmas.{IsLeft}
+use Rattle.scm_view.specs.Menus.{items_picture, menu_picture}
+use Rattle.scm_view.proofs.menu.MenuComponent.draw.Given as goal
+
+abbrev pub invariant-loop-item_idx : goal.invariant-loop-item_idx
+invariant-loop-item_idx l =
+    IsLeft l.fn.viewport.canvas l.viewport.canvas
+    (items_picture l.width l.fn.viewport.canvas.sight l.x l.row l.item_idx (drop l.item_idx l.self.items))
+    (menu_picture l.self.items l.fn.viewport.canvas.sight l.fn.x l.fn.y)

@@ -1,0 +1,13 @@
+use Rattle.std.proofs.Common.{◌≡◌, ◌+◌, drop, ◌+ℤ◌, pos}
+use Rattle.scm_render.proofs.StepLemmas.{IsLeft}
+use Rattle.scm_view.specs.Menus.{headers_picture, headers_width}
+use Rattle.scm_view.proofs.menu_bar.draw_headers.Given as goal
+
+abbrev pub invariant-loop-menu_idx : goal.invariant-loop-menu_idx
+invariant-loop-menu_idx l =
+    record {
+      left : IsLeft l.fn.viewport.canvas l.viewport.canvas
+          (headers_picture l.fn.viewport.canvas.sight l.column l.y (l.first_idx + l.menu_idx) (drop l.menu_idx l.menus))
+          (headers_picture l.fn.viewport.canvas.sight l.fn.x l.fn.y l.fn.first_idx l.menus);
+      columns : l.column +ℤ pos (headers_width (drop l.menu_idx l.menus)) ≡ l.fn.x +ℤ pos (headers_width l.menus);
+    }

@@ -1,0 +1,49 @@
+use Rattle.std.proofs.Common.{◌≡◌, FitsSigned, w64}
+use Rattle.std.specs.Prelude.{ℤ, pos, ◌+ℤ◌}
+use Rattle.std.proofs.lemmas.Int.{to_z-of_z}
+use Rattle.scm_view.specs.Pictures.{no_files_place, no_files_picture}
+use Rattle.scm_view.proofs.FilesLemmas.{place-fits}
+use Rattle.scm_render.proofs.StepLemmas.{text-place, InRange-fits}
+use Rattle.scm_view.proofs.no_files.draw_no_files.Goals as goal
+
+pub overflow_add-x : goal.overflow_add-x
+unfolding no_files_picture
+overflow_add-x c =
+    let fx : FitsSigned w64 c.args.x = c.ranges.x in
+    let place = c.no_files_place-place.ensures in
+    let at_x : FitsSigned w64 (no_files_place c.args.viewport.now.canvas.sight).x = (place-fits c.args.viewport.now.canvas.sight).0 in
+    rw place (simp to_z-of_z (InRange-fits _ (text-place _ _ _ _ c.requires).0))
+
+pub overflow_add-y : goal.overflow_add-y
+unfolding no_files_picture
+overflow_add-y c =
+    let fy : FitsSigned w64 c.args.y = c.ranges.y in
+    let place = c.no_files_place-place.ensures in
+    let at_y : FitsSigned w64 (no_files_place c.args.viewport.now.canvas.sight).y = (place-fits c.args.viewport.now.canvas.sight).1 in
+    rw place (simp to_z-of_z (InRange-fits _ (text-place _ _ _ _ c.requires).1))
+
+pub draw_text-requires : goal.draw_text-requires
+unfolding no_files_picture
+draw_text-requires c =
+    let fx : FitsSigned w64 c.args.x = c.ranges.x in
+    let fy : FitsSigned w64 c.args.y = c.ranges.y in
+    let s = c.args.viewport.now.canvas.sight in
+    let place = c.no_files_place-place.ensures in
+    let at_x : FitsSigned w64 (no_files_place s).x = (place-fits s).0 in
+    let at_y : FitsSigned w64 (no_files_place s).y = (place-fits s).1 in
+    let column : FitsSigned w64 (c.args.x +ℤ (no_files_place s).x) = InRange-fits _ (text-place _ _ _ _ c.requires).0 in
+    let row : FitsSigned w64 (c.args.y +ℤ (no_files_place s).y) = InRange-fits _ (text-place _ _ _ _ c.requires).1 in
+    rw (place, c.no_files_text.ensures) (simp to_z-of_z c.requires)
+
+pub returns-clause-ok : goal.returns-clause-ok
+unfolding no_files_picture
+returns-clause-ok c =
+    let fx : FitsSigned w64 c.args.x = c.ranges.x in
+    let fy : FitsSigned w64 c.args.y = c.ranges.y in
+    let s = c.args.viewport.now.canvas.sight in
+    let place = c.no_files_place-place.ensures in
+    let at_x : FitsSigned w64 (no_files_place s).x = (place-fits s).0 in
+    let at_y : FitsSigned w64 (no_files_place s).y = (place-fits s).1 in
+    let column : FitsSigned w64 (c.args.x +ℤ (no_files_place s).x) = InRange-fits _ (text-place _ _ _ _ c.requires).0 in
+    let row : FitsSigned w64 (c.args.y +ℤ (no_files_place s).y) = InRange-fits _ (text-place _ _ _ _ c.requires).1 in
+    simp to_z-of_z at (rw (place, c.no_files_text.ensures) at c.in_ok-draw_text.ensures.ok)

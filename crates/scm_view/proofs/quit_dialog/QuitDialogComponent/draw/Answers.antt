@@ -1,0 +1,10 @@
+use Rattle.scm_view.specs.Tables.{named_dialog_picture}
+use Rattle.scm_view.proofs.quit_dialog.QuitDialogComponent.draw.Goals as goal
+
+pub draw_component-requires : goal.draw_component-requires
+unfolding named_dialog_picture
+draw_component-requires c = rw (c.from.ensures, c.as_str.ensures.value, c.in_ok-text.ensures.ok, c.quit_button.ensures, c.go_back_button.ensures) c.requires
+
+pub returns-clause-ok : goal.returns-clause-ok
+unfolding named_dialog_picture
+returns-clause-ok c = rw (c.from.ensures, c.as_str.ensures.value, c.in_ok-text.ensures.ok, c.quit_button.ensures, c.go_back_button.ensures) at c.in_ok-draw_component.ensures.ok

@@ -1,0 +1,37 @@
+use Rattle.std.proofs.Common.{List, ℕ, FitsSigned, w64}
+use Rattle.std.specs.Prelude.{ℤ}
+use Rattle.std.proofs.lemmas.Int.{to_z-of_z}
+use Rattle.scm_render.specs.Canvas.{Sight}
+use Rattle.scm_render.specs.Drawing.{text_picture}
+use Rattle.scm_render.proofs.PictureLemmas.{PictureInRange-left}
+use Rattle.scm_view.specs.Rows.{line_texts}
+use Rattle.scm_view.specs.Texts.{number_text}
+use Rattle.scm_view.specs.Pictures.{IdPicture, context_picture}
+use Rattle.scm_render.proofs.StepLemmas.{step, rest}
+use Rattle.scm_view.proofs.section_line_view.draw_context_line.Goals as goal
+
+abbrev texts : ℕ → List ℕ → ℤ → ℤ → Sight → IdPicture
+texts n line x y s = text_picture s x y (line_texts (number_text n) line)
+
+pub cover_row-requires : goal.cover_row-requires
+unfolding context_picture
+cover_row-requires c =
+    let fy : FitsSigned w64 c.args.y = c.ranges.y in
+    simp to_z-of_z (PictureInRange-left _ _ c.requires)
+
+pub draw_line_texts-requires : goal.draw_line_texts-requires
+unfolding context_picture
+draw_line_texts-requires c =
+    let fx : FitsSigned w64 c.args.x = c.ranges.x in
+    let fy : FitsSigned w64 c.args.y = c.ranges.y in
+    let cover = simp to_z-of_z at c.cover_row.ensures.new in
+    rw (c.as_str.ensures.value, c.in_ok-text.ensures.ok) (simp to_z-of_z (rest _ _ _ (texts c.args.number c.args.line.now c.args.x c.args.y) cover c.requires))
+
+pub returns-clause-ok : goal.returns-clause-ok
+unfolding context_picture
+returns-clause-ok c =
+    let fx : FitsSigned w64 c.args.x = c.ranges.x in
+    let fy : FitsSigned w64 c.args.y = c.ranges.y in
+    let cover = simp to_z-of_z at c.cover_row.ensures.new in
+    let drawn = rw (c.as_str.ensures.value, c.in_ok-text.ensures.ok) at (simp to_z-of_z at c.in_ok-draw_line_texts.ensures.ok) in
+    step _ _ _ _ (texts c.args.number c.args.line.now c.args.x c.args.y) cover drawn

@@ -1,0 +1,103 @@
+-- Dialogs: a frame in the middle of the screen, with buttons on its last row.
+use Rattle.std.specs.Prelude.{◌≡◌, ◌⊎◌, ◌<◌, ℕ, ◌+◌, ◌-◌, max, pos, ◌+ℤ◌, ◌-ℤ◌, Bool, true, false, List, [], ◌∷◌, ◌++◌, map, length, replicate, take, encode_utf8, int_le, int_lt, ◌&&◌, None}
+use Rattle.std.specs.List.{concat}
+use Rattle.scm_cells.specs.Row.{put}
+use Rattle.scm_cells.specs.Clusters.{text_width}
+use Rattle.scm_cells.specs.declared.rect.Rect.{Rect}
+use Rattle.scm_cells.specs.declared.rect.RectSize.{RectSize}
+use Rattle.scm_render.specs.Canvas.{Sight}
+use Rattle.scm_render.specs.Centring.{centred, centred_gap, centred_size}
+use Rattle.scm_render.specs.Picture.{Picture, followed_by}
+use Rattle.scm_render.specs.Drawing.{frame_picture, body_texts}
+use Rattle.scm_view.specs.declared.button.Button.{Button}
+use Rattle.scm_view.specs.declared.dialog.Dialog.{Dialog}
+use Rattle.scm_view.specs.Layers.{Strip, Layer, laid_over, owned}
+use Rattle.scm_view.specs.Buttons.{button_width, buttons_picture, buttons_strip, leftmost}
+
+-- what a dialog shows: its title, the lines of its body, and its buttons from the right
+pub record ShownDialog (K : Type 0) : Type 0 where
+  pub id : K
+  pub title : List ℕ
+  pub body : List (List ℕ)
+  pub buttons : List (Button K)
+
+-- the columns of the widest line
+unfoldable pub widest_line : List (List ℕ) → ℕ
+widest_line [] = 0
+widest_line (t ∷ ts) = max (text_width t) (widest_line ts)
+
+-- the body with a border around it
+abbrev pub least_size : List (List ℕ) → RectSize
+least_size body = record { width = widest_line body + 2; height = length body + 2 }
+
+-- a row of a frame n columns wide: a symbol, another as often as it fits, and a third
+abbrev pub edge : ℕ → ℕ → ℕ → ℕ → List ℕ
+edge first between last n = encode_utf8 first ++ (concat (replicate (n - 2) (encode_utf8 between)) ++ encode_utf8 last)
+
+module _ {K : Type 0} where
+  abbrev pub shown_dialog : Dialog K → ShownDialog K
+  shown_dialog d = record { id = d.id; title = d.title; body = body_texts d.body.now; buttons = d.buttons.now }
+
+  -- ---- what they draw
+
+  -- the place of a dialog: in the middle of what the screen shows, in places of the document
+  abbrev pub dialog_rect : ShownDialog K → Sight → Rect
+  dialog_rect d s = centred s.rect (least_size d.body) 60 20
+
+  -- the frame; and on its last row, before its last column, the buttons
+  unfoldable pub dialog_picture : ShownDialog K → Sight → Picture K
+  dialog_picture d s =
+      let r = dialog_rect d s in
+      followed_by (frame_picture s r d.title d.body) (buttons_picture s ((r.x +ℤ pos r.width) -ℤ pos 1) ((r.y +ℤ pos r.height) -ℤ pos 1) d.buttons)
+
+  -- ---- what the screen shows of them, and who owns it
+
+  -- a text put on a row from a column on, between two columns
+  abbrev pub text_strip : ℕ → List ℕ → ℕ → ℕ → Strip K
+  text_strip c t low high = record { shows = λ row. put row (pos c) t low high; owner = λ x. None }
+
+  -- the border of a frame of n columns and m rows from column c on
+  abbrev pub border_strips : ℕ → ℕ → ℕ → List (Strip K)
+  border_strips c n m =
+      text_strip c (edge 0x250C 0x2500 0x2510 n) c (c + n)
+      ∷ (replicate (m - 2) (text_strip c (edge 0x2502 0x20 0x2502 n) c (c + n)) ++ text_strip c (edge 0x2514 0x2500 0x2518 n) c (c + n) ∷ [])
+
+  -- the border; over it the title on the first row, the lines of the body that have a row, and the buttons on the last row
+  abbrev pub frame_strips : ℕ → ShownDialog K → ℕ → ℕ → ℕ → List (Strip K)
+  frame_strips w d c n m =
+      laid_over (m - 1) (buttons_strip w (pos (c + n) -ℤ pos 1) d.buttons ∷ [])
+      (laid_over 1 (map (λ t. text_strip (c + 1) t (c + 1) (c + n - 1)) (take (m - 2) d.body))
+      (laid_over 0 (text_strip (c + 1) d.title (c + 1) (c + n - 1) ∷ []) (border_strips c n m)))
+
+  -- the dialog owns what no button does, from its first column or that of its leftmost button on
+  abbrev pub is_dialog_column : ShownDialog K → ℕ → ℕ → ℕ → Bool
+  is_dialog_column d c n x = int_le (leftmost (pos c) (pos (c + n) -ℤ pos 1) d.buttons) (pos x) && int_lt (pos x) (pos (c + n))
+
+  abbrev pub dialog_strips : ℕ → ShownDialog K → ℕ → ℕ → ℕ → List (Strip K)
+  dialog_strips w d c n m = map (owned d.id (is_dialog_column d c n)) (frame_strips w d c n m)
+
+  -- in the middle of a screen of w columns and h rows that shows the document from row s on
+  abbrev pub dialog_layer : ℕ → ℕ → ℕ → ShownDialog K → Layer K
+  dialog_layer w h s d = record {
+    first = s + centred_gap h (length d.body + 2) 20;
+    strips = dialog_strips w d (centred_gap w (widest_line d.body + 2) 60) (centred_size w (widest_line d.body + 2) 60) (centred_size h (length d.body + 2) 20);
+  }
+
+module _ {K : Type 0} (same_id : K → K → Bool) (is_clickable : K → Bool) where
+  -- the id of one of the buttons
+  abbrev pub IsOneOf : List (Button K) → K → Type 0
+  IsOneOf [] i = ⊥
+  IsOneOf (b ∷ bs) i = (i ≡ b.id) ⊎ IsOneOf bs i
+
+  -- buttons with columns, of different ids, each of which a click acts on
+  abbrev pub AreButtons : List (Button K) → Type 0
+  AreButtons [] = Unit {0}
+  AreButtons (b ∷ bs) = (0 < button_width b) × (is_clickable b.id ≡ true) × ((j : K) → IsOneOf bs j → same_id b.id j ≡ false) × AreButtons bs
+
+  -- a dialog of an id of its own, all of which belongs to one part of the screen
+  pub record IsDialog (P : K → Type 0) (d : ShownDialog K) : Type 0 where
+    pub buttons : AreButtons d.buttons
+    pub click : is_clickable d.id ≡ true
+    pub own : (j : K) → IsOneOf d.buttons j → same_id d.id j ≡ false
+    pub part : P d.id
+    pub parts : (j : K) → IsOneOf d.buttons j → P j

@@ -1,0 +1,284 @@
+-- The rows of the document: what stands on each row of a section, of a file and of a commit.
+use Rattle.std.specs.Prelude.{ℕ, suc, ◌+◌, ◌-◌, ◌^◌, min, ◌==◌, nat_le, nat_lt, List, [], ◌∷◌, ◌++◌, length, take, drop, map, Bool, true, false, not, ◌&&◌, ◌||◌, if◌then◌else◌, Option, Some, None, option_map}
+use denote.Ref.{Bor}
+use Rattle.scm_types.specs.declared.line.SectionChangedLine.{SectionChangedLine}
+use Rattle.scm_types.specs.declared.section.Section.{Section}
+use Rattle.scm_types.specs.declared.section.Section.TheVariants.{Unchanged, Changed, FileMode, Binary}
+use Rattle.scm_types.specs.declared.tristate.Tristate.{Tristate}
+use Rattle.scm_types.specs.declared.tristate.Tristate.TheVariants as tristate
+use Rattle.scm_types.specs.Marks.{is_editable_section}
+use Rattle.scm_cells.specs.Replaced.{line_pieces}
+use Rattle.scm_view.specs.declared.keys.FileKey.{FileKey}
+use Rattle.scm_view.specs.declared.keys.SectionKey.{SectionKey}
+use Rattle.scm_view.specs.declared.keys.LineKey.{LineKey}
+use Rattle.scm_view.specs.declared.keys.SelectionKey.TheVariants as selection
+use Rattle.scm_view.specs.declared.ids.ComponentId.{ComponentId}
+use Rattle.scm_view.specs.declared.ids.ComponentId.TheVariants as ids
+use Rattle.scm_view.specs.declared.tristate_box.TristateIconStyle.TheVariants as style
+use Rattle.scm_view.specs.declared.tristate_box.TristateBox.{TristateBox}
+use Rattle.scm_view.specs.declared.file_view_header.FileViewHeader.{FileViewHeader}
+use Rattle.scm_view.specs.declared.section_view.SectionSelection.{SectionSelection}
+use Rattle.scm_view.specs.declared.section_view.SectionSelection.TheVariants.{SectionHeader, ChangedLine}
+use Rattle.scm_view.specs.declared.section_view.SectionView.{SectionView}
+use Rattle.scm_view.specs.declared.file_view.FileView.{FileView}
+use Rattle.scm_view.specs.declared.commit_view.CommitView.{CommitView}
+use Rattle.scm_view.specs.Texts.{path_text, section_text, mode_change_text, binary_text, number_text, sign_text, dots_text}
+
+abbrev pub IdBox : Type 0
+IdBox = TristateBox ComponentId
+
+-- what a file, a section and a line are called
+abbrev pub file_id : FileKey → ComponentId
+file_id k = ids.SelectableItem (selection.File k)
+
+abbrev pub section_id : SectionKey → ComponentId
+section_id k = ids.SelectableItem (selection.Section k)
+
+abbrev pub line_id : LineKey → ComponentId
+line_id k = ids.SelectableItem (selection.Line k)
+
+-- what the header of a file and that of a section have in common: two boxes, and a text between them
+pub record Heading : Type 0 where
+  pub toggle : IdBox
+  pub fold : IdBox
+  pub title : List ℕ
+
+-- a row of the document; the two Bools say whether the section is selected
+pub data DocRow : Type 0 where
+  HeaderRow : FileKey → Heading → DocRow
+  SectionRow : Bool → Heading → DocRow
+  LineRow : LineKey → IdBox → List (List ℕ) → DocRow
+  MarkRow : Bool → IdBox → List ℕ → DocRow
+  ContextRow : LineKey → List (List ℕ) → DocRow
+  DotsRow : List ℕ → DocRow
+  BlankRow : DocRow
+
+-- ---- the rows of a section
+
+-- the key of a line of a section
+abbrev pub line_key_of : SectionKey → ℕ → LineKey
+line_key_of k line = record { commit_idx = k.commit_idx; file_idx = k.file_idx; section_idx = k.section_idx; line_idx = line }
+
+-- the spans of a line: its number or sign, and its text as a screen can show it
+abbrev pub line_texts : List ℕ → List ℕ → List (List ℕ)
+line_texts front line = front ∷ line_pieces line
+
+abbrev pub mark_of : Bool → Tristate
+mark_of checked = if checked then tristate.True else tristate.False
+
+abbrev pub is_header_selected : Option SectionSelection → Bool
+is_header_selected None = false
+is_header_selected (Some SectionHeader) = true
+is_header_selected (Some (ChangedLine line)) = false
+
+abbrev pub is_line_selected : ℕ → Option SectionSelection → Bool
+is_line_selected n None = false
+is_line_selected n (Some SectionHeader) = false
+is_line_selected n (Some (ChangedLine line)) = line == n
+
+abbrev pub is_selected : SectionView → Bool
+is_selected v = is_header_selected v.selection
+
+-- the box of a `FileMode` or `Binary` section
+abbrev pub section_box : SectionView → Bool → IdBox
+section_box v checked = record {
+  use_unicode = v.use_unicode;
+  is_focused = is_selected v;
+  is_read_only = v.is_read_only;
+  id = ids.ToggleBox (selection.Section v.section_key);
+  tristate = mark_of checked;
+  icon_style = style.Check;
+}
+
+-- the box of a changed line
+abbrev pub line_box : SectionView → ℕ → Bool → IdBox
+line_box v line checked = record {
+  use_unicode = v.use_unicode;
+  is_focused = is_line_selected line v.selection;
+  is_read_only = v.is_read_only;
+  id = ids.ToggleBox (selection.Line (line_key_of v.section_key line));
+  tristate = mark_of checked;
+  icon_style = style.Check;
+}
+
+abbrev pub is_some_open : Tristate → Bool
+is_some_open tristate.False = false
+is_some_open tristate.Partial = true
+is_some_open tristate.True = true
+
+-- the box is one of a fold that is open
+abbrev pub is_fold_open : {K : Type 0} → TristateBox K → Bool
+is_fold_open b = is_some_open b.tristate
+
+abbrev pub changed_row : SectionView → ℕ → SectionChangedLine → DocRow
+changed_row v i l = LineRow (line_key_of v.section_key i) (line_box v i l.is_checked) (line_texts (sign_text l.change_type) l.line)
+
+-- changed lines, the first of which has this index
+unfoldable pub changed_rows : SectionView → ℕ → List SectionChangedLine → List DocRow
+changed_rows v i [] = []
+changed_rows v i (l ∷ ls) = changed_row v i l ∷ changed_rows v (suc i) ls
+
+-- the number of a line of context; numbers that are too great for the machine stay at the greatest
+abbrev pub line_number : ℕ → ℕ → ℕ
+line_number start index = min (start + index) (2 ^ 64 - 1)
+
+abbrev pub numbered_row : SectionView → ℕ → List ℕ → DocRow
+numbered_row v i l = ContextRow (line_key_of v.section_key i) (line_texts (number_text (line_number v.line_start_num i)) l)
+
+-- lines of context, the first of which has this index
+unfoldable pub numbered_rows : SectionView → ℕ → List (List ℕ) → List DocRow
+numbered_rows v i [] = []
+numbered_rows v i (l ∷ ls) = numbered_row v i l ∷ numbered_rows v (suc i) ls
+
+abbrev pub is_first : SectionView → Bool
+is_first v = v.section_key.section_idx == 0
+
+abbrev pub is_last : SectionView → Bool
+is_last v = v.section_key.section_idx + 1 == v.total_num_sections
+
+-- so many lines of context are all shown: few, and between two sections
+abbrev pub are_all_shown : SectionView → ℕ → Bool
+are_all_shown v n = not (is_first v) && (not (is_last v) && nat_le n 6)
+
+-- how many lines are shown below the section before: all of them, or at most three
+abbrev pub lines_above : SectionView → ℕ → ℕ
+lines_above v n = if are_all_shown v n then n else if is_first v then 0 else min n 3
+
+-- some of the lines may be left out
+abbrev pub has_dots : SectionView → ℕ → Bool
+has_dots v n = not (are_all_shown v n) && nat_lt 3 n
+
+-- the first of the lines that are shown above the section after, of which there are at most three
+abbrev pub first_below : SectionView → ℕ → ℕ
+first_below v n = if are_all_shown v n then n else if is_last v then n else n - 3
+
+-- the rows from the dots on
+abbrev pub rows_below : SectionView → List (List ℕ) → List DocRow
+rows_below v lines =
+    (if has_dots v (length lines) then DotsRow (dots_text v.use_unicode) ∷ [] else [])
+    ++ numbered_rows v (first_below v (length lines)) (drop (first_below v (length lines)) lines)
+
+abbrev pub shown_lines : SectionView → List (List ℕ) → List DocRow
+shown_lines v lines = numbered_rows v 0 (take (lines_above v (length lines)) lines) ++ rows_below v lines
+
+-- the rows of context: an empty row where it has no line
+unfoldable pub context_rows : SectionView → List (List ℕ) → List DocRow
+context_rows v lines = if length lines == 0 then BlankRow ∷ [] else shown_lines v lines
+
+abbrev pub section_heading : SectionView → Heading
+section_heading v = record {
+  toggle = v.toggle_box;
+  fold = v.expand_box;
+  title = section_text v.editable_section_num v.total_num_editable_sections;
+}
+
+abbrev pub rows_of : SectionView → Section → List DocRow
+rows_of v (Unchanged lines) = context_rows v lines
+rows_of v (Changed lines) = SectionRow (is_selected v) (section_heading v) ∷ (if is_fold_open v.expand_box then changed_rows v 0 lines else [])
+rows_of v (FileMode checked mode) = MarkRow (is_selected v) (section_box v checked) (mode_change_text mode) ∷ []
+rows_of v (Binary checked old new) = MarkRow (is_selected v) (section_box v checked) (binary_text old new) ∷ []
+
+-- how many rows the lines of context have
+abbrev pub dots_height : SectionView → ℕ → ℕ
+dots_height v n = if has_dots v n then 1 else 0
+
+abbrev pub lines_height : SectionView → ℕ → ℕ
+lines_height v n = lines_above v n + (dots_height v n + (n - first_below v n))
+
+abbrev pub context_height : SectionView → ℕ → ℕ
+context_height v n = if n == 0 then 1 else lines_height v n
+
+-- how many rows changed lines have, with their header
+abbrev pub changed_height : SectionView → ℕ → ℕ
+changed_height v n = if is_fold_open v.expand_box then 1 + n else 1
+
+-- how many rows a section has
+abbrev pub section_height : SectionView → Section → ℕ
+section_height v (Unchanged lines) = context_height v (length lines)
+section_height v (Changed lines) = changed_height v (length lines)
+section_height v (FileMode checked mode) = 1
+section_height v (Binary checked old new) = 1
+
+-- the rows of a section
+unfoldable pub section_rows : SectionView → List DocRow
+section_rows v = rows_of v v.section.now
+
+-- ---- the rows of a file
+
+-- a section that is shown, and its rows
+pub record ShownSection : Type 0 where
+  pub key : SectionKey
+  pub rows : List DocRow
+
+-- a file, and the sections that are shown of it
+pub record ShownFile : Type 0 where
+  pub key : FileKey
+  pub heading : Heading
+  pub sections : List ShownSection
+
+-- an editable section that is not folded
+abbrev pub is_open : SectionView → Bool
+is_open v = is_editable_section v.section.now && is_fold_open v.expand_box
+
+abbrev pub is_first_open : List SectionView → Bool
+is_first_open [] = false
+is_first_open (v ∷ vs) = is_open v
+
+-- a section is shown if it can be edited, or stands beside an open one
+abbrev pub is_shown : Bool → SectionView → Bool → Bool
+is_shown before v after = is_editable_section v.section.now || (before || after)
+
+abbrev pub shown_section : Bool → SectionView → List ShownSection
+shown_section shown v = if shown then record { key = v.section_key; rows = section_rows v } ∷ [] else []
+
+-- the sections that are shown, where the one before them is open or not: context only beside an open section
+unfoldable pub shown_sections : Bool → List SectionView → List ShownSection
+shown_sections before [] = []
+shown_sections before (v ∷ vs) = shown_section (is_shown before v (is_first_open vs)) v ++ shown_sections (is_open v) vs
+
+abbrev pub lent_text : Option (Bor (List ℕ)) → Option (List ℕ)
+lent_text t = option_map (λ s. s.now) t
+
+abbrev pub header_heading : FileViewHeader → Heading
+header_heading v = record { toggle = v.toggle_box; fold = v.expand_box; title = path_text (lent_text v.old_path) v.path.now }
+
+unfoldable pub shown_file : FileView → ShownFile
+shown_file v = record {
+  key = v.file_key;
+  heading = record { toggle = v.toggle_box; fold = v.expand_box; title = path_text (lent_text v.old_path) v.path.now };
+  sections = if is_fold_open v.expand_box then shown_sections false v.section_views else [];
+}
+
+-- the rows of sections, one below another
+unfoldable pub sections_rows : List ShownSection → List DocRow
+sections_rows [] = []
+sections_rows (p ∷ ps) = p.rows ++ sections_rows ps
+
+-- the rows of a file: its header, and those of its sections
+unfoldable pub file_rows : ShownFile → List DocRow
+file_rows f = HeaderRow f.key f.heading ∷ sections_rows f.sections
+
+-- ---- the rows of a commit
+
+-- a message takes three rows
+abbrev pub message_height : Option (List ℕ) → ℕ
+message_height None = 0
+message_height (Some message) = 3
+
+-- the rows of files, one below another
+unfoldable pub files_rows : List ShownFile → List DocRow
+files_rows [] = []
+files_rows (f ∷ fs) = file_rows f ++ files_rows fs
+
+-- all that is shown of a commit: its index, its message, and the files
+pub record Document : Type 0 where
+  pub commit : ℕ
+  pub message : Option (List ℕ)
+  pub files : List ShownFile
+
+abbrev pub document_of : CommitView → Document
+document_of v = record {
+  commit = v.commit_message_view.commit_idx;
+  message = v.commit_message_view.commit.now.message;
+  files = map shown_file v.file_views;
+}

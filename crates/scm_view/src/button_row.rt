@@ -1,0 +1,50 @@
+//! Buttons beside others.
+ghost use Rattle.std.specs.Prelude.{◌≡◌, OnOk, IfOk, IfErr};
+ghost use Rattle.scm_render.specs.Picture.{PictureInRange};
+ghost use Rattle.scm_render.specs.Canvas.{with_picture};
+ghost use Rattle.scm_types.specs.declared.error.RecordError.TheVariants.{OutOfMemory};
+ghost use Rattle.scm_view.specs.Buttons.{button_width, buttons_picture};
+
+use crate::button::Button;
+use scm_cells::text_width;
+use scm_render::Viewport;
+use scm_types::RecordError;
+use std::alloc::Global;
+use std::hash::Hash;
+
+/// The columns of a button: those of its label and of the brackets around it.
+#[tactic(auto, unfolding(crate::specs::Buttons::button_width))]
+pub(crate) fn button_width<K: Copy>(
+    alloc: Global,
+    button: &Button<'_, K>,
+) -> Result<usize, RecordError>
+    ensures ok { IfOk result (λ n. n ≡ button_width button.now) }
+    ensures err { IfErr result (λ e. e ≡ OutOfMemory) }
+{
+    let text = button.text(alloc)?;
+    Ok(text_width(text.as_str()))
+}
+
+/// Draws buttons from the right: the first ends before column `end`, each next one a column before the
+/// one to its right begins.
+pub(crate) fn draw_buttons<K: Copy + Eq + Hash + Drop>(
+    alloc: Global,
+    viewport: &mut Viewport<K>,
+    end: isize,
+    y: isize,
+    buttons: &[Button<'_, K>],
+) -> Result<(), RecordError>
+    requires { PictureInRange (buttons_picture viewport.old.canvas.sight end y buttons.now) }
+    ensures ok { OnOk result (viewport.new.canvas ≡ with_picture viewport.old.canvas (buttons_picture viewport.old.canvas.sight end y buttons.now)) }
+    ensures rect { viewport.new.canvas.sight.rect ≡ viewport.old.canvas.sight.rect }
+    ensures err { IfErr result (λ e. e ≡ OutOfMemory) }
+{
+    let mut right = end;
+    for button in buttons {
+        let width = button_width(alloc, button)?;
+        let left = right.strict_sub_unsigned(width);
+        viewport.draw_component(left, y, button)?;
+        right = left - 1;
+    }
+    Ok(())
+}

@@ -1,0 +1,125 @@
+//! The message of a commit.
+ghost use Rattle.std.specs.Prelude.{◌≡◌, Some, OnOk, IfErr};
+ghost use Rattle.scm_render.specs.Picture.{PictureInRange};
+ghost use Rattle.scm_render.specs.Canvas.{with_picture};
+ghost use Rattle.scm_types.specs.declared.error.RecordError.TheVariants.{OutOfMemory};
+ghost use Rattle.scm_view.specs.Pictures.{beside_button, edit_button, message_picture};
+ghost use Rattle.scm_view.specs.Rows.{message_height};
+ghost use Rattle.scm_view.specs.Texts.{divider_text, message_text};
+
+use crate::button::Button;
+use crate::ids::ComponentId;
+use crate::reach::{cover_rect, to_end};
+use crate::texts::{divider_text, message_text};
+use scm_cells::{Rect, Span};
+use scm_render::{Component, Viewport};
+use scm_types::{Commit, RecordError, Text};
+use std::alloc::Global;
+
+/// The message of a commit, with the button that edits it. Nothing is shown where there is none.
+#[derive(Drop)]
+pub struct CommitMessageView<'a> {
+    /// The commit, counted from 0.
+    pub commit_idx: usize,
+    /// What it holds.
+    pub commit: &'a Commit,
+}
+
+/// The button that edits the message of a commit.
+fn edit_button(commit_idx: usize) -> Button<'static, ComponentId>
+    ensures { result ≡ edit_button commit_idx }
+{
+    Button {
+        id: ComponentId::CommitEditMessageButton(commit_idx),
+        label: Text::from("Edit message"),
+        is_focused: false,
+    }
+}
+
+/// Draws a bullet behind the button, and a text.
+fn draw_beside_button(
+    viewport: &mut Viewport<ComponentId>,
+    x: isize,
+    y: isize,
+    text: &str,
+) -> Result<(), RecordError>
+    requires { PictureInRange (beside_button text.now viewport.old.canvas.sight x y) }
+    ensures ok { OnOk result (viewport.new.canvas ≡ with_picture viewport.old.canvas (beside_button text.now viewport.old.canvas.sight x y)) }
+    ensures rect { viewport.new.canvas.sight.rect ≡ viewport.old.canvas.sight.rect }
+    ensures err { IfErr result (λ e. e ≡ OutOfMemory) }
+{
+    viewport.draw_span(x + 15, y, &Span(divider_text()))?;
+    viewport.draw_text(x + 19, y, &[Span(text)])?;
+    Ok(())
+}
+
+/// Draws a message.
+fn draw_message(
+    viewport: &mut Viewport<ComponentId>,
+    x: isize,
+    y: isize,
+    commit_idx: usize,
+    message: &str,
+) -> Result<(), RecordError>
+    requires { PictureInRange (message_picture commit_idx (Some message.now) viewport.old.canvas.sight x y) }
+    ensures ok { OnOk result (viewport.new.canvas ≡ with_picture viewport.old.canvas (message_picture commit_idx (Some message.now) viewport.old.canvas.sight x y)) }
+    ensures rect { viewport.new.canvas.sight.rect ≡ viewport.old.canvas.sight.rect }
+    ensures err { IfErr result (λ e. e ≡ OutOfMemory) }
+{
+    let width = to_end(viewport, x);
+    let button = edit_button(commit_idx);
+    let text = message_text(message);
+    let row = y + 1;
+    cover_rect(
+        viewport,
+        Rect {
+            x,
+            y,
+            width,
+            height: 3,
+        },
+    );
+    viewport.draw_component(x, row, &button)?;
+    draw_beside_button(viewport, x, row, text)?;
+    Ok(())
+}
+
+impl<'a> CommitMessageView<'a> {
+    /// How many rows the message takes.
+    pub(crate) fn height(&self) -> usize
+        ensures { result ≡ message_height self.now.commit.now.message }
+    {
+        match self.commit.message {
+            None => 0,
+            Some(_) => 3,
+        }
+    }
+}
+
+impl<'a> Component for CommitMessageView<'a> {
+    type Id = ComponentId;
+
+    ghost use Rattle.scm_view.specs.Pictures.{commit_message_picture};
+    ghost use Rattle.scm_view.specs.declared.ids.ComponentId.TheVariants as ids;
+
+    ghost key = { λ v. ids.CommitMessageView };
+
+    ghost picture = { commit_message_picture };
+
+    fn id(&self) -> ComponentId {
+        ComponentId::CommitMessageView
+    }
+
+    fn draw(
+        &self,
+        _alloc: Global,
+        viewport: &mut Viewport<ComponentId>,
+        x: isize,
+        y: isize,
+    ) -> Result<(), RecordError> {
+        match &self.commit.message {
+            None => Ok(()),
+            Some(message) => draw_message(viewport, x, y, self.commit_idx, message.as_str()),
+        }
+    }
+}

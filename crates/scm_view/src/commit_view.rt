@@ -1,0 +1,194 @@
+//! The document of a commit.
+ghost use Rattle.std.specs.Prelude.{◌≡◌, ◌&&◌, int_lt, ℤ, pos, ◌+ℤ◌, Some, None, map, OnOk, IfErr};
+ghost use Rattle.scm_cells.specs.Rect.{InRange};
+ghost use Rattle.scm_cells.specs.Mask.{MaskInRange};
+ghost use Rattle.scm_render.specs.Picture.{PictureInRange};
+ghost use Rattle.scm_render.specs.Canvas.{with_picture};
+ghost use Rattle.scm_types.specs.declared.error.RecordError.TheVariants.{OutOfMemory};
+ghost use Rattle.scm_view.specs.Rows.{shown_file};
+ghost use Rattle.scm_view.specs.Pictures.{mask_row, file_mask, pinned_mask, pinned_header, one_file_picture, files_picture, body_picture};
+
+use crate::commit_message_view::CommitMessageView;
+use crate::file_view::FileView;
+use crate::ids::ComponentId;
+use crate::no_files::draw_no_files;
+use crate::reach::{draw_under, to_end};
+use scm_cells::Mask;
+use scm_render::{Component, Viewport};
+use scm_types::{Items, RecordError};
+use std::alloc::Global;
+
+/// Whether one commit is shown, or two beside each other.
+#[derive(Clone, Copy)]
+pub enum CommitViewMode {
+    /// The first commit.
+    Inline,
+    /// The first two, beside each other.
+    Adjacent,
+}
+
+/// The document of a commit: its message, and below it the files.
+#[derive(Drop)]
+pub struct CommitView<'a> {
+    /// Its message.
+    pub commit_message_view: CommitMessageView<'a>,
+    /// The files.
+    pub file_views: Items<FileView<'a>>,
+}
+
+/// The first row that the mask lets through.
+fn mask_row(viewport: &Viewport<ComponentId>) -> isize
+    ensures row { result ≡ mask_row viewport.now.canvas.sight }
+    ensures in_range { InRange result }
+{
+    let mask = viewport.mask();
+    mask.y
+}
+
+/// From a column to the end of the mask, on all rows from one on.
+fn file_mask(viewport: &Viewport<ComponentId>, x: isize, y: isize) -> Mask
+    requires x { InRange x }
+    requires y { InRange y }
+    ensures mask { result ≡ file_mask viewport.now.canvas.sight x y }
+    ensures in_range { MaskInRange result }
+{
+    let width = to_end(viewport, x);
+    Mask {
+        x,
+        y,
+        width: Some(width),
+        height: None,
+    }
+}
+
+/// From a column to the end of the mask, on one row.
+fn pinned_mask(viewport: &Viewport<ComponentId>, x: isize, y: isize) -> Mask
+    requires x { InRange x }
+    requires y { InRange y }
+    requires end { InRange (y +ℤ pos 1) }
+    ensures mask { result ≡ pinned_mask viewport.now.canvas.sight x y }
+    ensures in_range { MaskInRange result }
+{
+    let width = to_end(viewport, x);
+    Mask {
+        x,
+        y,
+        width: Some(width),
+        height: Some(1),
+    }
+}
+
+/// The row lies between two others.
+fn is_between(above: isize, row: isize, below: isize) -> bool
+    ensures { result ≡ (int_lt above row && int_lt row below) }
+{
+    (above < row) & (row < below)
+}
+
+/// Draws the header of a file under a mask of one row.
+fn draw_pinned(
+    viewport: &mut Viewport<ComponentId>,
+    x: isize,
+    y: isize,
+    file: &FileView<'_>,
+) -> Result<(), RecordError>
+    requires { PictureInRange (pinned_header (shown_file file.now) viewport.old.canvas.sight x y) }
+    ensures ok { OnOk result (viewport.new.canvas ≡ with_picture viewport.old.canvas (pinned_header (shown_file file.now) viewport.old.canvas.sight x y)) }
+    ensures rect { viewport.new.canvas.sight.rect ≡ viewport.old.canvas.sight.rect }
+    ensures err { IfErr result (λ e. e ≡ OutOfMemory) }
+{
+    let header = file.header();
+    let row = pinned_mask(viewport, x, y);
+    draw_under(viewport, row, x, y, &header)
+}
+
+/// Draws a file, and its header once more on the first row that the mask lets through, if the file
+/// begins above that row and ends below.
+fn draw_file(
+    viewport: &mut Viewport<ComponentId>,
+    x: isize,
+    y: isize,
+    file: &FileView<'_>,
+) -> Result<(), RecordError>
+    requires { PictureInRange (one_file_picture (shown_file file.now) viewport.old.canvas.sight x y) }
+    ensures ok { OnOk result (viewport.new.canvas ≡ with_picture viewport.old.canvas (one_file_picture (shown_file file.now) viewport.old.canvas.sight x y)) }
+    ensures rect { viewport.new.canvas.sight.rect ≡ viewport.old.canvas.sight.rect }
+    ensures err { IfErr result (λ e. e ≡ OutOfMemory) }
+{
+    let top = mask_row(viewport);
+    let below = file.row_below(y);
+    let rows = file_mask(viewport, x, y);
+    draw_under(viewport, rows, x, y, file)?;
+    if is_between(y, top, below) {
+        draw_pinned(viewport, x, top, file)
+    } else {
+        Ok(())
+    }
+}
+
+/// Draws files one below another.
+fn draw_files(
+    viewport: &mut Viewport<ComponentId>,
+    x: isize,
+    y: isize,
+    files: &[FileView<'_>],
+) -> Result<(), RecordError>
+    requires { PictureInRange (files_picture (map shown_file files.now) viewport.old.canvas.sight x y) }
+    ensures ok { OnOk result (viewport.new.canvas ≡ with_picture viewport.old.canvas (files_picture (map shown_file files.now) viewport.old.canvas.sight x y)) }
+    ensures rect { viewport.new.canvas.sight.rect ≡ viewport.old.canvas.sight.rect }
+    ensures err { IfErr result (λ e. e ≡ OutOfMemory) }
+{
+    let mut row = y;
+    for file in files {
+        draw_file(viewport, x, row, file)?;
+        row = file.row_below(row);
+    }
+    Ok(())
+}
+
+/// Draws what stands below a message of so many rows.
+fn draw_body(
+    viewport: &mut Viewport<ComponentId>,
+    x: isize,
+    y: isize,
+    height: usize,
+    files: &[FileView<'_>],
+) -> Result<(), RecordError>
+    requires { PictureInRange (body_picture (map shown_file files.now) viewport.old.canvas.sight x y (y +ℤ pos height)) }
+    ensures ok { OnOk result (viewport.new.canvas ≡ with_picture viewport.old.canvas (body_picture (map shown_file files.now) viewport.old.canvas.sight x y (y +ℤ pos height))) }
+    ensures rect { viewport.new.canvas.sight.rect ≡ viewport.old.canvas.sight.rect }
+    ensures err { IfErr result (λ e. e ≡ OutOfMemory) }
+{
+    if files.is_empty() {
+        draw_no_files(viewport, x, y)
+    } else {
+        draw_files(viewport, x, y.strict_add_unsigned(height), files)
+    }
+}
+
+impl<'a> Component for CommitView<'a> {
+    type Id = ComponentId;
+
+    ghost use Rattle.scm_view.specs.Pictures.{commit_picture};
+    ghost use Rattle.scm_view.specs.declared.ids.ComponentId.TheVariants as ids;
+
+    ghost key = { λ v. ids.AppFiles };
+
+    ghost picture = { commit_picture };
+
+    fn id(&self) -> ComponentId {
+        ComponentId::AppFiles
+    }
+
+    fn draw(
+        &self,
+        _alloc: Global,
+        viewport: &mut Viewport<ComponentId>,
+        x: isize,
+        y: isize,
+    ) -> Result<(), RecordError> {
+        let height = self.commit_message_view.height();
+        viewport.draw_component(x, y, &self.commit_message_view)?;
+        draw_body(viewport, x, y, height, self.file_views.as_slice())
+    }
+}

@@ -1,0 +1,185 @@
+//! The files of a commit.
+ghost use Rattle.std.specs.Prelude.{◌≡◌, ◌+◌, pos, ◌+ℤ◌, length, drop, false, OnOk, IfErr};
+ghost use Rattle.scm_cells.specs.Rect.{InRange};
+ghost use Rattle.scm_render.specs.Picture.{PictureInRange};
+ghost use Rattle.scm_render.specs.Canvas.{with_picture};
+ghost use Rattle.scm_types.specs.declared.error.RecordError.TheVariants.{OutOfMemory};
+ghost use Rattle.scm_view.specs.Rows.{header_heading, shown_file, is_shown, is_open, is_first_open, shown_section, shown_sections, sections_rows, file_rows};
+ghost use Rattle.scm_view.specs.Pictures.{sections_picture};
+
+use crate::file_view_header::FileViewHeader;
+use crate::ids::ComponentId;
+use crate::keys::{FileKey, SelectionKey};
+use crate::section_view::SectionView;
+use crate::tristate_box::TristateBox;
+use scm_render::{Component, Viewport};
+use scm_types::{Items, RecordError};
+use std::alloc::Global;
+
+/// A file: its header, and below it its sections if it is not folded.
+#[derive(Drop)]
+pub struct FileView<'a> {
+    /// The file.
+    pub file_key: FileKey,
+    /// The box that shows its marks.
+    pub toggle_box: TristateBox<ComponentId>,
+    /// The box that shows whether it is folded.
+    pub expand_box: TristateBox<ComponentId>,
+    /// The file is selected.
+    pub is_header_selected: bool,
+    /// The path that it had before, if it had another.
+    pub old_path: Option<&'a str>,
+    /// Its path.
+    pub path: &'a str,
+    /// Its sections.
+    pub section_views: Items<SectionView<'a>>,
+}
+
+/// There is a section at this index, and it is open.
+fn is_open_at(views: &[SectionView<'_>], index: usize) -> bool
+    ensures { result ≡ is_first_open (drop index views.now) }
+{
+    match views.get(index) {
+        Some(view) => view.is_open(),
+        None => false,
+    }
+}
+
+/// The section is shown: it can be edited, or stands beside an open one.
+fn is_shown(before: bool, view: &SectionView<'_>, after: bool) -> bool
+    ensures { result ≡ is_shown before view.now after }
+{
+    let is_editable = view.section.is_editable();
+    is_editable | (before | after)
+}
+
+/// Draws a section, if it is shown.
+fn draw_section(
+    viewport: &mut Viewport<ComponentId>,
+    x: isize,
+    y: isize,
+    view: &SectionView<'_>,
+    is_shown: bool,
+) -> Result<(), RecordError>
+    requires { PictureInRange (sections_picture (shown_section is_shown view.now) viewport.old.canvas.sight x y) }
+    ensures ok { OnOk result (viewport.new.canvas ≡ with_picture viewport.old.canvas (sections_picture (shown_section is_shown view.now) viewport.old.canvas.sight x y)) }
+    ensures rect { viewport.new.canvas.sight.rect ≡ viewport.old.canvas.sight.rect }
+    ensures err { IfErr result (λ e. e ≡ OutOfMemory) }
+{
+    if is_shown {
+        viewport.draw_component(x, y, view)?;
+        Ok(())
+    } else {
+        Ok(())
+    }
+}
+
+/// The row below a section, if it is shown, where its first row is this one.
+fn row_below(y: isize, view: &SectionView<'_>, is_shown: bool) -> isize
+    requires y { InRange y }
+    requires end { InRange (y +ℤ pos (length (sections_rows (shown_section is_shown view.now)))) }
+    ensures { result ≡ y +ℤ pos (length (sections_rows (shown_section is_shown view.now))) }
+{
+    if is_shown { view.row_below(y) } else { y }
+}
+
+/// Draws the sections that are shown, one below another.
+fn draw_sections(
+    viewport: &mut Viewport<ComponentId>,
+    x: isize,
+    y: isize,
+    views: &[SectionView<'_>],
+) -> Result<(), RecordError>
+    requires y { InRange y }
+    requires picture { PictureInRange (sections_picture (shown_sections false views.now) viewport.old.canvas.sight x y) }
+    ensures ok { OnOk result (viewport.new.canvas ≡ with_picture viewport.old.canvas (sections_picture (shown_sections false views.now) viewport.old.canvas.sight x y)) }
+    ensures rect { viewport.new.canvas.sight.rect ≡ viewport.old.canvas.sight.rect }
+    ensures err { IfErr result (λ e. e ≡ OutOfMemory) }
+{
+    let mut row = y;
+    let mut before = false;
+    for (index, view) in views.iter().enumerate() {
+        let shown = is_shown(before, view, is_open_at(views, index + 1));
+        draw_section(viewport, x, row, view, shown)?;
+        row = row_below(row, view, shown);
+        before = view.is_open();
+    }
+    Ok(())
+}
+
+/// The row below the sections that are shown, where their first row is this one.
+fn sections_below(y: isize, views: &[SectionView<'_>]) -> isize
+    requires y { InRange y }
+    requires end { InRange (y +ℤ pos (length (sections_rows (shown_sections false views.now)))) }
+    ensures { result ≡ y +ℤ pos (length (sections_rows (shown_sections false views.now))) }
+{
+    let mut row = y;
+    let mut before = false;
+    for (index, view) in views.iter().enumerate() {
+        let shown = is_shown(before, view, is_open_at(views, index + 1));
+        row = row_below(row, view, shown);
+        before = view.is_open();
+    }
+    row
+}
+
+impl<'a> FileView<'a> {
+    /// The row below the file's last, where its first is this one.
+    pub(crate) fn row_below(&self, y: isize) -> isize
+        requires y { InRange (y +ℤ pos 1) }
+        requires end { InRange (y +ℤ pos (length (file_rows (shown_file self.now)))) }
+        ensures { result ≡ y +ℤ pos (length (file_rows (shown_file self.now))) }
+    {
+        if self.expand_box.is_open() {
+            sections_below(y + 1, self.section_views.as_slice())
+        } else {
+            y + 1
+        }
+    }
+
+    /// Its header.
+    pub(crate) fn header(&self) -> FileViewHeader<'a>
+        ensures key { result.file_key ≡ self.now.file_key }
+        ensures heading { header_heading result ≡ (shown_file self.now).heading }
+    {
+        FileViewHeader {
+            file_key: self.file_key,
+            path: self.path,
+            old_path: self.old_path,
+            is_selected: self.is_header_selected,
+            toggle_box: self.toggle_box.copied(),
+            expand_box: self.expand_box.copied(),
+        }
+    }
+}
+
+impl<'a> Component for FileView<'a> {
+    type Id = ComponentId;
+
+    ghost use Rattle.scm_view.specs.Pictures.{file_picture};
+    ghost use Rattle.scm_view.specs.Rows.{file_id};
+
+    ghost key = { λ v. file_id v.file_key };
+
+    ghost picture = { file_picture };
+
+    fn id(&self) -> ComponentId {
+        ComponentId::SelectableItem(SelectionKey::File(self.file_key))
+    }
+
+    fn draw(
+        &self,
+        _alloc: Global,
+        viewport: &mut Viewport<ComponentId>,
+        x: isize,
+        y: isize,
+    ) -> Result<(), RecordError> {
+        let header = self.header();
+        viewport.draw_component(x, y, &header)?;
+        if self.expand_box.is_open() {
+            draw_sections(viewport, x + 2, y + 1, self.section_views.as_slice())
+        } else {
+            Ok(())
+        }
+    }
+}

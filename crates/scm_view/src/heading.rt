@@ -1,0 +1,69 @@
+//! What the header of a file and that of a section have in common: two boxes, and a text between them.
+ghost use Rattle.std.specs.Prelude.{◌≡◌, OnOk, IfErr};
+ghost use Rattle.scm_render.specs.Picture.{PictureInRange};
+ghost use Rattle.scm_render.specs.Canvas.{with_picture};
+ghost use Rattle.scm_types.specs.declared.error.RecordError.TheVariants.{OutOfMemory};
+ghost use Rattle.scm_view.specs.Pictures.{title_picture, heading_picture};
+
+use crate::ids::ComponentId;
+use crate::reach::{columns, fold_column};
+use crate::tristate_box::TristateBox;
+use scm_cells::{Mask, Rect, Span};
+use scm_render::Viewport;
+use scm_types::RecordError;
+
+/// Draws what stands before the box of a fold that begins in column `fold_x`: spaces, and over them
+/// the box of a mark and a title.
+fn draw_before_fold(
+    viewport: &mut Viewport<ComponentId>,
+    x: isize,
+    y: isize,
+    width: usize,
+    toggle_box: &TristateBox<ComponentId>,
+    title: &str,
+) -> Result<(), RecordError>
+    requires { PictureInRange (title_picture toggle_box.now title.now width viewport.old.canvas.sight x y) }
+    ensures ok { OnOk result (viewport.new.canvas ≡ with_picture viewport.old.canvas (title_picture toggle_box.now title.now width viewport.old.canvas.sight x y)) }
+    ensures rect { viewport.new.canvas.sight.rect ≡ viewport.old.canvas.sight.rect }
+    ensures err { IfErr result (λ e. e ≡ OutOfMemory) }
+{
+    let blank = Rect {
+        x,
+        y,
+        width,
+        height: 1,
+    };
+    viewport.draw_blank(blank)?;
+    viewport.draw_component(x, y, toggle_box)?;
+    viewport.draw_text(x + 4, y, &[Span(title)])?;
+    Ok(())
+}
+
+/// Draws a heading: the box of a fold at the end of what the mask lets through, and before it the box
+/// of a mark and a title.
+pub(crate) fn draw_heading(
+    viewport: &mut Viewport<ComponentId>,
+    x: isize,
+    y: isize,
+    toggle_box: &TristateBox<ComponentId>,
+    expand_box: &TristateBox<ComponentId>,
+    title: &str,
+) -> Result<(), RecordError>
+    requires { PictureInRange (heading_picture (record { toggle = toggle_box.now; fold = expand_box.now; title = title.now }) viewport.old.canvas.sight x y) }
+    ensures ok { OnOk result (viewport.new.canvas ≡ with_picture viewport.old.canvas (heading_picture (record { toggle = toggle_box.now; fold = expand_box.now; title = title.now }) viewport.old.canvas.sight x y)) }
+    ensures rect { viewport.new.canvas.sight.rect ≡ viewport.old.canvas.sight.rect }
+    ensures err { IfErr result (λ e. e ≡ OutOfMemory) }
+{
+    let fold_x = fold_column(viewport);
+    let width = columns(x, fold_x);
+    viewport.draw_component(fold_x, y, expand_box)?;
+    let outer = viewport.swap_mask(Some(Mask {
+        x,
+        y,
+        width: Some(width),
+        height: Some(1),
+    }));
+    draw_before_fold(viewport, x, y, width, toggle_box, title)?;
+    viewport.swap_mask(outer);
+    Ok(())
+}

@@ -1,0 +1,147 @@
+//! The lines of a section.
+ghost use Rattle.std.specs.Prelude.{◌≡◌, pos, ◌+ℤ◌, OnOk, IfErr};
+ghost use Rattle.scm_render.specs.Picture.{PictureInRange};
+ghost use Rattle.scm_render.specs.Canvas.{with_picture};
+ghost use Rattle.scm_render.specs.Drawing.{text_picture};
+ghost use Rattle.scm_types.specs.declared.error.RecordError.TheVariants.{OutOfMemory};
+ghost use Rattle.scm_view.specs.declared.ids.ComponentId.{ComponentId};
+ghost use Rattle.scm_view.specs.Pictures.{context_picture, changed_picture};
+ghost use Rattle.scm_view.specs.Rows.{line_texts};
+ghost use Rattle.scm_view.specs.Texts.{number_text, sign_text};
+
+use crate::ids::ComponentId;
+use crate::keys::{LineKey, SelectionKey};
+use crate::reach::cover_row;
+use crate::texts::{number_text, sign_text};
+use crate::tristate_box::TristateBox;
+use scm_cells::{Span, push_spans_from_line};
+use scm_render::{Component, Viewport};
+use scm_types::{ChangeType, RecordError};
+use std::alloc::Global;
+
+/// What is shown of a line.
+#[derive(Drop)]
+pub enum SectionLineViewInner<'a> {
+    /// A line of context.
+    Unchanged {
+        /// The line, with its line end.
+        line: &'a str,
+        /// Its number in the file before the changes, from 1.
+        line_num: usize,
+    },
+
+    /// A changed line.
+    Changed {
+        /// The box that shows its mark.
+        toggle_box: TristateBox<ComponentId>,
+        /// Whether it was added or removed.
+        change_type: ChangeType,
+        /// The line, with its line end.
+        line: &'a str,
+    },
+}
+
+/// A line of a section.
+#[derive(Drop)]
+pub struct SectionLineView<'a> {
+    /// The line.
+    pub line_key: LineKey,
+    /// What is shown of it.
+    pub inner: SectionLineViewInner<'a>,
+}
+
+/// Draws a line's number or sign, and its text as a screen can show it.
+fn draw_line_texts(
+    alloc: Global,
+    viewport: &mut Viewport<ComponentId>,
+    x: isize,
+    y: isize,
+    front: &str,
+    line: &str,
+) -> Result<(), RecordError>
+    requires { PictureInRange {K = ComponentId} (text_picture viewport.old.canvas.sight x y (line_texts front.now line.now)) }
+    ensures ok { OnOk result (viewport.new.canvas ≡ with_picture viewport.old.canvas (text_picture viewport.old.canvas.sight x y (line_texts front.now line.now))) }
+    ensures rect { viewport.new.canvas.sight.rect ≡ viewport.old.canvas.sight.rect }
+    ensures err { IfErr result (λ e. e ≡ OutOfMemory) }
+{
+    let mut spans = Vec::new(alloc);
+    spans.push(Span(front))?;
+    push_spans_from_line(line, &mut spans)?;
+    viewport.draw_text(x, y, spans.as_slice())?;
+    Ok(())
+}
+
+/// Draws a line of context.
+fn draw_context_line(
+    alloc: Global,
+    viewport: &mut Viewport<ComponentId>,
+    x: isize,
+    y: isize,
+    line: &str,
+    number: usize,
+) -> Result<(), RecordError>
+    requires { PictureInRange (context_picture (line_texts (number_text number) line.now) viewport.old.canvas.sight x y) }
+    ensures ok { OnOk result (viewport.new.canvas ≡ with_picture viewport.old.canvas (context_picture (line_texts (number_text number) line.now) viewport.old.canvas.sight x y)) }
+    ensures rect { viewport.new.canvas.sight.rect ≡ viewport.old.canvas.sight.rect }
+    ensures err { IfErr result (λ e. e ≡ OutOfMemory) }
+{
+    let text = number_text(alloc, number)?;
+    cover_row(viewport, y);
+    draw_line_texts(alloc, viewport, x, y, text.as_str(), line)?;
+    Ok(())
+}
+
+/// Draws a changed line.
+fn draw_changed_line(
+    alloc: Global,
+    viewport: &mut Viewport<ComponentId>,
+    x: isize,
+    y: isize,
+    toggle_box: &TristateBox<ComponentId>,
+    change_type: ChangeType,
+    line: &str,
+) -> Result<(), RecordError>
+    requires { PictureInRange (changed_picture toggle_box.now (line_texts (sign_text change_type) line.now) viewport.old.canvas.sight x y) }
+    ensures ok { OnOk result (viewport.new.canvas ≡ with_picture viewport.old.canvas (changed_picture toggle_box.now (line_texts (sign_text change_type) line.now) viewport.old.canvas.sight x y)) }
+    ensures rect { viewport.new.canvas.sight.rect ≡ viewport.old.canvas.sight.rect }
+    ensures err { IfErr result (λ e. e ≡ OutOfMemory) }
+{
+    cover_row(viewport, y);
+    viewport.draw_component(x, y, toggle_box)?;
+    draw_line_texts(alloc, viewport, x + 4, y, sign_text(change_type), line)?;
+    Ok(())
+}
+
+impl<'a> Component for SectionLineView<'a> {
+    type Id = ComponentId;
+
+    ghost use Rattle.scm_view.specs.Pictures.{line_picture};
+    ghost use Rattle.scm_view.specs.Rows.{line_id};
+
+    ghost key = { λ v. line_id v.line_key };
+
+    ghost picture = { line_picture };
+
+    fn id(&self) -> ComponentId {
+        ComponentId::SelectableItem(SelectionKey::Line(self.line_key))
+    }
+
+    fn draw(
+        &self,
+        alloc: Global,
+        viewport: &mut Viewport<ComponentId>,
+        x: isize,
+        y: isize,
+    ) -> Result<(), RecordError> {
+        match &self.inner {
+            SectionLineViewInner::Unchanged { line, line_num } => {
+                draw_context_line(alloc, viewport, x, y, line, *line_num)
+            }
+            SectionLineViewInner::Changed {
+                toggle_box,
+                change_type,
+                line,
+            } => draw_changed_line(alloc, viewport, x, y, toggle_box, *change_type, line),
+        }
+    }
+}

@@ -1,0 +1,555 @@
+//! The sections of a file.
+ghost use Rattle.std.specs.Prelude.{◌≡◌, ℕ, ◌≤◌, ◌+◌, ◌-◌, ◌^◌, ◌==◌, pos, ◌+ℤ◌, List, length, nat_lt, not, ◌&&◌, Option, option_map, OnOk, IfOk, IfErr, string_bytes, if◌then◌else◌, ◌++◌, [], ◌∷◌};
+ghost use Rattle.scm_cells.specs.Rect.{InRange};
+ghost use Rattle.scm_render.specs.Picture.{PictureInRange};
+ghost use Rattle.scm_render.specs.Canvas.{with_picture};
+ghost use Rattle.scm_types.specs.declared.error.RecordError.TheVariants.{OutOfMemory};
+ghost use Rattle.scm_types.specs.declared.section.Section.TheVariants.{Changed};
+ghost use Rattle.scm_view.specs.Texts.{section_text, mode_change_text, binary_text, dots_text};
+ghost use Rattle.scm_view.specs.Rows.{SectionRow, MarkRow, DotsRow, mark_of, line_key_of, section_box, line_box, section_heading, line_number, numbered_row, numbered_rows, changed_row, changed_rows, context_rows, section_rows, is_selected, is_line_selected, is_header_selected, is_first, is_last, is_open, are_all_shown, lines_above, has_dots, first_below, rows_below, shown_lines, rows_of, dots_height, lines_height, context_height, changed_height, section_height};
+ghost use Rattle.scm_view.specs.Pictures.{IdPicture, row_picture, rows_picture};
+
+use crate::heading::draw_heading;
+use crate::ids::ComponentId;
+use crate::keys::{LineKey, SectionKey, SelectionKey};
+use crate::reach::{cover_rest, highlight};
+use crate::section_line_view::{SectionLineView, SectionLineViewInner};
+use crate::texts::{binary_text, dots_text, mode_change_text, section_text};
+use crate::tristate_box::{TristateBox, TristateIconStyle};
+use scm_cells::Span;
+use scm_render::{Component, Viewport};
+use scm_types::{FileMode, RecordError, Section, SectionChangedLine, Text, Tristate};
+use std::alloc::Global;
+
+/// What is selected in a section.
+#[derive(Clone, Copy)]
+pub enum SectionSelection {
+    /// The section itself.
+    SectionHeader,
+    /// One of its changed lines, counted from 0.
+    ChangedLine(usize),
+}
+
+/// A section of a file.
+#[derive(Drop)]
+pub struct SectionView<'a> {
+    /// Symbols beyond ASCII may be used.
+    pub use_unicode: bool,
+    /// No mark can be changed.
+    pub is_read_only: bool,
+    /// The section.
+    pub section_key: SectionKey,
+    /// The box that shows its marks.
+    pub toggle_box: TristateBox<ComponentId>,
+    /// The box that shows whether it is folded.
+    pub expand_box: TristateBox<ComponentId>,
+    /// What is selected in it, if anything is.
+    pub selection: Option<SectionSelection>,
+    /// How many sections the file has.
+    pub total_num_sections: usize,
+    /// Its number among the file's sections that can be edited, from 1.
+    pub editable_section_num: usize,
+    /// How many of those there are.
+    pub total_num_editable_sections: usize,
+    /// What it holds.
+    pub section: &'a Section<'a>,
+    /// The number of its first line in the file before the changes, from 1.
+    pub line_start_num: usize,
+}
+
+/// The state of one mark.
+fn mark(is_checked: bool) -> Tristate
+    ensures { result ≡ mark_of is_checked }
+{
+    Tristate::from(is_checked)
+}
+
+impl<'a> SectionView<'a> {
+    /// The section itself is selected.
+    fn is_selected(&self) -> bool
+        ensures { result ≡ is_selected self.now }
+    {
+        match self.selection {
+            None => false,
+            Some(SectionSelection::SectionHeader) => true,
+            Some(SectionSelection::ChangedLine(_)) => false,
+        }
+    }
+
+    /// One of its lines is selected.
+    fn is_line_selected(&self, index: usize) -> bool
+        ensures { result ≡ is_line_selected index self.now.selection }
+    {
+        match self.selection {
+            None => false,
+            Some(SectionSelection::SectionHeader) => false,
+            Some(SectionSelection::ChangedLine(line)) => line == index,
+        }
+    }
+
+    /// It is the file's first section.
+    fn is_first(&self) -> bool
+        ensures { result ≡ is_first self.now }
+    {
+        self.section_key.section_idx == 0
+    }
+
+    /// It is the file's last section.
+    fn is_last(&self) -> bool
+        ensures { result ≡ is_last self.now }
+    {
+        let total = self.total_num_sections;
+        match total.checked_sub(1) {
+            None => false,
+            Some(last) => self.section_key.section_idx == last,
+        }
+    }
+
+    /// The key of one of its lines.
+    fn line_key(&self, index: usize) -> LineKey
+        ensures { result ≡ line_key_of self.now.section_key index }
+    {
+        LineKey {
+            commit_idx: self.section_key.commit_idx,
+            file_idx: self.section_key.file_idx,
+            section_idx: self.section_key.section_idx,
+            line_idx: index,
+        }
+    }
+
+    /// The box of its own mark.
+    fn section_box(&self, is_checked: bool) -> TristateBox<ComponentId>
+        ensures { result ≡ section_box self.now is_checked }
+    {
+        TristateBox {
+            use_unicode: self.use_unicode,
+            is_focused: self.is_selected(),
+            is_read_only: self.is_read_only,
+            id: ComponentId::ToggleBox(SelectionKey::Section(self.section_key)),
+            tristate: mark(is_checked),
+            icon_style: TristateIconStyle::Check,
+        }
+    }
+
+    /// The box of one of its lines.
+    fn line_box(&self, index: usize, is_checked: bool) -> TristateBox<ComponentId>
+        ensures { result ≡ line_box self.now index is_checked }
+    {
+        TristateBox {
+            use_unicode: self.use_unicode,
+            is_focused: self.is_line_selected(index),
+            is_read_only: self.is_read_only,
+            id: ComponentId::ToggleBox(SelectionKey::Line(self.line_key(index))),
+            tristate: mark(is_checked),
+            icon_style: TristateIconStyle::Check,
+        }
+    }
+
+    /// Draws a line of context.
+    fn draw_numbered_row(
+        &self,
+        viewport: &mut Viewport<ComponentId>,
+        x: isize,
+        y: isize,
+        index: usize,
+        line: &Text<'_>,
+    ) -> Result<(), RecordError>
+        requires { PictureInRange (row_picture (numbered_row self.now index line.now) viewport.old.canvas.sight x y) }
+        ensures ok { OnOk result (viewport.new.canvas ≡ with_picture viewport.old.canvas (row_picture (numbered_row self.now index line.now) viewport.old.canvas.sight x y)) }
+        ensures rect { viewport.new.canvas.sight.rect ≡ viewport.old.canvas.sight.rect }
+        ensures err { IfErr result (λ e. e ≡ OutOfMemory) }
+    {
+        let view = SectionLineView {
+            line_key: self.line_key(index),
+            inner: SectionLineViewInner::Unchanged {
+                line: line.as_str(),
+                line_num: line_number(self.line_start_num, index),
+            },
+        };
+        viewport.draw_component(x + 2, y, &view)?;
+        Ok(())
+    }
+
+    /// Draws lines of context, the first of which has this index.
+    fn draw_numbered(
+        &self,
+        viewport: &mut Viewport<ComponentId>,
+        x: isize,
+        y: isize,
+        first: usize,
+        lines: &[Text<'a>],
+    ) -> Result<(), RecordError>
+        requires index { first + length lines.now ≤ 2 ^ 64 - 1 }
+        requires picture { PictureInRange (rows_picture (numbered_rows self.now first lines.now) viewport.old.canvas.sight x y) }
+        ensures ok { OnOk result (viewport.new.canvas ≡ with_picture viewport.old.canvas (rows_picture (numbered_rows self.now first lines.now) viewport.old.canvas.sight x y)) }
+        ensures rect { viewport.new.canvas.sight.rect ≡ viewport.old.canvas.sight.rect }
+        ensures err { IfErr result (λ e. e ≡ OutOfMemory) }
+    {
+        let mut row = y;
+        for (index, line) in lines.iter().enumerate() {
+            self.draw_numbered_row(viewport, x, row, first + index, line)?;
+            row += 1;
+        }
+        Ok(())
+    }
+
+    /// Draws a changed line.
+    fn draw_changed_row(
+        &self,
+        viewport: &mut Viewport<ComponentId>,
+        x: isize,
+        y: isize,
+        index: usize,
+        line: &SectionChangedLine<'_>,
+    ) -> Result<(), RecordError>
+        requires { PictureInRange (row_picture (changed_row self.now index line.now) viewport.old.canvas.sight x y) }
+        ensures ok { OnOk result (viewport.new.canvas ≡ with_picture viewport.old.canvas (row_picture (changed_row self.now index line.now) viewport.old.canvas.sight x y)) }
+        ensures rect { viewport.new.canvas.sight.rect ≡ viewport.old.canvas.sight.rect }
+        ensures err { IfErr result (λ e. e ≡ OutOfMemory) }
+    {
+        let view = SectionLineView {
+            line_key: self.line_key(index),
+            inner: SectionLineViewInner::Changed {
+                toggle_box: self.line_box(index, line.is_checked),
+                change_type: line.change_type,
+                line: line.line.as_str(),
+            },
+        };
+        viewport.draw_component(x + 2, y, &view)?;
+        Ok(())
+    }
+
+    /// Draws changed lines.
+    fn draw_changed_lines(
+        &self,
+        viewport: &mut Viewport<ComponentId>,
+        x: isize,
+        y: isize,
+        lines: &[SectionChangedLine<'a>],
+    ) -> Result<(), RecordError>
+        requires { PictureInRange (rows_picture (changed_rows self.now 0 lines.now) viewport.old.canvas.sight x y) }
+        ensures ok { OnOk result (viewport.new.canvas ≡ with_picture viewport.old.canvas (rows_picture (changed_rows self.now 0 lines.now) viewport.old.canvas.sight x y)) }
+        ensures rect { viewport.new.canvas.sight.rect ≡ viewport.old.canvas.sight.rect }
+        ensures err { IfErr result (λ e. e ≡ OutOfMemory) }
+    {
+        let mut row = y;
+        for (index, line) in lines.iter().enumerate() {
+            self.draw_changed_row(viewport, x, row, index, line)?;
+            row += 1;
+        }
+        Ok(())
+    }
+
+    /// Draws the first row of a section of changed lines.
+    fn draw_header(
+        &self,
+        alloc: Global,
+        viewport: &mut Viewport<ComponentId>,
+        x: isize,
+        y: isize,
+    ) -> Result<(), RecordError>
+        requires { PictureInRange (row_picture (SectionRow (is_selected self.now) (section_heading self.now)) viewport.old.canvas.sight x y) }
+        ensures ok { OnOk result (viewport.new.canvas ≡ with_picture viewport.old.canvas (row_picture (SectionRow (is_selected self.now) (section_heading self.now)) viewport.old.canvas.sight x y)) }
+        ensures rect { viewport.new.canvas.sight.rect ≡ viewport.old.canvas.sight.rect }
+        ensures err { IfErr result (λ e. e ≡ OutOfMemory) }
+    {
+        let title = section_text(
+            alloc,
+            self.editable_section_num,
+            self.total_num_editable_sections,
+        )?;
+        draw_heading(
+            viewport,
+            x,
+            y,
+            &self.toggle_box,
+            &self.expand_box,
+            title.as_str(),
+        )?;
+        highlight(viewport, y, self.is_selected());
+        Ok(())
+    }
+
+    /// Draws the row of a section that is one item.
+    fn draw_mark(
+        &self,
+        viewport: &mut Viewport<ComponentId>,
+        x: isize,
+        y: isize,
+        is_checked: bool,
+        text: &str,
+    ) -> Result<(), RecordError>
+        requires { PictureInRange (row_picture (MarkRow (is_selected self.now) (section_box self.now is_checked) text.now) viewport.old.canvas.sight x y) }
+        ensures ok { OnOk result (viewport.new.canvas ≡ with_picture viewport.old.canvas (row_picture (MarkRow (is_selected self.now) (section_box self.now is_checked) text.now) viewport.old.canvas.sight x y)) }
+        ensures rect { viewport.new.canvas.sight.rect ≡ viewport.old.canvas.sight.rect }
+        ensures err { IfErr result (λ e. e ≡ OutOfMemory) }
+    {
+        let toggle_box = self.section_box(is_checked);
+        cover_rest(viewport, x, y);
+        viewport.draw_component(x, y, &toggle_box)?;
+        viewport.draw_text(x + 4, y, &[Span(text)])?;
+        highlight(viewport, y, self.is_selected());
+        Ok(())
+    }
+
+    /// Draws the row that stands for the lines that are left out.
+    fn draw_dots(
+        &self,
+        viewport: &mut Viewport<ComponentId>,
+        x: isize,
+        y: isize,
+    ) -> Result<(), RecordError>
+        requires { PictureInRange (row_picture (DotsRow (dots_text self.now.use_unicode)) viewport.old.canvas.sight x y) }
+        ensures ok { OnOk result (viewport.new.canvas ≡ with_picture viewport.old.canvas (row_picture (DotsRow (dots_text self.now.use_unicode)) viewport.old.canvas.sight x y)) }
+        ensures rect { viewport.new.canvas.sight.rect ≡ viewport.old.canvas.sight.rect }
+        ensures err { IfErr result (λ e. e ≡ OutOfMemory) }
+    {
+        cover_rest(viewport, x, y);
+        viewport.draw_span(x + 6, y, &Span(dots_text(self.use_unicode)))?;
+        Ok(())
+    }
+}
+
+/// The number of a line of context; a number past the greatest is the greatest.
+fn line_number(start: usize, index: usize) -> usize
+    ensures { result ≡ line_number start index }
+{
+    start.saturating_add(index)
+}
+
+impl<'a> SectionView<'a> {
+    /// So many lines of context are all shown: few, and between two sections.
+    fn are_all_shown(&self, count: usize) -> bool
+        ensures { result ≡ are_all_shown self.now count }
+    {
+        let is_first = self.is_first();
+        let is_last = self.is_last();
+        !is_first & (!is_last & (count <= 6))
+    }
+
+    /// How many lines are shown below the section before.
+    fn lines_above(&self, count: usize) -> usize
+        ensures lines { result ≡ lines_above self.now count }
+        ensures most { result ≤ count }
+    {
+        if self.are_all_shown(count) {
+            count
+        } else if self.is_first() {
+            0
+        } else {
+            count.min(3)
+        }
+    }
+
+    /// Some of the lines may be left out.
+    fn has_dots(&self, count: usize) -> bool
+        ensures { result ≡ has_dots self.now count }
+    {
+        let is_whole = self.are_all_shown(count);
+        !is_whole & (count > 3)
+    }
+
+    /// The first of the lines that are shown above the section after.
+    fn first_below(&self, count: usize) -> usize
+        ensures line { result ≡ first_below self.now count }
+        ensures most { result ≤ count }
+    {
+        if self.are_all_shown(count) {
+            count
+        } else if self.is_last() {
+            count
+        } else {
+            count.saturating_sub(3)
+        }
+    }
+
+    /// The row of dots, if some of the lines may be left out.
+    fn dots_height(&self, count: usize) -> usize
+        ensures { result ≡ dots_height self.now count }
+    {
+        if self.has_dots(count) { 1 } else { 0 }
+    }
+
+    /// The row below so many lines of context, of which there is one.
+    fn lines_below(&self, y: isize, count: usize) -> isize
+        requires y { InRange y }
+        requires end { InRange (y +ℤ pos (lines_height self.now count)) }
+        ensures { result ≡ y +ℤ pos (lines_height self.now count) }
+    {
+        let dots = y.strict_add_unsigned(self.lines_above(count));
+        let below = dots.strict_add_unsigned(self.dots_height(count));
+        below.strict_add_unsigned(count - self.first_below(count))
+    }
+
+    /// The row below so many lines of context.
+    fn context_below(&self, y: isize, count: usize) -> isize
+        requires y { InRange y }
+        requires end { InRange (y +ℤ pos (context_height self.now count)) }
+        ensures { result ≡ y +ℤ pos (context_height self.now count) }
+    {
+        if count == 0 {
+            y + 1
+        } else {
+            self.lines_below(y, count)
+        }
+    }
+
+    /// The row below so many changed lines and their header.
+    fn changed_below(&self, y: isize, count: usize) -> isize
+        requires y { InRange y }
+        requires end { InRange (y +ℤ pos (changed_height self.now count)) }
+        ensures { result ≡ y +ℤ pos (changed_height self.now count) }
+    {
+        if self.expand_box.is_open() {
+            (y + 1).strict_add_unsigned(count)
+        } else {
+            y + 1
+        }
+    }
+
+    /// The row below the section's last, where its first is this one.
+    pub(crate) fn row_below(&self, y: isize) -> isize
+        requires y { InRange y }
+        requires end { InRange (y +ℤ pos (section_height self.now self.now.section.now)) }
+        ensures { result ≡ y +ℤ pos (section_height self.now self.now.section.now) }
+    {
+        match self.section {
+            Section::Unchanged { lines } => self.context_below(y, lines.len()),
+            Section::Changed { lines } => self.changed_below(y, lines.len()),
+            Section::FileMode { .. } => y + 1,
+            Section::Binary { .. } => y + 1,
+        }
+    }
+
+    /// Its kind can be edited, and it is not folded.
+    pub(crate) fn is_open(&self) -> bool
+        ensures { result ≡ is_open self.now }
+    {
+        self.section.is_editable() && self.expand_box.is_open()
+    }
+
+    /// Draws what is shown from the dots on.
+    fn draw_below(
+        &self,
+        viewport: &mut Viewport<ComponentId>,
+        x: isize,
+        y: isize,
+        lines: &[Text<'a>],
+    ) -> Result<(), RecordError>
+        requires { PictureInRange (rows_picture (rows_below self.now lines.now) viewport.old.canvas.sight x y) }
+        ensures ok { OnOk result (viewport.new.canvas ≡ with_picture viewport.old.canvas (rows_picture (rows_below self.now lines.now) viewport.old.canvas.sight x y)) }
+        ensures rect { viewport.new.canvas.sight.rect ≡ viewport.old.canvas.sight.rect }
+        ensures err { IfErr result (λ e. e ≡ OutOfMemory) }
+    {
+        let first = self.first_below(lines.len());
+        if self.has_dots(lines.len()) {
+            self.draw_dots(viewport, x, y)?;
+            self.draw_numbered(viewport, x, y + 1, first, &lines[first..])
+        } else {
+            self.draw_numbered(viewport, x, y, first, &lines[first..])
+        }
+    }
+
+    /// Draws the lines of context that are shown.
+    fn draw_shown_lines(
+        &self,
+        viewport: &mut Viewport<ComponentId>,
+        x: isize,
+        y: isize,
+        lines: &[Text<'a>],
+    ) -> Result<(), RecordError>
+        requires { PictureInRange (rows_picture (shown_lines self.now lines.now) viewport.old.canvas.sight x y) }
+        ensures ok { OnOk result (viewport.new.canvas ≡ with_picture viewport.old.canvas (rows_picture (shown_lines self.now lines.now) viewport.old.canvas.sight x y)) }
+        ensures rect { viewport.new.canvas.sight.rect ≡ viewport.old.canvas.sight.rect }
+        ensures err { IfErr result (λ e. e ≡ OutOfMemory) }
+    {
+        let above = self.lines_above(lines.len());
+        self.draw_numbered(viewport, x, y, 0, &lines[..above])?;
+        self.draw_below(viewport, x, y.strict_add_unsigned(above), lines)
+    }
+
+    /// Draws a section of context.
+    fn draw_context(
+        &self,
+        viewport: &mut Viewport<ComponentId>,
+        x: isize,
+        y: isize,
+        lines: &[Text<'a>],
+    ) -> Result<(), RecordError>
+        requires { PictureInRange (rows_picture (context_rows self.now lines.now) viewport.old.canvas.sight x y) }
+        ensures ok { OnOk result (viewport.new.canvas ≡ with_picture viewport.old.canvas (rows_picture (context_rows self.now lines.now) viewport.old.canvas.sight x y)) }
+        ensures rect { viewport.new.canvas.sight.rect ≡ viewport.old.canvas.sight.rect }
+        ensures err { IfErr result (λ e. e ≡ OutOfMemory) }
+    {
+        if lines.is_empty() {
+            cover_rest(viewport, x, y);
+            Ok(())
+        } else {
+            self.draw_shown_lines(viewport, x, y, lines)
+        }
+    }
+
+    /// Draws a section of changed lines.
+    fn draw_changed(
+        &self,
+        alloc: Global,
+        viewport: &mut Viewport<ComponentId>,
+        x: isize,
+        y: isize,
+        lines: &[SectionChangedLine<'a>],
+    ) -> Result<(), RecordError>
+        requires { PictureInRange (rows_picture (rows_of self.now (Changed lines.now)) viewport.old.canvas.sight x y) }
+        ensures ok { OnOk result (viewport.new.canvas ≡ with_picture viewport.old.canvas (rows_picture (rows_of self.now (Changed lines.now)) viewport.old.canvas.sight x y)) }
+        ensures rect { viewport.new.canvas.sight.rect ≡ viewport.old.canvas.sight.rect }
+        ensures err { IfErr result (λ e. e ≡ OutOfMemory) }
+    {
+        self.draw_header(alloc, viewport, x, y)?;
+        if self.expand_box.is_open() {
+            self.draw_changed_lines(viewport, x, y + 1, lines)
+        } else {
+            Ok(())
+        }
+    }
+}
+
+impl<'a> Component for SectionView<'a> {
+    type Id = ComponentId;
+
+    ghost use Rattle.scm_view.specs.Pictures.{section_picture};
+    ghost use Rattle.scm_view.specs.Rows.{section_id};
+
+    ghost key = { λ v. section_id v.section_key };
+
+    ghost picture = { section_picture };
+
+    fn id(&self) -> ComponentId {
+        ComponentId::SelectableItem(SelectionKey::Section(self.section_key))
+    }
+
+    fn draw(
+        &self,
+        alloc: Global,
+        viewport: &mut Viewport<ComponentId>,
+        x: isize,
+        y: isize,
+    ) -> Result<(), RecordError> {
+        match self.section {
+            Section::Unchanged { lines } => self.draw_context(viewport, x, y, lines.as_slice()),
+            Section::Changed { lines } => {
+                self.draw_changed(alloc, viewport, x, y, lines.as_slice())
+            }
+            Section::FileMode { is_checked, mode } => {
+                let text = mode_change_text(alloc, *mode)?;
+                self.draw_mark(viewport, x, y, *is_checked, text.as_str())
+            }
+            Section::Binary {
+                is_checked,
+                old_description,
+                new_description,
+            } => {
+                let text = binary_text(alloc, old_description, new_description)?;
+                self.draw_mark(viewport, x, y, *is_checked, text.as_str())
+            }
+        }
+    }
+}
