@@ -236,7 +236,7 @@ impl<'state> Recorder<'state> {
             FailsWith self.entry
             (setting (kind input.old) (reads input.old) (edits input.old) screens.old)
             (setting (kind input.new) (reads input.new) (edits input.new) screens.new) e) }
-        // the steps come to one end
+        // the steps reach one end
         ensures one_end { let old = setting (kind input.old) (reads input.old) (edits input.old) screens.old in
             HasOneEnd (Before (world_in old self.entry 0)) }
         // what a recorder of an accepted state keeps of it
