@@ -56,14 +56,22 @@ const CHECKED: [Line; 1] = [(true, ADDED, "n\n")];
 
 const UNCHECKED: [Line; 1] = [(false, ADDED, "n\n")];
 
-// A new file: these lines, and its creation, checked or not.
-fn new_file(alloc: Global, lines: &[Line], is_checked: bool) -> Result<File<'static>, RecordError> {
-    let mut sections = Vec::new(alloc);
-    sections.push(changed(alloc, lines)?)?;
-    sections.push(Section::FileMode {
+fn creation(is_checked: bool) -> Section<'static> {
+    Section::FileMode {
         is_checked,
         mode: DEFAULT,
-    })?;
+    }
+}
+
+// A new file: these lines, and its creation, checked or not.
+fn new_file(
+    alloc: Global,
+    lines: &'static [Line],
+    is_checked: bool,
+) -> Result<File<'static>, RecordError> {
+    let mut sections = Vec::new(alloc);
+    sections.push(changed(alloc, lines)?)?;
+    sections.push(creation(is_checked))?;
     Ok(file_of(FileMode::Absent, sections))
 }
 
