@@ -56,14 +56,22 @@ const CHECKED: [Line; 1] = [(true, ADDED, "n\n")];
 
 const UNCHECKED: [Line; 1] = [(false, ADDED, "n\n")];
 
-// A new file: these lines, and its creation, checked or not.
-fn new_file(alloc: Global, lines: &[Line], is_checked: bool) -> Result<File<'static>, RecordError> {
-    let mut sections = Vec::new(alloc);
-    sections.push(changed(alloc, lines)?)?;
-    sections.push(Section::FileMode {
+fn creation(is_checked: bool) -> Section<'static> {
+    Section::FileMode {
         is_checked,
         mode: DEFAULT,
-    })?;
+    }
+}
+
+// A new file: these lines, and its creation, checked or not.
+fn new_file(
+    alloc: Global,
+    lines: &'static [Line],
+    is_checked: bool,
+) -> Result<File<'static>, RecordError> {
+    let mut sections = Vec::new(alloc);
+    sections.push(changed(alloc, lines)?)?;
+    sections.push(creation(is_checked))?;
     Ok(file_of(FileMode::Absent, sections))
 }
 
@@ -164,41 +172,28 @@ fn files_are_split(rt: HostRuntime) -> Result<(), Fail> {
     let deleted = (FileMode::Absent, Side::Unchanged);
     check_split(&rt, alloc, &removal(alloc, true)?, deleted, rest)?;
 
-    let nowhere = (FileMode::Absent, Side::Unchanged);
-    let lost = (FileMode::Absent, Side::Text("n\n"));
-    let written = (DEFAULT, Side::Text("n\n"));
-    check_split(
-        &rt,
-        alloc,
-        &new_file(alloc, &CHECKED, true)?,
-        written,
-        nowhere,
-    )?;
-    check_split(
-        &rt,
-        alloc,
-        &new_file(alloc, &UNCHECKED, true)?,
-        emptied,
-        lost,
-    )?;
-    check_split(
-        &rt,
-        alloc,
-        &new_file(alloc, &UNCHECKED, false)?,
-        nowhere,
-        written,
-    )?;
-    check_split(
-        &rt,
-        alloc,
-        &new_file(alloc, &CHECKED, false)?,
-        lost,
-        emptied,
-    )?;
-
     let bytes = (DEFAULT, Side::OldBinary);
     let tail = (DEFAULT, Side::Text("z\n"));
     check_split(&rt, alloc, &binary_file(alloc)?, bytes, tail)?;
+    Ok(())
+}
+
+#[test]
+fn new_files_are_split(rt: HostRuntime) -> Result<(), Fail> {
+    let alloc = rt.alloc();
+    let nowhere = (FileMode::Absent, Side::Unchanged);
+    let lost = (FileMode::Absent, Side::Text("n\n"));
+    let emptied = (DEFAULT, Side::Text(""));
+    let written = (DEFAULT, Side::Text("n\n"));
+    for (lines, is_created, selected, unselected) in [
+        (&CHECKED, true, written, nowhere),
+        (&UNCHECKED, true, emptied, lost),
+        (&UNCHECKED, false, nowhere, written),
+        (&CHECKED, false, lost, emptied),
+    ] {
+        let file = new_file(alloc, lines, is_created)?;
+        check_split(&rt, alloc, &file, selected, unselected)?;
+    }
     Ok(())
 }
 
