@@ -36,3 +36,11 @@ pub mod Turn
 pub mod SessionView
 -- what the fields of a store stand for
 pub mod Stored
+-- of the state's crate, so that a caller lists this crate alone
+pub use Rattle.scm_types.specs.Marks
+pub use Rattle.scm_types.specs.Mode
+pub use Rattle.scm_types.specs.Split
+pub use Rattle.scm_types.specs.Limits
+pub use Rattle.scm_types.specs.Laws
+pub use Rattle.scm_types.specs.Same
+pub use Rattle.scm_types.specs.Fault

@@ -2,8 +2,8 @@
 #![tactic(auto)]
 
 ghost use Rattle.std.specs.Prelude.{◌≡◌, IfErr, IfOk, IsTrue, true};
-ghost use Rattle.scm_types.specs.Limits.{is_accepted_state};
-ghost use Rattle.scm_types.specs.Split.{side_of};
+ghost use Rattle.scm_record.specs.Limits.{is_accepted_state};
+ghost use Rattle.scm_record.specs.Split.{side_of};
 ghost use Rattle.scm_record.specs.Keeping.{IsKept};
 
 use scm_record::{

@@ -12,7 +12,7 @@ use Rattle.scm_types.specs.declared.line.ChangeType.TheVariants.{Added, Removed}
 use Rattle.scm_types.specs.declared.file_mode.FileMode.TheVariants.{Unix}
 use Rattle.scm_types.specs.declared.section.Section.{Section}
 use Rattle.scm_types.specs.declared.section.Section.TheVariants.{Unchanged, Changed, FileMode}
-use Rattle.scm_cells.specs.Clusters.{text_width, clusters, with_width, kept_width, has_control}
+use Rattle.scm_cells.specs.Clusters.{kept, text_width, clusters, with_width, kept_width, has_control}
 use Rattle.scm_cells.specs.Replaced.{line_pieces, pieces_from, replacement}
 use Rattle.scm_cells.specs.Row.{put, overlay, written, placed, whole_before, whole_after, cells_of, later_cells, row_text}
 use Rattle.scm_cells.specs.Screen.{view_of}
