@@ -1,12 +1,11 @@
 -- Rows and owners of documents, computed from the definitions.
 use Rattle.std.proofs.Common.{◌≡◌, ℕ, refl, [], ◌∷◌}
 use Rattle.std.specs.Fmt.{digits}
-use Rattle.std.specs.Prelude.{codes, Some, None, Option, List, ◌++◌, encode_utf8_all, true, false, map, replicate, Bool}
+use Rattle.std.specs.Prelude.{codes, Some, None, Option, List, ◌++◌, encode_utf8_all, true, false, map, replicate}
 use lib.Utf8.{encode}
 use Rattle.unicode_segmentation.proofs.Computing.{unicode_segmentation}
 use Rattle.unicode_width.proofs.Computing.{unicode_width}
 use Rattle.scm_types.specs.declared.state.RecordState.{RecordState}
-use Rattle.scm_types.specs.declared.line.SectionChangedLine.{SectionChangedLine}
 use Rattle.scm_types.specs.declared.line.ChangeType.{ChangeType}
 use Rattle.scm_types.specs.declared.line.ChangeType.TheVariants.{Added, Removed}
 use Rattle.scm_types.specs.declared.file_mode.FileMode.TheVariants.{Unix}
@@ -25,7 +24,7 @@ use Rattle.scm_view.specs.declared.ids.ComponentId.TheVariants as ids
 use Rattle.scm_view.specs.declared.commit_view.CommitViewMode.TheVariants as mode
 use Rattle.scm_view.specs.Blanks.{blank_row}
 use Rattle.scm_view.specs.Layers.{Strip}
-use Rattle.scm_view.specs.Rows.{Document, DocRow, document_of, shown_file, shown_sections, section_rows, context_rows, changed_rows, numbered_rows, file_rows, files_rows, sections_rows}
+use Rattle.scm_view.specs.Rows.{Document, document_of, shown_file, shown_sections, section_rows, context_rows, changed_rows, numbered_rows, file_rows, files_rows, sections_rows}
 use Rattle.scm_render.specs.Rows.{put_texts, say_texts}
 use Rattle.scm_view.specs.Strips.{row_strip, files_layer, message_strips, files_strips, file_strips, sections_strips, section_strips}
 use Rattle.scm_view.specs.Shown.{Shown, commit_at, commit_view_of, file_views_of, section_views_of, are_all_expanded}

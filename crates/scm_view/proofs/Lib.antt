@@ -17,3 +17,4 @@ pub mod RangeLemmas
 pub mod FixedLemmas
 pub mod OverlayExampleLemmas
 pub mod OverlayLemmas
+pub mod DocumentLemmas

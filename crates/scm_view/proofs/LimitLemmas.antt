@@ -1,5 +1,5 @@
 -- From the limits of an accepted state: how many rows its document has, and that each text of it is narrow.
-use Rattle.std.proofs.Common.{◌≡◌, ℕ, zero, suc, ◌+◌, ◌-◌, ◌*◌, ◌/◌, ◌%◌, ◌<◌, ◌≤◌, ◌^◌, Bool, true, false, cond, ◌==◌, ℤ, List, [], ◌∷◌, ◌++◌, length, length-append, take, drop, map, refl, sym, ap, ◌∙◌, arith}
+use Rattle.std.proofs.Common.{◌≡◌, ℕ, zero, suc, ◌+◌, ◌-◌, ◌*◌, ◌/◌, ◌%◌, ◌≤◌, ◌^◌, Bool, true, false, cond, ◌==◌, ℤ, List, [], ◌∷◌, ◌++◌, length, length-append, take, drop, map, refl, ap, arith}
 use Rattle.std.specs.Prelude.{◌&&◌, if◌then◌else◌, nat_le, sum_by, Option, Some, None, codes, encode_utf8_all, decimal, option_map}
 use Rattle.std.specs.Char.{encode_utf8, is_whitespace}
 use Rattle.std.specs.Fmt.{digits, digits_onto, digit_glyph}
@@ -20,7 +20,7 @@ use Rattle.scm_types.specs.declared.tristate.Tristate.{Tristate}
 use Rattle.scm_types.specs.declared.tristate.Tristate.TheVariants as tristate
 use Rattle.scm_types.specs.Marks.{is_editable_section}
 use Rattle.scm_types.specs.declared.file_mode.FileMode.{FileMode as AnyMode}
-use Rattle.scm_types.specs.Limits.{max_text, is_short_text, is_short_option, has_short_texts, has_short_texts_in_file, is_accepted_state, section_size, file_size, state_size}
+use Rattle.scm_types.specs.Limits.{is_short_text, is_short_option, has_short_texts, has_short_texts_in_file, is_accepted_state, section_size, file_size, state_size}
 use Rattle.scm_cells.specs.Clusters.{text_width}
 use Rattle.scm_cells.specs.Replaced.{line_pieces}
 use Rattle.scm_cells.proofs.BoundLemmas.{text_width-le}
@@ -34,10 +34,10 @@ use Rattle.scm_view.specs.declared.tristate_box.TristateIconStyle.TheVariants.{C
 use Rattle.scm_view.specs.declared.section_view.SectionView.{SectionView}
 use Rattle.scm_view.specs.declared.commit_view.CommitView.{CommitView}
 use Rattle.scm_view.specs.Texts.{icon_text, bracketed, box_text, path_text, section_text, mode_change_text, binary_text, number_text, sign_text, dots_text, message_text}
-use Rattle.scm_view.specs.Rows.{IdBox, Heading, DocRow, DotsRow, BlankRow, ShownSection, ShownFile, line_texts, line_box, section_box, is_first, is_last, is_fold_open, are_all_shown, lines_above, has_dots, first_below, rows_below, shown_lines, context_rows, lines_height, context_height, changed_height, section_height, changed_rows, numbered_rows, rows_of, section_rows, is_shown, is_open, is_first_open, shown_section, shown_sections, sections_rows, shown_file, lent_text, file_rows, files_rows, document_of, line_number, section_heading}
+use Rattle.scm_view.specs.Rows.{IdBox, Heading, DocRow, DotsRow, BlankRow, ShownSection, line_texts, line_box, section_box, is_first, is_fold_open, are_all_shown, lines_above, has_dots, first_below, rows_below, shown_lines, context_rows, lines_height, section_height, changed_rows, numbered_rows, rows_of, section_rows, is_shown, is_open, is_first_open, shown_section, shown_sections, sections_rows, shown_file, lent_text, file_rows, files_rows, document_of, line_number, section_heading}
 use Rattle.scm_view.specs.Pictures.{commit_picture}
 use Rattle.scm_view.specs.Shown.{Shown, Shows, lent, Totals, totals_of, section_key_of, section_view_of, section_views_of, file_view_of, file_views_of, commit_at, commit_view_of, old_lines}
-use Rattle.scm_view.specs.Near.{IsNarrow, IsNarrowBox, IsNarrowHeading, IsNarrowRow, AreNarrow, AreNarrowSections, IsNarrowFile, AreNarrowFiles, IsNarrowMessage, IsNarrowDocument, IsClose, SightIsClose}
+use Rattle.scm_view.specs.Near.{IsNarrow, IsNarrowBox, IsNarrowHeading, AreNarrow, AreNarrowSections, IsNarrowFile, AreNarrowFiles, IsNarrowMessage, IsClose, SightIsClose}
 use Rattle.scm_view.proofs.SectionsLemmas.{at_most, height-of, length-sections}
 use Rattle.scm_view.proofs.NearLemmas.{document-near}
 

@@ -1,20 +1,18 @@
 -- Each row's picture makes of the rows of a screen what its strip says, on its own row alone; and so for rows one below another.
-use Rattle.std.proofs.Common.{◌≡◌, ℕ, zero, suc, ◌+◌, ◌-◌, ◌<◌, ◌≤◌, Bool, true, false, cond, List, [], ◌∷◌, ◌++◌, length, length-append, map, replicate, refl, sym, ap, ◌∙◌, arith}
-use Rattle.std.specs.Prelude.{ℤ, pos, ◌+ℤ◌, ◌-ℤ◌, ◌≤ℤ◌, ◌<ℤ◌, int_le, int_lt, Option, Some, None, ◌&&◌, if◌then◌else◌}
+use Rattle.std.proofs.Common.{◌≡◌, ℕ, suc, ◌+◌, ◌-◌, ◌≤◌, Bool, true, false, cond, List, [], ◌∷◌, ◌++◌, length, length-append, map, replicate, refl, sym, ap, ◌∙◌, arith}
+use Rattle.std.specs.Prelude.{ℤ, pos, ◌+ℤ◌, ◌-ℤ◌, ◌≤ℤ◌, ◌<ℤ◌, int_le, int_lt, Option, Some, None, if◌then◌else◌}
 use Rattle.std.specs.Int.{int_min, int_max}
 use Rattle.std.proofs.lemmas.Int.{ints}
 use Rattle.std.proofs.lemmas.List.{length-map}
 use Rattle.scm_cells.specs.Rect.{end_x_of, end_y_of, or_zero, rect_between, intersect_of}
 use Rattle.scm_cells.specs.declared.rect.Rect.{Rect}
-use Rattle.scm_cells.specs.declared.mask.Mask.{Mask}
 use Rattle.scm_cells.specs.Mask.{mask_rect_of}
 use Rattle.scm_cells.specs.Row.{put}
 use Rattle.scm_cells.proofs.RectLemmas.{places}
 use Rattle.scm_render.specs.Picture.{nothing, followed_by, covering, part}
 use Rattle.scm_render.specs.Canvas.{Row, Sight, under, paint}
 use Rattle.scm_render.specs.Lines.{line}
-use Rattle.scm_render.proofs.PaintLemmas.{paint-none, paint-append}
-use Rattle.scm_render.proofs.LineLemmas.{line-append, line-below, line-left}
+use Rattle.scm_render.proofs.PaintLemmas.{paint-none}
 use Rattle.scm_render.specs.Drawing.{reach, has_row, mask_or, row_rect, text_puts, text_picture, span_picture, blank_picture}
 use Rattle.scm_render.specs.Rows.{say_texts, limit, put_within, say_within}
 use Rattle.scm_render.proofs.RowLemmas.{OneRow, Paints, IsReached, one_none, one_more, one_same, one_text, one_said, one_row_paints, paints_none, paints_more}
@@ -24,8 +22,8 @@ use Rattle.scm_view.specs.Laws.{IsOpen}
 use Rattle.scm_view.specs.Blanks.{blanked}
 use Rattle.scm_view.specs.Layers.{Strip, owned}
 use Rattle.scm_view.specs.Texts.{box_text}
-use Rattle.scm_view.specs.Rows.{IdBox, section_id, file_id, Heading, DocRow, HeaderRow, SectionRow, LineRow, MarkRow, ContextRow, DotsRow, BlankRow, ShownSection, ShownFile, sections_rows, file_rows}
-use Rattle.scm_view.specs.Pictures.{to_end, whole_row, rest_of_row, box_picture, fold_column, heading_width, heading_mask, title_picture, heading_picture, changed_picture, context_picture, highlight, row_picture, rows_picture, sections_picture, shown_file_picture, file_mask, pinned_mask, mask_row, pinned_header}
+use Rattle.scm_view.specs.Rows.{section_id, file_id, Heading, DocRow, HeaderRow, SectionRow, LineRow, MarkRow, ContextRow, DotsRow, BlankRow, ShownSection, ShownFile, sections_rows, file_rows}
+use Rattle.scm_view.specs.Pictures.{to_end, box_picture, fold_column, heading_width, heading_mask, title_picture, heading_picture, changed_picture, context_picture, highlight, row_picture, rows_picture, sections_picture, shown_file_picture, file_mask, pinned_mask, mask_row, pinned_header}
 use Rattle.scm_view.specs.Strips.{heading_strip, row_strip, is_of_section, everywhere, section_strips, sections_strips, header_strip, file_strips}
 
 -- ---- limits as columns of the screen

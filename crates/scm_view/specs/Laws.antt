@@ -1,12 +1,15 @@
--- What follows from the definitions: what is drawn of a commit is in range. And on which screens a strip's columns are those of the screen.
-use Rattle.std.specs.Prelude.{◌≡◌, ℕ, ℤ, pos, true}
+-- What follows from the definitions: what is drawn of a commit is in range, and makes of the screen what the document says.
+use Rattle.std.specs.Prelude.{◌≡◌, ℕ, ◌≤◌, ℤ, pos, [], ◌∷◌, ◌++◌, true}
 use Rattle.scm_types.specs.Limits.{is_accepted_state}
 use Rattle.scm_render.specs.Picture.{PictureInRange}
-use Rattle.scm_render.specs.Canvas.{Sight}
-use Rattle.scm_render.specs.Drawing.{reach}
+use Rattle.scm_render.specs.Canvas.{Row, Sight, paint}
+use Rattle.scm_render.specs.Drawing.{reach, has_row}
 use Rattle.scm_view.specs.declared.commit_view.CommitView.{CommitView}
+use Rattle.scm_view.specs.Rows.{document_of}
 use Rattle.scm_view.specs.Shown.{Shown, Shows}
-use Rattle.scm_view.specs.Pictures.{commit_picture}
+use Rattle.scm_view.specs.Pictures.{mask_row, commit_picture}
+use Rattle.scm_view.specs.Layers.{shown_by}
+use Rattle.scm_view.specs.Strips.{document_layers, pinned_layer}
 use Rattle.scm_view.specs.Near.{IsClose, SightIsClose}
 
 -- what is drawn of a commit is in range, for each view that shows a session with an accepted state
@@ -21,3 +24,11 @@ pub record IsOpen (s : Sight) (w : ℕ) : Type 0 where
   pub width : s.rect.width ≡ w
   pub low : (reach s).x ≡ pos 0
   pub columns : (reach s).width ≡ w
+
+-- each row that the mask lets through, of h rows whose first is row m, becomes what the document's strips make of it, with the pinned
+-- header over that: for each commit, from row top on
+abbrev pub DocumentsArePainted : Type 0
+DocumentsArePainted =
+    (v : CommitView) (s : Sight) (w h m top : ℕ) → 10 ≤ w → w ≤ 65535 → h ≤ 65535 → IsOpen s w → (reach s).height ≡ h → mask_row s ≡ pos m
+    → (z : ℕ) (row : Row) → has_row (reach s) (pos z) ≡ true
+    → paint s.rect (commit_picture v s (pos 0) (pos top)).puts (pos z) row ≡ shown_by (document_layers w h m top (document_of v) ++ pinned_layer w m top (document_of v) ∷ []) z row

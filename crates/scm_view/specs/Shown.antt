@@ -1,7 +1,7 @@
 -- What is shown of a session: all on which the screen depends but its size and how far it is scrolled, and the views that show
 -- it. Where a view lends a text or a section, only what is lent counts, and not where it lies: a view shows a session if the
 -- documents of the two views are the same.
-use Rattle.std.specs.Prelude.{◌≡◌, ℕ, zero, suc, ◌+◌, ◌==◌, List, [], ◌∷◌, length, map, count_by, Bool, true, false, ◌&&◌, if◌then◌else◌, Option, Some, None, option_map}
+use Rattle.std.specs.Prelude.{◌≡◌, ℕ, zero, suc, ◌+◌, List, [], ◌∷◌, length, count_by, Bool, true, false, ◌&&◌, if◌then◌else◌, Option, Some, None, option_map}
 use Rattle.std.specs.Borrow.{Bor}
 use Rattle.scm_types.specs.declared.file.File.{File}
 use Rattle.scm_types.specs.declared.line.ChangeType.{ChangeType}

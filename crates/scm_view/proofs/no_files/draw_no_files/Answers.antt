@@ -1,5 +1,5 @@
-use Rattle.std.proofs.Common.{◌≡◌, FitsSigned, w64}
-use Rattle.std.specs.Prelude.{ℤ, pos, ◌+ℤ◌}
+use Rattle.std.proofs.Common.{FitsSigned, w64}
+use Rattle.std.specs.Prelude.{◌+ℤ◌}
 use Rattle.std.proofs.lemmas.Int.{to_z-of_z}
 use Rattle.scm_view.specs.Pictures.{no_files_place, no_files_picture}
 use Rattle.scm_view.proofs.FilesLemmas.{place-fits}

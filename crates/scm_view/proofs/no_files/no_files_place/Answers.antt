@@ -1,4 +1,4 @@
-use Rattle.std.proofs.Common.{◌≡◌, sym}
+use Rattle.std.proofs.Common.{sym}
 use Rattle.scm_view.proofs.FilesLemmas.{room-in}
 use Rattle.scm_view.proofs.no_files.no_files_place.Goals as goal
 

@@ -1,4 +1,4 @@
-use Rattle.std.proofs.Common.{◌≡◌, List, ℕ, map, FitsSigned, w64}
+use Rattle.std.proofs.Common.{List, ℕ, map, FitsSigned, w64}
 use Rattle.std.specs.Prelude.{ℤ, pos, ◌+ℤ◌}
 use Rattle.std.proofs.lemmas.Int.{to_z-of_z}
 use Rattle.scm_render.specs.Canvas.{Sight}
