@@ -17,3 +17,5 @@ pub mod RangeLemmas
 pub mod FixedLemmas
 pub mod OverlayExampleLemmas
 pub mod OverlayLemmas
+pub mod AppLemmas
+pub mod AppRangeLemmas
