@@ -19,3 +19,4 @@ pub mod OverlayExampleLemmas
 pub mod OverlayLemmas
 pub mod AppLemmas
 pub mod AppRangeLemmas
+pub mod AppShapeLemmas
