@@ -18,3 +18,6 @@ pub mod FixedLemmas
 pub mod OverlayExampleLemmas
 pub mod OverlayLemmas
 pub mod DocumentLemmas
+pub mod AppLemmas
+pub mod AppRangeLemmas
+pub mod AppShapeLemmas

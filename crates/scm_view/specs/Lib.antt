@@ -28,3 +28,5 @@ pub mod Screens
 pub mod Clicks
 pub mod Ranges
 pub mod Overlays
+-- All that the selector shows.
+pub mod AppView

@@ -1,4 +1,5 @@
-//! Laws of the view: what follows from its definitions for each commit that is drawn.
+//! Laws of the view: what follows from its definitions for each session that is drawn.
+ghost use Rattle.scm_view.specs.AppView.{AppsAreInRange};
 ghost use Rattle.scm_view.specs.Laws.{CommitsAreInRange, DocumentsArePainted};
 
 /// All that is drawn of a commit is in range, for each view that shows a session with an accepted
@@ -11,4 +12,10 @@ pub fn commits_are_in_range()
 /// header.
 pub fn documents_are_painted()
     ensures { DocumentsArePainted }
+{}
+
+/// All that the selector draws is in range, for each `AppView` that shows a session with an accepted
+/// state, on a screen of at most 65,535 columns and rows that lies at most 2,000,000 rows down.
+pub fn apps_are_in_range()
+    ensures { AppsAreInRange }
 {}

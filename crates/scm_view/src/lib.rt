@@ -2,6 +2,7 @@
 //! each part shows of a state, and the rows of the document that they make together.
 #![tactic(auto)]
 
+pub use app_view::AppView;
 pub use button::Button;
 pub use commit_message_view::CommitMessageView;
 pub use commit_view::{CommitView, CommitViewMode};
@@ -18,6 +19,7 @@ pub use section_line_view::{SectionLineView, SectionLineViewInner};
 pub use section_view::{SectionSelection, SectionView};
 pub use tristate_box::{TristateBox, TristateIconStyle};
 
+mod app_view;
 mod button;
 mod button_row;
 mod commit_message_view;

@@ -1,0 +1,95 @@
+use Rattle.std.proofs.Common.{FitsSigned, w64}
+use Rattle.std.specs.Prelude.{ℤ, Option}
+use Rattle.std.proofs.lemmas.Int.{to_z-of_z}
+use Rattle.scm_cells.specs.Rect.{RectInRange}
+use Rattle.scm_render.specs.Canvas.{Sight}
+use Rattle.scm_render.specs.Picture.{Picture, followed_by, part}
+use Rattle.scm_render.proofs.PictureLemmas.{PictureInRange-left, PictureInRange-right, PictureInRange-part}
+use Rattle.scm_render.proofs.StepLemmas.{InRange-fits, second-of-four, rest, four}
+use Rattle.scm_view.specs.declared.ids.ComponentId.{ComponentId}
+use Rattle.scm_view.specs.declared.ids.ComponentId.TheVariants as ids
+use Rattle.scm_view.specs.declared.menu_bar.MenuBar.{MenuBar}
+use Rattle.scm_view.specs.declared.quit_dialog.QuitDialog.{QuitDialog}
+use Rattle.scm_view.specs.declared.help_dialog.HelpDialog.{HelpDialog}
+use Rattle.scm_view.specs.Menus.{menu_bar_picture}
+use Rattle.scm_view.specs.Overlays.{quit_picture, help_picture}
+use Rattle.scm_view.specs.AppView.{is_open, app_picture}
+use Rattle.scm_view.proofs.RowsLemmas.{on-ok}
+use Rattle.scm_view.proofs.AppLemmas.{bar-below}
+use Rattle.scm_view.proofs.app_view.AppViewComponent.draw.Goals as goal
+
+abbrev bar : MenuBar → ℤ → ℤ → Sight → Picture ComponentId
+bar b x y s = part ids.MenuBar (menu_bar_picture b s x y)
+
+abbrev quit : Option QuitDialog → Sight → Picture ComponentId
+quit q s = quit_picture q s
+
+abbrev help : Option HelpDialog → Sight → Picture ComponentId
+help h s = help_picture (is_open h) s
+
+pub draw_views-requires-clause-below : goal.draw_views-requires-clause-below
+unfolding app_picture
+draw_views-requires-clause-below c = bar-below _ _ _ _ (PictureInRange-part _ _ (PictureInRange-left _ _ (PictureInRange-right _ _ c.requires)))
+
+pub draw_views-requires-clause-end : goal.draw_views-requires-clause-end
+draw_views-requires-clause-end c =
+    let r : RectInRange c.args.viewport.now.canvas.sight.rect = rw c.rect-screen.ensures.value at c.rect-screen.ensures.in_range in
+    r.end_x
+
+pub draw_views-requires-clause-picture : goal.draw_views-requires-clause-picture
+unfolding app_picture
+draw_views-requires-clause-picture c =
+    let fx : FitsSigned w64 c.args.x = c.ranges.x in
+    rw (c.shown_views.ensures, c.view_width-width.ensures, c.rect-screen.ensures.value) (simp to_z-of_z (PictureInRange-left _ _ c.requires))
+
+pub draw_component-requires : goal.draw_component-requires
+unfolding app_picture
+draw_component-requires c =
+    let fx : FitsSigned w64 c.args.x = c.ranges.x in
+    let s = c.args.viewport.now.canvas.sight in
+    let a = c.args.self.now in
+    let r : RectInRange s.rect = rw c.rect-screen.ensures.value at c.rect-screen.ensures.in_range in
+    let fy : FitsSigned w64 s.rect.y = InRange-fits _ r.y in
+    let views = simp to_z-of_z at (rw (c.shown_views.ensures, c.view_width-width.ensures, c.rect-screen.ensures.value) at c.in_ok-draw_views.ensures.ok) in
+    let over = second-of-four _ _ _ (bar a.menu_bar c.args.x s.rect.y) (quit a.quit_dialog) (help a.help_dialog) views c.requires in
+    rw c.rect-screen.ensures.value (simp to_z-of_z (PictureInRange-left _ _ over))
+
+pub draw_quit-requires : goal.draw_quit-requires
+unfolding app_picture
+draw_quit-requires c =
+    let fx : FitsSigned w64 c.args.x = c.ranges.x in
+    let s = c.args.viewport.now.canvas.sight in
+    let a = c.args.self.now in
+    let r : RectInRange s.rect = rw c.rect-screen.ensures.value at c.rect-screen.ensures.in_range in
+    let fy : FitsSigned w64 s.rect.y = InRange-fits _ r.y in
+    let views = simp to_z-of_z at (rw (c.shown_views.ensures, c.view_width-width.ensures, c.rect-screen.ensures.value) at c.in_ok-draw_views.ensures.ok) in
+    let over = second-of-four _ _ _ (bar a.menu_bar c.args.x s.rect.y) (quit a.quit_dialog) (help a.help_dialog) views c.requires in
+    let menus = simp to_z-of_z at (rw c.rect-screen.ensures.value at c.in_ok-draw_component.ensures.ok) in
+    let dialogs = rest _ _ _ (λ t. followed_by (quit a.quit_dialog t) (help a.help_dialog t)) menus over in
+    PictureInRange-left _ _ dialogs
+
+pub draw_help-requires : goal.draw_help-requires
+unfolding app_picture
+draw_help-requires c =
+    let fx : FitsSigned w64 c.args.x = c.ranges.x in
+    let s = c.args.viewport.now.canvas.sight in
+    let a = c.args.self.now in
+    let r : RectInRange s.rect = rw c.rect-screen.ensures.value at c.rect-screen.ensures.in_range in
+    let fy : FitsSigned w64 s.rect.y = InRange-fits _ r.y in
+    let views = simp to_z-of_z at (rw (c.shown_views.ensures, c.view_width-width.ensures, c.rect-screen.ensures.value) at c.in_ok-draw_views.ensures.ok) in
+    let over = second-of-four _ _ _ (bar a.menu_bar c.args.x s.rect.y) (quit a.quit_dialog) (help a.help_dialog) views c.requires in
+    let menus = simp to_z-of_z at (rw c.rect-screen.ensures.value at c.in_ok-draw_component.ensures.ok) in
+    let dialogs = rest _ _ _ (λ t. followed_by (quit a.quit_dialog t) (help a.help_dialog t)) menus over in
+    rest _ _ _ (help a.help_dialog) c.in_ok-draw_quit.ensures.ok dialogs
+
+pub returns-clause-ok : goal.returns-clause-ok
+unfolding app_picture
+returns-clause-ok c =
+    let fx : FitsSigned w64 c.args.x = c.ranges.x in
+    let s = c.args.viewport.now.canvas.sight in
+    let a = c.args.self.now in
+    let r : RectInRange s.rect = rw c.rect-screen.ensures.value at c.rect-screen.ensures.in_range in
+    let fy : FitsSigned w64 s.rect.y = InRange-fits _ r.y in
+    let views = simp to_z-of_z at (rw (c.shown_views.ensures, c.view_width-width.ensures, c.rect-screen.ensures.value) at c.in_ok-draw_views.ensures.ok) in
+    let menus = simp to_z-of_z at (rw c.rect-screen.ensures.value at c.in_ok-draw_component.ensures.ok) in
+    on-ok _ (four _ _ _ _ _ _ (bar a.menu_bar c.args.x s.rect.y) (quit a.quit_dialog) (help a.help_dialog) views menus c.in_ok-draw_quit.ensures.ok) c.draw_help.ensures.ok

@@ -1,0 +1,12 @@
+use Rattle.std.proofs.Common.{drop}
+use Rattle.scm_render.proofs.StepLemmas.{IsLeft}
+use Rattle.scm_view.specs.AppView.{views_picture}
+use Rattle.scm_view.proofs.app_view.draw_views.Given as goal
+
+abbrev pub invariant-loop-view : goal.invariant-loop-view
+invariant-loop-view l =
+    record {
+      left : IsLeft l.fn.viewport.canvas l.viewport.canvas
+          (views_picture (drop l.view-index l.views) l.width l.fn.viewport.canvas.sight l.left)
+          (views_picture l.views l.width l.fn.viewport.canvas.sight l.fn.x);
+    }

@@ -1,0 +1,211 @@
+//! All that the selector shows.
+ghost use Rattle.std.specs.Prelude.{◌≡◌, ◌≤◌, ℤ, pos, ◌+ℤ◌, OnOk, IfOk, IfErr, take, length};
+ghost use Rattle.scm_cells.specs.Rect.{InRange, RectInRange, end_x_of};
+ghost use Rattle.scm_cells.specs.Mask.{MaskInRange};
+ghost use Rattle.scm_render.specs.Picture.{PictureInRange, part};
+ghost use Rattle.scm_render.specs.Canvas.{with_picture};
+ghost use Rattle.scm_types.specs.declared.error.RecordError.TheVariants.{OutOfMemory};
+ghost use Rattle.scm_view.specs.declared.ids.ComponentId.TheVariants as ids;
+ghost use Rattle.scm_view.specs.Overlays.{quit_picture, help_picture};
+ghost use Rattle.scm_view.specs.AppView.{views_shown, view_width, held, view_mask, view_picture, next_view, views_picture, is_open};
+
+use crate::commit_view::{CommitView, CommitViewMode};
+use crate::help_dialog::HelpDialog;
+use crate::ids::ComponentId;
+use crate::menu_bar::MenuBar;
+use crate::quit_dialog::QuitDialog;
+use crate::reach::columns;
+use scm_cells::{Mask, Rect};
+use scm_render::{Component, Viewport};
+use scm_types::{Items, RecordError};
+use std::alloc::Global;
+
+/// All that the selector shows: documents of commits below the menu bar, and the dialogs that are open.
+#[derive(Drop)]
+pub struct AppView<'a> {
+    /// The menu bar, on the screen's first row.
+    pub menu_bar: MenuBar<'a>,
+    /// How many of the commits are drawn.
+    pub commit_view_mode: CommitViewMode,
+    /// The documents, of which the first or the first two are drawn.
+    pub commit_views: Items<CommitView<'a>>,
+    /// The quit dialog, if it is open.
+    pub quit_dialog: Option<QuitDialog>,
+    /// The help, if it is open.
+    pub help_dialog: Option<HelpDialog>,
+}
+
+impl CommitViewMode {
+    /// How many commits are drawn, as far as there are any.
+    fn views_shown(self) -> usize
+        ensures { result ≡ views_shown self }
+    {
+        match self {
+            CommitViewMode::Inline => 1,
+            CommitViewMode::Adjacent => 2,
+        }
+    }
+
+    /// How many columns each of them has on a screen of so many columns.
+    fn view_width(self, columns: usize) -> usize
+        ensures { result ≡ view_width self columns }
+    {
+        match self {
+            CommitViewMode::Inline => columns,
+            CommitViewMode::Adjacent => (columns.saturating_sub(1) / 2).min(120),
+        }
+    }
+}
+
+/// The nearest column of a rectangle, or the first after it.
+fn held(rect: Rect, x: isize) -> isize
+    requires { RectInRange rect }
+    ensures { result ≡ held rect x }
+{
+    x.max(rect.x).min(rect.end_x())
+}
+
+/// The rows below the menu bar, and those of so many columns from one on that are on the screen.
+fn view_mask(viewport: &Viewport<ComponentId>, x: isize, width: usize) -> Mask
+    requires { InRange (viewport.now.canvas.sight.rect.y +ℤ pos 1) }
+    ensures mask { result ≡ view_mask viewport.now.canvas.sight x width }
+    ensures in_range { MaskInRange result }
+    ensures end { InRange (end_x_of viewport.now.canvas.sight.rect) }
+{
+    let rect = viewport.rect();
+    let left = held(rect, x);
+    let hidden = columns(x, left);
+    let room = columns(left, rect.end_x());
+    Mask {
+        x: left,
+        y: rect.y + 1,
+        width: Some(width.saturating_sub(hidden).min(room)),
+        height: None,
+    }
+}
+
+/// Draws the document of a commit below the menu bar, in so many columns from one on, and gives the
+/// column where the next would begin: one after those that were drawn.
+fn draw_view(
+    viewport: &mut Viewport<ComponentId>,
+    x: isize,
+    width: usize,
+    view: &CommitView<'_>,
+) -> Result<isize, RecordError>
+    requires below { InRange (viewport.old.canvas.sight.rect.y +ℤ pos 1) }
+    requires picture { PictureInRange (part ids.AppFiles (view_picture view.now viewport.old.canvas.sight x width)) }
+    ensures ok { OnOk result (viewport.new.canvas ≡ with_picture viewport.old.canvas (part ids.AppFiles (view_picture view.now viewport.old.canvas.sight x width))) }
+    ensures next { IfOk result (λ c. c ≡ next_view view.now viewport.old.canvas.sight x width) }
+    ensures rect { viewport.new.canvas.sight.rect ≡ viewport.old.canvas.sight.rect }
+    ensures err { IfErr result (λ e. e ≡ OutOfMemory) }
+{
+    let mask = view_mask(viewport, x, width);
+    let outer = viewport.swap_mask(Some(mask));
+    let drawn = viewport.draw_component(x, 1, view)?;
+    viewport.swap_mask(outer);
+    Ok(x.strict_add_unsigned(mask.apply(drawn).width) + 1)
+}
+
+/// Draws documents of commits beside each other, each in so many columns.
+fn draw_views(
+    viewport: &mut Viewport<ComponentId>,
+    x: isize,
+    width: usize,
+    views: &[CommitView<'_>],
+) -> Result<(), RecordError>
+    requires below { InRange (viewport.old.canvas.sight.rect.y +ℤ pos 1) }
+    requires end { InRange (end_x_of viewport.old.canvas.sight.rect) }
+    requires picture { PictureInRange (views_picture views.now width viewport.old.canvas.sight x) }
+    ensures ok { OnOk result (viewport.new.canvas ≡ with_picture viewport.old.canvas (views_picture views.now width viewport.old.canvas.sight x)) }
+    ensures rect { viewport.new.canvas.sight.rect ≡ viewport.old.canvas.sight.rect }
+    ensures err { IfErr result (λ e. e ≡ OutOfMemory) }
+{
+    let mut left = x;
+    for view in views {
+        left = draw_view(viewport, left, width, view)?;
+    }
+    Ok(())
+}
+
+/// Draws the quit dialog, if it is open.
+fn draw_quit(
+    viewport: &mut Viewport<ComponentId>,
+    dialog: &Option<QuitDialog>,
+) -> Result<(), RecordError>
+    requires { PictureInRange (quit_picture dialog.now viewport.old.canvas.sight) }
+    ensures ok { OnOk result (viewport.new.canvas ≡ with_picture viewport.old.canvas (quit_picture dialog.now viewport.old.canvas.sight)) }
+    ensures rect { viewport.new.canvas.sight.rect ≡ viewport.old.canvas.sight.rect }
+    ensures err { IfErr result (λ e. e ≡ OutOfMemory) }
+{
+    match dialog {
+        Some(quit_dialog) => {
+            viewport.draw_component(0, 0, quit_dialog)?;
+            Ok(())
+        }
+        None => Ok(()),
+    }
+}
+
+/// Draws the help, if it is open.
+fn draw_help(
+    viewport: &mut Viewport<ComponentId>,
+    dialog: &Option<HelpDialog>,
+) -> Result<(), RecordError>
+    requires { PictureInRange (help_picture (is_open dialog.now) viewport.old.canvas.sight) }
+    ensures ok { OnOk result (viewport.new.canvas ≡ with_picture viewport.old.canvas (help_picture (is_open dialog.now) viewport.old.canvas.sight)) }
+    ensures rect { viewport.new.canvas.sight.rect ≡ viewport.old.canvas.sight.rect }
+    ensures err { IfErr result (λ e. e ≡ OutOfMemory) }
+{
+    match dialog {
+        Some(help_dialog) => {
+            viewport.draw_component(0, 0, help_dialog)?;
+            Ok(())
+        }
+        None => Ok(()),
+    }
+}
+
+impl<'a> AppView<'a> {
+    /// The documents that are drawn.
+    fn shown_views(&self) -> &[CommitView<'a>]
+        ensures { result.now ≡ take (views_shown self.now.commit_view_mode) self.now.commit_views }
+    {
+        let count = self
+            .commit_view_mode
+            .views_shown()
+            .min(self.commit_views.len());
+        let (shown, _) = self.commit_views.as_slice().split_at(count);
+        shown
+    }
+}
+
+impl<'a> Component for AppView<'a> {
+    type Id = ComponentId;
+
+    ghost use Rattle.scm_view.specs.declared.ids.ComponentId.TheVariants.{App};
+    ghost use Rattle.scm_view.specs.AppView.{app_picture};
+
+    ghost key = { λ a. App };
+
+    ghost picture = { app_picture };
+
+    fn id(&self) -> ComponentId {
+        ComponentId::App
+    }
+
+    /// The rows are those of the screen, whatever `y` is.
+    fn draw(
+        &self,
+        _alloc: Global,
+        viewport: &mut Viewport<ComponentId>,
+        x: isize,
+        _y: isize,
+    ) -> Result<(), RecordError> {
+        let screen = viewport.rect();
+        let width = self.commit_view_mode.view_width(screen.width);
+        draw_views(viewport, x, width, self.shown_views())?;
+        viewport.draw_component(x, screen.y, &self.menu_bar)?;
+        draw_quit(viewport, &self.quit_dialog)?;
+        draw_help(viewport, &self.help_dialog)
+    }
+}
