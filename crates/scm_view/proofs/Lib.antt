@@ -18,3 +18,5 @@ pub mod FixedLemmas
 pub mod OverlayExampleLemmas
 pub mod OverlayLemmas
 pub mod DocumentLemmas
+pub mod BoxLemmas
+pub mod OwnerLemmas
