@@ -9,7 +9,7 @@ use Rattle.scm_cells.specs.declared.rect.Rect.{Rect}
 use Rattle.scm_render.specs.Picture.{nothing, followed_by, covering, part, box_rect}
 use Rattle.scm_render.specs.Canvas.{Sight}
 use Rattle.scm_render.specs.Drawing.{has_row, span_picture, line_picture, text_picture, blank_picture}
-use Rattle.scm_render.specs.Hits.{IsLawful, has_id, hit}
+use Rattle.scm_render.specs.Hits.{IsLawful, has_id, hit, latest}
 use Rattle.scm_render.specs.Lines.{line}
 use Rattle.scm_render.proofs.HitLemmas.{each_more}
 use Rattle.scm_view.specs.declared.keys.FileKey.{FileKey}
@@ -21,7 +21,8 @@ use Rattle.scm_view.specs.declared.ids.ComponentId.{ComponentId}
 use Rattle.scm_view.specs.declared.ids.ComponentId.TheVariants as ids
 use Rattle.scm_view.specs.Clicks.{is_clickable}
 use Rattle.scm_view.specs.Laws.{IsOpen}
-use Rattle.scm_view.specs.Layers.{Strip, clear, over, owned}
+use Rattle.scm_view.specs.Layers.{Strip, clear, over, owned, strip_at}
+use Rattle.scm_view.specs.Owners.{section_of_line, IsRowOf, after_row, AreRowsOf, file_of_section, AreSectionsOf}
 use Rattle.scm_view.specs.Texts.{box_text}
 use Rattle.scm_view.specs.Rows.{IdBox, section_id, line_id, Heading, DocRow, HeaderRow, SectionRow, LineRow, MarkRow, ContextRow, DotsRow, BlankRow, ShownSection}
 use Rattle.scm_view.specs.Pictures.{IdPicture, box_picture, box_part, heading_width, title_picture, heading_picture, changed_picture, context_picture, highlight, row_picture, rows_picture, sections_picture}
@@ -130,10 +131,6 @@ heading-boxes h s w c y some o =
 
 -- ---- whose the ids are
 
--- the section of a line
-abbrev pub section_of_line : LineKey → SectionKey
-section_of_line k = record { commit_idx = k.commit_idx; file_idx = k.file_idx; section_idx = k.section_idx }
-
 abbrev key_section : SelectionKey → Option SectionKey
 key_section selection.None = None
 key_section (selection.File k) = None
@@ -214,31 +211,6 @@ pub record IsFrom (k : SectionKey) (n : ℕ) (i : ComponentId) : Type 0 where
   pub section : section_of i ≡ Some k
   pub low : n < rank_of i
   pub inner : is_item i ≡ true → 1 < rank_of i
-
--- the ids of a row are those of the section's parts, from a rank on
-abbrev pub IsRowOf : SectionKey → ℕ → DocRow → Type 0
-IsRowOf k n (HeaderRow key h) = ⊥
-IsRowOf k n (SectionRow selected h) = (n ≡ 0) × (h.toggle.id ≡ ids.ToggleBox (selection.Section k)) × (h.fold.id ≡ ids.ExpandBox (selection.Section k))
-IsRowOf k n (LineRow key b ts) = (n ≤ suc key.line_idx) × (section_of_line key ≡ k) × (b.id ≡ ids.ToggleBox (selection.Line key))
-IsRowOf k n (MarkRow selected b t) = (n ≡ 0) × (b.id ≡ ids.ToggleBox (selection.Section k))
-IsRowOf k n (ContextRow key ts) = (n ≤ suc key.line_idx) × (section_of_line key ≡ k)
-IsRowOf k n (DotsRow t) = Unit {0}
-IsRowOf k n BlankRow = Unit {0}
-
--- the rank after those of a row
-abbrev pub after_row : ℕ → DocRow → ℕ
-after_row n (HeaderRow key h) = n
-after_row n (SectionRow selected h) = 1
-after_row n (LineRow key b ts) = suc (suc key.line_idx)
-after_row n (MarkRow selected b t) = 1
-after_row n (ContextRow key ts) = suc (suc key.line_idx)
-after_row n (DotsRow t) = n
-after_row n BlankRow = n
-
--- and so for rows, one below another
-abbrev pub AreRowsOf : SectionKey → ℕ → List DocRow → Type 0
-AreRowsOf k n [] = Unit {0}
-AreRowsOf k n (d ∷ ds) = IsRowOf k n d × AreRowsOf k (after_row n d) ds
 
 -- ---- rows
 
@@ -407,15 +379,6 @@ module _ (same : ComponentId → ComponentId → Bool) (law : IsLawful same) whe
   section_owns k [] s w y fits o e = none_own k s w y
   section_owns k (d ∷ ds) s w y fits o e = some_own k d ds s w y fits o e
 
--- the file of a section
-abbrev pub file_of_section : SectionKey → FileKey
-file_of_section k = record { commit_idx = k.commit_idx; file_idx = k.file_idx }
-
--- the sections of a file, each with its rows, from this one on
-abbrev pub AreSectionsOf : FileKey → ℕ → List ShownSection → Type 0
-AreSectionsOf f n [] = Unit {0}
-AreSectionsOf f n (p ∷ ps) = (n ≤ p.key.section_idx) × (file_of_section p.key ≡ f) × AreRowsOf p.key 0 p.rows × AreSectionsOf f (suc p.key.section_idx) ps
-
 -- a section of the file, or a part of one, from this one on
 pub record IsSectionFrom (f : FileKey) (n : ℕ) (i : ComponentId) : Type 0 where
   pub key : SectionKey
@@ -445,3 +408,7 @@ module _ (same : ComponentId → ComponentId → Bool) (law : IsLawful same) whe
       (λ i j a b. differ same law i j (λ r. let t = index-of i p.key b.key a (ap section_of r ∙ b.section) in absurd (omega (arith, t, b.low))))
       (λ i a. record { key = p.key; section = a; file = e.1; low = e.0 })
       (λ i a. record { key = a.key; section = a.section; file = a.file; low = omega (arith, a.low, e.0) })
+
+  pub sections-owned : (f : FileKey) (ps : List ShownSection) (s : Sight) (w y x : ℕ) → 10 ≤ w → IsOpen s w → AreSectionsOf f 0 ps → x < w
+      → (z : ℕ) → latest same is_clickable (sections_picture ps s (pos 2) (pos y)).boxes (pos z) (pos x) ≡ (strip_at z (record { first = y; strips = sections_strips w ps })).owner x
+  sections-owned f ps s w y x fits o e within z = (sections_own f 0 ps s w (pos y) fits o e).owns (λ i. false) (λ i p. refl) (pos z) x within

@@ -1,5 +1,5 @@
 //! Laws of the view: what follows from its definitions for each commit that is drawn.
-ghost use Rattle.scm_view.specs.Laws.{CommitsAreInRange, DocumentsArePainted};
+ghost use Rattle.scm_view.specs.Laws.{CommitsAreInRange, DocumentsArePainted, SectionsOwnTheirColumns};
 
 /// All that is drawn of a commit is in range, for each view that shows a session with an accepted
 /// state, on a screen of at most 65,535 columns and rows that lies at most 2,000,000 rows down.
@@ -11,4 +11,10 @@ pub fn commits_are_in_range()
 /// header.
 pub fn documents_are_painted()
     ensures { DocumentsArePainted }
+{}
+
+/// A click on a row of a file's sections acts on what the document says, if the sections have the
+/// ids of their keys.
+pub fn sections_own_their_columns()
+    ensures { SectionsOwnTheirColumns }
 {}
