@@ -112,7 +112,7 @@ and_false : (a b : Bool) → b ≡ false → (a && b) ≡ false
 and_false true b e = e
 and_false false b e = refl
 
-holds-nothing : (z : ℤ) (x : ℕ) → holds no_rect z (pos x) ≡ false
+pub holds-nothing : (z : ℤ) (x : ℕ) → holds no_rect z (pos x) ≡ false
 unfolding holds
 holds-nothing z x = let e : int_lt (pos x) (end_x_of no_rect) ≡ false = grind (arith, ints) in and_none _ _ _ e
 

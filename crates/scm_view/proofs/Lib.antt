@@ -21,3 +21,5 @@ pub mod DocumentLemmas
 pub mod AppLemmas
 pub mod AppRangeLemmas
 pub mod AppShapeLemmas
+pub mod BoxLemmas
+pub mod OwnerLemmas

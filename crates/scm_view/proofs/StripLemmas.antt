@@ -108,16 +108,16 @@ one_row-reached x y n s h =
 
 -- ---- headings
 
-fold-place : (s : Sight) (w : ℕ) → 3 ≤ w → IsOpen s w → fold_column s ≡ pos (w - 3)
+pub fold-place : (s : Sight) (w : ℕ) → 3 ≤ w → IsOpen s w → fold_column s ≡ pos (w - 3)
 fold-place s w h o = omega (arith, ints, o.low, o.columns)
 
-heading-columns : (s : Sight) (w c : ℕ) → c + 8 ≤ w → IsOpen s w → heading_width s (pos c) ≡ w - 3 - c
+pub heading-columns : (s : Sight) (w c : ℕ) → c + 8 ≤ w → IsOpen s w → heading_width s (pos c) ≡ w - 3 - c
 heading-columns s w c h o = let fold = fold-place s w (omega arith) o in omega (arith, places, fold)
 
-abbrev beside_fold : Sight → ℕ → ℤ → Sight
+abbrev pub beside_fold : Sight → ℕ → ℤ → Sight
 beside_fold s c y = under (heading_mask s (pos c) y) s
 
-heading-between : (s : Sight) (w c : ℕ) (y : ℤ) → c + 8 ≤ w → IsOpen s w → IsBetween s.rect (reach (beside_fold s c y)) w c (w - 3)
+pub heading-between : (s : Sight) (w c : ℕ) (y : ℤ) → c + 8 ≤ w → IsOpen s w → IsBetween s.rect (reach (beside_fold s c y)) w c (w - 3)
 heading-between s w c y h o =
     let n = heading-columns s w c h o in
     let low = under-x (pos c) y (heading_width s (pos c)) (Some 1) s in

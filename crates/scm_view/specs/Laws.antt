@@ -1,15 +1,21 @@
--- What follows from the definitions: what is drawn of a commit is in range, and makes of the screen what the document says.
-use Rattle.std.specs.Prelude.{◌≡◌, ℕ, ◌≤◌, ℤ, pos, [], ◌∷◌, ◌++◌, true}
+-- What follows from the definitions: what is drawn of a commit is in range, and makes of the screen what the document says; and the boxes
+-- of sections own what their strips say.
+use Rattle.std.specs.Prelude.{◌≡◌, ℕ, ◌≤◌, ◌<◌, ℤ, pos, List, [], ◌∷◌, ◌++◌, Bool, true}
 use Rattle.scm_types.specs.Limits.{is_accepted_state}
 use Rattle.scm_render.specs.Picture.{PictureInRange}
 use Rattle.scm_render.specs.Canvas.{Row, Sight, paint}
 use Rattle.scm_render.specs.Drawing.{reach, has_row}
+use Rattle.scm_render.specs.Hits.{IsLawful, latest}
+use Rattle.scm_view.specs.declared.keys.FileKey.{FileKey}
+use Rattle.scm_view.specs.declared.ids.ComponentId.{ComponentId}
 use Rattle.scm_view.specs.declared.commit_view.CommitView.{CommitView}
-use Rattle.scm_view.specs.Rows.{document_of}
+use Rattle.scm_view.specs.Rows.{ShownSection, document_of}
 use Rattle.scm_view.specs.Shown.{Shown, Shows}
-use Rattle.scm_view.specs.Pictures.{mask_row, commit_picture}
-use Rattle.scm_view.specs.Layers.{shown_by}
-use Rattle.scm_view.specs.Strips.{document_layers, pinned_layer}
+use Rattle.scm_view.specs.Pictures.{mask_row, sections_picture, commit_picture}
+use Rattle.scm_view.specs.Layers.{strip_at, shown_by}
+use Rattle.scm_view.specs.Strips.{sections_strips, document_layers, pinned_layer}
+use Rattle.scm_view.specs.Owners.{AreSectionsOf}
+use Rattle.scm_view.specs.Clicks.{is_clickable}
 use Rattle.scm_view.specs.Near.{IsClose, SightIsClose}
 
 -- what is drawn of a commit is in range, for each view that shows a session with an accepted state
@@ -32,3 +38,11 @@ DocumentsArePainted =
     (v : CommitView) (s : Sight) (w h m top : ℕ) → 10 ≤ w → w ≤ 65535 → h ≤ 65535 → IsOpen s w → (reach s).height ≡ h → mask_row s ≡ pos m
     → (z : ℕ) (row : Row) → has_row (reach s) (pos z) ≡ true
     → paint s.rect (commit_picture v s (pos 0) (pos top)).puts (pos z) row ≡ shown_by (document_layers w h m top (document_of v) ++ pinned_layer w m top (document_of v) ∷ []) z row
+
+-- the latest box that a click acts on, of those of a file's sections, is the owner that the sections' strips name: for sections whose
+-- ids are those of their keys, one below another from row top on
+abbrev pub SectionsOwnTheirColumns : Type 0
+SectionsOwnTheirColumns =
+    (same : ComponentId → ComponentId → Bool) → IsLawful same
+    → (f : FileKey) (ps : List ShownSection) (s : Sight) (w top x : ℕ) → 10 ≤ w → IsOpen s w → AreSectionsOf f 0 ps → x < w
+    → (z : ℕ) → latest same is_clickable (sections_picture ps s (pos 2) (pos top)).boxes (pos z) (pos x) ≡ (strip_at z (record { first = top; strips = sections_strips w ps })).owner x

@@ -18,6 +18,8 @@ pub mod Strips
 pub mod Places
 -- Places and texts with which all that is drawn is in range.
 pub mod Near
+-- Whose ids the rows of a file's sections have.
+pub mod Owners
 -- What follows from the definitions.
 pub mod Laws
 pub mod Buttons

@@ -1,0 +1,46 @@
+-- Whose ids the rows of a file's sections have: those of the sections' keys and of their lines, each of them once.
+use Rattle.std.specs.Prelude.{◌≡◌, ℕ, suc, ◌≤◌, List, [], ◌∷◌}
+use Rattle.scm_view.specs.declared.keys.FileKey.{FileKey}
+use Rattle.scm_view.specs.declared.keys.SectionKey.{SectionKey}
+use Rattle.scm_view.specs.declared.keys.LineKey.{LineKey}
+use Rattle.scm_view.specs.declared.keys.SelectionKey.TheVariants as selection
+use Rattle.scm_view.specs.declared.ids.ComponentId.TheVariants as ids
+use Rattle.scm_view.specs.Rows.{DocRow, HeaderRow, SectionRow, LineRow, MarkRow, ContextRow, DotsRow, BlankRow, ShownSection}
+
+-- the section of a line
+abbrev pub section_of_line : LineKey → SectionKey
+section_of_line k = record { commit_idx = k.commit_idx; file_idx = k.file_idx; section_idx = k.section_idx }
+
+-- the ids of a row are those of the section's parts, from a rank on
+abbrev pub IsRowOf : SectionKey → ℕ → DocRow → Type 0
+IsRowOf k n (HeaderRow key h) = ⊥
+IsRowOf k n (SectionRow selected h) = (n ≡ 0) × (h.toggle.id ≡ ids.ToggleBox (selection.Section k)) × (h.fold.id ≡ ids.ExpandBox (selection.Section k))
+IsRowOf k n (LineRow key b ts) = (n ≤ suc key.line_idx) × (section_of_line key ≡ k) × (b.id ≡ ids.ToggleBox (selection.Line key))
+IsRowOf k n (MarkRow selected b t) = (n ≡ 0) × (b.id ≡ ids.ToggleBox (selection.Section k))
+IsRowOf k n (ContextRow key ts) = (n ≤ suc key.line_idx) × (section_of_line key ≡ k)
+IsRowOf k n (DotsRow t) = Unit {0}
+IsRowOf k n BlankRow = Unit {0}
+
+-- the rank after those of a row
+abbrev pub after_row : ℕ → DocRow → ℕ
+after_row n (HeaderRow key h) = n
+after_row n (SectionRow selected h) = 1
+after_row n (LineRow key b ts) = suc (suc key.line_idx)
+after_row n (MarkRow selected b t) = 1
+after_row n (ContextRow key ts) = suc (suc key.line_idx)
+after_row n (DotsRow t) = n
+after_row n BlankRow = n
+
+-- and so for rows, one below another
+abbrev pub AreRowsOf : SectionKey → ℕ → List DocRow → Type 0
+AreRowsOf k n [] = Unit {0}
+AreRowsOf k n (d ∷ ds) = IsRowOf k n d × AreRowsOf k (after_row n d) ds
+
+-- the file of a section
+abbrev pub file_of_section : SectionKey → FileKey
+file_of_section k = record { commit_idx = k.commit_idx; file_idx = k.file_idx }
+
+-- the sections of a file, each with its rows, from this one on
+abbrev pub AreSectionsOf : FileKey → ℕ → List ShownSection → Type 0
+AreSectionsOf f n [] = Unit {0}
+AreSectionsOf f n (p ∷ ps) = (n ≤ p.key.section_idx) × (file_of_section p.key ≡ f) × AreRowsOf p.key 0 p.rows × AreSectionsOf f (suc p.key.section_idx) ps
