@@ -1,5 +1,5 @@
 //! Centring, texts, frames, masks and the boxes of components, by the project's values.
-ghost use Rattle.std.specs.Prelude.{◌≡◌, ◌≤◌, pos, Some, None};
+ghost use Rattle.std.specs.Prelude.{◌≡◌, ◌≤◌, length, pos, Some, None};
 ghost use Rattle.scm_cells.specs.Clusters.{text_width};
 ghost use Rattle.scm_cells.specs.Spans.{span_texts};
 ghost use Rattle.scm_render.specs.Drawing.{texts_width};
@@ -212,13 +212,21 @@ fn render_column(
     Viewport::render_top_level(alloc, grid, 0, 0, column)
 }
 
+/// Checks that a label is short: at most 10 bytes.
+fn check_label(rt: &impl Abort, label: &str)
+    ensures { length label.now ≤ 10 }
+{
+    let length = label.len();
+    assert!(rt; length <= 10);
+}
+
 /// Draws a tag with a short label at the document's corner.
 fn draw_tag(
     rt: &impl Abort,
     viewport: &mut Viewport<u8>,
     tag: &Tag<u8>,
 ) -> Result<Rect, RecordError> {
-    assert!(rt; tag.label.len() <= 10);
+    check_label(rt, tag.label);
     viewport.draw_component(0, 0, tag)
 }
 
@@ -502,11 +510,10 @@ fn a_thousand_boxes(rt: HostRuntime) -> Result<(), Fail> {
     let alloc = rt.alloc();
     let mut grid = Grid::new(alloc, 6, 4)?;
     let mut captions = Vec::new(alloc);
-    for row in 0..1000 {
-        captions.push(Caption {
-            id: (row % 200) as u8,
-            text: "a",
-        })?;
+    for _ in 0..5 {
+        for id in 0..200u8 {
+            captions.push(Caption { id, text: "a" })?;
+        }
     }
     let column = Column { id: 255, captions };
     let drawn = render_column(&rt, alloc, &mut grid, &column)?;
