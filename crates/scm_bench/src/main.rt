@@ -127,9 +127,11 @@ fn main(rt: HostRuntime) -> anyhow::Result<()> {
     let ascii = repeated(alloc, "abcdefgh", 10)?;
     let wide = repeated(alloc, "日本語文", 10)?;
     let marks = repeated(alloc, "e\u{301}o\u{308}", 40)?;
+    let lines = repeated(alloc, "│ ", 40)?;
     println!(rt; "{frames} frames of 80 by 24 columns")?;
     measure(&rt, alloc, "ASCII", ascii.as_str(), frames)?;
     measure(&rt, alloc, "wide", wide.as_str(), frames)?;
     measure(&rt, alloc, "combining", marks.as_str(), frames)?;
+    measure(&rt, alloc, "lines", lines.as_str(), frames)?;
     Ok(())
 }

@@ -22,13 +22,13 @@ use Rattle.scm_cells.specs.Clusters.{clusters, kept, kept_width, has_control, wi
 
 -- ---- a printable character
 
-abbrev is_printable_char : ℕ → Bool
+abbrev pub is_printable_char : ℕ → Bool
 is_printable_char = is_in_range 0x20 0x7E
 
-printable-ascii : (c : ℕ) → is_printable_char c ≡ true → c < 128
+pub printable-ascii : (c : ℕ) → is_printable_char c ≡ true → c < 128
 printable-ascii c h = grind (arith, nat_tests)
 
-printable-encodes : (c : ℕ) → is_printable_char c ≡ true → encode_utf8 c ≡ c ∷ []
+pub printable-encodes : (c : ℕ) → is_printable_char c ≡ true → encode_utf8 c ≡ c ∷ []
 printable-encodes c h = encode_ascii c (printable-ascii c h)
 
 IsAscii-printable : (cs : List ℕ) → is_printable cs ≡ true → IsAscii cs
@@ -42,14 +42,14 @@ chars-printable text h = chars-IsAscii text (IsAscii-printable text h)
 abbrev is_printable_class : ℕ → ℕ → Bool
 is_printable_class c class = not (is_printable_char c) || (class == grapheme_cluster_break_number Other)
 
-printable-class : (c : ℕ) → is_printable_char c ≡ true → Other ≡ grapheme_cluster_break c
+pub printable-class : (c : ℕ) → is_printable_char c ≡ true → Other ≡ grapheme_cluster_break c
 unfolding ucd_breaks
 printable-class c h =
     let checked : is_printable_class c (grapheme_cluster_break_number (grapheme_cluster_break c)) ≡ true =
     Stepped-below grapheme_cluster_break grapheme_cluster_break_stepped (λ x v. is_printable_class x (grapheme_cluster_break_number v)) 128 refl c (printable-ascii c h) in
     grapheme_cluster_break_number_injective _ _ (grind (arith, nat_tests))
 
-printable-kept : (c : ℕ) → is_printable_char c ≡ true → with_width (c ∷ []) ≡ Some (c ∷ [], 1)
+pub printable-kept : (c : ℕ) → is_printable_char c ≡ true → with_width (c ∷ []) ≡ Some (c ∷ [], 1)
 unfolding with_width kept_width has_control
 printable-kept c h =
     let one : is_printable (c ∷ []) ≡ true = rw h refl in
@@ -83,7 +83,7 @@ pub clusters-printable : (text : List ℕ) → is_printable text ≡ true → cl
 unfolding clusters segments
 clusters-printable text h = ap (λ cs. kept (map encode_utf8_all (cut (is_grapheme_break true) [] cs []))) (chars-printable text h) ∙ cut-printable text [] h
 
-width-bytes_as_clusters : (text : List ℕ) → sum_by (λ c. c.1) (bytes_as_clusters text) ≡ length text
+pub width-bytes_as_clusters : (text : List ℕ) → sum_by (λ c. c.1) (bytes_as_clusters text) ≡ length text
 unfolding bytes_as_clusters
 width-bytes_as_clusters [] = refl
 width-bytes_as_clusters (b ∷ bs) = let e = width-bytes_as_clusters bs in sum_by-cons (λ (c : Cluster). c.1) (b ∷ [], 1) (bytes_as_clusters bs) ∙ omega (arith, e)

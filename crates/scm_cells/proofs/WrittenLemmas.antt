@@ -8,21 +8,26 @@ use Rattle.std.proofs.lemmas.Result.{IfOk-weaker}
 use Rattle.std.proofs.lemmas.Bool.{cases_lt}
 use Rattle.std.proofs.lemmas.Bool.Decides.{nat_tests}
 use Rattle.std.proofs.lemmas.List.{map-append, take-append-le}
+use Rattle.std.proofs.lemmas.List.Sums.{sum_by-cons}
 use Rattle.std.proofs.lemmas.Slice.{take-put_mid}
 use borrow.Rule.Slice.PartMut.{put_mid}
 use Rattle.std.proofs.lemmas.Int.{ints, by_lt_z}
-use Rattle.std.proofs.lemmas.Str.{chars-nil}
+use Rattle.std.proofs.lemmas.Str.{chars-nil, length-encode}
 use Rattle.unicode_segmentation.specs.Grapheme.{graphemes}
 use Rattle.unicode_width.specs.Width.{str_width}
 use Rattle.scm_cells.specs.Rect.{or_zero}
 use Rattle.scm_cells.specs.Cluster.{Cluster, bytes_as_clusters}
-use Rattle.scm_cells.specs.Clusters.{clusters, clusters_left, rest_left, kept, with_width, kept_width, has_control}
+use Rattle.scm_cells.specs.Clusters.{clusters, text_width, clusters_left, rest_left, kept, with_width, kept_width, has_control}
 use Rattle.scm_cells.specs.declared.text.Clusters.{Clusters}
 use Rattle.scm_cells.specs.declared.text.Rest.{Rest}
 use Rattle.scm_cells.specs.declared.text.Rest.TheVariants.{Bytes, Graphemes}
 use Rattle.scm_cells.specs.Cell.{Cell, Place, blank, shown, laid}
 use Rattle.scm_cells.specs.Row.{placed, passes, cells_past, cells_of, written, overlay, put}
-use Rattle.scm_cells.specs.Laying.{fit, IsPassed, IsBegun}
+use Rattle.scm_cells.specs.Laying.{fit, columns_of, IsPassed, IsBegun}
+use Rattle.scm_cells.specs.Ruled.{chars_as_clusters, cut_left}
+use Rattle.scm_cells.specs.declared.cutting.Cut.{Cut}
+use Rattle.scm_cells.specs.declared.cutting.Cut.TheVariants as cuts
+use Rattle.scm_cells.specs.declared.row.Laid.{Laid}
 use Rattle.scm_cells.proofs.RectLemmas.{places}
 
 -- ---- clusters have bytes and columns
@@ -69,6 +74,15 @@ AllKept-rest (Graphemes pieces) = AllKept-pieces _
 pub AllKept-left : (s : Clusters) → AllKept (clusters_left s)
 unfolding clusters_left
 AllKept-left s = AllKept-rest s.rest
+
+AllKept-chars : (cs : List ℕ) → AllKept (chars_as_clusters cs)
+unfolding chars_as_clusters
+AllKept-chars [] = tt
+AllKept-chars (c ∷ cs) = (record { bytes = grind (arith, nat_tests, length-encode c); columns = omega arith }, AllKept-chars cs)
+
+pub AllKept-cut : (s : Cut) → AllKept (cut_left s)
+AllKept-cut (cuts.Ruled text) = AllKept-chars _
+AllKept-cut (cuts.Clusters text) = AllKept-left text
 
 pub AllKept-clusters : (text : List ℕ) → AllKept (clusters text)
 unfolding clusters kept
@@ -264,6 +278,47 @@ IsPassed-crossed columns before width cs now rest c kept h e w some le =
     subst (λ n. IsPassed columns cs n rest) (sym none) (IsPassed-at_limit columns (before - width) cs rest kept nearer (omega arith)))
     (cases_lt before width)
 
+-- clusters that begin before the limit and have so many columns were passed over
+pub record HasPassed (columns : ℕ) (cs : List Cluster) (passed : ℕ) (rest : List Cluster) : Type 0 where
+  pub nearer : passed < columns → IsNearer columns cs (columns - passed) rest
+  pub reached : columns ≤ passed → IsPassed columns cs (passed - columns) rest
+
+pub HasPassed-none : (columns : ℕ) (cs : List Cluster) → AllKept cs → HasPassed columns cs 0 cs
+HasPassed-none columns cs all = record {
+  nearer = λ h. let left : columns ≡ columns - 0 = omega arith in subst (λ n. IsNearer columns cs n cs) left (IsNearer-none columns cs);
+  reached = λ h.
+      let none : 0 - columns ≡ 0 = omega arith in
+      subst (λ n. IsPassed columns cs n cs) (sym none) (IsPassed-at_limit columns columns cs cs all (IsNearer-none columns cs) (omega (arith, h)));
+}
+
+pub HasPassed-more : (columns passed width : ℕ) (cs now rest : List Cluster) (c : Cluster) → AllKept rest → HasPassed columns cs passed now → passed < columns → now ≡ c ∷ rest → c.1 ≡ width
+    → HasPassed columns cs (passed + width) rest
+HasPassed-more columns passed width cs now rest c all h lt e w = record {
+  nearer = λ g.
+      let left : columns - passed - width ≡ columns - (passed + width) = omega arith in
+      subst (λ n. IsNearer columns cs n rest) left (IsNearer-more columns (columns - passed) width cs now rest c (h.nearer lt) e w (omega (arith, g)));
+  reached = λ g.
+      let past : width - (columns - passed) ≡ passed + width - columns = omega (arith, lt) in
+      subst (λ n. IsPassed columns cs n rest) past (IsPassed-crossed columns (columns - passed) width cs now rest c all (h.nearer lt) e w (omega (arith, lt)) (omega (arith, g)));
+}
+
+pub HasPassed-end : (columns passed : ℕ) (cs now rest : List Cluster) → HasPassed columns cs passed now → passed < columns → now ≡ [] → rest ≡ [] → IsPassed columns cs (passed - columns) rest
+HasPassed-end columns passed cs now rest h lt e f =
+    let none : passed - columns ≡ 0 = omega (arith, lt) in
+    subst (λ n. IsPassed columns cs n rest) (sym none) (IsPassed-end columns (columns - passed) cs now rest (h.nearer lt) e f)
+
+-- ---- the columns of clusters
+
+pub columns_of-more : (cs rest : List Cluster) (c : Cluster) → cs ≡ c ∷ rest → columns_of cs ≡ c.1 + columns_of rest
+columns_of-more cs rest c e = ap columns_of e ∙ sum_by-cons (λ (k : Cluster). k.1) c rest
+
+pub columns_of-none : (cs rest : List Cluster) → cs ≡ [] → rest ≡ [] → columns_of cs ≡ columns_of rest
+columns_of-none cs rest e f = ap columns_of (e ∙ sym f)
+
+pub columns_of-text : (text : List ℕ) (cs : List Cluster) → cs ≡ clusters text → columns_of cs ≡ text_width text
+unfolding text_width
+columns_of-text text cs e = ap columns_of e
+
 -- ---- the first column that is written
 
 pub place_below : (column : ℤ) (low : ℕ) → column <ℤ pos low → low ≡ or_zero (int_max column (pos low))
@@ -359,11 +414,11 @@ shown-put_front columns sub k h =
     ∙ ap (map shown) (take-append-drop k columns)
 
 -- spaces, and then the clusters that have room
-pub laid-after_blanks : {E : Type 0} (columns sub new : List Place) (blanks k : ℕ) (result : Result ℕ E) (cs : List Cluster) → k ≡ min blanks (length columns) → length sub ≡ k → map laid sub ≡ replicate k blank
-    → IfOk result (λ end. map laid (take end new) ≡ map laid (take k (sub ++ drop k columns)) ++ fit (length (sub ++ drop k columns) - k) cs)
-    → IfOk result (λ end. map laid (take end new) ≡ replicate (min blanks (length columns)) blank ++ fit (length columns - blanks) cs)
+pub laid-after_blanks : {E : Type 0} (columns sub new : List Place) (blanks k : ℕ) (result : Result Laid E) (cs : List Cluster) → k ≡ min blanks (length columns) → length sub ≡ k → map laid sub ≡ replicate k blank
+    → IfOk result (λ r. map laid (take r.end new) ≡ map laid (take k (sub ++ drop k columns)) ++ fit (length (sub ++ drop k columns) - k) cs)
+    → IfOk result (λ r. map laid (take r.end new) ≡ replicate (min blanks (length columns)) blank ++ fit (length columns - blanks) cs)
 laid-after_blanks columns sub new blanks k result cs e size l h =
     let front : map laid (take k (sub ++ drop k columns)) ≡ replicate (min blanks (length columns)) blank =
     ap (map laid) (take_at sub (drop k columns) k size) ∙ l ∙ ap (λ n. replicate n blank) e in
     let room : length (sub ++ drop k columns) - k ≡ length columns - blanks = simp (length-append, length-drop) (omega arith) in
-    IfOk-weaker result _ _ (λ end p. p ∙ ap₂ (λ xs n. xs ++ fit n cs) front room) h
+    IfOk-weaker result _ _ (λ r p. p ∙ ap₂ (λ xs n. xs ++ fit n cs) front room) h

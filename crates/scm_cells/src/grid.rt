@@ -1,9 +1,13 @@
 //! A grid of cells, as a screen shows it.
-ghost use Rattle.std.specs.Prelude.{◌≡◌, ◌<◌, ◌≤◌, IfOk, IfErr, OnOk, OnErr, length, string_bytes};
+ghost use Rattle.std.specs.Prelude.{◌≡◌, ◌+◌, ◌<◌, ◌≤◌, IfOk, IfErr, OnOk, OnErr, length, string_bytes};
+ghost use Rattle.scm_cells.specs.Clusters.{text_width};
+ghost use Rattle.scm_cells.specs.Ruled.{cut_left};
+ghost use Rattle.scm_cells.specs.Laying.{columns_of};
 ghost use Rattle.scm_cells.specs.Screen.{IsScreen, blank_screen, put_on, view_of};
 ghost use Rattle.scm_types.specs.declared.error.RecordError.TheVariants.{OutOfMemory};
 
 use crate::column::Column;
+use crate::cutting::Cut;
 use crate::row;
 use scm_types::RecordError;
 use std::alloc::Global;
@@ -92,9 +96,50 @@ impl Grid {
         ensures unchanged { OnErr result (self.new ≡ self.old) }
         ensures err { IfErr result (λ e. e ≡ OutOfMemory) }
     {
-        let columns = &mut self.rows[row];
-        row::put_row(columns.as_mut_slice(), column, text, low, high)?;
+        self.put_text(row, column, text, low, high)?;
         Ok(())
+    }
+
+    /// Puts a text as `put` does, and measures it whole, also where it goes on past the limits; how
+    /// many columns it takes.
+    pub fn put_measured(
+        &mut self,
+        row: usize,
+        column: isize,
+        text: &str,
+        low: usize,
+        high: usize,
+    ) -> Result<usize, RecordError>
+        requires row { row < length self.old.rows }
+        requires high { high ≤ self.old.width }
+        ensures ok { OnOk result (self.new ≡ put_on self.old row column text.now low high) }
+        ensures columns { IfOk result (λ n. n ≡ text_width text.now) }
+        ensures unchanged { OnErr result (self.new ≡ self.old) }
+        ensures err { IfErr result (λ e. e ≡ OutOfMemory) }
+    {
+        let (rest, before) = self.put_text(row, column, text, low, high)?;
+        Ok(before + rest.columns_left())
+    }
+
+    /// Puts a text; its clusters that are left, and how many columns those before them have.
+    fn put_text<'a>(
+        &mut self,
+        row: usize,
+        column: isize,
+        text: &'a str,
+        low: usize,
+        high: usize,
+    ) -> Result<(Cut<'a>, usize), RecordError>
+        requires row { row < length self.old.rows }
+        requires high { high ≤ self.old.width }
+        ensures ok { OnOk result (self.new ≡ put_on self.old row column text.now low high) }
+        ensures taken { IfOk result (λ r. text_width text.now ≡ r.1 + columns_of (cut_left r.0)) }
+        ensures unchanged { OnErr result (self.new ≡ self.old) }
+        ensures err { IfErr result (λ e. e ≡ OutOfMemory) }
+    {
+        let columns = &mut self.rows[row];
+        let rest = row::put_row(columns.as_mut_slice(), column, text, low, high)?;
+        Ok(rest)
     }
 
     /// The rows as text: for each a quote, its symbols, a quote and a newline. A grid without columns

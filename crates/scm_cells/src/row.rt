@@ -3,12 +3,14 @@ ghost use Rattle.std.specs.Prelude.{◌≡◌, ◌+◌, ◌-◌, ◌^◌, ◌<�
 ghost use Rattle.std.specs.Int.{int_max};
 ghost use Rattle.scm_cells.specs.Rect.{or_zero};
 ghost use Rattle.scm_cells.specs.Cell.{blank, shown, laid};
-ghost use Rattle.scm_cells.specs.Clusters.{clusters_left};
+ghost use Rattle.scm_cells.specs.Clusters.{text_width};
 ghost use Rattle.scm_cells.specs.Row.{cells_of, later_cells, whole_before, whole_after, overlay, put, row_text};
-ghost use Rattle.scm_cells.specs.Laying.{fit, IsPassed, IsBegun};
+ghost use Rattle.scm_cells.specs.Ruled.{cut_left};
+ghost use Rattle.scm_cells.specs.Laying.{fit, columns_of, IsPassed, IsBegun};
 
 use crate::column::Column;
-use crate::text::{Clusters, NextCluster, Rest};
+use crate::cutting::Cut;
+use crate::text::{NextCluster, Rest};
 use std::alloc::{AllocError, Global};
 
 /// A row of spaces.
@@ -102,28 +104,40 @@ fn lay_symbol(columns: &mut [Column], symbol: &str) -> Result<(), AllocError>
     Ok(())
 }
 
-/// Lays the clusters that have room, from a column on, up to the first one that has not; the
-/// column after the last.
+/// What laying clusters on a row came to.
+#[derive(Clone, Copy)]
+struct Laid {
+    /// The column after the last that was laid.
+    end: usize,
+
+    /// How many columns the clusters have that were taken, with the one that had no room.
+    taken: usize,
+}
+
+/// Lays the clusters that have room, from a column on, up to the first one that has not.
 fn lay_each<'a, C: NextCluster<'a>>(
     columns: &mut [Column],
-    clusters: C,
+    clusters: &mut C,
     start: usize,
-) -> Result<usize, AllocError>
+) -> Result<Laid, AllocError>
     requires start { start ≤ length columns.old }
+    requires few { columns_of (C.left clusters.old) < 2 ^ 64 }
     ensures shown { map shown columns.new ≡ map shown columns.old }
-    ensures within { IfOk result (λ end. end ≤ length columns.old) }
-    ensures laid { IfOk result (λ end. map laid (take end columns.new) ≡ map laid (take start columns.old) ++ fit (length columns.old - start) (C.left clusters)) }
+    ensures within { IfOk result (λ r. r.end ≤ length columns.old) }
+    ensures laid { IfOk result (λ r. map laid (take r.end columns.new) ≡ map laid (take start columns.old) ++ fit (length columns.old - start) (C.left clusters.old)) }
+    ensures taken { IfOk result (λ r. columns_of (C.left clusters.old) ≡ r.taken + columns_of (C.left clusters.new)) }
 {
-    let mut clusters = clusters;
     let mut end = start;
     'clusters: while let Some((symbol, width)) = clusters.next_cluster() {
         if width > columns.len() - end {
-            return Ok(end);
+            let taken = end - start + width;
+            return Ok(Laid { end, taken });
         }
         lay_symbol(&mut columns[end..end + width], symbol)?;
         end += width;
     }
-    Ok(end)
+    let taken = end - start;
+    Ok(Laid { end, taken })
 }
 
 /// Lays the clusters that have room, in a loop of its own for each of the ways to cut a text: one loop
@@ -131,52 +145,78 @@ fn lay_each<'a, C: NextCluster<'a>>(
 #[tactic(auto, unfolding(crate::specs::Clusters::clusters_left))]
 fn lay_clusters(
     columns: &mut [Column],
-    clusters: Clusters<'_>,
+    clusters: &mut Cut<'_>,
     start: usize,
-) -> Result<usize, AllocError>
+) -> Result<Laid, AllocError>
     requires start { start ≤ length columns.old }
+    requires few { columns_of (cut_left clusters.old) < 2 ^ 64 }
     ensures shown { map shown columns.new ≡ map shown columns.old }
-    ensures within { IfOk result (λ end. end ≤ length columns.old) }
-    ensures laid { IfOk result (λ end. map laid (take end columns.new) ≡ map laid (take start columns.old) ++ fit (length columns.old - start) (clusters_left clusters.entry)) }
+    ensures within { IfOk result (λ r. r.end ≤ length columns.old) }
+    ensures laid { IfOk result (λ r. map laid (take r.end columns.new) ≡ map laid (take start columns.old) ++ fit (length columns.old - start) (cut_left clusters.old)) }
+    ensures taken { IfOk result (λ r. columns_of (cut_left clusters.old) ≡ r.taken + columns_of (cut_left clusters.new)) }
 {
-    match clusters.rest {
-        Rest::Bytes(text) => lay_each(columns, text, start),
-        Rest::Graphemes(pieces) => lay_each(columns, pieces, start),
+    match clusters {
+        Cut::Ruled(text) => lay_each(columns, text, start),
+        Cut::Clusters(text) => match &mut text.rest {
+            Rest::Bytes(text) => lay_each(columns, text, start),
+            Rest::Graphemes(pieces) => lay_each(columns, pieces, start),
+        },
     }
 }
 
-/// Passes over the clusters that begin within so many columns before a limit; how many columns the
-/// last of them takes past it.
-fn pass_over(clusters: &mut Clusters<'_>, columns: usize) -> usize
-    ensures { IsPassed columns (clusters_left clusters.old) result (clusters_left clusters.new) }
+/// Passes over the clusters that begin within so many columns before a limit; how many columns they
+/// take.
+fn pass_over(clusters: &mut Cut<'_>, columns: usize) -> usize
+    requires few { columns_of (cut_left clusters.old) < 2 ^ 64 }
+    ensures passed { IsPassed columns (cut_left clusters.old) (result - columns) (cut_left clusters.new) }
+    ensures taken { columns_of (cut_left clusters.old) ≡ result + columns_of (cut_left clusters.new) }
 {
-    let mut before = columns;
-    'passed: while before > 0 {
-        match clusters.next() {
-            None => return 0,
-            Some((_, width)) => {
-                if width >= before {
-                    return width - before;
-                }
-                before -= width;
-            }
+    let mut passed = 0;
+    'clusters: while passed < columns {
+        match clusters.next_cluster() {
+            None => return passed,
+            Some((_, width)) => passed += width,
         }
     }
-    0
+    passed
 }
 
-/// Passes over the clusters that begin before the low limit, where the first is laid at a column;
-/// the first column that is written, and how many spaces are written there.
-fn begin(clusters: &mut Clusters<'_>, column: isize, low: usize) -> (usize, usize)
-    requires { low < 2 ^ 63 }
-    ensures from { result.0 ≡ or_zero (int_max column (pos low)) }
-    ensures begun { IsBegun column low (clusters_left clusters.old) result.0 result.1 (clusters_left clusters.new) }
+/// Where the first clusters of a text that are not before the low limit stand.
+#[derive(Clone, Copy)]
+struct Start {
+    /// The first column that is written.
+    from: usize,
+
+    /// How many spaces are written there, for a cluster that crosses the limit.
+    blanks: usize,
+
+    /// How many columns the clusters have that begin before the limit.
+    passed: usize,
+}
+
+/// Passes over the clusters that begin before the low limit, where the first is laid at a column.
+fn begin(clusters: &mut Cut<'_>, column: isize, low: usize) -> Start
+    requires low { low < 2 ^ 63 }
+    requires few { columns_of (cut_left clusters.old) < 2 ^ 64 }
+    ensures from { result.from ≡ or_zero (int_max column (pos low)) }
+    ensures begun { IsBegun column low (cut_left clusters.old) result.from result.blanks (cut_left clusters.new) }
+    ensures taken { columns_of (cut_left clusters.old) ≡ result.passed + columns_of (cut_left clusters.new) }
 {
     let limit = low as isize;
     if column < limit {
-        (low, pass_over(clusters, limit.abs_diff(column)))
+        let before = limit.abs_diff(column);
+        let passed = pass_over(clusters, before);
+        Start {
+            from: low,
+            blanks: passed.saturating_sub(before),
+            passed,
+        }
     } else {
-        (column as usize, 0)
+        Start {
+            from: column as usize,
+            blanks: 0,
+            passed: 0,
+        }
     }
 }
 
@@ -195,40 +235,43 @@ fn show_between(columns: &mut [Column], from: usize, end: usize)
     }
 }
 
-/// Lays spaces and then clusters, as far as there are columns; the column after the last.
-fn lay(columns: &mut [Column], blanks: usize, clusters: Clusters<'_>) -> Result<usize, AllocError>
+/// Lays spaces and then clusters, as far as there are columns.
+fn lay(columns: &mut [Column], blanks: usize, clusters: &mut Cut<'_>) -> Result<Laid, AllocError>
+    requires few { columns_of (cut_left clusters.old) < 2 ^ 64 }
     ensures shown { map shown columns.new ≡ map shown columns.old }
-    ensures within { IfOk result (λ end. end ≤ length columns.old) }
-    ensures laid { IfOk result (λ end. map laid (take end columns.new) ≡ replicate (min blanks (length columns.old)) blank ++ fit (length columns.old - blanks) (clusters_left clusters.entry)) }
+    ensures within { IfOk result (λ r. r.end ≤ length columns.old) }
+    ensures laid { IfOk result (λ r. map laid (take r.end columns.new) ≡ replicate (min blanks (length columns.old)) blank ++ fit (length columns.old - blanks) (cut_left clusters.old)) }
+    ensures taken { IfOk result (λ r. columns_of (cut_left clusters.old) ≡ r.taken + columns_of (cut_left clusters.new)) }
 {
     let blanks = blanks.min(columns.len());
     lay_blanks(&mut columns[..blanks]);
     lay_clusters(columns, clusters, blanks)
 }
 
-/// Puts a text on the row.
-pub(crate) fn put_row(
+/// Puts a text on the row; its clusters that are left, and how many columns those before them have.
+pub(crate) fn put_row<'a>(
     columns: &mut [Column],
     column: isize,
-    text: &str,
+    text: &'a str,
     low: usize,
     high: usize,
-) -> Result<(), AllocError>
+) -> Result<(Cut<'a>, usize), AllocError>
     requires { high ≤ length columns.old }
     ensures ok { OnOk result (map shown columns.new ≡ put (map shown columns.old) column text.now low high) }
     ensures err { OnErr result (map shown columns.new ≡ map shown columns.old) }
+    ensures taken { IfOk result (λ r. text_width text.now ≡ r.1 + columns_of (cut_left r.0)) }
 {
+    let mut clusters = Cut::new(text);
     if low >= high {
-        return Ok(());
+        return Ok((clusters, 0));
     }
-    let mut clusters = Clusters::new(text);
-    let (from, blanks) = begin(&mut clusters, column, low);
-    if from >= high {
-        return Ok(());
+    let start = begin(&mut clusters, column, low);
+    if start.from >= high {
+        return Ok((clusters, start.passed));
     }
-    let width = lay(&mut columns[from..high], blanks, clusters)?;
-    show_between(columns, from, from + width);
-    Ok(())
+    let laid = lay(&mut columns[start.from..high], start.blanks, &mut clusters)?;
+    show_between(columns, start.from, start.from + laid.end);
+    Ok((clusters, start.passed + laid.taken))
 }
 
 /// Adds the row's symbols between quotes, and a newline; nothing for a row without columns.

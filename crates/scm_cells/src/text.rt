@@ -5,6 +5,7 @@ ghost use Rattle.std.specs.Iterator.{YieldsFirstBy, item_count};
 ghost use Rattle.unicode_segmentation.specs.Iter.{graphemes_left};
 ghost use Rattle.scm_cells.specs.Cluster.{Cluster, cluster, bytes_as_clusters};
 ghost use Rattle.scm_cells.specs.Clusters.{has_control, kept_width, kept, text_width};
+ghost use Rattle.scm_cells.specs.Laying.{columns_of};
 
 use crate::printable::{Printable, is_printable};
 use unicode_segmentation::{Graphemes, UnicodeSegmentation};
@@ -48,6 +49,11 @@ pub(crate) trait NextCluster<'a>: Drop {
         ensures steps { YieldsFirstBy cluster left self.old result self.new }
         ensures bytes { IfSome result (λ c. 0 < length c.0.now) }
         ensures columns { IfSome result (λ c. 0 < c.1) };
+
+    /// How many columns the clusters that are left have.
+    fn columns_left(self) -> usize
+        requires { columns_of (left self) < 2 ^ 64 }
+        ensures { result ≡ columns_of (left self) };
 }
 
 impl<'a> NextCluster<'a> for Printable<'a> {
@@ -60,6 +66,10 @@ impl<'a> NextCluster<'a> for Printable<'a> {
         let (first, text) = self.text.split_at(1);
         *self = Printable { text };
         Some((first, 1))
+    }
+
+    fn columns_left(self) -> usize {
+        self.text.len()
     }
 }
 
@@ -74,6 +84,17 @@ impl<'a> NextCluster<'a> for Graphemes<'a> {
             }
         }
         None
+    }
+
+    #[tactic(auto, unfolding(crate::specs::Clusters::kept, crate::specs::Clusters::with_width))]
+    fn columns_left(self) -> usize {
+        let mut width = 0;
+        'pieces: for piece in self {
+            if let Some(columns) = kept_width(piece) {
+                width += columns;
+            }
+        }
+        width
     }
 }
 
@@ -108,6 +129,26 @@ impl<'a> Clusters<'a> {
         };
         Clusters { rest }
     }
+
+    /// Whether each byte that is left is known to be a cluster.
+    pub(crate) fn is_of_bytes(&self) -> bool {
+        match self.rest {
+            Rest::Bytes(_) => true,
+            Rest::Graphemes(_) => false,
+        }
+    }
+
+    /// How many columns the clusters that are left have.
+    #[tactic(auto, unfolding(crate::specs::Clusters::clusters_left))]
+    pub(crate) fn columns_left(self) -> usize
+        requires { columns_of (clusters_left self) < 2 ^ 64 }
+        ensures { result ≡ columns_of (clusters_left self.entry) }
+    {
+        match self.rest {
+            Rest::Bytes(text) => text.columns_left(),
+            Rest::Graphemes(pieces) => pieces.columns_left(),
+        }
+    }
 }
 
 impl<'a> Iterator for Clusters<'a> {
@@ -129,19 +170,10 @@ impl<'a> Iterator for Clusters<'a> {
 }
 
 /// How many columns a text takes: the sum over its kept clusters.
-#[tactic(auto, unfolding(crate::specs::Clusters::text_width, crate::specs::Clusters::clusters, crate::specs::Clusters::kept, crate::specs::Clusters::with_width))]
+#[tactic(auto, unfolding(crate::specs::Clusters::text_width))]
 pub fn text_width(text: &str) -> usize
     ensures value { result ≡ text_width text.now }
     ensures bound { result ≤ 2 * length text.now }
 {
-    if is_printable(text) {
-        return text.len();
-    }
-    let mut width = 0;
-    'pieces: for piece in text.graphemes(true) {
-        if let Some(columns) = kept_width(piece) {
-            width += columns;
-        }
-    }
-    width
+    Clusters::new(text).columns_left()
 }

@@ -9,7 +9,7 @@ ghost use Rattle.scm_types.specs.declared.error.RecordError.TheVariants.{OutOfMe
 
 use crate::filling::Filling;
 use crate::viewport::{Viewport, grown};
-use scm_cells::{Line, Rect, Span, text_width};
+use scm_cells::{Line, Rect, Span};
 use scm_types::RecordError;
 use std::hash::Hash;
 
@@ -116,8 +116,8 @@ impl<K: Copy + Eq + Hash + Drop> Viewport<K> {
         ensures err { IfErr result (λ e. e ≡ OutOfMemory) }
     {
         let within = self.mask_rect();
-        self.surface.put_text(within, x, y, text)?;
-        let drawn = row_rect(x, y, text_width(text));
+        let columns = self.surface.put_text(within, x, y, text)?;
+        let drawn = row_rect(x, y, columns);
         self.area = grown(self.area, drawn);
         Ok(drawn)
     }

@@ -1,6 +1,7 @@
 //! A grid that shows a part of a document.
 ghost use Rattle.std.specs.Prelude.{◌≡◌, ◌<◌, ◌≤◌, ◌^◌, ◌+ℤ◌, pos, ◌∷◌, [], length, OnOk, IfOk, IfErr, IsTrue, ◌≤ℤ◌, ◌<ℤ◌, ◌↔◌};
 ghost use Rattle.scm_cells.specs.Rect.{RectInRange, InRange, end_y_of};
+ghost use Rattle.scm_cells.specs.Clusters.{text_width};
 ghost use Rattle.scm_cells.specs.Spans.{span_texts};
 ghost use Rattle.scm_render.specs.Canvas.{with_puts};
 ghost use Rattle.scm_render.specs.Rows.{limit};
@@ -128,41 +129,51 @@ impl Surface {
         }
     }
 
-    /// Puts a text on a row that the grid shows.
-    fn put_row(&mut self, within: Rect, x: isize, y: isize, text: &str) -> Result<(), RecordError>
+    /// Puts a text on a row that the grid shows, and gives the columns that it takes.
+    fn put_row(
+        &mut self,
+        within: Rect,
+        x: isize,
+        y: isize,
+        text: &str,
+    ) -> Result<usize, RecordError>
         requires within { RectInRange within }
         requires x { InRange x }
         requires top { self.old.rect.y ≤ℤ y }
         requires bottom { y <ℤ end_y_of self.old.rect }
         ensures ok { OnOk result (self.new ≡ with_puts (whole_put within x y text.now ∷ []) self.old) }
+        ensures columns { IfOk result (λ n. n ≡ text_width text.now) }
         ensures rect { self.new.rect ≡ self.old.rect }
         ensures err { IfErr result (λ e. e ≡ OutOfMemory) }
     {
         let low = self.column(within.x);
         let high = self.column(within.end_x());
         let row = self.rect.y.abs_diff(y);
-        self.grid.put(row, x - self.rect.x, text, low, high)?;
-        Ok(())
+        let columns = self
+            .grid
+            .put_measured(row, x - self.rect.x, text, low, high)?;
+        Ok(columns)
     }
 
-    /// Puts a text, if `within` and the grid have its row.
+    /// Puts a text, if `within` and the grid have its row, and gives the columns that it takes.
     pub(crate) fn put_text(
         &mut self,
         within: Rect,
         x: isize,
         y: isize,
         text: &str,
-    ) -> Result<(), RecordError>
+    ) -> Result<usize, RecordError>
         requires within { RectInRange within }
         requires x { InRange x }
         ensures ok { OnOk result (self.new ≡ with_puts (text_puts within x y text.now) self.old) }
+        ensures columns { IfOk result (λ n. n ≡ text_width text.now) }
         ensures rect { self.new.rect ≡ self.old.rect }
         ensures err { IfErr result (λ e. e ≡ OutOfMemory) }
     {
         if has_row(within, y) && has_row(self.rect, y) {
-            self.put_row(within, x, y, text)?;
+            return self.put_row(within, x, y, text);
         }
-        Ok(())
+        Ok(text_width(text))
     }
 
     /// Puts the texts of spans one after another, and gives the columns that they take.
@@ -183,8 +194,8 @@ impl Surface {
     {
         let mut columns = 0;
         for span in spans {
-            self.put_text(within, x.strict_add_unsigned(columns), y, span.0)?;
-            columns += text_width(span.0);
+            let width = self.put_text(within, x.strict_add_unsigned(columns), y, span.0)?;
+            columns += width;
         }
         Ok(columns)
     }

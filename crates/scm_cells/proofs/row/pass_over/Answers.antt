@@ -1,19 +1,26 @@
-use Rattle.std.proofs.Common.{arith, refl}
-use Rattle.scm_cells.proofs.WrittenLemmas.{IsNearer-none, IsNearer-more, IsPassed-end, IsPassed-at_limit, IsPassed-crossed, AllKept-left}
+use Rattle.std.proofs.Common.{arith, refl, zero-add, sym}
+use Rattle.scm_cells.proofs.WrittenLemmas.{HasPassed-none, HasPassed-more, HasPassed-end, AllKept-cut, columns_of-more, columns_of-none}
 use Rattle.scm_cells.proofs.row.pass_over.Goals as goal
 
-pub passed-init : goal.passed-init
-passed-init c = IsNearer-none _ _
+pub clusters-init : goal.clusters-init
+clusters-init c = record { passed = HasPassed-none _ _ (AllKept-cut _); taken = sym (zero-add _) }
 
-pub passed-preserved : goal.passed-preserved
-passed-preserved c = IsNearer-more c.args.columns c.passed.before c.in-Some.width _ _ _ _ c.passed.invariant c.in-Some.ensures.steps refl (omega arith)
+pub overflow_add-passed : goal.overflow_add-passed
+overflow_add-passed c = let more = columns_of-more _ _ _ c.in-Some.ensures.steps in omega (arith, more, c.clusters.invariant.taken, c.requires)
 
-pub returns-in-None : goal.returns-in-None
-returns-in-None c = IsPassed-end c.args.columns c.passed.before _ _ _ c.passed.invariant c.in-None.ensures.steps.0 c.in-None.ensures.steps.1
+pub clusters-preserved : goal.clusters-preserved
+clusters-preserved c =
+    let more = columns_of-more _ _ _ c.in-Some.ensures.steps in
+    record {
+      passed = HasPassed-more c.args.columns c.clusters.passed c.in-Some.width _ _ _ _ (AllKept-cut _) c.clusters.invariant.passed (omega arith) c.in-Some.ensures.steps refl;
+      taken = omega (arith, more, c.clusters.invariant.taken);
+    }
 
-pub returns-then-width-before : goal.returns-then-width-before
-returns-then-width-before c =
-    IsPassed-crossed c.args.columns c.passed.before c.in-Some.width _ _ _ _ (AllKept-left c.next.new.self) c.passed.invariant c.in-Some.ensures.steps refl (omega arith) (omega arith)
+pub returns-in-None-clause-passed : goal.returns-in-None-clause-passed
+returns-in-None-clause-passed c = HasPassed-end _ _ _ _ _ c.clusters.invariant.passed (omega arith) c.in-None.ensures.steps.0 c.in-None.ensures.steps.1
 
-pub returns : goal.returns
-returns c = IsPassed-at_limit c.args.columns c.passed.before _ _ (AllKept-left c.passed.clusters) c.passed.invariant (omega arith)
+pub returns-in-None-clause-taken : goal.returns-in-None-clause-taken
+returns-in-None-clause-taken c = let none = columns_of-none _ _ c.in-None.ensures.steps.0 c.in-None.ensures.steps.1 in omega (arith, none, c.clusters.invariant.taken)
+
+pub returns-clause-passed : goal.returns-clause-passed
+returns-clause-passed c = c.clusters.invariant.passed.reached (omega arith)

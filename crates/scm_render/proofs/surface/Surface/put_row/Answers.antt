@@ -6,8 +6,8 @@ use Rattle.scm_cells.proofs.RectLemmas.{places}
 use Rattle.scm_render.proofs.DrawLemmas.{put-whole}
 use Rattle.scm_render.proofs.surface.Surface.put_row.Goals as goal
 
-pub put-requires-clause-row : goal.put-requires-clause-row
-put-requires-clause-row c =
+pub put_measured-requires-clause-row : goal.put_measured-requires-clause-row
+put_measured-requires-clause-row c =
     let fy : FitsSigned w64 c.args.y = c.ranges.y in
     let fv : FitsSigned w64 c.self.inside.rect.y = omega (arith, places, c.self.invariant.rect.y) in
     let gap = simp to_z-of_z at c.abs_diff-row.ensures in
@@ -30,7 +30,7 @@ returns-clause-ok c =
     let bottom = rw (sym c.self.view_is) at c.requires.bottom in
     let low = rw (sym c.self.view_is) at (simp to_z-of_z at c.column-low.ensures.value) in
     let high = rw (sym c.self.view_is) at (simp to_z-of_z at (rw c.end_x.ensures at c.column-high.ensures.value)) in
-    let there = simp to_z-of_z at c.in_ok-put.ensures.ok in
+    let there = simp to_z-of_z at c.in_ok-columns.ensures.ok in
     rw (sym c.self.view_is)
     (ap (λ g. record { rect = v; rows = g.rows }) there
     ∙ put-whole v c.args.within c.self.inside.grid.rows c.args.x c.args.y c.args.text.now c.abs_diff-row.result (c.args.x -ℤ v.x) c.column-low.result c.column-high.result top gap

@@ -9,8 +9,8 @@ use Rattle.scm_render.proofs.surface.Surface.put_spans.Goals as goal
 
 pub overflow_add-columns : goal.overflow_add-columns
 overflow_add-columns c =
-    let fits : c.loop-span.columns + c.text_width-columns.result ≤ texts_width (span_texts c.args.spans.now) =
-    spans_width-fits c.args.spans.now c.loop-span.span-index c.loop-span.columns c.text_width-columns.result _ _ (omega arith) c.text_width-columns.ensures.value c.loop-span.invariant.columns in
+    let fits : c.loop-span.columns + c.in_ok-width.width ≤ texts_width (span_texts c.args.spans.now) =
+    spans_width-fits c.args.spans.now c.loop-span.span-index c.loop-span.columns c.in_ok-width.width _ _ (omega arith) c.in_ok-width.ensures.columns c.loop-span.invariant.columns in
     omega (arith, places)
 
 pub loop-span-preserved : goal.loop-span-preserved
@@ -19,12 +19,12 @@ loop-span-preserved c =
     let fy : FitsSigned w64 c.args.y = c.ranges.y in
     let at = simp to_z-of_z at c.strict_add_unsigned.ensures in
     let fc : FitsSigned w64 (c.args.x +ℤ pos c.loop-span.columns) = omega (arith, places) in
-    let drawn = simp to_z-of_z at (rw at at c.in_ok-put_text.ensures.ok) in
+    let drawn = simp to_z-of_z at (rw at at c.in_ok-width.ensures.ok) in
     let so_far = simp to_z-of_z at c.loop-span.invariant.left in
     record {
-      rect = c.in_ok-put_text.ensures.rect ∙ c.loop-span.invariant.rect;
-      columns = rw c.text_width-columns.ensures.value (spans_width-step c.args.spans.now c.loop-span.span-index c.loop-span.columns _ _ (omega arith) c.loop-span.invariant.columns);
-      left = simp (to_z-of_z, c.text_width-columns.ensures.value) (spans-step c.args.within c.args.x c.args.y c.args.spans.now c.loop-span.span-index c.loop-span.columns _ _ _ _ (omega arith) drawn so_far);
+      rect = c.in_ok-width.ensures.rect ∙ c.loop-span.invariant.rect;
+      columns = rw c.in_ok-width.ensures.columns (spans_width-step c.args.spans.now c.loop-span.span-index c.loop-span.columns _ _ (omega arith) c.loop-span.invariant.columns);
+      left = simp (to_z-of_z, c.in_ok-width.ensures.columns) (spans-step c.args.within c.args.x c.args.y c.args.spans.now c.loop-span.span-index c.loop-span.columns _ _ _ _ (omega arith) drawn so_far);
     }
 
 pub returns-clause-ok : goal.returns-clause-ok

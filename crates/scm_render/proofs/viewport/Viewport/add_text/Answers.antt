@@ -16,19 +16,19 @@ pub grown-self-inside-requires-clause-rect : goal.grown-self-inside-requires-cla
 grown-self-inside-requires-clause-rect g c =
     let fx : FitsSigned w64 c.args.x = c.ranges.x in
     let fy : FitsSigned w64 c.args.y = c.ranges.y in
-    rw (c.row_rect-drawn.ensures, c.text_width.ensures.value) (simp to_z-of_z (span_in_range _ _ _ _ c.requires))
+    rw (c.row_rect-drawn.ensures, c.in_ok-columns.ensures.columns) (simp to_z-of_z (span_in_range _ _ _ _ c.requires))
 
 pub returns-clause-drawn : goal.returns-clause-drawn
 returns-clause-drawn g c =
     let fx : FitsSigned w64 c.args.x = c.ranges.x in
     let fy : FitsSigned w64 c.args.y = c.ranges.y in
-    rw (c.row_rect-drawn.ensures, c.text_width.ensures.value) (simp to_z-of_z refl)
+    rw (c.row_rect-drawn.ensures, c.in_ok-columns.ensures.columns) (simp to_z-of_z refl)
 
 pub returns-clause-ok : goal.returns-clause-ok
 returns-clause-ok g c =
     let fx : FitsSigned w64 c.args.x = c.ranges.x in
     let fy : FitsSigned w64 c.args.y = c.ranges.y in
-    let drawn = simp to_z-of_z at c.in_ok-put_text.ensures.ok in
+    let drawn = simp to_z-of_z at c.in_ok-columns.ensures.ok in
     rw (sym c.self.view_is)
     (with_picture-span _ _ c.mask_rect-within.result c.args.x c.args.y c.args.text.now
     (c.mask_rect-within.ensures.value ∙ ap (λ v. reach v.canvas.sight) (sym c.self.view_is))
@@ -40,7 +40,7 @@ pub invariant_of-self-2 : goal.invariant_of-self-2
 invariant_of-self-2 g c =
     let fx : FitsSigned w64 c.args.x = c.ranges.x in
     let fy : FitsSigned w64 c.args.y = c.ranges.y in
-    let drawn : RectInRange c.row_rect-drawn.result = rw (c.row_rect-drawn.ensures, c.text_width.ensures.value) (simp to_z-of_z (span_in_range _ _ _ _ c.requires)) in
+    let drawn : RectInRange c.row_rect-drawn.result = rw (c.row_rect-drawn.ensures, c.in_ok-columns.ensures.columns) (simp to_z-of_z (span_in_range _ _ _ _ c.requires)) in
     record {
       mask = c.self.invariant.mask;
       area = rw c.grown-self-inside.ensures (RectInRange-join _ _ c.self.invariant.area drawn);

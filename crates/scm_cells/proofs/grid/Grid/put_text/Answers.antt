@@ -8,7 +8,7 @@ use Rattle.scm_cells.specs.GridView.{row_of}
 use Rattle.scm_cells.proofs.ScreenLemmas.{rows-set, row-read, whole-read, rows-unchanged, length-read, IsScreen-set, IsScreen-same}
 use Rattle.scm_cells.proofs.WholeLemmas.{IsWhole-put}
 use Rattle.scm_cells.proofs.WrittenLemmas.{on_err}
-use Rattle.scm_cells.proofs.grid.Grid.put.Goals as goal
+use Rattle.scm_cells.proofs.grid.Grid.put_text.Goals as goal
 
 pub put_row-requires : goal.put_row-requires
 put_row-requires c =
@@ -29,7 +29,7 @@ invariant_of-self c =
     IsScreen-same _ _ (ap (λ (rs : List (List Cell)). record { width = c.self.inside.width; rows = rs })
     (rows-set rows c.args.row c.index_mut-columns.result.now c.put_row.new.columns (c.put_row.auto.columns ∙ c.as_mut_slice.ensures.len)))
     (IsScreen-set _ c.args.row (map shown c.put_row.new.columns) c.self.invariant (length-map c.put_row.new.columns shown ∙ c.put_row.auto.columns ∙ size)
-    (subst IsWhole (sym c.in_err-put_row.ensures.err) whole))
+    (subst IsWhole (sym c.in_err-rest.ensures.err) whole))
 
 pub invariant_of-self-2 : goal.invariant_of-self-2
 invariant_of-self-2 c =
@@ -42,17 +42,17 @@ invariant_of-self-2 c =
     IsScreen-same _ _ (ap (λ (rs : List (List Cell)). record { width = c.self.inside.width; rows = rs })
     (rows-set rows c.args.row c.index_mut-columns.result.now c.put_row.new.columns (c.put_row.auto.columns ∙ c.as_mut_slice.ensures.len)))
     (IsScreen-set _ c.args.row (map shown c.put_row.new.columns) c.self.invariant (length-map c.put_row.new.columns shown ∙ c.put_row.auto.columns ∙ size)
-    (subst IsWhole (sym (simp to_z-of_z at c.in_ok-put_row.ensures.ok)) (IsWhole-put _ c.args.column c.args.text.now c.args.low c.args.high whole)))
+    (subst IsWhole (sym (simp to_z-of_z at c.in_ok-rest.ensures.ok)) (IsWhole-put _ c.args.column c.args.text.now c.args.low c.args.high whole)))
 
-pub returns-in_err-put_row-clause-unchanged : goal.returns-in_err-put_row-clause-unchanged
-returns-in_err-put_row-clause-unchanged c =
+pub returns-in_err-rest-clause-unchanged : goal.returns-in_err-rest-clause-unchanged
+returns-in_err-rest-clause-unchanged c =
     let rows = c.self.inside.rows.items in
     let same = ap (λ (s : Screen). length s.rows) c.self.view_is in
     let inside : c.args.row < length rows = omega (arith, length-map rows row_of, same) in
     let read = row-read rows c.args.row c.index_mut-columns.result.now c.as_mut_slice.result.now inside c.index_mut-columns.ensures.value c.as_mut_slice.ensures.value in
     on_err c.from_residual.result (ap (λ (rs : List (List Cell)). record { width = c.self.inside.width; rows = rs })
     (rows-set rows c.args.row c.index_mut-columns.result.now c.put_row.new.columns (c.put_row.auto.columns ∙ c.as_mut_slice.ensures.len)
-    ∙ rows-unchanged (map row_of rows) c.args.row (map shown c.put_row.new.columns) (c.in_err-put_row.ensures.err ∙ read))
+    ∙ rows-unchanged (map row_of rows) c.args.row (map shown c.put_row.new.columns) (c.in_err-rest.ensures.err ∙ read))
     ∙ c.self.view_is)
 
 pub returns-clause-ok : goal.returns-clause-ok
@@ -62,7 +62,7 @@ returns-clause-ok c =
     let same = ap (λ (s : Screen). length s.rows) c.self.view_is in
     let inside : c.args.row < length rows = omega (arith, length-map rows row_of, same) in
     let read = row-read rows c.args.row c.index_mut-columns.result.now c.as_mut_slice.result.now inside c.index_mut-columns.ensures.value c.as_mut_slice.ensures.value in
-    let made = simp to_z-of_z at c.in_ok-put_row.ensures.ok in
+    let made = simp to_z-of_z at c.in_ok-rest.ensures.ok in
     ap (λ (rs : List (List Cell)). record { width = c.self.inside.width; rows = rs })
     (rows-set rows c.args.row c.index_mut-columns.result.now c.put_row.new.columns (c.put_row.auto.columns ∙ c.as_mut_slice.ensures.len)
     ∙ ap (set (map row_of rows) c.args.row) (made ∙ ap (λ row. put row c.args.column c.args.text.now c.args.low c.args.high) read))
