@@ -67,15 +67,15 @@ box-width b = bracketed-width b.is_read_only b.is_focused b.use_unicode b.icon_s
 
 -- ---- the boxes of the parts of a row
 
-box-span : (s : Sight) (x y : ℤ) (t : List ℕ) → box_rect (span_picture {K = ComponentId} s x y t) ≡ join no_rect (row_rect x y (text_width t))
+pub box-span : (s : Sight) (x y : ℤ) (t : List ℕ) → box_rect (span_picture {K = ComponentId} s x y t) ≡ join no_rect (row_rect x y (text_width t))
 unfolding box_rect span_picture
 box-span s x y t = around-one no_rect _
 
-box-line : (s : Sight) (x y : ℤ) (ts : List (List ℕ)) → box_rect (line_picture {K = ComponentId} s x y ts) ≡ join no_rect (row_rect x y (texts_width ts))
+pub box-line : (s : Sight) (x y : ℤ) (ts : List (List ℕ)) → box_rect (line_picture {K = ComponentId} s x y ts) ≡ join no_rect (row_rect x y (texts_width ts))
 unfolding box_rect line_picture
 box-line s x y ts = around-one no_rect _
 
-box-cover : (r : Rect) → box_rect (covering {K = ComponentId} r) ≡ join no_rect r
+pub box-cover : (r : Rect) → box_rect (covering {K = ComponentId} r) ≡ join no_rect r
 unfolding box_rect covering
 box-cover r = around-one no_rect r
 
@@ -91,10 +91,10 @@ pub box-rect : (b : IdBox) (s : Sight) (x y : ℤ) → box_rect (box_part b s x 
 unfolding box_picture
 box-rect b s x y = box-part b.id (box_picture b s x y) ∙ box-span s x y (box_text b) ∙ ap (λ n. join no_rect (row_rect x y n)) (box-width b) ∙ not-empty x y 3 (omega arith)
 
-span-in : (s : Sight) (x y l : ℤ) (t : List ℕ) → l ≤ℤ x → IsIn (box_rect (span_picture {K = ComponentId} s x y t)) y 1 l
+pub span-in : (s : Sight) (x y l : ℤ) (t : List ℕ) → l ≤ℤ x → IsIn (box_rect (span_picture {K = ComponentId} s x y t)) y 1 l
 span-in s x y l t h = rw (box-span s x y t) (in-row x y l (text_width t) h)
 
-line-in : (s : Sight) (x y l : ℤ) (ts : List (List ℕ)) → l ≤ℤ x → IsIn (box_rect (line_picture {K = ComponentId} s x y ts)) y 1 l
+pub line-in : (s : Sight) (x y l : ℤ) (ts : List (List ℕ)) → l ≤ℤ x → IsIn (box_rect (line_picture {K = ComponentId} s x y ts)) y 1 l
 line-in s x y l ts h = rw (box-line s x y ts) (in-row x y l (texts_width ts) h)
 
 some-in : (b : Bool) (m : Picture ComponentId) (y l : ℤ) → IsIn (box_rect m) y 1 l → IsIn (box_rect (if b then m else nothing)) y 1 l
@@ -102,7 +102,7 @@ some-in true m y l h = h
 some-in false m y l h = rw box-none (in-nothing y 1 l)
 
 -- a text that does not begin left of a column, nor does the last column that drawing reaches
-text-in : (s : Sight) (x y l : ℤ) (ts : List (List ℕ)) → l ≤ℤ x → l ≤ℤ (end_x_of (reach s) -ℤ pos 1) → IsIn (box_rect (text_picture {K = ComponentId} s x y ts)) y 1 l
+pub text-in : (s : Sight) (x y l : ℤ) (ts : List (List ℕ)) → l ≤ℤ x → l ≤ℤ (end_x_of (reach s) -ℤ pos 1) → IsIn (box_rect (text_picture {K = ComponentId} s x y ts)) y 1 l
 unfolding text_picture
 text-in s x y l ts h k =
     rw (box-followed (line_picture {K = ComponentId} s x y ts) _)
@@ -207,20 +207,20 @@ row-spans BlankRow s w y fits o = rest-spans s w y fits o
 
 -- ---- rows one below another
 
-both-left : (a b : Bool) → int_min (pos (left_of a)) (pos (left_of b)) ≡ pos (left_of (a || b))
+pub both-left : (a b : Bool) → int_min (pos (left_of a)) (pos (left_of b)) ≡ pos (left_of (a || b))
 both-left true true = refl
 both-left true false = refl
 both-left false true = refl
 both-left false false = refl
 
-left-fits : (b : Bool) (w : ℕ) → 10 ≤ w → left_of b < w
+pub left-fits : (b : Bool) (w : ℕ) → 10 ≤ w → left_of b < w
 left-fits true w h = omega (arith, h)
 left-fits false w h = omega (arith, h)
 
-spans-as : (r : Rect) (y : ℤ) (n m : ℕ) (l k : ℤ) (w : ℕ) → n ≡ m → l ≡ k → Spans r y n l w → Spans r y m k w
+pub spans-as : (r : Rect) (y : ℤ) (n m : ℕ) (l k : ℤ) (w : ℕ) → n ≡ m → l ≡ k → Spans r y n l w → Spans r y m k w
 spans-as r y n m l k w e f h = rw (e, f) at h
 
-or-none : (b : Bool) → (b || false) ≡ b
+pub or-none : (b : Bool) → (b || false) ≡ b
 or-none true = refl
 or-none false = refl
 

@@ -205,7 +205,7 @@ pub record Reaches (r : Rect) (y : ℤ) (m : ℕ) (l e : ℤ) : Type 0 where
   pub left : r.x ≡ l
   pub end : end_x_of r ≡ e
 
-sizes : (r : Rect) → is_empty r ≡ false → (0 < r.width) × (0 < r.height)
+pub sizes : (r : Rect) → is_empty r ≡ false → (0 < r.width) × (0 < r.height)
 sizes r e = (grind (arith, nat_tests), grind (arith, nat_tests))
 
 join-button : (r : Rect) (y z l e x : ℤ) (m n : ℕ) → Reaches r y m l e → 0 < n → y ≤ℤ z → z <ℤ (y +ℤ pos m) → (x +ℤ pos n) ≤ℤ e → Reaches (join r (row_rect x z n)) y m (int_min l x) e

@@ -67,17 +67,17 @@ made-apart p ss m y z row h = go (int_eq z m) refl
 -- ---- files
 
 -- below row m no header is pinned on it
-none-pinned : (w m top : ℕ) (fs : List ShownFile) → m ≤ top → pinned_strips w m top fs ≡ []
+pub none-pinned : (w m top : ℕ) (fs : List ShownFile) → m ≤ top → pinned_strips w m top fs ≡ []
 unfolding pinned_strips
 none-pinned w m top [] h = refl
 none-pinned w m top (f ∷ fs) h =
     let no : nat_lt top m ≡ false = grind (arith, h) in
     rw no (none-pinned w m (top + length (file_rows f)) fs (omega (arith, h)))
 
-over-below : (m top : ℕ) (f : ShownFile) → is_over m top f ≡ true → m < top + length (file_rows f)
+pub over-below : (m top : ℕ) (f : ShownFile) → is_over m top f ≡ true → m < top + length (file_rows f)
 over-below m top f h = grind (arith, h)
 
-same-test : (m top n : ℕ) → is_pinned (pos m) (pos top) n ≡ (nat_lt top m && nat_lt m (top + n))
+pub same-test : (m top n : ℕ) → is_pinned (pos m) (pos top) n ≡ (nat_lt top m && nat_lt m (top + n))
 same-test m top n = refl
 
 one_file-paints : (f : ShownFile) (s : Sight) (w m top : ℕ) (b : Bool) → is_over m top f ≡ b → 10 ≤ w → IsOpen s w → mask_row s ≡ pos m → AreInnerSections f.sections → (z : ℤ) (row : Row) → has_row (reach s) z ≡ true
@@ -135,7 +135,7 @@ message-paints commit (Some message) s w y fits o =
     let below = paints_more v seen row _ [] ((message_strip w commit message).shows ∷ []) ((λ r. r) ∷ []) (one_row_paints v seen row _ _ said) (one_row_paints v seen (row +ℤ pos 1) [] (λ r. r) (one_none v seen (row +ℤ pos 1))) in
     rw append-nil at (paints_more v seen y [] _ ((λ r. r) ∷ []) _ (one_row_paints v seen y [] (λ r. r) (one_none v seen y)) below)
 
-length-message : (w commit : ℕ) (message : Option (List ℕ)) → length (message_strips w commit message) ≡ message_height message
+pub length-message : (w commit : ℕ) (message : Option (List ℕ)) → length (message_strips w commit message) ≡ message_height message
 unfolding message_strips
 length-message w commit None = refl
 length-message w commit (Some message) = refl

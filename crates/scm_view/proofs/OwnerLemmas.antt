@@ -41,7 +41,7 @@ no_rows w = record { x = pos 0; y = pos 0; width = w; height = 0 }
 abbrev pub Owns : (ComponentId → ComponentId → Bool) → ℕ → (ComponentId → Type 0) → IdPicture → ℤ → List (Strip ComponentId) → Type 0
 Owns same w P m y ss = Draws same is_clickable (no_rows w) P m y ss
 
-none-seen : (w : ℕ) (z : ℤ) → has_row (no_rows w) z ≡ true → ⊥
+pub none-seen : (w : ℕ) (z : ℤ) → has_row (no_rows w) z ≡ true → ⊥
 none-seen w z h =
     let a : pos 0 ≤ℤ z = grind (arith, ints, h) in
     let b : z <ℤ (pos 0 +ℤ pos 0) = grind (arith, ints, h) in
@@ -57,7 +57,7 @@ one-owner a b e y z x = go (int_eq z y)
     go true = e x
     go false = refl
 
-no-owner : (a : Strip ComponentId) → ((x : ℕ) → a.owner x ≡ None) → (y z : ℤ) (x : ℕ) → (line clear (a ∷ []) y z).owner x ≡ None
+pub no-owner : (a : Strip ComponentId) → ((x : ℕ) → a.owner x ≡ None) → (y z : ℤ) (x : ℕ) → (line clear (a ∷ []) y z).owner x ≡ None
 unfolding line
 no-owner a e y z x = go (int_eq z y)
   where
@@ -66,7 +66,7 @@ no-owner a e y z x = go (int_eq z y)
     go false = refl
 
 module _ (same : ComponentId → ComponentId → Bool) where
-  owns-as : (w : ℕ) (P : ComponentId → Type 0) (m n : IdPicture) (y : ℤ) (ss ts : List (Strip ComponentId)) → m.boxes ≡ n.boxes
+  pub owns-as : (w : ℕ) (P : ComponentId → Type 0) (m n : IdPicture) (y : ℤ) (ss ts : List (Strip ComponentId)) → m.boxes ≡ n.boxes
       → ((z : ℤ) (x : ℕ) → (line clear ss y z).owner x ≡ (line clear ts y z).owner x) → Owns same w P m y ss → Owns same w P n y ts
   owns-as w P m n y ss ts e f h = record {
     paints = λ z row p q. absurd (none-seen w z p);
@@ -75,14 +75,14 @@ module _ (same : ComponentId → ComponentId → Bool) where
   }
 
   -- ids of a wider kind
-  owns-more : (w : ℕ) (P Q : ComponentId → Type 0) (m : IdPicture) (y : ℤ) (ss : List (Strip ComponentId)) → ((i : ComponentId) → P i → Q i) → Owns same w P m y ss → Owns same w Q m y ss
+  pub owns-more : (w : ℕ) (P Q : ComponentId → Type 0) (m : IdPicture) (y : ℤ) (ss : List (Strip ComponentId)) → ((i : ComponentId) → P i → Q i) → Owns same w P m y ss → Owns same w Q m y ss
   owns-more w P Q m y ss f h = record {
     paints = λ z row p q. absurd (none-seen w z p);
     owns = λ rep live z x p. h.owns rep (λ i k. live i (f i k)) z x p;
     ids = each_more P Q m.boxes f h.ids;
   }
 
-  owns-none : (w : ℕ) (P : ComponentId → Type 0) (m : IdPicture) (y : ℤ) (a : Strip ComponentId) → m.boxes ≡ [] → ((x : ℕ) → a.owner x ≡ None) → Owns same w P m y (a ∷ [])
+  pub owns-none : (w : ℕ) (P : ComponentId → Type 0) (m : IdPicture) (y : ℤ) (a : Strip ComponentId) → m.boxes ≡ [] → ((x : ℕ) → a.owner x ≡ None) → Owns same w P m y (a ∷ [])
   unfolding hit
   owns-none w P m y a e f = record {
     paints = λ z row p q. absurd (none-seen w z p);
@@ -110,7 +110,7 @@ module _ (same : ComponentId → ComponentId → Bool) where
 
 -- ---- headings
 
-text-none : (s : Sight) (x y : ℤ) (ts : List (List ℕ)) → (text_picture {K = ComponentId} s x y ts).boxes ≡ []
+pub text-none : (s : Sight) (x y : ℤ) (ts : List (List ℕ)) → (text_picture {K = ComponentId} s x y ts).boxes ≡ []
 unfolding text_picture followed_by line_picture span_picture nothing
 text-none s x y ts = go _ _ _ _
   where
@@ -122,7 +122,7 @@ title-boxes : (b : IdBox) (t : List ℕ) (n : ℕ) (s : Sight) (x y : ℤ) → (
 unfolding title_picture followed_by blank_picture part box_picture span_picture
 title-boxes b t n s x y = rw (text-none s (x +ℤ pos 4) y (t ∷ [])) refl
 
-heading-boxes : (h : Heading) (s : Sight) (w c : ℕ) (y : ℤ) → 3 ≤ w → IsOpen s w
+pub heading-boxes : (h : Heading) (s : Sight) (w c : ℕ) (y : ℤ) → 3 ≤ w → IsOpen s w
     → (heading_picture h s (pos c) y).boxes ≡ (followed_by (box_part h.fold s (pos (w - 3)) y) (box_part h.toggle (beside_fold s c y) (pos c) y)).boxes
 unfolding heading_picture followed_by
 heading-boxes h s w c y some o =
@@ -214,11 +214,11 @@ pub record IsFrom (k : SectionKey) (n : ℕ) (i : ComponentId) : Type 0 where
 
 -- ---- rows
 
-line_parts : (key : LineKey) (b : IdBox) (ts : List (List ℕ)) (s : Sight) (y : ℤ) → (part (line_id key) (changed_picture b ts s (pos 4) y)).boxes ≡ (row_picture (LineRow key b ts) s (pos 2) y).boxes
+pub line_parts : (key : LineKey) (b : IdBox) (ts : List (List ℕ)) (s : Sight) (y : ℤ) → (part (line_id key) (changed_picture b ts s (pos 4) y)).boxes ≡ (row_picture (LineRow key b ts) s (pos 2) y).boxes
 unfolding row_picture
 line_parts key b ts s y = refl
 
-context_parts : (key : LineKey) (ts : List (List ℕ)) (s : Sight) (y : ℤ) → (part (line_id key) (context_picture ts s (pos 4) y)).boxes ≡ (row_picture (ContextRow key ts) s (pos 2) y).boxes
+pub context_parts : (key : LineKey) (ts : List (List ℕ)) (s : Sight) (y : ℤ) → (part (line_id key) (context_picture ts s (pos 4) y)).boxes ≡ (row_picture (ContextRow key ts) s (pos 2) y).boxes
 unfolding row_picture
 context_parts key ts s y = refl
 
@@ -228,7 +228,7 @@ highlight-boxes true s y = refl
 highlight-boxes false s y = refl
 
 module _ (same : ComponentId → ComponentId → Bool) (law : IsLawful same) where
-  heading_owns : (h : Heading) (s : Sight) (w c : ℕ) (y : ℤ) (P : ComponentId → Type 0) → 3 ≤ w → IsOpen s w → is_clickable h.toggle.id ≡ true → is_clickable h.fold.id ≡ true
+  pub heading_owns : (h : Heading) (s : Sight) (w c : ℕ) (y : ℤ) (P : ComponentId → Type 0) → 3 ≤ w → IsOpen s w → is_clickable h.toggle.id ≡ true → is_clickable h.fold.id ≡ true
       → (h.fold.id ≡ h.toggle.id → ⊥) → P h.toggle.id → P h.fold.id → Owns same w P (heading_picture h s (pos c) y) y (heading_strip w c h ∷ [])
   heading_owns h s w c y P some o ct cf apart p q =
       let fold = box_part h.fold s (pos (w - 3)) y in
@@ -249,11 +249,11 @@ module _ (same : ComponentId → ComponentId → Bool) (law : IsLawful same) whe
   unfolding row_picture followed_by covering part box_picture span_picture
   mark_row selected b t s y = rw (text-none s (pos 2 +ℤ pos 4) y (t ∷ []), highlight-boxes selected s y) refl
 
-  line_row : (b : IdBox) (ts : List (List ℕ)) (s : Sight) (y : ℤ) → (box_part b s (pos 4) y).boxes ≡ (changed_picture b ts s (pos 4) y).boxes
+  pub line_row : (b : IdBox) (ts : List (List ℕ)) (s : Sight) (y : ℤ) → (box_part b s (pos 4) y).boxes ≡ (changed_picture b ts s (pos 4) y).boxes
   unfolding changed_picture followed_by covering part box_picture span_picture
   line_row b ts s y = rw (text-none s (pos 4 +ℤ pos 4) y ts) refl
 
-  context_row : (ts : List (List ℕ)) (s : Sight) (y : ℤ) → (context_picture ts s (pos 4) y).boxes ≡ []
+  pub context_row : (ts : List (List ℕ)) (s : Sight) (y : ℤ) → (context_picture ts s (pos 4) y).boxes ≡ []
   unfolding context_picture followed_by covering
   context_row ts s y = text-none s (pos 4) y ts
 
@@ -265,11 +265,11 @@ module _ (same : ComponentId → ComponentId → Bool) (law : IsLawful same) whe
   unfolding row_picture covering
   blank_row s y = refl
 
-  line_box : (key : LineKey) (b : IdBox) (ts : List (List ℕ)) (s : Sight) (w : ℕ) (y : ℤ) → 10 ≤ w → IsOpen s w → HasBox (box_rect (changed_picture b ts s (pos 4) y)) y 1 w everywhere
+  pub line_box : (key : LineKey) (b : IdBox) (ts : List (List ℕ)) (s : Sight) (w : ℕ) (y : ℤ) → 10 ≤ w → IsOpen s w → HasBox (box_rect (changed_picture b ts s (pos 4) y)) y 1 w everywhere
   unfolding row_picture
   line_box key b ts s w y fits o = has_box _ y 1 w true (rw (box-part (line_id key) (changed_picture b ts s (pos 4) y)) at (row-spans (LineRow key b ts) s w y fits o))
 
-  context_box : (key : LineKey) (ts : List (List ℕ)) (s : Sight) (w : ℕ) (y : ℤ) → 10 ≤ w → IsOpen s w → HasBox (box_rect (context_picture ts s (pos 4) y)) y 1 w everywhere
+  pub context_box : (key : LineKey) (ts : List (List ℕ)) (s : Sight) (w : ℕ) (y : ℤ) → 10 ≤ w → IsOpen s w → HasBox (box_rect (context_picture ts s (pos 4) y)) y 1 w everywhere
   unfolding row_picture
   context_box key ts s w y fits o = has_box _ y 1 w true (rw (box-part (line_id key) (context_picture ts s (pos 4) y)) at (row-spans (ContextRow key ts) s w y fits o))
 
@@ -334,7 +334,7 @@ module _ (same : ComponentId → ComponentId → Bool) (law : IsLawful same) whe
 
 -- ---- sections
 
-rows-inner : (k : SectionKey) (n : ℕ) (ds : List DocRow) → AreRowsOf k n ds → AreInner ds
+pub rows-inner : (k : SectionKey) (n : ℕ) (ds : List DocRow) → AreRowsOf k n ds → AreInner ds
 rows-inner k n [] e = tt
 rows-inner k n (HeaderRow key h ∷ ds) e = absurd e.0
 rows-inner k n (SectionRow selected h ∷ ds) e = (refl, rows-inner k _ ds e.1)
@@ -390,7 +390,7 @@ length-strips : (w : ℕ) (p : ShownSection) → length (section_strips w p) ≡
 unfolding section_strips
 length-strips w p = length-map (map (row_strip w) p.rows) (owned (section_id p.key) (is_of_section p.rows)) ∙ length-map p.rows (row_strip w)
 
-index-of : (i : ComponentId) (k m : SectionKey) → section_of i ≡ Some k → section_of i ≡ Some m → k.section_idx ≡ m.section_idx
+pub index-of : (i : ComponentId) (k m : SectionKey) → section_of i ≡ Some k → section_of i ≡ Some m → k.section_idx ≡ m.section_idx
 index-of i k m p q = let e : k ≡ m = cc (p, q) in ap (λ (t : SectionKey). t.section_idx) e
 
 module _ (same : ComponentId → ComponentId → Bool) (law : IsLawful same) where

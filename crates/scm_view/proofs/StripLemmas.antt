@@ -276,7 +276,7 @@ unfolding file_strips
 file-shows w pinned f =
     shows-owned (file_id f.key) everywhere (header_strip w pinned f ∷ sections_strips w f.sections) ∙ ap (λ g. g ∷ map shows_of (sections_strips w f.sections)) (header-shows w pinned f)
 
-length-sections_strips : (w : ℕ) (ps : List ShownSection) → length (sections_strips w ps) ≡ length (sections_rows ps)
+pub length-sections_strips : (w : ℕ) (ps : List ShownSection) → length (sections_strips w ps) ≡ length (sections_rows ps)
 unfolding sections_strips sections_rows section_strips
 length-sections_strips w [] = refl
 length-sections_strips w (p ∷ ps) =
@@ -308,7 +308,7 @@ unfolding reach rect_between
 all-width x y n h s = refl
 
 -- under a mask from column 0 to the end
-under-open : (s : Sight) (w : ℕ) (y : ℤ) (h : Option ℕ) → IsOpen s w → IsOpen (under (record { x = pos 0; y = y; width = Some (to_end s (pos 0)); height = h }) s) w
+pub under-open : (s : Sight) (w : ℕ) (y : ℤ) (h : Option ℕ) → IsOpen s w → IsOpen (under (record { x = pos 0; y = y; width = Some (to_end s (pos 0)); height = h }) s) w
 under-open s w y h o =
     let n : to_end s (pos 0) ≡ w = omega (arith, places, o.low, o.columns) in
     record {

@@ -16,7 +16,7 @@ use Rattle.scm_view.specs.declared.commit_view.CommitViewMode.{CommitViewMode}
 use Rattle.scm_view.specs.declared.commit_view.CommitViewMode.TheVariants.{Inline, Adjacent}
 use Rattle.scm_view.specs.declared.help_dialog.HelpDialog.{HelpDialog}
 use Rattle.scm_view.specs.Pictures.{commit_picture}
-use Rattle.scm_view.specs.Shown.{Shown, Shows}
+use Rattle.scm_view.specs.Shown.{Shown, Shows, commit_view_of}
 use Rattle.scm_view.specs.Menus.{menu_bar_picture}
 use Rattle.scm_view.specs.Tables.{menus_with}
 use Rattle.scm_view.specs.Screens.{sight}
@@ -85,6 +85,25 @@ pub record ShowsSession (a : AppView) (shown : Shown) : Type 0 where
   pub count : views_shown shown.view_mode ≤ length a.commit_views
   pub quit_dialog : a.quit_dialog ≡ shown.quit_dialog
   pub help_dialog : is_open a.help_dialog ≡ shown.is_help_open
+
+-- the help, where it is open
+abbrev pub help_where : Bool → Option HelpDialog
+help_where true = Some (record {})
+help_where false = None
+
+-- all that is shown of a session, as a view: both commits, and what is open
+abbrev pub app_view_of : Shown → AppView
+app_view_of shown = record {
+  menu_bar = menus_with shown.open_menu;
+  commit_view_mode = shown.view_mode;
+  commit_views = commit_view_of shown 0 ∷ (commit_view_of shown 1 ∷ []);
+  quit_dialog = shown.quit_dialog;
+  help_dialog = help_where shown.is_help_open;
+}
+
+-- what is drawn depends on the session alone
+abbrev pub AppsAreDrawnAlike : Type 0
+AppsAreDrawnAlike = (shown : Shown) (a : AppView) (s : Sight) (x y : ℤ) → ShowsSession a shown → app_picture a s x y ≡ app_picture (app_view_of shown) s x y
 
 -- all that is drawn of a session with an accepted state is in range, on each screen and however far it is scrolled
 abbrev pub AppsAreInRange : Type 0

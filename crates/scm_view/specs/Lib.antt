@@ -18,7 +18,7 @@ pub mod Strips
 pub mod Places
 -- Places and texts with which all that is drawn is in range.
 pub mod Near
--- Whose ids the rows of a file's sections have.
+-- Whose ids the rows of a document have.
 pub mod Owners
 -- What follows from the definitions.
 pub mod Laws
@@ -32,3 +32,5 @@ pub mod Ranges
 pub mod Overlays
 -- All that the selector shows.
 pub mod AppView
+-- What a screen shows of a session inline.
+pub mod Window

@@ -2,6 +2,7 @@
 
 use crate::keys::{FileKey, SelectionKey};
 use crate::quit_dialog::QuitDialogButtonId;
+use scm_render::Clickable;
 
 /// A part of the screen.
 #[derive(Clone, Copy, Debug, PartialEq, Eq, PartialOrd, Ord, Hash)]
@@ -38,4 +39,31 @@ pub enum ComponentId {
     HelpDialog,
     /// The button that closes it.
     HelpDialogQuitButton,
+}
+
+impl Clickable for ComponentId {
+    ghost use Rattle.scm_view.specs.Clicks.{is_clickable as clicks_on};
+
+    ghost clicks = { clicks_on };
+
+    fn is_clickable(&self) -> bool {
+        match self {
+            ComponentId::App => false,
+            ComponentId::AppFiles => false,
+            ComponentId::MenuBar => true,
+            ComponentId::MenuHeader => false,
+            ComponentId::Menu(_) => true,
+            ComponentId::MenuItem(_) => true,
+            ComponentId::CommitMessageView => false,
+            ComponentId::CommitEditMessageButton(_) => true,
+            ComponentId::FileViewHeader(_) => true,
+            ComponentId::SelectableItem(_) => true,
+            ComponentId::ToggleBox(_) => true,
+            ComponentId::ExpandBox(_) => true,
+            ComponentId::QuitDialog => true,
+            ComponentId::QuitDialogButton(_) => true,
+            ComponentId::HelpDialog => true,
+            ComponentId::HelpDialogQuitButton => true,
+        }
+    }
 }

@@ -1,6 +1,12 @@
 //! Laws of the view: what follows from its definitions for each session that is drawn.
-ghost use Rattle.scm_view.specs.AppView.{AppsAreInRange};
+ghost use Rattle.scm_view.specs.AppView.{AppsAreInRange, AppsAreDrawnAlike};
 ghost use Rattle.scm_view.specs.Laws.{CommitsAreInRange, DocumentsArePainted, SectionsOwnTheirColumns};
+ghost use Rattle.scm_view.specs.Window.{
+  AppsHaveExtents,
+  AppsShowWindows,
+  ClicksFindOwners,
+  KeysHaveRows,
+};
 
 /// All that is drawn of a commit is in range, for each view that shows a session with an accepted
 /// state, on a screen of at most 65,535 columns and rows that lies at most 2,000,000 rows down.
@@ -24,4 +30,34 @@ pub fn sections_own_their_columns()
 /// state, on a screen of at most 65,535 columns and rows that lies at most 2,000,000 rows down.
 pub fn apps_are_in_range()
     ensures { AppsAreInRange }
+{}
+
+/// What is drawn depends on the session alone: each `AppView` that shows it is drawn as the view that
+/// its definition makes of it.
+pub fn apps_are_drawn_alike()
+    ensures { AppsAreDrawnAlike }
+{}
+
+/// Drawing all that is shown inline on a cleared screen leaves the window: on each row what the layers
+/// say, one over another.
+pub fn apps_show_windows()
+    ensures { AppsShowWindows }
+{}
+
+/// Of all that is shown inline, the latest box under a point that a click acts on is that of the owner
+/// whom the layers name, on each row of the document and each column of the screen.
+pub fn clicks_find_owners()
+    ensures { ClicksFindOwners }
+{}
+
+/// Of all that is shown inline, the box of each key is on the key's rows, and a key without rows has
+/// none.
+pub fn keys_have_rows()
+    ensures { KeysHaveRows }
+{}
+
+/// Of all that is shown inline, the box has as many rows as the least run around the document, the
+/// menu bar with its open menu, and the open dialogs.
+pub fn apps_have_extents()
+    ensures { AppsHaveExtents }
 {}

@@ -1,0 +1,350 @@
+-- Who owns the columns of the rows of files, by the boxes that are drawn: whom the strips name, and over them the pinned header's.
+use Rattle.std.proofs.Common.{◌≡◌, ℕ, suc, ◌+◌, ◌<◌, ◌≤◌, Bool, true, false, cond, List, [], ◌∷◌, ◌++◌, length, refl, sym, ap, ap₂, ◌∙◌, arith, ◌⊎◌, inl, inr}
+use Rattle.std.specs.Prelude.{ℤ, pos, ◌+ℤ◌, ◌<ℤ◌, ◌||◌, Option, Some, None, if◌then◌else◌}
+use Rattle.std.specs.Ordering.{int_eq}
+use Rattle.std.proofs.lemmas.Int.{ints}
+use Rattle.std.proofs.lemmas.Bool.Decides.{Decides-int_eq}
+use Rattle.std.proofs.lemmas.List.{length-map}
+use Rattle.scm_render.specs.Picture.{Box, nothing, followed_by, part, box_rect}
+use Rattle.scm_render.specs.Canvas.{Sight, under}
+use Rattle.scm_render.specs.Drawing.{span_picture}
+use Rattle.scm_render.specs.Hits.{IsLawful, holds, has_id, first_of_two, hit}
+use Rattle.scm_render.specs.Lines.{line}
+use Rattle.scm_render.proofs.LineLemmas.{line-below}
+use Rattle.scm_render.proofs.HitLemmas.{Each, each-append, each_more, hit-append, hit_apart, hit_box, hit_replaced, two_assoc}
+use Rattle.scm_view.specs.declared.keys.FileKey.{FileKey}
+use Rattle.scm_view.specs.declared.keys.SectionKey.{SectionKey}
+use Rattle.scm_view.specs.declared.keys.SelectionKey.{SelectionKey}
+use Rattle.scm_view.specs.declared.keys.SelectionKey.TheVariants as selection
+use Rattle.scm_view.specs.declared.ids.ComponentId.{ComponentId}
+use Rattle.scm_view.specs.declared.ids.ComponentId.TheVariants as ids
+use Rattle.scm_view.specs.Clicks.{is_clickable}
+use Rattle.scm_view.specs.Laws.{IsOpen}
+use Rattle.scm_view.specs.Layers.{Strip, clear, owned}
+use Rattle.scm_view.specs.Owners.{section_of_line, file_of_section, AreSectionsOf, IsHeadingOf, IsFileOf, AreFilesOf}
+use Rattle.scm_view.specs.Rows.{file_id, Heading, HeaderRow, ShownFile, file_rows}
+use Rattle.scm_view.specs.Pictures.{box_picture, heading_picture, row_picture, sections_picture, shown_file_picture, file_mask, pinned_mask, mask_row, pinned_header, pinned_picture, one_file_picture, files_picture}
+use Rattle.scm_view.specs.Strips.{everywhere, heading_strip, row_strip, header_strip, sections_strips, file_strips, is_over, files_strips, pinned_strips}
+use Rattle.scm_view.proofs.Draws.{Apart, none_of, apart, line-more, line-owned, draws_nothing, draws_part, box-part}
+use Rattle.scm_view.proofs.MenuLemmas.{differ}
+use Rattle.scm_view.proofs.StripLemmas.{under-open, length-file_strips}
+use Rattle.scm_view.proofs.BoxLemmas.{row-spans, has_box}
+use Rattle.scm_view.proofs.DocumentLemmas.{none-pinned, over-below}
+use Rattle.scm_view.proofs.FileBoxLemmas.{file-span}
+use Rattle.scm_view.proofs.OwnerLemmas.{no_rows, Owns, no-owner, heading-boxes, heading_owns, section_of, IsSectionFrom, sections_own}
+
+-- ---- whose the ids are
+
+abbrev key_file : SelectionKey → Option FileKey
+key_file selection.None = None
+key_file (selection.File k) = Some k
+key_file (selection.Section k) = Some (file_of_section k)
+key_file (selection.Line k) = Some (file_of_section (section_of_line k))
+
+-- the file of a part of the document
+abbrev pub file_of : ComponentId → Option FileKey
+file_of ids.App = None
+file_of ids.AppFiles = None
+file_of ids.MenuBar = None
+file_of ids.MenuHeader = None
+file_of (ids.Menu k) = None
+file_of (ids.MenuItem k) = None
+file_of ids.CommitMessageView = None
+file_of (ids.CommitEditMessageButton k) = None
+file_of (ids.FileViewHeader k) = Some k
+file_of (ids.SelectableItem k) = key_file k
+file_of (ids.ToggleBox k) = key_file k
+file_of (ids.ExpandBox k) = key_file k
+file_of ids.QuitDialog = None
+file_of (ids.QuitDialogButton b) = None
+file_of ids.HelpDialog = None
+file_of ids.HelpDialogQuitButton = None
+
+key-file : (i : ComponentId) (k : SelectionKey) (m : SectionKey) → file_of i ≡ key_file k → section_of (ids.SelectableItem k) ≡ Some m → file_of i ≡ Some (file_of_section m)
+key-file i selection.None m f e = absurd (cc e)
+key-file i (selection.File k) m f e = absurd (cc e)
+key-file i (selection.Section k) m f e = let same : k ≡ m = cc e in f ∙ ap (λ k. Some (file_of_section k)) same
+key-file i (selection.Line k) m f e = let same : section_of_line k ≡ m = cc e in f ∙ ap (λ k. Some (file_of_section k)) same
+
+-- a part of a section is one of the section's file
+section-file : (i : ComponentId) (m : SectionKey) → section_of i ≡ Some m → file_of i ≡ Some (file_of_section m)
+section-file ids.App m e = absurd (cc e)
+section-file ids.AppFiles m e = absurd (cc e)
+section-file ids.MenuBar m e = absurd (cc e)
+section-file ids.MenuHeader m e = absurd (cc e)
+section-file (ids.Menu k) m e = absurd (cc e)
+section-file (ids.MenuItem k) m e = absurd (cc e)
+section-file ids.CommitMessageView m e = absurd (cc e)
+section-file (ids.CommitEditMessageButton k) m e = absurd (cc e)
+section-file (ids.FileViewHeader k) m e = absurd (cc e)
+section-file (ids.SelectableItem k) m e = key-file (ids.SelectableItem k) k m refl e
+section-file (ids.ToggleBox k) m e = key-file (ids.ToggleBox k) k m refl e
+section-file (ids.ExpandBox k) m e = key-file (ids.ExpandBox k) k m refl e
+section-file ids.QuitDialog m e = absurd (cc e)
+section-file (ids.QuitDialogButton b) m e = absurd (cc e)
+section-file ids.HelpDialog m e = absurd (cc e)
+section-file ids.HelpDialogQuitButton m e = absurd (cc e)
+
+-- one of the two boxes of a file's heading
+abbrev pub IsBoxOf : FileKey → ComponentId → Type 0
+IsBoxOf k i = (i ≡ ids.ToggleBox (selection.File k)) ⊎ (i ≡ ids.ExpandBox (selection.File k))
+
+-- the header of a file, or one of its two boxes: these are drawn again where it is pinned
+abbrev pub IsHeadOf : FileKey → ComponentId → Type 0
+IsHeadOf k i = (i ≡ ids.FileViewHeader k) ⊎ IsBoxOf k i
+
+-- a part of a file
+abbrev pub IsOfFile : FileKey → ComponentId → Type 0
+IsOfFile k i = file_of i ≡ Some k
+
+head-file : (k : FileKey) (i : ComponentId) → IsHeadOf k i → IsOfFile k i
+head-file k i (inl e) = ap file_of e
+head-file k i (inr (inl e)) = ap file_of e
+head-file k i (inr (inr e)) = ap file_of e
+
+head-section : (k : FileKey) (i : ComponentId) → IsHeadOf k i → section_of i ≡ None
+head-section k i (inl e) = ap section_of e
+head-section k i (inr (inl e)) = ap section_of e
+head-section k i (inr (inr e)) = ap section_of e
+
+-- ---- a file's header
+
+module _ (same : ComponentId → ComponentId → Bool) (law : IsLawful same) where
+  pub header-owns : (k : FileKey) (h : Heading) (s : Sight) (w : ℕ) (y : ℤ) → 10 ≤ w → IsOpen s w → IsHeadingOf k h → Owns same w (IsHeadOf k) (row_picture (HeaderRow k h) s (pos 0) y) y (row_strip w (HeaderRow k h) ∷ [])
+  unfolding row_picture row_strip
+  header-owns k h s w y fits o e =
+      draws_part same is_clickable (no_rows w) (IsBoxOf k) (IsHeadOf k) (ids.FileViewHeader k) (heading_picture h s (pos 0) y) y (heading_strip w 0 h ∷ []) everywhere
+      (heading_owns same law h s w 0 y (IsBoxOf k) (omega (arith, fits)) o (ap is_clickable e.toggle) (ap is_clickable e.fold) (λ q. cc (e.toggle, e.fold, q)) (inl e.toggle) (inr e.fold))
+      (has_box _ y 1 w true (rw (box-part (ids.FileViewHeader k) (heading_picture h s (pos 0) y)) at (row-spans (HeaderRow k h) s w y fits o)))
+      refl (λ j p. differ same law (ids.FileViewHeader k) j (not-box j p)) (inl refl) (λ j p. inr p)
+    where
+      not-box : (j : ComponentId) → IsBoxOf k j → ids.FileViewHeader k ≡ j → ⊥
+      not-box j (inl p) q = cc (p, q)
+      not-box j (inr p) q = cc (p, q)
+
+  -- boxes that are all drawn again later own nothing
+  all-gone : (rep : ComponentId → Bool) (bs : List (Box ComponentId)) (y x : ℤ) → Each (λ i. rep i ≡ true) bs → hit same is_clickable rep bs y x ≡ None
+  unfolding hit
+  all-gone rep [] y x e = refl
+  all-gone rep (b ∷ bs) y x e = hit_replaced same is_clickable rep b bs y x e.0 ∙ all-gone rep bs y x e.1
+
+  -- the header row of a file whose header is pinned elsewhere, or is not
+  header-under : (f : ShownFile) (b : Bool) (rep : ComponentId → Bool) (s : Sight) (w : ℕ) (y z : ℤ) (x : ℕ) → 10 ≤ w → IsOpen s w → IsHeadingOf f.key f.heading → ((i : ComponentId) → IsHeadOf f.key i → rep i ≡ b) → x < w
+      → hit same is_clickable rep (row_picture (HeaderRow f.key f.heading) s (pos 0) y).boxes z (pos x) ≡ (line clear (header_strip w b f ∷ []) y z).owner x
+  header-under f false rep s w y z x fits o e heads within = (header-owns f.key f.heading s w y fits o e).owns rep heads z x within
+  header-under f true rep s w y z x fits o e heads within =
+      let own = header-owns f.key f.heading s w y fits o e in
+      all-gone rep (row_picture (HeaderRow f.key f.heading) s (pos 0) y).boxes z (pos x) (each_more (IsHeadOf f.key) (λ i. rep i ≡ true) (row_picture (HeaderRow f.key f.heading) s (pos 0) y).boxes heads own.ids)
+      ∙ sym (no-owner (header_strip w true f) (λ x. refl) y z x)
+
+  head-or-section : (k : FileKey) → Apart same is_clickable (IsHeadOf k) (IsSectionFrom k 0)
+  head-or-section k i j p q = differ same law i j (λ e. let none = head-section k i p in let some = q.section in cc (none, some, ap section_of e))
+
+  -- the parts of a file
+  parts-own : (f : ShownFile) (b : Bool) (rep : ComponentId → Bool) (s : Sight) (w : ℕ) (y z : ℤ) (x : ℕ) → 10 ≤ w → IsOpen s w → IsHeadingOf f.key f.heading → AreSectionsOf f.key 0 f.sections
+      → ((i : ComponentId) → IsHeadOf f.key i → rep i ≡ b) → ((i : ComponentId) → IsSectionFrom f.key 0 i → rep i ≡ false) → x < w
+      → hit same is_clickable rep (shown_file_picture f s (pos 0) y).boxes z (pos x) ≡ (line clear (header_strip w b f ∷ sections_strips w f.sections) y z).owner x
+  unfolding shown_file_picture followed_by
+  parts-own f b rep s w y z x fits o e es heads live within =
+      let head = header-owns f.key f.heading s w y fits o e in
+      let below = sections_own same law f.key 0 f.sections s w (y +ℤ pos 1) fits o es in
+      hit_apart same is_clickable rep (row_picture (HeaderRow f.key f.heading) s (pos 0) y).boxes (sections_picture f.sections s (pos 2) (y +ℤ pos 1)).boxes z (pos x)
+      (apart same is_clickable (IsHeadOf f.key) (IsSectionFrom f.key 0) _ _ (head-or-section f.key) head.ids below.ids)
+      ∙ ap₂ first_of_two (below.owns rep live z x within) (header-under f b rep s w y z x fits o e heads within)
+      ∙ ap (λ (t : Strip ComponentId). t.owner x) (line-more (header_strip w b f ∷ []) (sections_strips w f.sections) y z)
+
+  pub parts-ids : (f : ShownFile) (s : Sight) (w : ℕ) (y : ℤ) → 10 ≤ w → IsOpen s w → IsHeadingOf f.key f.heading → AreSectionsOf f.key 0 f.sections
+      → Each (λ i. IsHeadOf f.key i ⊎ IsSectionFrom f.key 0 i) (shown_file_picture f s (pos 0) y).boxes
+  unfolding shown_file_picture followed_by
+  parts-ids f s w y fits o e es =
+      each-append (λ i. IsHeadOf f.key i ⊎ IsSectionFrom f.key 0 i) (row_picture (HeaderRow f.key f.heading) s (pos 0) y).boxes (sections_picture f.sections s (pos 2) (y +ℤ pos 1)).boxes
+      (each_more (IsHeadOf f.key) _ _ (λ i p. inl p) (header-owns f.key f.heading s w y fits o e).ids)
+      (each_more (IsSectionFrom f.key 0) _ _ (λ i p. inr p) (sections_own same law f.key 0 f.sections s w (y +ℤ pos 1) fits o es).ids)
+
+  pub not-file : (k : FileKey) (i : ComponentId) → IsHeadOf k i ⊎ IsSectionFrom k 0 i → same (file_id k) i ≡ false
+  not-file k i (inl (inl p)) = differ same law (file_id k) i (λ e. cc (e, p))
+  not-file k i (inl (inr (inl p))) = differ same law (file_id k) i (λ e. cc (e, p))
+  not-file k i (inl (inr (inr p))) = differ same law (file_id k) i (λ e. cc (e, p))
+  not-file k i (inr p) = differ same law (file_id k) i (λ e. let some = p.section in cc (ap section_of e, some))
+
+  -- a file and its parts
+  pub whole_file-owns : (commit n : ℕ) (f : ShownFile) (b : Bool) (rep : ComponentId → Bool) (s : Sight) (w : ℕ) (y z : ℤ) (x : ℕ) → 10 ≤ w → IsOpen s w → IsFileOf commit n f
+      → ((i : ComponentId) → IsHeadOf f.key i → rep i ≡ b) → ((i : ComponentId) → IsSectionFrom f.key 0 i → rep i ≡ false) → rep (file_id f.key) ≡ false → x < w
+      → hit same is_clickable rep (part (file_id f.key) (shown_file_picture f s (pos 0) y)).boxes z (pos x) ≡ (line clear (file_strips w b f) y z).owner x
+  unfolding part holds file_strips
+  whole_file-owns commit n f b rep s w y z x fits o e heads live itself within =
+      let m = shown_file_picture f s (pos 0) y in
+      let ss = header_strip w b f ∷ sections_strips w f.sections in
+      let span = file-span commit n f s w y fits o e in
+      let rows : length (file_rows f) ≡ length ss = length-rows in
+      let box = has_box (box_rect m) y (length (file_rows f)) w true span in
+      hit_box same is_clickable rep (file_id f.key, box_rect m) m.boxes z (pos x) refl itself (none_of same is_clickable _ (file_id f.key) m.boxes (not-file f.key) (parts-ids f s w y fits o e.heading e.sections))
+      ∙ rw (parts-own f b rep s w y z x fits o e.heading e.sections heads live within, box.top, box.rows ∙ rows, box.columns x within) (line-owned (file_id f.key) everywhere ss y z x)
+    where
+      length-rows : length (file_rows f) ≡ suc (length (sections_strips w f.sections))
+      length-rows = sym (length-file_strips w b f) ∙ ap suc (length-map (sections_strips w f.sections) (owned (file_id f.key) everywhere))
+
+-- ---- a file and its pinned header
+
+module _ (same : ComponentId → ComponentId → Bool) (law : IsLawful same) where
+  pinned-part : (f : ShownFile) (s : Sight) (w m : ℕ) → 10 ≤ w → IsOpen s w → IsHeadingOf f.key f.heading
+      → Owns same w (IsHeadOf f.key) (pinned_header f s (pos 0) (pos m)) (pos m) (row_strip w (HeaderRow f.key f.heading) ∷ [])
+  pinned-part f s w m fits o e = header-owns same law f.key f.heading (under (pinned_mask s (pos 0) (pos m)) s) w (pos m) fits (under-open s w (pos m) (Some 1) o) e
+
+  -- the pinned header, if there is one, owns its strip
+  pub pinned-owns : (f : ShownFile) (b : Bool) (s : Sight) (w m : ℕ) → 10 ≤ w → IsOpen s w → IsHeadingOf f.key f.heading
+      → Owns same w (IsHeadOf f.key) (if b then pinned_header f s (pos 0) (pos m) else nothing) (pos m) (cond b (row_strip w (HeaderRow f.key f.heading) ∷ []) [])
+  pinned-owns f true s w m fits o e = pinned-part f s w m fits o e
+  pinned-owns f false s w m fits o e = draws_nothing same is_clickable (no_rows w) (IsHeadOf f.key) (pos m)
+
+  -- the ids of a header are those of any header of the file
+  has-head : (k : FileKey) (h : Heading) (s : Sight) (w : ℕ) (y : ℤ) (i : ComponentId) → 10 ≤ w → IsOpen s w → IsHeadingOf k h → IsHeadOf k i → has_id same i (row_picture (HeaderRow k h) s (pos 0) y).boxes ≡ true
+  unfolding row_picture part has_id followed_by box_picture span_picture
+  has-head k h s w y i fits o e p = rw (heading-boxes h s w 0 y (omega (arith, fits)) o) (go p)
+    where
+      third : (a b : Bool) → (a || (b || (true || false))) ≡ true
+      third true b = refl
+      third false true = refl
+      third false false = refl
+
+      second : (a c : Bool) → (a || (true || c)) ≡ true
+      second true c = refl
+      second false c = refl
+
+      first : (c : Bool) → (true || c) ≡ true
+      first c = refl
+
+      go : IsHeadOf k i → (same i (ids.FileViewHeader k) || (same i h.fold.id || (same i h.toggle.id || false))) ≡ true
+      go (inl q) = let t : same i (ids.FileViewHeader k) ≡ true = rw q (law.self (ids.FileViewHeader k)) in rw t refl
+      go (inr (inl q)) = let t : same i h.toggle.id ≡ true = rw (q, e.toggle) (law.self (ids.ToggleBox (selection.File k))) in rw t (third (same i (ids.FileViewHeader k)) (same i h.fold.id))
+      go (inr (inr q)) = let t : same i h.fold.id ≡ true = rw (q, e.fold) (law.self (ids.ExpandBox (selection.File k))) in rw t (second (same i (ids.FileViewHeader k)) (same i h.toggle.id || false))
+
+  -- the pinned header draws these ids again, and no others
+  redrawn : (f : ShownFile) (b : Bool) (s : Sight) (w m : ℕ) (i : ComponentId) → 10 ≤ w → IsOpen s w → IsHeadingOf f.key f.heading → IsHeadOf f.key i
+      → has_id same i (if b then pinned_header f s (pos 0) (pos m) else nothing).boxes ≡ b
+  unfolding nothing has_id
+  redrawn f true s w m i fits o e p = has-head f.key f.heading (under (pinned_mask s (pos 0) (pos m)) s) w (pos m) i fits (under-open s w (pos m) (Some 1) o) e p
+  redrawn f false s w m i fits o e p = refl
+
+  or-known : (a b c : Bool) → a ≡ false → b ≡ c → (a || b) ≡ c
+  or-known a b c p q = rw (p, q) refl
+
+  section-head : (k : FileKey) (i j : ComponentId) → IsSectionFrom k 0 i → IsHeadOf k j → same i j ≡ false
+  section-head k i j p q = differ same law i j (λ e. let none = head-section k j q in let some = p.section in cc (none, some, ap section_of e))
+
+  file-head : (k : FileKey) (j : ComponentId) → IsHeadOf k j → same (file_id k) j ≡ false
+  file-head k j q = not-file same law k j (inl q)
+
+  one_file-owns : (commit n : ℕ) (f : ShownFile) (s : Sight) (w m top : ℕ) (z : ℤ) (x : ℕ) (rep : ComponentId → Bool) → 10 ≤ w → IsOpen s w → mask_row s ≡ pos m → IsFileOf commit n f
+      → ((i : ComponentId) → IsOfFile f.key i → rep i ≡ false) → x < w
+      → hit same is_clickable rep (one_file_picture f s (pos 0) (pos top)).boxes z (pos x)
+      ≡ first_of_two ((line clear (cond (is_over m top f) (row_strip w (HeaderRow f.key f.heading) ∷ []) []) (pos m) z).owner x) ((line clear (file_strips w (is_over m top f) f) (pos top) z).owner x)
+  unfolding one_file_picture pinned_picture followed_by
+  one_file-owns commit n f s w m top z x rep fits o row e live within =
+      let b = is_over m top f in
+      let pinned = if b then pinned_header f s (pos 0) (pos m) else nothing in
+      let again = pinned-owns f b s w m fits o e.heading in
+      let after : ComponentId → Bool = λ i. rep i || has_id same i pinned.boxes in
+      rw row
+      (hit-append same is_clickable rep (part (file_id f.key) (shown_file_picture f (under (file_mask s (pos 0) (pos top)) s) (pos 0) (pos top))).boxes pinned.boxes z (pos x)
+      ∙ ap₂ first_of_two (again.owns rep (λ i p. live i (head-file f.key i p)) z x within)
+      (whole_file-owns same law commit n f b after (under (file_mask s (pos 0) (pos top)) s) w (pos top) z x fits (under-open s w (pos top) None o) e
+      (λ i p. or-known (rep i) (has_id same i pinned.boxes) b (live i (head-file f.key i p)) (redrawn f b s w m i fits o e.heading p))
+      (λ i p. or-known (rep i) (has_id same i pinned.boxes) false (live i (section-file i p.key p.section ∙ ap Some p.file)) (none_of same is_clickable (IsHeadOf f.key) i pinned.boxes (λ j q. section-head f.key i j p q) again.ids))
+      (or-known (rep (file_id f.key)) (has_id same (file_id f.key) pinned.boxes) false (live (file_id f.key) refl) (none_of same is_clickable (IsHeadOf f.key) (file_id f.key) pinned.boxes (λ j q. file-head f.key j q) again.ids))
+      within))
+
+  file-part : (k : FileKey) (i : ComponentId) → IsHeadOf k i ⊎ IsSectionFrom k 0 i → IsOfFile k i
+  file-part k i (inl p) = head-file k i p
+  file-part k i (inr p) = section-file i p.key p.section ∙ ap Some p.file
+
+  pub one_file-ids : (commit n : ℕ) (f : ShownFile) (s : Sight) (w m top : ℕ) → 10 ≤ w → IsOpen s w → mask_row s ≡ pos m → IsFileOf commit n f → Each (IsOfFile f.key) (one_file_picture f s (pos 0) (pos top)).boxes
+  unfolding one_file_picture pinned_picture followed_by part
+  one_file-ids commit n f s w m top fits o row e =
+      let b = is_over m top f in
+      let t = under (file_mask s (pos 0) (pos top)) s in
+      rw row (
+        refl,
+        each-append (IsOfFile f.key) (shown_file_picture f t (pos 0) (pos top)).boxes (if b then pinned_header f s (pos 0) (pos m) else nothing).boxes
+            (each_more _ (IsOfFile f.key) _ (λ i p. file-part f.key i p) (parts-ids same law f t w (pos top) fits (under-open s w (pos top) None o) e.heading e.sections))
+            (each_more (IsHeadOf f.key) (IsOfFile f.key) _ (λ i p. head-file f.key i p) (pinned-owns f b s w m fits o e.heading).ids),
+      )
+
+-- ---- files one below another
+
+-- a part of a file of the commit, from this one on
+pub record IsFileFrom (commit n : ℕ) (i : ComponentId) : Type 0 where
+  pub key : FileKey
+  pub file : file_of i ≡ Some key
+  pub commit_is : key.commit_idx ≡ commit
+  pub index : n ≤ key.file_idx
+
+abbrev pub owner_at : List (Strip ComponentId) → ℤ → ℤ → ℕ → Option ComponentId
+owner_at ss y z x = (line clear ss y z).owner x
+
+pub both-owners : (ss ts : List (Strip ComponentId)) (y k z : ℤ) (x : ℕ) → y +ℤ pos (length ss) ≡ k → first_of_two (owner_at ts k z x) (owner_at ss y z x) ≡ owner_at (ss ++ ts) y z x
+both-owners ss ts y k z x e = rw (sym e) (ap (λ (t : Strip ComponentId). t.owner x) (line-more ss ts y z))
+
+pub none-owner : (y z : ℤ) (x : ℕ) → owner_at [] y z x ≡ None
+unfolding line
+none-owner y z x = refl
+
+-- one strip on row m, and strips below that row
+owners-apart : (p : Strip ComponentId) (rest own : List (Strip ComponentId)) (m y k z : ℤ) (x : ℕ) → m <ℤ k → y +ℤ pos (length own) ≡ k
+    → first_of_two (owner_at rest k z x) (first_of_two (owner_at (p ∷ []) m z x) (owner_at own y z x)) ≡ first_of_two (owner_at (p ∷ []) m z x) (owner_at (own ++ rest) y z x)
+unfolding line
+owners-apart p rest own m y k z x h e = go (int_eq z m) refl
+  where
+    go : (b : Bool) → int_eq z m ≡ b → first_of_two (owner_at rest k z x) (first_of_two ((cond b p clear).owner x) (owner_at own y z x)) ≡ first_of_two ((cond b p clear).owner x) (owner_at (own ++ rest) y z x)
+    go true q =
+        let here : z ≡ m = (Decides-int_eq z m).0 q in
+        let above : z <ℤ k = omega (arith, ints, here, h) in
+        let none : owner_at rest k z x ≡ None = ap (λ (t : Strip ComponentId). t.owner x) (line-below clear rest k z above) in
+        let joined = both-owners own rest y k z x e in
+        ap (λ o. first_of_two o (first_of_two (p.owner x) (owner_at own y z x))) none
+        ∙ ap (first_of_two (p.owner x)) (sym (ap (λ o. first_of_two o (owner_at own y z x)) none) ∙ joined)
+    go false q = both-owners own rest y k z x e
+
+-- a file's strips, its pinned header's and those of the files below, as their boxes are drawn, and as layers
+owners-in_layers : (b : Bool) (hs own rest : List (Strip ComponentId)) (p : Strip ComponentId) (m y k z : ℤ) (x : ℕ) → (b ≡ true → hs ≡ []) → (b ≡ true → m <ℤ k) → y +ℤ pos (length own) ≡ k
+    → first_of_two (first_of_two (owner_at hs m z x) (owner_at rest k z x)) (first_of_two (owner_at (cond b (p ∷ []) []) m z x) (owner_at own y z x))
+    ≡ first_of_two (owner_at (cond b (p ∷ []) hs) m z x) (owner_at (own ++ rest) y z x)
+owners-in_layers true hs own rest p m y k z x none below e = rw (none refl, none-owner m z x) (owners-apart p rest own m y k z x (below refl) e)
+owners-in_layers false hs own rest p m y k z x none below e =
+    rw (none-owner m z x) (two_assoc (owner_at hs m z x) (owner_at rest k z x) (owner_at own y z x) ∙ ap (first_of_two (owner_at hs m z x)) (both-owners own rest y k z x e))
+
+module _ (same : ComponentId → ComponentId → Bool) (law : IsLawful same) where
+  pub one-or-later : (commit n : ℕ) (k : FileKey) → k.commit_idx ≡ commit → Apart same is_clickable (IsOfFile k) (IsFileFrom commit (suc k.file_idx))
+  one-or-later commit n k c i j p q = differ same law i j (λ e. let t : k ≡ q.key = same-key (sym p ∙ ap file_of e ∙ q.file) in let u : k.file_idx ≡ q.key.file_idx = ap (λ (a : FileKey). a.file_idx) t in absurd (omega (arith, u, q.index)))
+    where
+      same-key : {a b : FileKey} → ◌≡◌ {A = Option FileKey} (Some a) (Some b) → a ≡ b
+      same-key e = cc e
+
+  pub files-ids : (commit n : ℕ) (fs : List ShownFile) (s : Sight) (w m top : ℕ) → 10 ≤ w → IsOpen s w → mask_row s ≡ pos m → AreFilesOf commit n fs → Each (IsFileFrom commit n) (files_picture fs s (pos 0) (pos top)).boxes
+  unfolding files_picture followed_by nothing
+  files-ids commit n [] s w m top fits o row e = tt
+  files-ids commit n (f ∷ fs) s w m top fits o row e =
+      each-append (IsFileFrom commit n) (one_file_picture f s (pos 0) (pos top)).boxes (files_picture fs s (pos 0) (pos top +ℤ pos (length (file_rows f)))).boxes
+      (each_more (IsOfFile f.key) (IsFileFrom commit n) _ (λ i p. record { key = f.key; file = p; commit_is = e.0.commit_is; index = e.0.index }) (one_file-ids same law commit n f s w m top fits o row e.0))
+      (each_more (IsFileFrom commit (suc f.key.file_idx)) (IsFileFrom commit n) _ (λ i p. record { key = p.key; file = p.file; commit_is = p.commit_is; index = let a = p.index in let b = e.0.index in omega (arith, a, b) })
+      (files-ids commit (suc f.key.file_idx) fs s w m (top + length (file_rows f)) fits o row e.1))
+
+  -- the boxes of files own what their strips say, and over them the pinned header's
+  pub files-own : (commit n : ℕ) (fs : List ShownFile) (s : Sight) (w m top : ℕ) (z : ℤ) (x : ℕ) (rep : ComponentId → Bool) → 10 ≤ w → IsOpen s w → mask_row s ≡ pos m → AreFilesOf commit n fs
+      → ((i : ComponentId) → IsFileFrom commit n i → rep i ≡ false) → x < w
+      → hit same is_clickable rep (files_picture fs s (pos 0) (pos top)).boxes z (pos x)
+      ≡ first_of_two ((line clear (pinned_strips w m top fs) (pos m) z).owner x) ((line clear (files_strips w m top fs) (pos top) z).owner x)
+  unfolding files_picture files_strips pinned_strips followed_by nothing hit line
+  files-own commit n [] s w m top z x rep fits o row e live within = refl
+  files-own commit n (f ∷ fs) s w m top z x rep fits o row e live within =
+      let k = length (file_rows f) in
+      let b = is_over m top f in
+      let below = top + k in
+      hit_apart same is_clickable rep (one_file_picture f s (pos 0) (pos top)).boxes (files_picture fs s (pos 0) (pos top +ℤ pos k)).boxes z (pos x)
+      (apart same is_clickable (IsOfFile f.key) (IsFileFrom commit (suc f.key.file_idx)) _ _ (one-or-later commit n f.key e.0.commit_is) (one_file-ids same law commit n f s w m top fits o row e.0) (files-ids commit (suc f.key.file_idx) fs s w m below fits o row e.1))
+      ∙ ap₂ first_of_two
+      (files-own commit (suc f.key.file_idx) fs s w m below z x rep fits o row e.1 (λ i p. live i (record { key = p.key; file = p.file; commit_is = p.commit_is; index = let a = p.index in let c = e.0.index in omega (arith, a, c) })) within)
+      (one_file-owns same law commit n f s w m top z x rep fits o row e.0 (λ i p. live i (record { key = f.key; file = p; commit_is = e.0.commit_is; index = e.0.index })) within)
+      ∙ owners-in_layers b (pinned_strips w m below fs) (file_strips w b f) (files_strips w m below fs) (row_strip w (HeaderRow f.key f.heading)) (pos m) (pos top) (pos below) z x
+      (λ q. none-pinned w m below fs (omega (arith, over-below m top f q))) (λ q. let past = over-below m top f q in omega (arith, ints, past))
+      (ap (λ n. pos top +ℤ pos n) (length-file_strips w b f))

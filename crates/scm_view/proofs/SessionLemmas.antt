@@ -1,0 +1,287 @@
+-- The documents that are shown of a session have the ids of their keys.
+use Rattle.std.proofs.Common.{◌≡◌, ℕ, suc, ◌+◌, ◌-◌, ◌<◌, ◌≤◌, ◌==◌, Bool, true, false, List, [], ◌∷◌, ◌++◌, length, length-append, map, take, drop, refl, arith, ◌⊎◌, inl, inr}
+use Rattle.std.specs.Prelude.{min, nat_le, not, ◌&&◌, ◌||◌, if◌then◌else◌}
+use Rattle.std.proofs.lemmas.List.{length-drop, length-take}
+use Rattle.std.proofs.lemmas.Bool.Decides.{nat_tests}
+use Rattle.scm_types.specs.declared.file.File.{File}
+use Rattle.scm_types.specs.declared.line.SectionChangedLine.{SectionChangedLine}
+use Rattle.scm_types.specs.declared.section.Section.{Section}
+use Rattle.scm_types.specs.declared.section.Section.TheVariants.{Unchanged, Changed, FileMode, Binary}
+use Rattle.scm_types.specs.Marks.{is_editable_section}
+use Rattle.scm_view.specs.declared.keys.FileKey.{FileKey}
+use Rattle.scm_view.specs.declared.keys.SectionKey.{SectionKey}
+use Rattle.scm_view.specs.declared.keys.SelectionKey.TheVariants as selection
+use Rattle.scm_view.specs.declared.ids.ComponentId.TheVariants as ids
+use Rattle.scm_view.specs.declared.section_view.SectionView.{SectionView}
+use Rattle.scm_view.specs.Texts.{dots_text}
+use Rattle.scm_view.specs.Rows.{DocRow, HeaderRow, SectionRow, LineRow, MarkRow, ContextRow, DotsRow, BlankRow, ShownSection, ShownFile, is_fold_open, is_open, is_first_open, is_shown, is_first, is_last, has_dots, first_below, lines_above, shown_lines, rows_below, context_rows, changed_rows, numbered_rows, rows_of, section_rows, shown_section, shown_sections, shown_file, document_of}
+use Rattle.scm_view.specs.Shown.{Shown, Totals, totals_of, section_key_of, old_lines, section_view_of, section_views_of, file_view_of, file_views_of, commit_view_of}
+use Rattle.scm_view.specs.Owners.{IsRowOf, after_row, AreRowsOf, AreSectionsOf, HaveRows, IsFileOf, AreFilesOf, HasItsIds}
+
+-- ---- from an earlier rank or index on
+
+row-earlier : (k : SectionKey) (n m : ℕ) (d : DocRow) → n ≤ m → IsRowOf k m d → IsRowOf k n d
+row-earlier k n m (HeaderRow key h) less e = e
+row-earlier k n m (SectionRow selected h) less e = (omega (arith, less, e.0), e.1, e.2)
+row-earlier k n m (LineRow key b ts) less e = (omega (arith, less, e.0), e.1, e.2)
+row-earlier k n m (MarkRow selected b t) less e = (omega (arith, less, e.0), e.1)
+row-earlier k n m (ContextRow key ts) less e = (omega (arith, less, e.0), e.1)
+row-earlier k n m (DotsRow t) less e = tt
+row-earlier k n m BlankRow less e = tt
+
+after-earlier : (k : SectionKey) (n m : ℕ) (d : DocRow) → n ≤ m → after_row n d ≤ after_row m d
+after-earlier k n m (HeaderRow key h) less = less
+after-earlier k n m (SectionRow selected h) less = omega arith
+after-earlier k n m (LineRow key b ts) less = omega arith
+after-earlier k n m (MarkRow selected b t) less = omega arith
+after-earlier k n m (ContextRow key ts) less = omega arith
+after-earlier k n m (DotsRow t) less = less
+after-earlier k n m BlankRow less = less
+
+rows-earlier : (k : SectionKey) (n m : ℕ) (ds : List DocRow) → n ≤ m → AreRowsOf k m ds → AreRowsOf k n ds
+rows-earlier k n m [] less e = tt
+rows-earlier k n m (d ∷ ds) less e = (row-earlier k n m d less e.0, rows-earlier k (after_row n d) (after_row m d) ds (after-earlier k n m d less) e.1)
+
+sections-earlier : (f : FileKey) (n m : ℕ) (ps : List ShownSection) → n ≤ m → AreSectionsOf f m ps → AreSectionsOf f n ps
+sections-earlier f n m [] less e = tt
+sections-earlier f n m (p ∷ ps) less e = (omega (arith, less, e.0), e.1, e.2, e.3)
+
+-- ---- the rows of a section
+
+-- lines of context, and rows after them
+numbered-are : (v : SectionView) (n i : ℕ) (ls : List (List ℕ)) (rest : List DocRow) → n ≤ suc i → AreRowsOf v.section_key (suc (i + length ls)) rest → AreRowsOf v.section_key n (numbered_rows v i ls ++ rest)
+unfolding numbered_rows
+numbered-are v n i [] rest h e = rows-earlier v.section_key n (suc (i + 0)) rest (omega (arith, h)) e
+numbered-are v n i (l ∷ ls) rest h e =
+    let next : suc (i + suc (length ls)) ≡ suc (suc i + length ls) = omega arith in
+    ((h, refl), numbered-are v (suc (suc i)) (suc i) ls rest (omega arith) (rw next at e))
+
+numbered-alone : (v : SectionView) (n i : ℕ) (ls : List (List ℕ)) → n ≤ suc i → AreRowsOf v.section_key n (numbered_rows v i ls)
+unfolding numbered_rows
+numbered-alone v n i [] h = tt
+numbered-alone v n i (l ∷ ls) h = ((h, refl), numbered-alone v (suc (suc i)) (suc i) ls (omega arith))
+
+changed-are : (v : SectionView) (n i : ℕ) (ls : List SectionChangedLine) → n ≤ suc i → AreRowsOf v.section_key n (changed_rows v i ls)
+unfolding changed_rows
+changed-are v n i [] h = tt
+changed-are v n i (l ∷ ls) h = ((h, refl, refl), changed-are v (suc (suc i)) (suc i) ls (omega arith))
+
+-- no more lines stand above the dots than there are before the first one below them
+above-below : (first last few : Bool) (n : ℕ) → nat_le n 6 ≡ few
+    → (if not first && (not last && few) then n else if first then 0 else min n 3) ≤ (if not first && (not last && few) then n else if last then n else n - 3)
+above-below true last few n e = omega arith
+above-below false true few n e = omega arith
+above-below false false true n e = omega arith
+above-below false false false n e = let many : 6 < n = grind (arith, nat_tests) in omega (arith, many)
+
+above-all : (first last few : Bool) (n : ℕ) → (if not first && (not last && few) then n else if first then 0 else min n 3) ≤ n
+above-all true last few n = omega arith
+above-all false true few n = omega arith
+above-all false false true n = omega arith
+above-all false false false n = omega arith
+
+dots-are : (v : SectionView) (b : Bool) (n : ℕ) (rest : List DocRow) → AreRowsOf v.section_key n rest → AreRowsOf v.section_key n ((if b then DotsRow (dots_text v.use_unicode) ∷ [] else []) ++ rest)
+dots-are v true n rest e = (tt, e)
+dots-are v false n rest e = e
+
+context-are : (v : SectionView) (ls : List (List ℕ)) → AreRowsOf v.section_key 0 (context_rows v ls)
+unfolding context_rows
+context-are v ls = go (length ls == 0)
+  where
+    n : ℕ
+    n = length ls
+
+    above : ℕ
+    above = lines_above v n
+
+    taken : length (take above ls) ≡ above
+    taken = let h = above-all (is_first v) (is_last v) (nat_le n 6) n in omega (arith, length-take above ls, h)
+
+    apart : suc (0 + length (take above ls)) ≤ suc (first_below v n)
+    apart = let h = above-below (is_first v) (is_last v) (nat_le n 6) n refl in omega (arith, taken, h)
+
+    go : (b : Bool) → AreRowsOf v.section_key 0 (if b then BlankRow ∷ [] else shown_lines v ls)
+    go true = (tt, tt)
+    go false =
+        numbered-are v 0 0 (take above ls) (rows_below v ls) (omega arith)
+        (dots-are v (has_dots v n) (suc (0 + length (take above ls))) (numbered_rows v (first_below v n) (drop (first_below v n) ls))
+        (numbered-alone v (suc (0 + length (take above ls))) (first_below v n) (drop (first_below v n) ls) apart))
+
+-- the boxes of a section's view have the ids of its key
+record HasBoxesOf (k : SectionKey) (v : SectionView) : Type 0 where
+  key : v.section_key ≡ k
+  toggle : v.toggle_box.id ≡ ids.ToggleBox (selection.Section k)
+  fold : v.expand_box.id ≡ ids.ExpandBox (selection.Section k)
+
+folded-are : (k : SectionKey) (n : ℕ) (b : Bool) (rs : List DocRow) → AreRowsOf k n rs → AreRowsOf k n (if b then rs else [])
+folded-are k n true rs e = e
+folded-are k n false rs e = tt
+
+rows-are : (v : SectionView) (section : Section) → HasBoxesOf v.section_key v → AreRowsOf v.section_key 0 (rows_of v section)
+rows-are v (Unchanged ls) h = context-are v ls
+rows-are v (Changed ls) h = ((refl, h.toggle, h.fold), folded-are v.section_key 1 (is_fold_open v.expand_box) (changed_rows v 0 ls) (changed-are v 1 0 ls (omega arith)))
+rows-are v (FileMode checked mode) h = ((refl, refl), tt)
+rows-are v (Binary checked old new) h = ((refl, refl), tt)
+
+-- ---- a section has a row, but for one of context that is both the first and the last
+
+some-lines : (v : SectionView) (i : ℕ) (ls : List (List ℕ)) → 0 < length ls → 0 < length (numbered_rows v i ls)
+unfolding numbered_rows
+some-lines v i [] h = absurd (omega (arith, h))
+some-lines v i (l ∷ ls) h = omega arith
+
+some-above : (rs qs : List DocRow) → 0 < length rs → 0 < length (rs ++ qs)
+some-above rs qs h = omega (arith, h, length-append rs qs)
+
+some-below : (rs qs : List DocRow) → 0 < length qs → 0 < length (rs ++ qs)
+some-below rs qs h = omega (arith, h, length-append rs qs)
+
+-- which of the lines are shown: some above the dots, or some below them
+lines-shown : (first last few : Bool) (n : ℕ) → nat_le n 6 ≡ few → 0 < n → (first ≡ true → last ≡ false)
+    → (0 < (if not first && (not last && few) then n else if first then 0 else min n 3)) ⊎ ((if not first && (not last && few) then n else if last then n else n - 3) < n)
+lines-shown true true few n e some h = absurd (cc (h refl))
+lines-shown true false few n e some h = inr (omega (arith, some))
+lines-shown false true few n e some h = inl (omega (arith, some))
+lines-shown false false true n e some h = inl some
+lines-shown false false false n e some h = inl (omega (arith, some))
+
+context-some : (v : SectionView) (ls : List (List ℕ)) → (is_first v ≡ true → is_last v ≡ false) → 0 < length (context_rows v ls)
+unfolding context_rows
+context-some v ls h = go (length ls == 0) refl
+  where
+    n : ℕ
+    n = length ls
+
+    above : ℕ
+    above = lines_above v n
+
+    below : ℕ
+    below = first_below v n
+
+    dots : List DocRow
+    dots = if has_dots v n then DotsRow (dots_text v.use_unicode) ∷ [] else []
+
+    shown : (0 < above) ⊎ (below < n) → 0 < length (shown_lines v ls)
+    shown (inl p) =
+        let all = above-all (is_first v) (is_last v) (nat_le n 6) n in
+        some-above (numbered_rows v 0 (take above ls)) (rows_below v ls) (some-lines v 0 (take above ls) (omega (arith, length-take above ls, all, p)))
+    shown (inr p) =
+        some-below (numbered_rows v 0 (take above ls)) (rows_below v ls)
+        (some-below dots (numbered_rows v below (drop below ls)) (some-lines v below (drop below ls) (omega (arith, length-drop below ls, p))))
+
+    go : (b : Bool) → (length ls == 0) ≡ b → 0 < length (if b then BlankRow ∷ [] else shown_lines v ls)
+    go true e = omega arith
+    go false e = shown (lines-shown (is_first v) (is_last v) (nat_le n 6) n refl (grind (arith, e)) h)
+
+rows-some : (v : SectionView) (section : Section) → (is_editable_section section ≡ true) ⊎ (is_first v ≡ true → is_last v ≡ false) → 0 < length (rows_of v section)
+rows-some v (Unchanged ls) (inl e) = absurd (cc e)
+rows-some v (Unchanged ls) (inr h) = context-some v ls h
+rows-some v (Changed ls) h = omega arith
+rows-some v (FileMode checked mode) h = omega arith
+rows-some v (Binary checked old new) h = omega arith
+
+-- ---- the sections of a file
+
+sections-of : (s : Shown) (totals : Totals) (k : FileKey) (before : Bool) (i editable line : ℕ) (sections : List Section)
+    → AreSectionsOf k i (shown_sections before (section_views_of s totals k i editable line sections))
+unfolding section_views_of shown_sections section_rows
+sections-of s totals k before i editable line [] = tt
+sections-of s totals k before i editable line (section ∷ more) =
+    go (is_shown before v (is_first_open vs)) (sections-of s totals k (is_open v) (suc i) next below more)
+  where
+    v : SectionView
+    v = section_view_of s totals (section_key_of k i) editable line section
+
+    next : ℕ
+    next = if is_editable_section section then editable + 1 else editable
+
+    below : ℕ
+    below = line + old_lines section
+
+    vs : List SectionView
+    vs = section_views_of s totals k (suc i) next below more
+
+    go : (b : Bool) → AreSectionsOf k (suc i) (shown_sections (is_open v) vs) → AreSectionsOf k i (shown_section b v ++ shown_sections (is_open v) vs)
+    go true rest = (omega arith, refl, rows-are v section (record { key = refl; toggle = refl; fold = refl }), rest)
+    go false rest = sections-earlier k i (suc i) (shown_sections (is_open v) vs) (omega arith) rest
+
+open-more : (s : Shown) (totals : Totals) (k : FileKey) (i editable line : ℕ) (sections : List Section) → is_first_open (section_views_of s totals k i editable line sections) ≡ true → 0 < length sections
+unfolding section_views_of
+open-more s totals k i editable line [] h = absurd (cc h)
+open-more s totals k i editable line (section ∷ more) h = omega arith
+
+not-zero : (i : ℕ) → 0 < i → (i == 0) ≡ false
+not-zero i h = grind (arith, h)
+
+not-last : (i n total : ℕ) → total ≡ i + suc n → 0 < n → (i + 1 == total) ≡ false
+not-last i n total e h = grind (arith, e, h)
+
+-- a section that is shown can be edited, or is not the first, or not the last
+shown-which : (before editable after first last : Bool) → (editable || (before || after)) ≡ true → (before ≡ true → first ≡ false) → (after ≡ true → last ≡ false)
+    → (editable ≡ true) ⊎ (first ≡ true → last ≡ false)
+shown-which before true after first last h p q = inl refl
+shown-which true false after first last h p q = inr (λ e. absurd (cc (e, p refl)))
+shown-which false false true first last h p q = inr (λ e. q refl)
+shown-which false false false first last h p q = absurd (cc h)
+
+sections-some : (s : Shown) (totals : Totals) (k : FileKey) (before : Bool) (i editable line : ℕ) (sections : List Section) → totals.sections ≡ i + length sections → (before ≡ true → 0 < i)
+    → HaveRows (shown_sections before (section_views_of s totals k i editable line sections))
+unfolding section_views_of shown_sections section_rows
+sections-some s totals k before i editable line [] e h = tt
+sections-some s totals k before i editable line (section ∷ more) e h =
+    go (is_shown before v (is_first_open vs)) refl (sections-some s totals k (is_open v) (suc i) next below more (omega (arith, e)) (λ _. omega arith))
+  where
+    v : SectionView
+    v = section_view_of s totals (section_key_of k i) editable line section
+
+    next : ℕ
+    next = if is_editable_section section then editable + 1 else editable
+
+    below : ℕ
+    below = line + old_lines section
+
+    vs : List SectionView
+    vs = section_views_of s totals k (suc i) next below more
+
+    go : (b : Bool) → is_shown before v (is_first_open vs) ≡ b → HaveRows (shown_sections (is_open v) vs) → HaveRows (shown_section b v ++ shown_sections (is_open v) vs)
+    go true shown rest = (
+      rows-some v section (shown-which before (is_editable_section section) (is_first_open vs) (is_first v) (is_last v) shown
+          (λ p. not-zero i (h p)) (λ p. not-last i (length more) totals.sections e (open-more s totals k (suc i) next below more p))),
+      rest,
+    )
+    go false shown rest = rest
+
+-- ---- files
+
+if-sections : (f : FileKey) (b : Bool) (ps : List ShownSection) → AreSectionsOf f 0 ps → AreSectionsOf f 0 (if b then ps else [])
+if-sections f true ps e = e
+if-sections f false ps e = tt
+
+if-rows : (b : Bool) (ps : List ShownSection) → HaveRows ps → HaveRows (if b then ps else [])
+if-rows true ps e = e
+if-rows false ps e = tt
+
+file-of : (s : Shown) (k : FileKey) (n : ℕ) (f : File) → n ≤ k.file_idx → IsFileOf k.commit_idx n (shown_file (file_view_of s k f))
+unfolding shown_file
+file-of s k n f h =
+    let v = file_view_of s k f in
+    record {
+      commit_is = refl;
+      index = h;
+      heading = record { toggle = refl; fold = refl };
+      sections = if-sections k (is_fold_open v.expand_box) (shown_sections false v.section_views) (sections-of s (totals_of f.sections) k false 0 0 0 f.sections);
+      rows = if-rows (is_fold_open v.expand_box) (shown_sections false v.section_views) (sections-some s (totals_of f.sections) k false 0 0 0 f.sections (omega arith) (λ e. absurd (cc e)));
+    }
+
+files-earlier : (commit n m : ℕ) (fs : List ShownFile) → n ≤ m → AreFilesOf commit m fs → AreFilesOf commit n fs
+files-earlier commit n m [] less e = tt
+files-earlier commit n m (f ∷ fs) less e = (record { commit_is = e.0.commit_is; index = omega (arith, less, e.0.index); heading = e.0.heading; sections = e.0.sections; rows = e.0.rows }, e.1)
+
+files-of : (s : Shown) (commit i : ℕ) (fs : List File) → AreFilesOf commit i (map shown_file (file_views_of s commit i fs))
+unfolding file_views_of shown_file
+files-of s commit i [] = tt
+files-of s commit i (f ∷ fs) = (file-of s (record { commit_idx = commit; file_idx = i }) i f (omega arith), files-of s commit (suc i) fs)
+
+-- the document that is shown of a commit has the ids of its keys
+pub session-ids : (shown : Shown) (commit : ℕ) → HasItsIds (document_of (commit_view_of shown commit))
+session-ids shown commit = files-of shown commit 0 shown.state.files
