@@ -1,21 +1,22 @@
 -- A run draws few frames.
-use Rattle.std.proofs.Common.{◌≡◌, ℕ, zero, suc, ◌+◌, ◌-◌, ◌*◌, ◌^◌, ◌<◌, ◌≤◌, min, Bool, true, false, List, [], ◌∷◌, ◌++◌, length, Option, Some, None, cond, sym, ap, refl, ◌∙◌, add-one, arith}
-use Rattle.std.specs.Prelude.{MatchOption}
+use Rattle.std.proofs.Common.{◌≡◌, ℕ, zero, suc, ◌+◌, ◌-◌, ◌*◌, ◌<◌, ◌≤◌, Bool, true, false, List, [], ◌∷◌, ◌++◌, length, Option, Some, None, cond, sym, ap, refl, ◌∙◌, add-one, arith}
+use Rattle.std.specs.Prelude.{MatchOption, nat_lt}
 use Rattle.scm_types.specs.Fault.{Fault, fault_of}
 use Rattle.scm_types.specs.declared.error.RecordError.{RecordError}
 use Rattle.scm_types.specs.Limits.{is_short_text}
 use Rattle.scm_record.specs.declared.events.Event.{Event}
 use Rattle.scm_record.specs.declared.events.Event.TheVariants as events
-use Rattle.scm_record.specs.declared.recording.Flow.{Flow}
-use Rattle.scm_record.specs.declared.recording.Flow.TheVariants as flows
+use Rattle.scm_record.specs.declared.selector.Flow.{Flow}
+use Rattle.scm_record.specs.declared.selector.Flow.TheVariants as flows
 use Rattle.scm_record.specs.Script.{Read, Batch, BrokenRead, Edit, Answer, BrokenEdit, no_more}
-use Rattle.scm_record.specs.Store.{count_up}
+use Rattle.scm_record.specs.Store.{count_up, counted}
 use Rattle.scm_record.specs.Session.{Session, with_message}
-use Rattle.scm_record.specs.Frames.{scene_of}
+use Rattle.scm_record.specs.Frames.{Scene, scene_of}
+use Rattle.scm_record.specs.Uses.{shot_of}
 use Rattle.scm_record.specs.Step.{change}
-use Rattle.scm_record.specs.Run.{World, with_session, with_edits, Point, Before, Drawn, Within, Accepted, Failed, Goes, Breaks, too_long, answered, edited, outcome_by, step, resume, read, batch, after, Reaches, here, on, world_at, Shows, Stops}
+use Rattle.scm_record.specs.Run.{World, with_session, with_edits, with_text, Point, Before, Drawn, Within, Accepted, Failed, Goes, Breaks, no_such_place, too_long, answered, edited, outcome_by, step, resume, read, batch, after, Reaches, here, on, world_at, Shows, Stops}
 use Rattle.scm_record.specs.Ending.{IsFew}
-use Rattle.scm_record.proofs.Budget.{rank, rank_of, turns_left, Fits, counted}
+use Rattle.scm_record.proofs.Budget.{rank, rank_of, turns_left, Fits}
 use Rattle.scm_record.proofs.StepLemmas.{Pushes, nothing, pushed, leads}
 
 -- an event of lower rank is pushed
@@ -42,17 +43,22 @@ module _ (b r : ℕ) (drawn : Session) (rest : List Event) (left : rank_of rest 
   edited-fits w commit (edit ∷ edits) fits h = answered-fits (with_edits w edits) commit edit fits h
 
 module _ (b r : ℕ) (drawn : Session) (rest : List Event) (left : rank_of rest ≤ r + 1) where
-  outcome-fits : (w : World) (flow : Flow) → w.frames + 3 * length w.reads + r ≤ b → rank_of w.session.pending ≤ r → Fits b (resume drawn rest (outcome_by w flow))
-  outcome-fits w flows.GoOn fits h = (r, left, h, fits)
-  outcome-fits w flows.Accept fits h = omega arith
-  outcome-fits w flows.Cancel fits h = omega arith
-  outcome-fits w (flows.Edit commit) fits h = edited-fits b r drawn rest left w commit w.edits fits h
-  outcome-fits w flows.Lack fits h = omega arith
+  kept-fits : (has : Bool) (w v : World) → w.frames + 3 * length w.reads + r ≤ b → rank_of w.session.pending ≤ r → v.frames ≡ w.frames → v.reads ≡ w.reads → v.session.pending ≡ w.session.pending → Fits b (resume drawn rest (cond has (Goes v) (Breaks no_such_place w)))
+  kept-fits true w v fits h e f g = (r, left, rw g h, rw (e, f) fits)
+  kept-fits false w v fits h e f g = omega arith
+
+  outcome-fits : (scene : Scene) (w : World) (flow : Flow) → w.frames + 3 * length w.reads + r ≤ b → rank_of w.session.pending ≤ r → Fits b (resume drawn rest (outcome_by scene w flow))
+  outcome-fits scene w flows.GoOn fits h = (r, left, h, fits)
+  outcome-fits scene w flows.Accept fits h = omega arith
+  outcome-fits scene w flows.Cancel fits h = omega arith
+  outcome-fits scene w (flows.Edit commit) fits h = edited-fits b r drawn rest left w commit w.edits fits h
+  outcome-fits scene w (flows.Shoot place) fits h = kept-fits (nat_lt place (length w.texts)) w (with_text w place (shot_of scene w.session.cleared)) fits h refl refl refl
 
   step-fits : (w : World) (event : Event) → w.frames + 3 * length w.reads + r ≤ b → rank_of w.session.pending ≤ r → rank event ≤ r → Fits b (resume drawn rest (step drawn w event))
   step-fits w event fits quiet k =
-      let c = change (scene_of w.kind drawn) w.session event in
-      outcome-fits (with_session w c.session) c.flow fits (pushes-quiet r event w.session.pending c.session.pending (leads (scene_of w.kind drawn) w.session event).pushes quiet k)
+      let scene = scene_of w.kind drawn in
+      let c = change scene w.session event in
+      outcome-fits scene (with_session w c.session) c.flow fits (pushes-quiet r event w.session.pending c.session.pending (leads scene w.session event).pushes quiet k)
 
 rank-le : (event : Event) → rank event ≤ 2
 rank-le events.None = omega arith
@@ -114,13 +120,19 @@ few-stopped error w v e p h = few-stopped-by (fault_of error) w v e p h
 pub counted-more : (n first old new : ℕ) → old ≡ counted n first → new ≡ count_up old → new ≡ counted (n + 1) first
 counted-more n first old new e h = h ∙ ap count_up e ∙ ap (λ (k : ℕ). counted k first) (sym (add-one n))
 
-min-more : (a n limit : ℕ) → min (min (a + n) limit + 1) limit ≡ min (a + suc n) limit
-min-more a n limit = omega arith
+suc-plus : (m n : ℕ) → suc (m + n) ≡ suc m + n
+suc-plus m n = omega arith
 
--- a count that was raised
-counted-suc : (n first : ℕ) → counted (suc n) first ≡ min (first + suc n) (2 ^ 64 - 1)
-counted-suc zero first = refl
-counted-suc (suc n) first = ap count_up (counted-suc n first) ∙ min-more first (suc n) (2 ^ 64 - 1)
+zero-plus : (n : ℕ) → n ≡ 0 + n
+zero-plus n = omega arith
 
-pub counted-min : (n first : ℕ) → counted (n + 1) first ≡ min (first + (n + 1)) (2 ^ 64 - 1)
-counted-min n first = rw add-one (counted-suc n first)
+plus-turned : (m n : ℕ) → m + n ≡ n + m
+plus-turned m n = omega arith
+
+counted-sum : (m n first : ℕ) → counted m (counted n first) ≡ counted (m + n) first
+counted-sum zero n first = ap (λ (k : ℕ). counted k first) (zero-plus n)
+counted-sum (suc m) n first = ap count_up (counted-sum m n first) ∙ ap (λ (k : ℕ). counted k first) (suc-plus m n)
+
+-- a count that was raised further
+pub counted-on : (n m first old new : ℕ) → old ≡ counted n first → new ≡ counted m old → new ≡ counted (n + m) first
+counted-on n m first old new e h = h ∙ ap (counted m) e ∙ counted-sum m n first ∙ ap (λ (k : ℕ). counted k first) (plus-turned m n)

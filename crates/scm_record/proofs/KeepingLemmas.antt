@@ -1,6 +1,6 @@
 -- A run changes marks alone.
 use Rattle.std.proofs.Common.{◌≡◌, ℕ, zero, suc, ◌≤◌, Bool, true, false, not, List, [], ◌∷◌, map, length, slice_get, Option, Some, None, cond, sym, ap, ◌∙◌, refl, subst, arith}
-use Rattle.std.specs.Prelude.{IsTrue, is_some, option_and_then}
+use Rattle.std.specs.Prelude.{IsTrue, is_some, nat_lt, option_and_then}
 use Rattle.std.proofs.lemmas.Bool.{and_parts, leb-true}
 use Rattle.scm_types.specs.declared.file_mode.FileMode.{FileMode}
 use Rattle.scm_types.specs.declared.section.Section.{Section}
@@ -18,14 +18,15 @@ use Rattle.scm_types.specs.Edits.{modify}
 use Rattle.scm_types.specs.Limits.{is_short_text}
 use Rattle.scm_types.proofs.EditLemmas.{map-modify-same}
 use Rattle.scm_record.specs.declared.events.Event.{Event}
-use Rattle.scm_record.specs.declared.recording.Flow.{Flow}
-use Rattle.scm_record.specs.declared.recording.Flow.TheVariants as flows
+use Rattle.scm_record.specs.declared.selector.Flow.{Flow}
+use Rattle.scm_record.specs.declared.selector.Flow.TheVariants as flows
 use Rattle.scm_record.specs.Toggle.{mark_after, with_changed_set, with_deletion_unchecked, with_mode_checked, after_lines, after_mode, after_section, with_file_toggled, with_section_set, with_this_section_toggled, with_section_toggled, with_line_inverted, line_mark, with_this_line_toggled, with_line_toggled, with_key_toggled, with_all_inverted, with_all_set}
 use Rattle.scm_record.specs.Script.{Read, Batch, BrokenRead, Edit, Answer, BrokenEdit, no_more}
 use Rattle.scm_record.specs.Session.{Session, start, padded, padded_state, with_files_changed, with_message, message_of, commit_saying}
-use Rattle.scm_record.specs.Frames.{scene_of}
+use Rattle.scm_record.specs.Frames.{Scene, scene_of}
+use Rattle.scm_record.specs.Uses.{shot_of}
 use Rattle.scm_record.specs.Step.{change}
-use Rattle.scm_record.specs.Run.{World, with_session, with_edits, Goes, Breaks, too_long, answered, edited, outcome_by, Point, Before, Drawn, Within, Accepted, Failed, resume, read, batch, after, Reaches, here, on, world_at}
+use Rattle.scm_record.specs.Run.{World, with_session, with_edits, with_text, Goes, Breaks, no_such_place, too_long, answered, edited, outcome_by, Point, Before, Drawn, Within, Accepted, Failed, resume, read, batch, after, Reaches, here, on, world_at}
 use Rattle.scm_record.specs.Keeping.{IsKept, has_message}
 use Rattle.scm_record.proofs.StepLemmas as steps
 use Rattle.scm_record.proofs.StepLemmas.{Allows, Marks, toggled, inverted, all_set, leads, marks-allow, message_at}
@@ -139,7 +140,7 @@ toggle-hidden (keys.Section key) files = map-modify-same bare_file (with_section
 toggle-hidden (keys.Line key) files = map-modify-same bare_file (with_line_toggled key.section_idx key.line_idx) files key.file_idx (file_line-hidden key.section_idx key.line_idx)
 
 -- each file with other marks
-marked-hidden : (f : Bool → Bool) (files : List File) → map bare_file (map (file_with_marks f) files) ≡ map bare_file files
+pub marked-hidden : (f : Bool → Bool) (files : List File) → map bare_file (map (file_with_marks f) files) ≡ map bare_file files
 marked-hidden f files = map-hidden bare_file (file_with_marks f) (λ file. ap (λ (list : List Section). record file { sections = list }) (map-hidden bare_section (section_with_marks f) (marks-hidden f) file.sections)) files
 
 all_set-hidden : (files : List File) → map bare_file (with_all_set files) ≡ map bare_file files
@@ -206,12 +207,16 @@ edited-kept : (given : RecordState) (drawn : Session) (rest : List Event) (w : W
 edited-kept given drawn rest w commit [] h k = answered-kept given drawn rest (with_edits w []) commit no_more h k
 edited-kept given drawn rest w commit (edit ∷ edits) h k = answered-kept given drawn rest (with_edits w edits) commit edit h k
 
-outcome-kept : (given : RecordState) (drawn : Session) (rest : List Event) (w : World) (flow : Flow) → Allows w.session flow → Kept given w.session.state → KeptAt given (resume drawn rest (outcome_by w flow))
-outcome-kept given drawn rest w flows.GoOn k h = h
-outcome-kept given drawn rest w flows.Accept k h = h
-outcome-kept given drawn rest w flows.Cancel k h = h
-outcome-kept given drawn rest w (flows.Edit commit) k h = edited-kept given drawn rest w commit w.edits h k.1
-outcome-kept given drawn rest w flows.Lack k h = h
+shot-kept : (given : RecordState) (drawn : Session) (rest : List Event) (b : Bool) (w v : World) → v.session ≡ w.session → Kept given w.session.state → KeptAt given (resume drawn rest (cond b (Goes v) (Breaks no_such_place w)))
+shot-kept given drawn rest true w v e h = rw e h
+shot-kept given drawn rest false w v e h = h
+
+outcome-kept : (given : RecordState) (scene : Scene) (drawn : Session) (rest : List Event) (w : World) (flow : Flow) → Allows w.session flow → Kept given w.session.state → KeptAt given (resume drawn rest (outcome_by scene w flow))
+outcome-kept given scene drawn rest w flows.GoOn k h = h
+outcome-kept given scene drawn rest w flows.Accept k h = h
+outcome-kept given scene drawn rest w flows.Cancel k h = h
+outcome-kept given scene drawn rest w (flows.Edit commit) k h = edited-kept given drawn rest w commit w.edits h k
+outcome-kept given scene drawn rest w (flows.Shoot place) k h = shot-kept given drawn rest (nat_lt place (length w.texts)) w (with_text w place (shot_of scene w.session.cleared)) refl h
 
 read-kept : (given : RecordState) (w : World) (reads : List Read) → Kept given w.session.state → KeptAt given (read w reads)
 read-kept given w [] h = h
@@ -227,9 +232,10 @@ after-kept given (Before w) h = h
 after-kept given (Drawn w) h = batch-kept given w w.session.pending h
 after-kept given (Within drawn w []) h = h
 after-kept given (Within drawn w (event ∷ rest)) h =
-    let c = change (scene_of w.kind drawn) w.session event in
-    let marks = (leads (scene_of w.kind drawn) w.session event).marks in
-    outcome-kept given drawn rest (with_session w c.session) c.flow (marks-allow event w.session c.session c.session.state c.flow marks refl) (marks-kept given event w.session c.session.state c.flow marks h)
+    let scene = scene_of w.kind drawn in
+    let c = change scene w.session event in
+    let marks = (leads scene w.session event).marks in
+    outcome-kept given scene drawn rest (with_session w c.session) c.flow (marks-allow event w.session c.session c.session.state c.flow marks refl) (marks-kept given event w.session c.session.state c.flow marks h)
 after-kept given (Accepted w) h = h
 after-kept given (Failed fault w) h = h
 

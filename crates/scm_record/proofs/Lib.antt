@@ -2,18 +2,35 @@
 pub mod KeySetLemmas
 pub mod KeyListLemmas
 pub mod MoveLemmas
+pub mod PageLemmas
+-- what a session shows
+pub mod ViewLemmas
+pub mod LentLemmas
 -- toggles, and the files that they keep coherent
 pub mod ToggleLemmas
 pub mod CoherenceLemmas
 -- runs: from point to point, and to one end
 pub mod RunLemmas
 pub mod EndLemmas
+pub mod DrawableLemmas
 -- what an event does to the state, and what it leaves pending
 pub mod Budget
+pub mod MenuLemmas
 pub mod StepLemmas
+pub mod StepExampleLemmas
+-- what is drawn, as a frame
+pub mod FrameLemmas
 -- how many frames are drawn, what is kept, what is not edited, what stays coherent
 pub mod BudgetLemmas
 pub mod EndingLemmas
 pub mod KeepingLemmas
 pub mod EditLemmas
 pub mod StepCoherenceLemmas
+-- the headline: what ends a run, what clears the screen, and how batches are handled
+pub mod CalmLemmas
+pub mod BatchLemmas
+pub mod QuitLemmas
+pub mod ShotLemmas
+pub mod HeadlineLemmas
+-- what stays within the limits
+pub mod AcceptedLemmas

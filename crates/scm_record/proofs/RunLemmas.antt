@@ -1,6 +1,6 @@
 -- Lemmas on steps and runs.
-use Rattle.std.proofs.Common.{◌≡◌, ℕ, ◌+◌, ◌<◌, ◌≤◌, Bool, false, cond, List, [], ◌∷◌, length, drop, get_or, Option, Some, None, sym, ap, ◌∙◌, refl, subst, add-one}
-use Rattle.std.specs.Prelude.{MatchOption, option_map}
+use Rattle.std.proofs.Common.{◌≡◌, ℕ, ◌+◌, ◌<◌, ◌≤◌, Bool, false, cond, List, [], ◌∷◌, length, drop, get_or, Option, Some, None, sym, ap, ◌∙◌, refl, subst, add-one, add-zero, arith}
+use Rattle.std.specs.Prelude.{MatchOption, nat_lt, option_map}
 use Rattle.std.proofs.Math.Seq.{drop-cons}
 use Rattle.std.proofs.lemmas.List.{drop_all}
 use Rattle.scm_types.specs.declared.error.RecordError.{RecordError}
@@ -9,14 +9,15 @@ use Rattle.scm_record.specs.declared.events.Event.{Event}
 use Rattle.scm_record.specs.declared.inputs.TerminalKind.{TerminalKind}
 use Rattle.scm_record.specs.declared.runs.Next.{Next}
 use Rattle.scm_types.specs.Limits.{is_short_text}
-use Rattle.scm_record.specs.declared.recording.Flow.{Flow}
+use Rattle.scm_record.specs.declared.selector.Flow.{Flow}
 use Rattle.scm_record.specs.Step.{Change, change}
-use Rattle.scm_record.specs.Frames.{scene_of}
+use Rattle.scm_record.specs.Frames.{Scene, scene_of}
 use Rattle.scm_record.specs.Store.{Store, with_frame}
+use Rattle.scm_types.specs.declared.error.RecordError.TheVariants.{OutOfMemory}
 use Rattle.scm_record.specs.Session.{Session, after_frame, with_message}
 use Rattle.scm_record.specs.Script.{Read, Edit, Answer, BrokenEdit, TakesOr, no_more}
-use Rattle.scm_record.specs.Run.{Setting, setting, World, world_in, with_session, with_edits, with_frame_drawn, Outcome, Goes, Breaks, Point, Before, Drawn, Within, Failed, too_long, answered, edited, outcome_by, changed, step, resume, after, batch, Reaches, here, on, world_at, Shows, Stops}
-use Rattle.scm_record.specs.Turn.{outcome_of, point_of, BatchStops, Ceases, Handles, IsFault, Refuses, faulty, out_of_memory}
+use Rattle.scm_record.specs.Run.{Setting, setting, World, world_in, with_session, with_edits, with_text, with_frame_drawn, Outcome, Goes, Breaks, Point, Before, Drawn, Within, Failed, no_such_place, too_long, kept_at, answered, edited, outcome_by, changed, step_in, step, resume, after, batch, Reaches, here, on, world_at, Shows, Stops}
+use Rattle.scm_record.specs.Turn.{outcome_of, point_of, BatchStops, Ceases, Handles, IsFault, Refuses, faulty, out_of_memory, TurnStops}
 
 -- a run goes on by the next event of a batch
 reaches-event : (p : Point) (drawn : Session) (w : World) (events : List Event) (i : ℕ) (d : Event) → i < length events → Reaches p (Within drawn w (drop i events)) → Reaches p (resume drawn (drop (i + 1) events) (step drawn w (get_or events i d)))
@@ -100,9 +101,9 @@ refuses-as error w w' v outcome outcome' s e (out_of_memory none shows) =
     out_of_memory none (record { reads = shows.reads ∙ s.reads; edits = shows.edits ∙ s.edits; texts = shows.texts ∙ s.texts; frames = shows.frames ∙ s.frames })
 
 -- the step of an event by what it makes of the session, where it is known what follows
-pub step-of : (a : Setting) (s s' : Session) (frames : ℕ) (drawn : Session) (event : Event) (flow known : Flow) → change (scene_of a.kind drawn) s event ≡ record { session = s'; flow = flow } → flow ≡ known → step drawn (world_in a s frames) event ≡ outcome_by (world_in a s' frames) known
-step-of a s s' frames drawn event flow known e k =
-    ap (λ (c : Change). changed (world_in a s frames) c) e ∙ ap (λ (f : Flow). outcome_by (world_in a s' frames) f) k
+pub step-of : (scene : Scene) (a : Setting) (s s' : Session) (frames : ℕ) (event : Event) (flow known : Flow) → change scene s event ≡ record { session = s'; flow = flow } → flow ≡ known → step_in scene (world_in a s frames) event ≡ outcome_by scene (world_in a s' frames) known
+step-of scene a s s' frames event flow known e k =
+    ap (λ (c : Change). changed scene (world_in a s frames) c) e ∙ ap (λ (f : Flow). outcome_by scene (world_in a s' frames) f) k
 
 -- an edit takes the first of the edits
 pub edited-takes : (w : World) (commit : ℕ) (answer : Edit) (old new : List Edit) → TakesOr no_more (Some answer) old new → edited w commit old ≡ answered (with_edits w new) commit answer
@@ -126,7 +127,16 @@ module _ (error : RecordError) (a : Setting) (s : Session) (frames : ℕ) (commi
       let long-outcome = ap (λ (b : Bool). cond b (Goes (with_session v (with_message s commit text))) (Breaks too_long v)) long in
       rw (same_kind, same_reads) (faulty too_long (edited-takes (world_in a s frames) commit (Answer text) a.edits edits h ∙ long-outcome) f)
 
+-- a place that the store lacks
+pub shoot-refuses : (error : RecordError) (w : World) (place : ℕ) (text : List ℕ) → nat_lt place (length w.texts) ≡ false → IsFault no_such_place error → Refuses error w (kept_at w place text) w
+shoot-refuses error w place text lacks f =
+    faulty no_such_place (ap (λ (b : Bool). cond b (Goes (with_text w place text)) (Breaks no_such_place w)) lacks) f
+
 -- ---- turns
+
+-- what is shown in a scene is shown in the same scene
+pub shown-as : (IsSeen : Scene → Type 0) (kind kind' : TerminalKind) (drawn : Session) → kind ≡ kind' → IsSeen (scene_of kind drawn) → IsSeen (scene_of kind' drawn)
+shown-as IsSeen kind kind' drawn e h = subst (λ (k : TerminalKind). IsSeen (scene_of k drawn)) e h
 
 module _ (a : Setting) (s0 s s1 : Session) (frames : ℕ) (kind : TerminalKind) (reads : List Read) (edits : List Edit) (store : Store) (events : List Event) (is_drawn : s ≡ after_frame s0) (is_counted : store ≡ with_frame a.store) (same_kind : kind ≡ a.kind) (begins : batch (world_in a s (frames + 1)) s.pending ≡ Within s (world_in (setting a.kind reads edits a.store) s1 (frames + 1)) events) where
   -- a frame is drawn, and a batch begins
@@ -139,14 +149,39 @@ module _ (a : Setting) (s0 s s1 : Session) (frames : ℕ) (kind : TerminalKind) 
       subst (λ (k : TerminalKind). Reaches (Before (world_in a s0 frames)) (Within s (world_in (setting k reads edits store) s1 (frames + 1)) events)) (sym same_kind) counted
 
   -- and the turn goes as its batch
-  pub turn-goes : (handled : List Event) (next : Next) (t : Session) (b : Setting) → handled ≡ events → Handles handled next s1 (setting kind reads edits store) t b → Reaches (Before (world_in a s0 frames)) (point_of next (world_in b t (frames + 1)))
-  turn-goes handled next t b e k =
-      reaches-trans turn-begins (subst (λ (list : List Event). Reaches (Within s (world_in (setting kind reads edits store) s1 (frames + 1)) list) (point_of next (world_in b t (frames + 1)))) e (k s (frames + 1)))
+  pub turn-goes : (IsSeen : Scene → Type 0) (handled : List Event) (next : Next) (t : Session) (b : Setting) → handled ≡ events → IsSeen (scene_of a.kind s) → Handles IsSeen handled next s1 (setting kind reads edits store) t b → Reaches (Before (world_in a s0 frames)) (point_of next (world_in b t (frames + 1)))
+  turn-goes IsSeen handled next t b e h k =
+      let seen = shown-as IsSeen a.kind kind s (sym same_kind) h in
+      reaches-trans turn-begins (subst (λ (list : List Event). Reaches (Within s (world_in (setting kind reads edits store) s1 (frames + 1)) list) (point_of next (world_in b t (frames + 1)))) e (k s (frames + 1) seen))
 
   -- or ends with it
-  pub turn-ceases : (handled : List Event) (error : RecordError) (t : Session) (b : Setting) → handled ≡ events → Ceases handled error s1 (setting kind reads edits store) t b → Stops error (Before (world_in a s0 frames)) (world_in b t (frames + 1))
-  turn-ceases handled error t b e k =
-      stops-after error _ _ _ turn-begins (subst (λ (list : List Event). Stops error (Within s (world_in (setting kind reads edits store) s1 (frames + 1)) list) (world_in b t (frames + 1))) e (k s (frames + 1)))
+  pub turn-ceases : (IsSeen : Scene → Type 0) (handled : List Event) (error : RecordError) (t : Session) (b : Setting) → handled ≡ events → IsSeen (scene_of a.kind s) → Ceases IsSeen handled error s1 (setting kind reads edits store) t b → Stops error (Before (world_in a s0 frames)) (world_in b t (frames + 1))
+  turn-ceases IsSeen handled error t b e h k =
+      let seen = shown-as IsSeen a.kind kind s (sym same_kind) h in
+      stops-after error _ _ _ turn-begins (subst (λ (list : List Event). Stops error (Within s (world_in (setting kind reads edits store) s1 (frames + 1)) list) (world_in b t (frames + 1))) e (k s (frames + 1) seen))
+
+-- no memory for a frame, which is not counted then
+pub undrawn-stops : (error : RecordError) (a : Setting) (s t : Session) (store : Store) (frames : ℕ) → error ≡ OutOfMemory → store ≡ a.store → Stops error (Before (world_in a s frames)) (world_in (setting a.kind a.reads a.edits store) t frames)
+undrawn-stops error a s t store frames e k =
+    stops-memory error (Before (world_in a s frames)) (Before (world_in a s frames)) _ (ap fault_of e) here (record { reads = refl; edits = refl; texts = ap (λ (y : Store). y.texts) k; frames = refl })
+
+-- likewise for a turn
+pub undrawn-turn : (error : RecordError) (a : Setting) (s t : Session) (store : Store) → error ≡ OutOfMemory → store ≡ a.store → TurnStops error s a t (setting a.kind a.reads a.edits store)
+undrawn-turn error a s t store e k = record {
+  drawn = 0;
+  few = omega arith;
+  counted = ap (λ (y : Store). y.frames) k;
+  stops = λ frames. rw add-zero (undrawn-stops error a s t store frames e k);
+}
+
+-- a turn that stops once its frame is drawn and counted
+pub drawn-turn : (error : RecordError) (s t : Session) (a b : Setting) (store : Store) → store ≡ with_frame a.store → b.store.frames ≡ store.frames → ((frames : ℕ) → Stops error (Before (world_in a s frames)) (world_in b t (frames + 1))) → TurnStops error s a t b
+drawn-turn error s t a b store e k h = record {
+  drawn = 1;
+  few = omega arith;
+  counted = k ∙ ap (λ (y : Store). y.frames) e;
+  stops = h;
+}
 
 module _ (a : Setting) (s0 s : Session) (frames : ℕ) (store : Store) (is_drawn : s ≡ after_frame s0) (is_counted : store ≡ with_frame a.store) where
   -- no batch comes
@@ -159,3 +194,7 @@ module _ (a : Setting) (s0 s : Session) (frames : ℕ) (store : Store) (is_drawn
       let stops = batch-stops error (world_in a s0 frames) (world_in (setting a.kind reads edits a.store) t (frames + 1)) there in
       let counted = subst (λ (y : Store). Stops error (Before (world_in a s0 frames)) (world_in (setting a.kind reads edits y) t (frames + 1))) (sym is_counted) stops in
       subst (λ (k : TerminalKind). Stops error (Before (world_in a s0 frames)) (world_in (setting k reads edits store) t (frames + 1))) (sym same_kind) counted
+
+-- what has the size of a screen has that of the same screen
+pub sized-as : (HasThisSize : TerminalKind → Type 0) (kind kind' : TerminalKind) → kind ≡ kind' → HasThisSize kind → HasThisSize kind'
+sized-as HasThisSize kind kind' e h = subst HasThisSize e h

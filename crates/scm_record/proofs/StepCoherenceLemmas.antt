@@ -1,17 +1,19 @@
 -- Where an event leads on, each file stays coherent.
-use Rattle.std.proofs.Common.{◌≡◌, ℕ, Bool, true, false, List, [], ◌∷◌, cond}
+use Rattle.std.proofs.Common.{◌≡◌, ℕ, Bool, true, false, List, [], ◌∷◌, length, cond}
+use Rattle.std.specs.Prelude.{nat_lt}
 use Rattle.scm_types.specs.declared.file.File.{File}
 use Rattle.scm_types.specs.declared.state.RecordState.{RecordState}
 use Rattle.scm_types.specs.Limits.{is_short_text}
 use Rattle.scm_record.specs.declared.events.Event.{Event}
-use Rattle.scm_record.specs.declared.recording.Flow.{Flow}
-use Rattle.scm_record.specs.declared.recording.Flow.TheVariants as flows
+use Rattle.scm_record.specs.declared.selector.Flow.{Flow}
+use Rattle.scm_record.specs.declared.selector.Flow.TheVariants as flows
 use Rattle.scm_record.specs.Script.{Edit, Answer, BrokenEdit, no_more}
 use Rattle.scm_record.specs.Toggle.{with_key_toggled, with_all_set}
 use Rattle.scm_record.specs.Session.{Session, with_message}
-use Rattle.scm_record.specs.Frames.{scene_of}
+use Rattle.scm_record.specs.Frames.{Scene, scene_of}
+use Rattle.scm_record.specs.Uses.{shot_of}
 use Rattle.scm_record.specs.Step.{change}
-use Rattle.scm_record.specs.Run.{World, with_session, with_edits, Goes, Breaks, too_long, answered, edited, outcome_by}
+use Rattle.scm_record.specs.Run.{World, with_session, with_edits, with_text, Goes, Breaks, no_such_place, too_long, answered, edited, outcome_by}
 use Rattle.scm_record.specs.Coherence.{KeepsCoherent, OutcomeKeepsCoherent, StepKeepsCoherent, is_toggle_all}
 use Rattle.scm_record.proofs.CoherenceLemmas.{keeps_coherent-same, toggle_keeps_coherent, all_set_keeps_coherent}
 use Rattle.scm_record.proofs.StepLemmas.{Marks, unmarked, toggled, inverted, all_set, leads}
@@ -40,14 +42,19 @@ module _ (w : World) where
   edited-keeps v commit [] h = answered-keeps (with_edits v []) commit no_more h
   edited-keeps v commit (edit ∷ edits) h = answered-keeps (with_edits v edits) commit edit h
 
-  outcome-keeps : (v : World) (flow : Flow) → KeepsCoherent w.session.state.files v.session.state.files → OutcomeKeepsCoherent w (outcome_by v flow)
-  outcome-keeps v flows.GoOn h = h
-  outcome-keeps v flows.Accept h = h
-  outcome-keeps v flows.Cancel h = tt
-  outcome-keeps v (flows.Edit commit) h = edited-keeps v commit v.edits h
-  outcome-keeps v flows.Lack h = tt
+  shot-keeps : (b : Bool) (v u : World) → KeepsCoherent w.session.state.files v.session.state.files → OutcomeKeepsCoherent w (cond b (Goes v) (Breaks no_such_place u))
+  shot-keeps true v u h = h
+  shot-keeps false v u h = tt
+
+  outcome-keeps : (scene : Scene) (v : World) (flow : Flow) → KeepsCoherent w.session.state.files v.session.state.files → OutcomeKeepsCoherent w (outcome_by scene v flow)
+  outcome-keeps scene v flows.GoOn h = h
+  outcome-keeps scene v flows.Accept h = h
+  outcome-keeps scene v flows.Cancel h = tt
+  outcome-keeps scene v (flows.Edit commit) h = edited-keeps v commit v.edits h
+  outcome-keeps scene v (flows.Shoot place) h = shot-keeps (nat_lt place (length v.texts)) (with_text v place (shot_of scene v.session.cleared)) v h
 
 pub step_keeps_coherent : (drawn : Session) (w : World) (event : Event) → is_toggle_all event ≡ false → StepKeepsCoherent drawn w event
 step_keeps_coherent drawn w event e =
-    let c = change (scene_of w.kind drawn) w.session event in
-    outcome-keeps w (with_session w c.session) c.flow (marks-keep event w.session c.session.state c.flow e (leads (scene_of w.kind drawn) w.session event).marks)
+    let scene = scene_of w.kind drawn in
+    let c = change scene w.session event in
+    outcome-keeps w scene (with_session w c.session) c.flow (marks-keep event w.session c.session.state c.flow e (leads scene w.session event).marks)

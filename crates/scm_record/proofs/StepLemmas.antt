@@ -1,38 +1,47 @@
 -- What an event does to the state of a session, and what it leaves pending.
-use Rattle.std.proofs.Common.{◌≡◌, ℕ, ◌+◌, ◌≤◌, Bool, true, false, List, [], ◌∷◌, ◌++◌, Option, Some, None, cond, ap, sym, ◌∙◌, refl, arith}
+use Rattle.std.proofs.Common.{◌≡◌, ℕ, ◌+◌, ◌-◌, ◌≤◌, min, Bool, true, false, List, [], ◌∷◌, ◌++◌, Option, Some, None, cond, ap, sym, ◌∙◌, refl, arith}
 use Rattle.std.specs.Prelude.{is_some, option_and_then, option_map, slice_get}
 use Rattle.scm_types.specs.declared.file.File.{File}
 use Rattle.scm_types.specs.declared.state.Commit.{Commit}
 use Rattle.scm_types.specs.declared.state.RecordState.{RecordState}
 use Rattle.scm_view.specs.declared.keys.SelectionKey.{SelectionKey}
 use Rattle.scm_view.specs.declared.keys.SelectionKey.TheVariants as keys
+use Rattle.scm_view.specs.declared.ids.ComponentId.{ComponentId}
+use Rattle.scm_view.specs.declared.ids.ComponentId.TheVariants as ids
 use Rattle.scm_view.specs.declared.quit_dialog.QuitDialogButtonId.{QuitDialogButtonId}
 use Rattle.scm_view.specs.declared.quit_dialog.QuitDialogButtonId.TheVariants.{Quit, GoBack}
 use Rattle.scm_record.specs.declared.events.Event.{Event}
 use Rattle.scm_record.specs.declared.events.Event.TheVariants as events
-use Rattle.scm_record.specs.declared.recording.Flow.{Flow}
-use Rattle.scm_record.specs.declared.recording.Flow.TheVariants as flows
+use Rattle.scm_record.specs.declared.pages.Way.TheVariants.{Up, Down}
+use Rattle.scm_record.specs.declared.selector.Flow.{Flow}
+use Rattle.scm_record.specs.declared.selector.Flow.TheVariants as flows
 use Rattle.scm_record.specs.Keys.{all_keys, file_of, file_of_section}
-use Rattle.scm_record.specs.KeySet.{key_set, same_set}
+use Rattle.scm_record.specs.KeySet.{is_key, key_set, same_set}
 use Rattle.scm_record.specs.Counts.{message_count, changed_count}
-use Rattle.scm_record.specs.Session.{Session, with_pushed, with_dialog, after_select, after_fold, after_next, after_previous, after_next_same_kind, after_previous_same_kind, after_advance, after_inner, after_outer, outside_of, after_expand, after_expand_all, with_files_changed, after_toggle, after_toggle_all, after_toggle_all_uniform, message_of}
+use Rattle.scm_record.specs.Session.{Session, with_pushed, with_dialog, with_help, at_key, after_item, after_select, after_fold, after_next, after_previous, after_next_same_kind, after_previous_same_kind, after_advance, after_inner, after_outer, outside_of, after_expand, after_expand_all, with_files_changed, after_toggle, after_toggle_all, after_toggle_all_uniform, message_of}
 use Rattle.scm_record.specs.Toggle.{with_key_toggled}
 use Rattle.scm_record.specs.Frames.{Scene}
-use Rattle.scm_record.specs.Step.{Change, stays, accepts, cancels, change, pressed, focused, button_of, opened, asked, edit_of, edit_of_message}
+use Rattle.scm_record.specs.Uses.{max_scroll, hit}
+use Rattle.scm_record.specs.Change.{Change, stays, accepts, cancels}
+use Rattle.scm_record.specs.Dialogs.{pressed, focused, button_of, opened, asked, unless_asked, help_closed_or, dialog_closed_or, dialog_pressed_or}
+use Rattle.scm_record.specs.Pages.{after_scroll, after_page}
+use Rattle.scm_record.specs.Clicks.{edit_of, edit_of_message, item_event, clicked_on, clicked}
+use Rattle.scm_record.specs.Step.{change}
 use Rattle.scm_record.specs.Coherence.{is_toggle_all}
 use Rattle.scm_record.proofs.Budget.{rank}
+use Rattle.scm_record.proofs.MenuLemmas.{IsLow, item-low}
 
 -- the message of a commit in a list, if there is one
 abbrev pub message_at : List Commit → ℕ → Option (List ℕ)
 message_at cs i = option_and_then (λ (c : Commit). c.message) (slice_get cs i)
 
--- an edit is asked for only of the first commit, and only where that has a message
+-- an edit is asked for only of a commit that has a message
 abbrev pub Allows : Session → Flow → Type 0
 Allows s flows.GoOn = Unit {0}
 Allows s flows.Accept = Unit {0}
 Allows s flows.Cancel = Unit {0}
-Allows s (flows.Edit commit) = (commit ≡ 0) × (is_some (message_of s commit) ≡ true)
-Allows s flows.Lack = Unit {0}
+Allows s (flows.Edit commit) = is_some (message_of s commit) ≡ true
+Allows s (flows.Shoot place) = Unit {0}
 
 -- the state is left as it was, toggled, or set to one mark; `ToggleAll` alone inverts it
 pub data Marks (event : Event) (s : Session) : RecordState → Flow → Type 0 where
@@ -46,9 +55,15 @@ pub data Pushes (event : Event) (old : List Event) : List Event → Type 0 where
   nothing : Pushes event old old
   pushed : (next : Event) → rank next + 1 ≤ rank event → Pushes event old (old ++ next ∷ [])
 
+-- the scroll stays, or is held
+pub data Scrolls (old : ℕ) : ℕ → Type 0 where
+  unscrolled : Scrolls old old
+  scrolled : {new : ℕ} → new ≤ max_scroll → Scrolls old new
+
 pub record Leads (event : Event) (s : Session) (c : Change) : Type 0 where
   pub marks : Marks event s c.session.state c.flow
   pub pushes : Pushes event s.pending c.session.pending
+  pub scrolls : Scrolls s.scroll c.session.scroll
 
 either-leads : (b : Bool) (event : Event) (s : Session) (c d : Change) → Leads event s c → Leads event s d → Leads event s (cond b c d)
 either-leads true event s c d h k = h
@@ -62,37 +77,47 @@ changed-pending : (b : Bool) (s t : Session) → t.pending ≡ s.pending → (co
 changed-pending true s t e = refl
 changed-pending false s t e = e
 
+changed-scroll : (b : Bool) (s t : Session) → t.scroll ≡ s.scroll → (cond b s t).scroll ≡ s.scroll
+changed-scroll true s t e = refl
+changed-scroll false s t e = e
+
+low-min : (limit n : ℕ) → min limit n ≤ limit
+low-min limit n = omega arith
+
+low-held : (n limit extent : ℕ) → min n (min limit extent) ≤ limit
+low-held n limit extent = omega arith
+
 module _ (event : Event) (s : Session) where
   -- nothing but the dialog, the scroll or the screen changes
   idle : Leads event s (stays s)
-  idle = record { marks = unmarked tt; pushes = nothing }
+  idle = record { marks = unmarked tt; pushes = nothing; scrolls = unscrolled }
 
   ends : (flow : Flow) → Allows s flow → Leads event s (record { session = s; flow = flow })
-  ends flow h = record { marks = unmarked h; pushes = nothing }
+  ends flow h = record { marks = unmarked h; pushes = nothing; scrolls = unscrolled }
 
   closes : Leads event s (stays (with_dialog s None))
-  closes = record { marks = unmarked tt; pushes = nothing }
+  closes = record { marks = unmarked tt; pushes = nothing; scrolls = unscrolled }
 
   focuses : (button : QuitDialogButtonId) → Leads event s (stays (with_dialog s (option_map (focused button) s.quit_dialog)))
-  focuses button = record { marks = unmarked tt; pushes = nothing }
+  focuses button = record { marks = unmarked tt; pushes = nothing; scrolls = unscrolled }
 
   opens : Leads event s (asked s)
-  opens = either-leads _ event s (cancels s) (stays (with_dialog s (Some (opened (message_count s.state) (changed_count s.state))))) (ends flows.Cancel tt) (record { marks = unmarked tt; pushes = nothing })
+  opens = either-leads _ event s (cancels s) (stays (with_dialog s (Some (opened (message_count s.state) (changed_count s.state))))) (ends flows.Cancel tt) (record { marks = unmarked tt; pushes = nothing; scrolls = unscrolled })
 
   presses : (button : QuitDialogButtonId) → Leads event s (pressed s button)
   presses Quit = ends flows.Cancel tt
   presses GoBack = closes
 
-  edits_message : 1 ≤ rank event → (message : Option (List ℕ)) → message_of s 0 ≡ message → Leads event s (edit_of_message 0 (with_pushed s events.Redraw) message)
-  edits_message k None e = record { marks = unmarked tt; pushes = pushed events.Redraw k }
-  edits_message k (Some text) e = record { marks = unmarked (refl, ap is_some e); pushes = pushed events.Redraw k }
+  edits_message : 1 ≤ rank event → (commit : ℕ) (message : Option (List ℕ)) → message_of s commit ≡ message → Leads event s (edit_of_message commit (with_pushed s events.Redraw) message)
+  edits_message k commit None e = record { marks = unmarked tt; pushes = pushed events.Redraw k; scrolls = unscrolled }
+  edits_message k commit (Some text) e = record { marks = unmarked (ap is_some e); pushes = pushed events.Redraw k; scrolls = unscrolled }
 
   module _ (k : 1 ≤ rank event) where
     selects : (key : SelectionKey) → Leads event s (stays (after_select s key))
-    selects key = record { marks = unmarked tt; pushes = pushed events.EnsureSelectionInViewport k }
+    selects key = record { marks = unmarked tt; pushes = pushed events.EnsureSelectionInViewport k; scrolls = unscrolled }
 
     folds : (key : SelectionKey) → Leads event s (stays (after_fold s key))
-    folds key = record { marks = unmarked tt; pushes = pushed events.EnsureSelectionInViewport k }
+    folds key = record { marks = unmarked tt; pushes = pushed events.EnsureSelectionInViewport k; scrolls = unscrolled }
 
     goes_outside : (fold_section : Bool) (selection : SelectionKey) → Leads event s (stays (outside_of s fold_section selection))
     goes_outside fold_section keys.None = idle
@@ -101,56 +126,107 @@ module _ (event : Event) (s : Session) where
     goes_outside fold_section (keys.Line key) = selects _
 
     flips_all : (b : Bool) → Leads event s (stays (record (cond b (record s { selection = file_of s.selection; expanded = [] }) (record s { expanded = key_set (all_keys s.state.files) })) { pending = (cond b (record s { selection = file_of s.selection; expanded = [] }) (record s { expanded = key_set (all_keys s.state.files) })).pending ++ events.EnsureSelectionInViewport ∷ [] }))
-    flips_all true = record { marks = unmarked tt; pushes = pushed events.EnsureSelectionInViewport k }
-    flips_all false = record { marks = unmarked tt; pushes = pushed events.EnsureSelectionInViewport k }
+    flips_all true = record { marks = unmarked tt; pushes = pushed events.EnsureSelectionInViewport k; scrolls = unscrolled }
+    flips_all false = record { marks = unmarked tt; pushes = pushed events.EnsureSelectionInViewport k; scrolls = unscrolled }
 
   files_change : (f : List File → List File) → (with_files_changed f s).pending ≡ s.pending
   files_change f = changed-pending s.state.is_read_only s (record s { state = record s.state { files = f s.state.files } }) refl
 
+  files_scroll : (f : List File → List File) → (with_files_changed f s).scroll ≡ s.scroll
+  files_scroll f = changed-scroll s.state.is_read_only s (record s { state = record s.state { files = f s.state.files } }) refl
+
   toggles : Leads event s (stays (after_toggle s))
-  toggles = record { marks = toggled; pushes = rw (files_change (with_key_toggled s.selection)) nothing }
+  toggles = record { marks = toggled; pushes = rw (files_change (with_key_toggled s.selection)) nothing; scrolls = rw (files_scroll (with_key_toggled s.selection)) unscrolled }
 
   advances : 1 ≤ rank event → Leads event s (stays (after_advance (after_toggle s)))
-  advances k = record { marks = toggled; pushes = rw (files_change (with_key_toggled s.selection)) (pushed events.EnsureSelectionInViewport k) }
+  advances k = record { marks = toggled; pushes = rw (files_change (with_key_toggled s.selection)) (pushed events.EnsureSelectionInViewport k); scrolls = rw (files_scroll (with_key_toggled s.selection)) unscrolled }
+
+  helps : Leads event s (stays (with_help s false))
+  helps = record { marks = unmarked tt; pushes = nothing; scrolls = unscrolled }
+
+  -- what lies over the document comes first
+  module _ (c : Change) (h : Leads event s c) where
+    unless : Leads event s (unless_asked s c)
+    unless = either-leads _ event s (stays s) c idle h
+
+    helps_or : Leads event s (help_closed_or s c)
+    helps_or = either-leads _ event s (stays (with_help s false)) c helps h
+
+    presses_or : Leads event s (dialog_pressed_or s c)
+    presses_or = either-leads _ event s (pressed s (button_of s.quit_dialog)) c (presses (button_of s.quit_dialog)) h
+
+  holds : (scene : Scene) (scroll : ℕ) → Leads event s (unless_asked s (stays (after_scroll scene s scroll)))
+  holds scene scroll = unless (stays (after_scroll scene s scroll)) (record { marks = unmarked tt; pushes = nothing; scrolls = scrolled (low-held scroll max_scroll (scene.frame.extent - 1)) })
+
+-- ---- clicks
+
+module _ (event : Event) (s : Session) (k : 2 ≤ rank event) where
+  clicks_item : (pushed_event : Option Event) → IsLow pushed_event → Leads event s (stays (after_item s pushed_event))
+  clicks_item None h = record { marks = unmarked tt; pushes = nothing; scrolls = unscrolled }
+  clicks_item (Some next) h = record { marks = unmarked tt; pushes = pushed next (omega arith); scrolls = unscrolled }
+
+  clicks_on : (open_menu : Option ℕ) (id : ComponentId) → Leads event s (clicked_on open_menu s id)
+  clicks_on open_menu (ids.ToggleBox key) = either-stays (is_key key s.selection) event s (after_toggle s) (at_key s key) (toggles event s) (record { marks = unmarked tt; pushes = nothing; scrolls = unscrolled })
+  clicks_on open_menu (ids.ExpandBox key) = either-stays (is_key key s.selection) event s (after_expand s) (at_key s key) (record { marks = unmarked tt; pushes = pushed events.EnsureSelectionInViewport (omega arith); scrolls = unscrolled }) (record { marks = unmarked tt; pushes = nothing; scrolls = unscrolled })
+  clicks_on open_menu (ids.FileViewHeader key) = record { marks = unmarked tt; pushes = nothing; scrolls = unscrolled }
+  clicks_on open_menu (ids.SelectableItem key) = record { marks = unmarked tt; pushes = nothing; scrolls = unscrolled }
+  clicks_on open_menu (ids.CommitEditMessageButton commit) = edits_message event s (omega arith) commit (message_of s commit) refl
+  clicks_on open_menu ids.MenuBar = record { marks = unmarked tt; pushes = nothing; scrolls = unscrolled }
+  clicks_on open_menu (ids.Menu menu) = record { marks = unmarked tt; pushes = nothing; scrolls = unscrolled }
+  clicks_on open_menu (ids.MenuItem item) = clicks_item (item_event open_menu item) (item-low open_menu item)
+  clicks_on open_menu (ids.QuitDialogButton button) = presses event s button
+  clicks_on open_menu ids.HelpDialogQuitButton = helps event s
+  clicks_on open_menu ids.QuitDialog = idle event s
+  clicks_on open_menu ids.HelpDialog = idle event s
+  clicks_on open_menu ids.App = idle event s
+  clicks_on open_menu ids.AppFiles = idle event s
+  clicks_on open_menu ids.MenuHeader = idle event s
+  clicks_on open_menu ids.CommitMessageView = idle event s
+
+  clicks : (open_menu : Option ℕ) (id : Option ComponentId) → Leads event s (clicked open_menu s id)
+  clicks open_menu None = idle event s
+  clicks open_menu (Some id) = clicks_on open_menu id
+
+-- ---- each event
 
 pub leads : (scene : Scene) (s : Session) (event : Event) → Leads event s (change scene s event)
 leads scene s events.None = idle _ s
-leads scene s events.Redraw = record { marks = unmarked tt; pushes = nothing }
-leads scene s events.EnsureSelectionInViewport = record { marks = unmarked tt; pushes = nothing }
-leads scene s events.QuitAccept = either-leads _ _ s (stays s) (accepts s) (idle _ s) (ends _ s flows.Accept tt)
-leads scene s events.QuitCancel = either-leads _ _ s (stays (with_dialog s None)) (asked s) (closes _ s) (opens _ s)
+leads scene s events.Redraw = record { marks = unmarked tt; pushes = nothing; scrolls = unscrolled }
+leads scene s events.EnsureSelectionInViewport = record { marks = unmarked tt; pushes = nothing; scrolls = scrolled (low-min max_scroll _) }
+leads scene s (events.TakeScreenshot shot) = ends _ s (flows.Shoot shot.place) tt
+leads scene s (events.Click row column) = clicks _ s (omega arith) scene.open_menu (hit scene s.scroll row column)
+leads scene s events.ToggleCommitViewMode = record { marks = unmarked tt; pushes = nothing; scrolls = unscrolled }
+leads scene s events.Help = record { marks = unmarked tt; pushes = nothing; scrolls = unscrolled }
+leads scene s events.QuitEscape = helps_or _ s (stays (with_dialog s None)) (closes _ s)
+leads scene s events.QuitCancel = helps_or _ s (dialog_closed_or s (asked s)) (either-leads _ _ s (stays (with_dialog s None)) (asked s) (closes _ s) (opens _ s))
+leads scene s events.ToggleItem = helps_or _ s (dialog_pressed_or s (stays (after_toggle s))) (presses_or _ s (stays (after_toggle s)) (toggles _ s))
+leads scene s events.ToggleItemAndAdvance = helps_or _ s (dialog_pressed_or s (stays (after_advance (after_toggle s)))) (presses_or _ s (stays (after_advance (after_toggle s))) (advances _ s (omega arith)))
+leads scene s events.QuitAccept = unless _ s (help_closed_or s (accepts s)) (helps_or _ s (accepts s) (ends _ s flows.Accept tt))
 leads scene s events.QuitInterrupt = either-leads _ _ s (cancels s) (asked s) (ends _ s flows.Cancel tt) (opens _ s)
-leads scene s events.QuitEscape = closes _ s
 leads scene s events.FocusInner = either-leads _ _ s (stays (with_dialog s (option_map (focused Quit) s.quit_dialog))) (stays (after_inner s)) (focuses _ s Quit) (selects _ s (omega arith) _)
 leads scene s (events.FocusOuter fold_section) = either-leads _ _ s (stays (with_dialog s (option_map (focused GoBack) s.quit_dialog))) (stays (after_outer s fold_section)) (focuses _ s GoBack) (goes_outside _ s (omega arith) fold_section s.selection)
-leads scene s events.ToggleItem = either-leads _ _ s (pressed s (button_of s.quit_dialog)) (stays (after_toggle s)) (presses _ s (button_of s.quit_dialog)) (toggles _ s)
-leads scene s events.ToggleItemAndAdvance = either-leads _ _ s (pressed s (button_of s.quit_dialog)) (stays (after_advance (after_toggle s))) (presses _ s (button_of s.quit_dialog)) (advances _ s (omega arith))
-leads scene s events.FocusPrev = either-leads _ _ s (stays s) (stays (after_previous s)) (idle _ s) (selects _ s (omega arith) _)
-leads scene s events.FocusPrevSameKind = either-leads _ _ s (stays s) (stays (after_previous_same_kind s)) (idle _ s) (selects _ s (omega arith) _)
-leads scene s events.FocusNext = either-leads _ _ s (stays s) (stays (after_next s)) (idle _ s) (selects _ s (omega arith) _)
-leads scene s events.FocusNextSameKind = either-leads _ _ s (stays s) (stays (after_next_same_kind s)) (idle _ s) (selects _ s (omega arith) _)
-leads scene s events.ToggleAll = either-leads _ _ s (stays s) (stays (after_toggle_all s)) (idle _ s) (record { marks = inverted refl; pushes = rw (files_change events.ToggleAll s _) nothing })
-leads scene s events.ToggleAllUniform = either-leads _ _ s (stays s) (stays (after_toggle_all_uniform s)) (idle _ s) (record { marks = all_set; pushes = rw (files_change events.ToggleAllUniform s _) nothing })
-leads scene s events.ExpandItem = either-leads _ _ s (stays s) (stays (after_expand s)) (idle _ s) (record { marks = unmarked tt; pushes = pushed events.EnsureSelectionInViewport (omega arith) })
-leads scene s events.ExpandAll = either-leads _ _ s (stays s) (stays (after_expand_all s)) (idle _ s) (flips_all _ s (omega arith) (same_set s.expanded (key_set (all_keys s.state.files))))
-leads scene s events.EditCommitMessage = either-leads _ _ s (stays s) (edit_of s 0) (idle _ s) (edits_message _ s (omega arith) (message_of s 0) refl)
-leads scene s (events.TakeScreenshot shot) = ends _ s flows.Lack tt
-leads scene s events.ScrollUp = ends _ s flows.Lack tt
-leads scene s events.ScrollDown = ends _ s flows.Lack tt
-leads scene s events.PageUp = ends _ s flows.Lack tt
-leads scene s events.PageDown = ends _ s flows.Lack tt
-leads scene s events.FocusPrevPage = ends _ s flows.Lack tt
-leads scene s events.FocusNextPage = ends _ s flows.Lack tt
-leads scene s (events.Click row column) = ends _ s flows.Lack tt
-leads scene s events.ToggleCommitViewMode = ends _ s flows.Lack tt
-leads scene s events.Help = ends _ s flows.Lack tt
+leads scene s events.ScrollUp = holds _ s scene (s.scroll - 1)
+leads scene s events.ScrollDown = holds _ s scene (s.scroll + 1)
+leads scene s events.PageUp = holds _ s scene (s.scroll - scene.height)
+leads scene s events.PageDown = holds _ s scene (s.scroll + scene.height)
+leads scene s events.FocusPrev = unless _ s (stays (after_previous s)) (selects _ s (omega arith) _)
+leads scene s events.FocusPrevSameKind = unless _ s (stays (after_previous_same_kind s)) (selects _ s (omega arith) _)
+leads scene s events.FocusPrevPage = unless _ s (stays (after_page scene Up s)) (selects _ s (omega arith) _)
+leads scene s events.FocusNext = unless _ s (stays (after_next s)) (selects _ s (omega arith) _)
+leads scene s events.FocusNextSameKind = unless _ s (stays (after_next_same_kind s)) (selects _ s (omega arith) _)
+leads scene s events.FocusNextPage = unless _ s (stays (after_page scene Down s)) (selects _ s (omega arith) _)
+leads scene s events.ToggleAll = unless _ s (stays (after_toggle_all s)) (record { marks = inverted refl; pushes = rw (files_change events.ToggleAll s _) nothing; scrolls = rw (files_scroll events.ToggleAll s _) unscrolled })
+leads scene s events.ToggleAllUniform = unless _ s (stays (after_toggle_all_uniform s)) (record { marks = all_set; pushes = rw (files_change events.ToggleAllUniform s _) nothing; scrolls = rw (files_scroll events.ToggleAllUniform s _) unscrolled })
+leads scene s events.ExpandItem = unless _ s (stays (after_expand s)) (record { marks = unmarked tt; pushes = pushed events.EnsureSelectionInViewport (omega arith); scrolls = unscrolled })
+leads scene s events.ExpandAll = unless _ s (stays (after_expand_all s)) (flips_all _ s (omega arith) (same_set s.expanded (key_set (all_keys s.state.files))))
+leads scene s events.EditCommitMessage = unless _ s (edit_of s 0) (edits_message _ s (omega arith) 0 (message_of s 0) refl)
 
 allows-same : (s t : Session) (flow : Flow) → s.state ≡ t.state → Allows s flow → Allows t flow
 allows-same s t flows.GoOn e h = tt
 allows-same s t flows.Accept e h = tt
 allows-same s t flows.Cancel e h = tt
-allows-same s t (flows.Edit commit) e h = (h.0, ap (λ (state : RecordState). is_some (message_at state.commits commit)) (sym e) ∙ h.1)
-allows-same s t flows.Lack e h = tt
+allows-same s t (flows.Edit commit) e h = ap (λ (state : RecordState). is_some (message_at state.commits commit)) (sym e) ∙ h
+allows-same s t (flows.Shoot place) e h = tt
 
 -- what an event asks for is allowed in the session after it
 pub marks-allow : (event : Event) (s t : Session) (state : RecordState) (flow : Flow) → Marks event s state flow → state ≡ t.state → Allows t flow

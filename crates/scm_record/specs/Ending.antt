@@ -1,15 +1,15 @@
 -- How a run ends.
-use Rattle.std.specs.Prelude.{◌≡◌, ℕ, ◌+◌, ◌*◌, ◌-◌, ◌^◌, ◌≤◌, List, [], length, min}
+use Rattle.std.specs.Prelude.{◌≡◌, ℕ, ◌+◌, ◌*◌, ◌≤◌, List, [], length}
 use Rattle.scm_types.specs.declared.error.RecordError.{RecordError}
 use Rattle.scm_types.specs.declared.state.RecordState.{RecordState}
 use Rattle.scm_record.specs.Script.{Read}
-use Rattle.scm_record.specs.Store.{Store}
+use Rattle.scm_record.specs.Store.{Store, counted}
 use Rattle.scm_record.specs.Session.{Session}
 use Rattle.scm_record.specs.Run.{Setting, world_in, Before, Accepted, Reaches, Stops}
 
--- the store counts the frames, up to the greatest usize
+-- the store counts the frames
 abbrev pub Counts : ℕ → Store → Store → Type 0
-Counts frames old new = new.frames ≡ min (old.frames + frames) (2 ^ 64 - 1)
+Counts frames old new = new.frames ≡ counted frames old.frames
 
 -- at most 3 b + 1 frames were drawn for the b reads that were taken
 abbrev pub IsFew : ℕ → List Read → List Read → Type 0

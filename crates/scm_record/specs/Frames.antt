@@ -1,48 +1,134 @@
--- What was drawn last, as a step asks it. This stage draws nothing: a frame is counted, and no key is drawn in it.
-use Rattle.std.specs.Prelude.{ℕ, ◌+◌, ◌-◌, ◌&&◌, ◌||◌, nat_le, nat_lt, Option, Some, None, min, if◌then◌else◌}
+-- What was drawn last, as the steps use it: the screen's rows, who owns each place of the document, on which rows each key
+-- stands, and how many rows all of it spans.
+use Rattle.std.specs.Prelude.{◌≡◌, ℕ, ◌<◌, nat_le, pos, Bool, false, ◌&&◌, if◌then◌else◌, List, length, replicate, min, Option, None, option_map}
+use Rattle.std.specs.HashMap.{HashMap, get}
+use Rattle.scm_cells.specs.declared.rect.Rect.{Rect}
+use Rattle.scm_render.specs.Canvas.{Row, painted}
+use Rattle.scm_render.specs.Picture.{Picture, part}
+use Rattle.scm_render.specs.Hits.{box_of, latest}
+use Rattle.scm_render.specs.Target.{IsTargetOf}
+use Rattle.scm_render.specs.declared.trace.DrawnRect.{DrawnRect}
+use Rattle.scm_view.specs.AppView.{app_picture, app_view_of}
+use Rattle.scm_view.specs.Blanks.{blank_row}
+use Rattle.scm_view.specs.Clicks.{is_clickable}
+use Rattle.scm_view.specs.Screens.{screen, sight}
+use Rattle.scm_view.specs.declared.app_view.AppView.{AppView}
+use Rattle.scm_view.specs.declared.commit_view.CommitViewMode.{CommitViewMode}
+use Rattle.scm_view.specs.declared.commit_view.CommitViewMode.TheVariants.{Inline, Adjacent}
+use Rattle.scm_view.specs.Shown.{Shown}
+use Rattle.scm_view.specs.Window.{window, owner, span, extent, rows_of_box, height_of_box}
+use Rattle.scm_view.specs.contracts.ids.ComponentIdPartialEq.TheImpl as equality
 use Rattle.scm_view.specs.declared.keys.SelectionKey.{SelectionKey}
-use Rattle.scm_view.specs.declared.keys.SelectionKey.TheVariants as keys
+use Rattle.scm_view.specs.declared.ids.ComponentId.{ComponentId}
+use Rattle.scm_view.specs.declared.ids.ComponentId.TheVariants as ids
 use Rattle.scm_record.specs.declared.inputs.TerminalKind.{TerminalKind}
 use Rattle.scm_record.specs.declared.inputs.TerminalKind.TheVariants.{Testing}
-use Rattle.scm_record.specs.Session.{Session}
+use Rattle.scm_record.specs.declared.frame.DrawnFrame.{DrawnFrame}
+use Rattle.scm_record.specs.Session.{Session, shown_of}
 
 pub record Frame : Type 0 where
-  -- the first row of a key in the document, and the row after its last, where the key is drawn
+  -- the screen's rows
+  pub rows : List Row
+  -- who owns a row and column of the document
+  pub owner : ℕ → ℕ → Option ComponentId
+  -- the first row of a key in the document, and how many rows it has, where the key is drawn
   pub span : SelectionKey → Option (ℕ × ℕ)
+  -- how many rows all that is drawn spans
+  pub extent : ℕ
 
--- the screen's rows, and the frame last drawn
-pub record Scene : Type 0 where
-  pub height : ℕ
-  pub frame : Frame
+-- ---- the frame of a session
+
+-- whether two ids are equal
+abbrev pub same_id : ComponentId → ComponentId → Bool
+same_id = equality.ghosts.eq
+
+-- what drawing makes of a view on a screen of w columns and h rows that shows the document from row s on
+abbrev pub picture_of : ℕ → ℕ → ℕ → AppView → Picture ComponentId
+picture_of w h s a = app_picture a (sight w h s) (pos 0) (pos 0)
+
+-- the frame by a picture: what it leaves on a cleared screen, the latest clickable box at a point, the rows of boxes
+unfoldable pub frame_of_picture : ℕ → ℕ → ℕ → Picture ComponentId → Frame
+frame_of_picture w h s m = record {
+  rows = painted (screen w h s) m.puts (pos s) (replicate h (blank_row w));
+  owner = λ y x. latest same_id is_clickable (part ids.App m).boxes (pos y) (pos x);
+  span = λ key. option_map rows_of_box (box_of same_id (ids.SelectableItem key) (part ids.App m).boxes);
+  extent = height_of_box (box_of same_id ids.App (part ids.App m).boxes);
+}
+
+-- the frame of a view on a screen of w columns and h rows
+abbrev pub frame_of_view : ℕ → ℕ → ℕ → AppView → Frame
+frame_of_view w h s a = frame_of_picture w h s (picture_of w h s a)
+
+-- the frame by the document: the window, the owners, the rows of keys and the extent
+abbrev pub frame_of_document : ℕ → ℕ → ℕ → Shown → Frame
+frame_of_document w h s shown = record {
+  rows = window w h s shown;
+  owner = owner w h s shown;
+  span = span shown;
+  extent = extent w h s shown;
+}
+
+-- a frame is plain if it is inline, on a screen of at least ten columns and two rows
+abbrev pub is_plain : ℕ → ℕ → CommitViewMode → Bool
+is_plain w h Inline = nat_le 10 w && nat_le 2 h
+is_plain w h Adjacent = false
+
+-- the frame of a session: by its document where it is plain, else by the picture of its view
+unfoldable pub frame_of : ℕ → ℕ → Session → Frame
+frame_of w h drawn =
+    if is_plain w h drawn.view_mode
+    then frame_of_document w h drawn.scroll (shown_of drawn)
+    else frame_of_view w h drawn.scroll (app_view_of (shown_of drawn))
+
+-- ---- scenes
+
+-- a screen's columns and rows
+abbrev pub columns_of : TerminalKind → ℕ
+columns_of (Testing width height) = min width 65535
 
 abbrev pub rows_of : TerminalKind → ℕ
 rows_of (Testing width height) = min height 65535
 
--- the frame of a session
-abbrev pub frame_of : TerminalKind → Session → Frame
-frame_of kind drawn = record { span = λ key. None }
+-- the screen's size, the frame last drawn, and the menu that was open in it
+pub record Scene : Type 0 where
+  pub width : ℕ
+  pub height : ℕ
+  pub frame : Frame
+  pub open_menu : Option ℕ
 
 abbrev pub scene_of : TerminalKind → Session → Scene
-scene_of kind drawn = record { height = rows_of kind; frame = frame_of kind drawn }
+scene_of kind drawn = record {
+  width = columns_of kind;
+  height = rows_of kind;
+  frame = frame_of (columns_of kind) (rows_of kind) drawn;
+  open_menu = drawn.open_menu;
+}
 
--- the rows that stay free above a key: below the menu bar, and below a pinned header
-abbrev pub rows_above : SelectionKey → ℕ
-rows_above keys.None = 2
-rows_above (keys.File key) = 1
-rows_above (keys.Section key) = 2
-rows_above (keys.Line key) = 2
+-- ---- what the code keeps of a drawing
 
--- the scroll s, or the one that brings rows t to before b of the document onto a screen of h rows, m of which stay free
-abbrev pub scrolled_to : ℕ → ℕ → ℕ → ℕ → ℕ → ℕ
-scrolled_to h s m t b =
-    if nat_le (s + m) t && nat_lt b (s + h) then s
-    else if nat_le (h - m) (b - t) || nat_lt t (s + m) then t - m
-    else b - h
+-- the grid has the size of the screen
+pub record HasSize (kind : TerminalKind) (drawn : DrawnFrame) : Type 0 where
+  pub width : drawn.grid.width ≡ columns_of kind
+  pub height : length drawn.grid.rows ≡ rows_of kind
 
-abbrev pub scroll_to_span : ℕ → ℕ → ℕ → Option (ℕ × ℕ) → ℕ
-scroll_to_span h s m None = s
-scroll_to_span h s m (Some span) = scrolled_to h s m span.0 span.1
+module _ {S : Type 0} where
+  -- the rectangle that a map of boxes has for an id
+  abbrev pub rect_in : HashMap ComponentId DrawnRect S → ComponentId → Option Rect
+  rect_in boxes i = option_map (λ (d : DrawnRect). d.rect) (get same_id boxes i)
 
--- the scroll that brings a key onto the screen, if it was drawn
-abbrev pub scroll_to_key : Scene → ℕ → SelectionKey → ℕ
-scroll_to_key scene s key = scroll_to_span scene.height s (rows_above key) (scene.frame.span key)
+  -- rows of a screen of w columns and a map of boxes are the frame, on the screen's columns: the one place that says how
+  pub record IsFrame (w : ℕ) (frame : Frame) (rows : List Row) (boxes : HashMap ComponentId DrawnRect S) : Type 0 where
+    pub rows_are : rows ≡ frame.rows
+    -- what a point hits, of the boxes in the map, is its owner
+    pub owner : (y x : ℕ) → x < w → (o : Option ComponentId) → IsTargetOf same_id is_clickable boxes (pos y) (pos x) o → o ≡ frame.owner y x
+    -- the map has a box for each key that is drawn, on its rows
+    pub span : (key : SelectionKey) → option_map rows_of_box (rect_in boxes (ids.SelectableItem key)) ≡ frame.span key
+    -- and one for all that is drawn
+    pub extent : height_of_box (rect_in boxes ids.App) ≡ frame.extent
+
+-- what the code keeps of a drawing shows the scene
+pub record IsShown (scene : Scene) (drawn : DrawnFrame) : Type 0 where
+  pub width : drawn.grid.width ≡ scene.width
+  pub height : length drawn.grid.rows ≡ scene.height
+  pub frame : IsFrame scene.width scene.frame drawn.grid.rows drawn.boxes
+  pub open_menu : drawn.open_menu ≡ scene.open_menu

@@ -1,35 +1,14 @@
 -- A set of keys, as the list of its keys in ascending order: files, sections, lines, and by their numbers among them.
-use Rattle.std.specs.Prelude.{ℕ, Bool, true, false, ◌&&◌, List, [], ◌∷◌, nat_eq, fold, if◌then◌else◌}
+use Rattle.std.specs.Prelude.{Bool, List, [], ◌∷◌, fold, if◌then◌else◌}
 use Rattle.std.specs.declared.cmp.Ordering.{Ordering}
 use Rattle.std.specs.Ordering.{nat_cmp, match_ordering}
 use Rattle.std.specs.Cmp.Lexicographic.{pointwise, slice_cmp}
-use Rattle.std.specs.List.{list_any}
 use Rattle.scm_view.specs.declared.keys.SelectionKey.{SelectionKey}
-use Rattle.scm_view.specs.declared.keys.SelectionKey.TheVariants as keys
+pub use Rattle.scm_view.specs.Keys.{numbers_of, same_numbers, is_key, has_key}
 
--- the kind of a key and its numbers, which tell it from any other
-abbrev pub numbers_of : SelectionKey → List ℕ
-numbers_of keys.None = 0 ∷ []
-numbers_of (keys.File key) = 1 ∷ key.commit_idx ∷ key.file_idx ∷ []
-numbers_of (keys.Section key) = 2 ∷ key.commit_idx ∷ key.file_idx ∷ key.section_idx ∷ []
-numbers_of (keys.Line key) = 3 ∷ key.commit_idx ∷ key.file_idx ∷ key.section_idx ∷ key.line_idx ∷ []
-
+-- the order of keys: by their kinds, then by their numbers
 abbrev pub key_cmp : SelectionKey → SelectionKey → Ordering
 key_cmp a b = slice_cmp nat_cmp (numbers_of a) (numbers_of b)
-
-abbrev pub same_numbers : List ℕ → List ℕ → Bool
-same_numbers [] [] = true
-same_numbers [] (n ∷ ns) = false
-same_numbers (m ∷ ms) [] = false
-same_numbers (m ∷ ms) (n ∷ ns) = nat_eq m n && same_numbers ms ns
-
--- whether two keys are the same
-abbrev pub is_key : SelectionKey → SelectionKey → Bool
-is_key a b = same_numbers (numbers_of a) (numbers_of b)
-
--- whether the set has the key
-abbrev pub has_key : List SelectionKey → SelectionKey → Bool
-has_key set key = list_any (is_key key) set
 
 -- the set and the key
 abbrev pub with_key : List SelectionKey → SelectionKey → List SelectionKey

@@ -12,10 +12,26 @@ pub mod Counts
 pub mod Session
 -- what was drawn last, as a step asks it
 pub mod Frames
+-- what the steps ask of it
+pub mod Uses
+-- what an event leads to
+pub mod Change
+-- what the help and the quit dialog make of events
+pub mod Dialogs
+-- how a page is turned
+pub mod Pages
+-- what a click makes of a session
+pub mod Clicks
 -- what an event makes of a session: begin here
 pub mod Step
+-- the menus, and the events of their items
+pub mod Menus
+-- what is lent of the views that a frame draws
+pub mod Views
 -- what an input answers
 pub mod Script
+-- the event of each key, and of the mouse
+pub mod KeyTable
 -- the script of a testing input
 pub mod Testing
 -- the script of a script input
@@ -30,9 +46,11 @@ pub mod Coherence
 pub mod Keeping
 -- how a run ends
 pub mod Ending
+-- the headline, of runs
+pub mod Headline
 -- what the parts of a run say of the points that they reach
 pub mod Turn
--- what the fields of a recorder stand for
+-- what the fields of a selector stand for
 pub mod SessionView
 -- what the fields of a store stand for
 pub mod Stored

@@ -1,16 +1,18 @@
 -- Runs, as steps from point to point.
-use Rattle.std.specs.Prelude.{◌≡◌, ℕ, ◌+◌, List, [], ◌∷◌, Option, MatchOption, codes, if◌then◌else◌}
+use Rattle.std.specs.Prelude.{◌≡◌, ℕ, ◌+◌, nat_lt, List, [], ◌∷◌, length, Option, Some, MatchOption, codes, if◌then◌else◌}
 use Rattle.scm_types.specs.declared.error.RecordError.{RecordError}
+use Rattle.scm_types.specs.Edits.{modify}
 use Rattle.scm_types.specs.Fault.{Fault, Cancelled, Other, fault_of}
 use Rattle.scm_types.specs.Limits.{is_short_text}
 use Rattle.scm_record.specs.declared.events.Event.{Event}
 use Rattle.scm_record.specs.declared.inputs.TerminalKind.{TerminalKind}
-use Rattle.scm_record.specs.declared.recording.Flow.{Flow}
-use Rattle.scm_record.specs.declared.recording.Flow.TheVariants as flows
+use Rattle.scm_record.specs.declared.selector.Flow.{Flow}
+use Rattle.scm_record.specs.declared.selector.Flow.TheVariants as flows
 use Rattle.scm_record.specs.Script.{Read, Batch, BrokenRead, Edit, Answer, BrokenEdit, no_events_left, no_more}
 use Rattle.scm_record.specs.Store.{Store}
 use Rattle.scm_record.specs.Session.{Session, after_frame, with_message, without_pending}
-use Rattle.scm_record.specs.Frames.{scene_of}
+use Rattle.scm_record.specs.Frames.{Scene, scene_of}
+use Rattle.scm_record.specs.Uses.{shot_of}
 use Rattle.scm_record.specs.Step.{Change, change}
 
 -- what a run goes by: the screen, what is left of a script, and a store
@@ -46,6 +48,9 @@ with_reads w reads = record w { reads = reads }
 abbrev pub with_edits : World → List Edit → World
 with_edits w edits = record w { edits = edits }
 
+abbrev pub with_text : World → ℕ → List ℕ → World
+with_text w place text = record w { texts = modify (λ _. Some text) w.texts place }
+
 -- a frame is drawn, of what was cleared too
 abbrev pub with_frame_drawn : World → World
 with_frame_drawn w = record w { session = after_frame w.session; frames = w.frames + 1 }
@@ -64,11 +69,15 @@ pub data Point : Type 0 where
   Accepted : World → Point
   Failed : Fault → World → Point
 
-abbrev pub not_in_stage : Fault
-not_in_stage = Other (codes "event not in this stage")
+abbrev pub no_such_place : Fault
+no_such_place = Other (codes "no such screenshot place")
 
 abbrev pub too_long : Fault
 too_long = Other (codes "commit message too long")
+
+-- a text is kept at a place, if the store has it
+abbrev pub kept_at : World → ℕ → List ℕ → Outcome
+kept_at w place text = if nat_lt place (length w.texts) then Goes (with_text w place text) else Breaks no_such_place w
 
 -- the answer of an edit becomes the message of a commit
 abbrev pub answered : World → ℕ → Edit → Outcome
@@ -81,20 +90,24 @@ abbrev pub edited : World → ℕ → List Edit → Outcome
 edited w commit [] = answered (with_edits w []) commit no_more
 edited w commit (edit ∷ edits) = answered (with_edits w edits) commit edit
 
--- what follows in a world whose session the event has changed
-abbrev pub outcome_by : World → Flow → Outcome
-outcome_by w flows.GoOn = Goes w
-outcome_by w flows.Accept = Ends w
-outcome_by w flows.Cancel = Breaks Cancelled w
-outcome_by w (flows.Edit commit) = edited w commit w.edits
-outcome_by w flows.Lack = Breaks not_in_stage w
+-- what follows in a world whose session the event has changed: a screenshot is of the scene, or blank once the screen was cleared
+abbrev pub outcome_by : Scene → World → Flow → Outcome
+outcome_by scene w flows.GoOn = Goes w
+outcome_by scene w flows.Accept = Ends w
+outcome_by scene w flows.Cancel = Breaks Cancelled w
+outcome_by scene w (flows.Edit commit) = edited w commit w.edits
+outcome_by scene w (flows.Shoot place) = kept_at w place (shot_of scene w.session.cleared)
 
-abbrev pub changed : World → Change → Outcome
-changed w c = outcome_by (with_session w c.session) c.flow
+abbrev pub changed : Scene → World → Change → Outcome
+changed scene w c = outcome_by scene (with_session w c.session) c.flow
+
+-- an event in a scene
+abbrev pub step_in : Scene → World → Event → Outcome
+step_in scene w event = changed scene w (change scene w.session event)
 
 -- an event, with the session that was drawn last
 abbrev pub step : Session → World → Event → Outcome
-step drawn w event = changed w (change (scene_of w.kind drawn) w.session event)
+step drawn w event = step_in (scene_of w.kind drawn) w event
 
 abbrev pub resume : Session → List Event → Outcome → Point
 resume drawn rest (Goes w) = Within drawn w rest

@@ -1,13 +1,17 @@
 -- A session, as values: the state, what the user has selected, unfolded and opened, how far the screen is scrolled, whether it
 -- was cleared since the last frame, and what is pending. And what becomes of it by each thing that a user does to the document.
-use Rattle.std.specs.Prelude.{ℕ, Bool, true, false, ◌&&◌, List, [], ◌∷◌, ◌++◌, filter, Option, Some, None, option_and_then, slice_get, if◌then◌else◌}
+use Rattle.std.specs.Prelude.{ℕ, ◌==◌, ◌≤◌, IsTrue, Bool, true, false, ◌&&◌, List, [], ◌∷◌, ◌++◌, filter, Option, Some, None, option_and_then, slice_get, if◌then◌else◌}
 use Rattle.scm_types.specs.declared.state.Commit.{Commit}
 use Rattle.scm_types.specs.declared.file.File.{File}
 use Rattle.scm_types.specs.declared.state.RecordState.{RecordState}
 use Rattle.scm_types.specs.Edits.{modify}
+use Rattle.scm_types.specs.Limits.{is_accepted_state}
 use Rattle.scm_view.specs.declared.keys.SelectionKey.{SelectionKey}
 use Rattle.scm_view.specs.declared.keys.SelectionKey.TheVariants as keys
 use Rattle.scm_view.specs.declared.quit_dialog.QuitDialog.{QuitDialog}
+use Rattle.scm_view.specs.declared.commit_view.CommitViewMode.{CommitViewMode}
+use Rattle.scm_view.specs.declared.commit_view.CommitViewMode.TheVariants.{Inline, Adjacent}
+use Rattle.scm_view.specs.Shown.{Shown}
 use Rattle.scm_record.specs.declared.events.Event.{Event}
 use Rattle.scm_record.specs.declared.events.Event.TheVariants as events
 use Rattle.scm_record.specs.Keys.{all_keys, visible_keys, first_key, is_section, file_of, file_of_section, file_of_line, section_of_line}
@@ -19,10 +23,30 @@ pub record Session : Type 0 where
   pub state : RecordState
   pub selection : SelectionKey
   pub expanded : List SelectionKey
+  pub view_mode : CommitViewMode
+  pub open_menu : Option ℕ
   pub quit_dialog : Option QuitDialog
+  pub is_help_open : Bool
   pub scroll : ℕ
   pub cleared : Bool
   pub pending : List Event
+
+-- what the screen shows of it
+abbrev pub shown_of : Session → Shown
+shown_of s = record {
+  state = s.state;
+  selection = s.selection;
+  expanded = s.expanded;
+  view_mode = s.view_mode;
+  open_menu = s.open_menu;
+  quit_dialog = s.quit_dialog;
+  is_help_open = s.is_help_open;
+}
+
+-- a session that can be drawn: its state is within the limits, and the screen is not scrolled too far
+pub record IsDrawable (s : Session) : Type 0 where
+  pub accepted : IsTrue (is_accepted_state s.state)
+  pub scroll : s.scroll ≤ 2000000
 
 -- ---- the beginning
 
@@ -44,7 +68,10 @@ start state = record {
   state = padded_state state;
   selection = first_key state.files;
   expanded = key_set (filter is_section (all_keys state.files));
+  view_mode = Inline;
+  open_menu = None;
   quit_dialog = None;
+  is_help_open = false;
   scroll = 0;
   cleared = false;
   pending = [];
@@ -65,6 +92,33 @@ without_pending s = record s { pending = [] }
 
 abbrev pub with_dialog : Session → Option QuitDialog → Session
 with_dialog s dialog = record s { quit_dialog = dialog }
+
+abbrev pub with_help : Session → Bool → Session
+with_help s is_open = record s { is_help_open = is_open }
+
+abbrev pub with_menu : Session → Option ℕ → Session
+with_menu s menu = record s { open_menu = menu }
+
+-- the menu that is open after a click on the title of one: that one, or none where it is open
+abbrev pub menu_clicked : ℕ → Option ℕ → Option ℕ
+menu_clicked menu None = Some menu
+menu_clicked menu (Some other) = if menu == other then None else Some menu
+
+abbrev pub after_menu : Session → ℕ → Session
+after_menu s menu = with_menu s (menu_clicked menu s.open_menu)
+
+-- the menu is closed, and the event of its item is pending, if there is one
+abbrev pub after_item : Session → Option Event → Session
+after_item s None = with_menu s None
+after_item s (Some event) = with_pushed (with_menu s None) event
+
+-- the other of the two ways to show commits
+abbrev pub other_mode : CommitViewMode → CommitViewMode
+other_mode Inline = Adjacent
+other_mode Adjacent = Inline
+
+abbrev pub in_other_mode : Session → Session
+in_other_mode s = record s { view_mode = other_mode s.view_mode }
 
 abbrev pub with_scroll : Session → ℕ → Session
 with_scroll s scroll = record s { scroll = scroll }

@@ -1,12 +1,14 @@
 -- What the parts of a run say of the points that they reach.
-use Rattle.std.specs.Prelude.{◌≡◌, ℕ, List, None, MatchOption}
+use Rattle.std.specs.Prelude.{◌≡◌, ℕ, ◌+◌, ◌≤◌, List, None, MatchOption}
 use Rattle.scm_types.specs.declared.error.RecordError.{RecordError}
 use Rattle.scm_types.specs.Fault.{Fault, fault_of}
 use Rattle.scm_record.specs.declared.events.Event.{Event}
 use Rattle.scm_record.specs.declared.runs.Next.{Next}
 use Rattle.scm_record.specs.declared.runs.Next.TheVariants as nexts
+use Rattle.scm_record.specs.Frames.{Scene, scene_of}
+use Rattle.scm_record.specs.Store.{counted}
 use Rattle.scm_record.specs.Session.{Session}
-use Rattle.scm_record.specs.Run.{Setting, World, world_in, Outcome, Goes, Ends, Breaks, step, Point, Before, Within, Accepted, Failed, Reaches, Shows, Stops}
+use Rattle.scm_record.specs.Run.{Setting, World, world_in, Outcome, Goes, Ends, Breaks, step_in, Point, Before, Within, Accepted, Failed, Reaches, Shows, Stops}
 
 -- the outcome that stands for what comes next, in the world after it
 abbrev pub outcome_of : Next → World → Outcome
@@ -28,26 +30,36 @@ pub data Refuses (error : RecordError) (w : World) (outcome : Outcome) (v : Worl
   faulty : (fault : Fault) → outcome ≡ Breaks fault v → IsFault fault error → Refuses error w outcome v
   out_of_memory : fault_of error ≡ None → Shows v w → Refuses error w outcome v
 
--- an event leads from a session and a setting to the next ones, whatever was drawn last, after any number of frames
-abbrev pub Follows : Event → Next → Session → Setting → Session → Setting → Type 0
-Follows event next s a t b =
-    (drawn : Session) (frames : ℕ) → step drawn (world_in a s frames) event ≡ outcome_of next (world_in b t frames)
+-- an event leads from a session and a setting to the next ones, in any scene that is shown, after any number of frames
+abbrev pub Follows : (Scene → Type 0) → Event → Next → Session → Setting → Session → Setting → Type 0
+Follows IsSeen event next s a t b =
+    (scene : Scene) (frames : ℕ) → IsSeen scene → step_in scene (world_in a s frames) event ≡ outcome_of next (world_in b t frames)
 
 -- the error refuses an event
-abbrev pub Refused : Event → RecordError → Session → Setting → Session → Setting → Type 0
-Refused event error s a t b =
-    (drawn : Session) (frames : ℕ) → Refuses error (world_in a s frames) (step drawn (world_in a s frames) event) (world_in b t frames)
+abbrev pub Refused : (Scene → Type 0) → Event → RecordError → Session → Setting → Session → Setting → Type 0
+Refused IsSeen event error s a t b =
+    (scene : Scene) (frames : ℕ) → IsSeen scene
+    → Refuses error (world_in a s frames) (step_in scene (world_in a s frames) event) (world_in b t frames)
 
--- the events of a batch lead on
-abbrev pub Handles : List Event → Next → Session → Setting → Session → Setting → Type 0
-Handles events next s a t b =
-    (drawn : Session) (frames : ℕ) → Reaches (Within drawn (world_in a s frames) events) (point_of next (world_in b t frames))
+-- the events of a batch lead on, where the scene of the session last drawn is shown
+abbrev pub Handles : (Scene → Type 0) → List Event → Next → Session → Setting → Session → Setting → Type 0
+Handles IsSeen events next s a t b =
+    (drawn : Session) (frames : ℕ) → IsSeen (scene_of a.kind drawn)
+    → Reaches (Within drawn (world_in a s frames) events) (point_of next (world_in b t frames))
 
 -- the error ends the batch
-abbrev pub Ceases : List Event → RecordError → Session → Setting → Session → Setting → Type 0
-Ceases events error s a t b =
-    (drawn : Session) (frames : ℕ) → Stops error (Within drawn (world_in a s frames) events) (world_in b t frames)
+abbrev pub Ceases : (Scene → Type 0) → List Event → RecordError → Session → Setting → Session → Setting → Type 0
+Ceases IsSeen events error s a t b =
+    (drawn : Session) (frames : ℕ) → IsSeen (scene_of a.kind drawn)
+    → Stops error (Within drawn (world_in a s frames) events) (world_in b t frames)
 
 -- an error where a batch is due: that fault comes by the steps, or memory was refused and the script and the store are as before
 abbrev pub BatchStops : RecordError → Point → World → World → Type 0
 BatchStops error p old new = MatchOption (fault_of error) (Shows new old) (λ fault. p ≡ Failed fault new)
+
+-- the error ends a turn, in which at most one frame was drawn and counted
+pub record TurnStops (error : RecordError) (s : Session) (a : Setting) (t : Session) (b : Setting) : Type 0 where
+  pub drawn : ℕ
+  pub few : drawn ≤ 1
+  pub counted : b.store.frames ≡ counted drawn a.store.frames
+  pub stops : (frames : ℕ) → Stops error (Before (world_in a s frames)) (world_in b t (frames + drawn))

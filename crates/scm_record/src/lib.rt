@@ -4,19 +4,30 @@
 //! the crates below stand here too.
 #![tactic(auto)]
 
+mod commit_views;
 mod counts;
 pub mod events;
+mod file_views;
+mod folds;
+mod frame;
 pub mod helpers;
 pub mod inputs;
 mod key_lists;
 mod key_set;
+mod key_table;
+mod menus;
 mod moves;
+mod pages;
 mod parents;
 pub mod recording;
 mod runs;
 pub mod scripts;
+mod section_views;
+mod selector;
 pub mod store;
+pub mod terminal;
 pub mod toggles;
+mod views;
 
 pub use events::{Event, TestingScreenshot};
 pub use helpers::TestingInput;
@@ -37,3 +48,7 @@ pub use scm_view::{
 };
 pub use scripts::{ScriptEdit, ScriptInput, ScriptRead};
 pub use store::Screens;
+pub use terminal::{
+    KeyCode, KeyEvent, KeyEventKind, KeyModifiers, MouseButton, MouseEvent, MouseEventKind,
+    TerminalEvent,
+};

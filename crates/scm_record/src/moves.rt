@@ -14,7 +14,7 @@ pub(crate) fn is_key(key: SelectionKey, other: SelectionKey) -> bool
 }
 
 /// The place of a key in the list.
-fn position_of(list: &[SelectionKey], key: SelectionKey) -> Option<usize>
+pub(crate) fn position_of(list: &[SelectionKey], key: SelectionKey) -> Option<usize>
     ensures { result ≡ position (is_key key) list.now }
 {
     list.iter().position(|other| is_key(key, *other))

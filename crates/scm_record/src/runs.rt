@@ -1,21 +1,27 @@
 //! Runs: a session over an input, from its first frame to its end.
-ghost use Rattle.std.specs.Prelude.{◌≡◌, ℕ, ◌+◌, ◌≤◌, false, IfErr, IfOk, IsTrue, List, None, OnOk, Option, string_bytes};
+ghost use Rattle.std.specs.Prelude.{◌≡◌, ℕ, ◌+◌, false, IfErr, IfOk, IsTrue, None, OnErr, OnOk, string_bytes};
 ghost use Rattle.scm_types.specs.declared.error.RecordError.TheVariants.{OutOfMemory};
 ghost use Rattle.scm_types.specs.declared.state.RecordState.{RecordState};
 ghost use Rattle.scm_types.specs.Limits.{is_accepted_state, is_short_text};
 ghost use Rattle.scm_record.specs.declared.events.Event.{Event};
+ghost use Rattle.scm_record.specs.declared.inputs.TerminalKind.{TerminalKind};
 ghost use Rattle.scm_record.specs.Script.{TakesOr, edit_of, no_more};
-ghost use Rattle.scm_record.specs.Store.{Store, count_up};
-ghost use Rattle.scm_record.specs.Session.{Session, message_of, start};
-ghost use Rattle.scm_record.specs.Run.{Before, Within, Goes, World, batch, edited, not_in_stage, setting, too_long, world_in, HasOneEnd, Reaches, Stops};
-ghost use Rattle.scm_record.specs.Turn.{BatchStops, Ceases, Follows, Handles, IsFault, Refused, Refuses, point_of};
+ghost use Rattle.scm_record.specs.Store.{Store, count_up, with_frame};
+ghost use Rattle.scm_record.specs.Session.{IsDrawable, Session, after_frame, message_of, start};
+ghost use Rattle.scm_record.specs.Frames.{HasSize, IsShown, Scene, scene_of};
+ghost use Rattle.scm_record.specs.Uses.{shot_of};
+ghost use Rattle.scm_record.specs.Run.{Before, Within, Goes, World, batch, edited, kept_at, no_such_place, setting, too_long, world_in, HasOneEnd, Reaches, Stops};
+ghost use Rattle.scm_record.specs.Turn.{BatchStops, Ceases, Follows, Handles, IsFault, Refused, Refuses, TurnStops, point_of};
 ghost use Rattle.scm_record.specs.Ending.{EndsWith, FailsWith};
 ghost use Rattle.scm_record.specs.Keeping.{IsKept};
+ghost use Rattle.scm_record.specs.Headline.{Headline};
 ghost use Rattle.scm_record.specs.Coherence.{StepKeepsCoherent, is_toggle_all};
 
 use crate::events::Event;
+use crate::frame::DrawnFrame;
 use crate::inputs::RecordInput;
-use crate::recording::{Flow, Recorder};
+use crate::recording::Recorder;
+use crate::selector::{Flow, Selector};
 use crate::store::Screens;
 use scm_types::{RecordError, RecordState};
 use std::alloc::Global;
@@ -29,11 +35,11 @@ pub(crate) enum Next {
     Accept,
 }
 
-/// The fault of an event that can't be handled yet.
-fn event_not_in_stage(alloc: Global) -> RecordError
-    ensures { IsFault not_in_stage result }
+/// The fault of a screenshot to a place that the store lacks.
+fn no_such_place(alloc: Global) -> RecordError
+    ensures { IsFault no_such_place result }
 {
-    match String::from_str(alloc, "event not in this stage") {
+    match String::from_str(alloc, "no such screenshot place") {
         Ok(words) => RecordError::Other(words),
         Err(_) => RecordError::OutOfMemory,
     }
@@ -58,7 +64,7 @@ fn is_short(text: &String) -> bool
 
 /// Asks the input for the message of a commit.
 fn ask(
-    recorder: &Recorder<'_>,
+    selector: &Selector<'_>,
     input: &mut dyn RecordInput,
     commit: usize,
 ) -> Result<String, RecordError>
@@ -66,75 +72,107 @@ fn ask(
     ensures reads { reads input.new ≡ reads input.old }
     ensures kind { kind input.new ≡ kind input.old }
 {
-    input.edit_commit_message(recorder.message(commit))
+    input.edit_commit_message(selector.message(commit))
 }
 
 /// Gives a commit the message that the input answers.
 fn edit(
-    recorder: &mut Recorder<'_>,
+    selector: &mut Selector<'_>,
     input: &mut dyn RecordInput,
     commit: usize,
 ) -> Result<(), RecordError>
     ensures ok { OnOk result ((store : Store) (frames : ℕ) →
-        edited (world_in (setting (kind input.old) (reads input.old) (edits input.old) store) recorder.old frames) commit (edits input.old)
-        ≡ Goes (world_in (setting (kind input.new) (reads input.new) (edits input.new) store) recorder.new frames)) }
+        edited (world_in (setting (kind input.old) (reads input.old) (edits input.old) store) selector.old frames) commit (edits input.old)
+        ≡ Goes (world_in (setting (kind input.new) (reads input.new) (edits input.new) store) selector.new frames)) }
     ensures err { IfErr result (λ e. (store : Store) (frames : ℕ) →
-        Refuses e (world_in (setting (kind input.old) (reads input.old) (edits input.old) store) recorder.old frames)
-        (edited (world_in (setting (kind input.old) (reads input.old) (edits input.old) store) recorder.old frames) commit (edits input.old))
-        (world_in (setting (kind input.new) (reads input.new) (edits input.new) store) recorder.new frames)) }
+        Refuses e (world_in (setting (kind input.old) (reads input.old) (edits input.old) store) selector.old frames)
+        (edited (world_in (setting (kind input.old) (reads input.old) (edits input.old) store) selector.old frames) commit (edits input.old))
+        (world_in (setting (kind input.new) (reads input.new) (edits input.new) store) selector.new frames)) }
     ensures kind { kind input.new ≡ kind input.old }
 {
-    let text = ask(recorder, input, commit)?;
+    let text = ask(selector, input, commit)?;
     if is_short(&text) {
-        recorder.set_message(commit, text);
+        selector.set_message(commit, text);
         Ok(())
     } else {
-        Err(too_long(recorder.allocator()))
+        Err(too_long(selector.allocator()))
+    }
+}
+
+/// Keeps the screen at a place of the store.
+fn shoot(
+    selector: &Selector<'_>,
+    frame: &DrawnFrame,
+    screens: &mut Screens,
+    place: usize,
+) -> Result<(), RecordError>
+    ensures ok { OnOk result ((scene : Scene) (w : World) → IsShown scene frame.now → w.texts ≡ screens.old.texts →
+        kept_at w place (shot_of scene selector.now.cleared) ≡ Goes (record w { texts = screens.new.texts })) }
+    ensures err { IfErr result (λ e. (scene : Scene) (w : World) → w.texts ≡ screens.old.texts →
+        Refuses e w (kept_at w place (shot_of scene selector.now.cleared)) w) }
+    ensures unchanged { OnErr result (screens.new ≡ screens.old) }
+    ensures counted { screens.new.frames ≡ screens.old.frames }
+{
+    if screens.has_place(place) {
+        let text = frame.text(selector.allocator(), selector.is_cleared())?;
+        screens.keep(place, text);
+        Ok(())
+    } else {
+        Err(no_such_place(selector.allocator()))
     }
 }
 
 /// Handles one event.
 fn handle(
-    recorder: &mut Recorder<'_>,
+    selector: &mut Selector<'_>,
+    frame: &DrawnFrame,
     input: &mut dyn RecordInput,
+    screens: &mut Screens,
     event: Event,
 ) -> Result<Next, RecordError>
-    ensures ok { IfOk result (λ next. (store : Store) → Follows event next
-        recorder.old (setting (kind input.old) (reads input.old) (edits input.old) store)
-        recorder.new (setting (kind input.new) (reads input.new) (edits input.new) store)) }
-    ensures err { IfErr result (λ e. (store : Store) → Refused event e
-        recorder.old (setting (kind input.old) (reads input.old) (edits input.old) store)
-        recorder.new (setting (kind input.new) (reads input.new) (edits input.new) store)) }
+    ensures ok { IfOk result (λ next. Follows (λ scene. IsShown scene frame.now) event next
+        selector.old (setting (kind input.old) (reads input.old) (edits input.old) screens.old)
+        selector.new (setting (kind input.new) (reads input.new) (edits input.new) screens.new)) }
+    ensures err { IfErr result (λ e. Refused (λ scene. IsShown scene frame.now) event e
+        selector.old (setting (kind input.old) (reads input.old) (edits input.old) screens.old)
+        selector.new (setting (kind input.new) (reads input.new) (edits input.new) screens.new)) }
+    ensures counted { screens.new.frames ≡ screens.old.frames }
     ensures kind { kind input.new ≡ kind input.old }
 {
-    match recorder.change(event)? {
+    match selector.change(frame, event)? {
         Flow::GoOn => Ok(Next::GoOn),
         Flow::Accept => Ok(Next::Accept),
         Flow::Cancel => Err(RecordError::Cancelled),
         Flow::Edit(commit) => {
-            edit(recorder, input, commit)?;
+            edit(selector, input, commit)?;
             Ok(Next::GoOn)
         }
-        Flow::Lack => Err(event_not_in_stage(recorder.allocator())),
+        Flow::Shoot(place) => {
+            shoot(selector, frame, screens, place)?;
+            Ok(Next::GoOn)
+        }
     }
 }
 
 /// Handles the events of a batch, up to one that ends the run.
 fn handle_all(
-    recorder: &mut Recorder<'_>,
+    selector: &mut Selector<'_>,
+    frame: &DrawnFrame,
     input: &mut dyn RecordInput,
+    screens: &mut Screens,
     events: &[Event],
 ) -> Result<Next, RecordError>
-    ensures ok { IfOk result (λ next. (store : Store) → Handles events.now next
-        recorder.old (setting (kind input.old) (reads input.old) (edits input.old) store)
-        recorder.new (setting (kind input.new) (reads input.new) (edits input.new) store)) }
-    ensures err { IfErr result (λ e. (store : Store) → Ceases events.now e
-        recorder.old (setting (kind input.old) (reads input.old) (edits input.old) store)
-        recorder.new (setting (kind input.new) (reads input.new) (edits input.new) store)) }
+    ensures ok { IfOk result (λ next. Handles (λ scene. IsShown scene frame.now) events.now next
+        selector.old (setting (kind input.old) (reads input.old) (edits input.old) screens.old)
+        selector.new (setting (kind input.new) (reads input.new) (edits input.new) screens.new)) }
+    ensures err { IfErr result (λ e. Ceases (λ scene. IsShown scene frame.now) events.now e
+        selector.old (setting (kind input.old) (reads input.old) (edits input.old) screens.old)
+        selector.new (setting (kind input.new) (reads input.new) (edits input.new) screens.new)) }
+    ensures counted { screens.new.frames ≡ screens.old.frames }
     ensures kind { kind input.new ≡ kind input.old }
 {
     for event in events {
-        match handle(recorder, input, *event)? {
+        match handle(selector, frame, input, screens, *event)? {
             Next::GoOn => {}
             Next::Accept => return Ok(Next::Accept),
         }
@@ -144,69 +182,95 @@ fn handle_all(
 
 /// The next batch: all pending events, or the next read.
 fn next_batch(
-    recorder: &mut Recorder<'_>,
+    selector: &mut Selector<'_>,
     input: &mut dyn RecordInput,
 ) -> Result<Vec<Event>, RecordError>
     ensures ok { IfOk result (λ events. (store : Store) (frames : ℕ) →
-        batch (world_in (setting (kind input.old) (reads input.old) (edits input.old) store) recorder.old frames) recorder.old.pending
-        ≡ Within recorder.old (world_in (setting (kind input.old) (reads input.new) (edits input.new) store) recorder.new frames) events.items) }
+        batch (world_in (setting (kind input.old) (reads input.old) (edits input.old) store) selector.old frames) selector.old.pending
+        ≡ Within selector.old (world_in (setting (kind input.old) (reads input.new) (edits input.new) store) selector.new frames) events.items) }
     ensures err { IfErr result (λ e. (store : Store) (frames : ℕ) →
-        BatchStops e (batch (world_in (setting (kind input.old) (reads input.old) (edits input.old) store) recorder.old frames) recorder.old.pending)
-        (world_in (setting (kind input.old) (reads input.old) (edits input.old) store) recorder.old frames)
-        (world_in (setting (kind input.old) (reads input.new) (edits input.new) store) recorder.new frames)) }
+        BatchStops e (batch (world_in (setting (kind input.old) (reads input.old) (edits input.old) store) selector.old frames) selector.old.pending)
+        (world_in (setting (kind input.old) (reads input.old) (edits input.old) store) selector.old frames)
+        (world_in (setting (kind input.old) (reads input.new) (edits input.new) store) selector.new frames)) }
     ensures kind { kind input.new ≡ kind input.old }
 {
-    if recorder.has_pending() {
-        return Ok(recorder.take_pending());
+    if selector.has_pending() {
+        return Ok(selector.take_pending());
     }
     if input.batches_left() == 0 {
-        let words = String::from_str(recorder.allocator(), "no events left")?;
+        let words = String::from_str(selector.allocator(), "no events left")?;
         return Err(RecordError::ReadInput(words));
     }
     input.next_events()
 }
 
+/// Draws the session over what was drawn before, and counts the frame.
+fn draw(
+    selector: &mut Selector<'_>,
+    frame: &mut DrawnFrame,
+    screens: &mut Screens,
+) -> Result<(), RecordError>
+    requires drawable { IsDrawable selector.now }
+    ensures shown { OnOk result ((kind : TerminalKind) → HasSize kind frame.old → IsShown (scene_of kind selector.new) frame.new) }
+    ensures drawn { OnOk result (selector.new ≡ after_frame selector.old) }
+    ensures counted { OnOk result (screens.new ≡ with_frame screens.old) }
+    ensures err { IfErr result (λ e. e ≡ OutOfMemory) }
+    ensures unchanged { OnErr result (screens.new ≡ screens.old) }
+    ensures size { (kind : TerminalKind) → HasSize kind frame.old → HasSize kind frame.new }
+{
+    frame.draw(selector.allocator(), &selector.showing(), selector.scroll())?;
+    selector.begin_frame();
+    screens.add_frame();
+    Ok(())
+}
+
 /// One turn: a frame, and a batch.
 fn turn(
-    recorder: &mut Recorder<'_>,
+    selector: &mut Selector<'_>,
+    frame: &mut DrawnFrame,
     input: &mut dyn RecordInput,
     screens: &mut Screens,
 ) -> Result<Next, RecordError>
+    requires drawable { IsDrawable selector.now }
+    requires sized { HasSize (kind input.now) frame.now }
     ensures ok { IfOk result (λ next. (frames : ℕ) →
-        Reaches (Before (world_in (setting (kind input.old) (reads input.old) (edits input.old) screens.old) recorder.old frames))
-        (point_of next (world_in (setting (kind input.new) (reads input.new) (edits input.new) screens.new) recorder.new (frames + 1)))) }
-    ensures err { IfErr result (λ e. (frames : ℕ) →
-        Stops e (Before (world_in (setting (kind input.old) (reads input.old) (edits input.old) screens.old) recorder.old frames))
-        (world_in (setting (kind input.new) (reads input.new) (edits input.new) screens.new) recorder.new (frames + 1))) }
-    ensures counted { screens.new.frames ≡ count_up screens.old.frames }
+        Reaches (Before (world_in (setting (kind input.old) (reads input.old) (edits input.old) screens.old) selector.old frames))
+        (point_of next (world_in (setting (kind input.new) (reads input.new) (edits input.new) screens.new) selector.new (frames + 1)))) }
+    ensures counted { OnOk result (screens.new.frames ≡ count_up screens.old.frames) }
+    ensures err { IfErr result (λ e. TurnStops e
+        selector.old (setting (kind input.old) (reads input.old) (edits input.old) screens.old)
+        selector.new (setting (kind input.new) (reads input.new) (edits input.new) screens.new)) }
+    ensures size { (kind : TerminalKind) → HasSize kind frame.old → HasSize kind frame.new }
     ensures kind { kind input.new ≡ kind input.old }
 {
-    screens.add_frame();
-    recorder.begin_frame();
-    let batch = next_batch(recorder, input)?;
-    let next = handle_all(recorder, input, &batch)?;
+    draw(selector, frame, screens)?;
+    let batch = next_batch(selector, input)?;
+    let next = handle_all(selector, frame, input, screens, &batch)?;
     Ok(next)
 }
 
 /// Turn after turn, until the user accepts or the run fails.
 fn run_to_end(
-    recorder: &mut Recorder<'_>,
+    selector: &mut Selector<'_>,
+    frame: &mut DrawnFrame,
     input: &mut dyn RecordInput,
     screens: &mut Screens,
 ) -> Result<(), RecordError>
+    requires drawable { IsDrawable selector.now }
+    requires sized { HasSize (kind input.now) frame.now }
     ensures ok { OnOk result (
-        EndsWith recorder.old
+        EndsWith selector.old
         (setting (kind input.old) (reads input.old) (edits input.old) screens.old)
         (setting (kind input.new) (reads input.new) (edits input.new) screens.new)
-        recorder.new.state) }
+        selector.new.state) }
     ensures err { IfErr result (λ e.
-        FailsWith recorder.old
+        FailsWith selector.old
         (setting (kind input.old) (reads input.old) (edits input.old) screens.old)
         (setting (kind input.new) (reads input.new) (edits input.new) screens.new) e) }
     ensures kind { kind input.new ≡ kind input.old }
 {
     loop {
-        match turn(recorder, input, screens)? {
+        match turn(selector, frame, input, screens)? {
             Next::GoOn => {}
             Next::Accept => return Ok(()),
         }
@@ -219,11 +283,11 @@ impl<'state> Recorder<'state> {
     /// In turns a frame is drawn, and then all pending events are handled in order, or those of
     /// the next read where none is pending. A fault ends the run at once: `Cancelled` where the
     /// user gives up, the input's own fault, `ReadInput("no events left")` where a read is due and
-    /// none is left, `Other("commit message too long")` for an answer of more than 1,000,000 bytes,
-    /// `Other("event not in this stage")`, or `OutOfMemory`. The state is then gone, and the store
-    /// keeps the screens taken.
+    /// none is left, `Other("no such screenshot place")` where the store lacks the place of a
+    /// screenshot, `Other("commit message too long")` for an answer of more than 1,000,000 bytes,
+    /// or `OutOfMemory`. The state is then gone, and the store keeps the screens taken.
     pub fn run(
-        mut self,
+        self,
         input: &mut dyn RecordInput,
         screens: &mut Screens,
     ) -> Result<RecordState<'state>, RecordError>
@@ -243,13 +307,19 @@ impl<'state> Recorder<'state> {
         ensures kept { IfOk result (λ state. (given : RecordState) →
             IsTrue (is_accepted_state given) → self.entry ≡ start given → IsKept given state) }
         // without a message to edit no edit is taken
-        ensures unedited { message_of self.entry 0 ≡ None → edits input.new ≡ edits input.old }
+        ensures unedited { ((commit : ℕ) → message_of self.entry commit ≡ None) → edits input.new ≡ edits input.old }
         // what each event but `ToggleAll` keeps
         ensures coherent { (drawn : Session) (w : World) (event : Event) → is_toggle_all event ≡ false →
             StepKeepsCoherent drawn w event }
+        // what the screens show, what clicks act on, and when a run is accepted
+        ensures headline { Headline self.entry
+            (setting (kind input.old) (reads input.old) (edits input.old) screens.old)
+            (setting (kind input.new) (reads input.new) (edits input.new) screens.new) result }
         ensures kind { kind input.new ≡ kind input.old }
     {
-        run_to_end(&mut self, input, screens)?;
-        Ok(self.into_state())
+        let mut selector = self.into_selector();
+        let mut frame = DrawnFrame::new(selector.allocator(), input.terminal_kind())?;
+        run_to_end(&mut selector, &mut frame, input, screens)?;
+        Ok(selector.into_state())
     }
 }

@@ -1,5 +1,6 @@
 //! The store of screens.
-ghost use Rattle.std.specs.Prelude.{◌≡◌};
+ghost use Rattle.std.specs.Prelude.{◌≡◌, Some, map, option_map, string_bytes};
+ghost use Rattle.scm_types.specs.Edits.{modify};
 
 use crate::events::TestingScreenshot;
 use scm_types::RecordError;
@@ -24,9 +25,9 @@ impl Model for Screens {
 }
 
 impl Screens {
-    ghost use Rattle.std.specs.Prelude.{◌≡◌, length, IfErr, IfOk, OnErr, OnOk, []};
+    ghost use Rattle.std.specs.Prelude.{◌≡◌, length, nat_lt, string_bytes, IfErr, IfOk, OnErr, OnOk, []};
     ghost use Rattle.scm_types.specs.declared.error.RecordError.TheVariants.{OutOfMemory};
-    ghost use Rattle.scm_record.specs.Store.{Store, text_at, with_place, with_frame};
+    ghost use Rattle.scm_record.specs.Store.{Store, text_at, with_place, with_frame, with_text_at};
 
     /// A store without places and frames.
     pub fn new(alloc: Global) -> Screens
@@ -67,10 +68,34 @@ impl Screens {
         self.frames
     }
 
+    /// Whether there is such a place.
+    pub(crate) fn has_place(&self, place: usize) -> bool
+        ensures { result ≡ nat_lt place (length self.now.texts) }
+    {
+        place < self.texts.len()
+    }
+
+    /// Keeps a screen at a place, if there is one.
+    pub(crate) fn keep(&mut self, place: usize, text: String)
+        ensures { self.new ≡ with_text_at self.old place (string_bytes text) }
+    {
+        put_at(&mut self.texts, place, text);
+    }
+
     /// Counts a frame.
     pub(crate) fn add_frame(&mut self)
         ensures { self.new ≡ with_frame self.old }
     {
         self.frames = self.frames.saturating_add(1);
+    }
+}
+
+/// Puts a text at a place, if there is one.
+fn put_at(texts: &mut Vec<Option<String>>, place: usize, text: String)
+    ensures { map (λ t. option_map string_bytes t) texts.new.items
+        ≡ modify (λ _. Some (string_bytes text)) (map (λ t. option_map string_bytes t) texts.old.items) place }
+{
+    if place < texts.len() {
+        texts[place] = Some(text);
     }
 }

@@ -1,20 +1,33 @@
-use Rattle.std.proofs.Common.{◌+◌}
+use Rattle.std.proofs.Common.{◌+◌, ap, ◌∙◌, refl}
 use Rattle.std.proofs.lemmas.Result.{err_from_is_err_and}
+use Rattle.scm_record.specs.Frames.{Scene, IsShown}
+use Rattle.scm_record.specs.Store.{Store}
 use Rattle.scm_record.specs.Run.{setting}
-use Rattle.scm_record.proofs.RunLemmas.{no_batch-stops, turn-goes, turn-ceases}
+use Rattle.scm_record.proofs.RunLemmas.{undrawn-turn, drawn-turn, no_batch-stops, turn-goes, turn-ceases}
 use Rattle.scm_record.proofs.runs.turn.Goals as goal
+
+pub returns-in_err-draw-clause-err : goal.returns-in_err-draw-clause-err
+returns-in_err-draw-clause-err g c =
+    let p = err_from_is_err_and c.from_residual.result c.from_residual.ensures.1 in
+    let before = (goal.RecordInput-dyn g c.args.input.now) in
+    let a = setting (before.kind c.args.input.now.1) (before.reads c.args.input.now.1) (before.edits c.args.input.now.1) c.args.screens.now in
+    rw (p.1, p.2)
+    (undrawn-turn c.in_err-draw.field-0.0 a c.args.selector.now c.draw.new.selector c.draw.new.screens c.in_err-draw.ensures.err c.in_err-draw.ensures.unchanged)
 
 pub returns-in_err-batch-clause-err : goal.returns-in_err-batch-clause-err
 returns-in_err-batch-clause-err g c =
-    let p = err_from_is_err_and c.from_residual.result c.from_residual.ensures.1 in
+    let p = err_from_is_err_and c.from_residual-in_err-batch.result c.from_residual-in_err-batch.ensures.1 in
     let before = (goal.RecordInput-dyn g c.args.input.now) in
     let a = setting (before.kind c.args.input.now.1) (before.reads c.args.input.now.1) (before.edits c.args.input.now.1) c.args.screens.now in
     let read = (goal.RecordInput-dyn g (c.args.input.now.0, c.next_batch.new.input)) in
     let kind = read.kind c.next_batch.new.input in
     let reads = read.reads c.next_batch.new.input in
     let edits = read.edits c.next_batch.new.input in
+    let store = c.draw.new.screens in
+    let s = c.args.selector.now in
     rw (p.1, p.2)
-    (λ frames. no_batch-stops a c.args.recorder.now c.begin_frame.new.self frames c.add_frame.new.self c.begin_frame.ensures c.add_frame.ensures c.in_err-batch.field-0.0 kind reads edits c.next_batch.new.recorder c.in_err-batch.ensures.kind (c.in_err-batch.ensures.err c.args.screens.now (frames + 1)))
+    (drawn-turn c.in_err-batch.field-0.0 s c.next_batch.new.selector a (setting kind reads edits store) store c.in_ok-draw.ensures.counted refl
+    (λ frames. no_batch-stops a s c.draw.new.selector frames store c.in_ok-draw.ensures.drawn c.in_ok-draw.ensures.counted c.in_err-batch.field-0.0 kind reads edits c.next_batch.new.selector c.in_err-batch.ensures.kind (c.in_err-batch.ensures.err c.args.screens.now (frames + 1))))
 
 pub returns-clause-ok : goal.returns-clause-ok
 returns-clause-ok g c =
@@ -24,11 +37,16 @@ returns-clause-ok g c =
     let kind = read.kind c.next_batch.new.input in
     let reads = read.reads c.next_batch.new.input in
     let edits = read.edits c.next_batch.new.input in
+    let store = c.draw.new.screens in
+    let s = c.args.selector.now in
     let after = (goal.RecordInput-dyn g (c.args.input.now.0, c.handle_all.new.input)) in
-    let b = setting (after.kind c.handle_all.new.input) (after.reads c.handle_all.new.input) (after.edits c.handle_all.new.input) c.add_frame.new.self in
+    let b = setting (after.kind c.handle_all.new.input) (after.reads c.handle_all.new.input) (after.edits c.handle_all.new.input) c.handle_all.new.screens in
     λ frames.
-    turn-goes a c.args.recorder.now c.begin_frame.new.self c.next_batch.new.recorder frames kind reads edits c.add_frame.new.self c.in_ok-batch.batch.items c.begin_frame.ensures c.add_frame.ensures c.in_ok-batch.ensures.kind (c.in_ok-batch.ensures.ok c.args.screens.now (frames + 1))
-    c.deref.result.now c.in_ok-next.next c.handle_all.new.recorder b c.deref.ensures.value (c.in_ok-next.ensures.ok c.add_frame.new.self)
+    turn-goes a s c.draw.new.selector c.next_batch.new.selector frames kind reads edits store c.in_ok-batch.batch.items c.in_ok-draw.ensures.drawn c.in_ok-draw.ensures.counted c.in_ok-batch.ensures.kind (c.in_ok-batch.ensures.ok c.args.screens.now (frames + 1))
+    (λ (scene : Scene). IsShown scene c.draw.new.frame) c.deref.result.now c.in_ok-next.next c.handle_all.new.selector b c.deref.ensures.value (c.in_ok-draw.ensures.shown _ c.requires.sized) c.in_ok-next.ensures.ok
+
+pub returns-clause-counted : goal.returns-clause-counted
+returns-clause-counted g c = c.in_ok-next.ensures.counted ∙ ap (λ (y : Store). y.frames) c.in_ok-draw.ensures.counted
 
 pub returns-in_err-next-clause-err : goal.returns-in_err-next-clause-err
 returns-in_err-next-clause-err g c =
@@ -39,9 +57,12 @@ returns-in_err-next-clause-err g c =
     let kind = read.kind c.next_batch.new.input in
     let reads = read.reads c.next_batch.new.input in
     let edits = read.edits c.next_batch.new.input in
+    let store = c.draw.new.screens in
+    let s = c.args.selector.now in
     let after = (goal.RecordInput-dyn g (c.args.input.now.0, c.handle_all.new.input)) in
-    let b = setting (after.kind c.handle_all.new.input) (after.reads c.handle_all.new.input) (after.edits c.handle_all.new.input) c.add_frame.new.self in
+    let b = setting (after.kind c.handle_all.new.input) (after.reads c.handle_all.new.input) (after.edits c.handle_all.new.input) c.handle_all.new.screens in
     rw (p.1, p.2)
+    (drawn-turn c.in_err-next.field-0.0 s c.handle_all.new.selector a b store c.in_ok-draw.ensures.counted c.in_err-next.ensures.counted
     (λ frames.
-    turn-ceases a c.args.recorder.now c.begin_frame.new.self c.next_batch.new.recorder frames kind reads edits c.add_frame.new.self c.in_ok-batch.batch.items c.begin_frame.ensures c.add_frame.ensures c.in_ok-batch.ensures.kind (c.in_ok-batch.ensures.ok c.args.screens.now (frames + 1))
-    c.deref.result.now c.in_err-next.field-0.0 c.handle_all.new.recorder b c.deref.ensures.value (c.in_err-next.ensures.err c.add_frame.new.self))
+    turn-ceases a s c.draw.new.selector c.next_batch.new.selector frames kind reads edits store c.in_ok-batch.batch.items c.in_ok-draw.ensures.drawn c.in_ok-draw.ensures.counted c.in_ok-batch.ensures.kind (c.in_ok-batch.ensures.ok c.args.screens.now (frames + 1))
+    (λ (scene : Scene). IsShown scene c.draw.new.frame) c.deref.result.now c.in_err-next.field-0.0 c.handle_all.new.selector b c.deref.ensures.value (c.in_ok-draw.ensures.shown _ c.requires.sized) c.in_err-next.ensures.err))

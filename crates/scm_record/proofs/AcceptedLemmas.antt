@@ -1,0 +1,152 @@
+-- A session that can be drawn stays so: marks and short messages leave a state within the limits, and the scroll is held.
+use Rattle.std.proofs.Common.{◌≡◌, ℕ, zero, suc, ◌+◌, ◌≤◌, ◌&&◌, Bool, true, false, not, List, [], ◌∷◌, length, map, fold, cond, sym, ap, ◌∙◌, refl, subst}
+use Rattle.std.specs.Prelude.{IsTrue, nat_le, sum_by}
+use Rattle.std.specs.List.{list_all}
+use Rattle.std.proofs.lemmas.Bool.{and_parts}
+use Rattle.scm_types.specs.declared.line.SectionChangedLine.{SectionChangedLine}
+use Rattle.scm_types.specs.declared.section.Section.{Section}
+use Rattle.scm_types.specs.declared.section.Section.TheVariants as sections
+use Rattle.scm_types.specs.declared.file.File.{File}
+use Rattle.scm_types.specs.declared.state.Commit.{Commit}
+use Rattle.scm_types.specs.declared.state.RecordState.{RecordState}
+use Rattle.scm_types.specs.Edits.{modify}
+use Rattle.scm_types.specs.Limits.{max_items, section_size, file_size, is_short_text, is_short_option, has_short_texts, has_short_texts_in_file, is_accepted_state}
+use Rattle.scm_types.specs.Marks.{line_with_mark, section_with_marks, file_with_marks}
+use Rattle.scm_types.proofs.EditLemmas.{length-modify}
+use Rattle.scm_record.specs.declared.events.Event.{Event}
+use Rattle.scm_record.specs.declared.selector.Flow.{Flow}
+use Rattle.scm_record.specs.Toggle.{with_key_toggled, with_all_set}
+use Rattle.scm_record.specs.Session.{Session, IsDrawable, with_message, commit_saying}
+use Rattle.scm_record.specs.Frames.{Scene}
+use Rattle.scm_record.specs.Uses.{max_scroll}
+use Rattle.scm_record.specs.Step.{change}
+use Rattle.scm_record.proofs.KeepingLemmas.{toggle-hidden, marked-hidden}
+use Rattle.scm_record.proofs.StepLemmas as steps
+use Rattle.scm_record.proofs.StepLemmas.{Marks, toggled, inverted, all_set, Scrolls, unscrolled, scrolled, leads}
+
+-- ---- lists in which what counts is as before
+
+length-same : {A B : Type 0} (v : A → B) (xs : List A) → length (map v xs) ≡ length xs
+length-same v [] = refl
+length-same v (x ∷ xs) = ap suc (length-same v xs)
+
+fold-same : {A B : Type 0} (g : B → A → B) (v : A → A) → ((b : B) (x : A) → g b (v x) ≡ g b x) → (b : B) (xs : List A) → fold g b (map v xs) ≡ fold g b xs
+fold-same g v same b [] = refl
+fold-same g v same b (x ∷ xs) = fold-same g v same (g b (v x)) xs ∙ ap (λ c. fold g c xs) (same b x)
+
+sum-same : {A : Type 0} (size : A → ℕ) (v : A → A) → ((x : A) → size (v x) ≡ size x) → (xs : List A) → sum_by size (map v xs) ≡ sum_by size xs
+sum-same size v same xs = fold-same (λ n x. n + size x) v (λ n x. ap (λ m. n + m) (same x)) 0 xs
+
+all-same : {A : Type 0} (p : A → Bool) (v : A → A) → ((x : A) → p (v x) ≡ p x) → (xs : List A) → list_all p (map v xs) ≡ list_all p xs
+all-same p v same [] = refl
+all-same p v same (x ∷ xs) = ap (λ b. b && list_all p (map v xs)) (same x) ∙ ap (λ b. p x && b) (all-same p v same xs)
+
+-- ---- marks
+
+-- how many files, sections and lines there are
+abbrev count : List File → ℕ
+count files = length files + sum_by file_size files
+
+abbrev are_short : List File → Bool
+are_short files = list_all has_short_texts_in_file files
+
+module _ (f : Bool → Bool) where
+  size-section : (s : Section) → section_size (section_with_marks f s) ≡ section_size s
+  size-section (sections.Unchanged lines) = refl
+  size-section (sections.Changed lines) = length-same (line_with_mark f) lines
+  size-section (sections.FileMode is_checked mode) = refl
+  size-section (sections.Binary is_checked old new) = refl
+
+  short-section : (s : Section) → has_short_texts (section_with_marks f s) ≡ has_short_texts s
+  short-section (sections.Unchanged lines) = refl
+  short-section (sections.Changed lines) = all-same (λ (l : SectionChangedLine). is_short_text l.line) (line_with_mark f) (λ l. refl) lines
+  short-section (sections.FileMode is_checked mode) = refl
+  short-section (sections.Binary is_checked old new) = refl
+
+  size-file : (file : File) → file_size (file_with_marks f file) ≡ file_size file
+  size-file file =
+      ap (λ n. n + sum_by section_size (map (section_with_marks f) file.sections)) (length-same (section_with_marks f) file.sections)
+      ∙ ap (λ n. length file.sections + n) (sum-same section_size (section_with_marks f) size-section file.sections)
+
+  short-file : (file : File) → has_short_texts_in_file (file_with_marks f file) ≡ has_short_texts_in_file file
+  short-file file =
+      ap (λ b. is_short_option file.old_path && is_short_text file.path && b) (all-same has_short_texts (section_with_marks f) short-section file.sections)
+
+  count-marked : (files : List File) → count (map (file_with_marks f) files) ≡ count files
+  count-marked files =
+      ap (λ n. n + sum_by file_size (map (file_with_marks f) files)) (length-same (file_with_marks f) files)
+      ∙ ap (λ n. length files + n) (sum-same file_size (file_with_marks f) size-file files)
+
+  short-marked : (files : List File) → are_short (map (file_with_marks f) files) ≡ are_short files
+  short-marked files = all-same has_short_texts_in_file (file_with_marks f) short-file files
+
+-- whether a state with these commits, so many items and short texts is accepted
+abbrev is_within : List Commit → ℕ → Bool → Bool
+is_within commits n short =
+    nat_le (length commits) 2
+    && list_all (λ (c : Commit). is_short_option c.message) commits
+    && nat_le n max_items
+    && short
+
+-- files that differ in marks alone
+abbrev AreMarked : List File → List File → Type 0
+AreMarked new old = map (file_with_marks (λ _. false)) new ≡ map (file_with_marks (λ _. false)) old
+
+within-same : (commits : List Commit) (new old : List File) → AreMarked new old → is_within commits (count new) (are_short new) ≡ is_within commits (count old) (are_short old)
+within-same commits new old e =
+    let counts : count new ≡ count old = sym (count-marked (λ _. false) new) ∙ ap count e ∙ count-marked (λ _. false) old in
+    let shorts : are_short new ≡ are_short old = sym (short-marked (λ _. false) new) ∙ ap are_short e ∙ short-marked (λ _. false) old in
+    ap (λ n. is_within commits n (are_short new)) counts ∙ ap (λ b. is_within commits (count old) b) shorts
+
+accepted-marked : (state : RecordState) (files : List File) → AreMarked files state.files → IsTrue (is_accepted_state state) → IsTrue (is_accepted_state (record state { files = files }))
+accepted-marked state files e h = subst (λ (b : Bool). IsTrue b) (sym (within-same state.commits files state.files e)) h
+
+accepted-changed : (read_only : Bool) (s : Session) (f : List File → List File) → AreMarked (f s.state.files) s.state.files → IsTrue (is_accepted_state s.state) → IsTrue (is_accepted_state (cond read_only s (record s { state = record s.state { files = f s.state.files } })).state)
+accepted-changed true s f e h = h
+accepted-changed false s f e h = accepted-marked s.state (f s.state.files) e h
+
+marks-accepted : (event : Event) (s : Session) (state : RecordState) (flow : Flow) → Marks event s state flow → IsTrue (is_accepted_state s.state) → IsTrue (is_accepted_state state)
+marks-accepted event s _ _ (steps.unmarked allowed) h = h
+marks-accepted event s _ _ toggled h = accepted-changed s.state.is_read_only s (with_key_toggled s.selection) (toggle-hidden s.selection s.state.files) h
+marks-accepted event s _ _ (inverted is) h = accepted-changed s.state.is_read_only s (map (file_with_marks not)) (marked-hidden not s.state.files) h
+marks-accepted event s _ _ all_set h = accepted-changed s.state.is_read_only s with_all_set (marked-hidden _ s.state.files) h
+
+scrolls-low : (old new : ℕ) → Scrolls old new → old ≤ max_scroll → new ≤ max_scroll
+scrolls-low old _ unscrolled h = h
+scrolls-low old new (scrolled low) h = low
+
+-- what an event makes of a session that can be drawn can be drawn
+pub change-keeps-drawable : (scene : Scene) (s : Session) (event : Event) → IsDrawable s → IsDrawable (change scene s event).session
+change-keeps-drawable scene s event h =
+    let c = change scene s event in
+    let it = leads scene s event in
+    record {
+      accepted = marks-accepted event s c.session.state c.flow it.marks h.accepted;
+      scroll = scrolls-low s.scroll c.session.scroll it.scrolls h.scroll;
+    }
+
+-- ---- messages
+
+and-true : (a b : Bool) → a ≡ true → b ≡ true → (a && b) ≡ true
+and-true true true e f = refl
+and-true true false e f = f
+and-true false b e f = e
+
+short-said : (text : List ℕ) (cs : List Commit) (i : ℕ) → is_short_text text ≡ true → IsTrue (list_all (λ (c : Commit). is_short_option c.message) cs) → IsTrue (list_all (λ (c : Commit). is_short_option c.message) (modify (commit_saying text) cs i))
+short-said text [] i e h = h
+short-said text (c ∷ cs) zero e h = and-true _ _ e (and_parts (is_short_option c.message) _ h).1
+short-said text (c ∷ cs) (suc i) e h =
+    let parts = and_parts (is_short_option c.message) (list_all (λ (c : Commit). is_short_option c.message) cs) h in
+    and-true _ _ parts.0 (short-said text cs i e parts.1)
+
+pub message-keeps-drawable : (s : Session) (commit : ℕ) (text : List ℕ) → is_short_text text ≡ true → IsDrawable s → IsDrawable (with_message s commit text)
+message-keeps-drawable s commit text e h =
+    let all = and_parts _ _ h.accepted in
+    let counted = and_parts _ _ all.0 in
+    let said = and_parts _ _ counted.0 in
+    let few : nat_le (length (modify (commit_saying text) s.state.commits commit)) 2 ≡ true =
+    ap (λ n. nat_le n 2) (length-modify (commit_saying text) s.state.commits commit) ∙ said.0 in
+    record {
+      accepted = and-true _ _ (and-true _ _ (and-true _ _ few (short-said text s.state.commits commit e said.1)) counted.1) all.1;
+      scroll = h.scroll;
+    }

@@ -1,0 +1,224 @@
+//! The frame last drawn: the screen, and where each thing on it was drawn.
+ghost use Rattle.std.specs.Prelude.{◌≡◌, ℕ, ◌<◌, ◌≤◌, ◌+◌, ◌^◌, IfErr, IfOk, IfSome, IsTrue, OnOk, length, string_bytes};
+ghost use Rattle.scm_render.specs.Picture.{PictureInRange, part};
+ghost use Rattle.scm_types.specs.declared.error.RecordError.TheVariants.{OutOfMemory};
+ghost use Rattle.scm_types.specs.Limits.{is_accepted_state};
+ghost use Rattle.scm_view.specs.declared.ids.ComponentId.TheVariants as ids;
+ghost use Rattle.scm_view.specs.Window.{rows_of_box};
+ghost use Rattle.scm_record.specs.Frames.{HasSize, IsFrame, IsShown, Scene, frame_of_view, picture_of, scene_of};
+ghost use Rattle.scm_record.specs.Session.{Session, shown_of};
+ghost use Rattle.scm_record.specs.Uses.{ensured, held, hit, max_scroll, rows_above, scrolled_to, shot_of, top_in};
+
+use crate::inputs::TerminalKind;
+use crate::views::Showing;
+use scm_cells::{Grid, Rect};
+use scm_render::{DrawnRects, Viewport, find_target};
+use scm_types::RecordError;
+use scm_view::{AppView, ComponentId, SelectionKey, laws};
+use std::alloc::Global;
+
+/// The frame last drawn.
+#[derive(Drop)]
+pub(crate) struct DrawnFrame {
+    /// The screen.
+    grid: Grid,
+    /// Where each component was drawn, in places of the document.
+    boxes: DrawnRects<ComponentId>,
+    /// The index of the menu that was open.
+    open_menu: Option<usize>,
+}
+
+/// Draws a view on a cleared grid, whose first row shows this row of the document, and gives where each
+/// component was drawn. Where memory is refused the grid keeps its size.
+fn render(
+    alloc: Global,
+    grid: &mut Grid,
+    scroll: usize,
+    view: &AppView<'_>,
+) -> Result<DrawnRects<ComponentId>, RecordError>
+    requires scroll { scroll ≤ max_scroll }
+    requires in_range { (w h : ℕ) → w ≤ 65535 → h ≤ 65535 → PictureInRange (part ids.App (picture_of w h scroll view.now)) }
+    ensures ok { let w = grid.old.width in let h = length grid.old.rows in
+        IfOk result (λ boxes. IsFrame w (frame_of_view w h scroll view.now) grid.new.rows boxes) }
+    ensures width { grid.new.width ≡ grid.old.width }
+    ensures height { length grid.new.rows ≡ length grid.old.rows }
+    ensures err { IfErr result (λ e. e ≡ OutOfMemory) }
+{
+    let width = grid.width();
+    let height = grid.height();
+    prove!(width <= 65_535);
+    prove!(height <= 65_535);
+    grid.clear();
+    let boxes = Viewport::render_top_level(alloc, grid, 0, scroll as isize, view)?;
+    Ok(boxes)
+}
+
+/// The first row of a rectangle, and how many rows it has.
+fn rows_of(rect: Rect) -> (usize, usize)
+    ensures rows { result ≡ rows_of_box rect }
+    ensures first { result.0 < 2 ^ 63 }
+{
+    (rect.y.max(0) as usize, rect.height)
+}
+
+/// The rows that stay free above a key on the screen: below the menu bar, and below a pinned header.
+fn rows_above(key: SelectionKey) -> usize
+    ensures { result ≡ rows_above key }
+{
+    match key {
+        SelectionKey::None => 2,
+        SelectionKey::File(_) => 1,
+        SelectionKey::Section(_) => 2,
+        SelectionKey::Line(_) => 2,
+    }
+}
+
+/// The scroll, or the one that brings so many rows from `top` on onto a screen of `height` rows, of which
+/// the first `above` stay free.
+fn scrolled_to(height: usize, scroll: usize, above: usize, top: usize, rows: usize) -> usize
+    requires height { height < 2 ^ 16 }
+    requires top { top < 2 ^ 63 }
+    ensures { result ≡ scrolled_to height scroll above top (top + rows) }
+{
+    let first = scroll.saturating_add(above);
+    let end = top.saturating_add(rows);
+    if first <= top && end < scroll.saturating_add(height) {
+        scroll
+    } else if height.saturating_sub(above) <= rows || top < first {
+        top.saturating_sub(above)
+    } else {
+        end.saturating_sub(height)
+    }
+}
+
+impl DrawnFrame {
+    /// A frame of the screen's size, on which nothing is drawn yet.
+    pub(crate) fn new(alloc: Global, kind: TerminalKind) -> Result<DrawnFrame, RecordError>
+        ensures ok { IfOk result (λ frame. HasSize kind frame) }
+        ensures err { IfErr result (λ e. e ≡ OutOfMemory) }
+    {
+        let TerminalKind::Testing { width, height } = kind;
+        let grid = Grid::new(alloc, width.min(65_535) as u16, height.min(65_535) as u16)?;
+        let boxes = DrawnRects::new(alloc);
+        Ok(DrawnFrame {
+            grid,
+            boxes,
+            open_menu: None,
+        })
+    }
+
+    /// Draws what a session shows, from a row of the document on. Where memory is refused the frame
+    /// keeps its size.
+    pub(crate) fn draw(
+        &mut self,
+        alloc: Global,
+        showing: &Showing<'_>,
+        scroll: usize,
+    ) -> Result<(), RecordError>
+        requires accepted { IsTrue (is_accepted_state showing.now.state) }
+        requires scroll { scroll ≤ max_scroll }
+        ensures ok { OnOk result ((kind : TerminalKind) (s : Session) → shown_of s ≡ showing.now → s.scroll ≡ scroll
+            → HasSize kind self.old → IsShown (scene_of kind s) self.new) }
+        ensures size { (kind : TerminalKind) → HasSize kind self.old → HasSize kind self.new }
+        ensures err { IfErr result (λ e. e ≡ OutOfMemory) }
+    {
+        let view = showing.app_view(alloc)?;
+        laws::apps_are_in_range();
+        laws::apps_are_drawn_alike();
+        laws::apps_show_windows();
+        laws::clicks_find_owners();
+        laws::keys_have_rows();
+        laws::apps_have_extents();
+        self.boxes = render(alloc, &mut self.grid, scroll, &view)?;
+        self.open_menu = showing.open_menu;
+        Ok(())
+    }
+
+    /// The screen's rows, as a screenshot has them: blank where the screen was cleared.
+    pub(crate) fn text(&self, alloc: Global, is_cleared: bool) -> Result<String, RecordError>
+        ensures ok { IfOk result (λ text. (scene : Scene) → IsShown scene self.now → string_bytes text ≡ shot_of scene is_cleared) }
+        ensures err { IfErr result (λ e. e ≡ OutOfMemory) }
+    {
+        if is_cleared {
+            let blank = Grid::new(alloc, self.grid.width() as u16, self.grid.height() as u16)?;
+            blank.view()
+        } else {
+            self.grid.view()
+        }
+    }
+
+    /// What a click on a row and column of the screen hits, where the screen is scrolled so far.
+    pub(crate) fn hit(&self, scroll: usize, row: usize, column: usize) -> Option<ComponentId>
+        ensures { (scene : Scene) → IsShown scene self.now → result ≡ hit scene scroll row column }
+    {
+        if column < self.grid.width() && row < self.grid.height() && scroll <= 2_000_000 {
+            find_target(&self.boxes, (scroll + row) as isize, column as isize)
+        } else {
+            None
+        }
+    }
+
+    /// A scroll as the frame holds it.
+    pub(crate) fn held(&self, scroll: usize) -> usize
+        ensures { (scene : Scene) → IsShown scene self.now → result ≡ held scene scroll }
+    {
+        scroll.min(self.extent().saturating_sub(1).min(2_000_000))
+    }
+
+    /// The scroll that brings a key onto the screen.
+    pub(crate) fn scroll_to(&self, scroll: usize, key: SelectionKey) -> usize
+        ensures { (scene : Scene) → IsShown scene self.now → result ≡ ensured scene scroll key }
+    {
+        match self.span(key) {
+            Some((top, rows)) => {
+                scrolled_to(self.grid.height(), scroll, rows_above(key), top, rows).min(2_000_000)
+            }
+            None => scroll.min(2_000_000),
+        }
+    }
+
+    /// The first row of a key in the document, where it was drawn.
+    pub(crate) fn top(&self, key: SelectionKey) -> Option<usize>
+        ensures { (scene : Scene) → IsShown scene self.now → result ≡ top_in scene key }
+    {
+        match self.span(key) {
+            Some((top, _)) => Some(top),
+            None => None,
+        }
+    }
+
+    /// The screen's rows.
+    pub(crate) fn height(&self) -> usize
+        ensures { (scene : Scene) → IsShown scene self.now → result ≡ scene.height }
+    {
+        self.grid.height()
+    }
+
+    /// The menu that was open when the frame was drawn.
+    pub(crate) fn open_menu(&self) -> Option<usize>
+        ensures { (scene : Scene) → IsShown scene self.now → result ≡ scene.open_menu }
+    {
+        self.open_menu
+    }
+
+    /// The first row of a key in the document and how many rows it has, where it was drawn.
+    fn span(&self, key: SelectionKey) -> Option<(usize, usize)>
+        ensures rows { (scene : Scene) → IsShown scene self.now → result ≡ scene.frame.span key }
+        ensures first { IfSome result (λ span. span.0 < 2 ^ 63) }
+    {
+        match self.boxes.get(&ComponentId::SelectableItem(key)) {
+            Some(drawn) => Some(rows_of(drawn.rect)),
+            None => None,
+        }
+    }
+
+    /// How many rows all that was drawn spans.
+    fn extent(&self) -> usize
+        ensures { (scene : Scene) → IsShown scene self.now → result ≡ scene.frame.extent }
+    {
+        match self.boxes.get(&ComponentId::App) {
+            Some(drawn) => drawn.rect.height,
+            None => 0,
+        }
+    }
+}

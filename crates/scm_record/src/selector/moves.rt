@@ -1,0 +1,178 @@
+//! Where the selection goes.
+
+use super::{Flow, Selector};
+use crate::frame::DrawnFrame;
+use crate::key_lists::{all_keys, first_key, visible_keys};
+use crate::moves::{inner_key, keep_kind, next_key, previous_key};
+use crate::pages::{Way, page_key, turn};
+use crate::parents::{file_of_section, section_of_line};
+use scm_types::RecordError;
+use scm_view::{QuitDialogButtonId, SelectionKey};
+
+impl<'state> Selector<'state> {
+    ghost use Rattle.std.specs.Prelude.{◌≡◌, IfErr, IfOk, OnOk};
+    ghost use Rattle.scm_types.specs.declared.error.RecordError.TheVariants.{OutOfMemory};
+    ghost use Rattle.scm_view.specs.declared.quit_dialog.QuitDialogButtonId.TheVariants.{Quit, GoBack};
+    ghost use Rattle.scm_record.specs.Keys.{first_key};
+    ghost use Rattle.scm_record.specs.Frames.{IsShown, Scene};
+    ghost use Rattle.scm_record.specs.Session.{visible, visible_of_kind, after_next, after_previous, after_next_same_kind, after_previous_same_kind, after_advance, after_inner, after_outer};
+    ghost use Rattle.scm_record.specs.Change.{stays};
+    ghost use Rattle.scm_record.specs.Dialogs.{dialog_focused_or, unless_asked};
+    ghost use Rattle.scm_record.specs.Pages.{after_page, towards};
+
+    /// The first file, if there is one.
+    fn first_key(&self) -> SelectionKey
+        ensures { result ≡ first_key self.now.state.files }
+    {
+        first_key(self.state.files.as_slice())
+    }
+
+    /// The visible keys, in order.
+    fn visible_keys(&self) -> Result<Vec<SelectionKey>, RecordError>
+        ensures ok { IfOk result (λ keys. keys.items ≡ visible self.now) }
+        ensures err { IfErr result (λ e. e ≡ OutOfMemory) }
+    {
+        visible_keys(
+            self.allocator(),
+            &self.expanded,
+            self.state.files.as_slice(),
+        )
+    }
+
+    /// The visible keys of the selection's kind, in order.
+    fn visible_keys_of_kind(&self) -> Result<Vec<SelectionKey>, RecordError>
+        ensures ok { IfOk result (λ keys. keys.items ≡ visible_of_kind self.now) }
+        ensures err { IfErr result (λ e. e ≡ OutOfMemory) }
+    {
+        let mut keys = self.visible_keys()?;
+        keep_kind(&mut keys, self.selection);
+        Ok(keys)
+    }
+
+    /// Selects the first key inside the selection; in the quit dialog, the button Quit.
+    pub(super) fn focus_inner(&mut self) -> Result<Flow, RecordError>
+        ensures ok { IfOk result (λ flow. dialog_focused_or self.old Quit (stays (after_inner self.old)) ≡ record { session = self.new; flow = flow }) }
+        ensures err { IfErr result (λ e. e ≡ OutOfMemory) }
+    {
+        if self.is_asked() {
+            self.focus(QuitDialogButtonId::Quit);
+        } else {
+            let keys = all_keys(self.allocator(), self.state.files.as_slice())?;
+            self.select(inner_key(&keys, self.selection))?;
+        }
+        Ok(Flow::GoOn)
+    }
+
+    /// Selects what is around the selection, or folds it.
+    fn select_outer(&mut self, fold_section: bool) -> Result<(), RecordError>
+        ensures ok { OnOk result (self.new ≡ after_outer self.old fold_section) }
+        ensures err { IfErr result (λ e. e ≡ OutOfMemory) }
+    {
+        let selection = self.selection;
+        match selection {
+            SelectionKey::None => Ok(()),
+            SelectionKey::File(_) => self.fold(selection),
+            SelectionKey::Section(key) => {
+                if fold_section && self.expanded.contains(selection) {
+                    self.fold(selection)
+                } else {
+                    self.select(file_of_section(key))
+                }
+            }
+            SelectionKey::Line(key) => self.select(section_of_line(key)),
+        }
+    }
+
+    /// Selects what is around the selection, or folds it; in the quit dialog, the button Go Back.
+    pub(super) fn focus_outer(&mut self, fold_section: bool) -> Result<Flow, RecordError>
+        ensures ok { IfOk result (λ flow. dialog_focused_or self.old GoBack (stays (after_outer self.old fold_section)) ≡ record { session = self.new; flow = flow }) }
+        ensures err { IfErr result (λ e. e ≡ OutOfMemory) }
+    {
+        if self.is_asked() {
+            self.focus(QuitDialogButtonId::GoBack);
+        } else {
+            self.select_outer(fold_section)?;
+        }
+        Ok(Flow::GoOn)
+    }
+
+    /// Selects the next visible key of the selection's kind, and nothing where the selection isn't visible.
+    pub(super) fn advance(&mut self) -> Result<(), RecordError>
+        ensures ok { OnOk result (self.new ≡ after_advance self.old) }
+        ensures err { IfErr result (λ e. e ≡ OutOfMemory) }
+    {
+        let keys = self.visible_keys_of_kind()?;
+        self.select(next_key(&keys, self.selection, SelectionKey::None))
+    }
+
+    /// Selects the visible key before.
+    pub(super) fn focus_previous(&mut self) -> Result<Flow, RecordError>
+        ensures ok { IfOk result (λ flow. unless_asked self.old (stays (after_previous self.old)) ≡ record { session = self.new; flow = flow }) }
+        ensures err { IfErr result (λ e. e ≡ OutOfMemory) }
+    {
+        if !self.is_asked() {
+            let keys = self.visible_keys()?;
+            self.select(previous_key(&keys, self.selection, self.first_key()))?;
+        }
+        Ok(Flow::GoOn)
+    }
+
+    /// Selects the visible key before of the selection's kind.
+    pub(super) fn focus_previous_same_kind(&mut self) -> Result<Flow, RecordError>
+        ensures ok { IfOk result (λ flow. unless_asked self.old (stays (after_previous_same_kind self.old)) ≡ record { session = self.new; flow = flow }) }
+        ensures err { IfErr result (λ e. e ≡ OutOfMemory) }
+    {
+        if !self.is_asked() {
+            let keys = self.visible_keys_of_kind()?;
+            self.select(previous_key(&keys, self.selection, self.first_key()))?;
+        }
+        Ok(Flow::GoOn)
+    }
+
+    /// Selects the next visible key.
+    pub(super) fn focus_next(&mut self) -> Result<Flow, RecordError>
+        ensures ok { IfOk result (λ flow. unless_asked self.old (stays (after_next self.old)) ≡ record { session = self.new; flow = flow }) }
+        ensures err { IfErr result (λ e. e ≡ OutOfMemory) }
+    {
+        if !self.is_asked() {
+            let keys = self.visible_keys()?;
+            self.select(next_key(&keys, self.selection, self.first_key()))?;
+        }
+        Ok(Flow::GoOn)
+    }
+
+    /// Selects the next visible key of the selection's kind.
+    pub(super) fn focus_next_same_kind(&mut self) -> Result<Flow, RecordError>
+        ensures ok { IfOk result (λ flow. unless_asked self.old (stays (after_next_same_kind self.old)) ≡ record { session = self.new; flow = flow }) }
+        ensures err { IfErr result (λ e. e ≡ OutOfMemory) }
+    {
+        if !self.is_asked() {
+            let keys = self.visible_keys_of_kind()?;
+            self.select(next_key(&keys, self.selection, self.first_key()))?;
+        }
+        Ok(Flow::GoOn)
+    }
+
+    /// The visible keys, as they come that way.
+    fn visible_keys_towards(&self, way: Way) -> Result<Vec<SelectionKey>, RecordError>
+        ensures ok { IfOk result (λ keys. keys.items ≡ towards way (visible self.now)) }
+        ensures err { IfErr result (λ e. e ≡ OutOfMemory) }
+    {
+        let mut keys = self.visible_keys()?;
+        turn(&mut keys, way);
+        Ok(keys)
+    }
+
+    /// Selects a visible key about half a screen away.
+    pub(super) fn focus_page(&mut self, frame: &DrawnFrame, way: Way) -> Result<Flow, RecordError>
+        ensures ok { IfOk result (λ flow. (scene : Scene) → IsShown scene frame.now →
+            unless_asked self.old (stays (after_page scene way self.old)) ≡ record { session = self.new; flow = flow }) }
+        ensures err { IfErr result (λ e. e ≡ OutOfMemory) }
+    {
+        if !self.is_asked() {
+            let keys = self.visible_keys_towards(way)?;
+            self.select(page_key(frame, way, &keys, self.selection))?;
+        }
+        Ok(Flow::GoOn)
+    }
+}
