@@ -1,6 +1,7 @@
 //! The table of scripts: what the program reads, and what it writes.
 
-/// States by their names. Each `?` stands for what the row gives: `1` and `0` for marks, or a piece of JSON.
+/// States, and pieces of states, by their names. Each `?` stands for what the row gives: `1` and `0` for marks, the name of a piece, or
+/// a piece of JSON.
 pub const STATES: &str = r#"
 NOTHING {"is_read_only":false,"commits":[],"files":[]}
 PADDED {"is_read_only":false,"commits":[{"message":null},{"message":null}],"files":[]}
@@ -18,12 +19,45 @@ BESIDE {"is_read_only":false,"commits":[{"message":null},{"message":null}],"file
 MIXED {"is_read_only":false,"commits":[{"message":null},{"message":null}],"files":[{"old_path":null,"path":"m","file_mode":{"Unix":33188},"sections":[{"Unchanged":{"lines":["a\n"]}},{"Changed":{"lines":[{"is_checked":?,"change_type":"Added","line":"b\n"},{"is_checked":?,"change_type":"Removed","line":"c\n"},{"is_checked":?,"change_type":"Added","line":"d\n"},{"is_checked":?,"change_type":"Removed","line":"e\n"}]}}]}]}
 FILE {"is_read_only":true,"commits":[{"message":"m\n"},{"message":null}],"files":[{"old_path":"o","path":"p","file_mode":{"Unix":18446744073709551615},"sections":[?]}]}
 TWICE {"is_read_only":?,"is_read_only":false,"commits":[],"files":[]}
+HILL {"is_read_only":false,"commits":[{"message":null},{"message":null}],"files":[{"old_path":null,"path":"f","file_mode":{"Unix":33188},"sections":[{"Unchanged":{"lines":["a\n"]}},{"Changed":{"lines":[{"is_checked":?,"change_type":"Removed","line":"b\n"},{"is_checked":?,"change_type":"Added","line":"c\n"}]}}]}]}
+OF1 {"is_read_only":false,"commits":[{"message":null},{"message":null}],"files":[{"old_path":null,"path":"f","file_mode":{"Unix":33188},"sections":[?]}]}
+OF2 {"is_read_only":false,"commits":[{"message":null},{"message":null}],"files":[{"old_path":null,"path":"f","file_mode":{"Unix":33188},"sections":[?,?]}]}
+OF3 {"is_read_only":false,"commits":[{"message":null},{"message":null}],"files":[{"old_path":null,"path":"f","file_mode":{"Unix":33188},"sections":[?,?,?]}]}
+OF4 {"is_read_only":false,"commits":[{"message":null},{"message":null}],"files":[{"old_path":null,"path":"f","file_mode":{"Unix":33188},"sections":[?,?,?,?]}]}
+OF5 {"is_read_only":false,"commits":[{"message":null},{"message":null}],"files":[{"old_path":null,"path":"f","file_mode":{"Unix":33188},"sections":[?,?,?,?,?]}]}
+KEPT {"is_read_only":true,"commits":[{"message":null},{"message":null}],"files":[{"old_path":null,"path":"f","file_mode":{"Unix":33188},"sections":[?,?,?]}]}
+BAR {"is_read_only":false,"commits":[{"message":?},{"message":?}],"files":[{"old_path":null,"path":"foo/bar","file_mode":{"Unix":33188},"sections":[{"Changed":{"lines":[{"is_checked":?,"change_type":"Added","line":"n\n"}]}}]}]}
+NAMED {"is_read_only":false,"commits":[{"message":null},{"message":null}],"files":[{"old_path":?,"path":?,"file_mode":{"Unix":33188},"sections":[]}]}
+SAID {"is_read_only":false,"commits":[{"message":?},{"message":?}],"files":[{"old_path":null,"path":"f","file_mode":{"Unix":33188},"sections":[]}]}
+PAIR {"is_read_only":false,"commits":[{"message":null},{"message":null}],"files":[{"old_path":null,"path":"f","file_mode":{"Unix":33188},"sections":[?]},{"old_path":null,"path":"g","file_mode":{"Unix":33188},"sections":[?]}]}
+BESIDES {"is_read_only":false,"commits":[{"message":null},{"message":null}],"files":[{"old_path":null,"path":"a/long/path/of/a/file","file_mode":{"Unix":33188},"sections":[]},{"old_path":null,"path":"g","file_mode":{"Unix":33188},"sections":[?]}]}
+VOID {"is_read_only":false,"commits":[{"message":null},{"message":null}],"files":[{"old_path":null,"path":"e","file_mode":"Absent","sections":[{"Changed":{"lines":[]}},{"FileMode":{"is_checked":?,"mode":{"Unix":33188}}}]}]}
+X {"Changed":{"lines":[{"is_checked":false,"change_type":"Added","line":"x\n"}]}}
+Y {"Changed":{"lines":[{"is_checked":false,"change_type":"Removed","line":"y\n"}]}}
+K {"Changed":{"lines":[{"is_checked":true,"change_type":"Added","line":"c\n"}]}}
+EMPTY {"Changed":{"lines":[]}}
+TEN {"Changed":{"lines":[{"is_checked":false,"change_type":"Added","line":"0\n"},{"is_checked":false,"change_type":"Added","line":"1\n"},{"is_checked":false,"change_type":"Added","line":"2\n"},{"is_checked":false,"change_type":"Added","line":"3\n"},{"is_checked":false,"change_type":"Added","line":"4\n"},{"is_checked":false,"change_type":"Added","line":"5\n"},{"is_checked":false,"change_type":"Added","line":"6\n"},{"is_checked":false,"change_type":"Added","line":"7\n"},{"is_checked":false,"change_type":"Added","line":"8\n"},{"is_checked":false,"change_type":"Added","line":"9\n"}]}}
+LONG {"Changed":{"lines":[{"is_checked":false,"change_type":"Added","line":"the first line of a long file\n"},{"is_checked":true,"change_type":"Removed","line":"no end"}]}}
+C0 {"Unchanged":{"lines":[]}}
+C1 {"Unchanged":{"lines":["a\n"]}}
+C3 {"Unchanged":{"lines":["a\n","b\n","c\n"]}}
+C4 {"Unchanged":{"lines":["a\n","b\n","c\n","d\n"]}}
+C6 {"Unchanged":{"lines":["a\n","b\n","c\n","d\n","e\n","f\n"]}}
+C7 {"Unchanged":{"lines":["a\n","b\n","c\n","d\n","e\n","f\n","g\n"]}}
+MODE {"FileMode":{"is_checked":false,"mode":{"Unix":33261}}}
+GONER {"FileMode":{"is_checked":true,"mode":"Absent"}}
+B0 {"Binary":{"is_checked":false,"old_description":null,"new_description":null}}
+B1 {"Binary":{"is_checked":false,"old_description":"a","new_description":null}}
+B2 {"Binary":{"is_checked":false,"old_description":"a","new_description":"b"}}
+B3 {"Binary":{"is_checked":false,"old_description":null,"new_description":"b"}}
 "#;
 
 /// A row for each script: its lines, `=>`, the status, and the lines of the output, parted by ` | `. A state stands in `«»`, by its
-/// name and what its `?` are. A script that begins with a state is run on 80 by 24, a batch for each word behind it. `␍` is a carriage
-/// return, `␉` a tab, a text that ends in `␃` has no line end there, and `…` stands for
-/// the rest of an output.
+/// name and what its `?` are. A script that begins with a state is run on 80 by 24, or on the size that stands before the state, with a
+/// batch for each word behind it; words joined by `,` are one batch. In a script `␍` is a carriage return, `␉` a tab, and a text that ends
+/// in `␃` has no line end there. A line that begins with `| ` continues the row above it. In an output a row of a screen lacks the spaces
+/// at its end and the quote behind them, a screen lacks its blank rows at the end (but not its first row), and `…` at the end of a row
+/// stands for the rest of an output.
 pub const ROWS: &str = r##"
 # The form of a script: sizes, spaces, carriage returns, comments, empty lines, leading zeros, and no line end at the end.
 size 80 24 | «NOTHING» | script | batch c => 0 | accepted | «PADDED»
@@ -45,7 +79,7 @@ size 80 24 | «NOTHING» | batch q => 2 | bad input: no script
 size 80 24 | «NOTHING» | script q => 2 | bad input: no script
 size 80 24 | «NOTHING» | script␍␃ => 2 | bad input: no script
 size 80 24 | «NOTHING» | script |  | batch zz => 2 | bad input: line 5
-size 80 24 | «NOTHING» | script | batch q | batch => 2 | bad input: line 5
+size 80 24 | «NOTHING» | script | batch q | batches => 2 | bad input: line 5
 size 80 24 | «NOTHING» | script |   => 2 | bad input: line 4
 size 80 24 | «NOTHING» | script |  # no comment => 2 | bad input: line 4
 size 80 24 | «NOTHING» | script | batch␉q => 2 | bad input: line 4
@@ -300,11 +334,6 @@ size 80 24 | «NOTHING» | script | fault read => 2 | bad input: line 4
 size 80 24 | «NOTHING» | script | fault edit => 2 | bad input: line 4
 size 80 24 | «NOTHING» | script | fault write x => 2 | bad input: line 4
 size 80 24 | «NOTHING» | script | faults read x => 2 | bad input: line 4
-size 80 24 | «NOTHING» | script | batch shift-a => 2 | bad input: line 4
-size 80 24 | «NOTHING» | script | batch A => 2 | bad input: line 4
-size 80 24 | «NOTHING» | script | batch F => 2 | bad input: line 4
-size 80 24 | «NOTHING» | script | batch Enter => 2 | bad input: line 4
-size 80 24 | «NOTHING» | script | batch q q => 2 | bad input: line 4
 size 80 24 | «NOTHING» | script | fault read disk gone | batch c => 1 | fault: failed to read user input: disk gone
 size 80 24 | «NOTHING» | script | batch none |   fault   read  two  spaces | batch c => 1 | fault: failed to read user input:  two  spaces
 size 80 24 | «NOTHING» | script | fault read  | batch c => 1 | fault: failed to read user input:…
@@ -324,8 +353,2155 @@ size 80 24 | «NOTHING» | script | batch c | fault read gone => 0 | accepted | 
 «TREE 0 1 0 0 0» q shift-F q j space c => 0 | accepted | «TREE 0 1 0 0 1»…
 size 80 24 | «MESSAGES "m" null» | script | answer "x" | batch q | batch e | batch q | batch c => 0 | accepted | «MESSAGES "m" null»
 
+# Words: all of them are known, and a batch has any number of them, also none.
+size 80 24 | «NOTHING» | script | batch shot redraw ensure view none click:0:0 click:00065535:65535 wheel-up wheel-down | batch zz => 2 | bad input: line 5
+size 80 24 | «NOTHING» | script | batch up down left right pageup pagedown enter esc space q Q é 日 - : # " ␉ | batch zz => 2 | bad input: line 5
+size 80 24 | «NOTHING» | script | batch ctrl-up alt-down shift-left ctrl-alt-right alt-shift-ctrl-space shift-alt-pageup ctrl-- alt-- shift-: ctrl-é | batch zz => 2 | bad input: line 5
+size 80 24 | «TREE 0 0 0 0 0» | script | batch l l space | batch |   batch   j  space   | batch c => 0 | accepted | «TREE 0 1 1 0 0»…
+size 80 24 | «TREE 0 0 0 0 0» | script | batch none none l none l none space c space => 0 | accepted | «TREE 0 1 0 0 0»…
+size 80 24 | «NOTHING» | script | batch | batch => 1 | fault: failed to read user input: no events left
+size 80 24 | «MESSAGES "a" null» | script | answer "b" | answer "c" | batch e e c => 0 | accepted | «MESSAGES "c" null»
+size 80 24 | «LINE 1 1» | script | batch q h space c => 0 | accepted | «LINE 1 1»…
+size 80 24 | «NOTHING» | script | batch c q => 0 | accepted | «PADDED»
+size 80 24 | «NOTHING» | script | batch q c => 1 | fault: cancelled by user
+
+# Keys by their names, and with shift.
+«TREE 0 0 0 0 0» right right space c => 0 | accepted | «TREE 0 1 0 0 0»…
+«TREE 0 0 0 0 0» right shift-right space c => 0 | accepted | «TREE 0 1 0 0 0»…
+«TREE 0 0 0 0 0» shift-l shift-l space c => 0 | accepted | «TREE 0 1 0 0 0»…
+«TREE 0 0 0 0 0» down space c => 0 | accepted | «TREE 0 0 0 0 1»…
+«TREE 0 0 0 0 0» down up space c => 0 | accepted | «TREE 0 1 1 1 0»…
+«TREE 0 0 0 0 0» right right left left down space c => 0 | accepted | «TREE 0 0 0 1 0»…
+«TREE 0 0 0 0 0» right right shift-left shift-left space c => 0 | accepted | «TREE 0 1 1 1 0»…
+
+# Keys that mean nothing: with something held too much, or too little, and any other key.
+«LINE 1 1» alt-q shift-q ctrl-q Q shift-Q c => 0 | accepted | «LINE 1 1»…
+«LINE 1 1» shift-c alt-c C shift-C ctrl-shift-c shift-ctrl-c ctrl-alt-c ctrl-C c => 0 | accepted | «LINE 1 1»…
+«LINE 1 1» shift-space alt-space ctrl-space shift-enter ctrl-enter alt-enter c => 0 | accepted | «LINE 1 1»…
+«LINE 1 1» A F shift-a shift-f ctrl-a alt-a ctrl-shift-A alt-shift-A c => 0 | accepted | «LINE 1 1»…
+«TREE 0 0 0 0 0» J shift-j shift-J shift-down alt-down alt-j ctrl-j shift-pagedown alt-pagedown space c => 0 | accepted | «TREE 0 1 1 1 0»…
+«TREE 0 0 0 0 0» ctrl-right ctrl-l alt-l L shift-L shift-alt-right l l H shift-H ctrl-h alt-h ctrl-left alt-left space c => 0 | accepted | «TREE 0 1 0 0 0»…
+«MESSAGES "m" null» shift-e alt-e E shift-E ctrl-alt-e c => 0 | accepted | «MESSAGES "m" null»
+«LINE 1 1» x é 日 - : # " 1 shift-? alt-? c => 0 | accepted | «LINE 1 1»…
+size 80 24 | «NOTHING» | script | batch ␉ c => 0 | accepted | «PADDED»
+
+# Bad words.
+«NOTHING» ctrl-ctrl-c => 2 | bad input: line 4
+«NOTHING» shift-ctrl-shift-c => 2 | bad input: line 4
+«NOTHING» alt-shift-ctrl-alt-c => 2 | bad input: line 4
+«NOTHING» ctrl- => 2 | bad input: line 4
+«NOTHING» alt-shift- => 2 | bad input: line 4
+«NOTHING» Ctrl-c => 2 | bad input: line 4
+«NOTHING» ctrl+c => 2 | bad input: line 4
+«NOTHING» control-c => 2 | bad input: line 4
+«NOTHING» click:65536:0 => 2 | bad input: line 4
+«NOTHING» click:0:65536 => 2 | bad input: line 4
+«NOTHING» click:-1:0 => 2 | bad input: line 4
+«NOTHING» click:+1:0 => 2 | bad input: line 4
+«NOTHING» click:1 => 2 | bad input: line 4
+«NOTHING» click:1: => 2 | bad input: line 4
+«NOTHING» click::1 => 2 | bad input: line 4
+«NOTHING» click:1:2:3 => 2 | bad input: line 4
+«NOTHING» click: => 2 | bad input: line 4
+«NOTHING» click => 2 | bad input: line 4
+«NOTHING» shift-click:1:2 => 2 | bad input: line 4
+«NOTHING» wheel => 2 | bad input: line 4
+«NOTHING» wheel-left => 2 | bad input: line 4
+«NOTHING» ctrl-wheel-up => 2 | bad input: line 4
+«NOTHING» ctrl-shot => 2 | bad input: line 4
+«NOTHING» shift-none => 2 | bad input: line 4
+«NOTHING» Shot => 2 | bad input: line 4
+«NOTHING» Enter => 2 | bad input: line 4
+«NOTHING» page-up => 2 | bad input: line 4
+«NOTHING» qq => 2 | bad input: line 4
+«NOTHING» é => 2 | bad input: line 4
+«NOTHING» q c zz q => 2 | bad input: line 6
+size 80 24 | «NOTHING» | script | batch q c zz q => 2 | bad input: line 4
+size 80 24 | «NOTHING» | script | batch q␉c => 2 | bad input: line 4
+size 80 24 | «NOTHING» | script | batch shot zz => 2 | bad input: line 4
+
+# Bad commands.
+size 80 24 | «NOTHING» | script | BATCH q => 2 | bad input: line 4
+size 80 24 | «NOTHING» | script | batchq => 2 | bad input: line 4
+size 80 24 | «NOTHING» | script | shot => 2 | bad input: line 4
+size 80 24 | «NOTHING» | script | Answer "a" => 2 | bad input: line 4
+size 80 24 | «NOTHING» | script | answer "a" b => 2 | bad input: line 4
+size 80 24 | «NOTHING» | script | answer 'a' => 2 | bad input: line 4
+size 80 24 | «NOTHING» | script | fault␉read x => 2 | bad input: line 4
+size 80 24 | «NOTHING» | script | fault read␉x => 2 | bad input: line 4
+size 80 24 | «NOTHING» | script | fault Read x => 2 | bad input: line 4
+size 80 24 | «NOTHING» | script | ! | batch zz => 2 | bad input: line 4
+
+# Places that no screenshot was taken to, before each way to end; a refused input has no screens.
+«NOTHING» c shot => 0 | screen 0 | <this screenshot was never assigned> | accepted | «PADDED»
+size 80 24 | «NOTHING» | script | batch c shot shot | batch shot => 0 | screen 0 | <this screenshot was never assigned> | screen 1 | <this screenshot was never assigned> | screen 2 | <this screenshot was never assigned> | accepted | «PADDED»
+«NOTHING» q shot => 1 | screen 0 | <this screenshot was never assigned> | fault: cancelled by user
+size 80 24 | «NOTHING» | script | fault read gone | batch shot => 1 | screen 0 | <this screenshot was never assigned> | fault: failed to read user input: gone
+size 80 24 | [] | script | batch shot => 2 | bad state
+size 20 5 | {"is_read_only":false,"commits":[{"message":null},{"message":null},{"message":null}],"files":[]} | script | batch shot => 2 | state not accepted
+
 # The scripts of the folder examples.
 size 80 24 | { |   "is_read_only": false, |   "commits": [], |   "files": [ |     { |       "old_path": null, |       "path": "shopping.txt", |       "file_mode": {"Unix": 33188}, |       "sections": [ |         {"Unchanged": {"lines": ["Shopping\n"]}}, |         {"Changed": {"lines": [ |           {"is_checked": false, "change_type": "Removed", "line": "milk\n"}, |           {"is_checked": false, "change_type": "Added", "line": "oat milk\n"} |         ]}}, |         {"Unchanged": {"lines": ["bread\n"]}}, |         {"Changed": {"lines": [ |           {"is_checked": false, "change_type": "Added", "line": "apples\n"}, |           {"is_checked": false, "change_type": "Added", "line": "pears\n"} |         ]}} |       ] |     }, |     { |       "old_path": null, |       "path": "todo.txt", |       "file_mode": {"Unix": 33188}, |       "sections": [ |         {"Unchanged": {"lines": ["Water the plants\n"]}}, |         {"Changed": {"lines": [ |           {"is_checked": false, "change_type": "Added", "line": "Call the bank\n"} |         ]}} |       ] |     } |   ] | } | script | # Take the whole first change of shopping.txt. | batch l | batch space | # Go down past its two lines to the second change, and take the pears alone. | batch j | batch j | batch j | batch j | batch j | batch space | # Accept. All of todo.txt waits for another commit. | batch c => 0 | accepted | {"is_read_only":false,"commits":[{"message":null},{"message":null}],"files":[{"old_path":null,"path":"shopping.txt","file_mode":{"Unix":33188},"sections":[{"Unchanged":{"lines":["Shopping\n"]}},{"Changed":{"lines":[{"is_checked":true,"change_type":"Removed","line":"milk\n"},{"is_checked":true,"change_type":"Added","line":"oat milk\n"}]}},{"Unchanged":{"lines":["bread\n"]}},{"Changed":{"lines":[{"is_checked":false,"change_type":"Added","line":"apples\n"},{"is_checked":true,"change_type":"Added","line":"pears\n"}]}}]},{"old_path":null,"path":"todo.txt","file_mode":{"Unix":33188},"sections":[{"Unchanged":{"lines":["Water the plants\n"]}},{"Changed":{"lines":[{"is_checked":false,"change_type":"Added","line":"Call the bank\n"}]}}]}]} | file 0 | selected 100644 text "Shopping\noat milk\nbread\npears\n" | unselected 100644 text "Shopping\nmilk\nbread\napples\n" | file 1 | selected 100644 text "Water the plants\n" | unselected 100644 text "Water the plants\nCall the bank\n"
 size 80 24 | { |   "is_read_only": false, |   "commits": [], |   "files": [ |     { |       "old_path": null, |       "path": "deploy.sh", |       "file_mode": {"Unix": 33188}, |       "sections": [ |         {"FileMode": {"is_checked": false, "mode": {"Unix": 33261}}}, |         {"Unchanged": {"lines": ["#!/bin/sh\n"]}}, |         {"Changed": {"lines": [ |           {"is_checked": false, "change_type": "Removed", "line": "cp -r site /srv\n"}, |           {"is_checked": false, "change_type": "Added", "line": "rsync -r site /srv\n"} |         ]}} |       ] |     } |   ] | } | script | # The file becomes executable in this commit, and its line changes in another one. | batch l | batch space | batch c => 0 | accepted | {"is_read_only":false,"commits":[{"message":null},{"message":null}],"files":[{"old_path":null,"path":"deploy.sh","file_mode":{"Unix":33188},"sections":[{"FileMode":{"is_checked":true,"mode":{"Unix":33261}}},{"Unchanged":{"lines":["#!/bin/sh\n"]}},{"Changed":{"lines":[{"is_checked":false,"change_type":"Removed","line":"cp -r site /srv\n"},{"is_checked":false,"change_type":"Added","line":"rsync -r site /srv\n"}]}}]}]} | file 0 | selected 100755 text "#!/bin/sh\ncp -r site /srv\n" | unselected 100644 text "#!/bin/sh\nrsync -r site /srv\n"
 size 80 24 | { |   "is_read_only": false, |   "commits": [], |   "files": [ |     { |       "old_path": null, |       "path": "index.html", |       "file_mode": {"Unix": 33188}, |       "sections": [ |         {"Changed": {"lines": [ |           {"is_checked": false, "change_type": "Removed", "line": "<img src=\"logo.gif\">\n"}, |           {"is_checked": false, "change_type": "Added", "line": "<img src=\"logo.png\">\n"} |         ]}}, |         {"Unchanged": {"lines": ["<p>Welcome.</p>\n"]}} |       ] |     }, |     { |       "old_path": null, |       "path": "logo.png", |       "file_mode": {"Unix": 33188}, |       "sections": [ |         {"Binary": { |           "is_checked": false, |           "old_description": "a1b2c3 (2048 bytes)", |           "new_description": "d4e5f6 (1024 bytes)" |         }} |       ] |     } |   ] | } | script | # Take the new picture, and leave the page that shows it. | batch j | batch space | batch c => 0 | accepted | {"is_read_only":false,"commits":[{"message":null},{"message":null}],"files":[{"old_path":null,"path":"index.html","file_mode":{"Unix":33188},"sections":[{"Changed":{"lines":[{"is_checked":false,"change_type":"Removed","line":"<img src=\"logo.gif\">\n"},{"is_checked":false,"change_type":"Added","line":"<img src=\"logo.png\">\n"}]}},{"Unchanged":{"lines":["<p>Welcome.</p>\n"]}}]},{"old_path":null,"path":"logo.png","file_mode":{"Unix":33188},"sections":[{"Binary":{"is_checked":true,"old_description":"a1b2c3 (2048 bytes)","new_description":"d4e5f6 (1024 bytes)"}}]}]} | file 0 | selected 100644 text "<img src=\"logo.gif\">\n<p>Welcome.</p>\n" | unselected 100644 text "<img src=\"logo.png\">\n<p>Welcome.</p>\n" | file 1 | selected 100644 binary "a1b2c3 (2048 bytes)" "d4e5f6 (1024 bytes)" | unselected 100644 unchanged
+
+# The first screen of a file; a file that is open, with its section selected; and the same scrolled down, with its header pinned.
+20 5 «PLAIN» shot c => 0
+| screen 0
+| "[File] [Edit] [Selec
+| "( ) foo/bar      (+)
+| accepted…
+24 8 «HILL 0 1» l shot ctrl-down ctrl-down shot c => 0
+| screen 0
+| "[File] [Edit] [Select] [
+| "[◐] f                [-]
+| "        1 a⏎
+| "  (◐) Section 1/1    (-)
+| "    [ ] - b⏎
+| "    [●] + c⏎
+| screen 1
+| "[File] [Edit] [Select] [
+| "[◐] f                [-]
+| "    [ ] - b⏎
+| "    [●] + c⏎
+| accepted
+| «HILL 0 1»…
+10 2 «SAID "hello" null» ctrl-down shot c => 0
+| screen 0
+| "[File] [Ed
+| "[Edit mes…
+| accepted…
+24 8 «OF1 TEN» l l j j j j j shot c => 0
+| screen 0
+| "[File] [Edit] [Select] [
+| "[ ] f                [-]
+| "    [ ] + 0⏎
+| "    [ ] + 1⏎
+| "    [ ] + 2⏎
+| "    [ ] + 3⏎
+| "    [ ] + 4⏎
+| "    ( ) + 5⏎
+| accepted…
+24 14 «OF3 X C7 Y» l shot c => 0
+| screen 0
+| "[File] [Edit] [Select] [
+| "[ ] f                [-]
+| "  ( ) Section 1/2    (-)
+| "    [ ] + x⏎
+| "        1 a⏎
+| "        2 b⏎
+| "        3 c⏎
+| "        ⋮
+| "        5 e⏎
+| "        6 f⏎
+| "        7 g⏎
+| "  [ ] Section 2/2    [-]
+| "    [ ] - y⏎
+| accepted…
+24 7 «SECOND 0 0 0» l shot c => 0
+| screen 0
+| "[File] [Edit] [Select] [
+| "[ ] p                [+]
+| "[ ] q                [-]
+| "  ( ) Section 1/2    (-)
+| "    [ ] + x⏎
+| "    [ ] + y⏎
+| "  [ ] Section 2/2    [-]
+| accepted
+| «SECOND 0 0 0»…
+
+# A path that is too wide is cut with an ellipsis, and a symbol is never cut in half.
+13 2 «NAMED null "日本語"» shot c => 0
+| screen 0
+| "[File] [Edit]
+| "( ) 日本語(+)
+| accepted…
+12 2 «NAMED null "日本語"» shot c => 0
+| screen 0
+| "[File] [Edit
+| "( ) 日本…(+)
+| accepted…
+11 2 «NAMED null "日本語"» shot c => 0
+| screen 0
+| "[File] [Edi
+| "( ) 日 …(+)
+| accepted…
+24 5 «NAMED null "日本語日本語"» click:0:8 shot click:0:8 ? shot c c => 0
+| screen 0
+| "[File] [Edit] [Select] [
+| "( ) 日 [Edit message (e)
+| "       [Toggle current (
+| "       [Toggle current a
+| "       [Invert all items
+| screen 1
+| "┌Help──────────────────┐
+| "│You can click the menu│
+| "│                      │
+| "│    General           │
+| "└───────────────(Close)┘
+| accepted…
+
+# Scrolling: held between 0 and the last row that is drawn, and the extent begins at row 1 once the menu bar has left row 0.
+30 3 «PLAIN» shot ctrl-down shot ctrl-down shot ctrl-down shot ctrl-up shot ctrl-up shot c => 0
+| screen 0
+| "[File] [Edit] [Select] [View]
+| "( ) foo/bar                (+)
+| screen 1
+| "[File] [Edit] [Select] [View]
+| screen 2
+| "[File] [Edit] [Select] [View]
+| "( ) foo/bar                (+)
+| screen 3
+| "[File] [Edit] [Select] [View]
+| screen 4
+| "[File] [Edit] [Select] [View]
+| "( ) foo/bar                (+)
+| screen 5
+| "[File] [Edit] [Select] [View]
+| "( ) foo/bar                (+)
+| accepted…
+24 8 «OF1 TEN» l ctrl-f shot ctrl-f shot ctrl-b shot ctrl-b shot c => 0
+| screen 0
+| "[File] [Edit] [Select] [
+| "[ ] f                [-]
+| "    [ ] + 7⏎
+| "    [ ] + 8⏎
+| "    [ ] + 9⏎
+| screen 1
+| "[File] [Edit] [Select] [
+| "[ ] f                [-]
+| screen 2
+| "[File] [Edit] [Select] [
+| "[ ] f                [-]
+| "    [ ] + 2⏎
+| "    [ ] + 3⏎
+| "    [ ] + 4⏎
+| "    [ ] + 5⏎
+| "    [ ] + 6⏎
+| "    [ ] + 7⏎
+| screen 3
+| "[File] [Edit] [Select] [
+| "[ ] f                [-]
+| "  ( ) Section 1/1    (-)
+| "    [ ] + 0⏎
+| "    [ ] + 1⏎
+| "    [ ] + 2⏎
+| "    [ ] + 3⏎
+| "    [ ] + 4⏎
+| accepted…
+24 8 «OF1 TEN» l ctrl-down,ctrl-down,ctrl-down,ctrl-down,ctrl-down,ctrl-down,ctrl-down,ctrl-down,ctrl-down,ctrl-down,ctrl-down,ctrl-down,ctrl-down,ctrl-down shot wheel-up wheel-up shot wheel-down shot c => 0
+| screen 0
+| "[File] [Edit] [Select] [
+| screen 1
+| "[File] [Edit] [Select] [
+| "[ ] f                [-]
+| "    [ ] + 9⏎
+| screen 2
+| "[File] [Edit] [Select] [
+| "[ ] f                [-]
+| accepted…
+
+# An open menu and an open dialog lengthen what may be scrolled over, and stand in the document: they move with the screen.
+34 8 «PLAIN» click:0:24 ctrl-f shot ctrl-f shot click:0:24 ctrl-f shot c => 0
+| screen 0
+| "[File] [Edit] [Select] [View]
+| "                       [Fold/unfol
+| "                       [Fold/unfol
+| "                       [Scroll up
+| "                       [Scroll dow
+| "                       [Previous p
+| "                       [Next page
+| screen 1
+| "[File] [Edit] [Select] [View]
+| "                       [Fold/unfol
+| "                       [Fold/unfol
+| "                       [Scroll up
+| "                       [Scroll dow
+| "                       [Previous p
+| "                       [Next page
+| screen 2
+| "[File] [Edit] [Select] [View]
+| accepted…
+40 6 «PLAIN» ? ctrl-f shot ? ctrl-down shot c => 0
+| screen 0
+| "┌Help──────────────────────────────────┐
+| "│You can click the menus with a mouse, │
+| "│                                      │
+| "│    General                           │
+| "│    Quit/Cancel             q         │
+| "└───────────────────────────────(Close)┘
+| screen 1
+| "[File] [Edit] [Select] [View]
+| accepted…
+
+# Pages of the selection: by half a screen, past keys that are not drawn, to the last key that way, and to nothing.
+24 8 «OF1 TEN» l ctrl-d shot ctrl-d shot ctrl-u shot c => 0
+| screen 0
+| "[File] [Edit] [Select] [
+| "[ ] f                [-]
+| "  [ ] Section 1/1    [-]
+| "    [ ] + 0⏎
+| "    [ ] + 1⏎
+| "    [ ] + 2⏎
+| "    ( ) + 3⏎
+| "    [ ] + 4⏎
+| screen 1
+| "[File] [Edit] [Select] [
+| "[ ] f                [-]
+| "    [ ] + 2⏎
+| "    [ ] + 3⏎
+| "    [ ] + 4⏎
+| "    [ ] + 5⏎
+| "    [ ] + 6⏎
+| "    ( ) + 7⏎
+| screen 2
+| "[File] [Edit] [Select] [
+| "[ ] f                [-]
+| "    [ ] + 2⏎
+| "    ( ) + 3⏎
+| "    [ ] + 4⏎
+| "    [ ] + 5⏎
+| "    [ ] + 6⏎
+| "    [ ] + 7⏎
+| accepted…
+24 8 «OF1 TEN» l ctrl-d ctrl-d ctrl-d shot ctrl-d shot ctrl-u,ctrl-u,ctrl-u,ctrl-u shot c => 0
+| screen 0
+| "[File] [Edit] [Select] [
+| "[ ] f                [-]
+| "    [ ] + 4⏎
+| "    [ ] + 5⏎
+| "    [ ] + 6⏎
+| "    [ ] + 7⏎
+| "    [ ] + 8⏎
+| "    ( ) + 9⏎
+| screen 1
+| "[File] [Edit] [Select] [
+| "[ ] f                [-]
+| "    [ ] + 4⏎
+| "    [ ] + 5⏎
+| "    [ ] + 6⏎
+| "    [ ] + 7⏎
+| "    [ ] + 8⏎
+| "    ( ) + 9⏎
+| screen 2
+| "[File] [Edit] [Select] [
+| "( ) f                (-)
+| "  [ ] Section 1/1    [-]
+| "    [ ] + 0⏎
+| "    [ ] + 1⏎
+| "    [ ] + 2⏎
+| "    [ ] + 3⏎
+| "    [ ] + 4⏎
+| accepted…
+24 1 «TREE 0 0 0 0 0» l ctrl-d space c => 0 | accepted | «TREE 0 1 0 0 0»…
+24 0 «TREE 0 0 0 0 0» l ctrl-d ctrl-d ctrl-u space c => 0 | accepted | «TREE 0 1 0 0 0»…
+24 8 «OF1 TEN» l,ctrl-d shot j shot c => 0
+| screen 0
+| "[File] [Edit] [Select] [
+| "[ ] f                [-]
+| "  [ ] Section 1/1    [-]
+| "    [ ] + 0⏎
+| "    [ ] + 1⏎
+| "    [ ] + 2⏎
+| "    [ ] + 3⏎
+| "    [ ] + 4⏎
+| screen 1
+| "[File] [Edit] [Select] [
+| "( ) f                (-)
+| "  [ ] Section 1/1    [-]
+| "    [ ] + 0⏎
+| "    [ ] + 1⏎
+| "    [ ] + 2⏎
+| "    [ ] + 3⏎
+| "    [ ] + 4⏎
+| accepted…
+24 6 «PAIR X TEN» click:2:21,click:2:21,click:1:9,ctrl-d shot c => 0
+| screen 0
+| "[File] [Edit] [Select] [
+| "[ ] g                [-]
+| "    [ ] + 6⏎
+| "    [ ] + 7⏎
+| "    [ ] + 8⏎
+| "    ( ) + 9⏎
+| accepted…
+24 9 «OF3 X C3 Y» l click:5:9 ctrl-d shot j shot c => 0
+| screen 0
+| "[File] [Edit] [Select] [
+| "[ ] f                [-]
+| "  [ ] Section 1/2    [-]
+| "    [ ] + x⏎
+| "        1 a⏎
+| "        2 b⏎
+| "        3 c⏎
+| "  [ ] Section 2/2    [-]
+| "    [ ] - y⏎
+| screen 1
+| "[File] [Edit] [Select] [
+| "( ) f                (-)
+| "  [ ] Section 1/2    [-]
+| "    [ ] + x⏎
+| "        1 a⏎
+| "        2 b⏎
+| "        3 c⏎
+| "  [ ] Section 2/2    [-]
+| "    [ ] - y⏎
+| accepted…
+
+# The selection is brought onto the screen by every move, also one that stays, and by folds; not by a click that selects.
+24 5 «OF1 TEN» l l pageup shot ctrl-f k shot ctrl-f f shot c => 0
+| screen 0
+| "[File] [Edit] [Select] [
+| "[ ] f                [-]
+| "  [ ] Section 1/1    [-]
+| "    ( ) + 0⏎
+| "    [ ] + 1⏎
+| screen 1
+| "[File] [Edit] [Select] [
+| "[ ] f                [-]
+| "  ( ) Section 1/1    (-)
+| "    [ ] + 0⏎
+| "    [ ] + 1⏎
+| screen 2
+| "[File] [Edit] [Select] [
+| "[ ] f                [±]
+| "  ( ) Section 1/1    (+)
+| accepted…
+24 5 «OF1 TEN» l ctrl-f ensure shot c => 0
+| screen 0
+| "[File] [Edit] [Select] [
+| "[ ] f                [-]
+| "  ( ) Section 1/1    (-)
+| "    [ ] + 0⏎
+| "    [ ] + 1⏎
+| accepted…
+24 5 «OF1 TEN» l ctrl-f,ensure shot click:4:9 shot c => 0
+| screen 0
+| "[File] [Edit] [Select] [
+| "[ ] f                [-]
+| "  ( ) Section 1/1    (-)
+| "    [ ] + 0⏎
+| "    [ ] + 1⏎
+| screen 1
+| "[File] [Edit] [Select] [
+| "[ ] f                [-]
+| "  [ ] Section 1/1    [-]
+| "    [ ] + 0⏎
+| "    ( ) + 1⏎
+| accepted…
+24 5 «OF1 TEN» l l click:2:9 ctrl-f none shot h shot c => 0
+| screen 0
+| "[File] [Edit] [Select] [
+| "[ ] f                [-]
+| "    [ ] + 4⏎
+| "    [ ] + 5⏎
+| "    [ ] + 6⏎
+| screen 1
+| "[File] [Edit] [Select] [
+| "[ ] f                [±]
+| "  ( ) Section 1/1    (+)
+| accepted…
+24 6 «PAIR TEN X» l l ctrl-f ctrl-f click:1:1 shot ctrl-b h shot shift-F shot c => 0
+| screen 0
+| "[File] [Edit] [Select] [
+| "( ) g                (+)
+| screen 1
+| "[File] [Edit] [Select] [
+| "[ ] f                [-]
+| "    [ ] + 7⏎
+| "    [ ] + 8⏎
+| "    [ ] + 9⏎
+| "( ) g                (+)
+| screen 2
+| "[File] [Edit] [Select] [
+| "[ ] f                [-]
+| "    [ ] + 9⏎
+| "( ) g                (-)
+| "  [ ] Section 1/1    [-]
+| "    [ ] + x⏎
+| accepted…
+
+# Three states meet in a batch: what was drawn last says what is hit, how far one may scroll, and where the selection stands; the scroll and the selection are those of now.
+24 8 «HILL 0 1» l ctrl-down,click:3:10 shot c => 0
+| screen 0
+| "[File] [Edit] [Select] [
+| "[◐] f                [-]
+| "  [◐] Section 1/1    [-]
+| "    ( ) - b⏎
+| "    [●] + c⏎
+| accepted…
+24 8 «HILL 0 1» l l h ctrl-down ctrl-down ctrl-up,click:0:0,click:0:0 shot c => 0
+| screen 0
+| "[File] [Edit] [Select] [
+| "(◐) f                (-)
+| "  [◐] Section 1/1    [-]
+| "    [ ] - b⏎
+| "    [●] + c⏎
+| accepted
+| «HILL 0 1»…
+24 8 «HILL 0 1» l l h ctrl-down ctrl-down ctrl-up,click:0:22,click:0:22,shot shot click:1:22 shot c => 0
+| screen 0
+| "[File] [Edit] [Select] [
+| "[◐] f                [-]
+| "    [ ] - b⏎
+| "    [●] + c⏎
+| screen 1
+| "[File] [Edit] [Select] [
+| "(◐) f                (-)
+| "  [◐] Section 1/1    [-]
+| "    [ ] - b⏎
+| "    [●] + c⏎
+| screen 2
+| "[File] [Edit] [Select] [
+| "(◐) f                (+)
+| accepted
+| «HILL 0 1»…
+24 8 «HILL 0 1» l j,click:4:9,space shot c => 0
+| screen 0
+| "[File] [Edit] [Select] [
+| "[●] f                [-]
+| "        1 a⏎
+| "  [●] Section 1/1    [-]
+| "    (●) - b⏎
+| "    [●] + c⏎
+| accepted
+| «HILL 1 1»…
+24 4 «PAIR X X» j,l,k,k,click:2:9,shot shot c => 0
+| screen 0
+| "[File] [Edit] [Select] [
+| "( ) f                (+)
+| "[ ] g                [+]
+| screen 1
+| "[File] [Edit] [Select] [
+| "( ) g                (-)
+| "  [ ] Section 1/1    [-]
+| "    [ ] + x⏎
+| accepted…
+«PLAIN» click:0:1 click:0:8,click:1:3 => 0 | accepted | «PLAIN»…
+24 8 «OF3 X C7 Y» l click:4:0 enter shift-F shift-F,ctrl-f shot c => 0
+| screen 0
+| "[File] [Edit] [Select] [
+| accepted…
+
+# After Redraw the screen is blank until the next frame.
+20 5 «PLAIN» redraw,shot shot c => 0
+| screen 0
+| "
+| screen 1
+| "[File] [Edit] [Selec
+| "( ) foo/bar      (+)
+| accepted…
+size 24 4 | «SAID "m" null» | script | answer "new" | batch shot e shot | batch shot redraw shot c => 0
+| screen 0
+| "[File] [Edit] [Select] [
+| "
+| "[Edit message]  •  m
+| screen 1
+| "[File] [Edit] [Select] [
+| "
+| "[Edit message]  •  m
+| screen 2
+| "[File] [Edit] [Select] [
+| "
+| "[Edit message]  •  new
+| screen 3
+| "
+| accepted
+| «SAID "new" null»…
+
+# Context: nothing, one to six lines, or more, as the first, a middle, the last and the only section.
+24 5 «OF2 C0 X» l shot c => 0
+| screen 0
+| "[File] [Edit] [Select] [
+| "[ ] f                [-]
+| "
+| "  ( ) Section 1/1    (-)
+| "    [ ] + x⏎
+| accepted…
+24 5 «OF2 C1 X» l shot c => 0
+| screen 0
+| "[File] [Edit] [Select] [
+| "[ ] f                [-]
+| "        1 a⏎
+| "  ( ) Section 1/1    (-)
+| "    [ ] + x⏎
+| accepted…
+24 7 «OF2 C3 X» l shot c => 0
+| screen 0
+| "[File] [Edit] [Select] [
+| "[ ] f                [-]
+| "        1 a⏎
+| "        2 b⏎
+| "        3 c⏎
+| "  ( ) Section 1/1    (-)
+| "    [ ] + x⏎
+| accepted…
+24 7 «OF2 C4 X» l shot c => 0
+| screen 0
+| "[File] [Edit] [Select] [
+| "[ ] f                [-]
+| "        2 b⏎
+| "        3 c⏎
+| "        4 d⏎
+| "  ( ) Section 1/1    (-)
+| "    [ ] + x⏎
+| accepted…
+24 7 «OF2 C6 X» l shot c => 0
+| screen 0
+| "[File] [Edit] [Select] [
+| "[ ] f                [-]
+| "        4 d⏎
+| "        5 e⏎
+| "        6 f⏎
+| "  ( ) Section 1/1    (-)
+| "    [ ] + x⏎
+| accepted…
+24 7 «OF2 C7 X» l shot c => 0
+| screen 0
+| "[File] [Edit] [Select] [
+| "[ ] f                [-]
+| "        5 e⏎
+| "        6 f⏎
+| "        7 g⏎
+| "  ( ) Section 1/1    (-)
+| "    [ ] + x⏎
+| accepted…
+24 12 «OF3 X C0 Y» l shot c => 0
+| screen 0
+| "[File] [Edit] [Select] [
+| "[ ] f                [-]
+| "  ( ) Section 1/2    (-)
+| "    [ ] + x⏎
+| "
+| "  [ ] Section 2/2    [-]
+| "    [ ] - y⏎
+| accepted…
+24 12 «OF3 X C1 Y» l shot c => 0
+| screen 0
+| "[File] [Edit] [Select] [
+| "[ ] f                [-]
+| "  ( ) Section 1/2    (-)
+| "    [ ] + x⏎
+| "        1 a⏎
+| "  [ ] Section 2/2    [-]
+| "    [ ] - y⏎
+| accepted…
+24 12 «OF3 X C3 Y» l shot c => 0
+| screen 0
+| "[File] [Edit] [Select] [
+| "[ ] f                [-]
+| "  ( ) Section 1/2    (-)
+| "    [ ] + x⏎
+| "        1 a⏎
+| "        2 b⏎
+| "        3 c⏎
+| "  [ ] Section 2/2    [-]
+| "    [ ] - y⏎
+| accepted…
+24 12 «OF3 X C6 Y» l shot c => 0
+| screen 0
+| "[File] [Edit] [Select] [
+| "[ ] f                [-]
+| "  ( ) Section 1/2    (-)
+| "    [ ] + x⏎
+| "        1 a⏎
+| "        2 b⏎
+| "        3 c⏎
+| "        4 d⏎
+| "        5 e⏎
+| "        6 f⏎
+| "  [ ] Section 2/2    [-]
+| "    [ ] - y⏎
+| accepted…
+24 12 «OF3 X C7 Y» l shot c => 0
+| screen 0
+| "[File] [Edit] [Select] [
+| "[ ] f                [-]
+| "  ( ) Section 1/2    (-)
+| "    [ ] + x⏎
+| "        1 a⏎
+| "        2 b⏎
+| "        3 c⏎
+| "        ⋮
+| "        5 e⏎
+| "        6 f⏎
+| "        7 g⏎
+| "  [ ] Section 2/2    [-]
+| accepted…
+24 8 «OF2 X C0» l shot c => 0
+| screen 0
+| "[File] [Edit] [Select] [
+| "[ ] f                [-]
+| "  ( ) Section 1/1    (-)
+| "    [ ] + x⏎
+| accepted…
+24 8 «OF2 X C1» l shot c => 0
+| screen 0
+| "[File] [Edit] [Select] [
+| "[ ] f                [-]
+| "  ( ) Section 1/1    (-)
+| "    [ ] + x⏎
+| "        1 a⏎
+| accepted…
+24 8 «OF2 X C3» l shot c => 0
+| screen 0
+| "[File] [Edit] [Select] [
+| "[ ] f                [-]
+| "  ( ) Section 1/1    (-)
+| "    [ ] + x⏎
+| "        1 a⏎
+| "        2 b⏎
+| "        3 c⏎
+| accepted…
+24 8 «OF2 X C4» l shot c => 0
+| screen 0
+| "[File] [Edit] [Select] [
+| "[ ] f                [-]
+| "  ( ) Section 1/1    (-)
+| "    [ ] + x⏎
+| "        1 a⏎
+| "        2 b⏎
+| "        3 c⏎
+| "        ⋮
+| accepted…
+24 8 «OF2 X C6» l shot c => 0
+| screen 0
+| "[File] [Edit] [Select] [
+| "[ ] f                [-]
+| "  ( ) Section 1/1    (-)
+| "    [ ] + x⏎
+| "        1 a⏎
+| "        2 b⏎
+| "        3 c⏎
+| "        ⋮
+| accepted…
+24 8 «OF2 X C7» l shot c => 0
+| screen 0
+| "[File] [Edit] [Select] [
+| "[ ] f                [-]
+| "  ( ) Section 1/1    (-)
+| "    [ ] + x⏎
+| "        1 a⏎
+| "        2 b⏎
+| "        3 c⏎
+| "        ⋮
+| accepted…
+24 4 «OF1 C0» f shot c => 0
+| screen 0
+| "[File] [Edit] [Select] [
+| "( ) f                (-)
+| accepted…
+24 4 «OF1 C4» f shot c => 0
+| screen 0
+| "[File] [Edit] [Select] [
+| "( ) f                (-)
+| accepted…
+24 9 «OF4 C1 X C1 C1» l shot f shot c => 0
+| screen 0
+| "[File] [Edit] [Select] [
+| "[ ] f                [-]
+| "        1 a⏎
+| "  ( ) Section 1/1    (-)
+| "    [ ] + x⏎
+| "        2 a⏎
+| screen 1
+| "[File] [Edit] [Select] [
+| "[ ] f                [±]
+| "  ( ) Section 1/1    (+)
+| accepted…
+24 14 «OF5 X C7 X C7 Y» l f shot c => 0
+| screen 0
+| "[File] [Edit] [Select] [
+| "[ ] f                [±]
+| "  ( ) Section 1/3    (+)
+| "        1 a⏎
+| "        2 b⏎
+| "        3 c⏎
+| "        ⋮
+| "        5 e⏎
+| "        6 f⏎
+| "        7 g⏎
+| "  [ ] Section 2/3    [-]
+| "    [ ] + x⏎
+| "        8 a⏎
+| "        9 b⏎
+| accepted…
+24 14 «OF5 C1 MODE C1 B2 C1» l shot h f shot c => 0
+| screen 0
+| "[File] [Edit] [Select] [
+| "[ ] f                [-]
+| "        1 a⏎
+| "  ( ) File mode set to …
+| "        2 a⏎
+| "  [ ] (binary contents:…
+| "        3 a⏎
+| screen 1
+| "[File] [Edit] [Select] [
+| "[ ] f                [-]
+| "        1 a⏎
+| "  ( ) File mode set to …
+| "        2 a⏎
+| "  [ ] (binary contents:…
+| "        3 a⏎
+| accepted…
+
+# A section without lines is toggled on, with its effect on a new file.
+«VOID 0» l space c => 0 | accepted | «VOID 1»…
+
+# Modes, and contents that are no text; boxes where nothing may be changed.
+40 9 «OF5 MODE GONER B0 B1 B2» l shot space shot c => 0
+| screen 0
+| "[File] [Edit] [Select] [View]
+| "[◐] f                                [-]
+| "  ( ) File mode set to 100755
+| "  [●] File deleted
+| "  [ ] (binary contents )
+| "  [ ] (binary contents: a)
+| "  [ ] (binary contents: a -> b)
+| screen 1
+| "[File] [Edit] [Select] [View]
+| "[◐] f                                [-]
+| "  (●) File mode set to 100755
+| "  [●] File deleted
+| "  [ ] (binary contents )
+| "  [ ] (binary contents: a)
+| "  [ ] (binary contents: a -> b)
+| accepted…
+24 5 «OF3 B3 MODE GONER» l pagedown shot c => 0
+| screen 0
+| "[File] [Edit] [Select] [
+| "[◐] f                [-]
+| "  [ ] (binary contents:…
+| "  ( ) File mode set to …
+| "  [●] File deleted
+| accepted…
+40 8 «KEPT LONG GONER B2» l shot space enter a shift-A shot l shot c => 0
+| screen 0
+| "[File] [Edit] [Select] [View]
+| "<◐> f                                [-]
+| "  <◐> Section 1/3                    (-)
+| "    < > + the first line of a long file⏎
+| "    <●> - no end
+| "  <●> File deleted
+| "  < > (binary contents: a -> b)
+| screen 1
+| "[File] [Edit] [Select] [View]
+| "<◐> f                                [-]
+| "  <◐> Section 1/3                    [-]
+| "    < > + the first line of a long file⏎
+| "    <●> - no end
+| "  <●> File deleted
+| "  < > (binary contents: a -> b)
+| screen 2
+| "[File] [Edit] [Select] [View]
+| "<◐> f                                [-]
+| "  <◐> Section 1/3                    [-]
+| "    < > + the first line of a long file⏎
+| "    <●> - no end
+| "  <●> File deleted
+| "  < > (binary contents: a -> b)
+| accepted
+| «KEPT LONG GONER B2»…
+24 5 «OF1 LONG» l shot c => 0
+| screen 0
+| "[File] [Edit] [Select] [
+| "[◐] f                [-]
+| "  (◐) Section 1/1    (-)
+| "    [ ] + the first lin…
+| "    [●] - no end
+| accepted…
+
+# Folds of a file: closed, open in part, open; and of an empty section.
+24 7 «OF3 X EMPTY MODE» shot l shot f shot shift-F shot shift-F shot c => 0
+| screen 0
+| "[File] [Edit] [Select] [
+| "( ) f                (+)
+| screen 1
+| "[File] [Edit] [Select] [
+| "[ ] f                [-]
+| "  ( ) Section 1/3    (-)
+| "    [ ] + x⏎
+| "  [ ] Section 2/3    [-]
+| "  [ ] File mode set to …
+| screen 2
+| "[File] [Edit] [Select] [
+| "[ ] f                [±]
+| "  ( ) Section 1/3    (+)
+| "  [ ] Section 2/3    [-]
+| "  [ ] File mode set to …
+| screen 3
+| "[File] [Edit] [Select] [
+| "[ ] f                [-]
+| "  ( ) Section 1/3    (-)
+| "    [ ] + x⏎
+| "  [ ] Section 2/3    [-]
+| "  [ ] File mode set to …
+| screen 4
+| "[File] [Edit] [Select] [
+| "( ) f                (+)
+| accepted…
+
+# Messages: none, an empty one, spaces, two lines, one that is too wide, and characters that take no column.
+40 6 «SAID "" null» shot c => 0
+| screen 0
+| "[File] [Edit] [Select] [View]
+| "
+| "[Edit message]  •  (no message)
+| "
+| "( ) f                                (+)
+| accepted…
+40 6 «SAID "\u0020\t\u3000\nsecond" null» shot c => 0
+| screen 0
+| "[File] [Edit] [Select] [View]
+| "
+| "[Edit message]  •  (no message)
+| "
+| "( ) f                                (+)
+| accepted…
+40 6 «SAID "\u2003first\u0020\r\nsecond" null» shot c => 0
+| screen 0
+| "[File] [Edit] [Select] [View]
+| "
+| "[Edit message]  •  first
+| "
+| "( ) f                                (+)
+| accepted…
+40 6 «SAID "a\u0020message\u0020that\u0020is\u0020too\u0020wide" null» shot c => 0
+| screen 0
+| "[File] [Edit] [Select] [View]
+| "
+| "[Edit message]  •  a message that is to…
+| "
+| "( ) f                                (+)
+| accepted…
+40 6 «SAID "a\tb\u001cc" null» shot c => 0
+| screen 0
+| "[File] [Edit] [Select] [View]
+| "
+| "[Edit message]  •  abc
+| "
+| "( ) f                                (+)
+| accepted…
+40 6 «SAID "\u001c" null» shot c => 0
+| screen 0
+| "[File] [Edit] [Select] [View]
+| "
+| "[Edit message]  •
+| "
+| "( ) f                                (+)
+| accepted…
+40 3 «SAID null "m"» shot c => 0
+| screen 0
+| "[File] [Edit] [Select] [View]
+| "( ) f                                (+)
+| accepted…
+
+# Paths: an old one, wide symbols, a combining mark, controls; and the characters of a line, of which none vanishes.
+30 2 «NAMED "old" "new"» shot c => 0
+| screen 0
+| "[File] [Edit] [Select] [View]
+| "( ) old => new             (+)
+| accepted…
+14 2 «NAMED "old" "new"» shot c => 0
+| screen 0
+| "[File] [Edit]
+| "( ) old =>…(+)
+| accepted…
+24 2 «NAMED null "a\tb"» shot c => 0
+| screen 0
+| "[File] [Edit] [Select] [
+| "( ) ab               (+)
+| accepted…
+24 2 «NAMED null "e\u0301\u001b\u0000日"» shot c => 0
+| screen 0
+| "[File] [Edit] [Select] [
+| "( ) é日              (+)
+| accepted…
+24 2 «NAMED null ""» shot c => 0
+| screen 0
+| "[File] [Edit] [Select] [
+| "( )                  (+)
+| accepted…
+24 8 «OF1 {"Changed":{"lines":[{"is_checked":false,"change_type":"Added","line":"a\u0301\u0000日\n"}]}}» l shot c => 0
+| screen 0
+| "[File] [Edit] [Select] [
+| "[ ] f                [-]
+| "  ( ) Section 1/1    (-)
+| "    [ ] + a�␀日⏎
+| accepted…
+40 9 «OF2 {"Unchanged":{"lines":["\u007f\u001b\u0085","\r\n"]}} {"Changed":{"lines":[{"is_checked":false,"change_type":"Added","line":"\ta\tb"},{"is_checked":true,"change_type":"Removed","line":"e\u0301日\u200d"},{"is_checked":true,"change_type":"Removed","line":""}]}}» l shot c => 0
+| screen 0
+| "[File] [Edit] [Select] [View]
+| "[◐] f                                [-]
+| "        1 ␡␛�
+| "        2 ␍⏎
+| "  (◐) Section 1/1                    (-)
+| "    [ ] + →   a→   b
+| "    [●] - e�日�
+| "    [●] -
+| accepted…
+
+# Without files.
+«NOTHING» shot c => 0
+| screen 0
+| "[File] [Edit] [Select] [View]
+| "
+| "
+| "
+| "
+| "
+| "                    There are no changes to view.
+| accepted…
+20 3 «NOTHING» shot c => 0
+| screen 0
+| "[File] [Edit] [Selec
+| "There are no change…
+| accepted…
+1 1 «NOTHING» shot c => 0
+| screen 0
+| "[
+| accepted…
+40 9 «MESSAGES "m" null» shot c => 0
+| screen 0
+| "[File] [Edit] [Select] [View]
+| "
+| "[Edit message]  •  m
+| "     There are no changes to view.
+| accepted…
+40 3 «MESSAGES "m" null» shot c => 0
+| screen 0
+| "[File] [Edit] [Select] [View]
+| "     There are no changes to view.
+| "[Edit message]  •  m
+| accepted…
+40 12 «MESSAGES "m" null» ctrl-down ctrl-down ctrl-down shot c => 0
+| screen 0
+| "[File] [Edit] [Select] [View]
+| "     There are no changes to view.
+| accepted…
+40 12 «NOTHING» ctrl-down ctrl-down ctrl-down shot c => 0
+| screen 0
+| "[File] [Edit] [Select] [View]
+| "
+| "     There are no changes to view.
+| accepted…
+«MESSAGES null null» l h j ctrl-d space enter f shift-F a c => 0
+| accepted
+| «MESSAGES null null»…
+
+# Screens of any size: what has no place is not shown.
+0 0 «PLAIN» shot l ? q shot space c => 0
+| screen 0
+| screen 1
+| accepted…
+0 5 «PLAIN» shot click:0:0 c => 0
+| screen 0
+| accepted…
+5 0 «PLAIN» shot ctrl-f ctrl-d l c => 0
+| screen 0
+| accepted…
+1 1 «OF1 K» shot l shot q shot ? shot ctrl-c => 1
+| screen 0
+| "[
+| screen 1
+| "[
+| screen 2
+| "┌
+| screen 3
+| "┌
+| fault: cancelled by user
+1 2 «PLAIN» shot c => 0
+| screen 0
+| "[
+| ")
+| accepted…
+2 2 «PLAIN» shot c => 0
+| screen 0
+| "[F
+| "+)
+| accepted…
+3 3 «OF1 K» l shot c => 0
+| screen 0
+| "[Fi
+| "[-]
+| "(-)
+| accepted…
+5 4 «OF1 K» l shot c => 0
+| screen 0
+| "[File
+| "[…[-]
+| "  (-)
+| "    …
+| accepted…
+7 4 «OF1 K» l shot c => 0
+| screen 0
+| "[File]
+| "[●]…[-]
+| "  (…(-)
+| "    [●…
+| accepted…
+8 5 «OF2 K C1» l shot c => 0
+| screen 0
+| "[File] [
+| "[●] f[-]
+| "  (●…(-)
+| "    [●]…
+| "       …
+| accepted…
+9 2 «PLAIN» shot c => 0
+| screen 0
+| "[File] [E
+| "( ) f…(+)
+| accepted…
+size 9 4 | «SAID "m" null» | script | answer "n" | batch shot | batch click:2:8 | batch c => 0
+| screen 0
+| "[File] [E
+| "
+| "[Edit me…
+| accepted
+| «SAID "n" null»…
+10 2 «PLAIN» shot c => 0
+| screen 0
+| "[File] [Ed
+| "( ) fo…(+)
+| accepted…
+65535 1 «PLAIN» shot c => 0
+| screen 0
+| "[File] [Edit] [Select] [View]
+| accepted…
+1 65535 «PLAIN» ctrl-f ctrl-f c => 0
+| accepted…
+
+# A click off the screen does nothing; one on the screen selects, or toggles and folds what is selected.
+24 4 «PLAIN» click:4:0 click:0:65535 click:65535:65535 click:1:24 shot c => 0
+| screen 0
+| "[File] [Edit] [Select] [
+| "( ) foo/bar          (+)
+| accepted…
+24 7 «OF2 K MODE» click:1:22 shot click:2:7 shot click:2:3 shot click:3:0 shot click:3:5 shot click:4:20 shot click:4:2 shot click:1:1 click:1:1 shot c => 0
+| screen 0
+| "[File] [Edit] [Select] [
+| "(◐) f                (-)
+| "  [●] Section 1/2    [-]
+| "    [●] + c⏎
+| "  [ ] File mode set to …
+| screen 1
+| "[File] [Edit] [Select] [
+| "[◐] f                [-]
+| "  (●) Section 1/2    (-)
+| "    [●] + c⏎
+| "  [ ] File mode set to …
+| screen 2
+| "[File] [Edit] [Select] [
+| "[ ] f                [-]
+| "  ( ) Section 1/2    (-)
+| "    [ ] + c⏎
+| "  [ ] File mode set to …
+| screen 3
+| "[File] [Edit] [Select] [
+| "[ ] f                [-]
+| "  [ ] Section 1/2    [-]
+| "    ( ) + c⏎
+| "  [ ] File mode set to …
+| screen 4
+| "[File] [Edit] [Select] [
+| "[◐] f                [-]
+| "  [●] Section 1/2    [-]
+| "    (●) + c⏎
+| "  [ ] File mode set to …
+| screen 5
+| "[File] [Edit] [Select] [
+| "[◐] f                [-]
+| "  [●] Section 1/2    [-]
+| "    [●] + c⏎
+| "  ( ) File mode set to …
+| screen 6
+| "[File] [Edit] [Select] [
+| "[●] f                [-]
+| "  [●] Section 1/2    [-]
+| "    [●] + c⏎
+| "  (●) File mode set to …
+| screen 7
+| "[File] [Edit] [Select] [
+| "( ) f                (-)
+| "  [ ] Section 1/2    [-]
+| "    [ ] + c⏎
+| "  [ ] File mode set to …
+| accepted…
+24 7 «PAIR X Y» click:2:12 shot click:2:21 shot click:3:4 click:3:4 shot c => 0
+| screen 0
+| "[File] [Edit] [Select] [
+| "[ ] f                [+]
+| "( ) g                (+)
+| screen 1
+| "[File] [Edit] [Select] [
+| "[ ] f                [+]
+| "( ) g                (-)
+| "  [ ] Section 1/1    [-]
+| "    [ ] - y⏎
+| screen 2
+| "[File] [Edit] [Select] [
+| "[ ] f                [+]
+| "[●] g                [-]
+| "  (●) Section 1/1    (-)
+| "    [●] - y⏎
+| accepted…
+
+# Columns 0 and 1 of the rows of a section are the file's, unless the section shows a line, or can be changed and is selected.
+24 8 «OF3 X MODE C0» l click:2:0 shot click:4:0 shot click:4:8,click:4:1 shot click:4:8 click:4:1 shot c => 0
+| screen 0
+| "[File] [Edit] [Select] [
+| "[ ] f                [-]
+| "  ( ) Section 1/2    (-)
+| "    [ ] + x⏎
+| "  [ ] File mode set to …
+| screen 1
+| "[File] [Edit] [Select] [
+| "( ) f                (-)
+| "  [ ] Section 1/2    [-]
+| "    [ ] + x⏎
+| "  [ ] File mode set to …
+| screen 2
+| "[File] [Edit] [Select] [
+| "( ) f                (-)
+| "  [ ] Section 1/2    [-]
+| "    [ ] + x⏎
+| "  [ ] File mode set to …
+| screen 3
+| "[File] [Edit] [Select] [
+| "[ ] f                [-]
+| "  [ ] Section 1/2    [-]
+| "    [ ] + x⏎
+| "  ( ) File mode set to …
+| accepted…
+24 8 «OF3 X MODE C0» l click:2:3 click:2:22 click:2:22 shot click:2:1 shot click:2:9 click:2:1 shot c => 0
+| screen 0
+| "[File] [Edit] [Select] [
+| "[◐] f                [-]
+| "  (●) Section 1/2    (-)
+| "    [●] + x⏎
+| "  [ ] File mode set to …
+| screen 1
+| "[File] [Edit] [Select] [
+| "[◐] f                [-]
+| "  (●) Section 1/2    (-)
+| "    [●] + x⏎
+| "  [ ] File mode set to …
+| screen 2
+| "[File] [Edit] [Select] [
+| "[◐] f                [-]
+| "  (●) Section 1/2    (-)
+| "    [●] + x⏎
+| "  [ ] File mode set to …
+| accepted…
+24 10 «OF3 X C0 Y» l click:4:1 shot click:4:2 shot click:4:1 shot click:1:5,click:4:20 enter shot c => 0
+| screen 0
+| "[File] [Edit] [Select] [
+| "( ) f                (-)
+| "  [ ] Section 1/2    [-]
+| "    [ ] + x⏎
+| "
+| "  [ ] Section 2/2    [-]
+| "    [ ] - y⏎
+| screen 1
+| "[File] [Edit] [Select] [
+| "[ ] f                [-]
+| "  [ ] Section 1/2    [-]
+| "    [ ] + x⏎
+| "
+| "  [ ] Section 2/2    [-]
+| "    [ ] - y⏎
+| screen 2
+| "[File] [Edit] [Select] [
+| "( ) f                (-)
+| "  [ ] Section 1/2    [-]
+| "    [ ] + x⏎
+| "
+| "  [ ] Section 2/2    [-]
+| "    [ ] - y⏎
+| screen 3
+| "[File] [Edit] [Select] [
+| "[ ] f                [-]
+| "  [ ] Section 1/2    [-]
+| "    [ ] + x⏎
+| "
+| "  [ ] Section 2/2    [-]
+| "    [ ] - y⏎
+| accepted…
+24 9 «OF2 C7 X» l click:2:0 shot space enter shot c => 0
+| screen 0
+| "[File] [Edit] [Select] [
+| "[ ] f                [-]
+| "        ⋮
+| "        5 e⏎
+| "        6 f⏎
+| "        7 g⏎
+| "  [ ] Section 1/1    [-]
+| "    [ ] + x⏎
+| screen 1
+| "[File] [Edit] [Select] [
+| "[ ] f                [-]
+| "        ⋮
+| "        5 e⏎
+| "        6 f⏎
+| "        7 g⏎
+| "  [ ] Section 1/1    [-]
+| "    [ ] + x⏎
+| accepted…
+
+# The file of a pinned header owns the row of its own header.
+24 5 «OF1 TEN» l l j j j j click:1:1 shot ctrl-up,ctrl-up,ctrl-up,ctrl-up,click:1:22 shot c => 0
+| screen 0
+| "[File] [Edit] [Select] [
+| "( ) f                (-)
+| "    [ ] + 2⏎
+| "    [ ] + 3⏎
+| "    [ ] + 4⏎
+| screen 1
+| "[File] [Edit] [Select] [
+| "( ) f                (-)
+| "  [ ] Section 1/1    [-]
+| "    [ ] + 0⏎
+| "    [ ] + 1⏎
+| accepted…
+24 5 «PAIR TEN X» l l j j j j click:1:22 shot click:1:22 shot c => 0
+| screen 0
+| "[File] [Edit] [Select] [
+| "( ) f                (-)
+| "    [ ] + 2⏎
+| "    [ ] + 3⏎
+| "    [ ] + 4⏎
+| screen 1
+| "[File] [Edit] [Select] [
+| "( ) f                (+)
+| "[ ] g                [+]
+| accepted…
+
+# Menus: opened and closed by their headers, closed by the bar on every row of theirs, and each item is its own label alone.
+80 4 «PLAIN» click:0:1 shot click:1:30 shot click:0:8 shot click:0:8 shot click:0:15 click:0:7 shot click:1:25 shot c => 0
+| screen 0
+| "[File] [Edit] [Select] [View]
+| "[Confirm (c)]                                                                (+)
+| "[Quit (q)]
+| screen 1
+| "[File] [Edit] [Select] [View]
+| "( ) foo/bar                                                                  (+)
+| screen 2
+| "[File] [Edit] [Select] [View]
+| "( ) foo[Edit message (e)]                                                    (+)
+| "       [Toggle current (space)]
+| "       [Toggle current and advance (enter)]
+| screen 3
+| "[File] [Edit] [Select] [View]
+| "( ) foo/bar                                                                  (+)
+| screen 4
+| "[File] [Edit] [Select] [View]
+| "( ) foo[Edit message (e)]                                                    (+)
+| "       [Toggle current (space)]
+| "       [Toggle current and advance (enter)]
+| screen 5
+| "[File] [Edit] [Select] [View]
+| "( ) foo/bar                                                                  (+)
+| accepted…
+«PLAIN» click:0:1 click:2:3 c => 1 | fault: cancelled by user
+«OF1 K» click:0:1 click:2:3 space c => 1 | fault: cancelled by user
+24 8 «OF1 TEN» l click:0:15 click:2:15 shot c => 0
+| screen 0
+| "[File] [Edit] [Select] [
+| "[ ] f                [-]
+| "  [ ] Section 1/1    [-]
+| "    ( ) + 0⏎
+| "    [ ] + 1⏎
+| "    [ ] + 2⏎
+| "    [ ] + 3⏎
+| "    [ ] + 4⏎
+| accepted…
+24 6 «OF2 X Y» l ctrl-down ctrl-down click:0:2 shot click:2:3 c => 1
+| screen 0
+| "[File] [Edit] [Select] [
+| "[Confirm (c)]        [-]
+| "[Quit (q)]    2/2    [-]
+| "    [ ] - y⏎
+| fault: cancelled by user
+50 11 «OF2 X Y» click:0:14 shot click:7:20 click:0:14 click:2:15 click:0:14 click:5:15 shot c => 0
+| screen 0
+| "[File] [Edit] [Select] [View]
+| "( ) f         [Previous item (up, k)]
+| "              [Next item (down, j)]
+| "              [Previous item of the same kind (pag
+| "              [Next item of the same kind (page-do
+| "              [Outer item without folding (shift-l
+| "              [Outer item with folding (left, h)]
+| "              [Inner item with unfolding (right, l
+| "              [Previous page (ctrl-u)]
+| "              [Next page (ctrl-d)]
+| screen 1
+| "[File] [Edit] [Select] [View]
+| "[ ] f                                          [-]
+| "  ( ) Section 1/2                              (-)
+| "    [ ] + x⏎
+| "  [ ] Section 2/2                              [-]
+| "    [ ] - y⏎
+| accepted…
+44 7 «OF1 X» click:0:24 click:2:24 shot click:0:24 click:4:24 shot click:0:24 click:6:30 shot click:0:24 click:5:30 click:0:24 click:3:30 click:0:24 click:1:24 shot c => 0
+| screen 0
+| "[File] [Edit] [Select] [View]
+| "( ) f                                    (-)
+| "  [ ] Section 1/1                        [-]
+| "    [ ] + x⏎
+| screen 1
+| "[File] [Edit] [Select] [View]
+| "( ) f                                    (-)
+| "    [ ] + x⏎
+| screen 2
+| "[File] [Edit] [Select] [View]
+| "( ) f                                    (-)
+| screen 3
+| "[File] [Edit] [Select] [View]
+| "( ) f                                    (+)
+| accepted…
+40 7 «OF2 X K» click:0:7 shot click:2:8 click:0:7 click:4:8 shot click:0:7 click:5:8 shot click:0:7 click:3:8 shot c => 0
+| screen 0
+| "[File] [Edit] [Select] [View]
+| "(◐) f  [Edit message (e)]
+| "       [Toggle current (space)]
+| "       [Toggle current and advance (ente
+| "       [Invert all items (a)]
+| "       [Invert all items uniformly (A)]
+| screen 1
+| "[File] [Edit] [Select] [View]
+| "(●) f                                (+)
+| screen 2
+| "[File] [Edit] [Select] [View]
+| "( ) f                                (+)
+| screen 3
+| "[File] [Edit] [Select] [View]
+| "(●) f                                (+)
+| accepted…
+44 12 «OF3 X Y TEN» click:0:14 click:7:15 click:0:14 click:4:15 click:0:14 click:3:15 click:0:14 click:9:15 shot click:0:14 click:8:15 click:0:14 click:6:15 click:0:14 click:1:15 shot c => 0
+| screen 0
+| "[File] [Edit] [Select] [View]
+| "[ ] f                                    [-]
+| "  [ ] Section 1/3                        [-]
+| "    [ ] + x⏎
+| "  [ ] Section 2/3                        [-]
+| "    [ ] - y⏎
+| "  [ ] Section 3/3                        [-]
+| "    [ ] + 0⏎
+| "    ( ) + 1⏎
+| "    [ ] + 2⏎
+| "    [ ] + 3⏎
+| "    [ ] + 4⏎
+| screen 1
+| "[File] [Edit] [Select] [View]
+| "( ) f                                    (±)
+| "  [ ] Section 1/3                        [+]
+| "  [ ] Section 2/3                        [-]
+| "    [ ] - y⏎
+| "  [ ] Section 3/3                        [-]
+| "    [ ] + 0⏎
+| "    [ ] + 1⏎
+| "    [ ] + 2⏎
+| "    [ ] + 3⏎
+| "    [ ] + 4⏎
+| "    [ ] + 5⏎
+| accepted…
+24 5 «PLAIN» click:0:1 j shot space click:4:3 click:1:3 c => 0
+| screen 0
+| "[File] [Edit] [Select] [
+| "[Confirm (c)]        (+)
+| "[Quit (q)]
+| accepted
+| «PLAIN»…
+7 3 «PLAIN» click:0:6 shot click:0:1 shot c => 0
+| screen 0
+| "[File]
+| "( )…(+)
+| screen 1
+| "[File]
+| "[Confir
+| "[Quit (
+| accepted…
+size 40 5 | «SAID "m" null» | script | answer "n" | batch click:0:7 | batch click:1:9 | batch shot | batch c => 0
+| screen 0
+| "[File] [Edit] [Select] [View]
+| "
+| "[Edit message]  •  n
+| "
+| "( ) f                                (+)
+| accepted
+| «SAID "n" null»…
+
+# The quit dialog: in the middle of the screen, at any scroll; both buttons by click and by key; what a click behind it does.
+«OF1 K» q shot click:12:55 c => 0
+| screen 0
+| "[File] [Edit] [Select] [View]
+| "(●) f                                                                        (+)
+| "
+| "
+| "
+| "
+| "
+| "
+| "
+| "          ┌Quit──────────────────────────────────────────────────────┐
+| "          │You have changes to 1 file. Are you sure you want to quit?│
+| "          │                                                          │
+| "          └──────────────────────────────────────────[Go Back]─(Quit)┘
+| accepted
+| «OF1 K»…
+80 6 «OF1 K» ctrl-down q shot click:4:55 click:3:55 shot c => 0
+| screen 0
+| "[File] [Edit] [Select] [View]
+| "          ┌Quit──────────────────────────────────────────────────────┐
+| "          │You have changes to 1 file. Are you sure you want to quit?│
+| "          └──────────────────────────────────────────[Go Back]─(Quit)┘
+| screen 1
+| "[File] [Edit] [Select] [View]
+| accepted
+| «OF1 K»…
+«OF1 K» ctrl-down q click:12:55 c => 0 | accepted | «OF1 K»…
+«OF1 K» q click:12:65 c => 1 | fault: cancelled by user
+«OF1 K» q click:11:12 click:9:12 click:12:52 q c => 0 | accepted | «OF1 K»…
+64 4 «OF1 K» q h shot l shot shift-h shot space shot q enter c => 1
+| screen 0
+| "[F┌Quit──────────────────────────────────────────────────────┐
+| "(●│You have changes to 1 file. Are you sure you want to quit?│+)
+| "  └──────────────────────────────────────────(Go Back)─[Quit]┘
+| screen 1
+| "[F┌Quit──────────────────────────────────────────────────────┐
+| "(●│You have changes to 1 file. Are you sure you want to quit?│+)
+| "  └──────────────────────────────────────────[Go Back]─(Quit)┘
+| screen 2
+| "[F┌Quit──────────────────────────────────────────────────────┐
+| "(●│You have changes to 1 file. Are you sure you want to quit?│+)
+| "  └──────────────────────────────────────────(Go Back)─[Quit]┘
+| screen 3
+| "[File] [Edit] [Select] [View]
+| "(●) f                                                        (+)
+| fault: cancelled by user
+10 2 «OF1 K» q shot click:1:0 shot q click:1:1 q click:1:4 c => 1
+| screen 0
+| "┌Quit────┐
+| "k]─(Quit)┘
+| screen 1
+| "[File] [Ed
+| "(●) f  (+)
+| fault: cancelled by user
+70 4 «SAID "a" "b"» q shot ctrl-c => 1
+| screen 0
+| "[Fi┌Quit──────────────────────────────────────────────────────────┐
+| "   │You have changes to 2 messages. Are you sure you want to quit?│
+| "[Ed└──────────────────────────────────────────────[Go Back]─(Quit)┘
+| fault: cancelled by user
+80 4 «BAR "a" "b" 1» q shot ctrl-c => 1
+| screen 0
+| "[F┌Quit─────────────────────────────────────────────────────────────────────┐
+| "  │You have changes to 2 messages and 1 file. Are you sure you want to quit?│
+| "[E└─────────────────────────────────────────────────────────[Go Back]─(Quit)┘
+| fault: cancelled by user
+66 4 «PAIR K K» q shot ctrl-c => 1
+| screen 0
+| "[F┌Quit───────────────────────────────────────────────────────┐
+| "(●│You have changes to 2 files. Are you sure you want to quit?│(+)
+| "[●└───────────────────────────────────────────[Go Back]─(Quit)┘[+]
+| fault: cancelled by user
+size 70 6 | «BAR "a" null 0» | script | answer "n" | batch q | batch e | batch click:2:5 | batch click:2:1 | batch shot | batch q | batch c => 0
+| screen 0
+| "[File] [Edit] [Select] [View]
+| "   ┌Quit─────────────────────────────────────────────────────────┐
+| "[Ed│You have changes to 1 message. Are you sure you want to quit?│
+| "   └─────────────────────────────────────────────[Go Back]─(Quit)┘
+| "( ) foo/bar                                                        (+)
+| accepted
+| «BAR "n" null 0»…
+70 8 «OF2 K MODE» q click:1:1 shot click:1:68 shot click:0:9 shot q c => 0
+| screen 0
+| "[File] [Edit] [Select] [View]
+| "( ) f                                                              (+)
+| "     ┌Quit──────────────────────────────────────────────────────┐
+| "     │You have changes to 1 file. Are you sure you want to quit?│
+| "     └──────────────────────────────────────────[Go Back]─(Quit)┘
+| screen 1
+| "[File] [Edit] [Select] [View]
+| "( ) f                                                              (-)
+| "  [ ]┌Quit──────────────────────────────────────────────────────┐  [-]
+| "    [│You have changes to 1 file. Are you sure you want to quit?│
+| "  [ ]└──────────────────────────────────────────[Go Back]─(Quit)┘
+| screen 2
+| "[File] [Edit] [Select] [View]
+| "( ) f  [Edit message (e)]                                          (-)
+| "  [ ]┌Quit──────────────────────────────────────────────────────┐  [-]
+| "    [│You have changes to 1 file. Are you sure you want to quit?│
+| "  [ ]└──────────────────────────────────────────[Go Back]─(Quit)┘
+| "       [Invert all items uniformly (A)]
+| accepted…
+
+# Help, and help over the quit dialog, with each key that closes it; an interrupt opens the quit dialog under help.
+«PLAIN» ? shot c c => 0
+| screen 0
+| "[File] [Edit] [Select] [View]
+| "( ) foo/bar                                                                  (+)
+| "┌Help──────────────────────────────────────────────────────────────────────────┐
+| "│You can click the menus with a mouse, or use these keyboard shortcuts:        │
+| "│                                                                              │
+| "│    General                             Navigation                            │
+| "│    Quit/Cancel             q           Next/Prev               j/k or ↓/↑    │
+| "│    Confirm changes         c           Next/Prev of same type  PgDn/PgUp     │
+| "│    Force quit              ^c          Move out & fold         h or ←        │
+| "│                                        Move out & don't fold   H or Shift-←  │
+| "│    View controls                       Move in & unfold        l or →        │
+| "│    Expand/Collapse         f                                                 │
+| "│    Expand/Collapse all     F           Scrolling                             │
+| "│    Edit commit message     e           Scroll up/down          ^y/^e         │
+| "│                                                             or ^↑/^↓         │
+| "│    Selection                           Page up/down            ^b/^f         │
+| "│    Toggle current          Space                            or ^PgUp/^PgDn   │
+| "│    Toggle and advance      Enter       Previous/Next page      ^u/^d         │
+| "│    Invert all              a                                                 │
+| "│    Invert all uniformly    A                                                 │
+| "└───────────────────────────────────────────────────────────────────────(Close)┘
+| accepted
+| «PLAIN»…
+«PLAIN» ? click:20:75 shot c => 0
+| screen 0
+| "[File] [Edit] [Select] [View]
+| "( ) foo/bar                                                                  (+)
+| accepted
+| «PLAIN»…
+60 5 «OF1 K» q shot ? shot q shot ctrl-c => 1
+| screen 0
+| "[File] [Edit] [Select] [View]
+| "┌Quit──────────────────────────────────────────────────────┐
+| "│You have changes to 1 file. Are you sure you want to quit?│
+| "└──────────────────────────────────────────[Go Back]─(Quit)┘
+| screen 1
+| "┌Help──────────────────────────────────────────────────────┐
+| "│You can click the menus with a mouse, or use these keyboar│
+| "│                                                          │
+| "│    General                             Navigation        │
+| "└───────────────────────────────────────────────────(Close)┘
+| screen 2
+| "[File] [Edit] [Select] [View]
+| "┌Quit──────────────────────────────────────────────────────┐
+| "│You have changes to 1 file. Are you sure you want to quit?│
+| "└──────────────────────────────────────────[Go Back]─(Quit)┘
+| fault: cancelled by user
+60 4 «OF1 K» q ? ? shot ? esc shot ? space shot ? enter shot ? c shot ctrl-c => 1
+| screen 0
+| "┌Quit──────────────────────────────────────────────────────┐
+| "│You have changes to 1 file. Are you sure you want to quit?│
+| "└──────────────────────────────────────────[Go Back]─(Quit)┘
+| screen 1
+| "┌Quit──────────────────────────────────────────────────────┐
+| "│You have changes to 1 file. Are you sure you want to quit?│
+| "└──────────────────────────────────────────[Go Back]─(Quit)┘
+| screen 2
+| "┌Quit──────────────────────────────────────────────────────┐
+| "│You have changes to 1 file. Are you sure you want to quit?│
+| "└──────────────────────────────────────────[Go Back]─(Quit)┘
+| screen 3
+| "┌Quit──────────────────────────────────────────────────────┐
+| "│You have changes to 1 file. Are you sure you want to quit?│
+| "└──────────────────────────────────────────[Go Back]─(Quit)┘
+| screen 4
+| "┌Help──────────────────────────────────────────────────────┐
+| "│You can click the menus with a mouse, or use these keyboar│
+| "│                                                          │
+| "└───────────────────────────────────────────────────(Close)┘
+| fault: cancelled by user
+60 4 «OF1 K» ? ctrl-c shot q shot q shot c => 0
+| screen 0
+| "┌Help──────────────────────────────────────────────────────┐
+| "│You can click the menus with a mouse, or use these keyboar│
+| "│                                                          │
+| "└───────────────────────────────────────────────────(Close)┘
+| screen 1
+| "┌Quit──────────────────────────────────────────────────────┐
+| "│You have changes to 1 file. Are you sure you want to quit?│
+| "└──────────────────────────────────────────[Go Back]─(Quit)┘
+| screen 2
+| "[File] [Edit] [Select] [View]
+| "(●) f                                                    (+)
+| accepted
+| «OF1 K»…
+«PLAIN» ? ctrl-c c => 1 | fault: cancelled by user
+«OF1 K» ? space ? enter ? esc ? q ? ? ? c c => 0 | accepted | «OF1 K»…
+60 6 «OF1 K» ? j l a click:1:2 click:0:1 shot click:5:54 shot c => 0
+| screen 0
+| "┌Help──────────────────────────────────────────────────────┐
+| "│You can click the menus with a mouse, or use these keyboar│
+| "│                                                          │
+| "│    General                             Navigation        │
+| "│    Quit/Cancel             q           Next/Prev         │
+| "└───────────────────────────────────────────────────(Close)┘
+| screen 1
+| "[File] [Edit] [Select] [View]
+| "[ ] f                                                    [-]
+| "  ( ) Section 1/1                                        (-)
+| "    [ ] + c⏎
+| accepted…
+
+# Both commits side by side: each with its own keys, from the column behind what the first one draws.
+41 5 «BAR null null 0» view shot c => 0
+| screen 0
+| "[File] [Edit] [Select] [View]
+| "( ) foo/bar      (+) [ ] foo/bar      [+]
+| accepted…
+41 5 «BAR null null 0» view click:1:22 shot c => 0
+| screen 0
+| "[File] [Edit] [Select] [View]
+| "[ ] foo/bar      [+] ( ) foo/bar      (+)
+| accepted…
+41 5 «BAR null null 0» view click:1:22 click:1:22 c => 0 | accepted | «BAR null null 1»…
+41 5 «BAR null null 0» view click:1:39 click:1:39 shot c => 0
+| screen 0
+| "[File] [Edit] [Select] [View]
+| "[ ] foo/bar      [+] ( ) foo/bar      (±)
+| "                       [ ] Section 1/1[+]
+| accepted…
+size 41 5 | «BAR "a" "b" 0» | script | answer "z" | batch view | batch shot | batch click:2:22 | batch shot | batch c => 0
+| screen 0
+| "[File] [Edit] [Select] [View]
+| "
+| "[Edit message]  •  a [Edit message]  •  b
+| "
+| "( ) foo/bar      (+) [ ] foo/bar      [+]
+| screen 1
+| "[File] [Edit] [Select] [View]
+| "
+| "[Edit message]  •  a [Edit message]  •  z
+| "
+| "( ) foo/bar      (+) [ ] foo/bar      [+]
+| accepted
+| «BAR "a" "z" 0»…
+41 5 «BAR null null 0» view view shot c => 0
+| screen 0
+| "[File] [Edit] [Select] [View]
+| "( ) foo/bar                           (+)
+| accepted…
+61 6 «BAR "a" null 0» view shot c => 0
+| screen 0
+| "[File] [Edit] [Select] [View]
+| "                               [ ] foo/bar                [+]
+| "[Edit message]  •  a
+| "
+| "( ) foo/bar                (+)
+| accepted…
+61 6 «BAR null "b" 0» view shot c => 0
+| screen 0
+| "[File] [Edit] [Select] [View]
+| "( ) foo/bar                (+)
+| "                               [Edit message]  •  b
+| "
+| "                               [ ] foo/bar                [+]
+| accepted…
+size 41 5 | «BAR "a" null 0» | script | answer "z" | batch view | batch click:2:5 click:2:22 | batch shot | batch c => 0
+| screen 0
+| "[File] [Edit] [Select] [View]
+| "                     [ ] foo/bar      [+]
+| "[Edit message]  •  z
+| "
+| "( ) foo/bar      (+)
+| accepted
+| «BAR "z" null 0»…
+
+# Both commits without files, with and without messages: the second begins behind the words of the first.
+80 7 «NOTHING» view shot c => 0
+| screen 0
+| "[File] [Edit] [Select] [View]
+| "
+| "     There are no changes to view. There are no changes to view.
+| accepted…
+80 7 «MESSAGES "a" null» view shot c => 0
+| screen 0
+| "[File] [Edit] [Select] [View]
+| "
+| "[EditThere are no changes to view.           There are no changes to view.
+| accepted…
+80 7 «MESSAGES null "b"» view shot c => 0
+| screen 0
+| "[File] [Edit] [Select] [View]
+| "
+| "     There are no changes to v[EditThere are no changes to view.
+| accepted…
+41 5 «MESSAGES "a" "b"» view shot c => 0
+| screen 0
+| "[File] [Edit] [Select] [View]
+| "
+| "There are no change… There are no change…
+| accepted…
+41 5 «NOTHING» view shot c => 0
+| screen 0
+| "[File] [Edit] [Select] [View]
+| "
+| "There are no change… There are no change…
+| accepted…
+
+# Both commits on screens of any width.
+0 4 «BAR "a" "b" 1» view shot ctrl-f c => 0
+| screen 0
+| accepted…
+1 4 «BAR "a" "b" 1» view shot ctrl-f c => 0
+| screen 0
+| "[
+| accepted…
+2 4 «BAR "a" "b" 1» view shot ctrl-f c => 0
+| screen 0
+| "[F
+| accepted…
+3 4 «BAR "a" "b" 1» view shot ctrl-f c => 0
+| screen 0
+| "[Fi
+| "
+| "… …
+| accepted…
+9 4 «BAR "a" "b" 1» view shot ctrl-f c => 0
+| screen 0
+| "[File] [E
+| "
+| "[Ed… [Ed…
+| accepted…
+10 4 «BAR "a" "b" 1» view shot ctrl-f c => 0
+| screen 0
+| "[File] [Ed
+| "
+| "[Ed… [Ed…
+| accepted…
+9 3 «BAR null null 0» view shot c => 0
+| screen 0
+| "[File] [E
+| "…(+) …[+]
+| accepted…
+10 3 «BAR null null 0» view shot c => 0
+| screen 0
+| "[File] [Ed
+| "…(+) …[+]
+| accepted…
+80 6 «BAR "a" null 1» view l shot c => 0
+| screen 0
+| "[File] [Edit] [Select] [View]
+| "[Edit message]  •  a
+| "
+| "[●] foo/bar                         [-]
+| "  (●) Section 1/1                   (-)
+| "    [●] + n⏎
+| accepted…
+300 5 «BAR null "b" 1» view shot click:1:122 shot c => 0
+| screen 0
+| "[File] [Edit] [Select] [View]
+| "(●) foo/bar                                                                                                          (+)
+| "                                                                                                                         [Edit message]  •  b
+| "
+| "                                                                                                                         [●] foo/bar                                                                                                          [+]
+| screen 1
+| "[File] [Edit] [Select] [View]
+| "(●) foo/bar                                                                                                          (+)
+| "                                                                                                                         [Edit message]  •  b
+| "
+| "                                                                                                                         [●] foo/bar                                                                                                          [+]
+| accepted…
+20 1 «BAR null null 0» view shot c => 0
+| screen 0
+| "[File] [Edit] [Selec
+| accepted…
+
+# Texts of the first commit reach as far as they are wide for a click, where the second one has nothing.
+41 5 «BESIDES X» view click:2:30 shot click:1:20 shot c => 0
+| screen 0
+| "[File] [Edit] [Select] [View]
+| "[ ] a/long/path/…[+] [ ] a/long/path/…[+]
+| "[ ] g            [+] ( ) g            (+)
+| screen 1
+| "[File] [Edit] [Select] [View]
+| "( ) a/long/path/…(+) [ ] a/long/path/…[+]
+| "[ ] g            [+] [ ] g            [+]
+| accepted…
+41 6 «OF2 LONG C1» l view click:3:40 shot click:3:39 shot click:5:9 click:5:23 shot click:4:20 shot c => 0
+| screen 0
+| "[File] [Edit] [Select] [View]
+| "[◐] f            [-] [◐] f            [+]
+| "  (◐) Section 1/1(-)
+| "    [ ] + the first…
+| "    [●] - no end
+| "        2 a⏎
+| screen 1
+| "[File] [Edit] [Select] [View]
+| "[◐] f            [-] [◐] f            [+]
+| "  [◐] Section 1/1[-]
+| "    ( ) + the first…
+| "    [●] - no end
+| "        2 a⏎
+| screen 2
+| "[File] [Edit] [Select] [View]
+| "(◐) f            (-) [◐] f            [+]
+| "  [◐] Section 1/1[-]
+| "    [ ] + the first…
+| "    [●] - no end
+| "        2 a⏎
+| screen 3
+| "[File] [Edit] [Select] [View]
+| "[◐] f            [-] [◐] f            [+]
+| "  (◐) Section 1/1(-)
+| "    [ ] + the first…
+| "    [●] - no end
+| "        2 a⏎
+| accepted…
+41 7 «OF2 LONG C1» l view click:1:39 click:1:39 click:2:39 click:2:39 shot click:4:36 shot c => 0
+| screen 0
+| "[File] [Edit] [Select] [View]
+| "[◐] f            [-] [◐] f            [-]
+| "  [◐] Section 1/1[-]   (◐) Section 1/1(-)
+| "    [ ] + the first…     [ ] + the first…
+| "    [●] - no end         [●] - no end
+| "        2 a⏎                 2 a⏎
+| screen 1
+| "[File] [Edit] [Select] [View]
+| "[◐] f            [-] [◐] f            [-]
+| "  [◐] Section 1/1[-]   [◐] Section 1/1[-]
+| "    [ ] + the first…     [ ] + the first…
+| "    [●] - no end         (●) - no end
+| "        2 a⏎                 2 a⏎
+| accepted…
+
+# Menus and dialogs over both commits.
+61 7 «BAR null null 1» view click:0:1 shot click:1:40 shot click:0:1 click:2:2 shot ? shot click:0:20 q q shot c => 0
+| screen 0
+| "[File] [Edit] [Select] [View]
+| "[Confirm (c)]              (+) [●] foo/bar                [+]
+| "[Quit (q)]
+| screen 1
+| "[File] [Edit] [Select] [View]
+| "(●) foo/bar                (+) [●] foo/bar                [+]
+| screen 2
+| "[File] [Edit] [Select] [View]
+| "(●) foo/bar                (+) [●] foo/bar                [+]
+| "┌Quit──────────────────────────────────────────────────────┐
+| "│You have changes to 1 file. Are you sure you want to quit?│
+| "└──────────────────────────────────────────[Go Back]─(Quit)┘
+| screen 3
+| "┌Help───────────────────────────────────────────────────────┐
+| "│You can click the menus with a mouse, or use these keyboard│
+| "│                                                           │
+| "│    General                             Navigation         │
+| "│    Quit/Cancel             q           Next/Prev          │
+| "│    Confirm changes         c           Next/Prev of same t│
+| "└────────────────────────────────────────────────────(Close)┘
+| screen 4
+| "[File] [Edit] [Select] [View]
+| "(●) foo/bar                (+) [●] foo/bar                [+]
+| accepted
+| «BAR null null 1»…
+70 5 «OF1 K» q view shot ctrl-c => 1
+| screen 0
+| "[File] [Edit] [Select] [View]
+| "(●) f┌Quit──────────────────────────────────────────────────────┐ [+]
+| "     │You have changes to 1 file. Are you sure you want to quit?│
+| "     └──────────────────────────────────────────[Go Back]─(Quit)┘
+| fault: cancelled by user
+80 4 «BAR "a" "b" 1» view q shot click:2:38 click:2:38 h space c => 0
+| screen 0
+| "[F┌Quit─────────────────────────────────────────────────────────────────────┐
+| "  │You have changes to 2 messages and 1 file. Are you sure you want to quit?│
+| "[E└─────────────────────────────────────────────────────────[Go Back]─(Quit)┘
+| accepted…
+
+# Moves, pages, folds and toggles with the selection in the second commit: its keys are among no keys that a move goes by.
+41 6 «BAR null null 0» view click:1:22 f shot space shot h shot j shot c => 0
+| screen 0
+| "[File] [Edit] [Select] [View]
+| "[ ] foo/bar      [+] ( ) foo/bar      (±)
+| "                       [ ] Section 1/1[+]
+| screen 1
+| "[File] [Edit] [Select] [View]
+| "[●] foo/bar      [+] (●) foo/bar      (±)
+| "                       [●] Section 1/1[+]
+| screen 2
+| "[File] [Edit] [Select] [View]
+| "[●] foo/bar      [+] (●) foo/bar      (+)
+| screen 3
+| "[File] [Edit] [Select] [View]
+| "(●) foo/bar      (+) [●] foo/bar      [+]
+| accepted
+| «BAR null null 1»…
+41 6 «BAR null null 0» view click:1:22 f click:2:30 shot f shot click:3:26 click:3:26 shot h shot h h shot c => 0
+| screen 0
+| "[File] [Edit] [Select] [View]
+| "[ ] foo/bar      [+] [ ] foo/bar      [±]
+| "                       ( ) Section 1/1(+)
+| screen 1
+| "[File] [Edit] [Select] [View]
+| "[ ] foo/bar      [+] [ ] foo/bar      [-]
+| "                       ( ) Section 1/1(-)
+| "                         [ ] + n⏎
+| screen 2
+| "[File] [Edit] [Select] [View]
+| "[●] foo/bar      [+] [●] foo/bar      [-]
+| "                       [●] Section 1/1[-]
+| "                         (●) + n⏎
+| screen 3
+| "[File] [Edit] [Select] [View]
+| "[●] foo/bar      [+] [●] foo/bar      [-]
+| "                       (●) Section 1/1(-)
+| "                         [●] + n⏎
+| screen 4
+| "[File] [Edit] [Select] [View]
+| "[●] foo/bar      [+] (●) foo/bar      (±)
+| "                       [●] Section 1/1[+]
+| accepted
+| «BAR null null 1»…
+41 6 «BAR null null 0» l view click:1:22 f click:2:38 click:2:38 shot shift-F shot click:1:21 l shot ctrl-d shot k shot c => 0
+| screen 0
+| "[File] [Edit] [Select] [View]
+| "[ ] foo/bar      [-] [ ] foo/bar      [-]
+| "  [ ] Section 1/1[-]   ( ) Section 1/1(-)
+| "    [ ] + n⏎             [ ] + n⏎
+| screen 1
+| "[File] [Edit] [Select] [View]
+| "[ ] foo/bar      [-] [ ] foo/bar      [+]
+| "  [ ] Section 1/1[-]
+| "    [ ] + n⏎
+| screen 2
+| "[File] [Edit] [Select] [View]
+| "[ ] foo/bar      [-] ( ) foo/bar      (+)
+| "  [ ] Section 1/1[-]
+| "    [ ] + n⏎
+| screen 3
+| "[File] [Edit] [Select] [View]
+| "[ ] foo/bar      [-] [ ] foo/bar      [+]
+| "  [ ] Section 1/1[-]
+| "    [ ] + n⏎
+| screen 4
+| "[File] [Edit] [Select] [View]
+| "( ) foo/bar      (-) [ ] foo/bar      [+]
+| "  [ ] Section 1/1[-]
+| "    [ ] + n⏎
+| accepted…
+41 5 «OF1 TEN» view click:1:22 f click:2:39 click:2:39 ctrl-f f shot c => 0
+| screen 0
+| "[File] [Edit] [Select] [View]
+| "[ ] f            [+] [ ] f            [±]
+| "                       ( ) Section 1/1(+)
+| accepted…
+41 5 «OF1 TEN» l view ctrl-d shot ctrl-d shot click:1:21 enter shot c => 0
+| screen 0
+| "[File] [Edit] [Select] [View]
+| "[ ] f            [-] [ ] f            [+]
+| "  [ ] Section 1/1[-]
+| "    [ ] + 0⏎
+| "    ( ) + 1⏎
+| screen 1
+| "[File] [Edit] [Select] [View]
+| "[ ] f            [-]
+| "    [ ] + 1⏎
+| "    [ ] + 2⏎
+| "    ( ) + 3⏎
+| screen 2
+| "[File] [Edit] [Select] [View]
+| "[◐] f            [-]
+| "    [ ] + 2⏎
+| "    [●] + 3⏎
+| "    ( ) + 4⏎
+| accepted…
+41 6 «OF1 TEN» view l l j j j shot ctrl-f shot view shot c => 0
+| screen 0
+| "[File] [Edit] [Select] [View]
+| "[ ] f            [-]
+| "    [ ] + 0⏎
+| "    [ ] + 1⏎
+| "    [ ] + 2⏎
+| "    ( ) + 3⏎
+| screen 1
+| "[File] [Edit] [Select] [View]
+| "[ ] f            [-]
+| "    [ ] + 6⏎
+| "    [ ] + 7⏎
+| "    [ ] + 8⏎
+| "    [ ] + 9⏎
+| screen 2
+| "[File] [Edit] [Select] [View]
+| "[ ] f                                 [-]
+| "    [ ] + 6⏎
+| "    [ ] + 7⏎
+| "    [ ] + 8⏎
+| "    [ ] + 9⏎
+| accepted…
+41 6 «OF1 TEN» l view click:1:39 click:1:39 click:2:39 click:2:39 wheel-down wheel-down wheel-down shot click:3:30 shot click:1:22 shot space shot click:1:19 click:1:19 shot c => 0
+| screen 0
+| "[File] [Edit] [Select] [View]
+| "[ ] f            [-] [ ] f            [-]
+| "    [ ] + 2⏎             [ ] + 2⏎
+| "    [ ] + 3⏎             [ ] + 3⏎
+| "    [ ] + 4⏎             [ ] + 4⏎
+| "    [ ] + 5⏎             [ ] + 5⏎
+| screen 1
+| "[File] [Edit] [Select] [View]
+| "[ ] f            [-] [ ] f            [-]
+| "    [ ] + 2⏎             [ ] + 2⏎
+| "    [ ] + 3⏎             ( ) + 3⏎
+| "    [ ] + 4⏎             [ ] + 4⏎
+| "    [ ] + 5⏎             [ ] + 5⏎
+| screen 2
+| "[File] [Edit] [Select] [View]
+| "[ ] f            [-] ( ) f            (-)
+| "    [ ] + 2⏎             [ ] + 2⏎
+| "    [ ] + 3⏎             [ ] + 3⏎
+| "    [ ] + 4⏎             [ ] + 4⏎
+| "    [ ] + 5⏎             [ ] + 5⏎
+| screen 3
+| "[File] [Edit] [Select] [View]
+| "[●] f            [-] (●) f            (-)
+| "    [●] + 2⏎             [●] + 2⏎
+| "    [●] + 3⏎             [●] + 3⏎
+| "    [●] + 4⏎             [●] + 4⏎
+| "    [●] + 5⏎             [●] + 5⏎
+| screen 4
+| "[File] [Edit] [Select] [View]
+| "(●) f            (+) [●] f            [-]
+| "                       [●] Section 1/1[-]
+| "                         [●] + 0⏎
+| "                         [●] + 1⏎
+| "                         [●] + 2⏎
+| accepted…
+
+# All keys are compared with those of the first commit: a key of context, or of the second commit, makes the set another one.
+24 7 «OF2 C1 X» l shift-F click:2:9 shift-F shot shift-F shot c => 0
+| screen 0
+| "[File] [Edit] [Select] [
+| "[ ] f                [-]
+| "        1 a⏎
+| "  [ ] Section 1/1    [-]
+| "    [ ] + x⏎
+| screen 1
+| "[File] [Edit] [Select] [
+| "( ) f                (+)
+| accepted…
+41 5 «BAR null null 0» l shift-F view click:1:22 click:1:39 shift-F shot shift-F shot c => 0
+| screen 0
+| "[File] [Edit] [Select] [View]
+| "[ ] foo/bar      [-] ( ) foo/bar      (+)
+| "  [ ] Section 1/1[-]
+| "    [ ] + n⏎
+| screen 1
+| "[File] [Edit] [Select] [View]
+| "[ ] foo/bar      [+] ( ) foo/bar      (+)
+| accepted…
+
+# Screens of a script: places in order of the words, and one that no screen was taken at.
+size 20 5 | «PLAIN» | script | batch shot | fault read disk gone | batch shot => 1
+| screen 0
+| "[File] [Edit] [Selec
+| "( ) foo/bar      (+)
+| screen 1
+| <this screenshot was never assigned>
+| fault: failed to read user input: disk gone
+20 2 «PLAIN» none,shot,c,shot shot => 0
+| screen 0
+| "[File] [Edit] [Selec
+| "( ) foo/bar      (+)
+| screen 1
+| <this screenshot was never assigned>
+| screen 2
+| <this screenshot was never assigned>
+| accepted
+| «PLAIN»…
 "##;

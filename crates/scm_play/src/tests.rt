@@ -1,8 +1,8 @@
 //! The tests of the program: the table of scripts, and streams and inputs that a table cannot hold.
 use crate::rows::{ROWS, STATES};
 use crate::{play, read_state};
-use scm_record::RecordState;
-use std::alloc::Global;
+use scm_record::{RecordState, text_width};
+use std::alloc::{AllocError, Global};
 use std::io::{self, Read, Write};
 use std::test::Fail;
 
@@ -25,12 +25,12 @@ fn form_of(name: &str) -> Option<&'static str> {
     None
 }
 
-/// A mark or a piece of JSON, as a row gives it.
+/// A mark, a piece of JSON by its name, or a piece of JSON, as a row gives it.
 fn piece_of(word: &str) -> &str {
     match word {
         "0" => "false",
         "1" => "true",
-        _ => word,
+        _ => form_of(word).unwrap_or(word),
     }
 }
 
@@ -73,19 +73,17 @@ fn lines_of(alloc: Global, half: &str) -> Result<String, Fail> {
         lines.push_str(with_states(alloc, line)?.as_str())?;
         lines.push_str("\n")?;
     }
-    let lines = lines.replace(alloc, "␍", "\r")?;
-    let lines = lines.replace(alloc, "␉", "\t")?;
-    Ok(lines.replace(alloc, "␃\n", "")?)
+    Ok(lines)
 }
 
-/// The script of a row that gives a state and words.
-fn script_of(alloc: Global, state: &str, words: &str) -> Result<String, Fail> {
-    let state = with_states(alloc, state)?;
-    let mut script = format!(in alloc; "size 80 24\n{state}\nscript\n")?;
+/// The script of a row that gives a size, a state and words.
+fn script_of(alloc: Global, size: &str, state: &str, words: &str) -> Result<String, Fail> {
+    let state = state_of(alloc, state)?;
+    let mut script = format!(in alloc; "size {size}\n{state}\nscript\n")?;
     for word in words.split(' ') {
         if !word.is_empty() {
             script.push_str("batch ")?;
-            script.push_str(word)?;
+            script.push_str(word.replace(alloc, ",", " ")?.as_str())?;
             script.push_str("\n")?;
         }
     }
@@ -93,27 +91,82 @@ fn script_of(alloc: Global, state: &str, words: &str) -> Result<String, Fail> {
 }
 
 /// What a row's script is.
-fn input_of(alloc: Global, half: &str) -> Result<String, Fail> {
+pub fn input_of(alloc: Global, half: &str) -> Result<String, Fail> {
     match half.split_once('»') {
-        Some((state, words)) if half.starts_with('«') => script_of(alloc, state, words),
-        _ => lines_of(alloc, half),
+        Some((before, words)) if half.starts_with(|c: char| c == '«' || c.is_ascii_digit()) => {
+            match before.split_once('«') {
+                Some(("", state)) => script_of(alloc, "80 24", state, words),
+                Some((size, state)) => script_of(alloc, size, state, words),
+                None => Err(Fail::from("a state has a begin and an end")),
+            }
+        }
+        _ => {
+            let lines = lines_of(alloc, half)?;
+            let lines = lines.replace(alloc, "␍", "\r")?;
+            let lines = lines.replace(alloc, "␉", "\t")?;
+            Ok(lines.replace(alloc, "␃\n", "")?)
+        }
     }
+}
+
+/// A number, or 0.
+fn number_of(word: Option<&str>) -> usize {
+    word.unwrap_or("").parse().unwrap_or(0)
+}
+
+/// The columns and rows of a script's screen.
+fn size_of(input: &str) -> (usize, usize) {
+    let mut words = input.lines().next().unwrap_or("").split(' ').skip(1);
+    let columns = number_of(words.next());
+    (columns, number_of(words.next()))
+}
+
+/// Adds a row of a screen, which may lack its last spaces and the quote that ends it.
+fn push_screen_row(text: &mut String, row: &str, columns: usize) -> Result<(), AllocError> {
+    text.push_str(row)?;
+    if row.len() < 2 || !row.ends_with('"') {
+        for _ in text_width(row)..columns.saturating_add(1) {
+            text.push(' ')?;
+        }
+        text.push('"')?;
+    }
+    text.push('\n')
+}
+
+/// What a row's output is, for its script: screens may lack spaces at the ends of rows, and blank rows at their ends.
+fn output_of(alloc: Global, half: &str, input: &str) -> Result<String, Fail> {
+    let (columns, rows) = size_of(input);
+    let mut output = String::new(alloc);
+    let mut rows_left: usize = 0;
+    for line in lines_of(alloc, half)?.as_str().lines() {
+        if line.starts_with('"') {
+            rows_left = if rows_left == 0 { rows } else { rows_left };
+            rows_left = rows_left.saturating_sub(1);
+            push_screen_row(&mut output, line, columns)?;
+        } else {
+            for _ in 0..rows_left {
+                push_screen_row(&mut output, "\"", columns)?;
+            }
+            rows_left = 0;
+            output.push_str(line)?;
+            output.push('\n')?;
+        }
+    }
+    Ok(output)
 }
 
 #[test]
 fn each_script_has_its_output_and_status(rt: HostRuntime) -> Result<(), Fail> {
     let alloc = rt.alloc();
-    for row in ROWS.lines() {
+    for row in ROWS.replace(alloc, "\n| ", " | ")?.as_str().lines() {
         if !row.is_empty() && !row.starts_with('#') {
             let (input, answer) = row.split_once(" => ").ok_or("a row has two halves")?;
             let (status, output) = answer.split_once(" | ").ok_or("a status and an output")?;
-            let (written, ended) = played(alloc, input_of(alloc, input)?.as_bytes())?;
-            let output = lines_of(alloc, output)?;
-            match output.as_str().split_once('…') {
-                Some((begin, _)) => assert!(rt;
-                    written.as_str().starts_with(begin),
-                    "{row}: {written}"
-                ),
+            let input = input_of(alloc, input)?;
+            let output = output_of(alloc, output, input.as_str())?;
+            let (written, ended) = played(alloc, input.as_bytes())?;
+            match output.as_str().strip_suffix("…\n") {
+                Some(begin) => assert!(rt; written.as_str().starts_with(begin), "{row}: {written}"),
                 None => assert_eq!(rt; written.as_str(), output.as_str(), "{row}"),
             }
             assert_eq!(rt; ended, status.parse::<u8>()?, "{row}");

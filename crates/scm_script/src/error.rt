@@ -16,9 +16,9 @@ pub enum PlayError {
     /// The input has more than 67,108,864 bytes.
     #[error("bad input: too long")]
     TooLong,
-    /// The input is no text.
+    /// The input is no text, first on the line with this number, from 1.
     #[error("bad input: not UTF-8")]
-    NotText,
+    NotText(usize),
     /// The input has no line `script`.
     #[error("bad input: no script")]
     NoScript,
@@ -40,7 +40,7 @@ impl PlayError {
             PlayError::Fault(_) => 1,
             PlayError::CannotRead
             | PlayError::TooLong
-            | PlayError::NotText
+            | PlayError::NotText(_)
             | PlayError::NoScript
             | PlayError::BadLine(_)
             | PlayError::BadState

@@ -1,44 +1,93 @@
-//! The program over any reader and writer.
-ghost use Rattle.std.specs.Prelude.{IsTrue};
+//! The program over any reader and writers.
+ghost use Rattle.std.specs.Prelude.{IfOk, IsTrue};
 ghost use Rattle.scm_types.specs.Limits.{is_accepted_state};
 
+use crate::commands::Commands;
 use crate::error::PlayError;
-use crate::report::accepted_text;
+use crate::hints::{end_hint, hint_of};
+use crate::report::{push_accepted, screens_text};
 use crate::script::{Script, read_script};
 use crate::state_reader::read_state;
-use scm_record::{RecordError, RecordState, Recorder, Screens, ScriptInput};
+use scm_record::{
+    RecordError, RecordInput, RecordState, Recorder, Screens, ScriptInput, ScriptRead,
+};
 use std::alloc::Global;
-use std::io::{ErrorKind, Read, Write};
+use std::io::{self, ErrorKind, Read, Write};
 
 /// The longest input, in bytes.
 const LONGEST_INPUT: u64 = 67_108_864;
 
+/// The output where memory is refused for any other.
+const OUT_OF_MEMORY: &[u8] = b"fault: out of memory\n";
+
 /// Runs the script that the reader gives, writes what came of it, and answers the program's status: 0 for an accepted
 /// state, 1 for a fault, 2 for a bad input and where the reader or the writer fails.
-pub fn play<R: Read + Drop, W: Write + Drop>(alloc: Global, reader: R, mut writer: W) -> u8 {
-    let (written, status) = match report(alloc, reader) {
-        Ok(text) => (writer.write_all(text.as_bytes()), 0),
-        Err(error) => (writeln!(writer, "{error}"), error.status()),
-    };
-    if written.is_ok() && writer.flush().is_ok() {
-        status
-    } else {
-        2
+pub fn play<R: Read + Drop, W: Write + Drop>(alloc: Global, reader: R, writer: W) -> u8 {
+    play_with_hints(alloc, reader, writer, io::sink())
+}
+
+/// Does what [`play`] does, and writes to a third stream in one line where and why it refused, if it can tell. Where the
+/// writer fails no hint is written, and where the hint cannot be written nothing else changes.
+pub fn play_with_hints<R: Read + Drop, W: Write + Drop, H: Write + Drop>(
+    alloc: Global,
+    reader: R,
+    writer: W,
+    hints: H,
+) -> u8 {
+    match answer_input(alloc, reader) {
+        Ok(answer) => {
+            if !write_whole(writer, answer.output.as_bytes()) {
+                return 2;
+            }
+            if let Some(hint) = &answer.hint {
+                write_whole(hints, hint.as_bytes());
+            }
+            answer.status
+        }
+        Err(_) if write_whole(writer, OUT_OF_MEMORY) => 1,
+        Err(_) => 2,
     }
 }
 
-/// What the program prints for the accepted state.
-fn report<R: Read + Drop>(alloc: Global, reader: R) -> Result<String, PlayError> {
-    let text = read_text(alloc, reader)?;
-    let script = read_script(alloc, text.as_str())?;
-    let Some(state) = read_state(alloc, script.state)? else {
-        return Err(PlayError::BadState);
-    };
-    if !state.is_accepted() {
-        return Err(PlayError::StateNotAccepted);
+/// Writes all bytes in one go, and answers whether the writer took them.
+fn write_whole<W: Write + Drop>(mut writer: W, bytes: &[u8]) -> bool {
+    writer.write_all(bytes).is_ok() && writer.flush().is_ok()
+}
+
+/// What the program answers to an input.
+#[derive(Drop)]
+struct Answer {
+    /// What it prints.
+    output: String,
+    /// The status with which it ends.
+    status: u8,
+    /// A line that says where and why it refused.
+    hint: Option<String>,
+}
+
+/// The answer to what the reader gives. It fails only where memory is refused.
+fn answer_input<R: Read + Drop>(alloc: Global, reader: R) -> Result<Answer, PlayError> {
+    match read_text(alloc, reader) {
+        Ok(text) => answer_text(alloc, text.as_str()),
+        Err(refusal) => refuse(alloc, "", &refusal),
     }
-    let state = run(alloc, script, state)?;
-    accepted_text(alloc, &state)
+}
+
+/// The answer to an input.
+fn answer_text(alloc: Global, text: &str) -> Result<Answer, PlayError> {
+    match prepare(alloc, text) {
+        Ok((script, state)) => run(alloc, script, state),
+        Err(refusal) => refuse(alloc, text, &refusal),
+    }
+}
+
+/// The answer to an input that is refused.
+fn refuse(alloc: Global, text: &str, refusal: &PlayError) -> Result<Answer, PlayError> {
+    Ok(Answer {
+        output: format!(in alloc; "{refusal}\n")?,
+        status: refusal.status(),
+        hint: hint_of(alloc, text, refusal).ok().flatten(),
+    })
 }
 
 /// The whole input, if it is a text and not too long.
@@ -54,24 +103,97 @@ fn read_text<R: Read + Drop>(alloc: Global, reader: R) -> Result<String, PlayErr
     if bytes.len() as u64 > LONGEST_INPUT {
         return Err(PlayError::TooLong);
     }
-    String::from_utf8(bytes).map_err(|_| PlayError::NotText)
+    String::from_utf8(bytes).map_err(|error| {
+        let length = error.utf8_error().valid_up_to();
+        PlayError::NotText(line_behind(error.as_bytes(), length))
+    })
 }
 
-/// Runs the script on an accepted state.
-fn run(
-    alloc: Global,
-    script: Script<'_>,
-    state: RecordState<'static>,
-) -> Result<RecordState<'static>, PlayError>
+/// The number of the line, from 1, in which the byte behind so many stands.
+fn line_behind(bytes: &[u8], length: usize) -> usize {
+    let ends = bytes.iter().take(length).filter(|byte| **byte == b'\n');
+    ends.count().saturating_add(1)
+}
+
+/// The script of an input and its state, which is accepted.
+fn prepare(alloc: Global, text: &str) -> Result<(Script<'_>, RecordState<'static>), PlayError>
+    ensures { IfOk result (λ ready. IsTrue (is_accepted_state ready.1)) }
+{
+    let script = read_script(alloc, text)?;
+    let Some(state) = read_state(alloc, script.state)? else {
+        return Err(PlayError::BadState);
+    };
+    if !state.is_accepted() {
+        return Err(PlayError::StateNotAccepted);
+    }
+    Ok((script, state))
+}
+
+/// The answer of a run of the script on an accepted state: the screens, and the accepted state or the fault.
+fn run(alloc: Global, script: Script<'_>, state: RecordState<'static>) -> Result<Answer, PlayError>
     requires { IsTrue (is_accepted_state state) }
 {
-    let mut input = ScriptInput::new(
-        alloc,
-        script.width as usize,
-        script.height as usize,
-        script.reads,
-        script.edits,
-    )?;
-    let mut screens = Screens::new(alloc);
-    Ok(Recorder::new(alloc, state)?.run(&mut input, &mut screens)?)
+    let Script {
+        width,
+        height,
+        state: _,
+        commands,
+    } = script;
+    let Commands {
+        reads,
+        edits,
+        mut screens,
+        shots,
+    } = commands;
+    let ends_in_fault = matches!(reads.last(), Some(ScriptRead::Fault(_)));
+    let mut input = ScriptInput::new(alloc, width as usize, height as usize, reads, edits)?;
+    let outcome = record(alloc, state, &mut input, &mut screens);
+    let is_at_end = input.batches_left() == 0 && !ends_in_fault;
+    let output = screens_text(alloc, &screens, shots.as_slice())?;
+    match outcome {
+        Ok(state) => accept(alloc, output, &state),
+        Err(error) => fail(alloc, output, &error, is_at_end),
+    }
+}
+
+/// The answer with the accepted state behind the screens.
+fn accept(alloc: Global, mut output: String, state: &RecordState<'_>) -> Result<Answer, PlayError> {
+    push_accepted(&mut output, alloc, state)?;
+    Ok(Answer {
+        output,
+        status: 0,
+        hint: None,
+    })
+}
+
+/// The answer with a fault behind the screens.
+fn fail(
+    alloc: Global,
+    mut output: String,
+    error: &RecordError,
+    is_at_end: bool,
+) -> Result<Answer, PlayError> {
+    let fault = format!(in alloc; "fault: {error}\n")?;
+    output.push_str(fault.as_str())?;
+    let hint = match error {
+        RecordError::ReadInput(_) if is_at_end => end_hint(alloc),
+        _ => None,
+    };
+    Ok(Answer {
+        output,
+        status: 1,
+        hint,
+    })
+}
+
+/// Runs a recorder of an accepted state.
+fn record(
+    alloc: Global,
+    state: RecordState<'static>,
+    input: &mut ScriptInput,
+    screens: &mut Screens,
+) -> Result<RecordState<'static>, RecordError>
+    requires { IsTrue (is_accepted_state state) }
+{
+    Recorder::new(alloc, state)?.run(input, screens)
 }

@@ -1,7 +1,4 @@
-use Rattle.std.proofs.Common.{◌≡◌, ◌∙◌, Some, nat_eq, refl, ap, sym}
-use Rattle.std.specs.Option.{option_map_or}
-use Rattle.serde_json.specs.Data.{Members}
-use Rattle.serde_json.specs.Events.{members_len}
+use Rattle.std.proofs.Common.{◌≡◌, Some, refl}
 use Rattle.serde_json.specs.Find.{as_object}
 use Rattle.serde_json.specs.View.{view, members_view}
 use Rattle.serde_json.proofs.Views.{members_len-members_view}
