@@ -2,7 +2,7 @@
 use scm_record::{
     ChangeType, Commit, Event, File, FileMode, Items, OwnedText, RecordError, RecordInput,
     RecordState, Recorder, Screens, ScriptEdit, ScriptInput, ScriptRead, Section,
-    SectionChangedLine, TerminalKind, TestingInput, Text,
+    SectionChangedLine, TerminalKind, TestingInput, TestingScreenshot, Text,
 };
 use std::alloc::{AllocError, Global};
 use std::collections::VecDeque;
@@ -149,7 +149,18 @@ const HELLO: Option<&'static str> = Some("hello");
 
 const NO_EVENTS: &'static str = "failed to read user input: no events left";
 
-const ROWS: [Row; 8] = [
+/// A place that is on no screen.
+const FAR: Event = Event::Click {
+    row: usize::MAX,
+    column: usize::MAX,
+};
+
+/// The menu Select, and its second item.
+const MENU: Event = Event::Click { row: 0, column: 15 };
+
+const ITEM: Event = Event::Click { row: 2, column: 15 };
+
+const ROWS: [Row; 9] = [
     // what follows the accepting event is not handled, and the next read is left
     (
         HELLO,
@@ -201,12 +212,25 @@ const ROWS: [Row; 8] = [
     // a batch may be empty
     (HELLO, &[Read::Batch(&[])], NO_EVENTS, 2, 0, "bye"),
     (HELLO, &[], NO_EVENTS, 1, 0, "bye"),
-    // an event that waits for frames
+    // a click as far away as can be hits nothing
     (
         HELLO,
-        &[Read::Batch(&[TOGGLE, Event::ScrollDown, EDIT])],
-        "event not in this stage",
+        &[Read::Batch(&[TOGGLE, FAR, FAR, ACCEPT])],
+        "accepted 11 hello",
         1,
+        0,
+        "bye",
+    ),
+    // what a move and a click on a menu's item leave to be handled has its own frames
+    (
+        None,
+        &[
+            Read::Batch(&[Event::FocusInner]),
+            Read::Batch(&[MENU]),
+            Read::Batch(&[ITEM]),
+        ],
+        NO_EVENTS,
+        7,
         0,
         "bye",
     ),
@@ -260,6 +284,53 @@ fn long_scripts_and_messages(rt: HostRuntime) -> Result<(), Fail> {
         let text = words(alloc, &outcome)?;
         assert!(rt; text.as_str().starts_with(wanted));
     }
+    Ok(())
+}
+
+/// Reads that open the file, scroll down so many times in one batch, take a screenshot, and accept.
+fn scrolling(
+    alloc: Global,
+    times: usize,
+    shot: TestingScreenshot,
+) -> Result<Vec<ScriptRead>, RecordError> {
+    let mut reads = Vec::new(alloc);
+    for batch in [
+        vec![in alloc; Event::FocusInner]?,
+        vec![in alloc; Event::ScrollDown; times]?,
+        vec![in alloc; shot.event()]?,
+        vec![in alloc; ACCEPT]?,
+    ] {
+        reads.push(ScriptRead::Batch(batch))?;
+    }
+    Ok(reads)
+}
+
+#[test]
+fn screenshots_are_kept_at_their_places(rt: HostRuntime) -> Result<(), Fail> {
+    let alloc = rt.alloc();
+    let mut screens = Screens::new(alloc);
+    let first = screens.place()?;
+    let mut others = Screens::new(alloc);
+    let _ = others.place()?;
+    let second = others.place()?;
+    for (times, shot, wanted, text) in [
+        (0, first, "accepted 00", "\"[Fi\"\n\"[-]\"\n\"(-)\"\n"),
+        (3, first, "accepted 00", "\"[Fi\"\n\"[-]\"\n\"   \"\n"),
+        (100_000, first, "accepted 00", "\"[Fi\"\n\"   \"\n\"   \"\n"),
+        (
+            0,
+            second,
+            "no such screenshot place",
+            "\"[Fi\"\n\"   \"\n\"   \"\n",
+        ),
+    ] {
+        let reads = scrolling(alloc, times, shot)?;
+        let mut input = ScriptInput::new(alloc, 3, 3, reads, Vec::new(alloc))?;
+        let outcome = run_on(alloc, None, &mut input, &mut screens);
+        assert_eq!(rt; words(alloc, &outcome)?.as_str(), wanted);
+        assert_eq!(rt; screens.text(first), text, "after {times}");
+    }
+    assert_eq!(rt; screens.frames(), 19);
     Ok(())
 }
 
