@@ -2,7 +2,7 @@
 use Rattle.std.proofs.Common.{◌≡◌, ℕ, ◌≤◌, Bool, true, false, cond, List, replicate, refl, sym, ap, subst, ◌∙◌, arith, rules}
 use Rattle.std.proofs.lemmas.Bool.Decides.{nat_tests}
 use Rattle.std.proofs.lemmas.List.{length-replicate}
-use Rattle.std.specs.Prelude.{ℤ, pos, Option, Some, None, option_map}
+use Rattle.std.specs.Prelude.{ℤ, pos, None, option_map}
 use Rattle.std.specs.HashMap.{HashMap, IsFromIterResult}
 use Rattle.scm_cells.specs.Rect.{RectInRange}
 use Rattle.scm_cells.specs.Screen.{Screen, blank_screen}

@@ -6,7 +6,7 @@ use Rattle.scm_types.specs.declared.state.RecordState.{RecordState}
 use Rattle.scm_record.specs.Session.{Session, IsDrawable}
 use Rattle.scm_record.specs.Change.{accepts}
 use Rattle.scm_record.specs.Run.{Setting, world_in, Before, Accepted, Reaches, Stops}
-use Rattle.scm_record.specs.Headline.{StoreHasShots, begun, handled, ConfirmsQuit, AcceptsConfirmedQuits, KeepsAllElse, Headline}
+use Rattle.scm_record.specs.Headline.{StoreHasShots, ConfirmsQuit, AcceptsConfirmedQuits, KeepsAllElse, Headline}
 use Rattle.scm_record.specs.Ending.{EndsWith, FailsWith}
 use Rattle.scm_record.proofs.BatchLemmas.{batches-are-handled, batches-begin-as-drawn}
 use Rattle.scm_record.proofs.QuitLemmas.{accepted-confirmed, failed-unconfirmed}

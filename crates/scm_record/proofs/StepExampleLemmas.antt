@@ -3,19 +3,22 @@ use Rattle.std.proofs.Common.{◌≡◌, ℕ, ◌+◌, ◌∷◌, [], List, Opti
 use Rattle.scm_types.specs.declared.file_mode.FileMode.TheVariants.{Unix}
 use Rattle.scm_types.specs.declared.line.SectionChangedLine.{SectionChangedLine}
 use Rattle.scm_types.specs.declared.line.ChangeType.TheVariants.{Added}
-use Rattle.scm_types.specs.declared.section.Section.TheVariants.{Changed}
+use Rattle.scm_types.specs.declared.section.Section.{Section}
+use Rattle.scm_types.specs.declared.section.Section.TheVariants.{Unchanged, Changed}
 use Rattle.scm_types.specs.declared.state.RecordState.{RecordState}
 use Rattle.scm_view.specs.declared.keys.SelectionKey.{SelectionKey}
 use Rattle.scm_view.specs.declared.keys.SelectionKey.TheVariants as keys
 use Rattle.scm_view.specs.declared.ids.ComponentId.{ComponentId}
 use Rattle.scm_view.specs.declared.ids.ComponentId.TheVariants as ids
 use Rattle.scm_view.specs.declared.quit_dialog.QuitDialogButtonId.TheVariants.{Quit, GoBack}
+use Rattle.scm_view.proofs.Computing.{documents, owners}
+use Rattle.scm_record.specs.declared.inputs.TerminalKind.TheVariants.{Testing}
 use Rattle.scm_record.specs.declared.events.Event.{Event}
 use Rattle.scm_record.specs.declared.events.Event.TheVariants as events
 use Rattle.scm_record.specs.Keys.{file_key, section_key, line_key}
 use Rattle.scm_record.specs.Session.{Session, start, at_key, with_pushed, with_ensure, with_dialog, with_help, with_menu, with_scroll, after_toggle}
-use Rattle.scm_record.specs.Frames.{Scene}
-use Rattle.scm_record.specs.Change.{stays, cancels, edits}
+use Rattle.scm_record.specs.Frames.{Scene, scene_of, frame_of}
+use Rattle.scm_record.specs.Change.{Change, stays, cancels, edits}
 use Rattle.scm_record.specs.Dialogs.{opened}
 use Rattle.scm_record.specs.Step.{change}
 
@@ -131,6 +134,19 @@ click-scrolled = refl
 click-off : change (hit_of (ids.QuitDialogButton Quit)) begun (events.Click 8 0) ≡ stays begun
 click-off = refl
 
+-- on a screen of 80 by 24: the last row and column are hit, those after them aren't
+abbrev wide : Scene
+wide = record (hit_of (ids.QuitDialogButton Quit)) { width = 80; height = 24 }
+
+click-last : change wide begun (events.Click 23 79) ≡ cancels begun
+click-last = refl
+
+click-below : change wide begun (events.Click 24 0) ≡ stays begun
+click-below = refl
+
+click-beside : change wide begun (events.Click 0 80) ≡ stays begun
+click-beside = refl
+
 go_back-closes : change (hit_of (ids.QuitDialogButton GoBack)) (with_dialog begun (Some (opened 0 1))) click ≡ stays begun
 go_back-closes = refl
 
@@ -190,3 +206,109 @@ expand-of_line = refl
 
 outer-of_none : change plain (at keys.None) (events.FocusOuter true) ≡ stays (at keys.None)
 outer-of_none = refl
+
+-- ---- a line of context, and nothing
+
+-- a file of these sections
+abbrev file_with : List Section → RecordState
+file_with sections = record (letter None) { files = record { old_path = None; path = []; file_mode = Unix 33188; sections = sections } ∷ [] }
+
+-- seven lines of context between two sections of a line, the first of which is selected
+abbrev parted : Session
+parted = at_key (start (file_with (Changed (line ∷ []) ∷ (Unchanged (replicate 7 []) ∷ (Changed (line ∷ []) ∷ []))))) (section_key 0 0)
+
+abbrev at_context : Session
+at_context = at_key parted (line_key 0 1 0)
+
+-- a click selects it; it has no mark and isn't visible among the keys, so to advance from it selects nothing
+context-is_selected : change (hit_of (ids.SelectableItem (line_key 0 1 0))) parted click ≡ stays at_context
+context-is_selected = refl
+
+context-advances : change plain at_context events.ToggleItemAndAdvance ≡ stays (with_ensure (at_key at_context keys.None))
+context-advances = refl
+
+none-goes_to_file : change plain (at_key at_context keys.None) events.FocusNext ≡ stays (with_ensure (at_key at_context (file_key 0)))
+none-goes_to_file = refl
+
+-- ---- in the frame of a session, on a screen of so many columns and rows
+
+abbrev change_on : ℕ → ℕ → Session → Session → Event → Change
+change_on w h drawn s event = change (scene_of (Testing w h) drawn) s event
+
+-- a folded file and the menu bar span two rows, and one where the file's row is the screen's first
+abbrev scrolled : Session → Session
+scrolled s = (change_on 80 24 s s events.ScrollDown).session
+
+folded-scrolls : (scrolled begun ≡ with_scroll begun 1) × (scrolled (scrolled begun) ≡ begun) × (scrolled (scrolled (scrolled begun)) ≡ with_scroll begun 1)
+unfolding documents frame_of
+folded-scrolls = (refl, refl, refl)
+
+-- of ten lines the fifth ends with a screen of eight rows, and the sixth stands below it
+fifth-is_shown : change_on 24 8 (at (line_key 0 0 4)) (at (line_key 0 0 4)) events.EnsureSelectionInViewport ≡ stays (at (line_key 0 0 4))
+unfolding documents frame_of
+fifth-is_shown = refl
+
+sixth-is_shown : change_on 24 8 (at (line_key 0 0 5)) (at (line_key 0 0 5)) events.EnsureSelectionInViewport ≡ stays (with_scroll (at (line_key 0 0 5)) 1)
+unfolding documents frame_of
+sixth-is_shown = refl
+
+-- a line of context, and a section of two lines, which is selected
+abbrev paired : Session
+paired = at_key (start (file_with (Unchanged ([] ∷ []) ∷ (Changed (line ∷ line ∷ []) ∷ [])))) (section_key 0 1)
+
+-- a scroll and a click before the next frame: the click is on the row that stands there by the new scroll
+paired-scrolls : change_on 24 8 paired paired events.ScrollDown ≡ stays (with_scroll paired 1)
+unfolding documents frame_of
+paired-scrolls = refl
+
+paired-is_clicked : change_on 24 8 paired (with_scroll paired 1) (events.Click 3 10) ≡ stays (at_key (with_scroll paired 1) (line_key 0 1 0))
+unfolding owners frame_of
+paired-is_clicked = refl
+
+-- the header is pinned in the frame of the scroll before, and on its own row a click selects the file, also the second time
+header-is_clicked : change_on 24 8 (with_scroll paired 2) (with_scroll paired 1) (events.Click 0 0) ≡ stays (at_key (with_scroll paired 1) (file_key 0))
+unfolding owners frame_of
+header-is_clicked = refl
+
+header-is_clicked_again : change_on 24 8 (with_scroll paired 2) (at_key (with_scroll paired 1) (file_key 0)) (events.Click 0 0) ≡ stays (at_key (with_scroll paired 1) (file_key 0))
+unfolding owners frame_of
+header-is_clicked_again = refl
+
+-- a click on the first column of a line of context
+context-is_clicked : change_on 24 14 parted parted (events.Click 4 0) ≡ stays at_context
+unfolding owners frame_of
+context-is_clicked = refl
+
+-- with a checked line to lose a user is asked, and goes on by a click, wherever the document is scrolled to
+abbrev marked : Session
+marked = start (file_with (Changed (record line { is_checked = true } ∷ []) ∷ []))
+
+abbrev marked_asking : Session
+marked_asking = with_dialog marked (Some (opened 0 1))
+
+marked-asks : change_on 80 24 marked marked events.QuitCancel ≡ stays marked_asking
+marked-asks = refl
+
+marked-goes_on : change_on 80 24 marked_asking marked_asking (events.Click 12 55) ≡ stays marked
+unfolding owners frame_of
+marked-goes_on = refl
+
+marked-scrolled-goes_on : change_on 80 24 (with_scroll marked_asking 1) (with_scroll marked_asking 1) (events.Click 12 55) ≡ stays (with_scroll marked 1)
+unfolding owners frame_of
+marked-scrolled-goes_on = refl
+
+-- the first menu is opened; beside its item it is closed, and its second item gives up, with nothing to lose
+title-is_clicked : change_on 80 24 begun begun (events.Click 0 1) ≡ stays (with_menu begun (Some 0))
+unfolding owners frame_of
+title-is_clicked = refl
+
+bar-is_clicked : change_on 80 24 (with_menu begun (Some 0)) (with_menu begun (Some 0)) (events.Click 1 30) ≡ stays begun
+unfolding owners frame_of
+bar-is_clicked = refl
+
+item-is_clicked : change_on 80 24 (with_menu begun (Some 0)) (with_menu begun (Some 0)) (events.Click 2 3) ≡ stays (with_pushed begun events.QuitCancel)
+unfolding owners frame_of
+item-is_clicked = refl
+
+nothing-to_lose : change_on 80 24 begun begun events.QuitCancel ≡ cancels begun
+nothing-to_lose = refl

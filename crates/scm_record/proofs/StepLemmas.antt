@@ -15,7 +15,8 @@ use Rattle.scm_record.specs.declared.events.Event.TheVariants as events
 use Rattle.scm_record.specs.declared.pages.Way.TheVariants.{Up, Down}
 use Rattle.scm_record.specs.declared.selector.Flow.{Flow}
 use Rattle.scm_record.specs.declared.selector.Flow.TheVariants as flows
-use Rattle.scm_record.specs.Keys.{all_keys, file_of, file_of_section}
+use Rattle.scm_view.specs.Keys.{file_of, file_of_section}
+use Rattle.scm_record.specs.Keys.{all_keys}
 use Rattle.scm_record.specs.KeySet.{is_key, key_set, same_set}
 use Rattle.scm_record.specs.Counts.{message_count, changed_count}
 use Rattle.scm_record.specs.Session.{Session, with_pushed, with_dialog, with_help, at_key, after_item, after_select, after_fold, after_next, after_previous, after_next_same_kind, after_previous_same_kind, after_advance, after_inner, after_outer, outside_of, after_expand, after_expand_all, with_files_changed, after_toggle, after_toggle_all, after_toggle_all_uniform, message_of}
@@ -122,7 +123,7 @@ module _ (event : Event) (s : Session) where
     goes_outside : (fold_section : Bool) (selection : SelectionKey) → Leads event s (stays (outside_of s fold_section selection))
     goes_outside fold_section keys.None = idle
     goes_outside fold_section (keys.File key) = folds (keys.File key)
-    goes_outside fold_section (keys.Section key) = either-stays _ event s (after_fold s (keys.Section key)) (after_select s (file_of_section key)) (folds (keys.Section key)) (selects (file_of_section key))
+    goes_outside fold_section (keys.Section key) = either-stays _ event s (after_fold s (keys.Section key)) (after_select s (keys.File (file_of_section key))) (folds (keys.Section key)) (selects (keys.File (file_of_section key)))
     goes_outside fold_section (keys.Line key) = selects _
 
     flips_all : (b : Bool) → Leads event s (stays (record (cond b (record s { selection = file_of s.selection; expanded = [] }) (record s { expanded = key_set (all_keys s.state.files) })) { pending = (cond b (record s { selection = file_of s.selection; expanded = [] }) (record s { expanded = key_set (all_keys s.state.files) })).pending ++ events.EnsureSelectionInViewport ∷ [] }))

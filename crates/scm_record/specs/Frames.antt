@@ -1,6 +1,6 @@
 -- What was drawn last, as the steps use it: the screen's rows, who owns each place of the document, on which rows each key
 -- stands, and how many rows all of it spans.
-use Rattle.std.specs.Prelude.{◌≡◌, ℕ, ◌<◌, nat_le, pos, Bool, false, ◌&&◌, if◌then◌else◌, List, length, replicate, min, Option, None, option_map}
+use Rattle.std.specs.Prelude.{◌≡◌, ℕ, ◌<◌, nat_le, pos, Bool, false, ◌&&◌, if◌then◌else◌, List, length, replicate, min, Option, option_map}
 use Rattle.std.specs.HashMap.{HashMap, get}
 use Rattle.scm_cells.specs.declared.rect.Rect.{Rect}
 use Rattle.scm_render.specs.Canvas.{Row, painted}

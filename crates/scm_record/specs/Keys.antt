@@ -4,10 +4,9 @@ use Rattle.scm_types.specs.declared.line.SectionChangedLine.{SectionChangedLine}
 use Rattle.scm_types.specs.declared.section.Section.{Section}
 use Rattle.scm_types.specs.declared.section.Section.TheVariants as sections
 use Rattle.scm_types.specs.declared.file.File.{File}
-use Rattle.scm_view.specs.declared.keys.SectionKey.{SectionKey}
-use Rattle.scm_view.specs.declared.keys.LineKey.{LineKey}
 use Rattle.scm_view.specs.declared.keys.SelectionKey.{SelectionKey}
 use Rattle.scm_view.specs.declared.keys.SelectionKey.TheVariants as keys
+use Rattle.scm_view.specs.Keys.{file_of_section, file_of_line, section_of_line}
 
 -- the key of a file, of a section and of a line in the view of the first commit
 abbrev pub file_key : ℕ → SelectionKey
@@ -46,30 +45,12 @@ files_keys file (f ∷ fs) = (file_key file ∷ sections_keys file 0 f.sections)
 abbrev pub all_keys : List File → List SelectionKey
 all_keys files = files_keys 0 files
 
--- the file that a section or line is in, the section that a line is in
-abbrev pub file_of_section : SectionKey → SelectionKey
-file_of_section key = keys.File (record { commit_idx = key.commit_idx; file_idx = key.file_idx })
-
-abbrev pub file_of_line : LineKey → SelectionKey
-file_of_line key = keys.File (record { commit_idx = key.commit_idx; file_idx = key.file_idx })
-
-abbrev pub section_of_line : LineKey → SelectionKey
-section_of_line key =
-    keys.Section (record { commit_idx = key.commit_idx; file_idx = key.file_idx; section_idx = key.section_idx })
-
--- the file that the key is of or in
-abbrev pub file_of : SelectionKey → SelectionKey
-file_of keys.None = keys.None
-file_of (keys.File key) = keys.File key
-file_of (keys.Section key) = file_of_section key
-file_of (keys.Line key) = file_of_line key
-
 -- files are visible, sections in expanded files, and lines in expanded sections of expanded files
 abbrev pub is_visible : (SelectionKey → Bool) → SelectionKey → Bool
 is_visible is_expanded keys.None = false
 is_visible is_expanded (keys.File key) = true
-is_visible is_expanded (keys.Section key) = is_expanded (file_of_section key)
-is_visible is_expanded (keys.Line key) = is_expanded (file_of_line key) && is_expanded (section_of_line key)
+is_visible is_expanded (keys.Section key) = is_expanded (keys.File (file_of_section key))
+is_visible is_expanded (keys.Line key) = is_expanded (keys.File (file_of_line key)) && is_expanded (keys.Section (section_of_line key))
 
 -- the visible keys, in order
 abbrev pub visible_keys : (SelectionKey → Bool) → List File → List SelectionKey

@@ -14,7 +14,8 @@ use Rattle.scm_view.specs.declared.commit_view.CommitViewMode.TheVariants.{Inlin
 use Rattle.scm_view.specs.Shown.{Shown}
 use Rattle.scm_record.specs.declared.events.Event.{Event}
 use Rattle.scm_record.specs.declared.events.Event.TheVariants as events
-use Rattle.scm_record.specs.Keys.{all_keys, visible_keys, first_key, is_section, file_of, file_of_section, file_of_line, section_of_line}
+use Rattle.scm_view.specs.Keys.{file_of, file_of_section, file_of_line, section_of_line}
+use Rattle.scm_record.specs.Keys.{all_keys, visible_keys, first_key, is_section}
 use Rattle.scm_record.specs.KeySet.{has_key, same_set, with_key, without_key, with_key_flipped, key_set}
 use Rattle.scm_record.specs.Moves.{next_key, previous_key, inner_key, of_kind}
 use Rattle.scm_record.specs.Toggle.{with_key_toggled, with_all_inverted, with_all_set}
@@ -145,8 +146,8 @@ visible_of_kind s = of_kind (visible s) s.selection
 abbrev pub with_keys_above : List SelectionKey → SelectionKey → List SelectionKey
 with_keys_above expanded keys.None = expanded
 with_keys_above expanded (keys.File key) = expanded
-with_keys_above expanded (keys.Section key) = with_key expanded (file_of_section key)
-with_keys_above expanded (keys.Line key) = with_key (with_key expanded (file_of_line key)) (section_of_line key)
+with_keys_above expanded (keys.Section key) = with_key expanded (keys.File (file_of_section key))
+with_keys_above expanded (keys.Line key) = with_key (with_key expanded (keys.File (file_of_line key))) (keys.Section (section_of_line key))
 
 -- the key is selected, and what it is in is expanded
 abbrev pub at_key : Session → SelectionKey → Session
@@ -189,8 +190,8 @@ outside_of s fold_section (keys.File key) = after_fold s (keys.File key)
 outside_of s fold_section (keys.Section key) =
     if fold_section && has_key s.expanded (keys.Section key)
     then after_fold s (keys.Section key)
-    else after_select s (file_of_section key)
-outside_of s fold_section (keys.Line key) = after_select s (section_of_line key)
+    else after_select s (keys.File (file_of_section key))
+outside_of s fold_section (keys.Line key) = after_select s (keys.Section (section_of_line key))
 
 abbrev pub after_outer : Session → Bool → Session
 after_outer s fold_section = outside_of s fold_section s.selection

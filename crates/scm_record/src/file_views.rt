@@ -15,10 +15,7 @@ use std::alloc::Global;
 fn old_path<'a>(file: &'a File<'_>) -> Option<&'a str>
     ensures { lent_path result ≡ option_map lent file.now.old_path }
 {
-    match &file.old_path {
-        Some(path) => Some(path.as_str()),
-        None => None,
-    }
+    file.old_path.as_ref().map(|path| path.as_str())
 }
 
 /// What is shown of a file, which has no more lines than a state may have.

@@ -2,22 +2,11 @@
 ghost use Rattle.std.specs.Prelude.{◌≡◌, true, if◌then◌else◌};
 ghost use Rattle.scm_view.specs.declared.keys.SelectionKey.TheVariants as keys;
 ghost use Rattle.scm_view.specs.Keys.{has_key};
-ghost use Rattle.scm_view.specs.Shown.{are_all_expanded, file_fold, is_changed, section_fold, section_key_of};
+ghost use Rattle.scm_view.specs.Shown.{are_all_expanded, file_fold, is_changed, section_fold};
 
 use crate::views::Showing;
 use scm_types::{File, Section, Tristate};
 use scm_view::{FileKey, SectionKey, SelectionKey};
-
-/// The key of a section of a file.
-pub(crate) fn section_key_of(file: FileKey, section_idx: usize) -> SectionKey
-    ensures { result ≡ section_key_of file section_idx }
-{
-    SectionKey {
-        commit_idx: file.commit_idx,
-        file_idx: file.file_idx,
-        section_idx,
-    }
-}
 
 /// The section has no changed lines that are folded.
 fn has_no_fold(showing: &Showing<'_>, key: SectionKey, section: &Section<'_>) -> bool
@@ -34,7 +23,7 @@ fn are_all_expanded(showing: &Showing<'_>, key: FileKey, sections: &[Section<'_>
     ensures { result ≡ are_all_expanded showing.now key 0 sections.now }
 {
     for (index, section) in sections.iter().enumerate() {
-        if !has_no_fold(showing, section_key_of(key, index), section) {
+        if !has_no_fold(showing, key.section(index), section) {
             return false;
         }
     }

@@ -181,10 +181,7 @@ impl DrawnFrame {
     pub(crate) fn top(&self, key: SelectionKey) -> Option<usize>
         ensures { (scene : Scene) → IsShown scene self.now → result ≡ top_in scene key }
     {
-        match self.span(key) {
-            Some((top, _)) => Some(top),
-            None => None,
-        }
+        self.span(key).map(|(top, _)| top)
     }
 
     /// The screen's rows.
@@ -206,19 +203,17 @@ impl DrawnFrame {
         ensures rows { (scene : Scene) → IsShown scene self.now → result ≡ scene.frame.span key }
         ensures first { IfSome result (λ span. span.0 < 2 ^ 63) }
     {
-        match self.boxes.get(&ComponentId::SelectableItem(key)) {
-            Some(drawn) => Some(rows_of(drawn.rect)),
-            None => None,
-        }
+        self.boxes
+            .get(&ComponentId::SelectableItem(key))
+            .map(|drawn| rows_of(drawn.rect))
     }
 
     /// How many rows all that was drawn spans.
     fn extent(&self) -> usize
         ensures { (scene : Scene) → IsShown scene self.now → result ≡ scene.frame.extent }
     {
-        match self.boxes.get(&ComponentId::App) {
-            Some(drawn) => drawn.rect.height,
-            None => 0,
-        }
+        self.boxes
+            .get(&ComponentId::App)
+            .map_or(0, |drawn| drawn.rect.height)
     }
 }

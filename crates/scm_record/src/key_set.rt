@@ -12,6 +12,7 @@ use std::marker::Model;
 /// A set of keys.
 #[derive(Debug, Drop)]
 pub struct KeySet {
+    /// The keys, in ascending order.
     keys: BTreeSet<SelectionKey>,
 }
 

@@ -18,7 +18,6 @@ mod key_table;
 mod menus;
 mod moves;
 mod pages;
-mod parents;
 pub mod recording;
 mod runs;
 pub mod scripts;
@@ -37,14 +36,19 @@ pub use scm_cells::{
     Clusters, Grid, Line, Mask, Rect, RectSize, ScreenRect, Span, push_spans_from_line,
     replace_control_character, text_width,
 };
-pub use scm_render::{Component, DrawTrace, DrawnRect, DrawnRects, Viewport, centered_rect};
+pub use scm_render::{
+    Clickable, Component, DrawTrace, DrawnRect, DrawnRects, Viewport, centered_rect, find_target,
+};
 pub use scm_types::{
     ChangeType, Commit, File, FileMode, IsizeExt, Items, OwnedText, RecordError, RecordState,
     Section, SectionChangedLine, SelectedChanges, SelectedContents, Text, Tristate, TryClone,
     UsizeExt, consts, laws, make_binary_description,
 };
 pub use scm_view::{
-    ComponentId, FileKey, LineKey, QuitDialog, QuitDialogButtonId, SectionKey, SelectionKey,
+    AppView, Button, CommitMessageView, CommitView, CommitViewMode, ComponentId, Dialog, FileKey,
+    FileView, FileViewHeader, HelpDialog, LineKey, Menu, MenuBar, MenuItem, QuitDialog,
+    QuitDialogButtonId, SectionKey, SectionLineView, SectionLineViewInner, SectionSelection,
+    SectionView, SelectionKey, TristateBox, TristateIconStyle,
 };
 pub use scripts::{ScriptEdit, ScriptInput, ScriptRead};
 pub use store::Screens;

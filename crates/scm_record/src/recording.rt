@@ -8,6 +8,7 @@ use std::marker::Model;
 /// A session in which a user selects changes.
 #[derive(Drop)]
 pub struct Recorder<'state> {
+    /// The session.
     selector: Selector<'state>,
 }
 
@@ -29,8 +30,9 @@ impl<'state> Recorder<'state> {
 
     /// A session over the state, to which commits without a message are added up to two.
     ///
-    /// The first file is selected, and each section is expanded. The state has to be within the
-    /// limits, as [`RecordState::is_accepted`] says. After `OutOfMemory` it is gone.
+    /// The first file is selected, and each section that is more than context is expanded. The
+    /// state has to be within the limits, as [`RecordState::is_accepted`] says. After `OutOfMemory`
+    /// it is gone.
     pub fn new(alloc: Global, state: RecordState<'state>) -> Result<Recorder<'state>, RecordError>
         requires { IsTrue (is_accepted_state state) }
         ensures ok { IfOk result (λ recorder. recorder ≡ start state.entry) }

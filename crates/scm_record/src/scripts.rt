@@ -32,9 +32,13 @@ pub enum ScriptEdit {
 pub struct ScriptInput {
     /// Where memory for the words of faults comes from.
     alloc: Global,
+    /// The screen's columns.
     width: usize,
+    /// The screen's rows.
     height: usize,
+    /// The reads that are left.
     reads: VecDeque<ScriptRead>,
+    /// The edits that are left.
     edits: VecDeque<ScriptEdit>,
 }
 

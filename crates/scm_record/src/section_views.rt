@@ -6,9 +6,7 @@ ghost use Rattle.scm_types.specs.Marks.{is_editable_section};
 ghost use Rattle.scm_view.specs.Shown.{is_removed, old_lines, section_view_of, section_views_of, selected_in, totals_of};
 ghost use Rattle.scm_record.specs.Views.{lent_section, lent_sections, totals_in};
 
-use crate::folds::section_key_of;
 use crate::moves::is_key;
-use crate::parents::section_of_line;
 use crate::views::Showing;
 use scm_types::{ChangeType, Items, RecordError, Section, SectionChangedLine};
 use scm_view::{FileKey, SectionKey, SectionSelection, SectionView, SelectionKey};
@@ -81,7 +79,10 @@ fn selected_in(key: SectionKey, selection: SelectionKey) -> Option<SectionSelect
             is_itself.then_some(SectionSelection::SectionHeader)
         }
         SelectionKey::Line(line) => {
-            let is_inside = is_key(SelectionKey::Section(key), section_of_line(line));
+            let is_inside = is_key(
+                SelectionKey::Section(key),
+                SelectionKey::Section(line.section()),
+            );
             is_inside.then_some(SectionSelection::ChangedLine(line.line_idx))
         }
     }
@@ -153,7 +154,7 @@ pub(crate) fn section_views<'a>(
         lines: 0,
     };
     for (index, section) in sections.iter().enumerate() {
-        views.push(section_view(showing, totals, section_key_of(key, index), before, section))?;
+        views.push(section_view(showing, totals, key.section(index), before, section))?;
         before = before.with(section);
     }
     Ok(Items::from(views))

@@ -16,7 +16,6 @@ use crate::frame::DrawnFrame;
 use crate::key_lists::{first_key, section_keys};
 use crate::key_set::{KeySet, key_set_of};
 use crate::pages::Way;
-use crate::parents::{file_of_line, file_of_section, section_of_line};
 use crate::views::Showing;
 use scm_types::{Commit, Items, OwnedText, RecordError, RecordState};
 use scm_view::{CommitViewMode, QuitDialog, SelectionKey};
@@ -42,13 +41,19 @@ pub(crate) enum Flow {
 /// A session in which a user selects changes.
 #[derive(Drop)]
 pub(crate) struct Selector<'state> {
+    /// The state, with the marks and messages of now.
     state: RecordState<'state>,
+    /// What is selected.
     selection: SelectionKey,
+    /// The keys that are not folded.
     expanded: KeySet,
+    /// Whether one commit is shown, or two beside each other.
     view_mode: CommitViewMode,
-    /// The index of the menu that is open.
+    /// The index of the menu that is open, from 0.
     open_menu: Option<usize>,
+    /// The quit dialog, while it is open.
     quit_dialog: Option<QuitDialog>,
+    /// The help is open.
     is_help_open: bool,
     /// The document's row that the screen's first row shows.
     scroll: usize,
@@ -69,17 +74,19 @@ impl<'state> Model for Selector<'state> {
 }
 
 impl<'state> Selector<'state> {
-    ghost use Rattle.std.specs.Prelude.{◌≡◌, ◌↔◌, ◌<◌, IfErr, IfOk, IsTrue, OnOk, length, string_bytes};
+    ghost use Rattle.std.specs.Prelude.{◌≡◌, ◌↔◌, ◌<◌, [], IfErr, IfOk, IsTrue, OnOk, length, string_bytes};
+    ghost use Rattle.std.specs.Option.{unwrap_or};
     ghost use Rattle.scm_types.specs.declared.error.RecordError.TheVariants.{OutOfMemory};
     ghost use Rattle.scm_types.specs.Limits.{is_accepted_state};
     ghost use Rattle.scm_record.specs.Frames.{IsShown, Scene};
-    ghost use Rattle.scm_record.specs.Session.{after_frame, after_select, at_key, shown_of, start, with_ensure, with_message, with_pushed, without_pending};
+    ghost use Rattle.scm_record.specs.Session.{after_frame, after_select, at_key, message_of, shown_of, start, with_ensure, with_message, with_pushed, without_pending};
     ghost use Rattle.scm_record.specs.Step.{change};
 
     /// A session over the state, to which commits without a message are added up to two.
     ///
-    /// The first file is selected, and each section is expanded. The state has to be within the
-    /// limits, as [`RecordState::is_accepted`] says. After `OutOfMemory` it is gone.
+    /// The first file is selected, and each section that is more than context is expanded. The
+    /// state has to be within the limits, as [`RecordState::is_accepted`] says. After `OutOfMemory`
+    /// it is gone.
     pub fn new(alloc: Global, state: RecordState<'state>) -> Result<Selector<'state>, RecordError>
         requires { IsTrue (is_accepted_state state) }
         ensures ok { IfOk result (λ selector. selector ≡ start state.entry) }
@@ -233,7 +240,9 @@ impl<'state> Selector<'state> {
     }
 
     /// The message of a commit, empty where there is none.
-    pub(crate) fn message(&self, commit: usize) -> &str {
+    pub(crate) fn message(&self, commit: usize) -> &str
+        ensures { result.now ≡ unwrap_or (message_of self.now commit) [] }
+    {
         match self.state.commits.as_slice().get(commit) {
             Some(
                 Commit {
@@ -303,10 +312,10 @@ fn expand_above(expanded: &mut KeySet, key: SelectionKey) -> Result<(), RecordEr
 {
     match key {
         SelectionKey::None | SelectionKey::File(_) => Ok(()),
-        SelectionKey::Section(key) => expanded.insert(file_of_section(key)),
+        SelectionKey::Section(key) => expanded.insert(SelectionKey::File(key.file())),
         SelectionKey::Line(key) => {
-            expanded.insert(file_of_line(key))?;
-            expanded.insert(section_of_line(key))
+            expanded.insert(SelectionKey::File(key.file()))?;
+            expanded.insert(SelectionKey::Section(key.section()))
         }
     }
 }

@@ -10,7 +10,9 @@ use std::marker::Model;
 /// The screens that runs took, by their places, and a count of the frames that they drew.
 #[derive(Drop)]
 pub struct Screens {
+    /// For each place the last text that was kept there, if any was.
     texts: Vec<Option<String>>,
+    /// How many frames were drawn.
     frames: usize,
 }
 

@@ -10,7 +10,7 @@ use Rattle.scm_view.specs.declared.commit_view.CommitViewMode.TheVariants.{Inlin
 use Rattle.scm_view.specs.Rows.{document_of}
 use Rattle.scm_view.specs.Pictures.{commit_picture}
 use Rattle.scm_view.specs.Shown.{Shown, commit_view_of}
-use Rattle.scm_view.specs.AppView.{views_shown, view_width, view_picture, next_view, views_picture, is_open, help_where, app_view_of, app_picture, ShowInOrder, ShowsSession, AppsAreDrawnAlike}
+use Rattle.scm_view.specs.AppView.{views_shown, view_width, view_picture, next_view, views_picture, has_help, help_where, app_view_of, app_picture, ShowInOrder, ShowsSession, AppsAreDrawnAlike}
 
 -- views of the same documents, one for one
 abbrev AreAlike : List CommitView → List CommitView → Type 0
@@ -41,7 +41,7 @@ first-alike Adjacent [] shown h n = absurd (omega (arith, n))
 first-alike Adjacent (v ∷ []) shown h n = absurd (omega (arith, n))
 first-alike Adjacent (v ∷ (u ∷ vs)) shown h n = (h.0, (h.1.0, tt))
 
-pub help-where : (b : Bool) → is_open (help_where b) ≡ b
+pub help-where : (b : Bool) → has_help (help_where b) ≡ b
 help-where true = refl
 help-where false = refl
 

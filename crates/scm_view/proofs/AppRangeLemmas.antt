@@ -21,7 +21,7 @@ use Rattle.scm_view.specs.Menus.{menu_bar_picture}
 use Rattle.scm_view.specs.Tables.{menus_with, quit_dialog, help_dialog, named_dialog_picture}
 use Rattle.scm_view.specs.Screens.{sight}
 use Rattle.scm_view.specs.Overlays.{quit_picture, help_picture}
-use Rattle.scm_view.specs.AppView.{views_shown, view_width, shown_views, view_mask, view_picture, next_view, views_picture, is_open, app_picture, ShowInOrder, ShowsSession}
+use Rattle.scm_view.specs.AppView.{views_shown, view_width, shown_views, view_mask, view_picture, next_view, views_picture, has_help, app_picture, ShowInOrder, ShowsSession}
 use Rattle.scm_view.proofs.LimitLemmas.{commits-in-range}
 use Rattle.scm_view.proofs.RangeLemmas.{bar-range, dialog-range}
 use Rattle.scm_view.proofs.FixedLemmas.{short_bar, short_quit, short_help}
@@ -107,4 +107,4 @@ apps-in-range shown a w h s y accepted shows pw ph ps =
     (views-in shown (shown_views a) 0 (view_width a.commit_view_mode w) w h s (pos 0) accepted (show-first (views_shown a.commit_view_mode) shown a.commit_views 0 shows.views) pw ps (narrow-view a.commit_view_mode w pw)
     (omega (arith, places)) (first-columns (length (shown_views a)) (few-views a.commit_view_mode a.commit_views)))
     (PictureInRange-followed _ _ (PictureInRange-as_part ids.MenuBar _ (bar-in w h s a.menu_bar shown.open_menu shows.menu_bar pw ps))
-    (PictureInRange-followed _ _ (quit-in w h s a.quit_dialog pw ph ps) (help-in w h s (is_open a.help_dialog) pw ph ps))))
+    (PictureInRange-followed _ _ (quit-in w h s a.quit_dialog pw ph ps) (help-in w h s (has_help a.help_dialog) pw ph ps))))

@@ -23,7 +23,7 @@ use Rattle.scm_render.proofs.FillLemmas.{put_over, top_text, side_text, bottom_t
 use Rattle.scm_view.specs.Layers.{Strip, laid_over, owned}
 use Rattle.scm_view.specs.declared.button.Button.{Button}
 use Rattle.scm_view.specs.Buttons.{button_part, button_strip, button_width, buttons_picture, buttons_strip, leftmost}
-use Rattle.scm_view.specs.Dialogs.{IsOneOf, AreButtons, IsDialog, ShownDialog, widest_line, dialog_rect, dialog_picture, text_strip, border_strips, frame_strips, is_dialog_column, dialog_strips, dialog_layer}
+use Rattle.scm_view.specs.Dialogs.{IsOneOf, AreButtons, IsDialog, ShownDialog, widest_line, dialog_rect, dialog_picture, put_strip, border_strips, frame_strips, is_dialog_column, dialog_strips, dialog_layer}
 use Rattle.scm_view.specs.Screens.{screen, sight}
 use Rattle.scm_view.proofs.Draws.{Draws, draws_clear, draws_both, draws_over, draws_part, draws_again, box-followed, length-laid_over}
 use Rattle.scm_view.proofs.ButtonLemmas.{Inside, intersect-inside, reach-screen, draws_button, IsId, box-plain_button}
@@ -95,13 +95,13 @@ border-strips : {K : Type 0} (w h s c y n m : ℕ) → c + n ≤ w
 border-strips w h s c y n m fits =
     let F = λ (t : List ℕ). within-text w h s (at c y n m) c (c + n) t refl refl (omega arith) fits in
     rw (F (top_text n), F (side_text n), F (bottom_text n))
-    (ap (λ k. text_strip c (top_text n) c (c + n) ∷ k) (map-append plain (replicate (m - 2) (λ (row : Row). put row (pos c) (side_text n) c (c + n))) ((λ row. put row (pos c) (bottom_text n) c (c + n)) ∷ [])
-    ∙ ap (λ k. k ++ text_strip c (bottom_text n) c (c + n) ∷ []) (map-replicate plain (m - 2) (λ (row : Row). put row (pos c) (side_text n) c (c + n)))))
+    (ap (λ k. put_strip c (top_text n) c (c + n) ∷ k) (map-append plain (replicate (m - 2) (λ (row : Row). put row (pos c) (side_text n) c (c + n))) ((λ row. put row (pos c) (bottom_text n) c (c + n)) ∷ [])
+    ∙ ap (λ k. k ++ put_strip c (bottom_text n) c (c + n) ∷ []) (map-replicate plain (m - 2) (λ (row : Row). put row (pos c) (side_text n) c (c + n)))))
 
 length-border : (K : Type 0) (c n m : ℕ) → 2 ≤ m → length (border_strips {K = K} c n m) ≡ m
 length-border K c n m h =
-    let side : Strip K = text_strip c (side_text n) c (c + n) in
-    let bottom : Strip K = text_strip c (bottom_text n) c (c + n) in
+    let side : Strip K = put_strip c (side_text n) c (c + n) in
+    let bottom : Strip K = put_strip c (bottom_text n) c (c + n) in
     omega (arith, length-append (replicate (m - 2) side) (bottom ∷ []), length-replicate (m - 2) side)
 
 inside-screen : (w h s c y n m : ℕ) → c + n ≤ w → s ≤ y → y + m ≤ s + h → Inside (at c y n m) (screen w h s)
@@ -117,7 +117,7 @@ no-frame_boxes K s r t b = refl
 module _ {K : Type 0} (same_id : K → K → Bool) (clicks : K → Bool) where
   frame_draws : (w h s c y n m : ℕ) (title : List ℕ) (body : List (List ℕ)) → c + n ≤ w → s ≤ y → y + m ≤ s + h → 2 ≤ n → 2 ≤ m
       → Draws same_id clicks (screen w h s) (λ i. ⊥) (frame_picture (sight w h s) (at c y n m) title body) (pos y)
-      (laid_over 1 (map (λ t. text_strip (c + 1) t (c + 1) (c + n - 1)) (take (m - 2) body)) (laid_over 0 (text_strip (c + 1) title (c + 1) (c + n - 1) ∷ []) (border_strips c n m)))
+      (laid_over 1 (map (λ t. put_strip (c + 1) t (c + 1) (c + n - 1)) (take (m - 2) body)) (laid_over 0 (put_strip (c + 1) title (c + 1) (c + n - 1) ∷ []) (border_strips c n m)))
   unfolding followed_by
   frame_draws w h s c y n m title body fits above below wide high =
       draws_same same_id clicks v none all (frame_picture (sight w h s) r title body) (pos y) _ puts (no-frame_boxes K (sight w h s) r title body)
@@ -156,10 +156,10 @@ module _ {K : Type 0} (same_id : K → K → Bool) (clicks : K → Bool) where
       here = omega arith
 
       title_strip : Strip K
-      title_strip = text_strip (c + 1) title (c + 1) (c + n - 1)
+      title_strip = put_strip (c + 1) title (c + 1) (c + n - 1)
 
       line_strip : List ℕ → Strip K
-      line_strip t = text_strip (c + 1) t (c + 1) (c + n - 1)
+      line_strip t = put_strip (c + 1) t (c + 1) (c + n - 1)
 
       puts : (frame_picture {K = K} (sight w h s) r title body).puts ≡ (border_puts r ++ first) ++ lines
       puts =
@@ -269,8 +269,8 @@ module _ {K : Type 0} (same_id : K → K → Bool) (law : IsLawful same_id) (cli
       → Draws same_id clicks (screen w h s) (IsOneOf same_id clicks d.buttons) (placed_picture d (sight w h s) (at c y n m)) (pos y) (frame_strips w d c n m)
   rows_draw w h s c y n m P d good fits above below wide high =
       let last : (pos y +ℤ pos m) -ℤ pos 1 ≡ pos y +ℤ pos (m - 1) = omega (arith, ints) in
-      let title : Strip K = text_strip (c + 1) d.title (c + 1) (c + n - 1) in
-      let line_strip : List ℕ → Strip K = λ t. text_strip (c + 1) t (c + 1) (c + n - 1) in
+      let title : Strip K = put_strip (c + 1) d.title (c + 1) (c + n - 1) in
+      let line_strip : List ℕ → Strip K = λ t. put_strip (c + 1) t (c + 1) (c + n - 1) in
       draws_over same_id clicks (screen w h s) (λ i. ⊥) (IsOneOf same_id clicks d.buttons) (IsOneOf same_id clicks d.buttons) _ _ (pos y) (m - 1) _ (buttons_strip w (pos (c + n) -ℤ pos 1) d.buttons ∷ [])
       (omega (arith, length-laid_over 1 (map line_strip (take (m - 2) d.body)) (laid_over 0 (title ∷ []) (border_strips c n m)), length-laid_over 0 (title ∷ []) (border_strips c n m), length-border K c n m high))
       (frame_draws same_id clicks w h s c y n m d.title d.body fits above below wide high)
@@ -279,8 +279,8 @@ module _ {K : Type 0} (same_id : K → K → Bool) (law : IsLawful same_id) (cli
 
   length-frame : (w c n m : ℕ) (d : ShownDialog K) → 2 ≤ m → length (frame_strips w d c n m) ≡ m
   length-frame w c n m d high =
-      let title : Strip K = text_strip (c + 1) d.title (c + 1) (c + n - 1) in
-      let line_strip : List ℕ → Strip K = λ t. text_strip (c + 1) t (c + 1) (c + n - 1) in
+      let title : Strip K = put_strip (c + 1) d.title (c + 1) (c + n - 1) in
+      let line_strip : List ℕ → Strip K = λ t. put_strip (c + 1) t (c + 1) (c + n - 1) in
       let framed = laid_over 1 (map line_strip (take (m - 2) d.body)) (laid_over 0 (title ∷ []) (border_strips c n m)) in
       length-laid_over (m - 1) (buttons_strip w (pos (c + n) -ℤ pos 1) d.buttons ∷ []) framed
       ∙ length-laid_over 1 (map line_strip (take (m - 2) d.body)) (laid_over 0 (title ∷ []) (border_strips c n m))

@@ -15,6 +15,7 @@ pub mod MenuLemmas
 pub mod DialogLemmas
 pub mod RangeLemmas
 pub mod FixedLemmas
+pub mod Computing
 pub mod OverlayExampleLemmas
 pub mod OverlayLemmas
 pub mod DocumentLemmas
@@ -39,3 +40,4 @@ pub mod DocumentExtentLemmas
 pub mod WindowOwnerLemmas
 pub mod WindowExtentLemmas
 pub mod WindowExampleLemmas
+pub mod ScreenExampleLemmas

@@ -22,7 +22,8 @@ use Rattle.scm_view.specs.declared.ids.ComponentId.TheVariants as ids
 use Rattle.scm_view.specs.Clicks.{is_clickable}
 use Rattle.scm_view.specs.Laws.{IsOpen}
 use Rattle.scm_view.specs.Layers.{Strip, clear, over, owned, strip_at}
-use Rattle.scm_view.specs.Owners.{section_of_line, IsRowOf, after_row, AreRowsOf, file_of_section, AreSectionsOf}
+use Rattle.scm_view.specs.Keys.{section_of_line, file_of_section}
+use Rattle.scm_view.specs.Owners.{IsRowOf, after_row, AreRowsOf, AreSectionsOf}
 use Rattle.scm_view.specs.Texts.{box_text}
 use Rattle.scm_view.specs.Rows.{IdBox, section_id, line_id, Heading, DocRow, HeaderRow, SectionRow, LineRow, MarkRow, ContextRow, DotsRow, BlankRow, ShownSection}
 use Rattle.scm_view.specs.Pictures.{IdPicture, box_picture, box_part, heading_width, title_picture, heading_picture, changed_picture, context_picture, highlight, row_picture, rows_picture, sections_picture}

@@ -59,16 +59,16 @@ unfoldable pub views_picture : List CommitView → ℕ → Sight → ℤ → Pic
 views_picture [] n s x = nothing
 views_picture (v ∷ vs) n s x = followed_by (part ids.AppFiles (view_picture v s x n)) (views_picture vs n s (next_view v s x n))
 
-abbrev pub is_open : Option HelpDialog → Bool
-is_open None = false
-is_open (Some h) = true
+abbrev pub has_help : Option HelpDialog → Bool
+has_help None = false
+has_help (Some h) = true
 
 -- the documents below the menu bar; on the screen's first row the menu bar, and its open menu; then the quit dialog, and the help
 unfoldable pub app_picture : AppView → Sight → ℤ → ℤ → Picture ComponentId
 app_picture a s x y =
     followed_by (views_picture (shown_views a) (view_width a.commit_view_mode s.rect.width) s x)
     (followed_by (part ids.MenuBar (menu_bar_picture a.menu_bar s x s.rect.y))
-    (followed_by (quit_picture a.quit_dialog s) (help_picture (is_open a.help_dialog) s)))
+    (followed_by (quit_picture a.quit_dialog s) (help_picture (has_help a.help_dialog) s)))
 
 -- ---- what it shows of a session
 
@@ -84,7 +84,7 @@ pub record ShowsSession (a : AppView) (shown : Shown) : Type 0 where
   pub views : ShowInOrder a.commit_views shown 0
   pub count : views_shown shown.view_mode ≤ length a.commit_views
   pub quit_dialog : a.quit_dialog ≡ shown.quit_dialog
-  pub help_dialog : is_open a.help_dialog ≡ shown.is_help_open
+  pub help_dialog : has_help a.help_dialog ≡ shown.is_help_open
 
 -- the help, where it is open
 abbrev pub help_where : Bool → Option HelpDialog

@@ -53,21 +53,21 @@ module _ {K : Type 0} where
   -- ---- what the screen shows of them, and who owns it
 
   -- a text put on a row from a column on, between two columns
-  abbrev pub text_strip : ℕ → List ℕ → ℕ → ℕ → Strip K
-  text_strip c t low high = record { shows = λ row. put row (pos c) t low high; owner = λ x. None }
+  abbrev pub put_strip : ℕ → List ℕ → ℕ → ℕ → Strip K
+  put_strip c t low high = record { shows = λ row. put row (pos c) t low high; owner = λ x. None }
 
   -- the border of a frame of n columns and m rows from column c on
   abbrev pub border_strips : ℕ → ℕ → ℕ → List (Strip K)
   border_strips c n m =
-      text_strip c (edge 0x250C 0x2500 0x2510 n) c (c + n)
-      ∷ (replicate (m - 2) (text_strip c (edge 0x2502 0x20 0x2502 n) c (c + n)) ++ text_strip c (edge 0x2514 0x2500 0x2518 n) c (c + n) ∷ [])
+      put_strip c (edge 0x250C 0x2500 0x2510 n) c (c + n)
+      ∷ (replicate (m - 2) (put_strip c (edge 0x2502 0x20 0x2502 n) c (c + n)) ++ put_strip c (edge 0x2514 0x2500 0x2518 n) c (c + n) ∷ [])
 
   -- the border; over it the title on the first row, the lines of the body that have a row, and the buttons on the last row
   abbrev pub frame_strips : ℕ → ShownDialog K → ℕ → ℕ → ℕ → List (Strip K)
   frame_strips w d c n m =
       laid_over (m - 1) (buttons_strip w (pos (c + n) -ℤ pos 1) d.buttons ∷ [])
-      (laid_over 1 (map (λ t. text_strip (c + 1) t (c + 1) (c + n - 1)) (take (m - 2) d.body))
-      (laid_over 0 (text_strip (c + 1) d.title (c + 1) (c + n - 1) ∷ []) (border_strips c n m)))
+      (laid_over 1 (map (λ t. put_strip (c + 1) t (c + 1) (c + n - 1)) (take (m - 2) d.body))
+      (laid_over 0 (put_strip (c + 1) d.title (c + 1) (c + n - 1) ∷ []) (border_strips c n m)))
 
   -- the dialog owns what no button does, from its first column or that of its leftmost button on
   abbrev pub is_dialog_column : ShownDialog K → ℕ → ℕ → ℕ → Bool

@@ -2,7 +2,7 @@
 pub mod Texts
 -- The rows of the document: what stands on each row of a section, of a file and of a commit.
 pub mod Rows
--- Whether two keys are the same, and whether a list has a key.
+-- The keys that a key lies in, whether two keys are the same, and whether a list has a key.
 pub mod Keys
 -- What is shown of a session, and the views that show it.
 pub mod Shown
@@ -22,13 +22,21 @@ pub mod Near
 pub mod Owners
 -- What follows from the definitions.
 pub mod Laws
+-- Buttons beside others.
 pub mod Buttons
+-- The menu bar and its menus.
 pub mod Menus
+-- Dialogs: a frame in the middle of the screen, with buttons on its last row.
 pub mod Dialogs
+-- The words of the selector's own menus, of its quit dialog and of its help.
 pub mod Tables
+-- A screen that shows the document from a row on.
 pub mod Screens
+-- Which components a click acts on.
 pub mod Clicks
+-- Labels that are short enough for menus and dialogs to be in range.
 pub mod Ranges
+-- What lies over the document: the menu bar, the quit dialog and the help.
 pub mod Overlays
 -- All that the selector shows.
 pub mod AppView

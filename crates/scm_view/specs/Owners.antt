@@ -2,14 +2,10 @@
 use Rattle.std.specs.Prelude.{◌≡◌, ℕ, suc, ◌≤◌, ◌<◌, List, [], ◌∷◌, length}
 use Rattle.scm_view.specs.declared.keys.FileKey.{FileKey}
 use Rattle.scm_view.specs.declared.keys.SectionKey.{SectionKey}
-use Rattle.scm_view.specs.declared.keys.LineKey.{LineKey}
 use Rattle.scm_view.specs.declared.keys.SelectionKey.TheVariants as selection
 use Rattle.scm_view.specs.declared.ids.ComponentId.TheVariants as ids
+use Rattle.scm_view.specs.Keys.{file_of_section, section_of_line}
 use Rattle.scm_view.specs.Rows.{DocRow, HeaderRow, SectionRow, LineRow, MarkRow, ContextRow, DotsRow, BlankRow, Heading, ShownSection, ShownFile, Document}
-
--- the section of a line
-abbrev pub section_of_line : LineKey → SectionKey
-section_of_line k = record { commit_idx = k.commit_idx; file_idx = k.file_idx; section_idx = k.section_idx }
 
 -- the ids of a row are those of the section's parts, from a rank on
 abbrev pub IsRowOf : SectionKey → ℕ → DocRow → Type 0
@@ -35,10 +31,6 @@ after_row n BlankRow = n
 abbrev pub AreRowsOf : SectionKey → ℕ → List DocRow → Type 0
 AreRowsOf k n [] = Unit {0}
 AreRowsOf k n (d ∷ ds) = IsRowOf k n d × AreRowsOf k (after_row n d) ds
-
--- the file of a section
-abbrev pub file_of_section : SectionKey → FileKey
-file_of_section k = record { commit_idx = k.commit_idx; file_idx = k.file_idx }
 
 -- the sections of a file, each with its rows, from this one on
 abbrev pub AreSectionsOf : FileKey → ℕ → List ShownSection → Type 0

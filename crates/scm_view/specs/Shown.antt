@@ -27,7 +27,7 @@ use Rattle.scm_view.specs.declared.section_view.SectionView.{SectionView}
 use Rattle.scm_view.specs.declared.file_view.FileView.{FileView}
 use Rattle.scm_view.specs.declared.commit_view.CommitView.{CommitView}
 use Rattle.scm_view.specs.declared.commit_view.CommitViewMode.{CommitViewMode}
-use Rattle.scm_view.specs.Keys.{is_key, has_key}
+use Rattle.scm_view.specs.Keys.{section_key_of, section_of_line, is_key, has_key}
 use Rattle.scm_view.specs.Rows.{IdBox, document_of}
 
 pub record Shown : Type 0 where
@@ -68,9 +68,6 @@ expand_box_of s key fold = record {
 
 -- ---- folds
 
-abbrev pub section_key_of : FileKey → ℕ → SectionKey
-section_key_of k i = record { commit_idx = k.commit_idx; file_idx = k.file_idx; section_idx = i }
-
 -- an expanded section is open, any other is not
 abbrev pub section_fold : Shown → SectionKey → Tristate
 section_fold s k = if has_key s.expanded (keys.Section k) then tristate.True else tristate.False
@@ -96,13 +93,13 @@ file_fold s k f =
 
 -- ---- sections
 
--- whether a line is one of the section
+-- what of the section is selected: its header, one of its lines, or nothing
 abbrev pub selected_in : SectionKey → SelectionKey → Option SectionSelection
 selected_in k keys.None = None
 selected_in k (keys.File file) = None
 selected_in k (keys.Section section) = if is_key (keys.Section k) (keys.Section section) then Some SectionHeader else None
 selected_in k (keys.Line line) =
-    if is_key (keys.Section k) (keys.Section (record { commit_idx = line.commit_idx; file_idx = line.file_idx; section_idx = line.section_idx }))
+    if is_key (keys.Section k) (keys.Section (section_of_line line))
     then Some (ChangedLine line.line_idx)
     else None
 

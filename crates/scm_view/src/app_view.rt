@@ -7,7 +7,7 @@ ghost use Rattle.scm_render.specs.Canvas.{with_picture};
 ghost use Rattle.scm_types.specs.declared.error.RecordError.TheVariants.{OutOfMemory};
 ghost use Rattle.scm_view.specs.declared.ids.ComponentId.TheVariants as ids;
 ghost use Rattle.scm_view.specs.Overlays.{quit_picture, help_picture};
-ghost use Rattle.scm_view.specs.AppView.{views_shown, view_width, held, view_mask, view_picture, next_view, views_picture, is_open};
+ghost use Rattle.scm_view.specs.AppView.{views_shown, view_width, held, view_mask, view_picture, next_view, views_picture, has_help};
 
 use crate::commit_view::{CommitView, CommitViewMode};
 use crate::help_dialog::HelpDialog;
@@ -151,8 +151,8 @@ fn draw_help(
     viewport: &mut Viewport<ComponentId>,
     dialog: &Option<HelpDialog>,
 ) -> Result<(), RecordError>
-    requires { PictureInRange (help_picture (is_open dialog.now) viewport.old.canvas.sight) }
-    ensures ok { OnOk result (viewport.new.canvas ≡ with_picture viewport.old.canvas (help_picture (is_open dialog.now) viewport.old.canvas.sight)) }
+    requires { PictureInRange (help_picture (has_help dialog.now) viewport.old.canvas.sight) }
+    ensures ok { OnOk result (viewport.new.canvas ≡ with_picture viewport.old.canvas (help_picture (has_help dialog.now) viewport.old.canvas.sight)) }
     ensures rect { viewport.new.canvas.sight.rect ≡ viewport.old.canvas.sight.rect }
     ensures err { IfErr result (λ e. e ≡ OutOfMemory) }
 {

@@ -4,7 +4,7 @@ ghost use Rattle.scm_cells.specs.Rect.{InRange};
 ghost use Rattle.scm_render.specs.Picture.{PictureInRange};
 ghost use Rattle.scm_render.specs.Canvas.{with_picture};
 ghost use Rattle.scm_types.specs.declared.error.RecordError.TheVariants.{OutOfMemory};
-ghost use Rattle.scm_view.specs.Rows.{header_heading, shown_file, is_shown, is_open, is_first_open, shown_section, shown_sections, sections_rows, file_rows};
+ghost use Rattle.scm_view.specs.Rows.{header_heading, lent_text, shown_file, is_shown, is_open, is_first_open, shown_section, shown_sections, sections_rows, file_rows};
 ghost use Rattle.scm_view.specs.Pictures.{sections_picture};
 
 use crate::file_view_header::FileViewHeader;
@@ -140,6 +140,11 @@ impl<'a> FileView<'a> {
     /// Its header.
     pub(crate) fn header(&self) -> FileViewHeader<'a>
         ensures key { result.file_key ≡ self.now.file_key }
+        ensures selected { result.is_selected ≡ self.now.is_header_selected }
+        ensures path { result.path.now ≡ self.now.path.now }
+        ensures old_path { lent_text result.old_path ≡ lent_text self.now.old_path }
+        ensures toggle { result.toggle_box ≡ self.now.toggle_box }
+        ensures fold { result.expand_box ≡ self.now.expand_box }
         ensures heading { header_heading result ≡ (shown_file self.now).heading }
     {
         FileViewHeader {

@@ -3,7 +3,6 @@
 use super::{Flow, Selector};
 use crate::key_lists::all_keys;
 use crate::key_set::{KeySet, key_set_of};
-use crate::parents::file_of;
 use scm_types::RecordError;
 use scm_view::SelectionKey;
 
@@ -46,7 +45,7 @@ impl<'state> Selector<'state> {
         let all = key_set_of(self.allocator(), &keys)?;
         if self.expanded.is_same(&all) {
             self.expanded = KeySet::new(self.allocator());
-            self.selection = file_of(self.selection);
+            self.selection = self.selection.file();
         } else {
             self.expanded = all;
         }

@@ -5,7 +5,6 @@ use crate::frame::DrawnFrame;
 use crate::key_lists::{all_keys, first_key, visible_keys};
 use crate::moves::{inner_key, keep_kind, next_key, previous_key};
 use crate::pages::{Way, page_key, turn};
-use crate::parents::{file_of_section, section_of_line};
 use scm_types::RecordError;
 use scm_view::{QuitDialogButtonId, SelectionKey};
 
@@ -76,10 +75,10 @@ impl<'state> Selector<'state> {
                 if fold_section && self.expanded.contains(selection) {
                     self.fold(selection)
                 } else {
-                    self.select(file_of_section(key))
+                    self.select(SelectionKey::File(key.file()))
                 }
             }
-            SelectionKey::Line(key) => self.select(section_of_line(key)),
+            SelectionKey::Line(key) => self.select(SelectionKey::Section(key.section())),
         }
     }
 

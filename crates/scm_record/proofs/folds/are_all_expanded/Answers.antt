@@ -8,7 +8,7 @@ returns-then-not-has_no_fold c =
     let section = c.index-sections-index.result in
     let more = rw (sym c.index-sections-index.is) at (folds-more c.args.showing.now c.args.key i c.args.sections.now section c.loop-index-test.true) in
     let folded : c.has_no_fold.result ≡ false = cc in
-    let step = rw (sym c.section_key_of.ensures, sym c.has_no_fold.ensures, folded) at more in
+    let step = rw (sym c.section.ensures, sym c.has_no_fold.ensures, folded) at more in
     sym step ∙ c.loop-index.invariant
 
 pub loop-index-preserved : goal.loop-index-preserved
@@ -17,7 +17,7 @@ loop-index-preserved c =
     let section = c.index-sections-index.result in
     let more = rw (sym c.index-sections-index.is) at (folds-more c.args.showing.now c.args.key i c.args.sections.now section c.loop-index-test.true) in
     let unfolded : c.has_no_fold.result ≡ true = cc in
-    let step = rw (sym c.section_key_of.ensures, sym c.has_no_fold.ensures, unfolded) at more in
+    let step = rw (sym c.section.ensures, sym c.has_no_fold.ensures, unfolded) at more in
     sym step ∙ c.loop-index.invariant
 
 pub returns : goal.returns

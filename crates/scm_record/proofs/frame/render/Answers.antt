@@ -1,4 +1,4 @@
-use Rattle.std.proofs.Common.{◌≡◌, ◌<◌, ◌^◌, pos, arith, length, w64, to_z}
+use Rattle.std.proofs.Common.{◌≡◌, pos, arith, length, w64, to_z}
 use Rattle.std.proofs.lemmas.Int.{to_z_pos}
 use Rattle.scm_record.proofs.FrameLemmas.{screen-in_range, cleared-screen, cleared-sight, drawn_is_frame}
 use Rattle.scm_record.proofs.frame.render.Goals as goal

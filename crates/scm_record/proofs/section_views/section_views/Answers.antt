@@ -1,7 +1,8 @@
 use Rattle.std.proofs.Common.{◌≡◌, ◌∙◌, ◌+◌, ◌++◌, ◌∷◌, drop, append-nil, ap, sym, arith}
 use Rattle.scm_types.specs.Marks.{is_editable_section}
 use Rattle.scm_view.specs.declared.keys.SectionKey.{SectionKey}
-use Rattle.scm_view.specs.Shown.{Totals, section_key_of, section_view_of, section_views_of, totals_of}
+use Rattle.scm_view.specs.Keys.{section_key_of}
+use Rattle.scm_view.specs.Shown.{Totals, section_view_of, section_views_of, totals_of}
 use Rattle.scm_record.specs.Views.{lent_section, lent_sections}
 use Rattle.scm_record.proofs.ViewLemmas.{pushed, at_most_one_more, section_views-more, section_views-end, old_lines-more}
 use Rattle.scm_record.proofs.section_views.section_views.Goals as goal
@@ -19,8 +20,8 @@ loop-index-preserved c =
     let left = section_views_of s t k (i + 1) c.with-before.result.editable c.with-before.result.lines (drop (i + 1) sections) in
     let view : lent_section c.section_view.result ≡ section_view_of s t (section_key_of k i) before.editable before.lines section =
     c.section_view.ensures
-    ∙ ap (λ (u : Totals). section_view_of s u c.section_key_of.result before.editable before.lines section) c.totals_of-totals.ensures
-    ∙ ap (λ (q : SectionKey). section_view_of s t q before.editable before.lines section) c.section_key_of.ensures in
+    ∙ ap (λ (u : Totals). section_view_of s u c.section.result before.editable before.lines section) c.totals_of-totals.ensures
+    ∙ ap (λ (q : SectionKey). section_view_of s t q before.editable before.lines section) c.section.ensures in
     let more : section_views_of s t k i before.editable before.lines (drop i sections) ≡ section_view_of s t (section_key_of k i) before.editable before.lines section ∷ left =
     rw (c.with-before.ensures.editable, c.with-before.ensures.lines) (rw (sym c.index-sections-index.is) at (section_views-more s t k i before.editable before.lines sections section c.loop-index-test.true)) in
     let lines = rw (sym c.index-sections-index.is) at (old_lines-more i sections section c.loop-index-test.true) in

@@ -1,4 +1,4 @@
-use Rattle.std.proofs.Common.{◌≡◌, ◌∙◌, ◌≤◌, ap, arith, sym}
+use Rattle.std.proofs.Common.{◌∙◌, ◌≤◌, ap, arith, sym}
 use Rattle.scm_view.specs.Shown.{Shown}
 use Rattle.scm_record.specs.Frames.{columns_of, rows_of}
 use Rattle.scm_record.specs.declared.inputs.TerminalKind.{TerminalKind}

@@ -13,7 +13,7 @@ use Rattle.scm_view.specs.declared.quit_dialog.QuitDialog.{QuitDialog}
 use Rattle.scm_view.specs.declared.help_dialog.HelpDialog.{HelpDialog}
 use Rattle.scm_view.specs.Menus.{menu_bar_picture}
 use Rattle.scm_view.specs.Overlays.{quit_picture, help_picture}
-use Rattle.scm_view.specs.AppView.{is_open, app_picture}
+use Rattle.scm_view.specs.AppView.{has_help, app_picture}
 use Rattle.scm_view.proofs.RowsLemmas.{on-ok}
 use Rattle.scm_view.proofs.AppLemmas.{bar-below}
 use Rattle.scm_view.proofs.app_view.AppViewComponent.draw.Goals as goal
@@ -25,7 +25,7 @@ abbrev quit : Option QuitDialog → Sight → Picture ComponentId
 quit q s = quit_picture q s
 
 abbrev help : Option HelpDialog → Sight → Picture ComponentId
-help h s = help_picture (is_open h) s
+help h s = help_picture (has_help h) s
 
 pub draw_views-requires-clause-below : goal.draw_views-requires-clause-below
 unfolding app_picture
