@@ -1,2 +1,3 @@
 pub mod NearLemmas
 pub mod SampleLemmas
+pub mod ViewLemmas

@@ -8,7 +8,7 @@ use Rattle.scm_cells.proofs.BoundLemmas.{text_width-le}
 use Rattle.scm_render.specs.Picture.{Picture, PictureInRange, part}
 use Rattle.scm_render.specs.Canvas.{Sight, under}
 use Rattle.scm_render.specs.Drawing.{texts_width, span_picture, line_picture, text_picture}
-use Rattle.scm_render.specs.Bounds.{Bounds, BoundsInRange, PictureWithin, SightWithin}
+use Rattle.scm_render.specs.Bounds.{BoundsInRange, PictureWithin, SightWithin}
 use Rattle.scm_render.proofs.DrawLemmas.{texts_width-more, texts_width-none}
 use Rattle.scm_render.proofs.BoundLemmas.{span-within, line-within, text-within, PictureWithin-nothing, PictureWithin-followed, PictureWithin-part, SightWithin-under, PictureInRange-within}
 use Rattle.scm_tests.specs.Near.{IsNear, near, AreShort}

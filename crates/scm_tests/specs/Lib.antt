@@ -1,4 +1,5 @@
 pub mod Masks
 pub mod Near
 pub mod Samples
+pub mod Small
 pub mod Tags

@@ -4,6 +4,12 @@
 #[cfg(test)]
 mod cells;
 #[cfg(test)]
+mod forms;
+#[cfg(test)]
+mod keys;
+#[cfg(test)]
+mod memory;
+#[cfg(test)]
 mod record;
 #[cfg(test)]
 mod render;
@@ -11,3 +17,5 @@ pub mod samples;
 pub mod tags;
 #[cfg(test)]
 mod types;
+#[cfg(test)]
+mod views;

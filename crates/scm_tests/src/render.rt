@@ -16,7 +16,7 @@ use std::process::Abort;
 use std::test::Fail;
 
 /// The rectangle at a column and a row, with its numbers of columns and rows.
-fn rect(x: isize, y: isize, width: usize, height: usize) -> Rect
+pub(crate) fn rect(x: isize, y: isize, width: usize, height: usize) -> Rect
     ensures { result ≡ record { x = x; y = y; width = width; height = height } }
 {
     Rect {
@@ -28,7 +28,7 @@ fn rect(x: isize, y: isize, width: usize, height: usize) -> Rect
 }
 
 /// A mask of so many columns of all rows.
-fn columns(x: isize, width: usize) -> Mask
+pub(crate) fn columns(x: isize, width: usize) -> Mask
     ensures { result ≡ record { x = x; y = pos 0; width = Some width; height = None } }
 {
     Mask {
@@ -101,6 +101,13 @@ fn viewport_at(
     let shown = rect(x, y, width as usize, height as usize);
     let viewport = Viewport::new(alloc, grid, shown);
     Ok(viewport)
+}
+
+/// A viewport on a grid of six columns and two rows, which shows the document from its corner on.
+pub(crate) fn viewport_on(rt: &impl Abort, alloc: Global, grid: Grid) -> Viewport<u8> {
+    assert_eq!(rt; grid.width(), 6);
+    assert_eq!(rt; grid.height(), 2);
+    Viewport::new(alloc, grid, rect(0, 0, 6, 2))
 }
 
 /// Draws a text, which is near the document's corner.
@@ -541,6 +548,66 @@ fn texts_without_columns_and_texts_made_while_drawing(rt: HostRuntime) -> Result
         rect(5, 0, 0, 1)
     );
     assert_eq!(rt; viewport.into_grid().view()?.as_str(), "\"(ab)  \"\n");
+    Ok(())
+}
+
+/// Draws a text of so many columns by each call that takes one.
+fn check_drawn(
+    rt: &impl Abort,
+    alloc: Global,
+    viewport: &mut Viewport<u8>,
+    text: &str,
+    width: usize,
+) -> Result<(), RecordError> {
+    let drawn = rect(0, 1, width, 1);
+    assert_eq!(rt; draw_span(rt, viewport, 0, 1, &Span(text))?, drawn);
+    assert_eq!(rt; draw_text(rt, viewport, 0, 1, &[Span(text)])?, drawn);
+    let line = Line(vec![in alloc; Span(text)]?);
+    assert_eq!(rt; draw_line(rt, viewport, 0, 1, &line)?, drawn);
+    Ok(())
+}
+
+/// Fills so many columns and rows by each call that does so.
+fn check_filled(
+    rt: &impl Abort,
+    viewport: &mut Viewport<u8>,
+    width: u16,
+    height: u16,
+    body: &[&str],
+) -> Result<(), RecordError> {
+    let whole = rect(0, 0, width as usize, height as usize);
+    assert_eq!(rt; viewport.draw_blank(whole)?, whole);
+    assert_eq!(rt; viewport.draw_frame(whole, "Quit", body)?, whole);
+    Ok(())
+}
+
+#[test]
+fn arguments_of_any_size_are_drawn(rt: HostRuntime) -> Result<(), Fail> {
+    let alloc = rt.alloc();
+    let mut viewport = viewport_at(alloc, 0, 0, 6, 2)?;
+    assert_eq!(rt; draw_text(&rt, &mut viewport, 3, 0, &[])?, rect(3, 0, 0, 1));
+    let line = Line(Vec::new(alloc));
+    assert_eq!(rt;
+        draw_line(&rt, &mut viewport, 3, 0, &line)?,
+        rect(3, 0, 0, 1)
+    );
+    let mut long = String::from_str(alloc, "e")?;
+    let mut body = Vec::new(alloc);
+    for _ in 0..5000 {
+        long.push_str("\u{301}")?;
+        body.push("日本語")?;
+    }
+    check_drawn(&rt, alloc, &mut viewport, "", 0)?;
+    check_drawn(&rt, alloc, &mut viewport, "abcdefgh", 8)?;
+    check_drawn(&rt, alloc, &mut viewport, long.as_str(), 1)?;
+    for (width, height) in [(0, 0), (0, 9), (9, 0), (1, 1), (5000, 5000)] {
+        check_filled(&rt, &mut viewport, width, height, &[])?;
+        check_filled(&rt, &mut viewport, width, height, body.as_slice())?;
+    }
+    let mut nowhere = Grid::new(alloc, 0, 0)?;
+    let captions = Vec::new(alloc);
+    let drawn = render_column(&rt, alloc, &mut nowhere, &Column { id: 1, captions })?;
+    assert_eq!(rt; drawn.len(), 1);
     Ok(())
 }
 

@@ -11,19 +11,22 @@ use std::process::Abort;
 use std::test::Fail;
 
 // A changed line: its mark, what was done, its text.
-type Line = (bool, ChangeType, &'static str);
+pub(crate) type Line = (bool, ChangeType, &'static str);
 
-const ADDED: ChangeType = ChangeType::Added;
+pub(crate) const ADDED: ChangeType = ChangeType::Added;
 
-const REMOVED: ChangeType = ChangeType::Removed;
+pub(crate) const REMOVED: ChangeType = ChangeType::Removed;
 
-const DEFAULT: FileMode = FileMode::FILE_DEFAULT;
+pub(crate) const DEFAULT: FileMode = FileMode::FILE_DEFAULT;
 
-fn owned(alloc: Global, text: &str) -> Result<OwnedText, AllocError> {
+pub(crate) fn owned(alloc: Global, text: &str) -> Result<OwnedText, AllocError> {
     Ok(OwnedText::from(String::from_str(alloc, text)?))
 }
 
-fn context(alloc: Global, texts: &[&'static str]) -> Result<Section<'static>, RecordError> {
+pub(crate) fn context(
+    alloc: Global,
+    texts: &[&'static str],
+) -> Result<Section<'static>, RecordError> {
     let mut lines = Items::new(alloc);
     for text in texts {
         lines.push(Text::from(*text))?;
@@ -31,7 +34,7 @@ fn context(alloc: Global, texts: &[&'static str]) -> Result<Section<'static>, Re
     Ok(Section::Unchanged { lines })
 }
 
-fn changed(alloc: Global, changes: &[Line]) -> Result<Section<'static>, RecordError> {
+pub(crate) fn changed(alloc: Global, changes: &[Line]) -> Result<Section<'static>, RecordError> {
     let mut lines = Items::new(alloc);
     for (is_checked, change_type, text) in changes {
         lines.push(SectionChangedLine {
@@ -43,7 +46,7 @@ fn changed(alloc: Global, changes: &[Line]) -> Result<Section<'static>, RecordEr
     Ok(Section::Changed { lines })
 }
 
-fn file_of(file_mode: FileMode, sections: Vec<Section<'static>>) -> File<'static> {
+pub(crate) fn file_of(file_mode: FileMode, sections: Vec<Section<'static>>) -> File<'static> {
     File {
         old_path: None,
         path: Text::from("f"),

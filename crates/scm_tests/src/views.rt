@@ -1,0 +1,601 @@
+//! The parts of a document, each drawn alone.
+ghost use Rattle.std.specs.Prelude.{◌≡◌, ◌≤◌, IsTrue, length, true};
+ghost use Rattle.std.specs.List.{list_all};
+ghost use Rattle.scm_types.specs.Limits.{has_short_texts, is_short_text, section_size};
+ghost use Rattle.scm_view.specs.Rows.{lent_text};
+ghost use Rattle.scm_view.specs.Texts.{path_text};
+ghost use Rattle.scm_tests.specs.Small.{AreSmallFiles, AreSmallSections, IsSmallCommit, IsSmallFile, IsSmallSection};
+
+use crate::types::{ADDED, DEFAULT, Line, REMOVED, changed, context, file_of};
+use scm_cells::Grid;
+use scm_render::{DrawnRects, Viewport};
+use scm_types::{
+    ChangeType, Commit, File, Items, RecordError, Section, SectionChangedLine, Text, Tristate,
+};
+use scm_view::{
+    CommitMessageView, CommitView, ComponentId, FileKey, FileView, FileViewHeader, SectionKey,
+    SectionSelection, SectionView, SelectionKey, TristateBox, TristateIconStyle,
+};
+use std::alloc::{AllocError, Global};
+use std::process::Abort;
+use std::test::Fail;
+
+// ---- what is drawn is in range
+
+/// The path of a file that has no other one is short: at most 1000 bytes.
+fn has_short_path(old_path: Option<&str>, path: &str) -> bool
+    ensures { IsTrue result → length (path_text (lent_text old_path.entry) path.now) ≤ 1000 }
+{
+    match old_path {
+        None => path.len() <= 1000,
+        Some(_) => false,
+    }
+}
+
+/// The lines of context are within the limit of a state.
+fn has_short_lines(lines: &[Text<'_>]) -> bool
+    ensures { result ≡ list_all is_short_text lines.now }
+{
+    lines.iter().all(|line| line.len() <= 1_000_000)
+}
+
+/// The changed lines are within the limit of a state.
+fn has_short_changes(lines: &[SectionChangedLine<'_>]) -> bool
+    ensures { result ≡ list_all (λ l. is_short_text l.line) lines.now }
+{
+    lines.iter().all(|line| line.line.len() <= 1_000_000)
+}
+
+/// The section has lines alone, within the limit of a state.
+fn has_short_texts(section: &Section<'_>) -> bool
+    ensures { IsTrue result → has_short_texts section.now ≡ true }
+{
+    match section {
+        Section::Unchanged { lines } => has_short_lines(lines.as_slice()),
+        Section::Changed { lines } => has_short_changes(lines.as_slice()),
+        Section::FileMode { .. } | Section::Binary { .. } => false,
+    }
+}
+
+/// How many lines the section has.
+fn line_count(section: &Section<'_>) -> usize
+    ensures { result ≡ section_size section.now }
+{
+    match section {
+        Section::Unchanged { lines } => lines.len(),
+        Section::Changed { lines } => lines.len(),
+        Section::FileMode { .. } | Section::Binary { .. } => 0,
+    }
+}
+
+/// Checks that a section has few and short lines.
+fn check_section(rt: &impl Abort, view: &SectionView<'_>)
+    ensures { IsSmallSection view.now }
+{
+    assert!(rt; has_short_texts(view.section));
+    assert!(rt; line_count(view.section) <= 1000);
+}
+
+/// Checks that sections have few and short lines.
+fn check_sections(rt: &impl Abort, views: &[SectionView<'_>])
+    ensures { AreSmallSections views.now }
+{
+    for view in views {
+        check_section(rt, view);
+    }
+}
+
+/// Checks that a file has a short path, and few sections of few and short lines.
+fn check_file(rt: &impl Abort, view: &FileView<'_>)
+    ensures { IsSmallFile view.now }
+{
+    assert!(rt; has_short_path(view.old_path, view.path));
+    check_sections(rt, view.section_views.as_slice());
+    assert!(rt; view.section_views.len() <= 1000);
+}
+
+/// Checks that files have short paths, and few sections of few and short lines.
+fn check_files(rt: &impl Abort, views: &[FileView<'_>])
+    ensures { AreSmallFiles views.now }
+{
+    for view in views {
+        check_file(rt, view);
+    }
+}
+
+/// Checks that a commit has no message, and few and small files.
+fn check_commit(rt: &impl Abort, view: &CommitView<'_>)
+    ensures { IsSmallCommit view.now }
+{
+    assert!(rt; view.commit_message_view.commit.message.is_none());
+    check_files(rt, view.file_views.as_slice());
+    assert!(rt; view.file_views.len() <= 1000);
+}
+
+/// Draws the document of a commit on a grid that shows it from a row on.
+fn draw_commit(
+    rt: &impl Abort,
+    alloc: Global,
+    grid: &mut Grid,
+    y: usize,
+    view: &CommitView<'_>,
+) -> Result<DrawnRects<ComponentId>, RecordError> {
+    check_commit(rt, view);
+    assert!(rt; y <= 100);
+    assert!(rt; grid.width() <= 100);
+    assert!(rt; grid.height() <= 100);
+    Viewport::render_top_level(alloc, grid, 0, y as isize, view)
+}
+
+/// Draws a section on a grid.
+fn draw_section(
+    rt: &impl Abort,
+    alloc: Global,
+    grid: &mut Grid,
+    view: &SectionView<'_>,
+) -> Result<DrawnRects<ComponentId>, RecordError> {
+    check_section(rt, view);
+    assert!(rt; grid.width() <= 100);
+    assert!(rt; grid.height() <= 100);
+    Viewport::render_top_level(alloc, grid, 0, 0, view)
+}
+
+/// Draws the header of a file on a grid.
+fn draw_header(
+    rt: &impl Abort,
+    alloc: Global,
+    grid: &mut Grid,
+    view: &FileViewHeader<'_>,
+) -> Result<DrawnRects<ComponentId>, RecordError> {
+    assert!(rt; has_short_path(view.old_path, view.path));
+    assert!(rt; grid.width() <= 100);
+    assert!(rt; grid.height() <= 100);
+    Viewport::render_top_level(alloc, grid, 0, 0, view)
+}
+
+/// Draws a box on a grid.
+fn draw_box(
+    rt: &impl Abort,
+    alloc: Global,
+    grid: &mut Grid,
+    view: &TristateBox<ComponentId>,
+) -> Result<DrawnRects<ComponentId>, RecordError> {
+    assert!(rt; grid.width() <= 100);
+    assert!(rt; grid.height() <= 100);
+    Viewport::render_top_level(alloc, grid, 0, 0, view)
+}
+
+// ---- views of a file
+
+/// How a file is shown: whether symbols beyond ASCII may be used, and what is selected.
+#[derive(Clone, Copy)]
+struct Look {
+    use_unicode: bool,
+    selection: SelectionKey,
+}
+
+const FILE_KEY: FileKey = FileKey {
+    commit_idx: 0,
+    file_idx: 0,
+};
+
+/// The key of a section of the file.
+fn section_key(section_idx: usize) -> SectionKey {
+    SectionKey {
+        commit_idx: 0,
+        file_idx: 0,
+        section_idx,
+    }
+}
+
+impl Look {
+    /// The box of a mark.
+    fn toggle_box(self, key: SelectionKey, tristate: Tristate) -> TristateBox<ComponentId> {
+        TristateBox {
+            use_unicode: self.use_unicode,
+            is_focused: key == self.selection,
+            is_read_only: false,
+            id: ComponentId::ToggleBox(key),
+            tristate,
+            icon_style: TristateIconStyle::Check,
+        }
+    }
+
+    /// The box of a fold that is open.
+    fn expand_box(self, key: SelectionKey) -> TristateBox<ComponentId> {
+        TristateBox {
+            use_unicode: self.use_unicode,
+            is_focused: key == self.selection,
+            is_read_only: false,
+            id: ComponentId::ExpandBox(key),
+            tristate: Tristate::True,
+            icon_style: TristateIconStyle::Expand,
+        }
+    }
+
+    /// A section of a file, which is the so many-th of those that can be edited, and begins on a line.
+    fn section_view<'a>(
+        self,
+        index: usize,
+        total: usize,
+        editable: (usize, usize),
+        line_start_num: usize,
+        section: &'a Section<'a>,
+    ) -> SectionView<'a> {
+        let key = SelectionKey::Section(section_key(index));
+        SectionView {
+            use_unicode: self.use_unicode,
+            is_read_only: false,
+            section_key: section_key(index),
+            toggle_box: self.toggle_box(key, section.tristate()),
+            expand_box: self.expand_box(key),
+            selection: (key == self.selection).then_some(SectionSelection::SectionHeader),
+            total_num_sections: total,
+            editable_section_num: editable.0,
+            total_num_editable_sections: editable.1,
+            section,
+            line_start_num,
+        }
+    }
+
+    /// The sections of a file.
+    fn section_views<'a>(
+        self,
+        alloc: Global,
+        sections: &'a [Section<'a>],
+    ) -> Result<Items<SectionView<'a>>, RecordError> {
+        let editable = sections
+            .iter()
+            .filter(|section| section.is_editable())
+            .count();
+        let mut views = Items::new(alloc);
+        let mut number: usize = 1;
+        let mut line: usize = 1;
+        for (index, section) in sections.iter().enumerate() {
+            views.push(self.section_view(
+                index,
+                sections.len(),
+                (number, editable),
+                line,
+                section,
+            ))?;
+            if section.is_editable() {
+                number = number.saturating_add(1);
+            }
+            line = line.saturating_add(old_lines(section));
+        }
+        Ok(views)
+    }
+
+    /// A file, all unfolded.
+    fn file_view<'a>(self, alloc: Global, file: &'a File<'a>) -> Result<FileView<'a>, RecordError> {
+        let key = SelectionKey::File(FILE_KEY);
+        Ok(FileView {
+            file_key: FILE_KEY,
+            toggle_box: self.toggle_box(key, file.tristate()),
+            expand_box: self.expand_box(key),
+            is_header_selected: key == self.selection,
+            old_path: None,
+            path: file.path.as_str(),
+            section_views: self.section_views(alloc, file.sections.as_slice())?,
+        })
+    }
+}
+
+/// How many lines of the file before the changes the section has.
+fn old_lines(section: &Section<'_>) -> usize {
+    match section {
+        Section::Unchanged { lines } => lines.len(),
+        Section::Changed { lines } => lines
+            .iter()
+            .filter(|line| line.change_type == ChangeType::Removed)
+            .count(),
+        Section::FileMode { .. } | Section::Binary { .. } => 0,
+    }
+}
+
+/// The rows of a screen, without the spaces at their ends.
+fn rows_of(alloc: Global, grid: &Grid) -> Result<String, RecordError> {
+    let mut rows = String::new(alloc);
+    let view = grid.view()?;
+    for line in view.as_str().lines() {
+        let row = line.strip_prefix('"').unwrap_or(line);
+        rows.push_str(row.strip_suffix('"').unwrap_or(row).trim_end())?;
+        rows.push_str("\n")?;
+    }
+    Ok(rows)
+}
+
+// ---- documents
+
+/// A part of a file, as a constant.
+#[derive(Clone, Copy)]
+enum Part {
+    Context(&'static [&'static str]),
+    Changes(&'static [Line]),
+}
+
+/// The sections of these parts.
+fn sections_of(alloc: Global, parts: &[Part]) -> Result<Vec<Section<'static>>, RecordError> {
+    let mut sections = Vec::new(alloc);
+    for part in parts {
+        sections.push(match *part {
+            Part::Context(lines) => context(alloc, lines)?,
+            Part::Changes(lines) => changed(alloc, lines)?,
+        })?;
+    }
+    Ok(sections)
+}
+
+/// A line of context, and two changes of it.
+const HILL: [Part; 2] = [
+    Part::Context(&["a\n"]),
+    Part::Changes(&[(false, REMOVED, "b\n"), (true, ADDED, "c\n")]),
+];
+
+/// Two changes with seven lines between them.
+const VALLEY: [Part; 3] = [
+    Part::Changes(&[(false, ADDED, "x\n")]),
+    Part::Context(&["a\n", "b\n", "c\n", "d\n", "e\n", "f\n", "g\n"]),
+    Part::Changes(&[(false, REMOVED, "y\n")]),
+];
+
+/// A document: whether symbols beyond ASCII are used, its parts, the selected section, the screen's columns and rows, the document's
+/// row that is its first, and its rows.
+type Row = (
+    bool,
+    &'static [Part],
+    Option<usize>,
+    u16,
+    u16,
+    usize,
+    &'static str,
+);
+
+const DOCUMENTS: [Row; 5] = [
+    (
+        true,
+        &HILL,
+        Some(1),
+        24,
+        5,
+        0,
+        "[◐] f                [-]\n        1 a⏎\n  (◐) Section 1/1    (-)\n    [ ] - b⏎\n    [●] + c⏎\n",
+    ),
+    (
+        true,
+        &HILL,
+        Some(1),
+        24,
+        5,
+        2,
+        "[◐] f                [-]\n    [ ] - b⏎\n    [●] + c⏎\n\n\n",
+    ),
+    (
+        false,
+        &HILL,
+        None,
+        24,
+        5,
+        0,
+        "[~] f                [-]\n        1 a⏎\n  [~] Section 1/1    [-]\n    [ ] - b⏎\n    [*] + c⏎\n",
+    ),
+    (
+        true,
+        &VALLEY,
+        Some(0),
+        24,
+        12,
+        0,
+        "[ ] f                [-]\n  ( ) Section 1/2    (-)\n    [ ] + x⏎\n        1 a⏎\n        2 b⏎\n        3 c⏎\n        ⋮\n        5 e⏎\n        6 f⏎\n        7 g⏎\n  [ ] Section 2/2    [-]\n    [ ] - y⏎\n",
+    ),
+    (
+        false,
+        &VALLEY,
+        None,
+        24,
+        3,
+        5,
+        "[ ] f                [-]\n        :\n        5 e⏎\n",
+    ),
+];
+
+/// Draws the document of these files alone, and gives the rows of the screen.
+fn document_rows(
+    rt: &impl Abort,
+    alloc: Global,
+    look: Look,
+    files: &[File<'static>],
+    grid: &mut Grid,
+    y: usize,
+) -> Result<String, RecordError> {
+    let commit = Commit::default();
+    let mut file_views = Items::new(alloc);
+    for file in files {
+        file_views.push(look.file_view(alloc, file)?)?;
+    }
+    let view = CommitView {
+        commit_message_view: CommitMessageView {
+            commit_idx: 0,
+            commit: &commit,
+        },
+        file_views,
+    };
+    let _ = draw_commit(rt, alloc, grid, y, &view)?;
+    rows_of(alloc, grid)
+}
+
+#[test]
+fn documents_are_drawn_alone(rt: HostRuntime) -> Result<(), Fail> {
+    let alloc = rt.alloc();
+    for (use_unicode, parts, selected, width, height, y, wanted) in DOCUMENTS {
+        let look = Look {
+            use_unicode,
+            selection: match selected {
+                Some(index) => SelectionKey::Section(section_key(index)),
+                None => SelectionKey::None,
+            },
+        };
+        let file = file_of(DEFAULT, sections_of(alloc, parts)?);
+        let files = vec![in alloc; file]?;
+        let mut grid = Grid::new(alloc, width, height)?;
+        let rows = document_rows(&rt, alloc, look, files.as_slice(), &mut grid, y)?;
+        assert_eq!(rt; rows.as_str(), wanted, "from row {y}");
+    }
+    for (width, height, wanted) in [(1, 1, "…\n"), (20, 3, "There are no change…\n\n\n")] {
+        let look = Look {
+            use_unicode: true,
+            selection: SelectionKey::None,
+        };
+        let mut grid = Grid::new(alloc, width, height)?;
+        let rows = document_rows(&rt, alloc, look, &[], &mut grid, 0)?;
+        assert_eq!(rt; rows.as_str(), wanted, "on {width} columns");
+    }
+    Ok(())
+}
+
+// ---- context
+
+/// The texts of lines of context.
+const TEXTS: [&str; 7] = ["a\n", "b\n", "c\n", "d\n", "e\n", "f\n", "g\n"];
+
+/// The rows of context that are named by the numbers of their lines; a dot stands for the row that takes the place of lines.
+fn context_rows(alloc: Global, names: &str) -> Result<String, AllocError> {
+    let mut rows = String::new(alloc);
+    for name in names.chars() {
+        rows.push_str(match name {
+            '1' => "      1 a⏎\n",
+            '2' => "      2 b⏎\n",
+            '3' => "      3 c⏎\n",
+            '4' => "      4 d⏎\n",
+            '5' => "      5 e⏎\n",
+            '6' => "      6 f⏎\n",
+            '7' => "      7 g⏎\n",
+            '.' => "      ⋮\n",
+            _ => "\n",
+        })?;
+    }
+    for _ in names.len()..8 {
+        rows.push_str("\n")?;
+    }
+    Ok(rows)
+}
+
+/// Draws a section alone: the rows of the screen, and how many rows the section's box has.
+fn section_rows(
+    rt: &impl Abort,
+    alloc: Global,
+    index: usize,
+    total: usize,
+    section: &Section<'static>,
+) -> Result<(String, Option<usize>), RecordError> {
+    let look = Look {
+        use_unicode: true,
+        selection: SelectionKey::None,
+    };
+    let view = look.section_view(index, total, (1, 1), 1, section);
+    let mut grid = Grid::new(alloc, 24, 8)?;
+    let boxes = draw_section(rt, alloc, &mut grid, &view)?;
+    let key = SelectionKey::Section(section_key(index));
+    let drawn = boxes.get(&ComponentId::SelectableItem(key));
+    Ok((rows_of(alloc, &grid)?, drawn.map(|drawn| drawn.rect.height)))
+}
+
+/// Draws a section of so many lines of context alone, which is to have these rows.
+fn check_context(
+    rt: &impl Abort,
+    alloc: Global,
+    count: usize,
+    index: usize,
+    total: usize,
+    names: &str,
+) -> Result<(), Fail> {
+    let (texts, _) = TEXTS.split_at(count.min(7));
+    let section = context(alloc, texts)?;
+    let (rows, height) = section_rows(rt, alloc, index, total, &section)?;
+    let wanted = context_rows(alloc, names)?;
+    assert_eq!(rt; rows.as_str(), wanted.as_str());
+    assert_eq!(rt;
+        height,
+        Some(names.len()),
+        "{count} lines in section {index} of {total}"
+    );
+    Ok(())
+}
+
+#[test]
+fn lines_of_context_are_left_out(rt: HostRuntime) -> Result<(), Fail> {
+    let alloc = rt.alloc();
+    for (count, first, middle, last, only) in [
+        (0, " ", " ", " ", " "),
+        (1, "1", "1", "1", ""),
+        (3, "123", "123", "123", ""),
+        (6, ".456", "123456", "123.", "."),
+        (7, ".567", "123.567", "123.", "."),
+    ] {
+        check_context(&rt, alloc, count, 0, 3, first)?;
+        check_context(&rt, alloc, count, 1, 3, middle)?;
+        check_context(&rt, alloc, count, 2, 3, last)?;
+        check_context(&rt, alloc, count, 0, 1, only)?;
+    }
+    Ok(())
+}
+
+// ---- headers and boxes
+
+#[test]
+fn headers_and_boxes_are_drawn_alone(rt: HostRuntime) -> Result<(), Fail> {
+    let alloc = rt.alloc();
+    let key = SelectionKey::File(FILE_KEY);
+    for (width, wanted) in [
+        (13, "( ) 日本語(+)\n"),
+        (12, "( ) 日本…(+)\n"),
+        (11, "( ) 日 …(+)\n"),
+    ] {
+        let look = Look {
+            use_unicode: true,
+            selection: key,
+        };
+        let header = FileViewHeader {
+            file_key: FILE_KEY,
+            path: "日本語",
+            old_path: None,
+            is_selected: true,
+            toggle_box: look.toggle_box(key, Tristate::False),
+            expand_box: TristateBox {
+                tristate: Tristate::False,
+                ..look.expand_box(key)
+            },
+        };
+        let mut grid = Grid::new(alloc, width, 1)?;
+        let _ = draw_header(&rt, alloc, &mut grid, &header)?;
+        assert_eq!(rt; rows_of(alloc, &grid)?.as_str(), wanted);
+    }
+    use Tristate::{False, Partial, True};
+    use TristateIconStyle::{Check, Expand};
+    for (use_unicode, is_focused, is_read_only, tristate, icon_style, wanted) in [
+        (false, false, false, False, Check, "[ ]\n"),
+        (false, true, false, Partial, Check, "(~)\n"),
+        (false, false, false, True, Check, "[*]\n"),
+        (false, false, false, False, Expand, "[+]\n"),
+        (false, false, false, Partial, Expand, "[~]\n"),
+        (false, true, false, True, Expand, "(-)\n"),
+        (false, true, true, True, Check, "<*>\n"),
+        (true, false, true, Partial, Expand, "<±>\n"),
+        (true, false, false, Partial, Check, "[◐]\n"),
+        (true, true, false, True, Check, "(●)\n"),
+    ] {
+        let view = TristateBox {
+            use_unicode,
+            is_focused,
+            is_read_only,
+            id: ComponentId::App,
+            tristate,
+            icon_style,
+        };
+        let mut grid = Grid::new(alloc, 3, 1)?;
+        let _ = draw_box(&rt, alloc, &mut grid, &view)?;
+        assert_eq!(rt; rows_of(alloc, &grid)?.as_str(), wanted);
+    }
+    Ok(())
+}
