@@ -13,8 +13,10 @@ use std::env;
 use std::rt::Clock;
 use std::time::Instant;
 
+/// The columns of the grid.
 const WIDTH: u16 = 80;
 
+/// The rows of the grid.
 const HEIGHT: u16 = 24;
 
 /// Puts the text on each row of a cleared grid.

@@ -10,7 +10,8 @@ use Rattle.scm_cells.specs.Rect.{or_zero}
 use Rattle.scm_cells.specs.Cluster.{Cluster, bytes_as_clusters}
 use Rattle.scm_cells.specs.Clusters.{clusters, text_width}
 use Rattle.scm_cells.specs.Cell.{Cell, blank}
-use Rattle.scm_cells.specs.Row.{cells_of, later_cells, whole_before, whole_after, written, overlay, put, say, ellipsis}
+use Rattle.scm_cells.specs.Row.{cells_of, later_cells, whole_before, whole_after, written, overlay, put, ellipsis}
+use Rattle.scm_cells.proofs.Say.{say}
 use Rattle.scm_cells.specs.Laying.{fit}
 use Rattle.scm_cells.proofs.RectLemmas.{places}
 use Rattle.scm_cells.proofs.RowLemmas.{overlay-none}

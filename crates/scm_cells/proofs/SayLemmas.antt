@@ -5,7 +5,8 @@ use Rattle.unicode_segmentation.proofs.Computing.{unicode_segmentation}
 use Rattle.unicode_width.proofs.Computing.{unicode_width}
 use Rattle.scm_cells.specs.Cell.{blank}
 use Rattle.scm_cells.specs.Clusters.{text_width, clusters, kept, with_width, kept_width, has_control}
-use Rattle.scm_cells.specs.Row.{say, put, overlay, written, placed, cells_of, later_cells, whole_before, whole_after, row_text}
+use Rattle.scm_cells.specs.Row.{put, overlay, written, placed, cells_of, later_cells, whole_before, whole_after, row_text}
+use Rattle.scm_cells.proofs.Say.{say}
 
 -- what so many columns show of a text, from the first one on
 abbrev says : List ℕ → ℕ → List ℕ

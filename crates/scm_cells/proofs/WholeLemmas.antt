@@ -12,7 +12,8 @@ use Rattle.scm_cells.specs.Rect.{or_zero}
 use Rattle.scm_cells.specs.Cluster.{Cluster}
 use Rattle.scm_cells.specs.Clusters.{clusters, text_width}
 use Rattle.scm_cells.specs.Cell.{Cell, blank}
-use Rattle.scm_cells.specs.Row.{IsWhole, cells_of, later_cells, whole_before, whole_after, written, passes, cells_past, overlay, put, say, ellipsis}
+use Rattle.scm_cells.specs.Row.{IsWhole, cells_of, later_cells, whole_before, whole_after, written, passes, cells_past, overlay, put, ellipsis}
+use Rattle.scm_cells.proofs.Say.{say}
 use Rattle.scm_cells.proofs.PutLemmas.{length-later, length-cells}
 use Rattle.scm_cells.proofs.SpaceLemmas.{space, cells-space}
 use Rattle.scm_cells.proofs.WrittenLemmas.{AllKept, AllKept-clusters, by_stop, written-none, written-cons, written-stop}

@@ -6,10 +6,13 @@ use scm_record::{
 };
 use std::process::Abort;
 
+/// Nothing is held.
 const NONE: KeyModifiers = KeyModifiers::NONE;
 
+/// Shift is held.
 const SHIFT: KeyModifiers = KeyModifiers::SHIFT;
 
+/// Control is held.
 const CONTROL: KeyModifiers = KeyModifiers::CONTROL;
 
 /// The rows of the table: what is held, the key, and its event.

@@ -8,8 +8,16 @@ use Rattle.scm_types.specs.declared.section.Section.TheVariants.{Unchanged, Chan
 use Rattle.scm_view.specs.declared.section_view.SectionView.{SectionView}
 use Rattle.scm_view.specs.declared.file_view.FileView.{FileView}
 use Rattle.scm_view.specs.declared.commit_view.CommitView.{CommitView}
+use Rattle.scm_view.specs.Shown.{lent}
 use Rattle.scm_view.specs.Rows.{changed_row, changed_rows, numbered_row, numbered_rows, context_rows, rows_of, section_rows, is_first_open, is_shown, is_open, shown_section, shown_sections, lent_text, shown_file, document_of}
-use Rattle.scm_record.specs.Views.{lent_section, lent_sections, lent_path, lent_file, lent_files, lent_commit}
+use Rattle.scm_record.specs.Views.{lent_section, lent_sections, lent_path, lent_file, lent_files}
+
+-- a view in which that is left out
+abbrev pub lent_commit : CommitView → CommitView
+lent_commit v = record {
+  commit_message_view = record { commit_idx = v.commit_message_view.commit_idx; commit = lent v.commit_message_view.commit.now };
+  file_views = lent_files v.file_views;
+}
 
 changed_rows-lent : (v : SectionView) (i : ℕ) (lines : List SectionChangedLine) → changed_rows (lent_section v) i lines ≡ changed_rows v i lines
 unfolding changed_rows

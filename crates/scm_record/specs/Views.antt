@@ -3,7 +3,6 @@ use Rattle.std.specs.Prelude.{ℕ, List, map, Option, option_map}
 use Rattle.std.specs.Borrow.{Bor}
 use Rattle.scm_view.specs.declared.section_view.SectionView.{SectionView}
 use Rattle.scm_view.specs.declared.file_view.FileView.{FileView}
-use Rattle.scm_view.specs.declared.commit_view.CommitView.{CommitView}
 use Rattle.scm_view.specs.Shown.{Totals, lent}
 use Rattle.scm_record.specs.declared.section_views.FileTotals.{FileTotals}
 
@@ -25,12 +24,6 @@ lent_file v = record v {
 
 abbrev pub lent_files : List FileView → List FileView
 lent_files vs = map lent_file vs
-
-abbrev pub lent_commit : CommitView → CommitView
-lent_commit v = record {
-  commit_message_view = record { commit_idx = v.commit_message_view.commit_idx; commit = lent v.commit_message_view.commit.now };
-  file_views = lent_files v.file_views;
-}
 
 -- how many sections a file has, and how many of them can be edited
 abbrev pub totals_in : FileTotals → Totals

@@ -13,7 +13,7 @@ use Rattle.scm_render.specs.declared.filling.Filling.{Filling}
 use Rattle.scm_render.specs.declared.filling.Filling.TheVariants.{Blank, Border}
 use Rattle.scm_render.specs.Picture.{Put}
 use Rattle.scm_render.specs.Canvas.{Row, Sight}
-use Rattle.scm_render.specs.Rows.{put_within}
+use Rattle.scm_render.proofs.RowsWithin.{put_within}
 use Rattle.scm_render.specs.Drawing.{reach, has_row, text_puts, row_rect, blank_picture, frame_picture, rows_puts, row_text, symbol_at, border_symbol, edge_symbol, fill_puts, frame_puts, title_room, body_room, lines_puts}
 use Rattle.scm_render.proofs.PaintLemmas.{paint-none, int_eq-false}
 use Rattle.scm_render.proofs.DrawLemmas.{off_cases, row_text-more, rows_puts-more, rows_puts-none}

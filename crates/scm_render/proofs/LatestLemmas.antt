@@ -3,7 +3,8 @@ use Rattle.std.proofs.Common.{◌≡◌, ℕ, ◌≤◌, List, [], ◌∷◌, re
 use Rattle.std.specs.Prelude.{ℤ, suc, ◌&&◌, ◌||◌, not, Option, Some, None}
 use Rattle.scm_render.specs.Picture.{Box}
 use Rattle.scm_render.specs.declared.trace.DrawnRect.{DrawnRect}
-use Rattle.scm_render.specs.Hits.{hit, has_id, holds, first_of_two, second_or, drawn_of, Catches, IsLatest, IsLawful}
+use Rattle.scm_render.specs.Hits.{hit, has_id, holds, first_of_two, second_or, Catches, IsLawful}
+use Rattle.scm_render.proofs.Latest.{IsLatest, drawn_of}
 
 module _ {K : Type 0} (same_id : K → K → Bool) where
   none_drawn : (t : ℕ) (i : K) (bs : List (Box K)) → has_id same_id i bs ≡ false → drawn_of same_id t i bs ≡ None

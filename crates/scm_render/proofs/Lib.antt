@@ -1,3 +1,9 @@
+-- ---- definitions that proofs alone cite
+pub mod Within
+pub mod Latest
+pub mod RowsWithin
+pub mod OnScreen
+-- ---- lemmas
 pub mod AroundLemmas
 pub mod BoundLemmas
 pub mod CanvasLemmas

@@ -5,7 +5,8 @@ use Rattle.std.specs.Prelude.{Option, Some, None, suc}
 use Rattle.std.specs.Map.{update, update_all}
 use Rattle.scm_render.specs.Picture.{Box}
 use Rattle.scm_render.specs.Places.{timed, timed_from}
-use Rattle.scm_render.specs.Hits.{IsLawful, second_or, drawn_of}
+use Rattle.scm_render.specs.Hits.{IsLawful, second_or}
+use Rattle.scm_render.proofs.Latest.{drawn_of}
 use Rattle.scm_render.specs.declared.trace.DrawnRect.{DrawnRect}
 
 module _ {K : Type 0} (same_id : K → K → Bool) (law : IsLawful same_id) where

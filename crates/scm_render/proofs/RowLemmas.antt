@@ -7,7 +7,8 @@ use Rattle.std.proofs.lemmas.Bool.{cases_lt}
 use Rattle.std.proofs.lemmas.Int.{ints}
 use Rattle.scm_cells.specs.Rect.{end_x_of, rect_between, or_zero}
 use Rattle.scm_cells.specs.Clusters.{text_width, clusters}
-use Rattle.scm_cells.specs.Row.{put, say, ellipsis}
+use Rattle.scm_cells.specs.Row.{put, ellipsis}
+use Rattle.scm_cells.proofs.Say.{say}
 use Rattle.scm_cells.specs.declared.rect.Rect.{Rect}
 use Rattle.scm_cells.proofs.RectLemmas.{places}
 use Rattle.scm_cells.proofs.RowLemmas.{overlay-none}
@@ -16,8 +17,9 @@ use Rattle.scm_render.specs.Lines.{line}
 use Rattle.scm_render.specs.Picture.{Put, Picture, nothing, followed_by}
 use Rattle.scm_render.specs.Canvas.{Row, Sight, Canvas, put_at, paint, painted, with_picture}
 use Rattle.scm_render.specs.Drawing.{reach, has_row, whole_put, text_puts, texts_puts, texts_width, line_picture, span_picture, text_picture}
-use Rattle.scm_render.specs.OnScreen.{shown_puts}
-use Rattle.scm_render.specs.Rows.{put_texts, say_texts, limit, put_within, put_texts_within, say_within}
+use Rattle.scm_render.proofs.OnScreen.{shown_puts}
+use Rattle.scm_render.specs.Rows.{put_texts, say_texts, limit}
+use Rattle.scm_render.proofs.RowsWithin.{put_within, put_texts_within, say_within}
 use Rattle.scm_render.proofs.LineLemmas.{line-append}
 use Rattle.scm_render.proofs.PaintLemmas.{paint-append, paint-none, paint-more, row-painted, painted-append, painted-above, painted-below, length-painted, int_eq-false}
 use Rattle.scm_render.proofs.DrawLemmas.{off_cases, text_puts-shown, text_puts-hidden, texts_puts-none, texts_puts-more, texts_width-more, texts_width-none}

@@ -10,7 +10,8 @@ use Rattle.std.proofs.lemmas.Map.Views.{Contains-from_lookup, lookup-from_Contai
 use Rattle.scm_cells.specs.declared.rect.Rect.{Rect}
 use Rattle.scm_render.specs.Picture.{Box}
 use Rattle.scm_render.specs.Places.{timed}
-use Rattle.scm_render.specs.Hits.{holds, Catches, IsLawful, IsLatest, second_or, drawn_of, box_of, latest}
+use Rattle.scm_render.specs.Hits.{holds, Catches, IsLawful, second_or, box_of, latest}
+use Rattle.scm_render.proofs.Latest.{IsLatest, drawn_of}
 use Rattle.scm_render.proofs.LatestLemmas.{first_or_later, hit_is_latest, no_hit_is_none}
 use Rattle.scm_render.proofs.MapLemmas.{drawn_in_map}
 use Rattle.scm_render.specs.declared.trace.DrawnRect.{DrawnRect}

@@ -1,5 +1,5 @@
 -- Which component owns a point: the latest of those that are clickable and whose box holds it.
-use Rattle.std.specs.Prelude.{◌≡◌, ℕ, suc, ◌≤◌, ℤ, int_le, int_lt, Bool, true, false, not, ◌&&◌, ◌||◌, cond, List, [], ◌∷◌, Option, Some, None}
+use Rattle.std.specs.Prelude.{◌≡◌, ℤ, int_le, int_lt, Bool, true, false, not, ◌&&◌, ◌||◌, cond, List, [], ◌∷◌, Option, Some, None}
 use Rattle.scm_cells.specs.Rect.{end_x_of, end_y_of}
 use Rattle.scm_cells.specs.declared.rect.Rect.{Rect}
 use Rattle.scm_render.specs.Picture.{Box}
@@ -34,11 +34,6 @@ module _ {K : Type 0} (same_id : K → K → Bool) where
   box_of i [] = None
   box_of i (b ∷ bs) = second_or (cond (same_id i b.0) (Some b.1) None) (box_of i bs)
 
-  -- that rectangle and its time, where the first box of the list has this time
-  unfoldable pub drawn_of : ℕ → K → List (Box K) → Option DrawnRect
-  drawn_of t i [] = None
-  drawn_of t i (b ∷ bs) = second_or (cond (same_id i b.0) (Some (record { rect = b.1; timestamp = t })) None) (drawn_of (suc t) i bs)
-
 module _ {K : Type 0} (is_clickable : K → Bool) where
   -- the id is clickable, and its box holds the point
   pub record Catches (i : K) (d : DrawnRect) (y x : ℤ) : Type 0 where
@@ -54,10 +49,3 @@ module _ {K : Type 0} (same_id : K → K → Bool) (is_clickable : K → Bool) w
 
   abbrev pub latest : List (Box K) → ℤ → ℤ → Option K
   latest bs y x = hit (λ i. false) bs y x
-
-  -- the latest by time of all boxes in the map that catch the point
-  pub record IsLatest (bs : List (Box K)) (y x : ℤ) (i : K) : Type 0 where
-    pub drawn : DrawnRect
-    pub found : drawn_of same_id 0 i bs ≡ Some drawn
-    pub catches : Catches is_clickable i drawn y x
-    pub latest_of_all : (j : K) (d : DrawnRect) → drawn_of same_id 0 j bs ≡ Some d → Catches is_clickable j d y x → d.timestamp ≤ drawn.timestamp

@@ -20,5 +20,3 @@ pub mod Bounds
 pub mod Rows
 -- Values that stand on consecutive rows.
 pub mod Lines
--- The puts that a screen shows.
-pub mod OnScreen

@@ -1,7 +1,6 @@
 -- What texts make of a row of the screen.
 use Rattle.std.specs.Prelude.{ℕ, ℤ, pos, ◌+ℤ◌, ◌-ℤ◌, int_lt, List, [], ◌∷◌, if◌then◌else◌}
 use Rattle.scm_cells.specs.Clusters.{text_width}
-use Rattle.scm_cells.specs.Rect.{end_x_of}
 use Rattle.scm_cells.specs.Row.{put, ellipsis}
 use Rattle.scm_cells.specs.declared.rect.Rect.{Rect}
 use Rattle.scm_render.specs.Canvas.{Row, clipped}
@@ -23,15 +22,3 @@ say_texts row column ts low high =
 -- a place as a column of the screen
 abbrev pub limit : Rect → ℤ → ℕ
 limit v x = clipped v.width (x -ℤ v.x)
-
--- the row with a text put on it
-abbrev pub put_within : Rect → Rect → ℤ → List ℕ → Row → Row
-put_within v m x t row = put row (x -ℤ v.x) t (limit v m.x) (limit v (end_x_of m))
-
--- with several
-abbrev pub put_texts_within : Rect → Rect → ℤ → List (List ℕ) → Row → Row
-put_texts_within v m x ts row = put_texts row (x -ℤ v.x) ts (limit v m.x) (limit v (end_x_of m))
-
--- with several and an ellipsis where they are cut
-abbrev pub say_within : Rect → Rect → ℤ → List (List ℕ) → Row → Row
-say_within v m x ts row = say_texts row (x -ℤ v.x) ts (limit v m.x) (limit v (end_x_of m))

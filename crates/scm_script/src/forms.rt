@@ -1,6 +1,5 @@
 //! Where a JSON value first departs from the form of a state.
 
-use crate::from_json::has_members;
 use crate::misfit::{Misfit, quoted};
 use scm_types::{
     ChangeType, Commit, File, FileMode, Items, OwnedText, RecordState, Section, SectionChangedLine,
@@ -232,7 +231,10 @@ const SECTION_KINDS: [&str; 4] = ["Unchanged", "Changed", "FileMode", "Binary"];
 
 /// Whether the value is an object whose one member names a kind of sections.
 fn has_section_kind(value: &Value) -> bool {
-    has_members(value, 1) && SECTION_KINDS.iter().any(|kind| value.get(*kind).is_some())
+    let Some(members) = value.as_object() else {
+        return false;
+    };
+    members.len() == 1 && SECTION_KINDS.iter().any(|kind| value.get(*kind).is_some())
 }
 
 impl JsonForm for Section<'static> {

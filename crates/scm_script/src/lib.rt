@@ -1,21 +1,19 @@
 //! Scripts: a state of changes and what a user does to it, read from a text and run.
 //!
 //! [`play`] is the whole program over any reader and writer, [`play_with_hints`] also says where and why it refuses an
-//! input, and [`read_state`] reads a state's JSON form.
+//! input, and `read_state`, of `scm_json`, reads a state's JSON form.
 #![tactic(auto)]
 
 mod commands;
 mod error;
 mod forms;
-mod from_json;
 mod hints;
 mod limits;
 mod misfit;
 mod program;
 mod report;
 mod script;
-mod state_reader;
 mod words;
 
 pub use program::{play, play_with_hints};
-pub use state_reader::read_state;
+pub use scm_json::read_state;

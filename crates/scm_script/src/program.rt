@@ -7,7 +7,7 @@ use crate::error::PlayError;
 use crate::hints::{end_hint, hint_of};
 use crate::report::{push_accepted, screens_text};
 use crate::script::{Script, read_script};
-use crate::state_reader::read_state;
+use scm_json::read_state;
 use scm_record::{
     RecordError, RecordInput, RecordState, Recorder, Screens, ScriptInput, ScriptRead,
 };

@@ -1,5 +1,2 @@
-pub mod Masks
-pub mod Near
-pub mod Samples
+-- Views of few and short texts.
 pub mod Small
-pub mod Tags

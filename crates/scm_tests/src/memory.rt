@@ -1,40 +1,15 @@
 //! Memory, of which no contract can say that it is asked for only where it is needed: calls that take it answer with ample
 //! memory, however small or large their arguments are, and the other calls succeed where every request is refused.
-use crate::render::{columns, rect, viewport_on};
-use crate::samples::Caption;
-use crate::types::{ADDED, DEFAULT, changed, context, file_of, owned};
-use scm_cells::{
-    Clusters, Grid, Mask, Rect, RectSize, ScreenRect, replace_control_character, text_width,
-};
 use scm_record::{
-    Event, KeyCode, KeyEvent, KeyEventKind, KeyModifiers, MouseButton, MouseEvent, MouseEventKind,
-    RecordInput, Recorder, Screens, ScriptEdit, ScriptInput, ScriptRead, SelectionKey,
-    TerminalEvent, TerminalKind, TestingInput, TestingScreenshot,
+    Event, File, FileMode, KeyCode, KeyEvent, KeyEventKind, KeyModifiers, MouseButton, MouseEvent,
+    MouseEventKind, RecordError, RecordInput, RecordState, Recorder, Screens, ScriptEdit,
+    ScriptInput, ScriptRead, Section, SelectionKey, TerminalEvent, TerminalKind, TestingInput,
+    TestingScreenshot,
 };
-use scm_render::{Component, DrawTrace, centered_rect};
-use scm_types::{
-    Commit, File, FileMode, IsizeExt, RecordError, RecordState, Section, Text, Tristate, UsizeExt,
-    make_binary_description,
-};
+use scm_state_tests::samples::{ADDED, DEFAULT, binary, changed, context, file_of};
 use std::alloc::Global;
 use std::process::Abort;
 use std::test::Fail;
-
-/// Copies a text of so many bytes, and what holds it.
-fn check_texts(rt: &impl Abort, alloc: Global, count: usize) -> Result<(), Fail> {
-    let bytes = vec![in alloc; b'a'; count]?;
-    let text = String::from_utf8(bytes)?;
-    let description = make_binary_description(alloc, text.as_str(), 7)?;
-    assert_eq!(rt; description.len(), count.saturating_add(10));
-    let text = Text::from(text);
-    assert!(rt; text.clone()? == text);
-    assert!(rt; text.try_clone(alloc)? == text);
-    let commit = Commit {
-        message: Some(owned(alloc, text.as_str())?),
-    };
-    assert!(rt; commit.try_clone(alloc)? == commit);
-    Ok(())
-}
 
 /// Reads and edits of inputs of so many events, and of an answer of so many bytes.
 fn check_inputs(rt: &impl Abort, alloc: Global, count: usize) -> Result<(), Fail> {
@@ -67,23 +42,13 @@ fn check_store(rt: &impl Abort, alloc: Global, count: usize) -> Result<(), Recor
 }
 
 #[test]
-fn texts_inputs_and_stores_of_any_size(rt: HostRuntime) -> Result<(), Fail> {
+fn inputs_and_stores_of_any_size(rt: HostRuntime) -> Result<(), Fail> {
     let alloc = rt.alloc();
     for count in [0, 1, 10_000] {
-        check_texts(&rt, alloc, count)?;
         check_inputs(&rt, alloc, count)?;
         check_store(&rt, alloc, count)?;
     }
     Ok(())
-}
-
-/// A change of bytes.
-fn binary(is_checked: bool) -> Section<'static> {
-    Section::Binary {
-        is_checked,
-        old_description: Some(Text::from("old")),
-        new_description: None,
-    }
 }
 
 /// Copies and splits a file.
@@ -159,66 +124,6 @@ fn files_of_any_kind_are_copied_split_and_run(rt: HostRuntime) -> Result<(), Fai
 
 // ---- calls that take no memory
 
-/// A file with a section of each kind, in a state; a part of its marks is checked.
-fn marked_state(alloc: Global) -> Result<RecordState<'static>, RecordError> {
-    let sections = vec![in alloc;
-        context(alloc, &["a\n"])?,
-        changed(alloc, &[(false, ADDED, "b\n"), (true, ADDED, "c\n")])?,
-        Section::FileMode {
-            is_checked: false,
-            mode: DEFAULT,
-        },
-        binary(true),
-    ]?;
-    let mut state = RecordState::empty(alloc);
-    state.files.push(file_of(DEFAULT, sections))?;
-    Ok(state)
-}
-
-/// The calls on the marks of a file.
-fn check_marks(rt: &impl Abort, file: &mut File<'_>) {
-    assert_eq!(rt; file.tristate(), Tristate::Partial);
-    file.set_checked(true);
-    assert_eq!(rt; file.tristate(), Tristate::True);
-    file.toggle_all();
-    assert_eq!(rt; file.tristate(), Tristate::False);
-    for section in file.sections.iter_mut() {
-        section.set_checked(true);
-        let is_editable = section.is_editable();
-        assert_eq!(rt; section.tristate(), Tristate::from(is_editable));
-        section.toggle_all();
-        assert_eq!(rt; section.tristate(), Tristate::False);
-    }
-}
-
-/// The calls on the files of a state.
-fn check_state(rt: &impl Abort, state: &mut RecordState<'_>) {
-    assert!(rt; state.is_accepted());
-    for file in state.files.iter_mut() {
-        check_marks(rt, file);
-    }
-}
-
-/// The conversions, and what is made from nothing.
-fn check_conversions(rt: &impl Abort, alloc: Global) {
-    let empty = RecordState::empty(alloc);
-    assert!(rt; empty.is_accepted() && empty.commits.is_empty() && empty.files.is_empty());
-    assert!(rt; Commit::default().message.is_none());
-    assert_eq!(rt; SelectionKey::default(), SelectionKey::None);
-    assert_eq!(rt; FileMode::from(0o100644_usize), DEFAULT);
-    assert!(rt; matches!(FileMode::try_from(0o100644_u32), Ok(mode) if mode == DEFAULT));
-    assert!(rt; matches!(FileMode::try_from(0o100644_i32), Ok(mode) if mode == DEFAULT));
-    assert!(rt; FileMode::try_from(-1_i32).is_err());
-    assert_eq!(rt; Tristate::from(true), Tristate::True);
-    assert_eq!(rt; 7_usize.unwrap_isize(), 7);
-    assert_eq!(rt; 7_isize.unwrap_usize(), 7);
-    assert_eq!(rt; UsizeExt::clamp_into_u16(65_536), 65_535);
-    assert_eq!(rt; IsizeExt::clamp_into_u16(-1), 0);
-    assert_eq!(rt; IsizeExt::clamp_into_usize(-1), 0);
-    let caption = Caption { id: 7, text: "a" };
-    assert_eq!(rt; caption.id(), 7);
-}
-
 /// The calls on events.
 fn check_events(rt: &impl Abort) {
     let key = KeyEvent {
@@ -240,60 +145,6 @@ fn check_events(rt: &impl Abort) {
     ] {
         assert_eq!(rt; Event::from(told), event);
     }
-}
-
-/// The calls on rectangles, masks and texts.
-fn check_places(rt: &impl Abort) {
-    let whole = rect(0, 0, 4, 2);
-    let small = rect(2, 1, 5, 5);
-    let size = RectSize {
-        width: 5,
-        height: 5,
-    };
-    let screen = ScreenRect {
-        x: 2,
-        y: 1,
-        width: 5,
-        height: 5,
-    };
-    assert_eq!(rt; whole.intersect(small), rect(2, 1, 2, 1));
-    assert_eq!(rt; whole.union_bounding(small), rect(0, 0, 7, 6));
-    assert_eq!(rt; (small.end_x(), small.end_y()), (7, 6));
-    assert_eq!(rt; small.iter_ys().count(), 5);
-    assert_eq!(rt; small.top_row(), rect(2, 1, 5, 1));
-    assert!(rt; small.contains_point(2, 1) && !small.is_empty());
-    assert_eq!(rt; (Rect::from(screen), RectSize::from(screen)), (small, size));
-    assert_eq!(rt;
-        (RectSize::from(small), RectSize::default().width),
-        (size, 0)
-    );
-    assert!(rt; Rect::default().is_empty());
-    let mask = columns(2, 5);
-    assert_eq!(rt; (mask.end_x(), mask.end_y()), (Some(7), None));
-    assert_eq!(rt; mask.apply(whole), rect(2, 0, 2, 2));
-    assert_eq!(rt; Mask::from(small).width, Some(5));
-    assert_eq!(rt; Mask::default().width, None);
-    assert_eq!(rt; centered_rect(whole, size, 50, 50), whole);
-    assert_eq!(rt; replace_control_character('\n'), Some("⏎"));
-    assert_eq!(rt; replace_control_character('a'), None);
-    assert_eq!(rt; Clusters::new("日a").next(), Some(("日", 2)));
-    assert_eq!(rt; text_width("e\u{301}日"), 3);
-}
-
-/// The calls on a grid of six columns and two rows, and on a viewport over it.
-fn check_viewport(rt: &impl Abort, alloc: Global, mut grid: Grid) {
-    grid.clear();
-    let mut viewport = viewport_on(rt, alloc, grid);
-    assert_eq!(rt; viewport.rect(), rect(0, 0, 6, 2));
-    assert_eq!(rt; viewport.mask(), Mask::from(rect(0, 0, 6, 2)));
-    assert_eq!(rt; viewport.swap_mask(Some(columns(2, 3))), None);
-    assert_eq!(rt; viewport.mask_rect(), rect(2, 0, 3, 2));
-    assert_eq!(rt; viewport.translate_rect(rect(7, 0, 3, 1)), None);
-    let grid = viewport.into_grid();
-    assert_eq!(rt; (grid.width(), grid.height()), (6, 2));
-    let mut trace: DrawTrace<u8> = DrawTrace::new(alloc);
-    trace.merge_rect(rect(1, 1, 2, 1));
-    assert_eq!(rt; trace.rect, rect(1, 1, 2, 1));
 }
 
 /// The calls on inputs and stores.
@@ -321,15 +172,8 @@ fn recording(alloc: Global) -> Result<(TestingInput, ScriptInput, Screens), Reco
 #[test]
 fn calls_without_memory_succeed_where_it_is_refused(rt: HostRuntime) {
     let alloc = rt.alloc();
-    check_conversions(&rt, alloc);
+    assert_eq!(rt; SelectionKey::default(), SelectionKey::None);
     check_events(&rt);
-    check_places(&rt);
-    if let Ok(mut state) = marked_state(alloc) {
-        check_state(&rt, &mut state);
-    }
-    if let Ok(grid) = Grid::new(alloc, 6, 2) {
-        check_viewport(&rt, alloc, grid);
-    }
     if let Ok((input, script, screens)) = recording(alloc) {
         check_recording(&rt, &input, &script, &screens);
     }

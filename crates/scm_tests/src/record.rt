@@ -1,4 +1,4 @@
-// Tests of the recorder: what a script of the program cannot say.
+//! The recorder: what a script of the program cannot say.
 use scm_record::{
     ChangeType, Commit, Event, File, FileMode, Items, OwnedText, RecordError, RecordInput,
     RecordState, Recorder, Screens, ScriptEdit, ScriptInput, ScriptRead, Section,
@@ -46,6 +46,7 @@ fn state(
     })
 }
 
+/// Runs an input over that state.
 fn run_on(
     alloc: Global,
     message: Option<&'static str>,
@@ -59,6 +60,7 @@ fn run_on(
     Recorder::new(alloc, state)?.run(input, screens)
 }
 
+/// Adds the marks of a section's lines: `1` where one is checked, else `0`.
 fn push_marks(text: &mut String, section: &Section<'_>) -> Result<(), AllocError> {
     if let Section::Changed { lines } = section {
         for line in lines.as_slice() {
@@ -68,6 +70,7 @@ fn push_marks(text: &mut String, section: &Section<'_>) -> Result<(), AllocError
     Ok(())
 }
 
+/// Adds a commit's message, if it has one, behind a space.
 fn push_message(text: &mut String, commit: &Commit) -> Result<(), AllocError> {
     if let Some(message) = &commit.message {
         text.push(' ')?;
@@ -139,14 +142,19 @@ type Row = (
     &'static str,
 );
 
+/// Edits the message.
 const EDIT: Event = Event::EditCommitMessage;
 
+/// Accepts, while no dialog is open.
 const ACCEPT: Event = Event::QuitAccept;
 
+/// Toggles what is selected.
 const TOGGLE: Event = Event::ToggleItem;
 
+/// A message.
 const HELLO: Option<&'static str> = Some("hello");
 
+/// What is shown where an input has no more reads.
 const NO_EVENTS: &'static str = "failed to read user input: no events left";
 
 /// A place that is on no screen.
@@ -155,11 +163,13 @@ const FAR: Event = Event::Click {
     column: usize::MAX,
 };
 
-/// The menu Select, and its second item.
+/// The menu Select.
 const MENU: Event = Event::Click { row: 0, column: 15 };
 
+/// The second item of that menu.
 const ITEM: Event = Event::Click { row: 2, column: 15 };
 
+/// The rows of the table.
 const ROWS: [Row; 9] = [
     // what follows the accepting event is not handled, and the next read is left
     (

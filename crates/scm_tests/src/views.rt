@@ -6,9 +6,9 @@ ghost use Rattle.scm_view.specs.Rows.{lent_text};
 ghost use Rattle.scm_view.specs.Texts.{path_text};
 ghost use Rattle.scm_tests.specs.Small.{AreSmallFiles, AreSmallSections, IsSmallCommit, IsSmallFile, IsSmallSection};
 
-use crate::types::{ADDED, DEFAULT, Line, REMOVED, changed, context, file_of};
 use scm_cells::Grid;
 use scm_render::{DrawnRects, Viewport};
+use scm_state_tests::samples::{ADDED, DEFAULT, Line, REMOVED, changed, context, file_of};
 use scm_types::{
     ChangeType, Commit, File, Items, RecordError, Section, SectionChangedLine, Text, Tristate,
 };
@@ -174,6 +174,7 @@ struct Look {
     selection: SelectionKey,
 }
 
+/// The key of the file.
 const FILE_KEY: FileKey = FileKey {
     commit_idx: 0,
     file_idx: 0,
@@ -352,6 +353,7 @@ type Row = (
     &'static str,
 );
 
+/// The rows of the table.
 const DOCUMENTS: [Row; 5] = [
     (
         true,

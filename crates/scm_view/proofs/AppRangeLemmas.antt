@@ -16,7 +16,7 @@ use Rattle.scm_view.specs.declared.commit_view.CommitViewMode.TheVariants.{Inlin
 use Rattle.scm_view.specs.declared.menu_bar.MenuBar.{MenuBar}
 use Rattle.scm_view.specs.declared.quit_dialog.QuitDialog.{QuitDialog}
 use Rattle.scm_view.specs.Shown.{Shown}
-use Rattle.scm_view.specs.Near.{IsClose, SightIsClose}
+use Rattle.scm_view.specs.Close.{IsClose, SightIsClose}
 use Rattle.scm_view.specs.Menus.{menu_bar_picture}
 use Rattle.scm_view.specs.Tables.{menus_with, quit_dialog, help_dialog, named_dialog_picture}
 use Rattle.scm_view.specs.Screens.{sight}

@@ -14,7 +14,7 @@ use Rattle.scm_view.specs.declared.commit_view.CommitViewMode.TheVariants.{Inlin
 use Rattle.scm_view.specs.Pictures.{commit_picture}
 use Rattle.scm_view.specs.Shown.{Shown}
 use Rattle.scm_view.specs.Screens.{sight}
-use Rattle.scm_view.specs.Overlays.{overlays_picture}
+use Rattle.scm_view.proofs.OverlaysPicture.{overlays_picture}
 use Rattle.scm_view.specs.AppView.{view_mask, views_picture, app_picture, ShowsSession}
 
 -- the rows below the menu bar, on a screen of w columns at row s

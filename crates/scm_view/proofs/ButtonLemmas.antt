@@ -12,7 +12,7 @@ use Rattle.scm_cells.proofs.RectLemmas.{places}
 use Rattle.scm_render.specs.Picture.{Picture, part, box_rect}
 use Rattle.scm_render.specs.Around.{join, around, no_rect}
 use Rattle.scm_render.specs.Canvas.{Row, Sight, clipped}
-use Rattle.scm_render.specs.Rows.{put_within}
+use Rattle.scm_render.proofs.RowsWithin.{put_within}
 use Rattle.scm_render.specs.Drawing.{text_puts, row_rect, reach, span_picture}
 use Rattle.scm_render.specs.Hits.{holds, has_id, hit}
 use Rattle.scm_render.specs.Lines.{line}

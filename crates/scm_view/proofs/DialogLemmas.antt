@@ -23,7 +23,8 @@ use Rattle.scm_render.proofs.FillLemmas.{put_over, top_text, side_text, bottom_t
 use Rattle.scm_view.specs.Layers.{Strip, laid_over, owned}
 use Rattle.scm_view.specs.declared.button.Button.{Button}
 use Rattle.scm_view.specs.Buttons.{button_part, button_strip, button_width, buttons_picture, buttons_strip, leftmost}
-use Rattle.scm_view.specs.Dialogs.{IsOneOf, AreButtons, IsDialog, ShownDialog, widest_line, dialog_rect, dialog_picture, put_strip, border_strips, frame_strips, is_dialog_column, dialog_strips, dialog_layer}
+use Rattle.scm_view.proofs.OwnButtons.{IsOneOf, AreButtons, IsDialog}
+use Rattle.scm_view.specs.Dialogs.{ShownDialog, widest_line, dialog_rect, dialog_picture, put_strip, border_strips, frame_strips, is_dialog_column, dialog_strips, dialog_layer}
 use Rattle.scm_view.specs.Screens.{screen, sight}
 use Rattle.scm_view.proofs.Draws.{Draws, draws_clear, draws_both, draws_over, draws_part, draws_again, box-followed, length-laid_over}
 use Rattle.scm_view.proofs.ButtonLemmas.{Inside, intersect-inside, reach-screen, draws_button, IsId, box-plain_button}

@@ -22,7 +22,7 @@ use Rattle.scm_view.specs.declared.ids.ComponentId.TheVariants as ids
 use Rattle.scm_view.specs.Laws.{IsOpen}
 use Rattle.scm_view.specs.Layers.{Runs, end_of}
 use Rattle.scm_view.specs.Texts.{button_text, divider_text, message_text, no_files_text}
-use Rattle.scm_view.specs.Owners.{IsFileOf, AreFilesOf, HasItsIds}
+use Rattle.scm_view.proofs.FilesOf.{IsFileOf, AreFilesOf, HasItsIds}
 use Rattle.scm_view.specs.Rows.{file_id, HeaderRow, ShownFile, Document, file_rows, files_rows, message_height}
 use Rattle.scm_view.specs.Pictures.{to_end, edit_button, button_picture, beside_button, message_picture, shown_file_picture, file_mask, mask_row, pinned_header, pinned_mask, pinned_picture, one_file_picture, files_picture, no_files_picture, document_picture}
 use Rattle.scm_view.specs.Strips.{file_strips, is_over, files_strips, message_strips, no_files_gap, files_layer, document_layers}

@@ -15,7 +15,8 @@ use Rattle.scm_view.specs.declared.ids.ComponentId.{ComponentId}
 use Rattle.scm_view.specs.declared.ids.ComponentId.TheVariants as ids
 use Rattle.scm_view.specs.Clicks.{is_clickable}
 use Rattle.scm_view.specs.Laws.{IsOpen}
-use Rattle.scm_view.specs.Owners.{IsRowOf, after_row, AreRowsOf, AreSectionsOf, HaveRows, IsFileOf, AreFilesOf, HasItsIds}
+use Rattle.scm_view.specs.Owners.{IsRowOf, after_row, AreRowsOf, AreSectionsOf}
+use Rattle.scm_view.proofs.FilesOf.{HaveRows, IsFileOf, AreFilesOf, HasItsIds}
 use Rattle.scm_view.specs.Rows.{IdBox, file_id, section_id, line_id, DocRow, HeaderRow, SectionRow, LineRow, MarkRow, ContextRow, DotsRow, BlankRow, ShownSection, ShownFile, Document, file_rows, message_height}
 use Rattle.scm_view.specs.Pictures.{IdPicture, box_picture, box_part, changed_picture, context_picture, row_picture, rows_picture, sections_picture, shown_file_picture, file_mask, mask_row, pinned_header, pinned_picture, one_file_picture, files_picture, message_picture, no_files_picture, body_picture, document_picture}
 use Rattle.scm_view.specs.Strips.{is_over}

@@ -16,11 +16,12 @@ use Rattle.scm_render.proofs.HitLemmas.{Each, each-append, each_more, hit_apart,
 use Rattle.scm_view.specs.declared.keys.FileKey.{FileKey}
 use Rattle.scm_view.specs.declared.ids.ComponentId.{ComponentId}
 use Rattle.scm_view.specs.declared.ids.ComponentId.TheVariants as ids
-use Rattle.scm_view.specs.Clicks.{is_clickable, Body, part_of}
+use Rattle.scm_view.specs.Clicks.{is_clickable}
+use Rattle.scm_view.proofs.Parts.{Body, part_of}
 use Rattle.scm_view.specs.Laws.{IsOpen}
 use Rattle.scm_view.specs.Layers.{clear, owned_by}
 use Rattle.scm_view.specs.Texts.{no_files_text, message_text}
-use Rattle.scm_view.specs.Owners.{AreFilesOf, HasItsIds}
+use Rattle.scm_view.proofs.FilesOf.{AreFilesOf, HasItsIds}
 use Rattle.scm_view.specs.Rows.{ShownFile, Document, message_height}
 use Rattle.scm_view.specs.Pictures.{IdPicture, mask_row, body_picture, files_picture, button_picture, beside_button, message_picture, no_files_picture, document_picture}
 use Rattle.scm_view.specs.Strips.{files_strips, pinned_strips, message_strip, message_strips, no_files_gap, no_files_strip, no_files_layers, document_layers, pinned_layer}

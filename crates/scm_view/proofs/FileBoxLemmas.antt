@@ -10,7 +10,8 @@ use Rattle.scm_render.proofs.SpanLemmas.{Spans, spans_more, join_none}
 use Rattle.scm_view.specs.declared.keys.FileKey.{FileKey}
 use Rattle.scm_view.specs.declared.ids.ComponentId.{ComponentId}
 use Rattle.scm_view.specs.Laws.{IsOpen}
-use Rattle.scm_view.specs.Owners.{AreSectionsOf, HaveRows, IsFileOf}
+use Rattle.scm_view.specs.Owners.{AreSectionsOf}
+use Rattle.scm_view.proofs.FilesOf.{HaveRows, IsFileOf}
 use Rattle.scm_view.specs.Rows.{section_id, Heading, DocRow, HeaderRow, ShownSection, ShownFile, sections_rows, file_rows}
 use Rattle.scm_view.specs.Pictures.{row_picture, rows_picture, sections_picture, shown_file_picture}
 use Rattle.scm_view.specs.Strips.{is_wide}

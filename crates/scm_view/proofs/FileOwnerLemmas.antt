@@ -22,7 +22,8 @@ use Rattle.scm_view.specs.Clicks.{is_clickable}
 use Rattle.scm_view.specs.Laws.{IsOpen}
 use Rattle.scm_view.specs.Layers.{Strip, clear, owned}
 use Rattle.scm_view.specs.Keys.{section_of_line, file_of_section}
-use Rattle.scm_view.specs.Owners.{AreSectionsOf, IsHeadingOf, IsFileOf, AreFilesOf}
+use Rattle.scm_view.specs.Owners.{AreSectionsOf}
+use Rattle.scm_view.proofs.FilesOf.{IsHeadingOf, IsFileOf, AreFilesOf}
 use Rattle.scm_view.specs.Rows.{file_id, Heading, HeaderRow, ShownFile, file_rows}
 use Rattle.scm_view.specs.Pictures.{box_picture, heading_picture, row_picture, sections_picture, shown_file_picture, file_mask, pinned_mask, mask_row, pinned_header, pinned_picture, one_file_picture, files_picture}
 use Rattle.scm_view.specs.Strips.{everywhere, heading_strip, row_strip, header_strip, sections_strips, file_strips, is_over, files_strips, pinned_strips}

@@ -14,12 +14,14 @@ use Rattle.scm_view.specs.declared.quit_dialog.QuitDialog.{QuitDialog}
 use Rattle.scm_view.specs.declared.quit_dialog.QuitDialogButtonId.{QuitDialogButtonId}
 use Rattle.scm_view.specs.declared.quit_dialog.QuitDialogButtonId.TheVariants.{Quit, GoBack}
 use Rattle.scm_view.specs.Texts.{button_text}
-use Rattle.scm_view.specs.Clicks.{is_clickable, Help, Leaving, part_of}
+use Rattle.scm_view.specs.Clicks.{is_clickable}
+use Rattle.scm_view.proofs.Parts.{Help, Leaving, part_of}
 use Rattle.scm_view.specs.Buttons.{button_width}
-use Rattle.scm_view.specs.Menus.{item_button, widest_item, headers_width, opened, IsOpenWide}
-use Rattle.scm_view.specs.Dialogs.{IsDialog}
+use Rattle.scm_view.specs.Menus.{item_button, widest_item, headers_width, opened}
+use Rattle.scm_view.proofs.OpenMenus.{IsOpenWide}
+use Rattle.scm_view.proofs.OwnButtons.{IsDialog}
 use Rattle.scm_view.specs.Tables.{item, file_menu, edit_menu, select_menu, view_menu, all_menus, menus_with, quit_button, go_back_button, close_button, quit_dialog, help_dialog}
-use Rattle.scm_view.specs.Ranges.{IsShortMenu, IsShortBar, button_columns}
+use Rattle.scm_view.proofs.Ranges.{IsShortMenu, IsShortBar, button_columns}
 use Rattle.scm_view.proofs.MenuLemmas.{differ}
 
 -- ---- columns

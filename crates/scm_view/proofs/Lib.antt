@@ -1,3 +1,12 @@
+-- ---- definitions that proofs alone cite
+pub mod Near
+pub mod Ranges
+pub mod FilesOf
+pub mod Parts
+pub mod OpenMenus
+pub mod OwnButtons
+pub mod OverlaysPicture
+-- ---- lemmas
 pub mod HeadingLemmas
 pub mod RowsLemmas
 pub mod SectionsLemmas

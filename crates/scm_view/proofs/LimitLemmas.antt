@@ -38,7 +38,8 @@ use Rattle.scm_view.specs.Rows.{IdBox, Heading, DocRow, DotsRow, BlankRow, Shown
 use Rattle.scm_view.specs.Pictures.{commit_picture}
 use Rattle.scm_view.specs.Keys.{section_key_of}
 use Rattle.scm_view.specs.Shown.{Shown, Shows, lent, Totals, totals_of, section_view_of, section_views_of, file_view_of, file_views_of, commit_at, commit_view_of, old_lines}
-use Rattle.scm_view.specs.Near.{IsNarrow, IsNarrowBox, IsNarrowHeading, AreNarrow, AreNarrowSections, IsNarrowFile, AreNarrowFiles, IsNarrowMessage, IsClose, SightIsClose}
+use Rattle.scm_view.specs.Close.{IsClose, SightIsClose}
+use Rattle.scm_view.proofs.Near.{IsNarrow, IsNarrowBox, IsNarrowHeading, AreNarrow, AreNarrowSections, IsNarrowFile, AreNarrowFiles, IsNarrowMessage}
 use Rattle.scm_view.proofs.SectionsLemmas.{at_most, height-of, length-sections}
 use Rattle.scm_view.proofs.NearLemmas.{document-near}
 

@@ -14,7 +14,8 @@ use Rattle.scm_render.specs.Picture.{PictureInRange}
 use Rattle.scm_render.specs.Canvas.{Sight, under}
 use Rattle.scm_render.specs.Drawing.{row_rect, reach, texts_width, span_picture, line_picture, text_picture, blank_picture}
 use Rattle.scm_render.proofs.PictureLemmas.{PictureInRange-as_part, PictureInRange-followed, PictureInRange-if, PictureInRange-nothing, PictureInRange-covering}
-use Rattle.scm_view.specs.Near.{IsNear, SightIsNear, IsNarrow, IsNarrowBox, IsNarrowHeading, IsNarrowRow, AreNarrow, AreNarrowSections, IsNarrowFile, AreNarrowFiles, IsNarrowMessage, IsNarrowDocument, IsClose, SightIsClose}
+use Rattle.scm_view.specs.Close.{IsClose, SightIsClose}
+use Rattle.scm_view.proofs.Near.{IsNear, SightIsNear, IsNarrow, IsNarrowBox, IsNarrowHeading, IsNarrowRow, AreNarrow, AreNarrowSections, IsNarrowFile, AreNarrowFiles, IsNarrowMessage, IsNarrowDocument}
 use Rattle.scm_view.specs.Texts.{box_text, button_text, divider_text, message_text, no_files_text}
 use Rattle.scm_view.specs.Rows.{IdBox, Heading, DocRow, HeaderRow, SectionRow, LineRow, MarkRow, ContextRow, DotsRow, BlankRow, ShownSection, ShownFile, Document, sections_rows, file_rows, files_rows, message_height}
 use Rattle.scm_view.specs.Pictures.{to_end, rest_of_row, whole_row, box_picture, box_part, fold_column, heading_width, heading_mask, title_picture, heading_picture, changed_picture, context_picture, highlight, row_picture, rows_picture, sections_picture, shown_file_picture, file_mask, pinned_mask, mask_row, is_pinned, pinned_picture, one_file_picture, files_picture, edit_button, button_picture, beside_button, message_picture, no_files_picture, document_picture}

@@ -14,12 +14,14 @@ use Rattle.scm_view.specs.declared.ids.ComponentId.{ComponentId}
 use Rattle.scm_view.specs.declared.menu_bar.MenuBar.{MenuBar}
 use Rattle.scm_view.specs.declared.quit_dialog.QuitDialog.{QuitDialog}
 use Rattle.scm_view.specs.Blanks.{blanked}
-use Rattle.scm_view.specs.Clicks.{is_clickable, Help, Leaving, Menus, Body}
+use Rattle.scm_view.specs.Clicks.{is_clickable}
+use Rattle.scm_view.proofs.Parts.{Help, Leaving, Menus, Body}
 use Rattle.scm_view.specs.Layers.{Strip, Layer, strip_at, shown_by, owned_by}
 use Rattle.scm_view.specs.Menus.{headers_strip, menu_layer}
 use Rattle.scm_view.specs.Tables.{menus_with, quit_dialog, help_dialog, named_dialog_picture}
 use Rattle.scm_view.specs.Screens.{screen, sight}
-use Rattle.scm_view.specs.Overlays.{quit_picture, help_picture, overlays_picture, quit_layers, help_layers, overlays}
+use Rattle.scm_view.specs.Overlays.{quit_picture, help_picture, quit_layers, help_layers, overlays}
+use Rattle.scm_view.proofs.OverlaysPicture.{overlays_picture}
 use Rattle.scm_view.proofs.Draws.{Draws, Apart, apart, length-paint}
 use Rattle.scm_view.proofs.MenuLemmas.{IsPart, differ, menus_draw}
 use Rattle.scm_view.proofs.DialogLemmas.{dialog_draws}

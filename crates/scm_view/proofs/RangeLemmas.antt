@@ -20,7 +20,7 @@ use Rattle.scm_view.specs.Buttons.{button_part, button_width, buttons_picture}
 use Rattle.scm_view.specs.Menus.{header_button, item_button, header_step, widest_item, headers_width, opened, headers_picture, items_picture, menu_picture, open_picture, menu_bar_picture}
 use Rattle.scm_view.specs.Dialogs.{ShownDialog, dialog_rect, dialog_picture, widest_line}
 use Rattle.scm_view.specs.Screens.{sight}
-use Rattle.scm_view.specs.Ranges.{most, IsShortMenu, IsShortBar, button_columns}
+use Rattle.scm_view.proofs.Ranges.{most, IsShortMenu, IsShortBar, button_columns}
 use Rattle.scm_view.proofs.MenuPartsLemmas.{header-width}
 
 -- a place that is far from the ends of the range

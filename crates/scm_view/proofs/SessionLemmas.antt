@@ -17,7 +17,8 @@ use Rattle.scm_view.specs.Texts.{dots_text}
 use Rattle.scm_view.specs.Rows.{DocRow, HeaderRow, SectionRow, LineRow, MarkRow, ContextRow, DotsRow, BlankRow, ShownSection, ShownFile, is_fold_open, is_open, is_first_open, is_shown, is_first, is_last, has_dots, first_below, lines_above, shown_lines, rows_below, context_rows, changed_rows, numbered_rows, rows_of, section_rows, shown_section, shown_sections, shown_file, document_of}
 use Rattle.scm_view.specs.Keys.{section_key_of}
 use Rattle.scm_view.specs.Shown.{Shown, Totals, totals_of, old_lines, section_view_of, section_views_of, file_view_of, file_views_of, commit_view_of}
-use Rattle.scm_view.specs.Owners.{IsRowOf, after_row, AreRowsOf, AreSectionsOf, HaveRows, IsFileOf, AreFilesOf, HasItsIds}
+use Rattle.scm_view.specs.Owners.{IsRowOf, after_row, AreRowsOf, AreSectionsOf}
+use Rattle.scm_view.proofs.FilesOf.{HaveRows, IsFileOf, AreFilesOf, HasItsIds}
 
 -- ---- from an earlier rank or index on
 

@@ -14,7 +14,8 @@ use Rattle.scm_render.specs.Canvas.{Row, Sight, under, paint}
 use Rattle.scm_render.specs.Lines.{line}
 use Rattle.scm_render.proofs.PaintLemmas.{paint-none}
 use Rattle.scm_render.specs.Drawing.{reach, has_row, mask_or, row_rect, text_puts, text_picture, span_picture, blank_picture}
-use Rattle.scm_render.specs.Rows.{say_texts, limit, put_within, say_within}
+use Rattle.scm_render.specs.Rows.{say_texts, limit}
+use Rattle.scm_render.proofs.RowsWithin.{put_within, say_within}
 use Rattle.scm_render.proofs.RowLemmas.{OneRow, Paints, IsReached, one_none, one_more, one_same, one_text, one_said, one_row_paints, paints_none, paints_more}
 use Rattle.scm_render.proofs.FillLemmas.{one_blank, blank_over}
 use Rattle.scm_view.specs.declared.ids.ComponentId.{ComponentId}

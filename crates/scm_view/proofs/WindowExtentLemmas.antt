@@ -15,10 +15,12 @@ use Rattle.scm_view.specs.declared.ids.ComponentId.{ComponentId}
 use Rattle.scm_view.specs.declared.ids.ComponentId.TheVariants as ids
 use Rattle.scm_view.specs.declared.app_view.AppView.{AppView}
 use Rattle.scm_view.specs.declared.quit_dialog.QuitDialog.{QuitDialog}
-use Rattle.scm_view.specs.Clicks.{is_clickable, Leaving, Help, Body, Whole, part_of}
+use Rattle.scm_view.specs.Clicks.{is_clickable}
+use Rattle.scm_view.proofs.Parts.{Leaving, Help, Body, Whole, part_of}
 use Rattle.scm_view.specs.Layers.{Layer, Runs, end_of}
 use Rattle.scm_view.specs.Menus.{menu_bar_picture, menu_strips, menu_layer}
-use Rattle.scm_view.specs.Dialogs.{ShownDialog, IsDialog, dialog_layer, dialog_picture, widest_line}
+use Rattle.scm_view.proofs.OwnButtons.{IsDialog}
+use Rattle.scm_view.specs.Dialogs.{ShownDialog, dialog_layer, dialog_picture, widest_line}
 use Rattle.scm_view.specs.Tables.{menus_with, quit_dialog, help_dialog, named_dialog_picture}
 use Rattle.scm_view.specs.Overlays.{quit_picture, help_picture, quit_layers, help_layers}
 use Rattle.scm_view.specs.Screens.{sight}

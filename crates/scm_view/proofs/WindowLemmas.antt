@@ -26,7 +26,8 @@ use Rattle.scm_view.specs.Layers.{Strip, Layer, clear, strip_at, shown_by}
 use Rattle.scm_view.specs.Strips.{pinned_layer}
 use Rattle.scm_view.specs.Menus.{headers_strip, menu_layer}
 use Rattle.scm_view.specs.Tables.{menus_with}
-use Rattle.scm_view.specs.Overlays.{overlays_picture, quit_layers, help_layers, overlays}
+use Rattle.scm_view.specs.Overlays.{quit_layers, help_layers, overlays}
+use Rattle.scm_view.proofs.OverlaysPicture.{overlays_picture}
 use Rattle.scm_view.specs.Screens.{screen, sight}
 use Rattle.scm_view.specs.Clicks.{is_clickable}
 use Rattle.scm_view.specs.AppView.{app_view_of, app_picture}

@@ -8,7 +8,8 @@ use Rattle.scm_view.specs.declared.keys.SelectionKey.{SelectionKey}
 use Rattle.scm_view.specs.declared.ids.ComponentId.{ComponentId}
 use Rattle.scm_view.specs.declared.ids.ComponentId.TheVariants as ids
 use Rattle.scm_view.specs.declared.app_view.AppView.{AppView}
-use Rattle.scm_view.specs.Clicks.{is_clickable, Body}
+use Rattle.scm_view.specs.Clicks.{is_clickable}
+use Rattle.scm_view.proofs.Parts.{Body}
 use Rattle.scm_view.specs.Layers.{owned_by}
 use Rattle.scm_view.specs.Overlays.{overlays}
 use Rattle.scm_view.specs.Places.{places}

@@ -59,6 +59,7 @@ unfoldable pub views_picture : List CommitView → ℕ → Sight → ℤ → Pic
 views_picture [] n s x = nothing
 views_picture (v ∷ vs) n s x = followed_by (part ids.AppFiles (view_picture v s x n)) (views_picture vs n s (next_view v s x n))
 
+-- whether the help is open
 abbrev pub has_help : Option HelpDialog → Bool
 has_help None = false
 has_help (Some h) = true

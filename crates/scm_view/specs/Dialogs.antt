@@ -1,5 +1,5 @@
 -- Dialogs: a frame in the middle of the screen, with buttons on its last row.
-use Rattle.std.specs.Prelude.{◌≡◌, ◌⊎◌, ◌<◌, ℕ, ◌+◌, ◌-◌, max, pos, ◌+ℤ◌, ◌-ℤ◌, Bool, true, false, List, [], ◌∷◌, ◌++◌, map, length, replicate, take, encode_utf8, int_le, int_lt, ◌&&◌, None}
+use Rattle.std.specs.Prelude.{ℕ, ◌+◌, ◌-◌, max, pos, ◌+ℤ◌, ◌-ℤ◌, Bool, List, [], ◌∷◌, ◌++◌, map, length, replicate, take, encode_utf8, int_le, int_lt, ◌&&◌, None}
 use Rattle.std.specs.List.{concat}
 use Rattle.scm_cells.specs.Row.{put}
 use Rattle.scm_cells.specs.Clusters.{text_width}
@@ -12,7 +12,7 @@ use Rattle.scm_render.specs.Drawing.{frame_picture, body_texts}
 use Rattle.scm_view.specs.declared.button.Button.{Button}
 use Rattle.scm_view.specs.declared.dialog.Dialog.{Dialog}
 use Rattle.scm_view.specs.Layers.{Strip, Layer, laid_over, owned}
-use Rattle.scm_view.specs.Buttons.{button_width, buttons_picture, buttons_strip, leftmost}
+use Rattle.scm_view.specs.Buttons.{buttons_picture, buttons_strip, leftmost}
 
 -- what a dialog shows: its title, the lines of its body, and its buttons from the right
 pub record ShownDialog (K : Type 0) : Type 0 where
@@ -82,22 +82,3 @@ module _ {K : Type 0} where
     first = s + centred_gap h (length d.body + 2) 20;
     strips = dialog_strips w d (centred_gap w (widest_line d.body + 2) 60) (centred_size w (widest_line d.body + 2) 60) (centred_size h (length d.body + 2) 20);
   }
-
-module _ {K : Type 0} (same_id : K → K → Bool) (is_clickable : K → Bool) where
-  -- the id of one of the buttons
-  abbrev pub IsOneOf : List (Button K) → K → Type 0
-  IsOneOf [] i = ⊥
-  IsOneOf (b ∷ bs) i = (i ≡ b.id) ⊎ IsOneOf bs i
-
-  -- buttons with columns, of different ids, each of which a click acts on
-  abbrev pub AreButtons : List (Button K) → Type 0
-  AreButtons [] = Unit {0}
-  AreButtons (b ∷ bs) = (0 < button_width b) × (is_clickable b.id ≡ true) × ((j : K) → IsOneOf bs j → same_id b.id j ≡ false) × AreButtons bs
-
-  -- a dialog of an id of its own, all of which belongs to one part of the screen
-  pub record IsDialog (P : K → Type 0) (d : ShownDialog K) : Type 0 where
-    pub buttons : AreButtons d.buttons
-    pub click : is_clickable d.id ≡ true
-    pub own : (j : K) → IsOneOf d.buttons j → same_id d.id j ≡ false
-    pub part : P d.id
-    pub parts : (j : K) → IsOneOf d.buttons j → P j

@@ -16,7 +16,7 @@ use Rattle.scm_view.specs.Layers.{strip_at, shown_by}
 use Rattle.scm_view.specs.Strips.{sections_strips, document_layers, pinned_layer}
 use Rattle.scm_view.specs.Owners.{AreSectionsOf}
 use Rattle.scm_view.specs.Clicks.{is_clickable}
-use Rattle.scm_view.specs.Near.{IsClose, SightIsClose}
+use Rattle.scm_view.specs.Close.{IsClose, SightIsClose}
 
 -- what is drawn of a commit is in range, for each view that shows a session with an accepted state
 abbrev pub CommitsAreInRange : Type 0

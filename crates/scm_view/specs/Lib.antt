@@ -16,8 +16,8 @@ pub mod Blanks
 pub mod Strips
 -- Where the keys stand in the document.
 pub mod Places
--- Places and texts with which all that is drawn is in range.
-pub mod Near
+-- Places that are close to the document's corner.
+pub mod Close
 -- Whose ids the rows of a document have.
 pub mod Owners
 -- What follows from the definitions.
@@ -34,8 +34,6 @@ pub mod Tables
 pub mod Screens
 -- Which components a click acts on.
 pub mod Clicks
--- Labels that are short enough for menus and dialogs to be in range.
-pub mod Ranges
 -- What lies over the document: the menu bar, the quit dialog and the help.
 pub mod Overlays
 -- All that the selector shows.

@@ -1,5 +1,5 @@
 -- The menu bar and its menus.
-use Rattle.std.specs.Prelude.{ℕ, zero, suc, ◌+◌, ◌<◌, max, min, ℤ, pos, ◌+ℤ◌, true, false, List, [], ◌∷◌, map, Option, Some, None}
+use Rattle.std.specs.Prelude.{ℕ, zero, suc, ◌+◌, max, min, ℤ, pos, ◌+ℤ◌, true, false, List, [], ◌∷◌, map, Option, Some, None}
 use Rattle.scm_render.specs.Canvas.{Sight}
 use Rattle.scm_render.specs.Picture.{Picture, nothing, followed_by, part}
 use Rattle.scm_render.specs.Drawing.{row_rect, blank_picture}
@@ -103,12 +103,3 @@ menu_strips w b =
 
 abbrev pub menu_layer : ℕ → ℕ → MenuBar → Layer ComponentId
 menu_layer w s b = record { first = s; strips = menu_strips w b }
-
--- the open menu has a column, if it has an item
-abbrev pub HasColumns : List MenuItem → Type 0
-HasColumns [] = Unit {0}
-HasColumns (t ∷ ts) = 0 < widest_item (t ∷ ts)
-
-abbrev pub IsOpenWide : Option (ℕ × Menu) → Type 0
-IsOpenWide None = Unit {0}
-IsOpenWide (Some m) = HasColumns m.1.items

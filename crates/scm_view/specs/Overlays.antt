@@ -1,15 +1,14 @@
 -- What lies over the document: the menu bar with its open menu, the quit dialog, and the help.
-use Rattle.std.specs.Prelude.{ℕ, pos, Bool, true, false, List, [], ◌∷◌, ◌++◌, Option, Some, None}
+use Rattle.std.specs.Prelude.{ℕ, Bool, true, false, List, [], ◌∷◌, ◌++◌, Option, Some, None}
 use Rattle.scm_render.specs.Canvas.{Sight}
-use Rattle.scm_render.specs.Picture.{Picture, nothing, followed_by, part}
+use Rattle.scm_render.specs.Picture.{Picture, nothing, part}
 use Rattle.scm_view.specs.declared.ids.ComponentId.{ComponentId}
 use Rattle.scm_view.specs.declared.ids.ComponentId.TheVariants as ids
 use Rattle.scm_view.specs.declared.quit_dialog.QuitDialog.{QuitDialog}
 use Rattle.scm_view.specs.Layers.{Layer}
-use Rattle.scm_view.specs.Menus.{menu_bar_picture, menu_layer}
+use Rattle.scm_view.specs.Menus.{menu_layer}
 use Rattle.scm_view.specs.Dialogs.{dialog_layer}
 use Rattle.scm_view.specs.Tables.{menus_with, quit_dialog, help_dialog, named_dialog_picture}
-use Rattle.scm_view.specs.Screens.{sight}
 
 -- ---- what they draw
 
@@ -20,12 +19,6 @@ quit_picture (Some q) s = part ids.QuitDialog (named_dialog_picture (quit_dialog
 abbrev pub help_picture : Bool → Sight → Picture ComponentId
 help_picture true s = part ids.HelpDialog (named_dialog_picture help_dialog s)
 help_picture false s = nothing
-
--- on a screen of w columns and h rows at row s of the document
-abbrev pub overlays_picture : ℕ → ℕ → ℕ → Option ℕ → Option QuitDialog → Bool → Picture ComponentId
-overlays_picture w h s menu quit help =
-    followed_by (part ids.MenuBar (menu_bar_picture (menus_with menu) (sight w h s) (pos 0) (pos s)))
-    (followed_by (quit_picture quit (sight w h s)) (help_picture help (sight w h s)))
 
 -- ---- what the screen shows of them, and who owns it
 

@@ -1,11 +1,11 @@
 -- Whose ids the rows of a document have: those of the keys of its files, of their sections and of their lines, each of them once.
-use Rattle.std.specs.Prelude.{◌≡◌, ℕ, suc, ◌≤◌, ◌<◌, List, [], ◌∷◌, length}
+use Rattle.std.specs.Prelude.{◌≡◌, ℕ, suc, ◌≤◌, List, [], ◌∷◌}
 use Rattle.scm_view.specs.declared.keys.FileKey.{FileKey}
 use Rattle.scm_view.specs.declared.keys.SectionKey.{SectionKey}
 use Rattle.scm_view.specs.declared.keys.SelectionKey.TheVariants as selection
 use Rattle.scm_view.specs.declared.ids.ComponentId.TheVariants as ids
 use Rattle.scm_view.specs.Keys.{file_of_section, section_of_line}
-use Rattle.scm_view.specs.Rows.{DocRow, HeaderRow, SectionRow, LineRow, MarkRow, ContextRow, DotsRow, BlankRow, Heading, ShownSection, ShownFile, Document}
+use Rattle.scm_view.specs.Rows.{DocRow, HeaderRow, SectionRow, LineRow, MarkRow, ContextRow, DotsRow, BlankRow, ShownSection}
 
 -- the ids of a row are those of the section's parts, from a rank on
 abbrev pub IsRowOf : SectionKey → ℕ → DocRow → Type 0
@@ -36,30 +36,3 @@ AreRowsOf k n (d ∷ ds) = IsRowOf k n d × AreRowsOf k (after_row n d) ds
 abbrev pub AreSectionsOf : FileKey → ℕ → List ShownSection → Type 0
 AreSectionsOf f n [] = Unit {0}
 AreSectionsOf f n (p ∷ ps) = (n ≤ p.key.section_idx) × (file_of_section p.key ≡ f) × AreRowsOf p.key 0 p.rows × AreSectionsOf f (suc p.key.section_idx) ps
-
--- the heading of a file has the ids of its two boxes
-pub record IsHeadingOf (f : FileKey) (h : Heading) : Type 0 where
-  pub toggle : h.toggle.id ≡ ids.ToggleBox (selection.File f)
-  pub fold : h.fold.id ≡ ids.ExpandBox (selection.File f)
-
--- each section has a row
-abbrev pub HaveRows : List ShownSection → Type 0
-HaveRows [] = Unit {0}
-HaveRows (p ∷ ps) = (0 < length p.rows) × HaveRows ps
-
--- a file of the commit with this index or a later one: its heading and its sections have its ids, and each section has a row
-pub record IsFileOf (commit n : ℕ) (f : ShownFile) : Type 0 where
-  pub commit_is : f.key.commit_idx ≡ commit
-  pub index : n ≤ f.key.file_idx
-  pub heading : IsHeadingOf f.key f.heading
-  pub sections : AreSectionsOf f.key 0 f.sections
-  pub rows : HaveRows f.sections
-
--- the files of a commit, from this one on
-abbrev pub AreFilesOf : ℕ → ℕ → List ShownFile → Type 0
-AreFilesOf commit n [] = Unit {0}
-AreFilesOf commit n (f ∷ fs) = IsFileOf commit n f × AreFilesOf commit (suc f.key.file_idx) fs
-
--- a document whose files and sections have the ids of their keys, each key once
-abbrev pub HasItsIds : Document → Type 0
-HasItsIds d = AreFilesOf d.commit 0 d.files

@@ -2,8 +2,8 @@ use Rattle.std.proofs.Common.{◌≡◌, ◌∙◌, refl, ap, sym}
 use Rattle.scm_view.specs.declared.commit_view.CommitView.{CommitView}
 use Rattle.scm_view.specs.Rows.{document_of}
 use Rattle.scm_view.specs.Shown.{Shown, commit_view_of, file_views_of}
-use Rattle.scm_record.specs.Views.{lent_commit, lent_files}
-use Rattle.scm_record.proofs.LentLemmas.{document-lent}
+use Rattle.scm_record.specs.Views.{lent_files}
+use Rattle.scm_record.proofs.LentLemmas.{lent_commit, document-lent}
 use Rattle.scm_record.proofs.views.Showing.commit_view.Goals as goal
 
 pub returns-clause-ok : goal.returns-clause-ok

@@ -1,0 +1,55 @@
+use Rattle.std.proofs.Common.{[], ℕ, ℤ, ◌+ℤ◌, pos, FitsSigned, w64}
+use Rattle.std.proofs.lemmas.Int.{to_z-of_z}
+use Rattle.scm_render.specs.Picture.{Picture, part}
+use Rattle.scm_render.specs.Canvas.{Sight}
+use Rattle.scm_render.proofs.StepLemmas.{left-first, left-part, left-more, left-none}
+use Rattle.scm_drawing_tests.specs.Samples.{caption_picture}
+use Rattle.scm_drawing_tests.specs.declared.samples.Caption.{Caption}
+use Rattle.scm_drawing_tests.proofs.SampleLemmas.{column_picture-more, column_picture-end, row_below-fits}
+use Rattle.scm_drawing_tests.proofs.samples.ColumnComponent.draw.Goals as goal
+
+abbrev none : Caption
+none = record { id = 0; text = record { ref_ptr = (0, 0); now = [] } }
+
+abbrev at : Caption → ℤ → ℤ → Sight → Picture ℕ
+at k x y s = part k.id (caption_picture k s x y)
+
+pub loop-caption-init : goal.loop-caption-init
+loop-caption-init c =
+    let fx : FitsSigned w64 c.args.x = c.ranges.x in
+    let fy : FitsSigned w64 c.args.y = c.ranges.y in
+    simp to_z-of_z (left-first _ _ c.requires)
+
+pub draw_component-requires : goal.draw_component-requires
+draw_component-requires c =
+    let fx : FitsSigned w64 c.args.x = c.ranges.x in
+    let items = c.deref-caption-items.ensures.value in
+    let more = column_picture-more c.args.self.now.captions.items c.loop-caption.caption-index none c.args.viewport.now.canvas.sight c.args.x c.loop-caption.row (rw items at c.loop-caption-test.true) in
+    let left = simp (to_z-of_z, c.loop-caption.row-is) at c.loop-caption.invariant in
+    rw items (simp (to_z-of_z, c.loop-caption.row-is) (left-part _ _ (at _ _ _) _ _ _ more left))
+
+pub overflow_add-row : goal.overflow_add-row
+overflow_add-row c =
+    let fx : FitsSigned w64 c.args.x = c.ranges.x in
+    let items = c.deref-caption-items.ensures.value in
+    let more = column_picture-more c.args.self.now.captions.items c.loop-caption.caption-index none c.args.viewport.now.canvas.sight c.args.x c.loop-caption.row (rw items at c.loop-caption-test.true) in
+    let left = rw more at (simp (to_z-of_z, c.loop-caption.row-is) at c.loop-caption.invariant.in_range) in
+    simp c.loop-caption.row-is (row_below-fits _ _ _ _ _ left)
+
+pub loop-caption-preserved : goal.loop-caption-preserved
+loop-caption-preserved c =
+    let fx : FitsSigned w64 c.args.x = c.ranges.x in
+    let items = c.deref-caption-items.ensures.value in
+    let more = column_picture-more c.args.self.now.captions.items c.loop-caption.caption-index none c.args.viewport.now.canvas.sight c.args.x c.loop-caption.row (rw items at c.loop-caption-test.true) in
+    let left = simp (to_z-of_z, c.loop-caption.row-is) at c.loop-caption.invariant in
+    let below : FitsSigned w64 (c.loop-caption.row +ℤ pos 1) = row_below-fits _ _ _ _ _ (rw more at left.in_range) in
+    let drawn = simp (to_z-of_z, c.loop-caption.row-is) at (rw items at c.in_ok-draw_component.ensures.ok) in
+    simp c.loop-caption.row-is (simp to_z-of_z (left-more _ _ _ (at _ _ _) _ _ _ more left drawn))
+
+pub returns-clause-ok : goal.returns-clause-ok
+returns-clause-ok c =
+    let fx : FitsSigned w64 c.args.x = c.ranges.x in
+    let fy : FitsSigned w64 c.args.y = c.ranges.y in
+    let items = c.deref-caption-items.ensures.value in
+    let end = column_picture-end c.args.self.now.captions.items c.loop-caption.caption-index c.args.viewport.now.canvas.sight c.args.x c.loop-caption.row (rw items at c.loop-caption-test.false) in
+    left-none _ _ _ _ end (simp (to_z-of_z, c.loop-caption.row-is) at c.loop-caption.invariant)

@@ -1,0 +1,9 @@
+use Rattle.std.specs.Prelude.{drop}
+use Rattle.scm_render.proofs.StepLemmas.{IsLeft}
+use Rattle.scm_drawing_tests.specs.Samples.{column_picture}
+use Rattle.scm_drawing_tests.proofs.samples.ColumnComponent.draw.Given as goal
+
+abbrev pub invariant-loop-caption : goal.invariant-loop-caption
+invariant-loop-caption l =
+    let s = l.fn.viewport.canvas.sight in
+    IsLeft l.fn.viewport.canvas l.viewport.canvas (column_picture (drop l.caption-index l.self.captions.items) s l.x l.row) (column_picture l.self.captions.items s l.fn.x l.fn.y)

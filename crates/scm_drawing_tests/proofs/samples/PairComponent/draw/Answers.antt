@@ -1,0 +1,48 @@
+use Rattle.std.proofs.Common.{ℕ, ℤ, pos, ◌+ℤ◌, FitsSigned, w64}
+use Rattle.std.proofs.lemmas.Int.{to_z-of_z}
+use Rattle.scm_render.specs.Picture.{Picture, PictureInRange, part}
+use Rattle.scm_render.specs.Canvas.{Sight}
+use Rattle.scm_render.proofs.PictureLemmas.{PictureInRange-left, PictureInRange-right, PictureInRange-part}
+use Rattle.scm_render.proofs.StepLemmas.{step, rest}
+use Rattle.scm_drawing_tests.specs.Samples.{caption_picture, pair_picture}
+use Rattle.scm_drawing_tests.specs.declared.samples.Pair.{Pair}
+use Rattle.scm_drawing_tests.proofs.SampleLemmas.{caption_row-fits}
+use Rattle.scm_drawing_tests.proofs.samples.PairComponent.draw.Goals as goal
+
+abbrev lower : Pair → ℤ → ℤ → Sight → Picture ℕ
+lower p x y s = part p.second.id (caption_picture p.second s x (y +ℤ pos 1))
+
+pub draw_component-requires : goal.draw_component-requires
+unfolding pair_picture
+draw_component-requires c =
+    let fx : FitsSigned w64 c.args.x = c.ranges.x in
+    let fy : FitsSigned w64 c.args.y = c.ranges.y in
+    simp to_z-of_z (PictureInRange-left _ _ c.requires)
+
+second_row-fits : (p : Pair) (s : Sight) (x y : ℤ) → PictureInRange (pair_picture p s x y) → FitsSigned w64 (y +ℤ pos 1)
+unfolding pair_picture
+second_row-fits p s x y r = caption_row-fits p.second s x (y +ℤ pos 1) (PictureInRange-part _ _ (PictureInRange-right _ _ r))
+
+pub overflow_add-y : goal.overflow_add-y
+overflow_add-y c =
+    let fy : FitsSigned w64 c.args.y = c.ranges.y in
+    simp to_z-of_z (second_row-fits _ _ _ _ c.requires)
+
+pub draw_component-requires-2 : goal.draw_component-requires-2
+unfolding pair_picture
+draw_component-requires-2 c =
+    let fx : FitsSigned w64 c.args.x = c.ranges.x in
+    let fy : FitsSigned w64 c.args.y = c.ranges.y in
+    let below = second_row-fits c.args.self.now c.args.viewport.now.canvas.sight c.args.x c.args.y c.requires in
+    let first = simp to_z-of_z at c.in_ok-draw_component.ensures.ok in
+    simp to_z-of_z (rest _ _ _ (lower c.args.self.now c.args.x c.args.y) first c.requires)
+
+pub returns-clause-ok : goal.returns-clause-ok
+unfolding pair_picture
+returns-clause-ok c =
+    let fx : FitsSigned w64 c.args.x = c.ranges.x in
+    let fy : FitsSigned w64 c.args.y = c.ranges.y in
+    let below = second_row-fits c.args.self.now c.args.viewport.now.canvas.sight c.args.x c.args.y c.requires in
+    let first = simp to_z-of_z at c.in_ok-draw_component.ensures.ok in
+    let second = simp to_z-of_z at c.in_ok-draw_component-2.ensures.ok in
+    step _ _ _ _ (lower c.args.self.now c.args.x c.args.y) first second

@@ -1,0 +1,401 @@
+//! Rectangles, masks, clusters, spans and the grid, by values from outside: the project's tables, and
+//! the columns that a terminal gives to texts.
+use scm_cells::{
+    Clusters, Grid, Line, Mask, Rect, RectSize, ScreenRect, Span, push_spans_from_line,
+    replace_control_character, text_width,
+};
+use scm_types::RecordError;
+use std::process::Abort;
+use std::test::Fail;
+
+/// The first four columns of the first two rows.
+const WHOLE: Rect = Rect {
+    x: 0,
+    y: 0,
+    width: 4,
+    height: 2,
+};
+
+#[test]
+fn rectangles(rt: HostRuntime) {
+    let small = Rect {
+        x: 2,
+        y: 1,
+        width: 5,
+        height: 5,
+    };
+    let joint = Rect {
+        x: 2,
+        y: 1,
+        width: 2,
+        height: 1,
+    };
+    assert_eq!(rt; WHOLE.intersect(small), joint);
+    let left = Rect {
+        x: 0,
+        y: 0,
+        width: 2,
+        height: 2,
+    };
+    let right = Rect {
+        x: 5,
+        y: 0,
+        width: 1,
+        height: 1,
+    };
+    let none = Rect {
+        x: 5,
+        y: 0,
+        width: 0,
+        height: 1,
+    };
+    assert_eq!(rt; left.intersect(right), none);
+    assert!(rt; none.is_empty());
+    let flat = Rect {
+        x: 10,
+        y: 10,
+        width: 0,
+        height: 3,
+    };
+    assert_eq!(rt; WHOLE.union_bounding(flat), WHOLE);
+    let corner = Rect {
+        x: 6,
+        y: 5,
+        width: 1,
+        height: 1,
+    };
+    let around = Rect {
+        x: 0,
+        y: 0,
+        width: 7,
+        height: 6,
+    };
+    assert_eq!(rt; WHOLE.union_bounding(corner), around);
+    assert_eq!(rt; (small.end_x(), small.end_y()), (7, 6));
+    assert_eq!(rt; small.iter_ys().count(), 5);
+    assert_eq!(rt; small.top_row().height, 1);
+    assert!(rt; small.contains_point(6, 5));
+    assert!(rt; !small.contains_point(7, 5));
+}
+
+#[test]
+fn conversions_and_masks(rt: HostRuntime) {
+    let screen = ScreenRect {
+        x: 1,
+        y: 2,
+        width: 3,
+        height: 4,
+    };
+    let rect = Rect {
+        x: 1,
+        y: 2,
+        width: 3,
+        height: 4,
+    };
+    let size = RectSize {
+        width: 3,
+        height: 4,
+    };
+    assert_eq!(rt; Rect::from(screen), rect);
+    assert_eq!(rt; RectSize::from(screen), size);
+    assert_eq!(rt; RectSize::from(rect), size);
+    let closed = Mask {
+        x: 1,
+        y: 2,
+        width: Some(3),
+        height: Some(4),
+    };
+    assert_eq!(rt; Mask::from(rect), closed);
+    assert_eq!(rt; closed.end_x(), Some(4));
+    assert_eq!(rt; closed.end_y(), Some(6));
+    let open = Mask {
+        x: 1,
+        y: 2,
+        width: None,
+        height: Some(3),
+    };
+    assert_eq!(rt; open.end_x(), None);
+    let square = Rect {
+        x: 0,
+        y: 0,
+        width: 10,
+        height: 10,
+    };
+    let part = Rect {
+        x: 1,
+        y: 2,
+        width: 9,
+        height: 3,
+    };
+    assert_eq!(rt; open.apply(square), part);
+    let default = Mask {
+        x: 0,
+        y: 0,
+        width: None,
+        height: None,
+    };
+    assert_eq!(rt; Mask::default(), default);
+    assert!(rt; Rect::default().is_empty());
+    assert_eq!(rt; RectSize::default().width, 0);
+}
+
+#[test]
+fn columns_of_texts(rt: HostRuntime) {
+    let texts = [
+        ("", 0),
+        ("abc", 3),
+        (" ", 1),
+        ("\u{E9}", 1),
+        ("e\u{301}", 1),
+        ("n\u{303}o", 2),
+        ("\u{301}", 0),
+        ("\u{200B}", 0),
+        ("\u{FEFF}a", 1),
+        ("\u{A0}", 1),
+        ("\u{3000}", 2),
+        ("日本語", 6),
+        ("日a", 3),
+        ("中文字", 6),
+        ("ｱｲｳ", 3),
+        ("アイウ", 6),
+        ("Ａ", 2),
+        ("（", 2),
+        ("、", 2),
+        ("㌔", 2),
+        ("한글", 4),
+        ("\u{1112}\u{1161}\u{11AB}", 2),
+        ("αβγ", 3),
+        ("Ω", 1),
+        ("привет", 6),
+        ("שלום", 4),
+        ("ไทย", 3),
+        ("ก้", 1),
+        ("€", 1),
+        ("½", 1),
+        ("—", 1),
+        ("“", 1),
+        ("①", 1),
+        ("★", 1),
+        ("♥", 1),
+        ("☃", 1),
+        ("⌚", 2),
+        ("⏰", 2),
+        ("😀", 2),
+        ("😀a", 3),
+        ("👍🏽", 2),
+        ("👩\u{200D}👩\u{200D}👧", 2),
+        ("🏳\u{FE0F}\u{200D}🌈", 2),
+        ("❤", 1),
+        ("❤\u{FE0F}", 2),
+        ("1\u{FE0F}\u{20E3}", 2),
+        ("🇩🇪", 2),
+        ("🇩🇪🇫🇷", 4),
+        ("a\tb", 2),
+        ("a\nb", 2),
+        ("\r\n", 0),
+        ("\u{1B}[0m", 3),
+        ("a\u{85}b", 2),
+        ("a\u{7F}", 1),
+    ];
+    for (text, columns) in texts {
+        assert_eq!(rt; text_width(text), columns, "columns of {text:?}");
+    }
+    let marks = "◐●±⋮…→⏎␀�┌─┐│└┘↓↑←•";
+    let mut count = 0;
+    for (mark, width) in Clusters::new(marks) {
+        assert_eq!(rt; width, 1, "columns of {mark:?}");
+        assert!(rt; count < 100);
+        count += 1;
+    }
+    assert_eq!(rt; count, 19);
+}
+
+#[test]
+fn spans_of_lines(rt: HostRuntime) -> Result<(), Fail> {
+    let mut spans = Vec::new(rt.alloc());
+    push_spans_from_line("a\tb", &mut spans)?;
+    let line = Line(spans);
+    assert_eq!(rt; line.0.len(), 3);
+    assert_eq!(rt; line.0[0].0, "a");
+    assert_eq!(rt; line.0[1].0, "→   ");
+    assert_eq!(rt; line.0[2].0, "b");
+    let lines = [
+        ("", 0, 0),
+        ("ab", 1, 2),
+        ("\u{0}", 2, 1),
+        ("\u{1}\u{2}\u{3}\u{4}\u{5}\u{6}\u{7}\u{8}", 16, 8),
+        ("\t", 2, 4),
+        ("a\n", 2, 2),
+        ("\u{B}\u{C}\r\u{E}\u{F}\u{10}\u{11}\u{12}", 16, 8),
+        ("\u{13}\u{14}\u{15}\u{16}\u{17}\u{18}\u{19}\u{1A}", 16, 8),
+        ("\u{1B}\u{1C}\u{1D}\u{1E}\u{1F}\u{7F}", 12, 6),
+        ("\u{80}\u{9F}", 4, 2),
+        ("\u{301}", 2, 1),
+        ("e\u{301}", 2, 2),
+        ("日本語", 1, 6),
+        ("👍🏽", 1, 2),
+        ("👩\u{200D}👧", 3, 5),
+        ("❤\u{FE0F}", 2, 2),
+        ("🇩🇪", 1, 2),
+        ("한", 1, 2),
+        ("\u{1112}\u{1161}\u{11AB}", 4, 4),
+    ];
+    for (line, pieces, columns) in lines {
+        let mut spans = Vec::new(rt.alloc());
+        push_spans_from_line(line, &mut spans)?;
+        assert_eq!(rt; spans.len(), pieces, "spans of {line:?}");
+        assert_eq!(rt; columns_shown(&rt, &spans), columns, "columns of {line:?}");
+    }
+    Ok(())
+}
+
+/// The columns of spans in which no character is left to be replaced.
+fn columns_shown(rt: &impl Abort, spans: &[Span<'_>]) -> usize {
+    let mut columns = 0;
+    for span in spans {
+        for character in span.0.chars() {
+            assert!(rt; replace_control_character(character).is_none());
+        }
+        let width = text_width(span.0);
+        assert!(rt; width < 100 && columns < 100);
+        columns += width;
+    }
+    columns
+}
+
+/// Puts a text on a row of the grid, which has it.
+fn put(
+    rt: &impl Abort,
+    grid: &mut Grid,
+    row: usize,
+    column: isize,
+    text: &str,
+    low: usize,
+    high: usize,
+) -> Result<(), RecordError> {
+    assert!(rt; row < grid.height());
+    assert!(rt; high <= grid.width());
+    grid.put(row, column, text, low, high)
+}
+
+#[test]
+fn texts_on_a_grid(rt: HostRuntime) -> Result<(), Fail> {
+    let mut grid = Grid::new(rt.alloc(), 6, 1)?;
+    put(&rt, &mut grid, 0, 0, "日本語", 0, 6)?;
+    put(&rt, &mut grid, 0, 1, "x", 0, 6)?;
+    assert_eq!(rt; grid.view()?.as_str(), "\" x本語\"\n");
+    let rows = [
+        (-1, "日a", 0, 6, "\" a    \"\n"),
+        (4, "a日b", 0, 6, "\"    a \"\n"),
+        (0, "a\nb", 0, 6, "\"ab    \"\n"),
+        (-2, "日a", 0, 6, "\"a     \"\n"),
+        (0, "日本語", 1, 5, "\"  本  \"\n"),
+        (0, "日本語", 3, 6, "\"    語\"\n"),
+        (2, "日", 3, 6, "\"      \"\n"),
+        (0, "abcdef", 2, 4, "\"  cd  \"\n"),
+        (0, "a日本c", 0, 4, "\"a日   \"\n"),
+        (0, "ab", 4, 2, "\"      \"\n"),
+        (7, "ab", 0, 6, "\"      \"\n"),
+        (isize::MAX, "ab", 0, 6, "\"      \"\n"),
+        (isize::MIN, "ab", 0, 6, "\"      \"\n"),
+        (0, "e\u{301}x", 0, 6, "\"e\u{301}x    \"\n"),
+        (-1, "👩\u{200D}👧b", 0, 6, "\" b    \"\n"),
+    ];
+    for (column, text, low, high, view) in rows {
+        grid.clear();
+        put(&rt, &mut grid, 0, column, text, low, high)?;
+        assert_eq!(rt; grid.view()?.as_str(), view, "{text:?} at {column}");
+    }
+    Ok(())
+}
+
+#[test]
+fn empty_small_and_large_values(rt: HostRuntime) -> Result<(), Fail> {
+    let sizes: [(u16, u16, usize); 5] = [
+        (0, 0, 0),
+        (0, 3, 0),
+        (3, 0, 0),
+        (1, 1, 4),
+        (400, 50, 20150),
+    ];
+    for (width, height, bytes) in sizes {
+        let grid = Grid::new(rt.alloc(), width, height)?;
+        assert_eq!(rt; grid.view()?.len(), bytes, "{width} by {height}");
+    }
+    let mut grid = Grid::new(rt.alloc(), 400, 1)?;
+    let texts = [
+        ("", 1, 403, 0),
+        ("a", 1, 403, 1),
+        ("a", 5000, 403, 1),
+        ("日", 5000, 603, 1),
+        ("a日", 5000, 536, 1),
+        ("\t", 5000, 403, 10000),
+    ];
+    for (text, times, bytes, pieces) in texts {
+        let mut long = String::new(rt.alloc());
+        for _ in 0..times {
+            long.push_str(text)?;
+        }
+        grid.clear();
+        put(&rt, &mut grid, 0, 0, long.as_str(), 0, 400)?;
+        assert_eq!(rt; grid.view()?.len(), bytes, "{times} times {text:?}");
+        let mut spans = Vec::new(rt.alloc());
+        push_spans_from_line(long.as_str(), &mut spans)?;
+        assert_eq!(rt; spans.len(), pieces, "{times} times {text:?}");
+    }
+    Ok(())
+}
+
+#[test]
+fn wide_symbols_under_others(rt: HostRuntime) -> Result<(), Fail> {
+    let mut grid = Grid::new(rt.alloc(), 6, 2)?;
+    put(&rt, &mut grid, 1, 0, "日本語", 0, 6)?;
+    put(&rt, &mut grid, 1, 0, "日", 1, 6)?;
+    assert_eq!(rt; grid.view()?.as_str(), "\"      \"\n\"  本語\"\n");
+    put(&rt, &mut grid, 1, 3, "字", 0, 6)?;
+    assert_eq!(rt; grid.view()?.as_str(), "\"      \"\n\"   字 \"\n");
+    put(&rt, &mut grid, 0, 0, "abcdef", 0, 6)?;
+    assert_eq!(rt; grid.view()?.as_str(), "\"abcdef\"\n\"   字 \"\n");
+    let narrow = Grid::new(rt.alloc(), 0, 3)?;
+    assert_eq!(rt; narrow.view()?.as_str(), "");
+    assert_eq!(rt; (grid.width(), grid.height()), (6, 2));
+    Ok(())
+}
+
+#[test]
+fn refused_memory_changes_nothing(rt: HostRuntime) -> Result<(), Fail> {
+    let Ok(mut grid) = Grid::new(rt.alloc(), 12, 1) else {
+        return Ok(());
+    };
+    if put(&rt, &mut grid, 0, 0, "日本語", 0, 12).is_err() {
+        return Ok(());
+    }
+    let Ok(before) = grid.view() else {
+        return Ok(());
+    };
+    match put(
+        &rt,
+        &mut grid,
+        0,
+        1,
+        "e\u{301}\u{302}\u{303}\u{304}字",
+        0,
+        12,
+    ) {
+        Ok(()) => {
+            if let Ok(after) = grid.view() {
+                assert!(rt; after.as_str() != before.as_str());
+            }
+        }
+        Err(_) => assert_eq!(rt; grid.view()?.as_str(), before.as_str()),
+    }
+    let mut spans = Vec::new(rt.alloc());
+    if push_spans_from_line("a", &mut spans).is_err() {
+        assert_eq!(rt; spans.len(), 0);
+    }
+    let before = spans.len();
+    if push_spans_from_line("a\u{1}b\u{2}c\u{3}d\u{4}e\u{5}f", &mut spans).is_err() {
+        assert_eq!(rt; spans.len(), before);
+    }
+    Ok(())
+}

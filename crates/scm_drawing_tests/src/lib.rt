@@ -1,0 +1,11 @@
+//! Tests of cells and of drawing, in a crate of their own, and sample components.
+#![tactic(auto)]
+
+#[cfg(test)]
+mod cells;
+#[cfg(test)]
+mod memory;
+#[cfg(test)]
+mod render;
+pub mod samples;
+pub mod tags;

@@ -1,0 +1,639 @@
+//! Centring, texts, frames, masks and the boxes of components, by the project's values.
+ghost use Rattle.std.specs.Prelude.{◌≡◌, ◌≤◌, length, pos, Some, None};
+ghost use Rattle.scm_cells.specs.Clusters.{text_width};
+ghost use Rattle.scm_cells.specs.Spans.{span_texts};
+ghost use Rattle.scm_render.specs.Drawing.{texts_width};
+ghost use Rattle.scm_render.specs.Bounds.{SightWithin};
+ghost use Rattle.scm_drawing_tests.specs.Near.{IsNear, near, AreShort};
+
+use crate::samples::{Caption, Column, Nest, Pair, Pane};
+use crate::tags::{Spot, Tag};
+use scm_cells::{Grid, Line, Mask, Rect, RectSize, ScreenRect, Span, text_width};
+use scm_render::{DrawTrace, DrawnRect, DrawnRects, Viewport, centered_rect, find_target};
+use scm_types::RecordError;
+use std::alloc::Global;
+use std::process::Abort;
+use std::test::Fail;
+
+/// The rectangle at a column and a row, with its numbers of columns and rows.
+pub(crate) fn rect(x: isize, y: isize, width: usize, height: usize) -> Rect
+    ensures { result ≡ record { x = x; y = y; width = width; height = height } }
+{
+    Rect {
+        x,
+        y,
+        width,
+        height,
+    }
+}
+
+/// A mask of so many columns of all rows.
+pub(crate) fn columns(x: isize, width: usize) -> Mask
+    ensures { result ≡ record { x = x; y = pos 0; width = Some width; height = None } }
+{
+    Mask {
+        x,
+        y: 0,
+        width: Some(width),
+        height: None,
+    }
+}
+
+/// Checks that a place is near the document's corner: at most 1000 columns or rows away.
+fn check_near(rt: &impl Abort, place: isize)
+    ensures { IsNear place }
+{
+    assert!(rt; -1000 <= place);
+    assert!(rt; place <= 1000);
+}
+
+/// Checks that what the viewport shows is near the document's corner, and its mask too.
+fn check_sight(rt: &impl Abort, viewport: &Viewport<u8>)
+    ensures { SightWithin near viewport.now.canvas.sight }
+{
+    let shown = viewport.rect();
+    let mask = viewport.mask();
+    check_near(rt, shown.x);
+    check_near(rt, shown.end_x());
+    check_near(rt, mask.x);
+}
+
+/// Checks that a text is short: at most 100 columns.
+fn check_text(rt: &impl Abort, text: &str)
+    ensures { text_width text.now ≤ 100 }
+{
+    assert!(rt; text_width(text) <= 100);
+}
+
+/// The columns of spans, of which there are few.
+fn columns_of(rt: &impl Abort, spans: &[Span]) -> usize
+    ensures { result ≡ texts_width (span_texts spans.now) }
+{
+    let mut columns = 0;
+    for span in spans {
+        let width = text_width(span.0);
+        assert!(rt; width <= 100);
+        assert!(rt; columns <= 100);
+        columns += width;
+    }
+    columns
+}
+
+/// Checks that spans are short.
+fn check_spans(rt: &impl Abort, spans: &[Span])
+    ensures { texts_width (span_texts spans.now) ≤ 100 }
+{
+    assert!(rt; columns_of(rt, spans) <= 100);
+}
+
+/// A viewport on a new grid that shows the part of the document from a column and a row on.
+fn viewport_at(
+    alloc: Global,
+    x: isize,
+    y: isize,
+    width: u16,
+    height: u16,
+) -> Result<Viewport<u8>, RecordError>
+    requires x { IsNear x }
+    requires y { IsNear y }
+{
+    let grid = Grid::new(alloc, width, height)?;
+    let shown = rect(x, y, width as usize, height as usize);
+    let viewport = Viewport::new(alloc, grid, shown);
+    Ok(viewport)
+}
+
+/// A viewport on a grid of six columns and two rows, which shows the document from its corner on.
+pub(crate) fn viewport_on(rt: &impl Abort, alloc: Global, grid: Grid) -> Viewport<u8> {
+    assert_eq!(rt; grid.width(), 6);
+    assert_eq!(rt; grid.height(), 2);
+    Viewport::new(alloc, grid, rect(0, 0, 6, 2))
+}
+
+/// Draws a text, which is near the document's corner.
+fn draw_text(
+    rt: &impl Abort,
+    viewport: &mut Viewport<u8>,
+    x: isize,
+    y: isize,
+    spans: &[Span],
+) -> Result<Rect, RecordError> {
+    check_sight(rt, viewport);
+    check_near(rt, x);
+    check_near(rt, y);
+    check_spans(rt, spans);
+    viewport.draw_text(x, y, spans)
+}
+
+/// Draws a line, which is near the document's corner.
+fn draw_line(
+    rt: &impl Abort,
+    viewport: &mut Viewport<u8>,
+    x: isize,
+    y: isize,
+    line: &Line,
+) -> Result<Rect, RecordError> {
+    check_near(rt, x);
+    check_near(rt, y);
+    check_spans(rt, line.0.as_slice());
+    viewport.draw_line(x, y, line)
+}
+
+/// Draws a span, which is near the document's corner.
+fn draw_span(
+    rt: &impl Abort,
+    viewport: &mut Viewport<u8>,
+    x: isize,
+    y: isize,
+    span: &Span,
+) -> Result<Rect, RecordError> {
+    check_near(rt, x);
+    check_near(rt, y);
+    check_text(rt, span.0);
+    viewport.draw_span(x, y, span)
+}
+
+/// Draws a caption, which is near the document's corner.
+fn draw_caption(
+    rt: &impl Abort,
+    viewport: &mut Viewport<u8>,
+    x: isize,
+    y: isize,
+    caption: &Caption,
+) -> Result<Rect, RecordError> {
+    check_sight(rt, viewport);
+    check_text(rt, caption.text);
+    check_near(rt, x);
+    check_near(rt, y);
+    viewport.draw_component(x, y, caption)
+}
+
+/// Draws a nest, whose masks and texts are near the document's corner, at that corner.
+fn draw_nest(
+    rt: &impl Abort,
+    viewport: &mut Viewport<u8>,
+    nest: &Nest,
+) -> Result<Rect, RecordError> {
+    check_sight(rt, viewport);
+    check_text(rt, nest.pane.caption.text);
+    check_text(rt, nest.below.text);
+    check_near(rt, nest.mask.x);
+    check_near(rt, nest.pane.mask.x);
+    viewport.draw_component(0, 0, nest)
+}
+
+/// Draws a pair of short texts on a grid.
+fn render_pair(
+    rt: &impl Abort,
+    alloc: Global,
+    grid: &mut Grid,
+    pair: &Pair,
+) -> Result<DrawnRects<u8>, RecordError> {
+    check_text(rt, pair.first.text);
+    check_text(rt, pair.second.text);
+    assert!(rt; grid.width() <= 100);
+    assert!(rt; grid.height() <= 100);
+    Viewport::render_top_level(alloc, grid, 0, 0, pair)
+}
+
+/// Checks that the texts of captions are short.
+fn check_captions(rt: &impl Abort, captions: &[Caption])
+    ensures { AreShort captions.now }
+{
+    for caption in captions {
+        check_text(rt, caption.text);
+    }
+}
+
+/// Draws a column of a few short texts on a grid.
+fn render_column(
+    rt: &impl Abort,
+    alloc: Global,
+    grid: &mut Grid,
+    column: &Column,
+) -> Result<DrawnRects<u8>, RecordError> {
+    check_captions(rt, column.captions.as_slice());
+    assert!(rt; column.captions.len() <= 1000);
+    assert!(rt; grid.width() <= 100);
+    assert!(rt; grid.height() <= 100);
+    Viewport::render_top_level(alloc, grid, 0, 0, column)
+}
+
+/// Checks that a label is short: at most 10 bytes.
+fn check_label(rt: &impl Abort, label: &str)
+    ensures { length label.now ≤ 10 }
+{
+    let length = label.len();
+    assert!(rt; length <= 10);
+}
+
+/// Draws a tag with a short label at the document's corner.
+fn draw_tag(
+    rt: &impl Abort,
+    viewport: &mut Viewport<u8>,
+    tag: &Tag<u8>,
+) -> Result<Rect, RecordError> {
+    check_label(rt, tag.label);
+    viewport.draw_component(0, 0, tag)
+}
+
+/// What a click hits in row `y` and column `x`.
+fn target_at(boxes: &DrawnRects<Spot>, y: isize, x: isize) -> Option<Spot> {
+    find_target(boxes, y, x)
+}
+
+#[test]
+fn centring(rt: HostRuntime) {
+    let dialog = RectSize {
+        width: 60,
+        height: 3,
+    };
+    assert_eq!(rt;
+        centered_rect(rect(0, 0, 80, 24), dialog, 60, 20),
+        rect(10, 9, 60, 4)
+    );
+    assert_eq!(rt;
+        centered_rect(rect(0, 0, 10, 2), dialog, 60, 20),
+        rect(0, 0, 10, 2)
+    );
+    let text = RectSize {
+        width: 29,
+        height: 1,
+    };
+    assert_eq!(rt;
+        centered_rect(rect(0, 1, 80, 23), text, 50, 50),
+        rect(20, 6, 40, 11)
+    );
+}
+
+#[test]
+fn traces(rt: HostRuntime) -> Result<(), Fail> {
+    let alloc = rt.alloc();
+    let mut trace: DrawTrace<u8> = DrawTrace::new(alloc);
+    assert_eq!(rt; trace.rect, rect(0, 0, 0, 0));
+    trace.merge_rect(rect(0, 0, 1, 1));
+    let mut other: DrawTrace<u8> = DrawTrace::new(alloc);
+    other.merge_rect(rect(2, 0, 1, 1));
+    assert_eq!(rt; other.rect, rect(2, 0, 1, 1));
+    let drawn = DrawnRect {
+        rect: rect(2, 0, 1, 1),
+        timestamp: 3,
+    };
+    let _ = other.components.insert(7, drawn)?;
+    trace.merge(other)?;
+    assert_eq!(rt; trace.rect, rect(0, 0, 3, 1));
+    assert_eq!(rt; trace.components.get(&7).copied(), Some(drawn));
+    Ok(())
+}
+
+#[test]
+fn texts(rt: HostRuntime) -> Result<(), Fail> {
+    let alloc = rt.alloc();
+    let mut viewport = viewport_at(alloc, 0, 1, 6, 2)?;
+    assert_eq!(rt; viewport.rect(), rect(0, 1, 6, 2));
+    assert_eq!(rt; viewport.mask(), Mask::from(rect(0, 1, 6, 2)));
+    assert_eq!(rt; viewport.mask_rect(), rect(0, 1, 6, 2));
+    assert_eq!(rt; viewport.translate_rect(rect(0, 0, 3, 1)), None);
+    let shown = ScreenRect {
+        x: 0,
+        y: 0,
+        width: 3,
+        height: 2,
+    };
+    assert_eq!(rt; viewport.translate_rect(rect(0, 0, 3, 3)), Some(shown));
+    assert_eq!(rt;
+        draw_text(&rt, &mut viewport, 2, 2, &[Span("abcdef")])?,
+        rect(2, 2, 6, 1)
+    );
+    assert_eq!(rt; viewport.cover(rect(3, 1, 2, 2)), rect(3, 1, 2, 2));
+    let grid = viewport.into_grid();
+    assert_eq!(rt; grid.view()?.as_str(), "\"      \"\n\"  abc…\"\n");
+    assert_eq!(rt; grid.width(), 6);
+    assert_eq!(rt; grid.height(), 2);
+    let mut viewport: Viewport<u8> = Viewport::new(alloc, grid, rect(0, 1, 6, 2));
+    let caption = Caption { id: 1, text: "a" };
+    assert_eq!(rt; viewport.draw_blank(rect(0, 1, 6, 2))?, rect(0, 1, 6, 2));
+    assert_eq!(rt;
+        draw_caption(&rt, &mut viewport, 9, 2, &caption)?,
+        rect(5, 2, 5, 1)
+    );
+    assert_eq!(rt;
+        viewport.into_grid().view()?.as_str(),
+        "\"      \"\n\"     …\"\n"
+    );
+    Ok(())
+}
+
+#[test]
+fn masks(rt: HostRuntime) -> Result<(), Fail> {
+    let alloc = rt.alloc();
+    let mut viewport = viewport_at(alloc, 0, 0, 6, 6)?;
+    assert_eq!(rt; viewport.swap_mask(Some(columns(2, 3))), None);
+    assert_eq!(rt; viewport.mask_rect(), rect(2, 0, 3, 6));
+    assert_eq!(rt;
+        draw_span(&rt, &mut viewport, 0, 0, &Span("abcdef"))?,
+        rect(0, 0, 6, 1)
+    );
+    assert_eq!(rt;
+        draw_span(&rt, &mut viewport, 1, 1, &Span("日本"))?,
+        rect(1, 1, 4, 1)
+    );
+    assert_eq!(rt;
+        draw_span(&rt, &mut viewport, 0, 2, &Span("a日本"))?,
+        rect(0, 2, 5, 1)
+    );
+    let text = [Span("a"), Span("日"), Span("bcd")];
+    assert_eq!(rt;
+        draw_text(&rt, &mut viewport, 0, 3, &text)?,
+        rect(0, 3, 6, 1)
+    );
+    let line = Line(text.to_vec(alloc)?);
+    assert_eq!(rt;
+        draw_line(&rt, &mut viewport, 0, 4, &line)?,
+        rect(0, 4, 6, 1)
+    );
+    assert_eq!(rt;
+        draw_span(&rt, &mut viewport, 2, 5, &Span("日本"))?,
+        rect(2, 5, 4, 1)
+    );
+    assert_eq!(rt; viewport.swap_mask(None), Some(columns(2, 3)));
+    let view = viewport.into_grid().view()?;
+    let upper = "\"  cde \"\n\"   本 \"\n\"   本 \"\n";
+    let lower = "\"   b… \"\n\"   bc \"\n\"  日  \"\n";
+    assert_eq!(rt; view.as_str().strip_prefix(upper), Some(lower));
+    Ok(())
+}
+
+#[test]
+fn frames(rt: HostRuntime) -> Result<(), Fail> {
+    let alloc = rt.alloc();
+    for (width, height, expected) in [
+        (10, 2, "\"┌Quit────┐\"\n\"└────────┘\"\n"),
+        (1, 1, "\"┌\"\n"),
+        (1, 2, "\"┌\"\n\"└\"\n"),
+        (2, 1, "\"┌┐\"\n"),
+        (0, 0, ""),
+        (0, 2, ""),
+        (3, 3, "\"┌Q┐\"\n\"│b│\"\n\"└─┘\"\n"),
+    ] {
+        let whole = rect(0, 0, width as usize, height as usize);
+        let mut viewport = viewport_at(alloc, 0, 0, width, height)?;
+        assert_eq!(rt; viewport.draw_frame(whole, "Quit", &["body"])?, whole);
+        assert_eq!(rt; viewport.into_grid().view()?.as_str(), expected);
+    }
+    Ok(())
+}
+
+#[test]
+fn boxes(rt: HostRuntime) -> Result<(), Fail> {
+    let alloc = rt.alloc();
+    let mut grid = Grid::new(alloc, 6, 3)?;
+    let pair = Pair {
+        id: 1,
+        first: Caption { id: 2, text: "ab" },
+        second: Caption { id: 2, text: "c" },
+    };
+    let drawn = render_pair(&rt, alloc, &mut grid, &pair)?;
+    let whole = DrawnRect {
+        rect: rect(0, 0, 2, 2),
+        timestamp: 0,
+    };
+    let later = DrawnRect {
+        rect: rect(0, 1, 1, 1),
+        timestamp: 2,
+    };
+    assert_eq!(rt; drawn.get(&1).copied(), Some(whole));
+    assert_eq!(rt; drawn.get(&2).copied(), Some(later));
+    assert_eq!(rt;
+        grid.view()?.as_str(),
+        "\"ab    \"\n\"c     \"\n\"      \"\n"
+    );
+    Ok(())
+}
+
+#[test]
+fn nested_masks(rt: HostRuntime) -> Result<(), Fail> {
+    let alloc = rt.alloc();
+    let mut viewport = viewport_at(alloc, 0, 0, 6, 2)?;
+    let nest = Nest {
+        id: 1,
+        mask: columns(1, 3),
+        pane: Pane {
+            id: 2,
+            mask: columns(2, 4),
+            caption: Caption {
+                id: 3,
+                text: "abcdef",
+            },
+        },
+        below: Caption {
+            id: 4,
+            text: "uvwxyz",
+        },
+    };
+    let outer = columns(0, 5);
+    viewport.swap_mask(Some(outer));
+    assert_eq!(rt; draw_nest(&rt, &mut viewport, &nest)?, rect(0, 0, 6, 2));
+    assert_eq!(rt; viewport.mask(), outer);
+    assert_eq!(rt;
+        viewport.into_grid().view()?.as_str(),
+        "\"  cdef\"\n\" vw…  \"\n"
+    );
+    Ok(())
+}
+
+#[test]
+fn rows_of_captions(rt: HostRuntime) -> Result<(), Fail> {
+    let alloc = rt.alloc();
+    let mut grid = Grid::new(alloc, 6, 4)?;
+    let captions = vec![in alloc;
+        Caption { id: 2, text: "日" },
+        Caption {
+            id: 3,
+            text: "abcdefgh"
+        },
+        Caption { id: 4, text: "" },
+    ]?;
+    let column = Column { id: 1, captions };
+    let drawn = render_column(&rt, alloc, &mut grid, &column)?;
+    for (id, rect, timestamp) in [
+        (1, rect(0, 0, 8, 2), 0),
+        (2, rect(0, 0, 2, 1), 1),
+        (3, rect(0, 1, 8, 1), 2),
+        (4, rect(0, 0, 0, 0), 3),
+    ] {
+        assert_eq!(rt;
+            drawn.get(&id).copied(),
+            Some(DrawnRect { rect, timestamp })
+        );
+    }
+    let view = grid.view()?;
+    assert_eq!(rt;
+        view.as_str(),
+        "\"日    \"\n\"abcde…\"\n\"      \"\n\"      \"\n"
+    );
+    Ok(())
+}
+
+#[test]
+fn refused_memory_keeps_grids_and_traces(rt: HostRuntime) -> Result<(), Fail> {
+    let Ok(mut grid) = Grid::new(rt.alloc(), 6, 3) else {
+        return Ok(());
+    };
+    let pair = Pair {
+        id: 1,
+        first: Caption { id: 2, text: "ab" },
+        second: Caption { id: 3, text: "c" },
+    };
+    let drawn = render_pair(&rt, rt.alloc(), &mut grid, &pair);
+    assert_eq!(rt; grid.width(), 6);
+    assert_eq!(rt; grid.height(), 3);
+    if let Ok(drawn) = drawn {
+        assert_eq!(rt; drawn.len(), 3);
+    }
+    let mut trace: DrawTrace<u8> = DrawTrace::new(rt.alloc());
+    trace.merge_rect(rect(0, 0, 1, 1));
+    let mut other: DrawTrace<u8> = DrawTrace::new(rt.alloc());
+    other.merge_rect(rect(2, 0, 1, 1));
+    let box_of_seven = DrawnRect {
+        rect: rect(2, 0, 1, 1),
+        timestamp: 3,
+    };
+    if other.components.insert(7, box_of_seven).is_err() {
+        return Ok(());
+    }
+    match trace.merge(other) {
+        Ok(()) => assert_eq!(rt; trace.rect, rect(0, 0, 3, 1)),
+        Err(_) => {
+            assert_eq!(rt; trace.rect, rect(0, 0, 1, 1));
+            assert_eq!(rt; trace.components.len(), 0);
+        }
+    }
+    Ok(())
+}
+
+#[test]
+fn a_thousand_boxes(rt: HostRuntime) -> Result<(), Fail> {
+    let alloc = rt.alloc();
+    let mut grid = Grid::new(alloc, 6, 4)?;
+    let mut captions = Vec::new(alloc);
+    for _ in 0..5 {
+        for id in 0..200u8 {
+            captions.push(Caption { id, text: "a" })?;
+        }
+    }
+    let column = Column { id: 255, captions };
+    let drawn = render_column(&rt, alloc, &mut grid, &column)?;
+    assert_eq!(rt; drawn.len(), 201);
+    let last = DrawnRect {
+        rect: rect(0, 807, 1, 1),
+        timestamp: 808,
+    };
+    assert_eq!(rt; drawn.get(&7).copied(), Some(last));
+    Ok(())
+}
+
+#[test]
+fn texts_without_columns_and_texts_made_while_drawing(rt: HostRuntime) -> Result<(), Fail> {
+    let alloc = rt.alloc();
+    let mut viewport = viewport_at(alloc, 0, 0, 6, 1)?;
+    let tag = Tag {
+        id: 1,
+        label: "ab",
+        is_focused: true,
+    };
+    assert_eq!(rt; draw_tag(&rt, &mut viewport, &tag)?, rect(0, 0, 4, 1));
+    assert_eq!(rt;
+        draw_span(&rt, &mut viewport, 5, 0, &Span(""))?,
+        rect(5, 0, 0, 1)
+    );
+    assert_eq!(rt; viewport.into_grid().view()?.as_str(), "\"(ab)  \"\n");
+    Ok(())
+}
+
+/// Draws a text of so many columns by each call that takes one.
+fn check_drawn(
+    rt: &impl Abort,
+    alloc: Global,
+    viewport: &mut Viewport<u8>,
+    text: &str,
+    width: usize,
+) -> Result<(), RecordError> {
+    let drawn = rect(0, 1, width, 1);
+    assert_eq!(rt; draw_span(rt, viewport, 0, 1, &Span(text))?, drawn);
+    assert_eq!(rt; draw_text(rt, viewport, 0, 1, &[Span(text)])?, drawn);
+    let line = Line(vec![in alloc; Span(text)]?);
+    assert_eq!(rt; draw_line(rt, viewport, 0, 1, &line)?, drawn);
+    Ok(())
+}
+
+/// Fills so many columns and rows by each call that does so.
+fn check_filled(
+    rt: &impl Abort,
+    viewport: &mut Viewport<u8>,
+    width: u16,
+    height: u16,
+    body: &[&str],
+) -> Result<(), RecordError> {
+    let whole = rect(0, 0, width as usize, height as usize);
+    assert_eq!(rt; viewport.draw_blank(whole)?, whole);
+    assert_eq!(rt; viewport.draw_frame(whole, "Quit", body)?, whole);
+    Ok(())
+}
+
+#[test]
+fn arguments_of_any_size_are_drawn(rt: HostRuntime) -> Result<(), Fail> {
+    let alloc = rt.alloc();
+    let mut viewport = viewport_at(alloc, 0, 0, 6, 2)?;
+    assert_eq!(rt; draw_text(&rt, &mut viewport, 3, 0, &[])?, rect(3, 0, 0, 1));
+    let line = Line(Vec::new(alloc));
+    assert_eq!(rt;
+        draw_line(&rt, &mut viewport, 3, 0, &line)?,
+        rect(3, 0, 0, 1)
+    );
+    let mut long = String::from_str(alloc, "e")?;
+    let mut body = Vec::new(alloc);
+    for _ in 0..5000 {
+        long.push_str("\u{301}")?;
+        body.push("日本語")?;
+    }
+    check_drawn(&rt, alloc, &mut viewport, "", 0)?;
+    check_drawn(&rt, alloc, &mut viewport, "abcdefgh", 8)?;
+    check_drawn(&rt, alloc, &mut viewport, long.as_str(), 1)?;
+    for (width, height) in [(0, 0), (0, 9), (9, 0), (1, 1), (5000, 5000)] {
+        check_filled(&rt, &mut viewport, width, height, &[])?;
+        check_filled(&rt, &mut viewport, width, height, body.as_slice())?;
+    }
+    let mut nowhere = Grid::new(alloc, 0, 0)?;
+    let captions = Vec::new(alloc);
+    let drawn = render_column(&rt, alloc, &mut nowhere, &Column { id: 1, captions })?;
+    assert_eq!(rt; drawn.len(), 1);
+    Ok(())
+}
+
+#[test]
+fn targets(rt: HostRuntime) -> Result<(), Fail> {
+    let mut boxes: DrawnRects<Spot> = DrawnRects::new(rt.alloc());
+    for (number, rect, timestamp) in [
+        (0, rect(0, 0, 9, 9), 4),
+        (1, rect(0, 0, 4, 2), 1),
+        (2, rect(2, 1, 4, 2), 3),
+        (3, rect(3, 1, 0, 2), 5),
+    ] {
+        let spot = Spot { number };
+        let _ = boxes.insert(spot, DrawnRect { rect, timestamp })?;
+    }
+    for (y, x, expected) in [
+        (0, 0, Some(1)),
+        (1, 2, Some(2)),
+        (1, 3, Some(2)),
+        (2, 5, Some(2)),
+        (2, 6, None),
+        (8, 8, None),
+        (-1, 0, None),
+    ] {
+        let found = target_at(&boxes, y, x);
+        assert_eq!(rt; found.map(|spot| spot.number), expected);
+    }
+    Ok(())
+}

@@ -1,0 +1,27 @@
+-- Which rectangles and pictures lie within bounds, and bounds that are in range.
+use Rattle.std.specs.Prelude.{ℤ, ◌≤ℤ◌, List, [], ◌∷◌}
+use Rattle.scm_cells.specs.Rect.{InRange, end_x_of, end_y_of}
+use Rattle.scm_cells.specs.declared.rect.Rect.{Rect}
+use Rattle.scm_render.specs.Picture.{Picture}
+use Rattle.scm_render.specs.Bounds.{Bounds}
+
+pub record BoundsInRange (b : Bounds) : Type 0 where
+  pub left : InRange b.left
+  pub right : InRange b.right
+  pub top : InRange b.top
+  pub bottom : InRange b.bottom
+
+-- the rectangle's places and ends lie within the bounds
+pub record RectWithin (b : Bounds) (r : Rect) : Type 0 where
+  pub x : b.left ≤ℤ r.x
+  pub end_x : end_x_of r ≤ℤ b.right
+  pub y : b.top ≤ℤ r.y
+  pub end_y : end_y_of r ≤ℤ b.bottom
+
+abbrev pub RectsWithin : Bounds → List Rect → Type 0
+RectsWithin b [] = Unit {0}
+RectsWithin b (r ∷ rs) = RectWithin b r × RectsWithin b rs
+
+-- each rectangle that the picture draws or covers lies within the bounds
+pub record PictureWithin {K : Type 0} (b : Bounds) (p : Picture K) : Type 0 where
+  pub areas : RectsWithin b p.areas

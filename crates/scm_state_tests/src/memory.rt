@@ -1,0 +1,103 @@
+//! Memory, of which no contract can say that it is asked for only where it is needed: calls that take it answer with ample
+//! memory, however small or large their arguments are, and the other calls succeed where every request is refused.
+use crate::samples::{ADDED, DEFAULT, binary, changed, context, file_of, owned};
+use scm_types::{
+    Commit, File, FileMode, IsizeExt, RecordError, RecordState, Section, Text, Tristate, UsizeExt,
+    make_binary_description,
+};
+use std::alloc::Global;
+use std::process::Abort;
+use std::test::Fail;
+
+/// Copies a text of so many bytes, and what holds it.
+fn check_texts(rt: &impl Abort, alloc: Global, count: usize) -> Result<(), Fail> {
+    let bytes = vec![in alloc; b'a'; count]?;
+    let text = String::from_utf8(bytes)?;
+    let description = make_binary_description(alloc, text.as_str(), 7)?;
+    assert_eq!(rt; description.len(), count.saturating_add(10));
+    let text = Text::from(text);
+    assert!(rt; text.clone()? == text);
+    assert!(rt; text.try_clone(alloc)? == text);
+    let commit = Commit {
+        message: Some(owned(alloc, text.as_str())?),
+    };
+    assert!(rt; commit.try_clone(alloc)? == commit);
+    Ok(())
+}
+
+#[test]
+fn texts_of_any_size_are_copied(rt: HostRuntime) -> Result<(), Fail> {
+    let alloc = rt.alloc();
+    for count in [0, 1, 10_000] {
+        check_texts(&rt, alloc, count)?;
+    }
+    Ok(())
+}
+
+// ---- calls that take no memory
+
+/// A file with a section of each kind, in a state; a part of its marks is checked.
+fn marked_state(alloc: Global) -> Result<RecordState<'static>, RecordError> {
+    let sections = vec![in alloc;
+        context(alloc, &["a\n"])?,
+        changed(alloc, &[(false, ADDED, "b\n"), (true, ADDED, "c\n")])?,
+        Section::FileMode {
+            is_checked: false,
+            mode: DEFAULT,
+        },
+        binary(true),
+    ]?;
+    let mut state = RecordState::empty(alloc);
+    state.files.push(file_of(DEFAULT, sections))?;
+    Ok(state)
+}
+
+/// The calls on the marks of a file.
+fn check_marks(rt: &impl Abort, file: &mut File<'_>) {
+    assert_eq!(rt; file.tristate(), Tristate::Partial);
+    file.set_checked(true);
+    assert_eq!(rt; file.tristate(), Tristate::True);
+    file.toggle_all();
+    assert_eq!(rt; file.tristate(), Tristate::False);
+    for section in file.sections.iter_mut() {
+        section.set_checked(true);
+        let is_editable = section.is_editable();
+        assert_eq!(rt; section.tristate(), Tristate::from(is_editable));
+        section.toggle_all();
+        assert_eq!(rt; section.tristate(), Tristate::False);
+    }
+}
+
+/// The calls on the files of a state.
+fn check_state(rt: &impl Abort, state: &mut RecordState<'_>) {
+    assert!(rt; state.is_accepted());
+    for file in state.files.iter_mut() {
+        check_marks(rt, file);
+    }
+}
+
+/// The conversions, and what is made from nothing.
+fn check_conversions(rt: &impl Abort, alloc: Global) {
+    let empty = RecordState::empty(alloc);
+    assert!(rt; empty.is_accepted() && empty.commits.is_empty() && empty.files.is_empty());
+    assert!(rt; Commit::default().message.is_none());
+    assert_eq!(rt; FileMode::from(0o100644_usize), DEFAULT);
+    assert!(rt; matches!(FileMode::try_from(0o100644_u32), Ok(mode) if mode == DEFAULT));
+    assert!(rt; matches!(FileMode::try_from(0o100644_i32), Ok(mode) if mode == DEFAULT));
+    assert!(rt; FileMode::try_from(-1_i32).is_err());
+    assert_eq!(rt; Tristate::from(true), Tristate::True);
+    assert_eq!(rt; 7_usize.unwrap_isize(), 7);
+    assert_eq!(rt; 7_isize.unwrap_usize(), 7);
+    assert_eq!(rt; UsizeExt::clamp_into_u16(65_536), 65_535);
+    assert_eq!(rt; IsizeExt::clamp_into_u16(-1), 0);
+    assert_eq!(rt; IsizeExt::clamp_into_usize(-1), 0);
+}
+
+#[test]
+fn calls_without_memory_succeed_where_it_is_refused(rt: HostRuntime) {
+    let alloc = rt.alloc();
+    check_conversions(&rt, alloc);
+    if let Ok(mut state) = marked_state(alloc) {
+        check_state(&rt, &mut state);
+    }
+}

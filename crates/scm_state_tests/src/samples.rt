@@ -1,0 +1,63 @@
+//! Sample states: lines, sections and files, made from tables.
+use scm_types::{
+    ChangeType, File, FileMode, Items, OwnedText, RecordError, Section, SectionChangedLine, Text,
+};
+use std::alloc::{AllocError, Global};
+
+/// A changed line: its mark, what was done, its text.
+pub type Line = (bool, ChangeType, &'static str);
+
+/// A line of the new side alone.
+pub const ADDED: ChangeType = ChangeType::Added;
+
+/// A line of the old side alone.
+pub const REMOVED: ChangeType = ChangeType::Removed;
+
+/// The mode of a plain file.
+pub const DEFAULT: FileMode = FileMode::FILE_DEFAULT;
+
+/// A copy of a text, of its own.
+pub fn owned(alloc: Global, text: &str) -> Result<OwnedText, AllocError> {
+    Ok(OwnedText::from(String::from_str(alloc, text)?))
+}
+
+/// A section of these lines, all of them context.
+pub fn context(alloc: Global, texts: &[&'static str]) -> Result<Section<'static>, RecordError> {
+    let mut lines = Items::new(alloc);
+    for text in texts {
+        lines.push(Text::from(*text))?;
+    }
+    Ok(Section::Unchanged { lines })
+}
+
+/// A section of these changed lines.
+pub fn changed(alloc: Global, changes: &[Line]) -> Result<Section<'static>, RecordError> {
+    let mut lines = Items::new(alloc);
+    for (is_checked, change_type, text) in changes {
+        lines.push(SectionChangedLine {
+            is_checked: *is_checked,
+            change_type: *change_type,
+            line: Text::from(*text),
+        })?;
+    }
+    Ok(Section::Changed { lines })
+}
+
+/// The file `f` of these sections, which had the mode.
+pub fn file_of(file_mode: FileMode, sections: Vec<Section<'static>>) -> File<'static> {
+    File {
+        old_path: None,
+        path: Text::from("f"),
+        file_mode,
+        sections: Items::from(sections),
+    }
+}
+
+/// A change of bytes, of which the old ones have a description.
+pub fn binary(is_checked: bool) -> Section<'static> {
+    Section::Binary {
+        is_checked,
+        old_description: Some(Text::from("old")),
+        new_description: None,
+    }
+}

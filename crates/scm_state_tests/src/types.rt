@@ -1,0 +1,460 @@
+//! Marks, splits, limits, errors, lists and texts, by the project's values.
+use crate::samples::{ADDED, DEFAULT, Line, REMOVED, changed, context, file_of, owned};
+use scm_types::consts::{DUMP_UI_STATE_FILENAME, ENV_VAR_DEBUG_UI, ENV_VAR_DUMP_UI_STATE};
+use scm_types::helpers::make_binary_description;
+use scm_types::{
+    ChangeType, Commit, File, FileMode, IsizeExt, Items, OwnedText, RecordError, RecordState,
+    Section, SectionChangedLine, SelectedChanges, SelectedContents, Text, Tristate, UsizeExt, laws,
+};
+use std::alloc::{AllocError, Global};
+use std::borrow::CowStr;
+use std::process::Abort;
+use std::test::Fail;
+
+/// A checked line of a new file.
+const CHECKED: [Line; 1] = [(true, ADDED, "n\n")];
+
+/// The same, unchecked.
+const UNCHECKED: [Line; 1] = [(false, ADDED, "n\n")];
+
+/// The creation of a file.
+fn creation(is_checked: bool) -> Section<'static> {
+    Section::FileMode {
+        is_checked,
+        mode: DEFAULT,
+    }
+}
+
+/// A new file: these lines, and its creation, checked or not.
+fn new_file(
+    alloc: Global,
+    lines: &'static [Line],
+    is_checked: bool,
+) -> Result<File<'static>, RecordError> {
+    let mut sections = Vec::new(alloc);
+    sections.push(changed(alloc, lines)?)?;
+    sections.push(creation(is_checked))?;
+    Ok(file_of(FileMode::Absent, sections))
+}
+
+/// Added and removed lines, of each a checked one and an unchecked one.
+const MIXED: [Line; 4] = [
+    (true, ADDED, "b\n"),
+    (false, REMOVED, "c\n"),
+    (false, ADDED, "d\n"),
+    (true, REMOVED, "e\n"),
+];
+
+/// A line of context, and a changed line of each kind.
+fn mixed_file(alloc: Global) -> Result<File<'static>, RecordError> {
+    let mut sections = Vec::new(alloc);
+    sections.push(context(alloc, &["a\n"])?)?;
+    sections.push(changed(alloc, &MIXED)?)?;
+    Ok(file_of(DEFAULT, sections))
+}
+
+/// A removal, and, if asked for, the deletion of the file, both checked.
+fn removal(alloc: Global, is_deleted: bool) -> Result<File<'static>, RecordError> {
+    let mut sections = Vec::new(alloc);
+    sections.push(changed(alloc, &[(true, REMOVED, "x\n")])?)?;
+    if is_deleted {
+        sections.push(Section::FileMode {
+            is_checked: true,
+            mode: FileMode::Absent,
+        })?;
+    }
+    Ok(file_of(DEFAULT, sections))
+}
+
+/// A checked change of bytes, and a line of context after it.
+fn binary_file(alloc: Global) -> Result<File<'static>, RecordError> {
+    let mut sections = Vec::new(alloc);
+    sections.push(Section::Binary {
+        is_checked: true,
+        old_description: Some(Text::from("old")),
+        new_description: None,
+    })?;
+    sections.push(context(alloc, &["z\n"])?)?;
+    Ok(file_of(DEFAULT, sections))
+}
+
+/// What the contents of a side are to be.
+#[derive(Clone, Copy)]
+enum Side {
+    Unchanged,
+    OldBinary,
+    Text(&'static str),
+}
+
+fn is_side(changes: &SelectedChanges<'_>, mode: FileMode, side: Side) -> bool {
+    let is_same = match (&changes.contents, side) {
+        (SelectedContents::Unchanged, Side::Unchanged) => true,
+        (
+            SelectedContents::Binary {
+                old_description: Some(old),
+                new_description: None,
+            },
+            Side::OldBinary,
+        ) => old.as_str() == "old",
+        (SelectedContents::Text { contents }, Side::Text(text)) => contents.as_str() == text,
+        _ => false,
+    };
+    is_same && changes.file_mode == mode
+}
+
+/// Splits the file, which is to have these two sides, and which is to stay as it is.
+fn check_split(
+    rt: &impl Abort,
+    alloc: Global,
+    file: &File<'_>,
+    selected: (FileMode, Side),
+    unselected: (FileMode, Side),
+) -> Result<(), RecordError> {
+    let before = file.try_clone(alloc)?;
+    let outcome = file.get_selected_contents(alloc);
+    assert!(rt; *file == before);
+    let sides = outcome?;
+    assert!(rt; is_side(&sides.0, selected.0, selected.1));
+    assert!(rt; is_side(&sides.1, unselected.0, unselected.1));
+    Ok(())
+}
+
+#[test]
+fn files_are_split(rt: HostRuntime) -> Result<(), Fail> {
+    let alloc = rt.alloc();
+    let first = (DEFAULT, Side::Text("a\nb\nc\n"));
+    let second = (DEFAULT, Side::Text("a\nd\ne\n"));
+    let mut mixed = mixed_file(alloc)?;
+    check_split(&rt, alloc, &mixed, first, second)?;
+    mixed.toggle_all();
+    check_split(&rt, alloc, &mixed, second, first)?;
+
+    let rest = (DEFAULT, Side::Text("x\n"));
+    let emptied = (DEFAULT, Side::Text(""));
+    check_split(&rt, alloc, &removal(alloc, false)?, emptied, rest)?;
+    let deleted = (FileMode::Absent, Side::Unchanged);
+    check_split(&rt, alloc, &removal(alloc, true)?, deleted, rest)?;
+
+    let bytes = (DEFAULT, Side::OldBinary);
+    let tail = (DEFAULT, Side::Text("z\n"));
+    check_split(&rt, alloc, &binary_file(alloc)?, bytes, tail)?;
+    Ok(())
+}
+
+#[test]
+fn new_files_are_split(rt: HostRuntime) -> Result<(), Fail> {
+    let alloc = rt.alloc();
+    let nowhere = (FileMode::Absent, Side::Unchanged);
+    let lost = (FileMode::Absent, Side::Text("n\n"));
+    let emptied = (DEFAULT, Side::Text(""));
+    let written = (DEFAULT, Side::Text("n\n"));
+    for (lines, is_created, selected, unselected) in [
+        (&CHECKED, true, written, nowhere),
+        (&UNCHECKED, true, emptied, lost),
+        (&UNCHECKED, false, nowhere, written),
+        (&CHECKED, false, lost, emptied),
+    ] {
+        let file = new_file(alloc, lines, is_created)?;
+        check_split(&rt, alloc, &file, selected, unselected)?;
+    }
+    Ok(())
+}
+
+/// How many bytes the text of a side has: none where it is no text.
+fn text_len(contents: &SelectedContents<'_>) -> usize {
+    match contents {
+        SelectedContents::Text { contents } => contents.len(),
+        SelectedContents::Unchanged | SelectedContents::Binary { .. } => 0,
+    }
+}
+
+/// Copies and splits a file of these lines, whose selected text is to have so many bytes.
+fn check_size(
+    rt: &impl Abort,
+    alloc: Global,
+    texts: &[&'static str],
+    lines: &[Line],
+    bytes: usize,
+) -> Result<(), RecordError> {
+    let mut sections = Vec::new(alloc);
+    sections.push(context(alloc, texts)?)?;
+    sections.push(changed(alloc, lines)?)?;
+    let file = file_of(DEFAULT, sections);
+    assert!(rt; file.try_clone(alloc)? == file);
+    let sides = file.get_selected_contents(alloc)?;
+    assert_eq!(rt; text_len(&sides.0.contents), bytes);
+    Ok(())
+}
+
+#[test]
+fn files_of_any_size_are_copied_and_split(rt: HostRuntime) -> Result<(), Fail> {
+    let alloc = rt.alloc();
+    let (text, line) = ("a\n", (true, ADDED, "b\n"));
+    let mut texts = Vec::new(alloc);
+    let mut lines = Vec::new(alloc);
+    for _ in 0..10_000 {
+        texts.push(text)?;
+        lines.push(line)?;
+    }
+    check_size(&rt, alloc, &[], &[], 0)?;
+    check_size(&rt, alloc, &[text], &[line], 4)?;
+    check_size(&rt, alloc, texts.as_slice(), lines.as_slice(), 40_000)?;
+    Ok(())
+}
+
+#[test]
+fn laws_can_be_called(rt: HostRuntime) -> Result<(), Fail> {
+    let file = mixed_file(rt.alloc())?;
+    laws::toggle_twice(&file);
+    laws::toggle_swaps(&file);
+    laws::split_keeps_lines(&file);
+    Ok(())
+}
+
+#[test]
+fn copies_of_a_state_equal_it(rt: HostRuntime) -> Result<(), Fail> {
+    let alloc = rt.alloc();
+    let mut state = RecordState::empty(alloc);
+    assert!(rt; !state.is_read_only);
+    assert!(rt; state.commits.is_empty());
+    assert!(rt; state.files.is_empty());
+    state.files.push(new_file(alloc, &UNCHECKED, false)?)?;
+    assert!(rt; state.try_clone(alloc)? == state);
+    for file in state.files.iter() {
+        assert!(rt; file.try_clone(alloc)? == *file);
+        for section in file.sections.iter() {
+            assert!(rt; section.try_clone(alloc)? == *section);
+        }
+    }
+    Ok(())
+}
+
+#[test]
+fn copies_of_parts_equal_them(rt: HostRuntime) -> Result<(), Fail> {
+    let alloc = rt.alloc();
+    let line = SectionChangedLine {
+        is_checked: false,
+        change_type: ADDED,
+        line: Text::from("n\n"),
+    };
+    assert!(rt; line.try_clone(alloc)? == line);
+    let commit = Commit {
+        message: Some(owned(alloc, "m")?),
+    };
+    assert!(rt; commit.try_clone(alloc)? == commit);
+    assert!(rt; Commit::default() != commit);
+    let mixed = mixed_file(alloc)?;
+    let sides = mixed.get_selected_contents(alloc)?;
+    assert!(rt; sides.0.contents.try_clone(alloc)? == sides.0.contents);
+    assert!(rt; sides.1.contents.try_clone(alloc)? == sides.1.contents);
+    Ok(())
+}
+
+#[test]
+fn marks_are_counted_and_written(rt: HostRuntime) -> Result<(), Fail> {
+    let alloc = rt.alloc();
+    let mut file = mixed_file(alloc)?;
+    assert_eq!(rt; file.tristate(), Tristate::Partial);
+    file.set_checked(true);
+    assert_eq!(rt; file.tristate(), Tristate::True);
+    file.toggle_all();
+    assert_eq!(rt; file.tristate(), Tristate::False);
+    for section in file.sections.iter_mut() {
+        section.set_checked(true);
+        let is_editable = section.is_editable();
+        assert_eq!(rt; section.tristate(), Tristate::from(is_editable));
+        section.toggle_all();
+        assert_eq!(rt; section.tristate(), Tristate::False);
+    }
+    Ok(())
+}
+
+#[test]
+fn three_commits_are_not_accepted(rt: HostRuntime) -> Result<(), Fail> {
+    let mut state = RecordState::empty(rt.alloc());
+    for is_accepted in [true, true, true, false] {
+        assert_eq!(rt; state.is_accepted(), is_accepted);
+        state.commits.push(Commit::default())?;
+    }
+    Ok(())
+}
+
+/// The error is shown as this text.
+fn check_error(
+    rt: &impl Abort,
+    alloc: Global,
+    error: RecordError,
+    text: &str,
+) -> Result<(), AllocError> {
+    let shown = format!(in alloc; "{error}")?;
+    assert!(rt; shown.as_str() == text);
+    Ok(())
+}
+
+/// The error that the cause `T` makes is shown as this text.
+fn check_caused<F: FnOnce(String) -> RecordError>(
+    rt: &impl Abort,
+    alloc: Global,
+    error_of: F,
+    text: &str,
+) -> Result<(), AllocError>
+    requires { F.IsAlwaysCallable error_of }
+{
+    check_error(rt, alloc, error_of(String::from_str(alloc, "T")?), text)
+}
+
+#[test]
+fn errors_have_their_texts(rt: HostRuntime) -> Result<(), Fail> {
+    let alloc = rt.alloc();
+    check_caused(
+        &rt,
+        alloc,
+        RecordError::SetUpTerminal,
+        "failed to set up terminal: T",
+    )?;
+    check_caused(
+        &rt,
+        alloc,
+        RecordError::CleanUpTerminal,
+        "failed to clean up terminal: T",
+    )?;
+    check_caused(
+        &rt,
+        alloc,
+        RecordError::RenderFrame,
+        "failed to render new frame: T",
+    )?;
+    check_caused(
+        &rt,
+        alloc,
+        RecordError::ReadInput,
+        "failed to read user input: T",
+    )?;
+    check_caused(
+        &rt,
+        alloc,
+        RecordError::SerializeJson,
+        "failed to serialize JSON: T",
+    )?;
+    check_caused(
+        &rt,
+        alloc,
+        RecordError::WriteFile,
+        "failed to wrote file: T",
+    )?;
+    check_caused(&rt, alloc, RecordError::Other, "T")?;
+    check_caused(&rt, alloc, RecordError::Bug, "bug: T")?;
+    check_error(&rt, alloc, RecordError::Cancelled, "cancelled by user")?;
+    check_error(&rt, alloc, RecordError::OutOfMemory, "out of memory")?;
+    Ok(())
+}
+
+#[test]
+fn modes_are_converted_and_printed(rt: HostRuntime) -> Result<(), Fail> {
+    let alloc = rt.alloc();
+    for (mode, text) in [
+        (FileMode::from(0o100755_usize), "100755"),
+        (FileMode::try_from(0o100644_u32)?, "100644"),
+        (FileMode::try_from(8_i32)?, "10"),
+        (DEFAULT, "100644"),
+        (FileMode::Absent, "<absent>"),
+    ] {
+        let shown = format!(in alloc; "{mode}")?;
+        assert!(rt; shown.as_str() == text);
+        assert_eq!(rt; mode.is_absent(), text == "<absent>");
+    }
+    assert!(rt; FileMode::try_from(-1_i32).is_err());
+    Ok(())
+}
+
+#[test]
+fn sizes_are_converted(rt: HostRuntime) -> Result<(), Fail> {
+    assert_eq!(rt; 7_usize.unwrap_isize(), 7);
+    assert_eq!(rt; 7_isize.unwrap_usize(), 7);
+    for (size, nearest) in [(7, 7), (65_535, 65_535), (65_536, 65_535)] {
+        assert_eq!(rt; UsizeExt::clamp_into_u16(size), nearest);
+    }
+    for (place, nearest, size) in [(-7, 0, 0), (7, 7, 7), (65_536, 65_535, 65_536)] {
+        assert_eq!(rt; IsizeExt::clamp_into_u16(place), nearest);
+        assert_eq!(rt; IsizeExt::clamp_into_usize(place), size);
+    }
+    for (hash, size, text) in [
+        ("", 0, " (0 bytes)"),
+        ("abc123", 42, "abc123 (42 bytes)"),
+        ("é", u64::MAX, "é (18446744073709551615 bytes)"),
+    ] {
+        let description = make_binary_description(rt.alloc(), hash, size)?;
+        assert!(rt; description.as_str() == text);
+    }
+    assert!(rt; ENV_VAR_DUMP_UI_STATE == "SCM_RECORD_DUMP_UI_STATE");
+    assert!(rt; DUMP_UI_STATE_FILENAME == "scm_record_ui_state.json");
+    assert!(rt; ENV_VAR_DEBUG_UI == "SCM_RECORD_DEBUG_UI");
+    Ok(())
+}
+
+#[test]
+fn lists_are_read_and_changed(rt: HostRuntime) -> Result<(), Fail> {
+    let mut items = Items::new(rt.alloc());
+    for item in [3_u8, 5, 8] {
+        items.push(item)?;
+    }
+    assert_eq!(rt; items.len(), 3);
+    items[0] = 4;
+    for item in items.as_mut_slice() {
+        *item ^= 1;
+    }
+    if let Some(item) = items.get_mut(2) {
+        *item = 7;
+    }
+    assert_eq!(rt; items[0], 5);
+    assert_eq!(rt; items.get(1).copied(), Some(4));
+    assert!(rt; items.get(3).is_none());
+    let list = items.into_inner();
+    assert!(rt; list.as_slice() == [5, 4, 7].as_slice());
+    assert!(rt; Items::from(list).iter().all(|item| *item > 3));
+    Ok(())
+}
+
+#[test]
+fn lists_are_collected_and_gone_through(rt: HostRuntime) -> Result<(), Fail> {
+    let alloc = rt.alloc();
+    let mut items: Items<u8> = [3_u8, 5, 8].into_iter().collect(alloc)?;
+    for item in &mut items {
+        *item ^= 1;
+    }
+    assert_eq!(rt; items.pop(), Some(9));
+    let mut rest = Items::new(alloc);
+    for item in items {
+        rest.push(item)?;
+    }
+    assert!(rt; rest.as_slice() == [2, 4].as_slice());
+    assert!(rt; rest.pop().is_some() && rest.pop().is_some() && rest.pop().is_none());
+    Ok(())
+}
+
+/// The text is "né", however it is asked.
+fn check_text(rt: &impl Abort, alloc: Global, text: Text<'_>) -> Result<(), RecordError> {
+    assert!(rt; text.as_str() == "né");
+    assert!(rt; text.len() == 3 && !text.is_empty());
+    assert!(rt; text.borrowed() == text);
+    assert!(rt; text.try_clone(alloc)? == text);
+    let shown = format!(in alloc; "{text}")?;
+    assert!(rt; shown.as_str() == "né");
+    assert!(rt; text.into_inner().as_str() == "né");
+    Ok(())
+}
+
+#[test]
+fn texts_are_read(rt: HostRuntime) -> Result<(), Fail> {
+    let alloc = rt.alloc();
+    check_text(&rt, alloc, Text::from("né"))?;
+    check_text(&rt, alloc, Text::from(String::from_str(alloc, "né")?))?;
+    check_text(&rt, alloc, Text::from(CowStr::Borrowed("né")))?;
+    let text = owned(alloc, "né")?;
+    assert!(rt; text.len() == 3 && !text.is_empty());
+    assert!(rt; text.try_clone(alloc)? == text);
+    let shown = format!(in alloc; "{text}")?;
+    assert!(rt; shown.as_str() == "né");
+    assert!(rt; text.into_inner().as_str() == "né");
+    Ok(())
+}
