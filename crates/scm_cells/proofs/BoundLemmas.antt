@@ -107,10 +107,6 @@ past_selectors-le : (cjk : Bool) (c total : ℕ) (after : After) → (past_selec
 unfolding past_selectors
 past_selectors-le cjk c total after = grind (arith, alone-le cjk c, joined-le total (joins cjk after c) (alone cjk c) (alone-le cjk c))
 
-quote-le : (cjk : Bool) (total : ℕ) → total + (if cjk then 1 else 2) ≤ total + 3
-quote-le true total = omega arith
-quote-le false total = omega arith
-
 in_context-le : (cjk : Bool) (c total : ℕ) (s : State) → (in_context cjk c total s).0 ≤ total + 3
 unfolding in_context
 in_context-le cjk c total s = grind (arith, alone-le cjk c, past_selectors-le cjk c total s.after)
@@ -128,10 +124,6 @@ past_emoji-le cjk c total s =
     (if-le (nat_le c 0xA0) (total + 1, plain) _ (total + 3) one
     (if-le (is_plain s) (added total (alone cjk c)) (in_context cjk c total s) (total + 3) own (in_context-le cjk c total s)))))
 
-emoji-le : (b : Bool) (total : ℕ) → total + (if b then 0 else 2) ≤ total + 3
-emoji-le true total = omega arith
-emoji-le false total = omega arith
-
 step-le : (cjk : Bool) (c : ℕ) (r : Reading) → (step cjk c r).0 ≤ r.0 + 3
 unfolding step
 step-le cjk c (total, s) = grind (arith, past_emoji-le cjk c total s, past_emoji-le cjk c total (record (if_kept s) { emoji = false }))
@@ -147,10 +139,6 @@ past_emoji-low cjk c total s low =
     (if-le (((cjk && is_striking s.after) && not s.quote) && is_in_range 0x3C 0x3E c) (total + 2, plain) _ (total + 2) two
     (if-le (c == 0x0A) (total + 1, before LineFeed) _ (total + 2) one
     (if-le ((c == 0x0D) && is_line_feed s.after) (total, plain) (total + 1, plain) (total + 2) z one)))
-
-emoji-low : (b : Bool) (total : ℕ) → total + (if b then 0 else 2) ≤ total + 2
-emoji-low true total = omega arith
-emoji-low false total = omega arith
 
 step-low : (cjk : Bool) (c : ℕ) (r : Reading) → nat_le c 0xA0 ≡ true → (step cjk c r).0 ≤ r.0 + 2
 unfolding step

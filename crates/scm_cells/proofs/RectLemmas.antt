@@ -15,12 +15,6 @@ or_zero-is (negsuc n) = omega arith
 
 pub ruleset places = (ints, clamps, or_zero-is)
 
-or_zero-end : (z e : ℤ) → z ≤ℤ e → z +ℤ pos (or_zero (e -ℤ z)) ≡ e
-or_zero-end z e h = omega (arith, places)
-
-or_zero-end_none : (z e : ℤ) → e ≤ℤ z → z +ℤ pos (or_zero (e -ℤ z)) ≡ z
-or_zero-end_none z e h = omega (arith, places)
-
 in_max : (a b : ℤ) → InRange a → InRange b → InRange (int_max a b)
 in_max a b p q = record { low = omega (arith, places); high = omega (arith, places) }
 

@@ -1,4 +1,4 @@
-use Rattle.std.proofs.Common.{◌*◌, ◌≤◌, Bool, true, false, sum_by, ◌≡◌, ℕ, ◌+◌, ◌<◌, List, [], ◌∷◌, ◌++◌, length, encode_utf8, Option, Some, None, refl, sym, ap, ◌∙◌, arith, append_assoc, append-nil, length-append, take, take_at, subst, slice_range, ◌-◌}
+use Rattle.std.proofs.Common.{◌*◌, ◌≤◌, Bool, true, false, sum_by, ◌≡◌, ℕ, ◌+◌, List, [], ◌∷◌, ◌++◌, length, encode_utf8, Option, Some, None, refl, sym, ap, ◌∙◌, arith, append_assoc, append-nil, length-append, take, take_at, subst, slice_range, ◌-◌}
 use Rattle.std.specs.Prelude.{if◌then◌else◌, nat_lt, ◌==◌, unwrap_or}
 use Rattle.std.specs.Str.{chars, IsUtf8, IsCharBoundary, all_scalars}
 use Rattle.std.proofs.lemmas.Bool.Decides.{nat_tests}
@@ -56,10 +56,6 @@ pieces-cut line rest next r front n c h first e at =
     h.pieces ∙ ap (pieces_from h.read) (chars_past_char rest next c h.utf8 first) ∙ pieces_from-replaced h.read r c (chars next) e
     ∙ ap (λ t. t ∷ (r ∷ pieces_from [] (chars next))) (sym same)
 
-pub shorter_past : (line rest next : List ℕ) (n c : ℕ) → HasRead line n rest → rest ≡ encode_utf8 c ++ next → length next < length line
-shorter_past line rest next n c h first =
-    omega (arith, ap length h.parts, length-append h.read rest, ap length first, length-append (encode_utf8 c) next, length-encode c, (len_utf8_bounds c).0)
-
 pieces_from-end : (piece : List ℕ) → pieces_from piece [] ≡ last_piece piece
 unfolding pieces_from
 pieces_from-end piece = refl
@@ -74,18 +70,6 @@ pieces-end line rest n h e =
 
 pub HasRead-boundary : (line rest : List ℕ) (n : ℕ) → HasRead line n rest → IsCharBoundary line n
 HasRead-boundary line rest n h = subst (IsCharBoundary line) h.size (IsCharBoundary-at_seam line h.read rest h.parts h.utf8)
-
-pub length-last_piece : (line : List ℕ) → length line ≡ 0 → length (last_piece line) ≡ 0
-length-last_piece [] e = refl
-length-last_piece (b ∷ bs) e = cc
-
-pub last_piece-some : (line : List ℕ) → 0 < length line → last_piece line ≡ line ∷ []
-last_piece-some [] h = absurd (omega arith)
-last_piece-some (b ∷ bs) h = refl
-
-pub last_piece-none : (line : List ℕ) → length line ≡ 0 → last_piece line ≡ []
-last_piece-none [] e = refl
-last_piece-none (b ∷ bs) e = cc
 
 -- ---- columns
 

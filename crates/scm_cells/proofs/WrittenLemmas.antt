@@ -228,9 +228,6 @@ IsNearer-more columns before width cs now rest c h e w le = λ low high lt.
     h low high lt ∙ ap (λ t. written (pos low -ℤ pos before) t low high) e ∙ written-skipped (pos low -ℤ pos before) c rest low high lt ends
     ∙ ap (λ z. written z rest low high) place
 
-past_place : (low b : ℕ) → pos low -ℤ pos 0 ≡ pos low
-past_place low b = omega (arith, places)
-
 no_blanks : (n m : ℕ) (rest : List Cluster) → fit m rest ≡ replicate (min 0 n) blank ++ fit (m - 0) rest
 no_blanks n m rest =
     let none : min 0 n ≡ 0 = omega arith in
@@ -323,9 +320,6 @@ columns_of-text text cs e = ap columns_of e
 
 pub place_below : (column : ℤ) (low : ℕ) → column <ℤ pos low → low ≡ or_zero (int_max column (pos low))
 place_below column low h = omega (arith, places)
-
-pub place_from : (column : ℤ) (low n : ℕ) → pos low ≤ℤ column → pos n ≡ column → n ≡ or_zero (int_max column (pos low))
-place_from column low n h e = omega (arith, places)
 
 pub IsBegun-passed : (column : ℤ) (low before blanks : ℕ) (cs rest : List Cluster) → IsPassed before cs blanks rest → pos low -ℤ pos before ≡ column → IsBegun column low cs low blanks rest
 IsBegun-passed column low before blanks cs rest h e = λ high lt. ap (λ z. written z cs low high) (sym e) ∙ h low high lt

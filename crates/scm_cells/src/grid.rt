@@ -4,12 +4,12 @@ ghost use Rattle.scm_cells.specs.Clusters.{text_width};
 ghost use Rattle.scm_cells.specs.Ruled.{cut_left};
 ghost use Rattle.scm_cells.specs.Laying.{columns_of};
 ghost use Rattle.scm_cells.specs.Screen.{IsScreen, blank_screen, put_on, view_of};
-ghost use Rattle.scm_types.specs.declared.error.RecordError.TheVariants.{OutOfMemory};
+ghost use Rattle.scm_errors.specs.declared.error.RecordError.TheVariants.{OutOfMemory};
 
 use crate::column::Column;
 use crate::cutting::Cut;
 use crate::row;
-use scm_types::RecordError;
+use scm_errors::RecordError;
 use std::alloc::Global;
 use std::marker::Model;
 

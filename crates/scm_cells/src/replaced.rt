@@ -3,10 +3,10 @@
 ghost use Rattle.std.specs.Prelude.{◌≡◌, ◌++◌, ◌∷◌, [], ◌+◌, ◌<◌, ◌≤◌, length, encode_utf8, option_map, IfNone, IfSome, OnOk, OnErr, IfErr, vec_len, vec_capacity};
 ghost use Rattle.scm_cells.specs.Replaced.{replacement, line_pieces, last_piece};
 ghost use Rattle.scm_cells.specs.Spans.{span_texts};
-ghost use Rattle.scm_types.specs.declared.error.RecordError.TheVariants.{OutOfMemory};
+ghost use Rattle.scm_errors.specs.declared.error.RecordError.TheVariants.{OutOfMemory};
 
 use crate::text::Span;
-use scm_types::RecordError;
+use scm_errors::RecordError;
 use unicode_width::UnicodeWidthChar;
 
 /// The picture of an ASCII control character.

@@ -4,7 +4,8 @@ use scm_cells::{
     Clusters, Grid, Line, Mask, Rect, RectSize, ScreenRect, Span, push_spans_from_line,
     replace_control_character, text_width,
 };
-use scm_types::RecordError;
+use scm_errors::RecordError;
+use std::alloc::Global;
 use std::process::Abort;
 use std::test::Fail;
 
@@ -141,65 +142,30 @@ fn conversions_and_masks(rt: HostRuntime) {
 
 #[test]
 fn columns_of_texts(rt: HostRuntime) {
-    let texts = [
-        ("", 0),
-        ("abc", 3),
-        (" ", 1),
-        ("\u{E9}", 1),
-        ("e\u{301}", 1),
-        ("n\u{303}o", 2),
-        ("\u{301}", 0),
-        ("\u{200B}", 0),
-        ("\u{FEFF}a", 1),
-        ("\u{A0}", 1),
-        ("\u{3000}", 2),
-        ("日本語", 6),
-        ("日a", 3),
-        ("中文字", 6),
-        ("ｱｲｳ", 3),
-        ("アイウ", 6),
-        ("Ａ", 2),
-        ("（", 2),
-        ("、", 2),
-        ("㌔", 2),
-        ("한글", 4),
-        ("\u{1112}\u{1161}\u{11AB}", 2),
-        ("αβγ", 3),
-        ("Ω", 1),
-        ("привет", 6),
-        ("שלום", 4),
-        ("ไทย", 3),
-        ("ก้", 1),
-        ("€", 1),
-        ("½", 1),
-        ("—", 1),
-        ("“", 1),
-        ("①", 1),
-        ("★", 1),
-        ("♥", 1),
-        ("☃", 1),
-        ("⌚", 2),
-        ("⏰", 2),
-        ("😀", 2),
-        ("😀a", 3),
-        ("👍🏽", 2),
-        ("👩\u{200D}👩\u{200D}👧", 2),
-        ("🏳\u{FE0F}\u{200D}🌈", 2),
-        ("❤", 1),
-        ("❤\u{FE0F}", 2),
-        ("1\u{FE0F}\u{20E3}", 2),
-        ("🇩🇪", 2),
-        ("🇩🇪🇫🇷", 4),
-        ("a\tb", 2),
-        ("a\nb", 2),
-        ("\r\n", 0),
-        ("\u{1B}[0m", 3),
-        ("a\u{85}b", 2),
-        ("a\u{7F}", 1),
-    ];
-    for (text, columns) in texts {
-        assert_eq!(rt; text_width(text), columns, "columns of {text:?}");
+    for (columns, texts) in [
+        (0, "|\u{301}|\u{200B}|\r\n"),
+        (
+            1,
+            " |\u{E9}|e\u{301}|\u{FEFF}a|\u{A0}|ก้|Ω|€|½|—|“|①|★|♥|☃|❤|a\u{7F}",
+        ),
+        (2, "n\u{303}o|\u{3000}|Ａ|（|、|㌔|\u{1112}\u{1161}\u{11AB}"),
+        (
+            2,
+            "⌚|⏰|😀|👍🏽|👩\u{200D}👩\u{200D}👧|🏳\u{FE0F}\u{200D}🌈|❤\u{FE0F}|1\u{FE0F}\u{20E3}|🇩🇪",
+        ),
+        (2, "a\tb|a\nb|a\u{85}b"),
+        (3, "abc|日a|ｱｲｳ|αβγ|ไทย|😀a|\u{1B}[0m"),
+        (4, "한글|שלום|🇩🇪🇫🇷"),
+        (6, "日本語|中文字|アイウ|привет"),
+    ] {
+        for text in texts.split('|') {
+            assert_eq!(rt; text_width(text), columns, "columns of {text:?}");
+        }
     }
+}
+
+#[test]
+fn marks_have_a_column(rt: HostRuntime) {
     let marks = "◐●±⋮…→⏎␀�┌─┐│└┘↓↑←•";
     let mut count = 0;
     for (mark, width) in Clusters::new(marks) {
@@ -309,39 +275,61 @@ fn texts_on_a_grid(rt: HostRuntime) -> Result<(), Fail> {
     Ok(())
 }
 
+/// Shows a blank grid of so many columns and rows.
+fn check_blank(
+    rt: &impl Abort,
+    alloc: Global,
+    width: u16,
+    height: u16,
+    bytes: usize,
+) -> Result<(), RecordError> {
+    let grid = Grid::new(alloc, width, height)?;
+    assert_eq!(rt; grid.view()?.len(), bytes, "{width} by {height}");
+    Ok(())
+}
+
+/// Puts a text on a row of 400 columns, and cuts it into spans.
+fn check_long(
+    rt: &impl Abort,
+    alloc: Global,
+    text: &str,
+    bytes: usize,
+    pieces: usize,
+) -> Result<(), RecordError> {
+    let mut grid = Grid::new(alloc, 400, 1)?;
+    put(rt, &mut grid, 0, 0, text, 0, 400)?;
+    assert_eq!(rt; grid.view()?.len(), bytes);
+    let mut spans = Vec::new(alloc);
+    push_spans_from_line(text, &mut spans)?;
+    assert_eq!(rt; spans.len(), pieces);
+    Ok(())
+}
+
+/// A text so many times.
+fn repeated(alloc: Global, text: &str, times: usize) -> Result<String, RecordError> {
+    let mut long = String::new(alloc);
+    for _ in 0..times {
+        long.push_str(text)?;
+    }
+    Ok(long)
+}
+
 #[test]
 fn empty_small_and_large_values(rt: HostRuntime) -> Result<(), Fail> {
-    let sizes: [(u16, u16, usize); 5] = [
-        (0, 0, 0),
-        (0, 3, 0),
-        (3, 0, 0),
-        (1, 1, 4),
-        (400, 50, 20150),
-    ];
-    for (width, height, bytes) in sizes {
-        let grid = Grid::new(rt.alloc(), width, height)?;
-        assert_eq!(rt; grid.view()?.len(), bytes, "{width} by {height}");
+    let alloc = rt.alloc();
+    for (width, height, bytes) in [(0, 0, 0), (0, 3, 0), (3, 0, 0), (1, 1, 4), (400, 50, 20150)] {
+        check_blank(&rt, alloc, width, height, bytes)?;
     }
-    let mut grid = Grid::new(rt.alloc(), 400, 1)?;
-    let texts = [
+    for (text, times, bytes, pieces) in [
         ("", 1, 403, 0),
         ("a", 1, 403, 1),
         ("a", 5000, 403, 1),
         ("日", 5000, 603, 1),
         ("a日", 5000, 536, 1),
         ("\t", 5000, 403, 10000),
-    ];
-    for (text, times, bytes, pieces) in texts {
-        let mut long = String::new(rt.alloc());
-        for _ in 0..times {
-            long.push_str(text)?;
-        }
-        grid.clear();
-        put(&rt, &mut grid, 0, 0, long.as_str(), 0, 400)?;
-        assert_eq!(rt; grid.view()?.len(), bytes, "{times} times {text:?}");
-        let mut spans = Vec::new(rt.alloc());
-        push_spans_from_line(long.as_str(), &mut spans)?;
-        assert_eq!(rt; spans.len(), pieces, "{times} times {text:?}");
+    ] {
+        let long = repeated(alloc, text, times)?;
+        check_long(&rt, alloc, long.as_str(), bytes, pieces)?;
     }
     Ok(())
 }
@@ -362,40 +350,34 @@ fn wide_symbols_under_others(rt: HostRuntime) -> Result<(), Fail> {
     Ok(())
 }
 
-#[test]
-fn refused_memory_changes_nothing(rt: HostRuntime) -> Result<(), Fail> {
-    let Ok(mut grid) = Grid::new(rt.alloc(), 12, 1) else {
-        return Ok(());
-    };
-    if put(&rt, &mut grid, 0, 0, "日本語", 0, 12).is_err() {
-        return Ok(());
-    }
-    let Ok(before) = grid.view() else {
-        return Ok(());
-    };
-    match put(
-        &rt,
-        &mut grid,
-        0,
-        1,
-        "e\u{301}\u{302}\u{303}\u{304}字",
-        0,
-        12,
-    ) {
-        Ok(()) => {
-            if let Ok(after) = grid.view() {
-                assert!(rt; after.as_str() != before.as_str());
-            }
-        }
-        Err(_) => assert_eq!(rt; grid.view()?.as_str(), before.as_str()),
-    }
-    let mut spans = Vec::new(rt.alloc());
-    if push_spans_from_line("a", &mut spans).is_err() {
-        assert_eq!(rt; spans.len(), 0);
-    }
+/// Puts a text over others: it changes the row, or memory is refused and the row is as before.
+fn check_put(rt: &impl Abort, grid: &mut Grid, text: &str) -> Result<(), RecordError> {
+    let before = grid.view()?;
+    let outcome = put(rt, grid, 0, 1, text, 0, 12);
+    let after = grid.view()?;
+    assert_eq!(rt; after.as_str() == before.as_str(), outcome.is_err());
+    Ok(())
+}
+
+/// Adds the spans of a line to others, which stay alone where memory is refused.
+fn check_push<'a>(rt: &impl Abort, line: &'a str, spans: &mut Vec<Span<'a>>) {
     let before = spans.len();
-    if push_spans_from_line("a\u{1}b\u{2}c\u{3}d\u{4}e\u{5}f", &mut spans).is_err() {
+    if push_spans_from_line(line, spans).is_err() {
         assert_eq!(rt; spans.len(), before);
     }
-    Ok(())
+}
+
+#[test]
+fn refused_memory_keeps_rows(rt: HostRuntime) {
+    if let Ok(mut grid) = Grid::new(rt.alloc(), 12, 1) {
+        let _ = put(&rt, &mut grid, 0, 0, "日本語", 0, 12);
+        let _ = check_put(&rt, &mut grid, "e\u{301}\u{302}\u{303}\u{304}字");
+    }
+}
+
+#[test]
+fn refused_memory_keeps_spans(rt: HostRuntime) {
+    let mut spans = Vec::new(rt.alloc());
+    check_push(&rt, "a", &mut spans);
+    check_push(&rt, "a\u{1}b\u{2}c\u{3}d\u{4}e\u{5}f", &mut spans);
 }

@@ -9,8 +9,8 @@ ghost use Rattle.scm_drawing_tests.specs.Near.{IsNear, near, AreShort};
 use crate::samples::{Caption, Column, Nest, Pair, Pane};
 use crate::tags::{Spot, Tag};
 use scm_cells::{Grid, Line, Mask, Rect, RectSize, ScreenRect, Span, text_width};
+use scm_errors::RecordError;
 use scm_render::{DrawTrace, DrawnRect, DrawnRects, Viewport, centered_rect, find_target};
-use scm_types::RecordError;
 use std::alloc::Global;
 use std::process::Abort;
 use std::test::Fail;
@@ -330,18 +330,15 @@ fn masks(rt: HostRuntime) -> Result<(), Fail> {
     let mut viewport = viewport_at(alloc, 0, 0, 6, 6)?;
     assert_eq!(rt; viewport.swap_mask(Some(columns(2, 3))), None);
     assert_eq!(rt; viewport.mask_rect(), rect(2, 0, 3, 6));
-    assert_eq!(rt;
-        draw_span(&rt, &mut viewport, 0, 0, &Span("abcdef"))?,
-        rect(0, 0, 6, 1)
-    );
-    assert_eq!(rt;
-        draw_span(&rt, &mut viewport, 1, 1, &Span("日本"))?,
-        rect(1, 1, 4, 1)
-    );
-    assert_eq!(rt;
-        draw_span(&rt, &mut viewport, 0, 2, &Span("a日本"))?,
-        rect(0, 2, 5, 1)
-    );
+    for (x, y, text, width) in [
+        (0, 0, "abcdef", 6),
+        (1, 1, "日本", 4),
+        (0, 2, "a日本", 5),
+        (2, 5, "日本", 4),
+    ] {
+        let drawn = draw_span(&rt, &mut viewport, x, y, &Span(text))?;
+        assert_eq!(rt; drawn, rect(x, y, width, 1));
+    }
     let text = [Span("a"), Span("日"), Span("bcd")];
     assert_eq!(rt;
         draw_text(&rt, &mut viewport, 0, 3, &text)?,
@@ -352,15 +349,26 @@ fn masks(rt: HostRuntime) -> Result<(), Fail> {
         draw_line(&rt, &mut viewport, 0, 4, &line)?,
         rect(0, 4, 6, 1)
     );
-    assert_eq!(rt;
-        draw_span(&rt, &mut viewport, 2, 5, &Span("日本"))?,
-        rect(2, 5, 4, 1)
-    );
     assert_eq!(rt; viewport.swap_mask(None), Some(columns(2, 3)));
     let view = viewport.into_grid().view()?;
     let upper = "\"  cde \"\n\"   本 \"\n\"   本 \"\n";
     let lower = "\"   b… \"\n\"   bc \"\n\"  日  \"\n";
     assert_eq!(rt; view.as_str().strip_prefix(upper), Some(lower));
+    Ok(())
+}
+
+/// Draws a frame over a screen of so many columns and rows.
+fn check_frame(
+    rt: &impl Abort,
+    alloc: Global,
+    width: u16,
+    height: u16,
+    expected: &str,
+) -> Result<(), RecordError> {
+    let whole = rect(0, 0, width as usize, height as usize);
+    let mut viewport = viewport_at(alloc, 0, 0, width, height)?;
+    assert_eq!(rt; viewport.draw_frame(whole, "Quit", &["body"])?, whole);
+    assert_eq!(rt; viewport.into_grid().view()?.as_str(), expected);
     Ok(())
 }
 
@@ -376,10 +384,7 @@ fn frames(rt: HostRuntime) -> Result<(), Fail> {
         (0, 2, ""),
         (3, 3, "\"┌Q┐\"\n\"│b│\"\n\"└─┘\"\n"),
     ] {
-        let whole = rect(0, 0, width as usize, height as usize);
-        let mut viewport = viewport_at(alloc, 0, 0, width, height)?;
-        assert_eq!(rt; viewport.draw_frame(whole, "Quit", &["body"])?, whole);
-        assert_eq!(rt; viewport.into_grid().view()?.as_str(), expected);
+        check_frame(&rt, alloc, width, height, expected)?;
     }
     Ok(())
 }

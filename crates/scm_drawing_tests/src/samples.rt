@@ -4,8 +4,8 @@ ghost use Rattle.scm_cells.specs.Mask.{MaskInRange};
 ghost use Rattle.scm_drawing_tests.specs.Masks.{MaskInRange-prop};
 
 use scm_cells::{Mask, Span};
+use scm_errors::RecordError;
 use scm_render::{Component, Viewport};
-use scm_types::RecordError;
 use std::alloc::Global;
 
 /// A text.

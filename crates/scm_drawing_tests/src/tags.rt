@@ -1,11 +1,11 @@
 //! A sample component that takes memory, for ids of any type, and an id that a click may hit.
 ghost use Rattle.std.specs.Prelude.{◌≡◌, IfOk, IfErr, string_bytes};
 ghost use Rattle.scm_drawing_tests.specs.Tags.{boxed_text};
-ghost use Rattle.scm_types.specs.declared.error.RecordError.TheVariants.{OutOfMemory};
+ghost use Rattle.scm_errors.specs.declared.error.RecordError.TheVariants.{OutOfMemory};
 
 use scm_cells::Span;
+use scm_errors::RecordError;
 use scm_render::{Clickable, Component, Viewport};
-use scm_types::RecordError;
 use std::alloc::Global;
 use std::hash::Hash;
 

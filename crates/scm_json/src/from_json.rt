@@ -1,6 +1,6 @@
 //! What a JSON value is the form of: truth values, texts, optional values and lists.
 ghost use Rattle.std.specs.Prelude.{◌≡◌, IfOk, IfErr, Option};
-ghost use Rattle.scm_types.specs.declared.error.RecordError.TheVariants.{OutOfMemory};
+ghost use Rattle.scm_errors.specs.declared.error.RecordError.TheVariants.{OutOfMemory};
 ghost use Rattle.serde_json.specs.Data.{Data};
 ghost use Rattle.serde_json.specs.Find.{as_bool, as_str};
 ghost use Rattle.serde_json.specs.View.{view};

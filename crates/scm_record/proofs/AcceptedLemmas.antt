@@ -13,7 +13,7 @@ use Rattle.scm_types.specs.Edits.{modify}
 use Rattle.scm_types.specs.Limits.{max_items, section_size, file_size, is_short_text, is_short_option, has_short_texts, has_short_texts_in_file, is_accepted_state}
 use Rattle.scm_types.specs.Marks.{line_with_mark, section_with_marks, file_with_marks}
 use Rattle.scm_types.proofs.EditLemmas.{length-modify}
-use Rattle.scm_record.specs.declared.events.Event.{Event}
+use Rattle.scm_input.specs.declared.events.Event.{Event}
 use Rattle.scm_record.specs.declared.selector.Flow.{Flow}
 use Rattle.scm_record.specs.Toggle.{with_key_toggled, with_all_set}
 use Rattle.scm_record.specs.Session.{Session, IsDrawable, with_message, commit_saying}

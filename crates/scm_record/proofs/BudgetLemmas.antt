@@ -1,15 +1,15 @@
 -- A run draws few frames.
 use Rattle.std.proofs.Common.{◌≡◌, ℕ, zero, suc, ◌+◌, ◌-◌, ◌*◌, ◌<◌, ◌≤◌, Bool, true, false, List, [], ◌∷◌, ◌++◌, length, Option, Some, None, cond, sym, ap, refl, ◌∙◌, add-one, arith}
 use Rattle.std.specs.Prelude.{MatchOption, nat_lt}
-use Rattle.scm_types.specs.Fault.{Fault, fault_of}
-use Rattle.scm_types.specs.declared.error.RecordError.{RecordError}
+use Rattle.scm_errors.specs.Fault.{Fault, fault_of}
+use Rattle.scm_errors.specs.declared.error.RecordError.{RecordError}
 use Rattle.scm_types.specs.Limits.{is_short_text}
-use Rattle.scm_record.specs.declared.events.Event.{Event}
-use Rattle.scm_record.specs.declared.events.Event.TheVariants as events
+use Rattle.scm_input.specs.declared.events.Event.{Event}
+use Rattle.scm_input.specs.declared.events.Event.TheVariants as events
 use Rattle.scm_record.specs.declared.selector.Flow.{Flow}
 use Rattle.scm_record.specs.declared.selector.Flow.TheVariants as flows
-use Rattle.scm_record.specs.Script.{Read, Batch, BrokenRead, Edit, Answer, BrokenEdit, no_more}
-use Rattle.scm_record.specs.Store.{count_up, counted}
+use Rattle.scm_input.specs.Script.{Read, Batch, BrokenRead, Edit, Answer, BrokenEdit, no_more}
+use Rattle.scm_input.specs.Store.{count_up, counted}
 use Rattle.scm_record.specs.Session.{Session, with_message}
 use Rattle.scm_record.specs.Frames.{Scene, scene_of}
 use Rattle.scm_record.specs.Uses.{shot_of}

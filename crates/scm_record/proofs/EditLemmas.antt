@@ -1,15 +1,15 @@
 -- A run in which no commit has a message asks for no edit.
 use Rattle.std.proofs.Common.{◌≡◌, ℕ, Bool, true, false, List, [], ◌∷◌, length, Option, Some, None, cond, ap, ◌∙◌, refl}
 use Rattle.std.specs.Prelude.{MatchOption, is_some, nat_lt}
-use Rattle.scm_types.specs.declared.error.RecordError.{RecordError}
+use Rattle.scm_errors.specs.declared.error.RecordError.{RecordError}
 use Rattle.scm_types.specs.declared.file.File.{File}
 use Rattle.scm_types.specs.declared.state.Commit.{Commit}
 use Rattle.scm_types.specs.declared.state.RecordState.{RecordState}
-use Rattle.scm_types.specs.Fault.{Fault, fault_of}
-use Rattle.scm_record.specs.declared.events.Event.{Event}
+use Rattle.scm_errors.specs.Fault.{Fault, fault_of}
+use Rattle.scm_input.specs.declared.events.Event.{Event}
 use Rattle.scm_record.specs.declared.selector.Flow.{Flow}
 use Rattle.scm_record.specs.declared.selector.Flow.TheVariants as flows
-use Rattle.scm_record.specs.Script.{Read, Batch, BrokenRead, Edit}
+use Rattle.scm_input.specs.Script.{Read, Batch, BrokenRead, Edit}
 use Rattle.scm_record.specs.Toggle.{with_key_toggled, with_all_inverted, with_all_set}
 use Rattle.scm_record.specs.Session.{Session, message_of}
 use Rattle.scm_record.specs.Frames.{Scene, scene_of}

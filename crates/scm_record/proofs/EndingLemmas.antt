@@ -1,9 +1,9 @@
 -- How a run ends, from the points that it reaches.
 use Rattle.std.proofs.Common.{◌≡◌, ℕ, refl}
-use Rattle.scm_types.specs.declared.error.RecordError.{RecordError}
-use Rattle.scm_types.specs.declared.error.RecordError.TheVariants.{OutOfMemory}
+use Rattle.scm_errors.specs.declared.error.RecordError.{RecordError}
+use Rattle.scm_errors.specs.declared.error.RecordError.TheVariants.{OutOfMemory}
 use Rattle.scm_record.specs.Session.{Session}
-use Rattle.scm_record.specs.Store.{counted}
+use Rattle.scm_input.specs.Store.{counted}
 use Rattle.scm_record.specs.Run.{Setting, world_in, Before, Accepted, Reaches, Stops}
 use Rattle.scm_record.specs.Ending.{EndsWith, FailsWith}
 use Rattle.scm_record.proofs.BudgetLemmas.{few-reached, few-stopped}

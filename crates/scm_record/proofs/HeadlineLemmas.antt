@@ -1,7 +1,7 @@
 -- The headline, of a run that is accepted and of one that fails.
 use Rattle.std.proofs.Common.{◌≡◌, ◌∙◌, refl, subst}
 use Rattle.std.specs.Prelude.{Result, Ok, Err}
-use Rattle.scm_types.specs.declared.error.RecordError.{RecordError}
+use Rattle.scm_errors.specs.declared.error.RecordError.{RecordError}
 use Rattle.scm_types.specs.declared.state.RecordState.{RecordState}
 use Rattle.scm_record.specs.Session.{Session, IsDrawable}
 use Rattle.scm_record.specs.Change.{accepts}

@@ -17,7 +17,6 @@ pub mod DrawableLemmas
 pub mod Budget
 pub mod MenuLemmas
 pub mod StepLemmas
-pub mod StepExampleLemmas
 -- what is drawn, as a frame
 pub mod FrameLemmas
 -- how many frames are drawn, what is kept, what is not edited, what stays coherent

@@ -3,19 +3,19 @@ use Rattle.std.proofs.Common.{◌≡◌, ℕ, ◌+◌, ◌<◌, ◌≤◌, Bool,
 use Rattle.std.specs.Prelude.{MatchOption, nat_lt, option_map}
 use Rattle.std.proofs.Math.Seq.{drop-cons}
 use Rattle.std.proofs.lemmas.List.{drop_all}
-use Rattle.scm_types.specs.declared.error.RecordError.{RecordError}
-use Rattle.scm_types.specs.Fault.{Fault, fault_of}
-use Rattle.scm_record.specs.declared.events.Event.{Event}
-use Rattle.scm_record.specs.declared.inputs.TerminalKind.{TerminalKind}
+use Rattle.scm_errors.specs.declared.error.RecordError.{RecordError}
+use Rattle.scm_errors.specs.Fault.{Fault, fault_of}
+use Rattle.scm_input.specs.declared.events.Event.{Event}
+use Rattle.scm_input.specs.declared.inputs.TerminalKind.{TerminalKind}
 use Rattle.scm_record.specs.declared.runs.Next.{Next}
 use Rattle.scm_types.specs.Limits.{is_short_text}
 use Rattle.scm_record.specs.declared.selector.Flow.{Flow}
 use Rattle.scm_record.specs.Step.{Change, change}
 use Rattle.scm_record.specs.Frames.{Scene, scene_of}
-use Rattle.scm_record.specs.Store.{Store, with_frame}
-use Rattle.scm_types.specs.declared.error.RecordError.TheVariants.{OutOfMemory}
+use Rattle.scm_input.specs.Store.{Store, with_frame}
+use Rattle.scm_errors.specs.declared.error.RecordError.TheVariants.{OutOfMemory}
 use Rattle.scm_record.specs.Session.{Session, after_frame, with_message}
-use Rattle.scm_record.specs.Script.{Read, Edit, Answer, BrokenEdit, TakesOr, no_more}
+use Rattle.scm_input.specs.Script.{Read, Edit, Answer, BrokenEdit, TakesOr, no_more}
 use Rattle.scm_record.specs.Run.{Setting, setting, World, world_in, with_session, with_edits, with_text, with_frame_drawn, Outcome, Goes, Breaks, Point, Before, Drawn, Within, Failed, no_such_place, too_long, kept_at, answered, edited, outcome_by, changed, step_in, step, resume, after, batch, Reaches, here, on, world_at, Shows, Stops}
 use Rattle.scm_record.specs.Turn.{outcome_of, point_of, BatchStops, Ceases, Handles, IsFault, Refuses, faulty, out_of_memory, TurnStops}
 
@@ -42,10 +42,6 @@ reaches-end p drawn w events i h r =
 pub reaches-trans : {p q r : Point} → Reaches p q → Reaches q r → Reaches p r
 reaches-trans a here = a
 reaches-trans a (on b) = on (reaches-trans a b)
-
--- a batch begins
-pub reaches-batch : (w : World) (q : Point) → batch (with_frame_drawn w) w.session.pending ≡ q → Reaches (Before w) q
-reaches-batch w q e = subst (λ (p : Point). Reaches (Before w) p) e (on (on here))
 
 batch-stops-by : (f : Option Fault) (p : Point) (w v w' : World) → Reaches (Before w) (Drawn v) → Reaches (Before w) p → MatchOption f (Shows w' v) (λ fault. p ≡ Failed fault w') → MatchOption f ((q : Point) × Reaches (Before w) q × Shows w' (world_at q)) (λ fault. Reaches (Before w) (Failed fault w'))
 batch-stops-by None p w v w' r r' h = (Drawn v, r, h)

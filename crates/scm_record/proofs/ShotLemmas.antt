@@ -2,20 +2,20 @@
 use Rattle.std.proofs.Common.{◌≡◌, ℕ, zero, suc, ◌+◌, ◌<◌, ◌≤◌, Bool, true, false, List, [], ◌∷◌, length, ◌&&◌, Option, Some, None, cond, ◌⊎◌, inl, inr, sym, ap, ◌∙◌, refl, subst}
 use Rattle.std.specs.Prelude.{MatchOption, is_some, nat_le, nat_lt, slice_get}
 use Rattle.std.proofs.lemmas.Bool.{lt-ltb, le-leb}
-use Rattle.scm_types.specs.declared.error.RecordError.{RecordError}
-use Rattle.scm_types.specs.Fault.{Fault, fault_of}
+use Rattle.scm_errors.specs.declared.error.RecordError.{RecordError}
+use Rattle.scm_errors.specs.Fault.{Fault, fault_of}
 use Rattle.scm_types.specs.Edits.{modify}
 use Rattle.scm_types.specs.Limits.{is_short_text}
 use Rattle.scm_cells.specs.Screen.{view_of}
 use Rattle.scm_render.specs.Canvas.{Row}
 use Rattle.scm_view.specs.declared.ids.ComponentId.{ComponentId}
-use Rattle.scm_record.specs.declared.events.Event.{Event}
-use Rattle.scm_record.specs.declared.events.Event.TheVariants as events
-use Rattle.scm_record.specs.declared.events.TestingScreenshot.{TestingScreenshot}
-use Rattle.scm_record.specs.declared.inputs.TerminalKind.{TerminalKind}
+use Rattle.scm_input.specs.declared.events.Event.{Event}
+use Rattle.scm_input.specs.declared.events.Event.TheVariants as events
+use Rattle.scm_input.specs.declared.events.TestingScreenshot.{TestingScreenshot}
+use Rattle.scm_input.specs.declared.inputs.TerminalKind.{TerminalKind}
 use Rattle.scm_record.specs.declared.selector.Flow.{Flow}
 use Rattle.scm_record.specs.declared.selector.Flow.TheVariants as flows
-use Rattle.scm_record.specs.Script.{Read, Batch, BrokenRead, Edit, Answer, BrokenEdit, no_more}
+use Rattle.scm_input.specs.Script.{Read, Batch, BrokenRead, Edit, Answer, BrokenEdit, no_more}
 use Rattle.scm_record.specs.Session.{Session, IsDrawable, shown_of, with_help, with_message}
 use Rattle.scm_record.specs.Frames.{Frame, Scene, columns_of, rows_of, frame_of_document, scene_of}
 use Rattle.scm_record.specs.Uses.{hit, max_scroll, shot_of}

@@ -4,10 +4,10 @@ use Rattle.std.specs.Prelude.{nat_lt}
 use Rattle.scm_types.specs.declared.file.File.{File}
 use Rattle.scm_types.specs.declared.state.RecordState.{RecordState}
 use Rattle.scm_types.specs.Limits.{is_short_text}
-use Rattle.scm_record.specs.declared.events.Event.{Event}
+use Rattle.scm_input.specs.declared.events.Event.{Event}
 use Rattle.scm_record.specs.declared.selector.Flow.{Flow}
 use Rattle.scm_record.specs.declared.selector.Flow.TheVariants as flows
-use Rattle.scm_record.specs.Script.{Edit, Answer, BrokenEdit, no_more}
+use Rattle.scm_input.specs.Script.{Edit, Answer, BrokenEdit, no_more}
 use Rattle.scm_record.specs.Toggle.{with_key_toggled, with_all_set}
 use Rattle.scm_record.specs.Session.{Session, with_message}
 use Rattle.scm_record.specs.Frames.{Scene, scene_of}

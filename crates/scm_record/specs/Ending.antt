@@ -1,9 +1,9 @@
 -- How a run ends.
 use Rattle.std.specs.Prelude.{◌≡◌, ℕ, ◌+◌, ◌*◌, ◌≤◌, List, [], length}
-use Rattle.scm_types.specs.declared.error.RecordError.{RecordError}
+use Rattle.scm_errors.specs.declared.error.RecordError.{RecordError}
 use Rattle.scm_types.specs.declared.state.RecordState.{RecordState}
-use Rattle.scm_record.specs.Script.{Read}
-use Rattle.scm_record.specs.Store.{Store, counted}
+use Rattle.scm_input.specs.Script.{Read}
+use Rattle.scm_input.specs.Store.{Store, counted}
 use Rattle.scm_record.specs.Session.{Session}
 use Rattle.scm_record.specs.Run.{Setting, world_in, Before, Accepted, Reaches, Stops}
 

@@ -21,8 +21,8 @@ use Rattle.scm_view.specs.contracts.ids.ComponentIdPartialEq.TheImpl as equality
 use Rattle.scm_view.specs.declared.keys.SelectionKey.{SelectionKey}
 use Rattle.scm_view.specs.declared.ids.ComponentId.{ComponentId}
 use Rattle.scm_view.specs.declared.ids.ComponentId.TheVariants as ids
-use Rattle.scm_record.specs.declared.inputs.TerminalKind.{TerminalKind}
-use Rattle.scm_record.specs.declared.inputs.TerminalKind.TheVariants.{Testing}
+use Rattle.scm_input.specs.declared.inputs.TerminalKind.{TerminalKind}
+use Rattle.scm_input.specs.declared.inputs.TerminalKind.TheVariants.{Testing}
 use Rattle.scm_record.specs.declared.frame.DrawnFrame.{DrawnFrame}
 use Rattle.scm_record.specs.Session.{Session, shown_of}
 

@@ -3,20 +3,20 @@
 -- and messages.
 use Rattle.std.specs.Prelude.{◌≡◌, ℕ, ◌+◌, ◌<◌, ◌≤◌, Bool, true, false, IsTrue, List, [], ◌∷◌, ◌++◌, replicate, slice_get, ◌⊎◌, Option, Some, None, MatchOption, Result, IfOk, IfErr, if◌then◌else◌}
 use Rattle.std.specs.List.{list_any}
-use Rattle.scm_types.specs.declared.error.RecordError.{RecordError}
+use Rattle.scm_errors.specs.declared.error.RecordError.{RecordError}
 use Rattle.scm_types.specs.declared.state.RecordState.{RecordState}
-use Rattle.scm_types.specs.Fault.{fault_of}
+use Rattle.scm_errors.specs.Fault.{fault_of}
 use Rattle.scm_types.specs.Limits.{is_accepted_state}
 use Rattle.scm_cells.specs.Screen.{view_of}
 use Rattle.scm_view.specs.declared.ids.ComponentId.{ComponentId}
 use Rattle.scm_view.specs.declared.commit_view.CommitViewMode.TheVariants.{Inline}
 use Rattle.scm_view.specs.Blanks.{blank_row}
 use Rattle.scm_view.specs.Window.{window, owner}
-use Rattle.scm_record.specs.declared.events.Event.{Event}
-use Rattle.scm_record.specs.declared.events.Event.TheVariants as events
-use Rattle.scm_record.specs.declared.events.TestingScreenshot.{TestingScreenshot}
-use Rattle.scm_record.specs.declared.inputs.TerminalKind.{TerminalKind}
-use Rattle.scm_record.specs.Store.{Store}
+use Rattle.scm_input.specs.declared.events.Event.{Event}
+use Rattle.scm_input.specs.declared.events.Event.TheVariants as events
+use Rattle.scm_input.specs.declared.events.TestingScreenshot.{TestingScreenshot}
+use Rattle.scm_input.specs.declared.inputs.TerminalKind.{TerminalKind}
+use Rattle.scm_input.specs.Store.{Store}
 use Rattle.scm_record.specs.Session.{Session, shown_of, start}
 use Rattle.scm_record.specs.Frames.{columns_of, rows_of, scene_of}
 use Rattle.scm_record.specs.Clicks.{clicked}

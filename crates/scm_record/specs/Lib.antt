@@ -28,16 +28,6 @@ pub mod Step
 pub mod Menus
 -- what is lent of the views that a frame draws
 pub mod Views
--- what an input answers
-pub mod Script
--- the event of each key, and of the mouse
-pub mod KeyTable
--- the script of a testing input
-pub mod Testing
--- the script of a script input
-pub mod Scripted
--- the store of screens
-pub mod Store
 -- runs, as steps from point to point
 pub mod Run
 -- which files an event keeps coherent
@@ -52,13 +42,17 @@ pub mod Headline
 pub mod Turn
 -- what the fields of a selector stand for
 pub mod SessionView
--- what the fields of a store stand for
-pub mod Stored
--- of the state's crate, so that a caller lists this crate alone
+-- of the crate of inputs, so that a caller lists this crate alone
+pub use Rattle.scm_input.specs.Script
+pub use Rattle.scm_input.specs.KeyTable
+pub use Rattle.scm_input.specs.Testing
+pub use Rattle.scm_input.specs.Scripted
+pub use Rattle.scm_input.specs.Store
+-- of the state's crate
 pub use Rattle.scm_types.specs.Marks
 pub use Rattle.scm_types.specs.Mode
 pub use Rattle.scm_types.specs.Split
 pub use Rattle.scm_types.specs.Limits
 pub use Rattle.scm_types.specs.Laws
 pub use Rattle.scm_types.specs.Same
-pub use Rattle.scm_types.specs.Fault
+pub use Rattle.scm_errors.specs.Fault

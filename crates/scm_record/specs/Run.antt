@@ -1,15 +1,15 @@
 -- Runs, as steps from point to point.
 use Rattle.std.specs.Prelude.{◌≡◌, ℕ, ◌+◌, nat_lt, List, [], ◌∷◌, length, Option, Some, MatchOption, codes, if◌then◌else◌}
-use Rattle.scm_types.specs.declared.error.RecordError.{RecordError}
+use Rattle.scm_errors.specs.declared.error.RecordError.{RecordError}
 use Rattle.scm_types.specs.Edits.{modify}
-use Rattle.scm_types.specs.Fault.{Fault, Cancelled, Other, fault_of}
+use Rattle.scm_errors.specs.Fault.{Fault, Cancelled, Other, fault_of}
 use Rattle.scm_types.specs.Limits.{is_short_text}
-use Rattle.scm_record.specs.declared.events.Event.{Event}
-use Rattle.scm_record.specs.declared.inputs.TerminalKind.{TerminalKind}
+use Rattle.scm_input.specs.declared.events.Event.{Event}
+use Rattle.scm_input.specs.declared.inputs.TerminalKind.{TerminalKind}
 use Rattle.scm_record.specs.declared.selector.Flow.{Flow}
 use Rattle.scm_record.specs.declared.selector.Flow.TheVariants as flows
-use Rattle.scm_record.specs.Script.{Read, Batch, BrokenRead, Edit, Answer, BrokenEdit, no_events_left, no_more}
-use Rattle.scm_record.specs.Store.{Store}
+use Rattle.scm_input.specs.Script.{Read, Batch, BrokenRead, Edit, Answer, BrokenEdit, no_events_left, no_more}
+use Rattle.scm_input.specs.Store.{Store}
 use Rattle.scm_record.specs.Session.{Session, after_frame, with_message, without_pending}
 use Rattle.scm_record.specs.Frames.{Scene, scene_of}
 use Rattle.scm_record.specs.Uses.{shot_of}

@@ -12,8 +12,8 @@ use Rattle.scm_view.specs.declared.quit_dialog.QuitDialog.{QuitDialog}
 use Rattle.scm_view.specs.declared.commit_view.CommitViewMode.{CommitViewMode}
 use Rattle.scm_view.specs.declared.commit_view.CommitViewMode.TheVariants.{Inline, Adjacent}
 use Rattle.scm_view.specs.Shown.{Shown}
-use Rattle.scm_record.specs.declared.events.Event.{Event}
-use Rattle.scm_record.specs.declared.events.Event.TheVariants as events
+use Rattle.scm_input.specs.declared.events.Event.{Event}
+use Rattle.scm_input.specs.declared.events.Event.TheVariants as events
 use Rattle.scm_view.specs.Keys.{file_of, file_of_section, file_of_line, section_of_line}
 use Rattle.scm_record.specs.Keys.{all_keys, visible_keys, first_key, is_section}
 use Rattle.scm_record.specs.KeySet.{has_key, same_set, with_key, without_key, with_key_flipped, key_set}

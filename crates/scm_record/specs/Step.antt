@@ -1,8 +1,8 @@
 -- What an event makes of a session, in the scene last drawn.
 use Rattle.std.specs.Prelude.{◌+◌, ◌-◌, not, None, if◌then◌else◌}
 use Rattle.scm_view.specs.declared.quit_dialog.QuitDialogButtonId.TheVariants.{Quit, GoBack}
-use Rattle.scm_record.specs.declared.events.Event.{Event}
-use Rattle.scm_record.specs.declared.events.Event.TheVariants as events
+use Rattle.scm_input.specs.declared.events.Event.{Event}
+use Rattle.scm_input.specs.declared.events.Event.TheVariants as events
 use Rattle.scm_record.specs.declared.pages.Way.TheVariants.{Up, Down}
 use Rattle.scm_record.specs.Session.{Session, with_dialog, with_help, with_scroll, in_other_mode, after_redraw, after_next, after_previous, after_next_same_kind, after_previous_same_kind, after_advance, after_inner, after_outer, after_expand, after_expand_all, after_toggle, after_toggle_all, after_toggle_all_uniform}
 use Rattle.scm_record.specs.Frames.{Scene}

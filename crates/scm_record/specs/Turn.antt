@@ -1,12 +1,12 @@
 -- What the parts of a run say of the points that they reach.
 use Rattle.std.specs.Prelude.{◌≡◌, ℕ, ◌+◌, ◌≤◌, List, None, MatchOption}
-use Rattle.scm_types.specs.declared.error.RecordError.{RecordError}
-use Rattle.scm_types.specs.Fault.{Fault, fault_of}
-use Rattle.scm_record.specs.declared.events.Event.{Event}
+use Rattle.scm_errors.specs.declared.error.RecordError.{RecordError}
+use Rattle.scm_errors.specs.Fault.{Fault, fault_of}
+use Rattle.scm_input.specs.declared.events.Event.{Event}
 use Rattle.scm_record.specs.declared.runs.Next.{Next}
 use Rattle.scm_record.specs.declared.runs.Next.TheVariants as nexts
 use Rattle.scm_record.specs.Frames.{Scene, scene_of}
-use Rattle.scm_record.specs.Store.{counted}
+use Rattle.scm_input.specs.Store.{counted}
 use Rattle.scm_record.specs.Session.{Session}
 use Rattle.scm_record.specs.Run.{Setting, World, world_in, Outcome, Goes, Ends, Breaks, step_in, Point, Before, Within, Accepted, Failed, Reaches, Shows, Stops}
 

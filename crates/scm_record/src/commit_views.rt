@@ -1,6 +1,6 @@
 //! What the screen shows of the commits, and all that it shows.
 ghost use Rattle.std.specs.Prelude.{◌≡◌, length, IfOk, IfErr};
-ghost use Rattle.scm_types.specs.declared.error.RecordError.TheVariants.{OutOfMemory};
+ghost use Rattle.scm_errors.specs.declared.error.RecordError.TheVariants.{OutOfMemory};
 ghost use Rattle.scm_view.specs.AppView.{ShowInOrder, ShowsSession, views_shown};
 ghost use Rattle.scm_view.specs.Shown.{Shows, commit_at};
 

@@ -1,6 +1,6 @@
 //! What the screen shows of the files of a commit.
 ghost use Rattle.std.specs.Prelude.{◌≡◌, ◌≤◌, sum_by, option_map, IfOk, IfErr};
-ghost use Rattle.scm_types.specs.declared.error.RecordError.TheVariants.{OutOfMemory};
+ghost use Rattle.scm_errors.specs.declared.error.RecordError.TheVariants.{OutOfMemory};
 ghost use Rattle.scm_types.specs.Limits.{file_size, max_items};
 ghost use Rattle.scm_view.specs.Shown.{file_view_of, file_views_of, lent};
 ghost use Rattle.scm_record.specs.Views.{lent_file, lent_files, lent_path};

@@ -1,7 +1,7 @@
 //! The frame last drawn: the screen, and where each thing on it was drawn.
 ghost use Rattle.std.specs.Prelude.{◌≡◌, ℕ, ◌<◌, ◌≤◌, ◌+◌, ◌^◌, IfErr, IfOk, IfSome, IsTrue, OnOk, length, string_bytes};
 ghost use Rattle.scm_render.specs.Picture.{PictureInRange, part};
-ghost use Rattle.scm_types.specs.declared.error.RecordError.TheVariants.{OutOfMemory};
+ghost use Rattle.scm_errors.specs.declared.error.RecordError.TheVariants.{OutOfMemory};
 ghost use Rattle.scm_types.specs.Limits.{is_accepted_state};
 ghost use Rattle.scm_view.specs.declared.ids.ComponentId.TheVariants as ids;
 ghost use Rattle.scm_view.specs.Window.{rows_of_box};
@@ -9,9 +9,9 @@ ghost use Rattle.scm_record.specs.Frames.{HasSize, IsFrame, IsShown, Scene, fram
 ghost use Rattle.scm_record.specs.Session.{Session, shown_of};
 ghost use Rattle.scm_record.specs.Uses.{ensured, held, hit, max_scroll, rows_above, scrolled_to, shot_of, top_in};
 
-use crate::inputs::TerminalKind;
 use crate::views::Showing;
 use scm_cells::{Grid, Rect};
+use scm_input::TerminalKind;
 use scm_render::{DrawnRects, Viewport, find_target};
 use scm_types::RecordError;
 use scm_view::{AppView, ComponentId, SelectionKey, laws};

@@ -1,6 +1,6 @@
 //! A set of keys, as of those that are expanded.
 ghost use Rattle.std.specs.Prelude.{◌≡◌, [], IfErr, OnErr, OnOk, IfOk};
-ghost use Rattle.scm_types.specs.declared.error.RecordError.TheVariants.{OutOfMemory};
+ghost use Rattle.scm_errors.specs.declared.error.RecordError.TheVariants.{OutOfMemory};
 ghost use Rattle.scm_record.specs.KeySet.{has_key, key_set, same_set, with_key, with_key_flipped, without_key};
 
 use scm_types::RecordError;

@@ -6,35 +6,30 @@
 
 mod commit_views;
 mod counts;
-pub mod events;
 mod file_views;
 mod folds;
 mod frame;
-pub mod helpers;
-pub mod inputs;
 mod key_lists;
 mod key_set;
-mod key_table;
 mod menus;
 mod moves;
 mod pages;
 pub mod recording;
 mod runs;
-pub mod scripts;
 mod section_views;
 mod selector;
-pub mod store;
-pub mod terminal;
 pub mod toggles;
 mod views;
 
-pub use events::{Event, TestingScreenshot};
-pub use helpers::TestingInput;
-pub use inputs::{RecordInput, TerminalKind};
 pub use recording::Recorder;
 pub use scm_cells::{
     Clusters, Grid, Line, Mask, Rect, RectSize, ScreenRect, Span, push_spans_from_line,
     replace_control_character, text_width,
+};
+pub use scm_input::{
+    Event, KeyCode, KeyEvent, KeyEventKind, KeyModifiers, MouseButton, MouseEvent, MouseEventKind,
+    RecordInput, Screens, ScriptEdit, ScriptInput, ScriptRead, TerminalEvent, TerminalKind,
+    TestingInput, TestingScreenshot, events, helpers, inputs, scripts, store, terminal,
 };
 pub use scm_render::{
     Clickable, Component, DrawTrace, DrawnRect, DrawnRects, Viewport, centered_rect, find_target,
@@ -49,10 +44,4 @@ pub use scm_view::{
     FileView, FileViewHeader, HelpDialog, LineKey, Menu, MenuBar, MenuItem, QuitDialog,
     QuitDialogButtonId, SectionKey, SectionLineView, SectionLineViewInner, SectionSelection,
     SectionView, SelectionKey, TristateBox, TristateIconStyle,
-};
-pub use scripts::{ScriptEdit, ScriptInput, ScriptRead};
-pub use store::Screens;
-pub use terminal::{
-    KeyCode, KeyEvent, KeyEventKind, KeyModifiers, MouseButton, MouseEvent, MouseEventKind,
-    TerminalEvent,
 };

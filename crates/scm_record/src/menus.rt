@@ -1,10 +1,10 @@
 //! The selector's menus, and what a click on an item of them stands for.
 ghost use Rattle.std.specs.Prelude.{◌≡◌, IfOk, IfErr};
-ghost use Rattle.scm_types.specs.declared.error.RecordError.TheVariants.{OutOfMemory};
+ghost use Rattle.scm_errors.specs.declared.error.RecordError.TheVariants.{OutOfMemory};
 ghost use Rattle.scm_view.specs.Tables.{menus_with};
 ghost use Rattle.scm_record.specs.Menus.{event_of_item, items_in, items_of_menu, menu_of};
 
-use crate::events::Event;
+use scm_input::Event;
 use scm_types::{Items, RecordError, Text};
 use scm_view::{Menu, MenuBar, MenuItem};
 use std::alloc::Global;

@@ -1,12 +1,12 @@
 //! Runs: a session over an input, from its first frame to its end.
 ghost use Rattle.std.specs.Prelude.{◌≡◌, ℕ, ◌+◌, false, IfErr, IfOk, IsTrue, None, OnErr, OnOk, string_bytes};
-ghost use Rattle.scm_types.specs.declared.error.RecordError.TheVariants.{OutOfMemory};
+ghost use Rattle.scm_errors.specs.declared.error.RecordError.TheVariants.{OutOfMemory};
 ghost use Rattle.scm_types.specs.declared.state.RecordState.{RecordState};
 ghost use Rattle.scm_types.specs.Limits.{is_accepted_state, is_short_text};
-ghost use Rattle.scm_record.specs.declared.events.Event.{Event};
-ghost use Rattle.scm_record.specs.declared.inputs.TerminalKind.{TerminalKind};
-ghost use Rattle.scm_record.specs.Script.{TakesOr, edit_of, no_more};
-ghost use Rattle.scm_record.specs.Store.{Store, count_up, with_frame};
+ghost use Rattle.scm_input.specs.declared.events.Event.{Event};
+ghost use Rattle.scm_input.specs.declared.inputs.TerminalKind.{TerminalKind};
+ghost use Rattle.scm_input.specs.Script.{TakesOr, edit_of, no_more};
+ghost use Rattle.scm_input.specs.Store.{Store, count_up, with_frame};
 ghost use Rattle.scm_record.specs.Session.{IsDrawable, Session, after_frame, message_of, start};
 ghost use Rattle.scm_record.specs.Frames.{HasSize, IsShown, Scene, scene_of};
 ghost use Rattle.scm_record.specs.Uses.{shot_of};
@@ -17,12 +17,10 @@ ghost use Rattle.scm_record.specs.Keeping.{IsKept};
 ghost use Rattle.scm_record.specs.Headline.{Headline};
 ghost use Rattle.scm_record.specs.Coherence.{StepKeepsCoherent, is_toggle_all};
 
-use crate::events::Event;
 use crate::frame::DrawnFrame;
-use crate::inputs::RecordInput;
 use crate::recording::Recorder;
 use crate::selector::{Flow, Selector};
-use crate::store::Screens;
+use scm_input::{Event, RecordInput, Screens};
 use scm_types::{RecordError, RecordState};
 use std::alloc::Global;
 

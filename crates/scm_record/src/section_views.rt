@@ -1,6 +1,6 @@
 //! What the screen shows of the sections of a file.
 ghost use Rattle.std.specs.Prelude.{◌≡◌, ◌+◌, ◌<◌, ◌≤◌, ◌^◌, sum_by, IfOk, IfErr, if◌then◌else◌};
-ghost use Rattle.scm_types.specs.declared.error.RecordError.TheVariants.{OutOfMemory};
+ghost use Rattle.scm_errors.specs.declared.error.RecordError.TheVariants.{OutOfMemory};
 ghost use Rattle.scm_types.specs.Limits.{max_items};
 ghost use Rattle.scm_types.specs.Marks.{is_editable_section};
 ghost use Rattle.scm_view.specs.Shown.{is_removed, old_lines, section_view_of, section_views_of, selected_in, totals_of};

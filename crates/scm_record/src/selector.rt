@@ -1,6 +1,6 @@
 //! A session in which a user selects changes, and what each event makes of it.
 ghost use Rattle.std.specs.Prelude.{◌≡◌, IfErr, IfOk, OnOk, string_bytes};
-ghost use Rattle.scm_types.specs.declared.error.RecordError.TheVariants.{OutOfMemory};
+ghost use Rattle.scm_errors.specs.declared.error.RecordError.TheVariants.{OutOfMemory};
 ghost use Rattle.scm_types.specs.Edits.{modify};
 ghost use Rattle.scm_record.specs.Session.{commit_saying, padded, with_keys_above};
 
@@ -11,12 +11,12 @@ mod marks;
 mod moves;
 mod scrolling;
 
-use crate::events::Event;
 use crate::frame::DrawnFrame;
 use crate::key_lists::{first_key, section_keys};
 use crate::key_set::{KeySet, key_set_of};
 use crate::pages::Way;
 use crate::views::Showing;
+use scm_input::Event;
 use scm_types::{Commit, Items, OwnedText, RecordError, RecordState};
 use scm_view::{CommitViewMode, QuitDialog, SelectionKey};
 use std::alloc::Global;
@@ -76,7 +76,7 @@ impl<'state> Model for Selector<'state> {
 impl<'state> Selector<'state> {
     ghost use Rattle.std.specs.Prelude.{◌≡◌, ◌↔◌, ◌<◌, [], IfErr, IfOk, IsTrue, OnOk, length, string_bytes};
     ghost use Rattle.std.specs.Option.{unwrap_or};
-    ghost use Rattle.scm_types.specs.declared.error.RecordError.TheVariants.{OutOfMemory};
+    ghost use Rattle.scm_errors.specs.declared.error.RecordError.TheVariants.{OutOfMemory};
     ghost use Rattle.scm_types.specs.Limits.{is_accepted_state};
     ghost use Rattle.scm_record.specs.Frames.{IsShown, Scene};
     ghost use Rattle.scm_record.specs.Session.{after_frame, after_select, at_key, message_of, shown_of, start, with_ensure, with_message, with_pushed, without_pending};

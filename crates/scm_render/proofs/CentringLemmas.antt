@@ -13,10 +13,6 @@ share-le room percent h = grind arith
 pub hundredths-le : (room least percent : ℕ) → percent ≤ 100 → hundredths room least percent ≤ 100 * room
 hundredths-le room least percent h = let s = share-le room percent h in omega (arith, s)
 
--- the columns before it are at most half of the room
-pub centred_gap-le : (room least percent : ℕ) → 2 * centred_gap room least percent ≤ room
-centred_gap-le room least percent = omega arith
-
 -- and with its own they are at most the room
 pub centred-fits : (room least percent : ℕ) → percent ≤ 100 → centred_gap room least percent + centred_size room least percent ≤ room
 centred-fits room least percent h = let s = hundredths-le room least percent h in omega (arith, s)

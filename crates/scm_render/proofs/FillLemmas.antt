@@ -66,12 +66,6 @@ blanks-from v seen q y (suc n) h k =
     (rw (spaces_of q.x y q.width) (text_paints v seen q y (replicate q.width 32) h (omega (arith, ints))))
     (blanks-from v seen q (y +ℤ pos 1) n (omega (arith, ints)) (omega (arith, ints)))
 
--- a rectangle is blanked row by row, where drawing reaches
-pub blanks_paint : (K : Type 0) (v seen : Rect) (s : Sight) (r : Rect)
-    → Paints v seen (intersect_of r (reach s)).y (blank_picture {K = K} s r).puts (replicate (intersect_of r (reach s)).height (blank_over v (intersect_of r (reach s))))
-unfolding blank_picture
-blanks_paint K v seen s r = let q = intersect_of r (reach s) in blanks-from v seen q q.y q.height (omega (arith, ints)) (omega (arith, ints))
-
 rows_one : (f : Filling) (r : Rect) (y : ℤ) → rows_puts f r y 1 ≡ text_puts r r.x y (row_text f r.x y r.width)
 unfolding rows_puts
 rows_one f r y = append-nil (text_puts r r.x y (row_text f r.x y r.width))

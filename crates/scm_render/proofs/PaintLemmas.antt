@@ -91,14 +91,6 @@ int_eq-false a b h = go (int_eq a b) refl
 
 -- ---- a surface with puts
 
-pub with_puts-is : (ps : List Put) (s : SurfaceState) → with_puts ps s ≡ record { rect = s.rect; rows = painted s.rect ps s.rect.y s.rows }
-unfolding with_puts
-with_puts-is ps s = refl
-
-pub with_puts-rect : (ps : List Put) (s : SurfaceState) → (with_puts ps s).rect ≡ s.rect
-unfolding with_puts
-with_puts-rect ps s = refl
-
 -- puts that leave the rows as they are
 pub with_puts-same : (ps : List Put) (s : SurfaceState) → painted s.rect ps s.rect.y s.rows ≡ s.rows → with_puts ps s ≡ s
 unfolding with_puts

@@ -62,6 +62,3 @@ unfolding translated
 translated-none v w r p k e f =
     let none : is_empty (intersect_of v r) ≡ true = ap is_empty (sym e) ∙ sym f in
     rw (sym k, none) refl
-
-pub same_rect : (r : Rect) (w h : ℕ) → w ≡ r.width → h ≡ r.height → record { x = r.x; y = r.y; width = w; height = h } ≡ r
-same_rect r w h p q = let e : ◌≡◌ {A = Rect} (record { x = r.x; y = r.y; width = w; height = h }) (record { x = r.x; y = r.y; width = r.width; height = r.height }) = cc in e

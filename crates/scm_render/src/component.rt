@@ -2,10 +2,10 @@
 ghost use Rattle.std.specs.Prelude.{◌≡◌, ℤ, OnOk, IfErr};
 ghost use Rattle.scm_render.specs.Picture.{Picture, PictureInRange};
 ghost use Rattle.scm_render.specs.Canvas.{Sight, Canvas, with_picture};
-ghost use Rattle.scm_types.specs.declared.error.RecordError.TheVariants.{OutOfMemory};
+ghost use Rattle.scm_errors.specs.declared.error.RecordError.TheVariants.{OutOfMemory};
 
 use crate::viewport::Viewport;
-use scm_types::RecordError;
+use scm_errors::RecordError;
 use std::alloc::Global;
 use std::hash::Hash;
 

@@ -5,12 +5,12 @@ ghost use Rattle.scm_cells.specs.Clusters.{text_width};
 ghost use Rattle.scm_render.specs.Picture.{PictureInRange};
 ghost use Rattle.scm_render.specs.Canvas.{with_picture};
 ghost use Rattle.scm_render.specs.Drawing.{texts_width, row_rect, span_picture, line_picture, text_picture, body_texts, blank_picture, frame_picture};
-ghost use Rattle.scm_types.specs.declared.error.RecordError.TheVariants.{OutOfMemory};
+ghost use Rattle.scm_errors.specs.declared.error.RecordError.TheVariants.{OutOfMemory};
 
 use crate::filling::Filling;
 use crate::viewport::{Viewport, grown};
 use scm_cells::{Line, Rect, Span};
-use scm_types::RecordError;
+use scm_errors::RecordError;
 use std::hash::Hash;
 
 /// One row of a rectangle.

@@ -2,10 +2,10 @@
 ghost use Rattle.std.specs.Prelude.{◌≡◌, pos, ◌+ℤ◌, OnOk, IfErr, string_bytes};
 ghost use Rattle.scm_cells.specs.Rect.{InRange, RectInRange};
 ghost use Rattle.scm_render.specs.Drawing.{edge_symbol, border_symbol, symbol_at, row_text, FillingIsInRange};
-ghost use Rattle.scm_types.specs.declared.error.RecordError.TheVariants.{OutOfMemory};
+ghost use Rattle.scm_errors.specs.declared.error.RecordError.TheVariants.{OutOfMemory};
 
 use scm_cells::Rect;
-use scm_types::RecordError;
+use scm_errors::RecordError;
 
 /// The characters of the cells of a rectangle.
 #[derive(Clone, Copy)]

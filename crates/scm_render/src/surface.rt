@@ -6,11 +6,11 @@ ghost use Rattle.scm_cells.specs.Spans.{span_texts};
 ghost use Rattle.scm_render.specs.Canvas.{with_puts};
 ghost use Rattle.scm_render.specs.Rows.{limit};
 ghost use Rattle.scm_render.specs.Drawing.{has_row, whole_put, title_room, body_room, text_puts, texts_puts, texts_width, fill_puts, FillingIsInRange, lines_puts, body_texts, frame_puts};
-ghost use Rattle.scm_types.specs.declared.error.RecordError.TheVariants.{OutOfMemory};
+ghost use Rattle.scm_errors.specs.declared.error.RecordError.TheVariants.{OutOfMemory};
 
 use crate::filling::Filling;
 use scm_cells::{Grid, Rect, Span, text_width};
-use scm_types::RecordError;
+use scm_errors::RecordError;
 use std::marker::Model;
 
 /// Whether the rectangle has the row.

@@ -3,10 +3,10 @@ ghost use Rattle.std.specs.Prelude.{◌≡◌, [], OnOk, OnErr, IfErr};
 ghost use Rattle.std.specs.HashMap.{InsertsAll, IsUnchanged};
 ghost use Rattle.scm_cells.specs.Rect.{RectInRange, union_of};
 ghost use Rattle.scm_render.specs.Around.{no_rect};
-ghost use Rattle.scm_types.specs.declared.error.RecordError.TheVariants.{OutOfMemory};
+ghost use Rattle.scm_errors.specs.declared.error.RecordError.TheVariants.{OutOfMemory};
 
 use scm_cells::Rect;
-use scm_types::RecordError;
+use scm_errors::RecordError;
 use std::alloc::Global;
 use std::collections::HashMap;
 use std::hash::Hash;

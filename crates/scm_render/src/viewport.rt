@@ -8,13 +8,13 @@ ghost use Rattle.scm_render.specs.Canvas.{painted, with_mask, with_picture, Mask
 ghost use Rattle.scm_render.specs.Drawing.{mask_or, reach};
 ghost use Rattle.scm_render.specs.Places.{translated, timed, screen_rect, whole_sight};
 ghost use Rattle.std.specs.HashMap.{IsFromIterResult};
-ghost use Rattle.scm_types.specs.declared.error.RecordError.TheVariants.{OutOfMemory};
+ghost use Rattle.scm_errors.specs.declared.error.RecordError.TheVariants.{OutOfMemory};
 
 use crate::component::Component;
 use crate::surface::Surface;
 use crate::trace::{DrawnRect, DrawnRects};
 use scm_cells::{Grid, Mask, Rect, ScreenRect};
-use scm_types::RecordError;
+use scm_errors::RecordError;
 use std::alloc::{AllocError, Global};
 use std::hash::Hash;
 use std::marker::Model;

@@ -12,8 +12,6 @@ pub mod Laws
 pub mod Limits
 -- states that differ in marks and messages alone, and files whose marks fit each other
 pub mod Same
--- the faults with which a selection ends
-pub mod Fault
 -- a change of one element of a list
 pub mod Edits
 -- what a list ends as, once a borrow of its elements is over

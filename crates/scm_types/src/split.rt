@@ -5,12 +5,12 @@ ghost use Rattle.std.specs.List.{list_any};
 ghost use Rattle.scm_types.specs.Joined.{joined};
 ghost use Rattle.scm_types.specs.Split.{binary_change, has_changed_line, is_binary, is_emptied, last_binary_change, side_lines, side_mode, side_of, tail_of, text_side};
 
-use crate::error::RecordError;
 use crate::file::File;
 use crate::file_mode::FileMode;
 use crate::section::Section;
 use crate::side_text::{SideText, join_sides};
 use crate::text::{OwnedText, Text};
+use scm_errors::RecordError;
 use std::alloc::Global;
 
 /// What one side of a split file holds.

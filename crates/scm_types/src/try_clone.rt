@@ -1,8 +1,7 @@
 //! Copies of the types of a state.
 ghost use Rattle.std.specs.Prelude.{◌≡◌, IfOk, IfErr};
-ghost use Rattle.scm_types.specs.declared.error.RecordError.TheVariants.{OutOfMemory};
+ghost use Rattle.scm_errors.specs.declared.error.RecordError.TheVariants.{OutOfMemory};
 
-use crate::error::RecordError;
 use crate::file::File;
 use crate::items::Items;
 use crate::line::SectionChangedLine;
@@ -10,6 +9,7 @@ use crate::section::Section;
 use crate::split::SelectedContents;
 use crate::state::{Commit, RecordState};
 use crate::text::{OwnedText, Text};
+use scm_errors::RecordError;
 use std::alloc::Global;
 
 /// A type whose values can be copied where there is memory for it.

@@ -20,10 +20,11 @@ use Rattle.scm_render.proofs.SpanLemmas.{Spans, IsIn, in_more, spans_in, spans_m
 use Rattle.scm_view.specs.declared.ids.ComponentId.{ComponentId}
 use Rattle.scm_view.specs.declared.ids.ComponentId.TheVariants as ids
 use Rattle.scm_view.specs.Laws.{IsOpen}
-use Rattle.scm_view.specs.Layers.{Runs, end_of}
+use Rattle.scm_view.specs.Layers.{end_of}
 use Rattle.scm_view.specs.Texts.{button_text, divider_text, message_text, no_files_text}
 use Rattle.scm_view.proofs.FilesOf.{IsFileOf, AreFilesOf, HasItsIds}
-use Rattle.scm_view.specs.Rows.{file_id, HeaderRow, ShownFile, Document, file_rows, files_rows, message_height}
+use Rattle.scm_view.specs.Rows.{file_id, HeaderRow, ShownFile, Document, file_rows, message_height}
+use Rattle.scm_view.proofs.FilesRows.{files_rows}
 use Rattle.scm_view.specs.Pictures.{to_end, edit_button, button_picture, beside_button, message_picture, shown_file_picture, file_mask, mask_row, pinned_header, pinned_mask, pinned_picture, one_file_picture, files_picture, no_files_picture, document_picture}
 use Rattle.scm_view.specs.Strips.{file_strips, is_over, files_strips, message_strips, no_files_gap, files_layer, document_layers}
 use Rattle.scm_view.specs.Window.{rows_layers}
@@ -35,7 +36,7 @@ use Rattle.scm_view.proofs.DocumentLemmas.{over-below, length-message}
 use Rattle.scm_view.proofs.FileBoxLemmas.{file-span}
 use Rattle.scm_view.proofs.DocumentOwnerLemmas.{document_part}
 use Rattle.scm_view.proofs.WindowLemmas.{body_sight, open-below, row-below, reach-below}
-use Rattle.scm_view.proofs.RunLemmas.{runs_more, runs_as, runs_of, lowest, highest}
+use Rattle.scm_view.proofs.RunLemmas.{Runs, runs_more, runs_as, runs_of, lowest, highest}
 
 -- ---- messages
 

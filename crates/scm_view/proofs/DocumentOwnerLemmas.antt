@@ -6,7 +6,7 @@ use Rattle.std.proofs.lemmas.Int.{ints}
 use Rattle.std.proofs.lemmas.Bool.Decides.{Decides-int_eq}
 use Rattle.scm_cells.specs.Clusters.{text_width}
 use Rattle.scm_cells.proofs.WidthLemmas.{width-edit_message}
-use Rattle.scm_render.specs.Picture.{Box, nothing, followed_by, covering, part, box_rect}
+use Rattle.scm_render.specs.Picture.{nothing, followed_by, covering, part, box_rect}
 use Rattle.scm_render.specs.Around.{around, no_rect}
 use Rattle.scm_render.specs.Canvas.{Sight}
 use Rattle.scm_render.specs.Drawing.{row_rect, span_picture}
@@ -125,10 +125,6 @@ part-file ids.HelpDialogQuitButton k e = absurd (cc e)
 part-message : (commit : ℕ) (i : ComponentId) → IsOfMessage commit i → IsPart Body i
 part-message commit i (inl e) = ap part_of e
 part-message commit i (inr e) = ap part_of e
-
-no-hit : (same : ComponentId → ComponentId → Bool) (rep : ComponentId → Bool) (bs : List (Box ComponentId)) (y x : ℤ) → bs ≡ [] → hit same is_clickable rep bs y x ≡ None
-unfolding hit
-no-hit same rep bs y x e = rw e refl
 
 module _ (same : ComponentId → ComponentId → Bool) (law : IsLawful same) where
   body-owns : (commit : ℕ) (message : Option (List ℕ)) (fs : List ShownFile) (s : Sight) (w h m top : ℕ) → 10 ≤ w → IsOpen s w → mask_row s ≡ pos m → AreFilesOf commit 0 fs

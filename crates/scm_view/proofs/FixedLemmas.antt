@@ -9,7 +9,6 @@ use Rattle.scm_view.specs.declared.ids.ComponentId.{ComponentId}
 use Rattle.scm_view.specs.declared.ids.ComponentId.TheVariants as ids
 use Rattle.scm_view.specs.declared.button.Button.{Button}
 use Rattle.scm_view.specs.declared.menu.MenuItem.{MenuItem}
-use Rattle.scm_view.specs.declared.menu.Menu.{Menu}
 use Rattle.scm_view.specs.declared.quit_dialog.QuitDialog.{QuitDialog}
 use Rattle.scm_view.specs.declared.quit_dialog.QuitDialogButtonId.{QuitDialogButtonId}
 use Rattle.scm_view.specs.declared.quit_dialog.QuitDialogButtonId.TheVariants.{Quit, GoBack}
@@ -20,7 +19,7 @@ use Rattle.scm_view.specs.Buttons.{button_width}
 use Rattle.scm_view.specs.Menus.{item_button, widest_item, headers_width, opened}
 use Rattle.scm_view.proofs.OpenMenus.{IsOpenWide}
 use Rattle.scm_view.proofs.OwnButtons.{IsDialog}
-use Rattle.scm_view.specs.Tables.{item, file_menu, edit_menu, select_menu, view_menu, all_menus, menus_with, quit_button, go_back_button, close_button, quit_dialog, help_dialog}
+use Rattle.scm_view.specs.Tables.{item, all_menus, menus_with, quit_button, go_back_button, close_button, quit_dialog, help_dialog}
 use Rattle.scm_view.proofs.Ranges.{IsShortMenu, IsShortBar, button_columns}
 use Rattle.scm_view.proofs.MenuLemmas.{differ}
 
@@ -34,23 +33,9 @@ firsts : (text_width (codes "[Confirm (c)]") ≡ 13) × (text_width (codes "[Edi
 unfolding text_width clusters kept with_width kept_width has_control unicode_segmentation unicode_width
 firsts = (refl, refl, refl, refl)
 
--- the column of a menu's header
-abbrev header_column : Option (ℕ × Menu) → Option ℕ
-header_column None = None
-header_column (Some m) = Some m.0
-
-pub header_places : (header_column (opened 0 all_menus (Some 0)) ≡ Some 0) × (header_column (opened 0 all_menus (Some 1)) ≡ Some 7)
-    × (header_column (opened 0 all_menus (Some 2)) ≡ Some 14) × (header_column (opened 0 all_menus (Some 3)) ≡ Some 23)
-unfolding opened button_width text_width clusters kept with_width kept_width has_control unicode_segmentation unicode_width
-header_places = (refl, refl, refl, refl)
-
 pub header_total : headers_width all_menus ≡ 30
 unfolding headers_width button_width text_width clusters kept with_width kept_width has_control unicode_segmentation unicode_width
 header_total = refl
-
-pub menu_columns : (widest_item file_menu.items ≡ 13) × (widest_item edit_menu.items ≡ 36) × (widest_item select_menu.items ≡ 50) × (widest_item view_menu.items ≡ 38)
-unfolding widest_item button_width text_width clusters kept with_width kept_width has_control unicode_segmentation unicode_width
-menu_columns = (refl, refl, refl, refl)
 
 -- ---- the open menu has a column
 

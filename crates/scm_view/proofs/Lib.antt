@@ -6,6 +6,7 @@ pub mod Parts
 pub mod OpenMenus
 pub mod OwnButtons
 pub mod OverlaysPicture
+pub mod FilesRows
 -- ---- lemmas
 pub mod HeadingLemmas
 pub mod RowsLemmas
@@ -14,7 +15,6 @@ pub mod FilesLemmas
 pub mod NearLemmas
 pub mod LimitLemmas
 pub mod StripLemmas
-pub mod ExampleLemmas
 pub mod ButtonRowLemmas
 pub mod DialogPlaceLemmas
 pub mod MenuPartsLemmas
@@ -24,8 +24,6 @@ pub mod MenuLemmas
 pub mod DialogLemmas
 pub mod RangeLemmas
 pub mod FixedLemmas
-pub mod Computing
-pub mod OverlayExampleLemmas
 pub mod OverlayLemmas
 pub mod DocumentLemmas
 pub mod AppLemmas
@@ -48,5 +46,3 @@ pub mod RunLemmas
 pub mod DocumentExtentLemmas
 pub mod WindowOwnerLemmas
 pub mod WindowExtentLemmas
-pub mod WindowExampleLemmas
-pub mod ScreenExampleLemmas

@@ -17,7 +17,8 @@ use Rattle.scm_render.proofs.PictureLemmas.{PictureInRange-as_part, PictureInRan
 use Rattle.scm_view.specs.Close.{IsClose, SightIsClose}
 use Rattle.scm_view.proofs.Near.{IsNear, SightIsNear, IsNarrow, IsNarrowBox, IsNarrowHeading, IsNarrowRow, AreNarrow, AreNarrowSections, IsNarrowFile, AreNarrowFiles, IsNarrowMessage, IsNarrowDocument}
 use Rattle.scm_view.specs.Texts.{box_text, button_text, divider_text, message_text, no_files_text}
-use Rattle.scm_view.specs.Rows.{IdBox, Heading, DocRow, HeaderRow, SectionRow, LineRow, MarkRow, ContextRow, DotsRow, BlankRow, ShownSection, ShownFile, Document, sections_rows, file_rows, files_rows, message_height}
+use Rattle.scm_view.specs.Rows.{IdBox, Heading, DocRow, HeaderRow, SectionRow, LineRow, MarkRow, ContextRow, DotsRow, BlankRow, ShownSection, ShownFile, Document, sections_rows, file_rows, message_height}
+use Rattle.scm_view.proofs.FilesRows.{files_rows}
 use Rattle.scm_view.specs.Pictures.{to_end, rest_of_row, whole_row, box_picture, box_part, fold_column, heading_width, heading_mask, title_picture, heading_picture, changed_picture, context_picture, highlight, row_picture, rows_picture, sections_picture, shown_file_picture, file_mask, pinned_mask, mask_row, is_pinned, pinned_picture, one_file_picture, files_picture, edit_button, button_picture, beside_button, message_picture, no_files_picture, document_picture}
 
 -- ---- rectangles
@@ -47,9 +48,6 @@ unfolding reach rect_between
 reach-near s n = record { x = greater-near _ _ n.mask_x n.x; end_x = end-near _ _ _ _ n.mask_x n.x n.end_x }
 
 -- ---- calls
-
-gap-small : (e x : ℤ) → IsNear e → neg_ℤ (pos (2 ^ 60 + 100)) ≤ℤ x → or_zero (e -ℤ x) ≤ 2 ^ 61 + 100
-gap-small e x p q = omega (arith, places)
 
 module _ {K : Type 0} where
   span-in : (s : Sight) (x y : ℤ) (t : List ℕ) → neg_ℤ (pos (2 ^ 60 + 100)) ≤ℤ x → x ≤ℤ pos (2 ^ 60 + 100) → IsNear y → text_width t ≤ 2 ^ 60 → PictureInRange {K = K} (span_picture s x y t)

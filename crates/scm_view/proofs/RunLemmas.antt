@@ -3,16 +3,22 @@ use Rattle.std.proofs.Common.{◌≡◌, ℕ, ◌<◌, min, max, false, List, fo
 use Rattle.std.specs.Prelude.{ℤ, pos, ◌+ℤ◌, ◌<ℤ◌}
 use Rattle.std.specs.Int.{int_min, int_max}
 use Rattle.std.proofs.lemmas.Int.{ints, clamps}
-use Rattle.scm_cells.specs.Rect.{is_empty}
+use Rattle.scm_cells.specs.Rect.{is_empty, end_y_of}
 use Rattle.scm_cells.specs.declared.rect.Rect.{Rect}
 use Rattle.scm_render.specs.Around.{join}
 use Rattle.scm_render.proofs.AroundLemmas.{is_empty-in}
 use Rattle.scm_render.proofs.SpanLemmas.{Spans, spans_not_empty, join-x, join-y, join-end_x, join-end_y}
 use Rattle.scm_view.specs.declared.ids.ComponentId.{ComponentId}
-use Rattle.scm_view.specs.Layers.{Layer, Runs, end_of}
+use Rattle.scm_view.specs.Layers.{Layer, end_of}
 use Rattle.scm_view.proofs.DialogLemmas.{sizes}
 
 -- ---- rectangles
+
+-- a rectangle that is not empty, on exactly the rows from a to before b
+pub record Runs (r : Rect) (a b : ℤ) : Type 0 where
+  pub some : is_empty r ≡ false
+  pub top : r.y ≡ a
+  pub end : end_y_of r ≡ b
 
 join-some : (a b : Rect) → is_empty a ≡ false → is_empty b ≡ false → is_empty (join a b) ≡ false
 join-some a b p q =

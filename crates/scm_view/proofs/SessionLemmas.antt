@@ -14,7 +14,7 @@ use Rattle.scm_view.specs.declared.keys.SelectionKey.TheVariants as selection
 use Rattle.scm_view.specs.declared.ids.ComponentId.TheVariants as ids
 use Rattle.scm_view.specs.declared.section_view.SectionView.{SectionView}
 use Rattle.scm_view.specs.Texts.{dots_text}
-use Rattle.scm_view.specs.Rows.{DocRow, HeaderRow, SectionRow, LineRow, MarkRow, ContextRow, DotsRow, BlankRow, ShownSection, ShownFile, is_fold_open, is_open, is_first_open, is_shown, is_first, is_last, has_dots, first_below, lines_above, shown_lines, rows_below, context_rows, changed_rows, numbered_rows, rows_of, section_rows, shown_section, shown_sections, shown_file, document_of}
+use Rattle.scm_view.specs.Rows.{DocRow, HeaderRow, SectionRow, LineRow, MarkRow, ContextRow, DotsRow, BlankRow, ShownSection, is_fold_open, is_open, is_first_open, is_shown, is_first, is_last, has_dots, first_below, lines_above, shown_lines, rows_below, context_rows, changed_rows, numbered_rows, rows_of, section_rows, shown_section, shown_sections, shown_file, document_of}
 use Rattle.scm_view.specs.Keys.{section_key_of}
 use Rattle.scm_view.specs.Shown.{Shown, Totals, totals_of, old_lines, section_view_of, section_views_of, file_view_of, file_views_of, commit_view_of}
 use Rattle.scm_view.specs.Owners.{IsRowOf, after_row, AreRowsOf, AreSectionsOf}
@@ -274,10 +274,6 @@ file-of s k n f h =
       sections = if-sections k (is_fold_open v.expand_box) (shown_sections false v.section_views) (sections-of s (totals_of f.sections) k false 0 0 0 f.sections);
       rows = if-rows (is_fold_open v.expand_box) (shown_sections false v.section_views) (sections-some s (totals_of f.sections) k false 0 0 0 f.sections (omega arith) (λ e. absurd (cc e)));
     }
-
-files-earlier : (commit n m : ℕ) (fs : List ShownFile) → n ≤ m → AreFilesOf commit m fs → AreFilesOf commit n fs
-files-earlier commit n m [] less e = tt
-files-earlier commit n m (f ∷ fs) less e = (record { commit_is = e.0.commit_is; index = omega (arith, less, e.0.index); heading = e.0.heading; sections = e.0.sections; rows = e.0.rows }, e.1)
 
 files-of : (s : Shown) (commit i : ℕ) (fs : List File) → AreFilesOf commit i (map shown_file (file_views_of s commit i fs))
 unfolding file_views_of shown_file

@@ -17,7 +17,7 @@ use Rattle.scm_view.specs.declared.app_view.AppView.{AppView}
 use Rattle.scm_view.specs.declared.quit_dialog.QuitDialog.{QuitDialog}
 use Rattle.scm_view.specs.Clicks.{is_clickable}
 use Rattle.scm_view.proofs.Parts.{Leaving, Help, Body, Whole, part_of}
-use Rattle.scm_view.specs.Layers.{Layer, Runs, end_of}
+use Rattle.scm_view.specs.Layers.{Layer, end_of}
 use Rattle.scm_view.specs.Menus.{menu_bar_picture, menu_strips, menu_layer}
 use Rattle.scm_view.proofs.OwnButtons.{IsDialog}
 use Rattle.scm_view.specs.Dialogs.{ShownDialog, dialog_layer, dialog_picture, widest_line}
@@ -30,7 +30,7 @@ use Rattle.scm_view.specs.Window.{inline_document, rows_layers, height_of_box, e
 use Rattle.scm_view.proofs.Draws.{none_of, box-followed, box-part}
 use Rattle.scm_view.proofs.DialogLemmas.{centred_60, centred_20, join-none, box-none, box-placed, length-dialog, dialog-is}
 use Rattle.scm_view.proofs.FixedLemmas.{open_is_wide, quit_is_dialog, help_is_dialog}
-use Rattle.scm_view.proofs.RunLemmas.{runs_more, runs_as, runs_of, lowest, highest}
+use Rattle.scm_view.proofs.RunLemmas.{Runs, runs_more, runs_as, runs_of, lowest, highest}
 use Rattle.scm_view.proofs.SessionLemmas.{session-ids}
 use Rattle.scm_view.proofs.DocumentOwnerLemmas.{body-ids}
 use Rattle.scm_view.proofs.DocumentExtentLemmas.{body-runs}

@@ -265,11 +265,6 @@ abbrev pub message_height : Option (List ℕ) → ℕ
 message_height None = 0
 message_height (Some message) = 3
 
--- the rows of files, one below another
-unfoldable pub files_rows : List ShownFile → List DocRow
-files_rows [] = []
-files_rows (f ∷ fs) = file_rows f ++ files_rows fs
-
 -- all that is shown of a commit: its index, its message, and the files
 pub record Document : Type 0 where
   pub commit : ℕ

@@ -4,7 +4,7 @@ ghost use Rattle.scm_cells.specs.Rect.{InRange, RectInRange, end_x_of};
 ghost use Rattle.scm_cells.specs.Mask.{MaskInRange};
 ghost use Rattle.scm_render.specs.Picture.{PictureInRange, part};
 ghost use Rattle.scm_render.specs.Canvas.{with_picture};
-ghost use Rattle.scm_types.specs.declared.error.RecordError.TheVariants.{OutOfMemory};
+ghost use Rattle.scm_errors.specs.declared.error.RecordError.TheVariants.{OutOfMemory};
 ghost use Rattle.scm_view.specs.declared.ids.ComponentId.TheVariants as ids;
 ghost use Rattle.scm_view.specs.Overlays.{quit_picture, help_picture};
 ghost use Rattle.scm_view.specs.AppView.{views_shown, view_width, held, view_mask, view_picture, next_view, views_picture, has_help};

@@ -4,7 +4,7 @@ ghost use Rattle.scm_cells.specs.Rect.{InRange};
 ghost use Rattle.scm_cells.specs.Mask.{MaskInRange};
 ghost use Rattle.scm_render.specs.Picture.{PictureInRange};
 ghost use Rattle.scm_render.specs.Canvas.{with_picture};
-ghost use Rattle.scm_types.specs.declared.error.RecordError.TheVariants.{OutOfMemory};
+ghost use Rattle.scm_errors.specs.declared.error.RecordError.TheVariants.{OutOfMemory};
 ghost use Rattle.scm_view.specs.Rows.{shown_file};
 ghost use Rattle.scm_view.specs.Pictures.{mask_row, file_mask, pinned_mask, pinned_header, one_file_picture, files_picture, body_picture};
 

@@ -1,6 +1,6 @@
 //! A menu: what opens below a header of the menu bar.
 ghost use Rattle.std.specs.Prelude.{◌≡◌, IfOk, IfErr};
-ghost use Rattle.scm_types.specs.declared.error.RecordError.TheVariants.{OutOfMemory};
+ghost use Rattle.scm_errors.specs.declared.error.RecordError.TheVariants.{OutOfMemory};
 ghost use Rattle.scm_view.specs.Menus.{header_button, item_button, widest_item};
 
 use crate::button::Button;

@@ -1,6 +1,6 @@
 //! The dialog that asks whether to quit.
 ghost use Rattle.std.specs.Prelude.{◌≡◌, codes, IfOk, IfErr, string_bytes};
-ghost use Rattle.scm_types.specs.declared.error.RecordError.TheVariants.{OutOfMemory};
+ghost use Rattle.scm_errors.specs.declared.error.RecordError.TheVariants.{OutOfMemory};
 ghost use Rattle.scm_view.specs.Tables.{counted, changes_text, quit_text, is_quit, is_go_back, quit_button, go_back_button};
 
 use crate::button::Button;

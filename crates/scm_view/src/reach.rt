@@ -4,7 +4,7 @@ ghost use Rattle.scm_cells.specs.Rect.{or_zero, InRange, RectInRange};
 ghost use Rattle.scm_cells.specs.Mask.{MaskInRange};
 ghost use Rattle.scm_render.specs.Picture.{PictureInRange, covering, part};
 ghost use Rattle.scm_render.specs.Canvas.{with_picture, under};
-ghost use Rattle.scm_types.specs.declared.error.RecordError.TheVariants.{OutOfMemory};
+ghost use Rattle.scm_errors.specs.declared.error.RecordError.TheVariants.{OutOfMemory};
 ghost use Rattle.scm_view.specs.declared.ids.ComponentId.{ComponentId};
 ghost use Rattle.scm_view.specs.Pictures.{to_end, fold_column, rest_of_row, whole_row, highlight};
 

@@ -3,7 +3,7 @@ ghost use Rattle.std.specs.Prelude.{◌≡◌, ℕ, ◌≤◌, ◌+◌, ◌-◌,
 ghost use Rattle.scm_cells.specs.Rect.{InRange};
 ghost use Rattle.scm_render.specs.Picture.{PictureInRange};
 ghost use Rattle.scm_render.specs.Canvas.{with_picture};
-ghost use Rattle.scm_types.specs.declared.error.RecordError.TheVariants.{OutOfMemory};
+ghost use Rattle.scm_errors.specs.declared.error.RecordError.TheVariants.{OutOfMemory};
 ghost use Rattle.scm_types.specs.declared.section.Section.TheVariants.{Changed};
 ghost use Rattle.scm_view.specs.Texts.{section_text, mode_change_text, binary_text, dots_text};
 ghost use Rattle.scm_view.specs.Rows.{SectionRow, MarkRow, DotsRow, mark_of, line_key_of, section_box, line_box, section_heading, line_number, numbered_row, numbered_rows, changed_row, changed_rows, context_rows, section_rows, is_selected, is_line_selected, is_header_selected, is_first, is_last, is_open, are_all_shown, lines_above, has_dots, first_below, rows_below, shown_lines, rows_of, dots_height, lines_height, context_height, changed_height, section_height};

@@ -1,6 +1,6 @@
 //! The texts that the parts of the document show, each made in one place.
 ghost use Rattle.std.specs.Prelude.{◌≡◌, IfOk, IfErr, string_bytes};
-ghost use Rattle.scm_types.specs.declared.error.RecordError.TheVariants.{OutOfMemory};
+ghost use Rattle.scm_errors.specs.declared.error.RecordError.TheVariants.{OutOfMemory};
 ghost use Rattle.scm_view.specs.Rows.{lent_text};
 ghost use Rattle.scm_view.specs.Texts.{path_text, section_text, mode_change_text, binary_text, sign_text, number_text, dots_text, message_text, divider_text, no_files_text};
 

@@ -1,6 +1,6 @@
 //! Boxes of three states: they show marks and folds.
 ghost use Rattle.std.specs.Prelude.{◌≡◌, IfOk, IfErr, string_bytes};
-ghost use Rattle.scm_types.specs.declared.error.RecordError.TheVariants.{OutOfMemory};
+ghost use Rattle.scm_errors.specs.declared.error.RecordError.TheVariants.{OutOfMemory};
 ghost use Rattle.scm_view.specs.Rows.{is_fold_open};
 ghost use Rattle.scm_view.specs.Texts.{icon_text, box_text};
 

@@ -1,16 +1,16 @@
 //! What clicks do, and how a message comes to be edited.
 
 use super::{Flow, Selector};
-use crate::events::Event;
 use crate::frame::DrawnFrame;
 use crate::menus::event_of_item;
 use crate::moves::is_key;
+use scm_input::Event;
 use scm_types::RecordError;
 use scm_view::{ComponentId, SelectionKey};
 
 impl<'state> Selector<'state> {
     ghost use Rattle.std.specs.Prelude.{◌≡◌, IfErr, IfOk, None, OnOk, is_some};
-    ghost use Rattle.scm_types.specs.declared.error.RecordError.TheVariants.{OutOfMemory};
+    ghost use Rattle.scm_errors.specs.declared.error.RecordError.TheVariants.{OutOfMemory};
     ghost use Rattle.scm_record.specs.Frames.{IsShown, Scene};
     ghost use Rattle.scm_record.specs.Uses.{hit};
     ghost use Rattle.scm_record.specs.Session.{after_expand, after_item, after_menu, after_toggle, at_key, message_of};

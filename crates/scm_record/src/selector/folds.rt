@@ -8,7 +8,7 @@ use scm_view::SelectionKey;
 
 impl<'state> Selector<'state> {
     ghost use Rattle.std.specs.Prelude.{◌≡◌, IfErr, IfOk, OnOk};
-    ghost use Rattle.scm_types.specs.declared.error.RecordError.TheVariants.{OutOfMemory};
+    ghost use Rattle.scm_errors.specs.declared.error.RecordError.TheVariants.{OutOfMemory};
     ghost use Rattle.scm_record.specs.Session.{after_expand, after_expand_all, after_fold};
     ghost use Rattle.scm_record.specs.Change.{stays};
     ghost use Rattle.scm_record.specs.Dialogs.{unless_asked};

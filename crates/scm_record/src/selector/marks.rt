@@ -6,7 +6,7 @@ use scm_types::RecordError;
 
 impl<'state> Selector<'state> {
     ghost use Rattle.std.specs.Prelude.{◌≡◌, IfErr, IfOk};
-    ghost use Rattle.scm_types.specs.declared.error.RecordError.TheVariants.{OutOfMemory};
+    ghost use Rattle.scm_errors.specs.declared.error.RecordError.TheVariants.{OutOfMemory};
     ghost use Rattle.scm_record.specs.Session.{after_advance, after_toggle, after_toggle_all, after_toggle_all_uniform};
     ghost use Rattle.scm_record.specs.Change.{stays};
     ghost use Rattle.scm_record.specs.Dialogs.{dialog_pressed_or, help_closed_or, unless_asked};

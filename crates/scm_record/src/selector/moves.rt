@@ -10,7 +10,7 @@ use scm_view::{QuitDialogButtonId, SelectionKey};
 
 impl<'state> Selector<'state> {
     ghost use Rattle.std.specs.Prelude.{◌≡◌, IfErr, IfOk, OnOk};
-    ghost use Rattle.scm_types.specs.declared.error.RecordError.TheVariants.{OutOfMemory};
+    ghost use Rattle.scm_errors.specs.declared.error.RecordError.TheVariants.{OutOfMemory};
     ghost use Rattle.scm_view.specs.declared.quit_dialog.QuitDialogButtonId.TheVariants.{Quit, GoBack};
     ghost use Rattle.scm_record.specs.Keys.{first_key};
     ghost use Rattle.scm_record.specs.Frames.{IsShown, Scene};

@@ -2,7 +2,7 @@ use Rattle.std.proofs.Common.{◌≡◌, List, take}
 use Rattle.std.specs.Prelude.{ℕ, map}
 use Rattle.std.specs.Borrow.{Bor}
 use Rattle.scm_view.specs.Tables.{item}
-use Rattle.scm_record.specs.declared.events.Event.{Event}
+use Rattle.scm_input.specs.declared.events.Event.{Event}
 use Rattle.scm_record.proofs.menus.menu_of.Given as goal
 
 -- the items of the rows so far

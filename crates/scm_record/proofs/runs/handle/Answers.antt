@@ -1,6 +1,6 @@
 use Rattle.std.proofs.Common.{◌∙◌, refl}
 use Rattle.std.proofs.lemmas.Result.{err_from_is_err_and}
-use Rattle.scm_types.specs.Fault.{Cancelled}
+use Rattle.scm_errors.specs.Fault.{Cancelled}
 use Rattle.scm_record.specs.declared.selector.Flow.TheVariants as flows
 use Rattle.scm_record.specs.Uses.{shot_of}
 use Rattle.scm_record.specs.Run.{setting, world_in, edited, kept_at, step_in}

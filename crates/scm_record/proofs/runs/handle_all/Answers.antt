@@ -1,6 +1,6 @@
 use Rattle.std.proofs.Common.{sym, ◌∙◌, refl}
 use Rattle.std.proofs.lemmas.Result.{err_from_is_err_and}
-use Rattle.scm_record.specs.declared.events.Event.TheVariants.{None}
+use Rattle.scm_input.specs.declared.events.Event.TheVariants.{None}
 use Rattle.scm_record.specs.declared.runs.Next.TheVariants.{GoOn, Accept}
 use Rattle.scm_record.specs.Frames.{IsShown, Scene, scene_of}
 use Rattle.scm_record.specs.Run.{here}

@@ -1,7 +1,7 @@
 use Rattle.std.proofs.Common.{◌≡◌, ℕ}
 use Rattle.scm_record.specs.Frames.{HasSize}
 use Rattle.scm_record.specs.Run.{setting, world_in, Before, Reaches}
-use Rattle.scm_record.specs.Store.{counted}
+use Rattle.scm_input.specs.Store.{counted}
 use Rattle.scm_record.proofs.Budget.{turns_left}
 use Rattle.scm_record.proofs.runs.run_to_end.Given as goal
 

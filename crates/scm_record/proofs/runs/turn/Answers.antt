@@ -1,7 +1,7 @@
 use Rattle.std.proofs.Common.{◌+◌, ap, ◌∙◌, refl}
 use Rattle.std.proofs.lemmas.Result.{err_from_is_err_and}
 use Rattle.scm_record.specs.Frames.{Scene, IsShown}
-use Rattle.scm_record.specs.Store.{Store}
+use Rattle.scm_input.specs.Store.{Store}
 use Rattle.scm_record.specs.Run.{setting}
 use Rattle.scm_record.proofs.RunLemmas.{undrawn-turn, drawn-turn, no_batch-stops, turn-goes, turn-ceases}
 use Rattle.scm_record.proofs.runs.turn.Goals as goal

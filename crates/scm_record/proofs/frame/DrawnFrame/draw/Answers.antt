@@ -1,8 +1,8 @@
 use Rattle.std.proofs.Common.{◌∙◌, ◌≤◌, ap, arith, sym}
 use Rattle.scm_view.specs.Shown.{Shown}
 use Rattle.scm_record.specs.Frames.{columns_of, rows_of}
-use Rattle.scm_record.specs.declared.inputs.TerminalKind.{TerminalKind}
-use Rattle.scm_record.specs.declared.inputs.TerminalKind.TheVariants.{Testing}
+use Rattle.scm_input.specs.declared.inputs.TerminalKind.{TerminalKind}
+use Rattle.scm_input.specs.declared.inputs.TerminalKind.TheVariants.{Testing}
 use Rattle.scm_record.proofs.FrameLemmas.{Laws, drawn-frame}
 use Rattle.scm_record.proofs.frame.DrawnFrame.draw.Goals as goal
 

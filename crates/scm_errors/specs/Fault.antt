@@ -1,0 +1,28 @@
+-- The faults with which a selection ends, by their texts.
+use Rattle.std.specs.Prelude.{ℕ, List, Option, Some, None, string_bytes}
+use Rattle.scm_errors.specs.declared.error.RecordError.{RecordError}
+use Rattle.scm_errors.specs.declared.error.RecordError.TheVariants as errors
+
+pub data Fault : Type 0 where
+  Cancelled : Fault
+  SetUpTerminal : List ℕ → Fault
+  CleanUpTerminal : List ℕ → Fault
+  RenderFrame : List ℕ → Fault
+  ReadInput : List ℕ → Fault
+  SerializeJson : List ℕ → Fault
+  WriteFile : List ℕ → Fault
+  Other : List ℕ → Fault
+  Bug : List ℕ → Fault
+
+-- the fault that an error is, none for running out of memory
+abbrev pub fault_of : RecordError → Option Fault
+fault_of errors.Cancelled = Some Cancelled
+fault_of (errors.SetUpTerminal text) = Some (SetUpTerminal (string_bytes text))
+fault_of (errors.CleanUpTerminal text) = Some (CleanUpTerminal (string_bytes text))
+fault_of (errors.RenderFrame text) = Some (RenderFrame (string_bytes text))
+fault_of (errors.ReadInput text) = Some (ReadInput (string_bytes text))
+fault_of (errors.SerializeJson text) = Some (SerializeJson (string_bytes text))
+fault_of (errors.WriteFile text) = Some (WriteFile (string_bytes text))
+fault_of (errors.Other text) = Some (Other (string_bytes text))
+fault_of (errors.Bug text) = Some (Bug (string_bytes text))
+fault_of errors.OutOfMemory = None

@@ -1,0 +1,2 @@
+-- the faults with which a selection ends
+pub mod Fault

@@ -1,0 +1,66 @@
+//! Why a selection ends without a state.
+ghost use Rattle.std.specs.Prelude.{◌≡◌};
+ghost use Rattle.scm_errors.specs.declared.error.RecordError.TheVariants.{OutOfMemory};
+
+use std::alloc::{AllocError, AllocFailed};
+use thiserror::Error;
+
+/// Why a selection ends without a state. Causes are texts: an error has no `source`.
+#[derive(Debug, Drop, Error)]
+pub enum RecordError {
+    /// The user cancelled.
+    #[error("cancelled by user")]
+    Cancelled,
+
+    /// The terminal could not be set up.
+    #[error("failed to set up terminal: {0}")]
+    SetUpTerminal(String),
+
+    /// The terminal could not be cleaned up.
+    #[error("failed to clean up terminal: {0}")]
+    CleanUpTerminal(String),
+
+    /// A frame could not be drawn.
+    #[error("failed to render new frame: {0}")]
+    RenderFrame(String),
+
+    /// The input failed, or it has no more events.
+    #[error("failed to read user input: {0}")]
+    ReadInput(String),
+
+    /// The state could not be written as JSON.
+    #[error("failed to serialize JSON: {0}")]
+    SerializeJson(String),
+
+    /// A file could not be written.
+    #[error("failed to wrote file: {0}")]
+    WriteFile(String),
+
+    /// Another cause.
+    #[error("{0}")]
+    Other(String),
+
+    /// A fault of the selector itself.
+    #[error("bug: {0}")]
+    Bug(String),
+
+    /// A request for memory was refused.
+    #[error("out of memory")]
+    OutOfMemory,
+}
+
+impl From<AllocError> for RecordError {
+    ghost from_gives = { λ _ e. e ≡ OutOfMemory };
+
+    fn from(_error: AllocError) -> RecordError {
+        RecordError::OutOfMemory
+    }
+}
+
+impl<T: Drop> From<AllocFailed<T>> for RecordError {
+    ghost from_gives = { λ _ e. e ≡ OutOfMemory };
+
+    fn from(_error: AllocFailed<T>) -> RecordError {
+        RecordError::OutOfMemory
+    }
+}

@@ -1,0 +1,14 @@
+-- what screens computed from the definitions share
+pub mod Computing
+-- texts that are cut, with an ellipsis
+pub mod Ellipses
+-- the rows of two small files
+pub mod Documents
+-- menus and dialogs
+pub mod Overlays
+-- whole screens, owners and extents of small sessions
+pub mod Windows
+-- screens that are scrolled, or that have dialogs
+pub mod Screens
+-- what events make of small sessions
+pub mod Steps

@@ -1,0 +1,22 @@
+-- What an input of batches, answers and faults reads and edits.
+use Rattle.std.specs.Prelude.{List, map, string_bytes}
+use Rattle.scm_errors.specs.Fault.{Other, ReadInput}
+use Rattle.scm_input.specs.Script.{Read, Batch, BrokenRead, Edit, Answer, BrokenEdit}
+use Rattle.scm_input.specs.declared.scripts.ScriptRead.{ScriptRead}
+use Rattle.scm_input.specs.declared.scripts.ScriptRead.TheVariants as script_reads
+use Rattle.scm_input.specs.declared.scripts.ScriptEdit.{ScriptEdit}
+use Rattle.scm_input.specs.declared.scripts.ScriptEdit.TheVariants as script_edits
+
+abbrev pub read_in : ScriptRead → Read
+read_in (script_reads.Batch events) = Batch events.items
+read_in (script_reads.Fault text) = BrokenRead (ReadInput (string_bytes text))
+
+abbrev pub reads_in : List ScriptRead → List Read
+reads_in = map read_in
+
+abbrev pub edit_in : ScriptEdit → Edit
+edit_in (script_edits.Answer text) = Answer (string_bytes text)
+edit_in (script_edits.Fault text) = BrokenEdit (Other (string_bytes text))
+
+abbrev pub edits_in : List ScriptEdit → List Edit
+edits_in = map edit_in

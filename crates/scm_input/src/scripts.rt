@@ -1,0 +1,126 @@
+//! An input that is a script of batches, answers and faults.
+use crate::events::Event;
+use crate::inputs::{RecordInput, TerminalKind};
+use scm_types::RecordError;
+use std::alloc::Global;
+use std::collections::VecDeque;
+
+/// A read of a script.
+#[derive(Drop)]
+pub enum ScriptRead {
+    /// The events of a batch, perhaps none.
+    Batch(Vec<Event>),
+    /// The read fails with `ReadInput` of this text.
+    Fault(String),
+}
+
+/// An edit of a script.
+#[derive(Drop)]
+pub enum ScriptEdit {
+    /// The new message.
+    Answer(String),
+    /// The edit fails with `Other` of this text.
+    Fault(String),
+}
+
+/// An input that gives its reads and edits in order, each once.
+///
+/// Past the reads a read fails with `ReadInput("no events left")`, past the edits an edit with
+/// `Other("No more commit messages available")`. Where memory for these words is refused the
+/// script is as it was.
+#[derive(Drop)]
+pub struct ScriptInput {
+    /// Where memory for the words of faults comes from.
+    alloc: Global,
+    /// The screen's columns.
+    width: usize,
+    /// The screen's rows.
+    height: usize,
+    /// The reads that are left.
+    reads: VecDeque<ScriptRead>,
+    /// The edits that are left.
+    edits: VecDeque<ScriptEdit>,
+}
+
+impl ScriptInput {
+    ghost use Rattle.std.specs.Prelude.{◌≡◌, IsOk, IfOk};
+    ghost use Rattle.scm_input.specs.Testing.{kind_of};
+    ghost use Rattle.scm_input.specs.Scripted.{edits_in, reads_in};
+
+    /// An input of these reads and edits, with a screen of so many columns and rows.
+    pub fn new(
+        alloc: Global,
+        width: usize,
+        height: usize,
+        reads: Vec<ScriptRead>,
+        edits: Vec<ScriptEdit>,
+    ) -> Result<ScriptInput, RecordError>
+        ensures ok { IsOk result }
+        ensures screen { IfOk result (λ i. (i.width ≡ width) × (i.height ≡ height)) }
+        ensures reads { IfOk result (λ i. i.reads.items ≡ reads.items) }
+        ensures edits { IfOk result (λ i. i.edits.items ≡ edits.items) }
+    {
+        Ok(ScriptInput {
+            alloc,
+            width,
+            height,
+            reads: VecDeque::from(reads),
+            edits: VecDeque::from(edits),
+        })
+    }
+}
+
+impl RecordInput for ScriptInput {
+    ghost use Rattle.std.specs.Prelude.{◌≡◌, List, IfErr, IfOk};
+    ghost use Rattle.scm_input.specs.Script.{Read, Edit, BrokenRead, TakesOr, no_events_left, no_more, read_of, edit_of};
+    ghost use Rattle.scm_input.specs.Testing.{kind_of};
+    ghost use Rattle.scm_input.specs.Scripted.{edits_in, reads_in};
+
+    ghost kind = { λ i. kind_of i.width i.height };
+
+    ghost reads = { λ i. reads_in i.reads.items };
+
+    ghost edits = { λ i. edits_in i.edits.items };
+
+    fn terminal_kind(&self) -> TerminalKind {
+        TerminalKind::Testing {
+            width: self.width,
+            height: self.height,
+        }
+    }
+
+    fn batches_left(&self) -> usize {
+        self.reads.len()
+    }
+
+    /// The next batch, or its fault; past the last the fault `no events left`.
+    fn next_events(&mut self) -> Result<Vec<Event>, RecordError>
+        ensures read { TakesOr (BrokenRead no_events_left) (read_of result)
+            (reads_in self.old.reads.items) (reads_in self.new.reads.items) }
+        ensures edits { edits_in self.new.edits.items ≡ edits_in self.old.edits.items }
+        ensures kind { kind_of self.new.width self.new.height ≡ kind_of self.old.width self.old.height }
+    {
+        match self.reads.pop_front() {
+            Some(ScriptRead::Batch(events)) => Ok(events),
+            Some(ScriptRead::Fault(text)) => Err(RecordError::ReadInput(text)),
+            None => Err(RecordError::ReadInput(String::from_str(self.alloc, "no events left")?)),
+        }
+    }
+
+    /// The next answer, or its fault; past the last the fault `No more commit messages available`.
+    fn edit_commit_message(&mut self, _message: &str) -> Result<String, RecordError>
+        ensures edit { TakesOr no_more (edit_of result)
+            (edits_in self.old.edits.items) (edits_in self.new.edits.items) }
+        ensures reads { reads_in self.new.reads.items ≡ reads_in self.old.reads.items }
+        ensures kind { kind_of self.new.width self.new.height ≡ kind_of self.old.width self.old.height }
+    {
+        match self.edits.pop_front() {
+            Some(ScriptEdit::Answer(text)) => Ok(text),
+            Some(ScriptEdit::Fault(text)) => Err(RecordError::Other(text)),
+            None => Err(RecordError::Other(String::from_str(
+                self.alloc,
+                "No more commit messages available",
+            )?)),
+        }
+    }
+}
