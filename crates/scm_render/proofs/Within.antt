@@ -1,5 +1,5 @@
 -- Which rectangles and pictures lie within bounds, and bounds that are in range.
-use Rattle.std.specs.Prelude.{ℤ, ◌≤ℤ◌, List, [], ◌∷◌}
+use Rattle.std.specs.Prelude.{◌≤ℤ◌, List, [], ◌∷◌}
 use Rattle.scm_cells.specs.Rect.{InRange, end_x_of, end_y_of}
 use Rattle.scm_cells.specs.declared.rect.Rect.{Rect}
 use Rattle.scm_render.specs.Picture.{Picture}

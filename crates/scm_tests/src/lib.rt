@@ -1,11 +1,7 @@
-//! Tests of the views and of the recorder, so that those crates are proved once.
+//! Tests of the recorder, its inputs and its store, in a crate of their own.
 #![tactic(auto)]
 
-#[cfg(test)]
-mod keys;
 #[cfg(test)]
 mod memory;
 #[cfg(test)]
 mod record;
-#[cfg(test)]
-mod views;

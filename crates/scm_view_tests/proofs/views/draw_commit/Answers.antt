@@ -1,8 +1,8 @@
 use Rattle.std.proofs.Common.{◌≡◌, ◌≤◌, pos, arith, to_z, w64}
 use Rattle.std.proofs.lemmas.Int.{to_z_pos}
 use Rattle.scm_render.proofs.PictureLemmas.{PictureInRange-as_part}
-use Rattle.scm_tests.proofs.ViewLemmas.{whole-close, commit-in}
-use Rattle.scm_tests.proofs.views.draw_commit.Goals as goal
+use Rattle.scm_view_tests.proofs.ViewLemmas.{whole-close, commit-in}
+use Rattle.scm_view_tests.proofs.views.draw_commit.Goals as goal
 
 pub render_top_level-requires-clause-picture : goal.render_top_level-requires-clause-picture
 render_top_level-requires-clause-picture g c =

@@ -27,7 +27,7 @@ use Rattle.scm_view.proofs.Near.{IsNear, SightIsNear, IsNarrow, IsNarrowBox, IsN
 use Rattle.scm_view.proofs.SectionsLemmas.{at_most, height-of, length-sections}
 use Rattle.scm_view.proofs.LimitLemmas.{rows-narrow}
 use Rattle.scm_view.proofs.NearLemmas.{heading-in, rows-near, document-near}
-use Rattle.scm_tests.specs.Small.{IsSmallSection, AreSmallSections, IsSmallFile, AreSmallFiles, IsSmallCommit}
+use Rattle.scm_view_tests.specs.Small.{IsSmallSection, AreSmallSections, IsSmallFile, AreSmallFiles, IsSmallCommit}
 
 -- ---- lists that are gone through
 

@@ -1,6 +1,6 @@
 use Rattle.std.proofs.Common.{sym}
-use Rattle.scm_tests.proofs.ViewLemmas.{sections-more, sections-end}
-use Rattle.scm_tests.proofs.views.check_sections.Goals as goal
+use Rattle.scm_view_tests.proofs.ViewLemmas.{sections-more, sections-end}
+use Rattle.scm_view_tests.proofs.views.check_sections.Goals as goal
 
 pub loop-view-preserved : goal.loop-view-preserved
 loop-view-preserved g c = λ rest.

@@ -4,7 +4,7 @@ ghost use Rattle.std.specs.List.{list_all};
 ghost use Rattle.scm_types.specs.Limits.{has_short_texts, is_short_text, section_size};
 ghost use Rattle.scm_view.specs.Rows.{lent_text};
 ghost use Rattle.scm_view.specs.Texts.{path_text};
-ghost use Rattle.scm_tests.specs.Small.{AreSmallFiles, AreSmallSections, IsSmallCommit, IsSmallFile, IsSmallSection};
+ghost use Rattle.scm_view_tests.specs.Small.{AreSmallFiles, AreSmallSections, IsSmallCommit, IsSmallFile, IsSmallSection};
 
 use scm_cells::Grid;
 use scm_render::{DrawnRects, Viewport};

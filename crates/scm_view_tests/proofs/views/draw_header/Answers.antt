@@ -1,7 +1,7 @@
 use Rattle.std.proofs.Common.{◌≤◌, arith, rules}
 use Rattle.scm_render.proofs.PictureLemmas.{PictureInRange-as_part}
-use Rattle.scm_tests.proofs.ViewLemmas.{whole-near, header-in}
-use Rattle.scm_tests.proofs.views.draw_header.Goals as goal
+use Rattle.scm_view_tests.proofs.ViewLemmas.{whole-near, header-in}
+use Rattle.scm_view_tests.proofs.views.draw_header.Goals as goal
 
 pub render_top_level-requires-clause-picture : goal.render_top_level-requires-clause-picture
 render_top_level-requires-clause-picture g c =

@@ -1,0 +1,7 @@
+//! Tests of the views, in a crate of their own.
+#![tactic(auto)]
+
+#[cfg(test)]
+mod keys;
+#[cfg(test)]
+mod views;
