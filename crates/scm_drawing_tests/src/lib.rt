@@ -1,8 +1,6 @@
-//! Tests of cells and of drawing, in a crate of their own, and sample components.
+//! Tests of drawing, in a crate of their own, and sample components.
 #![tactic(auto)]
 
-#[cfg(test)]
-mod cells;
 #[cfg(test)]
 mod memory;
 #[cfg(test)]

@@ -1,4 +1,4 @@
-//! Tests of the state, its split and its JSON, in a crate of their own, and sample states.
+//! Tests of the state's JSON and of its memory, in a crate of their own, and sample states.
 #![tactic(auto)]
 
 #[cfg(test)]
@@ -6,5 +6,3 @@ mod forms;
 #[cfg(test)]
 mod memory;
 pub mod samples;
-#[cfg(test)]
-mod types;

@@ -1,5 +1,5 @@
 //! Marks, splits, limits, errors, lists and texts, by the project's values.
-use crate::samples::{ADDED, DEFAULT, Line, REMOVED, changed, context, file_of, owned};
+use scm_state_tests::samples::{ADDED, DEFAULT, Line, REMOVED, changed, context, file_of, owned};
 use scm_types::consts::{DUMP_UI_STATE_FILENAME, ENV_VAR_DEBUG_UI, ENV_VAR_DUMP_UI_STATE};
 use scm_types::helpers::make_binary_description;
 use scm_types::{
