@@ -1,5 +1,7 @@
 //! Rectangles, masks, clusters, spans and the grid, by values from outside: the project's tables, and
 //! the columns that a terminal gives to texts.
+ghost use Rattle.std.specs.Prelude.{◌≡◌};
+
 use scm_cells::{
     Clusters, Grid, Line, Mask, Rect, RectSize, ScreenRect, Span, push_spans_from_line,
     replace_control_character, text_width,
@@ -17,77 +19,42 @@ const WHOLE: Rect = Rect {
     height: 2,
 };
 
+/// The rectangle at a column and a row, with its numbers of columns and rows.
+fn rect(x: isize, y: isize, width: usize, height: usize) -> Rect
+    ensures { result ≡ record { x = x; y = y; width = width; height = height } }
+{
+    Rect {
+        x,
+        y,
+        width,
+        height,
+    }
+}
+
 #[test]
-fn rectangles(rt: HostRuntime) {
-    let small = Rect {
-        x: 2,
-        y: 1,
-        width: 5,
-        height: 5,
-    };
-    let joint = Rect {
-        x: 2,
-        y: 1,
-        width: 2,
-        height: 1,
-    };
-    assert_eq!(rt; WHOLE.intersect(small), joint);
-    let left = Rect {
-        x: 0,
-        y: 0,
-        width: 2,
-        height: 2,
-    };
-    let right = Rect {
-        x: 5,
-        y: 0,
-        width: 1,
-        height: 1,
-    };
-    let none = Rect {
-        x: 5,
-        y: 0,
-        width: 0,
-        height: 1,
-    };
-    assert_eq!(rt; left.intersect(right), none);
+fn rectangles_are_joined(rt: HostRuntime) {
+    assert_eq!(rt; WHOLE.intersect(rect(2, 1, 5, 5)), rect(2, 1, 2, 1));
+    let none = rect(0, 0, 2, 2).intersect(rect(5, 0, 1, 1));
+    assert_eq!(rt; none, rect(5, 0, 0, 1));
     assert!(rt; none.is_empty());
-    let flat = Rect {
-        x: 10,
-        y: 10,
-        width: 0,
-        height: 3,
-    };
-    assert_eq!(rt; WHOLE.union_bounding(flat), WHOLE);
-    let corner = Rect {
-        x: 6,
-        y: 5,
-        width: 1,
-        height: 1,
-    };
-    let around = Rect {
-        x: 0,
-        y: 0,
-        width: 7,
-        height: 6,
-    };
-    assert_eq!(rt; WHOLE.union_bounding(corner), around);
+    assert_eq!(rt; WHOLE.union_bounding(rect(10, 10, 0, 3)), WHOLE);
+    assert_eq!(rt; WHOLE.union_bounding(rect(6, 5, 1, 1)), rect(0, 0, 7, 6));
+}
+
+#[test]
+fn rectangles_have_places(rt: HostRuntime) {
+    let small = rect(2, 1, 5, 5);
     assert_eq!(rt; (small.end_x(), small.end_y()), (7, 6));
     assert_eq!(rt; small.iter_ys().count(), 5);
     assert_eq!(rt; small.top_row().height, 1);
     assert!(rt; small.contains_point(6, 5));
     assert!(rt; !small.contains_point(7, 5));
+    assert!(rt; Rect::default().is_empty());
 }
 
 #[test]
-fn conversions_and_masks(rt: HostRuntime) {
+fn sizes_are_converted(rt: HostRuntime) {
     let screen = ScreenRect {
-        x: 1,
-        y: 2,
-        width: 3,
-        height: 4,
-    };
-    let rect = Rect {
         x: 1,
         y: 2,
         width: 3,
@@ -97,18 +64,18 @@ fn conversions_and_masks(rt: HostRuntime) {
         width: 3,
         height: 4,
     };
-    assert_eq!(rt; Rect::from(screen), rect);
+    assert_eq!(rt; Rect::from(screen), rect(1, 2, 3, 4));
     assert_eq!(rt; RectSize::from(screen), size);
-    assert_eq!(rt; RectSize::from(rect), size);
-    let closed = Mask {
-        x: 1,
-        y: 2,
-        width: Some(3),
-        height: Some(4),
-    };
-    assert_eq!(rt; Mask::from(rect), closed);
-    assert_eq!(rt; closed.end_x(), Some(4));
-    assert_eq!(rt; closed.end_y(), Some(6));
+    assert_eq!(rt; RectSize::from(rect(1, 2, 3, 4)), size);
+    assert_eq!(rt; RectSize::default().width, 0);
+}
+
+#[test]
+fn masks_let_places_through(rt: HostRuntime) {
+    let closed = Mask::from(rect(1, 2, 3, 4));
+    assert_eq!(rt; (closed.x, closed.y), (1, 2));
+    assert_eq!(rt; (closed.width, closed.height), (Some(3), Some(4)));
+    assert_eq!(rt; (closed.end_x(), closed.end_y()), (Some(4), Some(6)));
     let open = Mask {
         x: 1,
         y: 2,
@@ -116,28 +83,10 @@ fn conversions_and_masks(rt: HostRuntime) {
         height: Some(3),
     };
     assert_eq!(rt; open.end_x(), None);
-    let square = Rect {
-        x: 0,
-        y: 0,
-        width: 10,
-        height: 10,
-    };
-    let part = Rect {
-        x: 1,
-        y: 2,
-        width: 9,
-        height: 3,
-    };
-    assert_eq!(rt; open.apply(square), part);
-    let default = Mask {
-        x: 0,
-        y: 0,
-        width: None,
-        height: None,
-    };
-    assert_eq!(rt; Mask::default(), default);
-    assert!(rt; Rect::default().is_empty());
-    assert_eq!(rt; RectSize::default().width, 0);
+    assert_eq!(rt; open.apply(rect(0, 0, 10, 10)), rect(1, 2, 9, 3));
+    let default = Mask::default();
+    assert_eq!(rt; (default.x, default.y), (0, 0));
+    assert_eq!(rt; (default.width, default.height), (None, None));
 }
 
 #[test]
@@ -177,7 +126,7 @@ fn marks_have_a_column(rt: HostRuntime) {
 }
 
 #[test]
-fn spans_of_lines(rt: HostRuntime) -> Result<(), Fail> {
+fn spans_of_a_line(rt: HostRuntime) -> Result<(), Fail> {
     let mut spans = Vec::new(rt.alloc());
     push_spans_from_line("a\tb", &mut spans)?;
     let line = Line(spans);
@@ -185,7 +134,27 @@ fn spans_of_lines(rt: HostRuntime) -> Result<(), Fail> {
     assert_eq!(rt; line.0[0].0, "a");
     assert_eq!(rt; line.0[1].0, "→   ");
     assert_eq!(rt; line.0[2].0, "b");
-    let lines = [
+    Ok(())
+}
+
+/// Cuts a line into so many spans, of so many columns.
+fn check_spans(
+    rt: &impl Abort,
+    alloc: Global,
+    line: &str,
+    pieces: usize,
+    columns: usize,
+) -> Result<(), RecordError> {
+    let mut spans = Vec::new(alloc);
+    push_spans_from_line(line, &mut spans)?;
+    assert_eq!(rt; spans.len(), pieces, "spans of {line:?}");
+    assert_eq!(rt; columns_shown(rt, &spans), columns, "columns of {line:?}");
+    Ok(())
+}
+
+#[test]
+fn spans_of_lines(rt: HostRuntime) -> Result<(), Fail> {
+    for (line, pieces, columns) in [
         ("", 0, 0),
         ("ab", 1, 2),
         ("\u{0}", 2, 1),
@@ -205,12 +174,8 @@ fn spans_of_lines(rt: HostRuntime) -> Result<(), Fail> {
         ("🇩🇪", 1, 2),
         ("한", 1, 2),
         ("\u{1112}\u{1161}\u{11AB}", 4, 4),
-    ];
-    for (line, pieces, columns) in lines {
-        let mut spans = Vec::new(rt.alloc());
-        push_spans_from_line(line, &mut spans)?;
-        assert_eq!(rt; spans.len(), pieces, "spans of {line:?}");
-        assert_eq!(rt; columns_shown(&rt, &spans), columns, "columns of {line:?}");
+    ] {
+        check_spans(&rt, rt.alloc(), line, pieces, columns)?;
     }
     Ok(())
 }
@@ -244,13 +209,31 @@ fn put(
     grid.put(row, column, text, low, high)
 }
 
+/// Shows the grid.
+fn check_view(rt: &impl Abort, grid: &Grid, view: &str) -> Result<(), RecordError> {
+    assert_eq!(rt; grid.view()?.as_str(), view);
+    Ok(())
+}
+
+/// Puts a text on a cleared grid of one row.
+fn check_text(
+    rt: &impl Abort,
+    grid: &mut Grid,
+    column: isize,
+    text: &str,
+    low: usize,
+    high: usize,
+    view: &str,
+) -> Result<(), RecordError> {
+    grid.clear();
+    put(rt, grid, 0, column, text, low, high)?;
+    check_view(rt, grid, view)
+}
+
 #[test]
 fn texts_on_a_grid(rt: HostRuntime) -> Result<(), Fail> {
     let mut grid = Grid::new(rt.alloc(), 6, 1)?;
-    put(&rt, &mut grid, 0, 0, "日本語", 0, 6)?;
-    put(&rt, &mut grid, 0, 1, "x", 0, 6)?;
-    assert_eq!(rt; grid.view()?.as_str(), "\" x本語\"\n");
-    let rows = [
+    for (column, text, low, high, view) in [
         (-1, "日a", 0, 6, "\" a    \"\n"),
         (4, "a日b", 0, 6, "\"    a \"\n"),
         (0, "a\nb", 0, 6, "\"ab    \"\n"),
@@ -266,11 +249,8 @@ fn texts_on_a_grid(rt: HostRuntime) -> Result<(), Fail> {
         (isize::MIN, "ab", 0, 6, "\"      \"\n"),
         (0, "e\u{301}x", 0, 6, "\"e\u{301}x    \"\n"),
         (-1, "👩\u{200D}👧b", 0, 6, "\" b    \"\n"),
-    ];
-    for (column, text, low, high, view) in rows {
-        grid.clear();
-        put(&rt, &mut grid, 0, column, text, low, high)?;
-        assert_eq!(rt; grid.view()?.as_str(), view, "{text:?} at {column}");
+    ] {
+        check_text(&rt, &mut grid, column, text, low, high, view)?;
     }
     Ok(())
 }
@@ -335,18 +315,32 @@ fn empty_small_and_large_values(rt: HostRuntime) -> Result<(), Fail> {
 }
 
 #[test]
+fn symbols_under_others(rt: HostRuntime) -> Result<(), Fail> {
+    let mut grid = Grid::new(rt.alloc(), 6, 1)?;
+    put(&rt, &mut grid, 0, 0, "日本語", 0, 6)?;
+    put(&rt, &mut grid, 0, 1, "x", 0, 6)?;
+    check_view(&rt, &grid, "\" x本語\"\n")?;
+    Ok(())
+}
+
+#[test]
 fn wide_symbols_under_others(rt: HostRuntime) -> Result<(), Fail> {
     let mut grid = Grid::new(rt.alloc(), 6, 2)?;
     put(&rt, &mut grid, 1, 0, "日本語", 0, 6)?;
     put(&rt, &mut grid, 1, 0, "日", 1, 6)?;
-    assert_eq!(rt; grid.view()?.as_str(), "\"      \"\n\"  本語\"\n");
+    check_view(&rt, &grid, "\"      \"\n\"  本語\"\n")?;
     put(&rt, &mut grid, 1, 3, "字", 0, 6)?;
-    assert_eq!(rt; grid.view()?.as_str(), "\"      \"\n\"   字 \"\n");
+    check_view(&rt, &grid, "\"      \"\n\"   字 \"\n")?;
     put(&rt, &mut grid, 0, 0, "abcdef", 0, 6)?;
-    assert_eq!(rt; grid.view()?.as_str(), "\"abcdef\"\n\"   字 \"\n");
-    let narrow = Grid::new(rt.alloc(), 0, 3)?;
-    assert_eq!(rt; narrow.view()?.as_str(), "");
+    check_view(&rt, &grid, "\"abcdef\"\n\"   字 \"\n")?;
     assert_eq!(rt; (grid.width(), grid.height()), (6, 2));
+    Ok(())
+}
+
+#[test]
+fn grids_without_columns_show_nothing(rt: HostRuntime) -> Result<(), Fail> {
+    let narrow = Grid::new(rt.alloc(), 0, 3)?;
+    check_view(&rt, &narrow, "")?;
     Ok(())
 }
 

@@ -8,10 +8,21 @@ use scm_render::{Component, DrawTrace, centered_rect};
 use std::alloc::Global;
 use std::process::Abort;
 
-/// The calls on rectangles, masks and texts.
-fn check_places(rt: &impl Abort) {
+/// The calls on rectangles.
+fn check_rects(rt: &impl Abort) {
     let whole = rect(0, 0, 4, 2);
     let small = rect(2, 1, 5, 5);
+    assert_eq!(rt; whole.intersect(small), rect(2, 1, 2, 1));
+    assert_eq!(rt; whole.union_bounding(small), rect(0, 0, 7, 6));
+    assert_eq!(rt; (small.end_x(), small.end_y()), (7, 6));
+    assert_eq!(rt; small.iter_ys().count(), 5);
+    assert_eq!(rt; small.top_row(), rect(2, 1, 5, 1));
+    assert!(rt; small.contains_point(2, 1) && !small.is_empty());
+    assert!(rt; Rect::default().is_empty());
+}
+
+/// The calls on sizes.
+fn check_sizes(rt: &impl Abort) {
     let size = RectSize {
         width: 5,
         height: 5,
@@ -22,24 +33,27 @@ fn check_places(rt: &impl Abort) {
         width: 5,
         height: 5,
     };
-    assert_eq!(rt; whole.intersect(small), rect(2, 1, 2, 1));
-    assert_eq!(rt; whole.union_bounding(small), rect(0, 0, 7, 6));
-    assert_eq!(rt; (small.end_x(), small.end_y()), (7, 6));
-    assert_eq!(rt; small.iter_ys().count(), 5);
-    assert_eq!(rt; small.top_row(), rect(2, 1, 5, 1));
-    assert!(rt; small.contains_point(2, 1) && !small.is_empty());
-    assert_eq!(rt; (Rect::from(screen), RectSize::from(screen)), (small, size));
+    assert_eq!(rt; Rect::from(screen), rect(2, 1, 5, 5));
+    assert_eq!(rt; RectSize::from(screen), size);
+    assert_eq!(rt; RectSize::from(rect(2, 1, 5, 5)), size);
+    assert_eq!(rt; RectSize::default().width, 0);
     assert_eq!(rt;
-        (RectSize::from(small), RectSize::default().width),
-        (size, 0)
+        centered_rect(rect(0, 0, 4, 2), size, 50, 50),
+        rect(0, 0, 4, 2)
     );
-    assert!(rt; Rect::default().is_empty());
+}
+
+/// The calls on masks.
+fn check_masks(rt: &impl Abort) {
     let mask = columns(2, 5);
     assert_eq!(rt; (mask.end_x(), mask.end_y()), (Some(7), None));
-    assert_eq!(rt; mask.apply(whole), rect(2, 0, 2, 2));
-    assert_eq!(rt; Mask::from(small).width, Some(5));
+    assert_eq!(rt; mask.apply(rect(0, 0, 4, 2)), rect(2, 0, 2, 2));
+    assert_eq!(rt; Mask::from(rect(2, 1, 5, 5)).width, Some(5));
     assert_eq!(rt; Mask::default().width, None);
-    assert_eq!(rt; centered_rect(whole, size, 50, 50), whole);
+}
+
+/// The calls on texts.
+fn check_texts(rt: &impl Abort) {
     assert_eq!(rt; replace_control_character('\n'), Some("⏎"));
     assert_eq!(rt; replace_control_character('a'), None);
     assert_eq!(rt; Clusters::new("日a").next(), Some(("日", 2)));
@@ -65,7 +79,10 @@ fn check_viewport(rt: &impl Abort, alloc: Global, mut grid: Grid) {
 #[test]
 fn calls_without_memory_succeed_where_it_is_refused(rt: HostRuntime) {
     let alloc = rt.alloc();
-    check_places(&rt);
+    check_rects(&rt);
+    check_sizes(&rt);
+    check_masks(&rt);
+    check_texts(&rt);
     let caption = Caption { id: 7, text: "a" };
     assert_eq!(rt; caption.id(), 7);
     if let Ok(grid) = Grid::new(alloc, 6, 2) {

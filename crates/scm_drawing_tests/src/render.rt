@@ -11,7 +11,7 @@ use crate::tags::{Spot, Tag};
 use scm_cells::{Grid, Line, Mask, Rect, RectSize, ScreenRect, Span, text_width};
 use scm_errors::RecordError;
 use scm_render::{DrawTrace, DrawnRect, DrawnRects, Viewport, centered_rect, find_target};
-use std::alloc::Global;
+use std::alloc::{AllocError, Global};
 use std::process::Abort;
 use std::test::Fail;
 
@@ -324,36 +324,52 @@ fn texts(rt: HostRuntime) -> Result<(), Fail> {
     Ok(())
 }
 
+/// Takes the mask off, and checks what stands on the screen.
+fn check_masked(
+    rt: &impl Abort,
+    mut viewport: Viewport<u8>,
+    expected: &str,
+) -> Result<(), RecordError> {
+    assert_eq!(rt; viewport.swap_mask(None), Some(columns(2, 3)));
+    assert_eq!(rt; viewport.into_grid().view()?.as_str(), expected);
+    Ok(())
+}
+
 #[test]
-fn masks(rt: HostRuntime) -> Result<(), Fail> {
-    let alloc = rt.alloc();
-    let mut viewport = viewport_at(alloc, 0, 0, 6, 6)?;
+fn masked_spans(rt: HostRuntime) -> Result<(), Fail> {
+    let mut viewport = viewport_at(rt.alloc(), 0, 0, 6, 4)?;
     assert_eq!(rt; viewport.swap_mask(Some(columns(2, 3))), None);
-    assert_eq!(rt; viewport.mask_rect(), rect(2, 0, 3, 6));
+    assert_eq!(rt; viewport.mask_rect(), rect(2, 0, 3, 4));
     for (x, y, text, width) in [
         (0, 0, "abcdef", 6),
         (1, 1, "日本", 4),
         (0, 2, "a日本", 5),
-        (2, 5, "日本", 4),
+        (2, 3, "日本", 4),
     ] {
         let drawn = draw_span(&rt, &mut viewport, x, y, &Span(text))?;
         assert_eq!(rt; drawn, rect(x, y, width, 1));
     }
+    let expected = "\"  cde \"\n\"   本 \"\n\"   本 \"\n\"  日  \"\n";
+    check_masked(&rt, viewport, expected)?;
+    Ok(())
+}
+
+#[test]
+fn masked_texts(rt: HostRuntime) -> Result<(), Fail> {
+    let alloc = rt.alloc();
+    let mut viewport = viewport_at(alloc, 0, 0, 6, 2)?;
+    assert_eq!(rt; viewport.swap_mask(Some(columns(2, 3))), None);
     let text = [Span("a"), Span("日"), Span("bcd")];
     assert_eq!(rt;
-        draw_text(&rt, &mut viewport, 0, 3, &text)?,
-        rect(0, 3, 6, 1)
+        draw_text(&rt, &mut viewport, 0, 0, &text)?,
+        rect(0, 0, 6, 1)
     );
     let line = Line(text.to_vec(alloc)?);
     assert_eq!(rt;
-        draw_line(&rt, &mut viewport, 0, 4, &line)?,
-        rect(0, 4, 6, 1)
+        draw_line(&rt, &mut viewport, 0, 1, &line)?,
+        rect(0, 1, 6, 1)
     );
-    assert_eq!(rt; viewport.swap_mask(None), Some(columns(2, 3)));
-    let view = viewport.into_grid().view()?;
-    let upper = "\"  cde \"\n\"   本 \"\n\"   本 \"\n";
-    let lower = "\"   b… \"\n\"   bc \"\n\"  日  \"\n";
-    assert_eq!(rt; view.as_str().strip_prefix(upper), Some(lower));
+    check_masked(&rt, viewport, "\"   b… \"\n\"   bc \"\n")?;
     Ok(())
 }
 
@@ -481,9 +497,9 @@ fn rows_of_captions(rt: HostRuntime) -> Result<(), Fail> {
 }
 
 #[test]
-fn refused_memory_keeps_grids_and_traces(rt: HostRuntime) -> Result<(), Fail> {
+fn refused_memory_keeps_grids(rt: HostRuntime) {
     let Ok(mut grid) = Grid::new(rt.alloc(), 6, 3) else {
-        return Ok(());
+        return;
     };
     let pair = Pair {
         id: 1,
@@ -496,6 +512,10 @@ fn refused_memory_keeps_grids_and_traces(rt: HostRuntime) -> Result<(), Fail> {
     if let Ok(drawn) = drawn {
         assert_eq!(rt; drawn.len(), 3);
     }
+}
+
+#[test]
+fn refused_memory_keeps_traces(rt: HostRuntime) {
     let mut trace: DrawTrace<u8> = DrawTrace::new(rt.alloc());
     trace.merge_rect(rect(0, 0, 1, 1));
     let mut other: DrawTrace<u8> = DrawTrace::new(rt.alloc());
@@ -505,7 +525,7 @@ fn refused_memory_keeps_grids_and_traces(rt: HostRuntime) -> Result<(), Fail> {
         timestamp: 3,
     };
     if other.components.insert(7, box_of_seven).is_err() {
-        return Ok(());
+        return;
     }
     match trace.merge(other) {
         Ok(()) => assert_eq!(rt; trace.rect, rect(0, 0, 3, 1)),
@@ -514,7 +534,6 @@ fn refused_memory_keeps_grids_and_traces(rt: HostRuntime) -> Result<(), Fail> {
             assert_eq!(rt; trace.components.len(), 0);
         }
     }
-    Ok(())
 }
 
 #[test]
@@ -587,7 +606,7 @@ fn check_filled(
 }
 
 #[test]
-fn arguments_of_any_size_are_drawn(rt: HostRuntime) -> Result<(), Fail> {
+fn texts_without_symbols_are_drawn(rt: HostRuntime) -> Result<(), Fail> {
     let alloc = rt.alloc();
     let mut viewport = viewport_at(alloc, 0, 0, 6, 2)?;
     assert_eq!(rt; draw_text(&rt, &mut viewport, 3, 0, &[])?, rect(3, 0, 0, 1));
@@ -596,19 +615,53 @@ fn arguments_of_any_size_are_drawn(rt: HostRuntime) -> Result<(), Fail> {
         draw_line(&rt, &mut viewport, 3, 0, &line)?,
         rect(3, 0, 0, 1)
     );
-    let mut long = String::from_str(alloc, "e")?;
-    let mut body = Vec::new(alloc);
+    Ok(())
+}
+
+/// A text of one column: a letter under five thousand marks.
+fn long_text(alloc: Global) -> Result<String, AllocError> {
+    let mut text = String::from_str(alloc, "e")?;
     for _ in 0..5000 {
-        long.push_str("\u{301}")?;
-        body.push("日本語")?;
+        text.push_str("\u{301}")?;
     }
+    Ok(text)
+}
+
+#[test]
+fn texts_of_any_size_are_drawn(rt: HostRuntime) -> Result<(), Fail> {
+    let alloc = rt.alloc();
+    let mut viewport = viewport_at(alloc, 0, 0, 6, 2)?;
     check_drawn(&rt, alloc, &mut viewport, "", 0)?;
     check_drawn(&rt, alloc, &mut viewport, "abcdefgh", 8)?;
+    let long = long_text(alloc)?;
     check_drawn(&rt, alloc, &mut viewport, long.as_str(), 1)?;
+    Ok(())
+}
+
+/// Five thousand rows of text.
+fn long_body(alloc: Global) -> Result<Vec<&'static str>, AllocError> {
+    let mut body = Vec::new(alloc);
+    for _ in 0..5000 {
+        body.push("日本語")?;
+    }
+    Ok(body)
+}
+
+#[test]
+fn frames_of_any_size_are_drawn(rt: HostRuntime) -> Result<(), Fail> {
+    let alloc = rt.alloc();
+    let mut viewport = viewport_at(alloc, 0, 0, 6, 2)?;
+    let body = long_body(alloc)?;
     for (width, height) in [(0, 0), (0, 9), (9, 0), (1, 1), (5000, 5000)] {
         check_filled(&rt, &mut viewport, width, height, &[])?;
         check_filled(&rt, &mut viewport, width, height, body.as_slice())?;
     }
+    Ok(())
+}
+
+#[test]
+fn components_are_drawn_without_places(rt: HostRuntime) -> Result<(), Fail> {
+    let alloc = rt.alloc();
     let mut nowhere = Grid::new(alloc, 0, 0)?;
     let captions = Vec::new(alloc);
     let drawn = render_column(&rt, alloc, &mut nowhere, &Column { id: 1, captions })?;

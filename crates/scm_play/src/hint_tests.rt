@@ -2,6 +2,7 @@
 use crate::play_with_hints;
 use crate::tests::input_of;
 use std::alloc::Global;
+use std::process::Abort;
 use std::test::Fail;
 
 /// A row for each refusal: the script in the form of the table of scripts, `=>`, and the hint, perhaps none. `␂` is a byte order mark.
@@ -82,25 +83,24 @@ fn hint_for(alloc: Global, input: &[u8]) -> Result<String, Fail> {
     Ok(String::from_utf8(hints)?)
 }
 
+/// Checks the hint of a row. Of one with `…` it is the beginning.
+fn check_hint(rt: &impl Abort, alloc: Global, row: &str) -> Result<(), Fail> {
+    let (input, hint) = row.split_once(" =>").ok_or("a row has two halves")?;
+    let hint = hint.trim_start_matches(' ');
+    let input = input_of(alloc, input)?.replace(alloc, "␂", "\u{feff}")?;
+    let found = hint_for(alloc, input.as_bytes())?;
+    match hint.split_once('…') {
+        Some((begin, _)) => assert!(rt; found.as_str().starts_with(begin), "{row}: {found}"),
+        None => assert_eq!(rt; found.as_str().trim_end_matches('\n'), hint, "{row}"),
+    }
+    Ok(())
+}
+
 #[test]
 fn each_refusal_has_its_hint(rt: HostRuntime) -> Result<(), Fail> {
-    let alloc = rt.alloc();
     for row in HINTS.lines() {
         if !row.is_empty() && !row.starts_with('#') {
-            let (input, hint) = row.split_once(" =>").ok_or("a row has two halves")?;
-            let input = input_of(alloc, input)?.replace(alloc, "␂", "\u{feff}")?;
-            let found = hint_for(alloc, input.as_bytes())?;
-            match hint.split_once('…') {
-                Some((begin, _)) => assert!(rt;
-                    found.as_str().starts_with(begin.trim_start_matches(' ')),
-                    "{row}: {found}"
-                ),
-                None => assert_eq!(rt;
-                    found.as_str().trim_end_matches('\n'),
-                    hint.trim_start_matches(' '),
-                    "{row}"
-                ),
-            }
+            check_hint(&rt, rt.alloc(), row)?;
         }
     }
     Ok(())

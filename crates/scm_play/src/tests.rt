@@ -4,6 +4,7 @@ use crate::{play, read_state};
 use scm_record::{RecordState, text_width};
 use std::alloc::{AllocError, Global};
 use std::io::{self, Read, Write};
+use std::process::Abort;
 use std::test::Fail;
 
 /// What `play` writes for an input, and its status.
@@ -100,13 +101,21 @@ pub fn input_of(alloc: Global, half: &str) -> Result<String, Fail> {
                 None => Err(Fail::from("a state has a begin and an end")),
             }
         }
-        _ => {
-            let lines = lines_of(alloc, half)?;
-            let lines = lines.replace(alloc, "␍", "\r")?;
-            let lines = lines.replace(alloc, "␉", "\t")?;
-            Ok(lines.replace(alloc, "␃\n", "")?)
+        _ => Ok(with_controls(alloc, lines_of(alloc, half)?.as_str())?),
+    }
+}
+
+/// The text with the control characters that its symbols stand for, and without the ends of lines that it takes away.
+fn with_controls(alloc: Global, text: &str) -> Result<String, AllocError> {
+    let mut whole = String::new(alloc);
+    for character in text.chars() {
+        match character {
+            '␍' => whole.push('\r')?,
+            '␉' => whole.push('\t')?,
+            _ => whole.push(character)?,
         }
     }
+    whole.replace(alloc, "␃\n", "")
 }
 
 /// A number, or 0.
@@ -155,21 +164,44 @@ fn output_of(alloc: Global, half: &str, input: &str) -> Result<String, Fail> {
     Ok(output)
 }
 
+/// Checks what is written of an input. Of an output that ends in `…` it is the beginning.
+fn check_output(
+    rt: &impl Abort,
+    alloc: Global,
+    input: &str,
+    output: &str,
+    status: u8,
+) -> Result<(), Fail> {
+    let (written, ended) = played(alloc, input.as_bytes())?;
+    match output.strip_suffix("…\n") {
+        Some(begin) => assert!(rt; written.as_str().starts_with(begin), "{input}: {written}"),
+        None => assert_eq!(rt; written.as_str(), output, "{input}"),
+    }
+    assert_eq!(rt; ended, status, "{input}");
+    Ok(())
+}
+
+/// Plays the script of a row.
+fn check_script(rt: &impl Abort, alloc: Global, row: &str) -> Result<(), Fail> {
+    let (input, answer) = row.split_once(" => ").ok_or("a row has two halves")?;
+    let (status, output) = answer.split_once(" | ").ok_or("a status and an output")?;
+    let input = input_of(alloc, input)?;
+    let output = output_of(alloc, output, input.as_str())?;
+    check_output(
+        rt,
+        alloc,
+        input.as_str(),
+        output.as_str(),
+        status.parse::<u8>()?,
+    )
+}
+
 #[test]
 fn each_script_has_its_output_and_status(rt: HostRuntime) -> Result<(), Fail> {
     let alloc = rt.alloc();
     for row in ROWS.replace(alloc, "\n| ", " | ")?.as_str().lines() {
         if !row.is_empty() && !row.starts_with('#') {
-            let (input, answer) = row.split_once(" => ").ok_or("a row has two halves")?;
-            let (status, output) = answer.split_once(" | ").ok_or("a status and an output")?;
-            let input = input_of(alloc, input)?;
-            let output = output_of(alloc, output, input.as_str())?;
-            let (written, ended) = played(alloc, input.as_bytes())?;
-            match output.as_str().strip_suffix("…\n") {
-                Some(begin) => assert!(rt; written.as_str().starts_with(begin), "{row}: {written}"),
-                None => assert_eq!(rt; written.as_str(), output.as_str(), "{row}"),
-            }
-            assert_eq!(rt; ended, status.parse::<u8>()?, "{row}");
+            check_script(&rt, alloc, row)?;
         }
     }
     Ok(())
@@ -225,28 +257,74 @@ impl Write for BrokenWriter {
 }
 
 #[test]
-fn broken_streams_and_long_inputs_are_named(rt: HostRuntime) -> Result<(), Fail> {
+fn states_are_read(rt: HostRuntime) -> Result<(), Fail> {
     let alloc = rt.alloc();
     assert!(rt; read_state(alloc, "{}")?.is_none());
     let nothing = state_of(alloc, "NOTHING")?;
     assert!(rt; read_state(alloc, nothing.as_str())? == Some(RecordState::empty(alloc)));
+    Ok(())
+}
 
-    let mut output = Vec::new(alloc);
-    let status = play(alloc, BrokenReader { bytes_left: 9 }, &mut output);
+#[test]
+fn broken_readers_are_named(rt: HostRuntime) -> Result<(), Fail> {
+    let mut output = Vec::new(rt.alloc());
+    let status = play(rt.alloc(), BrokenReader { bytes_left: 9 }, &mut output);
     assert_eq!(rt;
         (output.as_slice(), status),
         (b"cannot read\n".as_slice(), 2)
     );
-    let (written, status) = played(alloc, b"size 80 24\nscript\nbatch \xff\n")?;
-    assert_eq!(rt; (written.as_str(), status), ("bad input: not UTF-8\n", 2));
+    Ok(())
+}
 
-    for (row, status) in [("«NOTHING» q", 1), ("«NOTHING» c", 0)] {
-        let input = input_of(alloc, row)?;
-        let broken = BrokenWriter { writes_left: 0 };
-        assert_eq!(rt; play(alloc, input.as_bytes(), broken), 2);
-        let whole = BrokenWriter { writes_left: 100 };
-        assert_eq!(rt; play(alloc, input.as_bytes(), whole), status);
-    }
+#[test]
+fn inputs_that_are_no_text_are_named(rt: HostRuntime) -> Result<(), Fail> {
+    let (written, status) = played(rt.alloc(), b"size 80 24\nscript\nbatch \xff\n")?;
+    assert_eq!(rt; (written.as_str(), status), ("bad input: not UTF-8\n", 2));
+    Ok(())
+}
+
+/// Plays a row's script to a writer that fails, and to one that does not.
+fn check_writers(rt: &impl Abort, alloc: Global, row: &str, status: u8) -> Result<(), Fail> {
+    let input = input_of(alloc, row)?;
+    let broken = BrokenWriter { writes_left: 0 };
+    assert_eq!(rt; play(alloc, input.as_bytes(), broken), 2);
+    let whole = BrokenWriter { writes_left: 100 };
+    assert_eq!(rt; play(alloc, input.as_bytes(), whole), status);
+    Ok(())
+}
+
+#[test]
+fn broken_writers_are_named(rt: HostRuntime) -> Result<(), Fail> {
+    check_writers(&rt, rt.alloc(), "«NOTHING» q", 1)?;
+    check_writers(&rt, rt.alloc(), "«NOTHING» c", 0)
+}
+
+/// A row's input with so many more bytes, and an end.
+fn longer_input(alloc: Global, row: &str, more: usize, end: &str) -> Result<Vec<u8>, Fail> {
+    let mut input = input_of(alloc, row)?.into_bytes();
+    let length = input.len().saturating_add(more);
+    input.resize(length, b'-')?;
+    input.extend_from_slice(end.as_bytes())?;
+    Ok(input)
+}
+
+/// Plays an input, whose output begins so.
+fn check_begin(
+    rt: &impl Abort,
+    alloc: Global,
+    input: &[u8],
+    output: &str,
+    status: u8,
+) -> Result<(), Fail> {
+    let (written, ended) = played(alloc, input)?;
+    assert!(rt; written.as_str().starts_with(output), "{output}");
+    assert_eq!(rt; ended, status, "{output}");
+    Ok(())
+}
+
+#[test]
+fn long_inputs_are_named(rt: HostRuntime) -> Result<(), Fail> {
+    let alloc = rt.alloc();
     for (row, more, end, output, status) in [
         (
             LONG_COMMENT,
@@ -265,13 +343,8 @@ fn broken_streams_and_long_inputs_are_named(rt: HostRuntime) -> Result<(), Fail>
             1,
         ),
     ] {
-        let mut input = input_of(alloc, row)?.into_bytes();
-        let length = input.len().saturating_add(more);
-        input.resize(length, b'-')?;
-        input.extend_from_slice(end.as_bytes())?;
-        let (written, ended) = played(alloc, input.as_slice())?;
-        assert!(rt; written.as_str().starts_with(output), "{row}");
-        assert_eq!(rt; ended, status, "{row}");
+        let input = longer_input(alloc, row, more, end)?;
+        check_begin(&rt, alloc, input.as_slice(), output, status)?;
     }
     Ok(())
 }

@@ -1,7 +1,7 @@
 //! What the derives of `serde` read and write: each form of a state in JSON, and forms that are refused.
-use crate::samples::{ADDED, DEFAULT, REMOVED, changed, context, file_of, owned};
+use crate::samples::{ADDED, DEFAULT, Line, REMOVED, changed, context, file_of, owned};
 use scm_types::{
-    ChangeType, Commit, File, FileMode, Items, RecordError, RecordState, Section,
+    ChangeType, Commit, File, FileMode, Items, OwnedText, RecordError, RecordState, Section,
     SectionChangedLine, Text,
 };
 use serde::{Deserialize, Serialize};
@@ -9,18 +9,17 @@ use std::alloc::Global;
 use std::process::Abort;
 use std::test::Fail;
 
-/// Checks of each text that a value is read from it, and that the text is written of that value.
-fn check_forms<'a, T: Deserialize<'a> + Serialize + PartialEq + Drop>(
+/// Checks that the value is read from the text, and that the text is written of the value.
+fn check_form<'a, T: Deserialize<'a> + Serialize + PartialEq + Drop>(
     rt: &impl Abort,
     alloc: Global,
-    forms: &[(&'a str, T)],
+    text: &'a str,
+    value: T,
 ) -> Result<(), Fail> {
-    for (text, value) in forms {
-        let read: T = serde_json::from_str(alloc, *text)?;
-        assert!(rt; read == *value, "what is read from {text}");
-        let written = serde_json::to_string(alloc, value)?;
-        assert_eq!(rt; written.as_str(), *text);
-    }
+    let read: T = serde_json::from_str(alloc, text)?;
+    assert!(rt; read == value, "what is read from {text}");
+    let written = serde_json::to_string(alloc, &value)?;
+    assert_eq!(rt; written.as_str(), text);
     Ok(())
 }
 
@@ -89,9 +88,7 @@ const WITH_FILE: &str =
 
 /// A state with two commits and a file without sections.
 fn state_with_file(alloc: Global) -> Result<RecordState<'static>, RecordError> {
-    let message = Commit {
-        message: Some(owned(alloc, "m")?),
-    };
+    let message = commit_with(owned(alloc, "m")?);
     Ok(RecordState {
         is_read_only: true,
         commits: Items::from(vec![in alloc; message, Commit::default()]?),
@@ -100,128 +97,101 @@ fn state_with_file(alloc: Global) -> Result<RecordState<'static>, RecordError> {
 }
 
 #[test]
-fn sections_and_their_parts_have_their_forms(rt: HostRuntime) -> Result<(), Fail> {
+fn modes_and_lines_have_their_forms(rt: HostRuntime) -> Result<(), Fail> {
     let alloc = rt.alloc();
-    check_forms(
+    check_form(&rt, alloc, r#""Added""#, ADDED)?;
+    check_form(&rt, alloc, r#""Removed""#, REMOVED)?;
+    check_form(&rt, alloc, r#"{"Unix":33188}"#, DEFAULT)?;
+    check_form(&rt, alloc, r#"{"Unix":0}"#, FileMode::Unix(0))?;
+    let greatest = r#"{"Unix":18446744073709551615}"#;
+    check_form(&rt, alloc, greatest, FileMode::Unix(usize::MAX))?;
+    check_form(&rt, alloc, r#""Absent""#, FileMode::Absent)?;
+    let added = r#"{"is_checked":true,"change_type":"Added","line":"b\n"}"#;
+    check_form(&rt, alloc, added, line_of(true, ADDED, "b\n"))?;
+    let removed = r#"{"is_checked":false,"change_type":"Removed","line":""}"#;
+    check_form(&rt, alloc, removed, line_of(false, REMOVED, ""))
+}
+
+/// Checks the form of a section of context.
+fn check_context(
+    rt: &impl Abort,
+    alloc: Global,
+    text: &'static str,
+    lines: &[&'static str],
+) -> Result<(), Fail> {
+    check_form(rt, alloc, text, context(alloc, lines)?)
+}
+
+/// Checks the form of a section of changed lines.
+fn check_changed(
+    rt: &impl Abort,
+    alloc: Global,
+    text: &'static str,
+    changes: &[Line],
+) -> Result<(), Fail> {
+    check_form(rt, alloc, text, changed(alloc, changes)?)
+}
+
+#[test]
+fn sections_of_lines_have_their_forms(rt: HostRuntime) -> Result<(), Fail> {
+    let alloc = rt.alloc();
+    check_context(&rt, alloc, r#"{"Unchanged":{"lines":[]}}"#, &[])?;
+    let context = r#"{"Unchanged":{"lines":["a\n","","日\"\\"]}}"#;
+    check_context(&rt, alloc, context, &["a\n", "", "日\"\\"])?;
+    check_changed(&rt, alloc, r#"{"Changed":{"lines":[]}}"#, &[])?;
+    let changed =
+        r#"{"Changed":{"lines":[{"is_checked":true,"change_type":"Added","line":"b\n"},{"is_checked":false,"change_type":"Removed","line":"c"}]}}"#;
+    check_changed(
         &rt,
         alloc,
-        &[(r#""Added""#, ADDED), (r#""Removed""#, REMOVED)],
-    )?;
-    check_forms(
-        &rt,
-        alloc,
-        &[
-            (r#"{"Unix":33188}"#, DEFAULT),
-            (r#"{"Unix":0}"#, FileMode::Unix(0)),
-            (
-                r#"{"Unix":18446744073709551615}"#,
-                FileMode::Unix(usize::MAX),
-            ),
-            (r#""Absent""#, FileMode::Absent),
-        ],
-    )?;
-    check_forms(
-        &rt,
-        alloc,
-        &[
-            (
-                r#"{"is_checked":true,"change_type":"Added","line":"b\n"}"#,
-                line_of(true, ADDED, "b\n"),
-            ),
-            (
-                r#"{"is_checked":false,"change_type":"Removed","line":""}"#,
-                line_of(false, REMOVED, ""),
-            ),
-        ],
-    )?;
-    check_forms(
-        &rt,
-        alloc,
-        &[
-            (r#"{"Unchanged":{"lines":[]}}"#, context(alloc, &[])?),
-            (
-                r#"{"Unchanged":{"lines":["a\n","","日\"\\"]}}"#,
-                context(alloc, &["a\n", "", "日\"\\"])?,
-            ),
-            (r#"{"Changed":{"lines":[]}}"#, changed(alloc, &[])?),
-            (
-                r#"{"Changed":{"lines":[{"is_checked":true,"change_type":"Added","line":"b\n"},{"is_checked":false,"change_type":"Removed","line":"c"}]}}"#,
-                changed(alloc, &[(true, ADDED, "b\n"), (false, REMOVED, "c")])?,
-            ),
-            (
-                r#"{"FileMode":{"is_checked":true,"mode":{"Unix":33261}}}"#,
-                mode_change(true, FileMode::Unix(0o100755)),
-            ),
-            (
-                r#"{"FileMode":{"is_checked":false,"mode":"Absent"}}"#,
-                mode_change(false, FileMode::Absent),
-            ),
-            (
-                r#"{"Binary":{"is_checked":true,"old_description":"a","new_description":"b"}}"#,
-                binary(true, Some("a"), Some("b")),
-            ),
-            (
-                r#"{"Binary":{"is_checked":false,"old_description":"","new_description":null}}"#,
-                binary(false, Some(""), None),
-            ),
-            (
-                r#"{"Binary":{"is_checked":true,"old_description":null,"new_description":"x"}}"#,
-                binary(true, None, Some("x")),
-            ),
-            (
-                r#"{"Binary":{"is_checked":false,"old_description":null,"new_description":null}}"#,
-                binary(false, None, None),
-            ),
-        ],
+        changed,
+        &[(true, ADDED, "b\n"), (false, REMOVED, "c")],
     )
+}
+
+#[test]
+fn sections_of_modes_and_bytes_have_their_forms(rt: HostRuntime) -> Result<(), Fail> {
+    let alloc = rt.alloc();
+    let mode = r#"{"FileMode":{"is_checked":true,"mode":{"Unix":33261}}}"#;
+    check_form(
+        &rt,
+        alloc,
+        mode,
+        mode_change(true, FileMode::Unix(0o100755)),
+    )?;
+    let deletion = r#"{"FileMode":{"is_checked":false,"mode":"Absent"}}"#;
+    check_form(&rt, alloc, deletion, mode_change(false, FileMode::Absent))?;
+    let both = r#"{"Binary":{"is_checked":true,"old_description":"a","new_description":"b"}}"#;
+    check_form(&rt, alloc, both, binary(true, Some("a"), Some("b")))?;
+    let old = r#"{"Binary":{"is_checked":false,"old_description":"","new_description":null}}"#;
+    check_form(&rt, alloc, old, binary(false, Some(""), None))?;
+    let new = r#"{"Binary":{"is_checked":true,"old_description":null,"new_description":"x"}}"#;
+    check_form(&rt, alloc, new, binary(true, None, Some("x")))?;
+    let none = r#"{"Binary":{"is_checked":false,"old_description":null,"new_description":null}}"#;
+    check_form(&rt, alloc, none, binary(false, None, None))
+}
+
+/// A commit with a message.
+fn commit_with(message: OwnedText) -> Commit {
+    Commit {
+        message: Some(message),
+    }
 }
 
 #[test]
 fn files_and_states_have_their_forms(rt: HostRuntime) -> Result<(), Fail> {
     let alloc = rt.alloc();
-    let message = owned(alloc, "m\n")?;
-    let nothing = owned(alloc, "")?;
-    check_forms(
-        &rt,
-        alloc,
-        &[
-            (r#"{"message":null}"#, Commit::default()),
-            (
-                r#"{"message":"m\n"}"#,
-                Commit {
-                    message: Some(message),
-                },
-            ),
-            (
-                r#"{"message":""}"#,
-                Commit {
-                    message: Some(nothing),
-                },
-            ),
-        ],
-    )?;
-    check_forms(
-        &rt,
-        alloc,
-        &[
-            (
-                r#"{"old_path":null,"path":"f","file_mode":{"Unix":33188},"sections":[]}"#,
-                file_of(DEFAULT, Vec::new(alloc)),
-            ),
-            (RENAMED, renamed_file(alloc)?),
-        ],
-    )?;
-    check_forms(
-        &rt,
-        alloc,
-        &[
-            (
-                r#"{"is_read_only":false,"commits":[],"files":[]}"#,
-                RecordState::empty(alloc),
-            ),
-            (WITH_FILE, state_with_file(alloc)?),
-        ],
-    )
+    check_form(&rt, alloc, r#"{"message":null}"#, Commit::default())?;
+    let commit = commit_with(owned(alloc, "m\n")?);
+    check_form(&rt, alloc, r#"{"message":"m\n"}"#, commit)?;
+    let commit = commit_with(owned(alloc, "")?);
+    check_form(&rt, alloc, r#"{"message":""}"#, commit)?;
+    let plain = r#"{"old_path":null,"path":"f","file_mode":{"Unix":33188},"sections":[]}"#;
+    check_form(&rt, alloc, plain, file_of(DEFAULT, Vec::new(alloc)))?;
+    check_form(&rt, alloc, RENAMED, renamed_file(alloc)?)?;
+    let empty = r#"{"is_read_only":false,"commits":[],"files":[]}"#;
+    check_form(&rt, alloc, empty, RecordState::empty(alloc))?;
+    check_form(&rt, alloc, WITH_FILE, state_with_file(alloc)?)
 }
 
 #[test]

@@ -52,6 +52,15 @@ fn marked_state(alloc: Global) -> Result<RecordState<'static>, RecordError> {
     Ok(state)
 }
 
+/// The calls on the marks of a section.
+fn check_section(rt: &impl Abort, section: &mut Section<'_>) {
+    section.set_checked(true);
+    let is_editable = section.is_editable();
+    assert_eq!(rt; section.tristate(), Tristate::from(is_editable));
+    section.toggle_all();
+    assert_eq!(rt; section.tristate(), Tristate::False);
+}
+
 /// The calls on the marks of a file.
 fn check_marks(rt: &impl Abort, file: &mut File<'_>) {
     assert_eq!(rt; file.tristate(), Tristate::Partial);
@@ -60,11 +69,7 @@ fn check_marks(rt: &impl Abort, file: &mut File<'_>) {
     file.toggle_all();
     assert_eq!(rt; file.tristate(), Tristate::False);
     for section in file.sections.iter_mut() {
-        section.set_checked(true);
-        let is_editable = section.is_editable();
-        assert_eq!(rt; section.tristate(), Tristate::from(is_editable));
-        section.toggle_all();
-        assert_eq!(rt; section.tristate(), Tristate::False);
+        check_section(rt, section);
     }
 }
 
@@ -76,16 +81,23 @@ fn check_state(rt: &impl Abort, state: &mut RecordState<'_>) {
     }
 }
 
-/// The conversions, and what is made from nothing.
-fn check_conversions(rt: &impl Abort, alloc: Global) {
+/// What is made from nothing.
+fn check_empty(rt: &impl Abort, alloc: Global) {
     let empty = RecordState::empty(alloc);
     assert!(rt; empty.is_accepted() && empty.commits.is_empty() && empty.files.is_empty());
     assert!(rt; Commit::default().message.is_none());
+}
+
+/// The conversions to modes.
+fn check_modes(rt: &impl Abort) {
     assert_eq!(rt; FileMode::from(0o100644_usize), DEFAULT);
     assert!(rt; matches!(FileMode::try_from(0o100644_u32), Ok(mode) if mode == DEFAULT));
     assert!(rt; matches!(FileMode::try_from(0o100644_i32), Ok(mode) if mode == DEFAULT));
     assert!(rt; FileMode::try_from(-1_i32).is_err());
-    assert_eq!(rt; Tristate::from(true), Tristate::True);
+}
+
+/// The conversions of numbers.
+fn check_numbers(rt: &impl Abort) {
     assert_eq!(rt; 7_usize.unwrap_isize(), 7);
     assert_eq!(rt; 7_isize.unwrap_usize(), 7);
     assert_eq!(rt; UsizeExt::clamp_into_u16(65_536), 65_535);
@@ -96,7 +108,10 @@ fn check_conversions(rt: &impl Abort, alloc: Global) {
 #[test]
 fn calls_without_memory_succeed_where_it_is_refused(rt: HostRuntime) {
     let alloc = rt.alloc();
-    check_conversions(&rt, alloc);
+    check_empty(&rt, alloc);
+    check_modes(&rt);
+    check_numbers(&rt);
+    assert_eq!(rt; Tristate::from(true), Tristate::True);
     if let Ok(mut state) = marked_state(alloc) {
         check_state(&rt, &mut state);
     }

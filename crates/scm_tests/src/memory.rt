@@ -3,29 +3,49 @@
 use scm_record::{
     Event, File, FileMode, KeyCode, KeyEvent, KeyEventKind, KeyModifiers, MouseButton, MouseEvent,
     MouseEventKind, RecordError, RecordInput, RecordState, Recorder, Screens, ScriptEdit,
-    ScriptInput, ScriptRead, Section, SelectionKey, TerminalEvent, TerminalKind, TestingInput,
-    TestingScreenshot,
+    ScriptInput, ScriptRead, Section, SelectedContents, SelectionKey, TerminalEvent, TerminalKind,
+    TestingInput, TestingScreenshot,
 };
 use scm_state_tests::samples::{ADDED, DEFAULT, binary, changed, context, file_of};
 use std::alloc::Global;
 use std::process::Abort;
 use std::test::Fail;
 
-/// Reads and edits of inputs of so many events, and of an answer of so many bytes.
-fn check_inputs(rt: &impl Abort, alloc: Global, count: usize) -> Result<(), Fail> {
+/// Reads of an input of so many events.
+fn check_events_left(rt: &impl Abort, alloc: Global, count: usize) -> Result<(), RecordError> {
     let events = vec![in alloc; Event::Redraw; count]?;
-    let batch = events.clone()?;
     let mut input = TestingInput::new(alloc, 80, 24, events)?;
     assert_eq!(rt; input.batches_left(), count);
     assert_eq!(rt; input.next_events()?.len(), 1);
-    let answer = String::from_utf8(vec![in alloc; b'a'; count]?)?;
-    input.commit_messages.push_back(answer)?;
-    let answer = input.edit_commit_message("")?;
-    assert_eq!(rt; answer.len(), count);
+    Ok(())
+}
+
+/// An answer of so many bytes.
+fn answer_of(alloc: Global, count: usize) -> Result<String, Fail> {
+    Ok(String::from_utf8(vec![in alloc; b'a'; count]?)?)
+}
+
+/// An edit that is answered in so many bytes.
+fn check_edit(rt: &impl Abort, alloc: Global, count: usize) -> Result<(), Fail> {
+    let mut input = TestingInput::new(alloc, 80, 24, Vec::new(alloc))?;
+    input.commit_messages.push_back(answer_of(alloc, count)?)?;
+    assert_eq!(rt; input.edit_commit_message("")?.len(), count);
+    Ok(())
+}
+
+/// The batch of a script that has so many events.
+fn check_batch(rt: &impl Abort, alloc: Global, count: usize) -> Result<(), RecordError> {
+    let batch = vec![in alloc; Event::Redraw; count]?;
     let reads = vec![in alloc; ScriptRead::Batch(batch)]?;
-    let edits = vec![in alloc; ScriptEdit::Answer(answer)]?;
-    let mut script = ScriptInput::new(alloc, 80, 24, reads, edits)?;
+    let mut script = ScriptInput::new(alloc, 80, 24, reads, Vec::new(alloc))?;
     assert_eq!(rt; script.next_events()?.len(), count);
+    Ok(())
+}
+
+/// The answer of a script that has so many bytes.
+fn check_answer(rt: &impl Abort, alloc: Global, count: usize) -> Result<(), Fail> {
+    let edits = vec![in alloc; ScriptEdit::Answer(answer_of(alloc, count)?)]?;
+    let mut script = ScriptInput::new(alloc, 80, 24, Vec::new(alloc), edits)?;
     assert_eq!(rt; script.edit_commit_message("")?.len(), count);
     Ok(())
 }
@@ -45,19 +65,31 @@ fn check_store(rt: &impl Abort, alloc: Global, count: usize) -> Result<(), Recor
 fn inputs_and_stores_of_any_size(rt: HostRuntime) -> Result<(), Fail> {
     let alloc = rt.alloc();
     for count in [0, 1, 10_000] {
-        check_inputs(&rt, alloc, count)?;
+        check_events_left(&rt, alloc, count)?;
+        check_edit(&rt, alloc, count)?;
+        check_batch(&rt, alloc, count)?;
+        check_answer(&rt, alloc, count)?;
         check_store(&rt, alloc, count)?;
     }
+    Ok(())
+}
+
+/// Copies what a side has.
+fn check_side(
+    rt: &impl Abort,
+    alloc: Global,
+    contents: &SelectedContents<'_>,
+) -> Result<(), RecordError> {
+    assert!(rt; contents.try_clone(alloc)? == *contents);
     Ok(())
 }
 
 /// Copies and splits a file.
 fn check_copies(rt: &impl Abort, alloc: Global, file: &File<'_>) -> Result<(), RecordError> {
     assert!(rt; file.try_clone(alloc)? == *file);
-    let (selected, unselected) = file.get_selected_contents(alloc)?;
-    assert!(rt; selected.contents.try_clone(alloc)? == selected.contents);
-    assert!(rt; unselected.contents.try_clone(alloc)? == unselected.contents);
-    Ok(())
+    let sides = file.get_selected_contents(alloc)?;
+    check_side(rt, alloc, &sides.0.contents)?;
+    check_side(rt, alloc, &sides.1.contents)
 }
 
 /// An input that opens the selected file, takes a screenshot and accepts.
@@ -67,58 +99,91 @@ fn shot_input(alloc: Global, shot: TestingScreenshot) -> Result<ScriptInput, Rec
     ScriptInput::new(alloc, 24, 8, reads, Vec::new(alloc))
 }
 
-/// Copies a state, and runs that input over it: nothing changes.
-fn check_run(rt: &impl Abort, alloc: Global, state: RecordState<'static>) -> Result<(), Fail> {
-    let copy = state.try_clone(alloc)?;
-    assert!(rt; copy == state);
+/// Runs that input over the state.
+fn run_shot(
+    rt: &impl Abort,
+    alloc: Global,
+    state: RecordState<'static>,
+    screens: &mut Screens,
+    shot: TestingScreenshot,
+) -> Result<RecordState<'static>, RecordError> {
     assert!(rt; state.is_accepted());
+    let mut input = shot_input(alloc, shot)?;
+    Recorder::new(alloc, state)?.run(&mut input, screens)
+}
+
+/// The first row of the screen, and the beginning of the second.
+const FIRST: &str = "\"[File] [Edit] [Select] [\"\n\"";
+
+/// Runs that input over a state of the file: nothing changes.
+fn check_run(rt: &impl Abort, alloc: Global, file: File<'static>) -> Result<(), RecordError> {
+    let mut state = RecordState::empty(alloc);
+    state.files.push(file)?;
+    let copy = state.try_clone(alloc)?;
     let mut screens = Screens::new(alloc);
     let shot = screens.place()?;
-    let mut input = shot_input(alloc, shot)?;
-    let answer = Recorder::new(alloc, state)?.run(&mut input, &mut screens)?;
+    let answer = run_shot(rt, alloc, state, &mut screens, shot)?;
     assert!(rt; answer.files == copy.files);
-    assert!(rt;
-        screens
-            .text(shot)
-            .starts_with("\"[File] [Edit] [Select] [\"\n\"")
-    );
+    assert!(rt; screens.text(shot).starts_with(FIRST));
     Ok(())
 }
 
 /// Copies and splits a file of these sections, and runs a script over it.
-fn check_file(rt: &impl Abort, alloc: Global, sections: Vec<Section<'static>>) -> Result<(), Fail> {
+fn check_file(
+    rt: &impl Abort,
+    alloc: Global,
+    sections: Vec<Section<'static>>,
+) -> Result<(), RecordError> {
     let file = file_of(DEFAULT, sections);
     check_copies(rt, alloc, &file)?;
-    let mut state = RecordState::empty(alloc);
-    state.files.push(file)?;
-    check_run(rt, alloc, state)
+    check_run(rt, alloc, file)
+}
+
+/// The same of a file of one section.
+fn check_section(
+    rt: &impl Abort,
+    alloc: Global,
+    section: Section<'static>,
+) -> Result<(), RecordError> {
+    check_file(rt, alloc, vec![in alloc; section]?)
 }
 
 #[test]
-fn files_of_any_kind_are_copied_split_and_run(rt: HostRuntime) -> Result<(), Fail> {
+fn files_of_one_section_are_copied_split_and_run(rt: HostRuntime) -> Result<(), Fail> {
     let alloc = rt.alloc();
+    check_file(&rt, alloc, Vec::new(alloc))?;
+    check_section(&rt, alloc, context(alloc, &[])?)?;
+    check_section(&rt, alloc, changed(alloc, &[])?)?;
+    check_section(&rt, alloc, binary(true))?;
+    let deletion = Section::FileMode {
+        is_checked: true,
+        mode: FileMode::Absent,
+    };
+    check_section(&rt, alloc, deletion)?;
+    Ok(())
+}
+
+/// A section of each kind but that of modes.
+fn several(alloc: Global) -> Result<Vec<Section<'static>>, RecordError> {
+    let mut sections = Vec::new(alloc);
+    sections.push(context(alloc, &["a\n"])?)?;
+    sections.push(changed(alloc, &[(false, ADDED, "b\n")])?)?;
+    sections.push(binary(false))?;
+    Ok(sections)
+}
+
+/// A section of ten thousand lines, and one of bytes.
+fn many_lines(alloc: Global) -> Result<Vec<Section<'static>>, RecordError> {
     let lines = vec![in alloc; (true, ADDED, "b\n"); 10_000]?;
     let many = changed(alloc, lines.as_slice())?;
-    for sections in [
-        Vec::new(alloc),
-        vec![in alloc; context(alloc, &[])?]?,
-        vec![in alloc; changed(alloc, &[])?]?,
-        vec![in alloc; binary(true)]?,
-        vec![in alloc;
-            context(alloc, &["a\n"])?,
-            changed(alloc, &[(false, ADDED, "b\n")])?,
-            binary(false),
-        ]?,
-        vec![in alloc; many, binary(true)]?,
-        vec![in alloc;
-            Section::FileMode {
-                is_checked: true,
-                mode: FileMode::Absent
-            },
-        ]?,
-    ] {
-        check_file(&rt, alloc, sections)?;
-    }
+    Ok(vec![in alloc; many, binary(true)]?)
+}
+
+#[test]
+fn files_of_several_sections_are_copied_split_and_run(rt: HostRuntime) -> Result<(), Fail> {
+    let alloc = rt.alloc();
+    check_file(&rt, alloc, several(alloc)?)?;
+    check_file(&rt, alloc, many_lines(alloc)?)?;
     Ok(())
 }
 

@@ -1,49 +1,39 @@
 //! The recorder: what a script of the program cannot say.
 use scm_record::{
-    ChangeType, Commit, Event, File, FileMode, Items, OwnedText, RecordError, RecordInput,
-    RecordState, Recorder, Screens, ScriptEdit, ScriptInput, ScriptRead, Section,
-    SectionChangedLine, TerminalKind, TestingInput, TestingScreenshot, Text,
+    Commit, Event, File, OwnedText, RecordError, RecordInput, RecordState, Recorder, Screens,
+    ScriptEdit, ScriptInput, ScriptRead, Section, TerminalKind, TestingInput, TestingScreenshot,
 };
+use scm_state_tests::samples::{ADDED, DEFAULT, changed, file_of};
 use std::alloc::{AllocError, Global};
 use std::collections::VecDeque;
+use std::process::Abort;
 use std::test::Fail;
 
-/// A commit with the message, and a file of two unchecked additions.
+/// A commit with the message.
+fn commit(alloc: Global, message: Option<&'static str>) -> Result<Commit, AllocError> {
+    match message {
+        Some(text) => Ok(Commit {
+            message: Some(OwnedText::from(String::from_str(alloc, text)?)),
+        }),
+        None => Ok(Commit::default()),
+    }
+}
+
+/// A file of two unchecked additions.
+fn file(alloc: Global) -> Result<File<'static>, RecordError> {
+    let lines = changed(alloc, &[(false, ADDED, "x\n"), (false, ADDED, "y\n")])?;
+    Ok(file_of(DEFAULT, vec![in alloc; lines]?))
+}
+
+/// That commit, and that file.
 fn state(
     alloc: Global,
     message: Option<&'static str>,
 ) -> Result<RecordState<'static>, RecordError> {
-    let mut lines = Vec::new(alloc);
-    for text in ["x\n", "y\n"] {
-        lines.push(SectionChangedLine {
-            is_checked: false,
-            change_type: ChangeType::Added,
-            line: Text::from(text),
-        })?;
-    }
-    let mut sections = Vec::new(alloc);
-    sections.push(Section::Changed {
-        lines: Items::from(lines),
-    })?;
-    let mut files = Vec::new(alloc);
-    files.push(File {
-        old_path: None,
-        path: Text::from("f"),
-        file_mode: FileMode::FILE_DEFAULT,
-        sections: Items::from(sections),
-    })?;
-    let mut commits = Vec::new(alloc);
-    commits.push(match message {
-        Some(text) => Commit {
-            message: Some(OwnedText::from(String::from_str(alloc, text)?)),
-        },
-        None => Commit::default(),
-    })?;
-    Ok(RecordState {
-        is_read_only: false,
-        commits: Items::from(commits),
-        files: Items::from(files),
-    })
+    let mut state = RecordState::empty(alloc);
+    state.commits.push(commit(alloc, message)?)?;
+    state.files.push(file(alloc)?)?;
+    Ok(state)
 }
 
 /// Runs an input over that state.
@@ -101,6 +91,17 @@ fn words(
     }
 }
 
+/// Runs an input over that state, and says the outcome in these words.
+fn run_words(
+    alloc: Global,
+    message: Option<&'static str>,
+    input: &mut dyn RecordInput,
+    screens: &mut Screens,
+) -> Result<String, AllocError> {
+    let outcome = run_on(alloc, message, input, screens);
+    words(alloc, &outcome)
+}
+
 /// A read of a script, as a constant.
 #[derive(Clone, Copy)]
 enum Read {
@@ -112,15 +113,25 @@ enum Read {
 fn script(alloc: Global, given: &[Read]) -> Result<ScriptInput, RecordError> {
     let mut reads = Vec::new(alloc);
     for read in given {
-        reads.push(match *read {
-            Read::Batch(events) => ScriptRead::Batch(Vec::from_slice(alloc, events)?),
-            Read::Fault(text) => ScriptRead::Fault(String::from_str(alloc, text)?),
-        })?;
+        reads.push(read_of(alloc, *read)?)?;
     }
+    ScriptInput::new(alloc, 80, 24, reads, edits(alloc)?)
+}
+
+/// The read of that constant.
+fn read_of(alloc: Global, read: Read) -> Result<ScriptRead, RecordError> {
+    Ok(match read {
+        Read::Batch(events) => ScriptRead::Batch(Vec::from_slice(alloc, events)?),
+        Read::Fault(text) => ScriptRead::Fault(String::from_str(alloc, text)?),
+    })
+}
+
+/// The answer `bye`, and then the fault `gone`.
+fn edits(alloc: Global) -> Result<Vec<ScriptEdit>, RecordError> {
     let mut edits = Vec::new(alloc);
     edits.push(ScriptEdit::Answer(String::from_str(alloc, "bye")?))?;
     edits.push(ScriptEdit::Fault(String::from_str(alloc, "gone")?))?;
-    ScriptInput::new(alloc, 80, 24, reads, edits)
+    Ok(edits)
 }
 
 /// What the next edit answers, or the words of its error.
@@ -246,29 +257,52 @@ const ROWS: [Row; 9] = [
     ),
 ];
 
+/// Checks what the next edit of the input answers.
+fn check_next(
+    rt: &impl Abort,
+    alloc: Global,
+    input: &mut dyn RecordInput,
+    next: &str,
+) -> Result<(), AllocError> {
+    let edit = edit_words(alloc, input)?;
+    assert_eq!(rt; edit.as_str(), next);
+    Ok(())
+}
+
+/// Runs a row.
+fn check_row(rt: &impl Abort, alloc: Global, row: Row) -> Result<(), RecordError> {
+    let (message, reads, wanted, frames, left, next) = row;
+    let mut input = script(alloc, reads)?;
+    assert_eq!(rt; input.batches_left(), reads.len());
+    let mut screens = Screens::new(alloc);
+    let text = run_words(alloc, message, &mut input, &mut screens)?;
+    assert_eq!(rt; text.as_str(), wanted);
+    assert_eq!(rt; screens.frames(), frames, "to {text}");
+    assert_eq!(rt; input.batches_left(), left, "to {text}");
+    check_next(rt, alloc, &mut input, next)?;
+    Ok(())
+}
+
 #[test]
 fn a_script_keeps_what_is_left(rt: HostRuntime) -> Result<(), Fail> {
-    let alloc = rt.alloc();
-    for (message, reads, wanted, frames, left, next) in ROWS {
-        let mut input = script(alloc, reads)?;
-        assert_eq!(rt;
-            input.terminal_kind(),
-            TerminalKind::Testing {
-                width: 80,
-                height: 24
-            }
-        );
-        assert_eq!(rt; input.batches_left(), reads.len());
-        let mut screens = Screens::new(alloc);
-        let outcome = run_on(alloc, message, &mut input, &mut screens);
-        let text = words(alloc, &outcome)?;
-        assert_eq!(rt; text.as_str(), wanted);
-        assert_eq!(rt; screens.frames(), frames, "to {text}");
-        assert_eq!(rt; input.batches_left(), left, "to {text}");
-        let edit = edit_words(alloc, &mut input)?;
-        assert_eq!(rt; edit.as_str(), next, "to {text}");
+    for row in ROWS {
+        check_row(&rt, rt.alloc(), row)?;
     }
     Ok(())
+}
+
+/// Ten thousand events, an edit, and the end.
+fn long_batch(alloc: Global) -> Result<Vec<ScriptRead>, RecordError> {
+    let mut batch = vec![in alloc; Event::None; 10_000]?;
+    batch.push(EDIT)?;
+    batch.push(ACCEPT)?;
+    Ok(vec![in alloc; ScriptRead::Batch(batch)]?)
+}
+
+/// An answer of so many bytes.
+fn long_answer(alloc: Global, len: usize) -> Result<Vec<ScriptEdit>, Fail> {
+    let answer = String::from_utf8(vec![in alloc; b'a'; len]?)?;
+    Ok(vec![in alloc; ScriptEdit::Answer(answer)]?)
 }
 
 #[test]
@@ -278,20 +312,9 @@ fn long_scripts_and_messages(rt: HostRuntime) -> Result<(), Fail> {
         (1_000_000, "accepted"),
         (1_000_001, "commit message too long"),
     ] {
-        let mut batch = vec![in alloc; Event::None; 10_000]?;
-        batch.push(EDIT)?;
-        batch.push(ACCEPT)?;
-        let mut reads = Vec::new(alloc);
-        reads.push(ScriptRead::Batch(batch))?;
-        let Ok(answer) = String::from_utf8(vec![in alloc; b'a'; len]?) else {
-            assert!(rt; false, "no text");
-            return Ok(());
-        };
-        let mut edits = Vec::new(alloc);
-        edits.push(ScriptEdit::Answer(answer))?;
-        let mut input = ScriptInput::new(alloc, 80, 24, reads, edits)?;
-        let outcome = run_on(alloc, HELLO, &mut input, &mut Screens::new(alloc));
-        let text = words(alloc, &outcome)?;
+        let edits = long_answer(alloc, len)?;
+        let mut input = ScriptInput::new(alloc, 80, 24, long_batch(alloc)?, edits)?;
+        let text = run_words(alloc, HELLO, &mut input, &mut Screens::new(alloc))?;
         assert!(rt; text.as_str().starts_with(wanted));
     }
     Ok(())
@@ -304,14 +327,10 @@ fn scrolling(
     shot: TestingScreenshot,
 ) -> Result<Vec<ScriptRead>, RecordError> {
     let mut reads = Vec::new(alloc);
-    for batch in [
-        vec![in alloc; Event::FocusInner]?,
-        vec![in alloc; Event::ScrollDown; times]?,
-        vec![in alloc; shot.event()]?,
-        vec![in alloc; ACCEPT]?,
-    ] {
-        reads.push(ScriptRead::Batch(batch))?;
-    }
+    reads.push(ScriptRead::Batch(vec![in alloc; Event::FocusInner]?))?;
+    reads.push(ScriptRead::Batch(vec![in alloc; Event::ScrollDown; times]?))?;
+    reads.push(ScriptRead::Batch(vec![in alloc; shot.event()]?))?;
+    reads.push(ScriptRead::Batch(vec![in alloc; ACCEPT]?))?;
     Ok(reads)
 }
 
@@ -336,8 +355,8 @@ fn screenshots_are_kept_at_their_places(rt: HostRuntime) -> Result<(), Fail> {
     ] {
         let reads = scrolling(alloc, times, shot)?;
         let mut input = ScriptInput::new(alloc, 3, 3, reads, Vec::new(alloc))?;
-        let outcome = run_on(alloc, None, &mut input, &mut screens);
-        assert_eq!(rt; words(alloc, &outcome)?.as_str(), wanted);
+        let outcome = run_words(alloc, None, &mut input, &mut screens)?;
+        assert_eq!(rt; outcome.as_str(), wanted);
         assert_eq!(rt; screens.text(first), text, "after {times}");
     }
     assert_eq!(rt; screens.frames(), 19);
@@ -394,8 +413,7 @@ fn an_edit_is_shown_the_first_message(rt: HostRuntime) -> Result<(), Fail> {
         events: VecDeque::from(vec![in alloc; TOGGLE, EDIT, ACCEPT]?),
         asked: String::new(alloc),
     };
-    let outcome = run_on(alloc, HELLO, &mut input, &mut Screens::new(alloc));
-    let text = words(alloc, &outcome)?;
+    let text = run_words(alloc, HELLO, &mut input, &mut Screens::new(alloc))?;
     assert_eq!(rt; text.as_str(), "No more commit messages available");
     assert_eq!(rt; input.asked.as_str(), "hello");
     assert_eq!(rt; input.batches_left(), 1);
@@ -407,26 +425,29 @@ fn a_testing_input_gives_its_events(rt: HostRuntime) -> Result<(), Fail> {
     let alloc = rt.alloc();
     let events = vec![in alloc; Event::QuitCancel]?;
     let mut input = TestingInput::new(alloc, 80, 24, events)?;
-    assert_eq!(rt;
-        input.terminal_kind(),
-        TerminalKind::Testing {
-            width: 80,
-            height: 24
-        }
-    );
     assert_eq!(rt; input.batches_left(), 1);
     for event in [Event::QuitCancel, Event::None] {
         let batch = input.next_events()?;
         assert_eq!(rt; batch.as_slice(), [event].as_slice());
         assert_eq!(rt; input.batches_left(), 0);
     }
+    Ok(())
+}
+
+#[test]
+fn a_testing_input_gives_its_messages(rt: HostRuntime) -> Result<(), Fail> {
+    let alloc = rt.alloc();
+    let mut input = TestingInput::new(alloc, 80, 24, Vec::new(alloc))?;
+    let kind = TerminalKind::Testing {
+        width: 80,
+        height: 24,
+    };
+    assert_eq!(rt; input.terminal_kind(), kind);
     input
         .commit_messages
         .push_back(String::from_str(alloc, "bye")?)?;
-    for wanted in ["bye", "No more commit messages available"] {
-        let edit = edit_words(alloc, &mut input)?;
-        assert_eq!(rt; edit.as_str(), wanted);
-    }
+    check_next(&rt, alloc, &mut input, "bye")?;
+    check_next(&rt, alloc, &mut input, "No more commit messages available")?;
     Ok(())
 }
 

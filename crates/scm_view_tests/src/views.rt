@@ -427,32 +427,54 @@ fn document_rows(
     rows_of(alloc, grid)
 }
 
+/// Draws the document of a row.
+fn check_document(rt: &impl Abort, alloc: Global, row: Row) -> Result<(), RecordError> {
+    let (use_unicode, parts, selected, width, height, y, wanted) = row;
+    let look = Look {
+        use_unicode,
+        selection: match selected {
+            Some(index) => SelectionKey::Section(section_key(index)),
+            None => SelectionKey::None,
+        },
+    };
+    let files = vec![in alloc; file_of(DEFAULT, sections_of(alloc, parts)?)]?;
+    let mut grid = Grid::new(alloc, width, height)?;
+    let rows = document_rows(rt, alloc, look, files.as_slice(), &mut grid, y)?;
+    assert_eq!(rt; rows.as_str(), wanted, "from row {y}");
+    Ok(())
+}
+
 #[test]
 fn documents_are_drawn_alone(rt: HostRuntime) -> Result<(), Fail> {
+    for row in DOCUMENTS {
+        check_document(&rt, rt.alloc(), row)?;
+    }
+    Ok(())
+}
+
+/// Draws the document without files.
+fn check_no_files(
+    rt: &impl Abort,
+    alloc: Global,
+    width: u16,
+    height: u16,
+    wanted: &str,
+) -> Result<(), RecordError> {
+    let look = Look {
+        use_unicode: true,
+        selection: SelectionKey::None,
+    };
+    let mut grid = Grid::new(alloc, width, height)?;
+    let rows = document_rows(rt, alloc, look, &[], &mut grid, 0)?;
+    assert_eq!(rt; rows.as_str(), wanted, "on {width} columns");
+    Ok(())
+}
+
+#[test]
+fn documents_without_files_say_so(rt: HostRuntime) -> Result<(), Fail> {
     let alloc = rt.alloc();
-    for (use_unicode, parts, selected, width, height, y, wanted) in DOCUMENTS {
-        let look = Look {
-            use_unicode,
-            selection: match selected {
-                Some(index) => SelectionKey::Section(section_key(index)),
-                None => SelectionKey::None,
-            },
-        };
-        let file = file_of(DEFAULT, sections_of(alloc, parts)?);
-        let files = vec![in alloc; file]?;
-        let mut grid = Grid::new(alloc, width, height)?;
-        let rows = document_rows(&rt, alloc, look, files.as_slice(), &mut grid, y)?;
-        assert_eq!(rt; rows.as_str(), wanted, "from row {y}");
-    }
-    for (width, height, wanted) in [(1, 1, "…\n"), (20, 3, "There are no change…\n\n\n")] {
-        let look = Look {
-            use_unicode: true,
-            selection: SelectionKey::None,
-        };
-        let mut grid = Grid::new(alloc, width, height)?;
-        let rows = document_rows(&rt, alloc, look, &[], &mut grid, 0)?;
-        assert_eq!(rt; rows.as_str(), wanted, "on {width} columns");
-    }
+    check_no_files(&rt, alloc, 1, 1, "…\n")?;
+    check_no_files(&rt, alloc, 20, 3, "There are no change…\n\n\n")?;
     Ok(())
 }
 
@@ -545,34 +567,68 @@ fn lines_of_context_are_left_out(rt: HostRuntime) -> Result<(), Fail> {
 
 // ---- headers and boxes
 
-#[test]
-fn headers_and_boxes_are_drawn_alone(rt: HostRuntime) -> Result<(), Fail> {
-    let alloc = rt.alloc();
+/// Shows the rows of the screen.
+fn check_rows(
+    rt: &impl Abort,
+    alloc: Global,
+    grid: &Grid,
+    wanted: &str,
+) -> Result<(), RecordError> {
+    assert_eq!(rt; rows_of(alloc, grid)?.as_str(), wanted);
+    Ok(())
+}
+
+/// Draws the header of a folded file, on so many columns.
+fn check_header(
+    rt: &impl Abort,
+    alloc: Global,
+    width: u16,
+    wanted: &str,
+) -> Result<(), RecordError> {
     let key = SelectionKey::File(FILE_KEY);
-    for (width, wanted) in [
-        (13, "( ) 日本語(+)\n"),
-        (12, "( ) 日本…(+)\n"),
-        (11, "( ) 日 …(+)\n"),
-    ] {
-        let look = Look {
-            use_unicode: true,
-            selection: key,
-        };
-        let header = FileViewHeader {
-            file_key: FILE_KEY,
-            path: "日本語",
-            old_path: None,
-            is_selected: true,
-            toggle_box: look.toggle_box(key, Tristate::False),
-            expand_box: TristateBox {
-                tristate: Tristate::False,
-                ..look.expand_box(key)
-            },
-        };
-        let mut grid = Grid::new(alloc, width, 1)?;
-        let _ = draw_header(&rt, alloc, &mut grid, &header)?;
-        assert_eq!(rt; rows_of(alloc, &grid)?.as_str(), wanted);
-    }
+    let look = Look {
+        use_unicode: true,
+        selection: key,
+    };
+    let header = FileViewHeader {
+        file_key: FILE_KEY,
+        path: "日本語",
+        old_path: None,
+        is_selected: true,
+        toggle_box: look.toggle_box(key, Tristate::False),
+        expand_box: TristateBox {
+            tristate: Tristate::False,
+            ..look.expand_box(key)
+        },
+    };
+    let mut grid = Grid::new(alloc, width, 1)?;
+    let _ = draw_header(rt, alloc, &mut grid, &header)?;
+    check_rows(rt, alloc, &grid, wanted)
+}
+
+#[test]
+fn headers_are_drawn_alone(rt: HostRuntime) -> Result<(), Fail> {
+    let alloc = rt.alloc();
+    check_header(&rt, alloc, 13, "( ) 日本語(+)\n")?;
+    check_header(&rt, alloc, 12, "( ) 日本…(+)\n")?;
+    check_header(&rt, alloc, 11, "( ) 日 …(+)\n")?;
+    Ok(())
+}
+
+/// Draws a box.
+fn check_box(
+    rt: &impl Abort,
+    alloc: Global,
+    view: &TristateBox<ComponentId>,
+    wanted: &str,
+) -> Result<(), RecordError> {
+    let mut grid = Grid::new(alloc, 3, 1)?;
+    let _ = draw_box(rt, alloc, &mut grid, view)?;
+    check_rows(rt, alloc, &grid, wanted)
+}
+
+#[test]
+fn boxes_are_drawn_alone(rt: HostRuntime) -> Result<(), Fail> {
     use Tristate::{False, Partial, True};
     use TristateIconStyle::{Check, Expand};
     for (use_unicode, is_focused, is_read_only, tristate, icon_style, wanted) in [
@@ -595,9 +651,7 @@ fn headers_and_boxes_are_drawn_alone(rt: HostRuntime) -> Result<(), Fail> {
             tristate,
             icon_style,
         };
-        let mut grid = Grid::new(alloc, 3, 1)?;
-        let _ = draw_box(&rt, alloc, &mut grid, &view)?;
-        assert_eq!(rt; rows_of(alloc, &grid)?.as_str(), wanted);
+        check_box(&rt, rt.alloc(), &view, wanted)?;
     }
     Ok(())
 }
