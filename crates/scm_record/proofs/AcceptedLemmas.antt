@@ -15,7 +15,7 @@ use Rattle.scm_types.specs.Marks.{line_with_mark, section_with_marks, file_with_
 use Rattle.scm_types.proofs.EditLemmas.{length-modify}
 use Rattle.scm_input.specs.declared.events.Event.{Event}
 use Rattle.scm_record.specs.declared.selector.Flow.{Flow}
-use Rattle.scm_record.specs.Toggle.{with_key_toggled, with_all_set}
+use Rattle.scm_selection.specs.Toggle.{with_key_toggled, with_all_set}
 use Rattle.scm_record.specs.Session.{Session, IsDrawable, with_message, commit_saying}
 use Rattle.scm_record.specs.Frames.{Scene}
 use Rattle.scm_record.specs.Uses.{max_scroll}

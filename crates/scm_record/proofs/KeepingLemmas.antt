@@ -12,15 +12,15 @@ use Rattle.scm_types.specs.Limits.{is_accepted_state}
 use Rattle.scm_types.specs.Marks.{file_marks, section_marks, tristate_of, line_with_mark, section_with_marks, file_with_marks}
 use Rattle.scm_types.specs.Same.{unmarked, emptied_commit}
 use Rattle.scm_types.specs.Mode.{is_absent}
-use Rattle.scm_view.specs.declared.keys.SelectionKey.{SelectionKey}
-use Rattle.scm_view.specs.declared.keys.SelectionKey.TheVariants as keys
+use Rattle.scm_keys.specs.declared.keys.SelectionKey.{SelectionKey}
+use Rattle.scm_keys.specs.declared.keys.SelectionKey.TheVariants as keys
 use Rattle.scm_types.specs.Edits.{modify}
 use Rattle.scm_types.specs.Limits.{is_short_text}
 use Rattle.scm_types.proofs.EditLemmas.{map-modify-same}
 use Rattle.scm_input.specs.declared.events.Event.{Event}
 use Rattle.scm_record.specs.declared.selector.Flow.{Flow}
 use Rattle.scm_record.specs.declared.selector.Flow.TheVariants as flows
-use Rattle.scm_record.specs.Toggle.{mark_after, with_changed_set, with_deletion_unchecked, with_mode_checked, after_lines, after_mode, after_section, with_file_toggled, with_section_set, with_this_section_toggled, with_section_toggled, with_line_inverted, line_mark, with_this_line_toggled, with_line_toggled, with_key_toggled, with_all_inverted, with_all_set}
+use Rattle.scm_selection.specs.Toggle.{mark_after, with_changed_set, with_deletion_unchecked, with_mode_checked, after_lines, after_mode, after_section, with_file_toggled, with_section_set, with_this_section_toggled, with_section_toggled, with_line_inverted, line_mark, with_this_line_toggled, with_line_toggled, with_key_toggled, with_all_inverted, with_all_set}
 use Rattle.scm_input.specs.Script.{Read, Batch, BrokenRead, Edit, Answer, BrokenEdit, no_more}
 use Rattle.scm_record.specs.Session.{Session, start, padded, padded_state, with_files_changed, with_message, message_of, commit_saying}
 use Rattle.scm_record.specs.Frames.{Scene, scene_of}

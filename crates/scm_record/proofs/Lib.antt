@@ -1,14 +1,8 @@
--- lists and sets of keys
-pub mod KeySetLemmas
-pub mod KeyListLemmas
-pub mod MoveLemmas
+-- how a page is turned
 pub mod PageLemmas
 -- what a session shows
 pub mod ViewLemmas
 pub mod LentLemmas
--- toggles, and the files that they keep coherent
-pub mod ToggleLemmas
-pub mod CoherenceLemmas
 -- runs: from point to point, and to one end
 pub mod RunLemmas
 pub mod EndLemmas

@@ -8,14 +8,15 @@ use Rattle.scm_input.specs.declared.events.Event.{Event}
 use Rattle.scm_record.specs.declared.selector.Flow.{Flow}
 use Rattle.scm_record.specs.declared.selector.Flow.TheVariants as flows
 use Rattle.scm_input.specs.Script.{Edit, Answer, BrokenEdit, no_more}
-use Rattle.scm_record.specs.Toggle.{with_key_toggled, with_all_set}
+use Rattle.scm_selection.specs.Toggle.{with_key_toggled, with_all_set}
 use Rattle.scm_record.specs.Session.{Session, with_message}
 use Rattle.scm_record.specs.Frames.{Scene, scene_of}
 use Rattle.scm_record.specs.Uses.{shot_of}
 use Rattle.scm_record.specs.Step.{change}
 use Rattle.scm_record.specs.Run.{World, with_session, with_edits, with_text, Goes, Breaks, no_such_place, too_long, answered, edited, outcome_by}
-use Rattle.scm_record.specs.Coherence.{KeepsCoherent, OutcomeKeepsCoherent, StepKeepsCoherent, is_toggle_all}
-use Rattle.scm_record.proofs.CoherenceLemmas.{keeps_coherent-same, toggle_keeps_coherent, all_set_keeps_coherent}
+use Rattle.scm_selection.specs.Coherence.{KeepsCoherent}
+use Rattle.scm_record.specs.Coherence.{OutcomeKeepsCoherent, StepKeepsCoherent, is_toggle_all}
+use Rattle.scm_selection.proofs.CoherenceLemmas.{keeps_coherent-same, toggle_keeps_coherent, all_set_keeps_coherent}
 use Rattle.scm_record.proofs.StepLemmas.{Marks, unmarked, toggled, inverted, all_set, leads}
 
 -- marks that change unless the state is read-only

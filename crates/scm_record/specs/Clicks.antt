@@ -1,12 +1,12 @@
 -- What a click makes of a session, by what it hits.
 use Rattle.std.specs.Prelude.{ℕ, false, List, Option, Some, None, option_and_then, if◌then◌else◌}
-use Rattle.scm_view.specs.declared.keys.SelectionKey.{SelectionKey}
-use Rattle.scm_view.specs.declared.keys.SelectionKey.TheVariants as keys
+use Rattle.scm_keys.specs.declared.keys.SelectionKey.{SelectionKey}
+use Rattle.scm_keys.specs.declared.keys.SelectionKey.TheVariants as keys
 use Rattle.scm_view.specs.declared.ids.ComponentId.{ComponentId}
 use Rattle.scm_view.specs.declared.ids.ComponentId.TheVariants as ids
 use Rattle.scm_input.specs.declared.events.Event.{Event}
 use Rattle.scm_input.specs.declared.events.Event.TheVariants as events
-use Rattle.scm_record.specs.KeySet.{is_key}
+use Rattle.scm_selection.specs.KeySet.{is_key}
 use Rattle.scm_record.specs.Session.{Session, at_key, with_pushed, with_menu, with_help, after_menu, after_item, after_toggle, after_expand, message_of}
 use Rattle.scm_record.specs.Menus.{event_of_item}
 use Rattle.scm_record.specs.Change.{Change, stays, edits}

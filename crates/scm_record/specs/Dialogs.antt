@@ -3,7 +3,7 @@ use Rattle.std.specs.Prelude.{ℕ, ◌==◌, ◌&&◌, Bool, false, Option, Some
 use Rattle.scm_view.specs.declared.quit_dialog.QuitDialog.{QuitDialog}
 use Rattle.scm_view.specs.declared.quit_dialog.QuitDialogButtonId.{QuitDialogButtonId}
 use Rattle.scm_view.specs.declared.quit_dialog.QuitDialogButtonId.TheVariants.{Quit, GoBack}
-use Rattle.scm_record.specs.Counts.{message_count, changed_count}
+use Rattle.scm_selection.specs.Counts.{message_count, changed_count}
 use Rattle.scm_record.specs.Session.{Session, with_dialog, with_help}
 use Rattle.scm_record.specs.Change.{Change, stays, cancels}
 

@@ -1,13 +1,3 @@
--- the keys of a state in order, and which of them are visible
-pub mod Keys
--- sets of keys, as of those that are expanded
-pub mod KeySet
--- where the selection moves to
-pub mod Moves
--- what a toggle makes of the files
-pub mod Toggle
--- what the quit dialog counts
-pub mod Counts
 -- a session, and what becomes of it by each thing that a user does to the document
 pub mod Session
 -- what was drawn last, as a step asks it
@@ -42,7 +32,14 @@ pub mod Headline
 pub mod Turn
 -- what the fields of a selector stand for
 pub mod SessionView
--- of the crate of inputs, so that a caller lists this crate alone
+-- of the keys' crates, so that a caller lists this crate alone
+pub use Rattle.scm_keys.specs.Keys
+pub use Rattle.scm_selection.specs.KeySet
+pub use Rattle.scm_selection.specs.Moves
+pub use Rattle.scm_selection.specs.Toggle
+pub use Rattle.scm_selection.specs.Coherence as KeptFiles
+pub use Rattle.scm_selection.specs.Counts
+-- of the crate of inputs
 pub use Rattle.scm_input.specs.Script
 pub use Rattle.scm_input.specs.KeyTable
 pub use Rattle.scm_input.specs.Testing

@@ -5,20 +5,15 @@
 #![tactic(auto)]
 
 mod commit_views;
-mod counts;
 mod file_views;
 mod folds;
 mod frame;
-mod key_lists;
-mod key_set;
 mod menus;
-mod moves;
 mod pages;
 pub mod recording;
 mod runs;
 mod section_views;
 mod selector;
-pub mod toggles;
 mod views;
 
 pub use recording::Recorder;
@@ -34,6 +29,7 @@ pub use scm_input::{
 pub use scm_render::{
     Clickable, Component, DrawTrace, DrawnRect, DrawnRects, Viewport, centered_rect, find_target,
 };
+pub use scm_selection::{KeySet, counts, key_lists, key_set, moves, toggles};
 pub use scm_types::{
     ChangeType, Commit, File, FileMode, IsizeExt, Items, OwnedText, RecordError, RecordState,
     Section, SectionChangedLine, SelectedChanges, SelectedContents, Text, Tristate, TryClone,

@@ -4,7 +4,7 @@ ghost use Rattle.scm_record.specs.Frames.{IsShown, Scene};
 ghost use Rattle.scm_record.specs.Pages.{is_far, is_page_away, page_key, towards, walked};
 
 use crate::frame::DrawnFrame;
-use crate::moves::position_of;
+use scm_selection::moves::position_of;
 use scm_view::SelectionKey;
 
 /// Which way a page is turned.

@@ -6,8 +6,8 @@ ghost use Rattle.scm_types.specs.Marks.{is_editable_section};
 ghost use Rattle.scm_view.specs.Shown.{is_removed, old_lines, section_view_of, section_views_of, selected_in, totals_of};
 ghost use Rattle.scm_record.specs.Views.{lent_section, lent_sections, totals_in};
 
-use crate::moves::is_key;
 use crate::views::Showing;
+use scm_selection::moves::is_key;
 use scm_types::{ChangeType, Items, RecordError, Section, SectionChangedLine};
 use scm_view::{FileKey, SectionKey, SectionSelection, SectionView, SelectionKey};
 use std::alloc::Global;

@@ -12,11 +12,11 @@ mod moves;
 mod scrolling;
 
 use crate::frame::DrawnFrame;
-use crate::key_lists::{first_key, section_keys};
-use crate::key_set::{KeySet, key_set_of};
 use crate::pages::Way;
 use crate::views::Showing;
 use scm_input::Event;
+use scm_selection::key_lists::{first_key, section_keys};
+use scm_selection::key_set::{KeySet, key_set_of};
 use scm_types::{Commit, Items, OwnedText, RecordError, RecordState};
 use scm_view::{CommitViewMode, QuitDialog, SelectionKey};
 use std::alloc::Global;

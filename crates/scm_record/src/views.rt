@@ -1,10 +1,10 @@
 //! What a session shows, and the boxes that show its marks and folds.
 ghost use Rattle.std.specs.Prelude.{◌≡◌};
-ghost use Rattle.scm_view.specs.Keys.{has_key, is_key};
+ghost use Rattle.scm_keys.specs.Keys.{has_key, is_key};
 ghost use Rattle.scm_view.specs.Shown.{expand_box_of, toggle_box_of};
 
-use crate::key_set::KeySet;
-use crate::moves::is_key;
+use scm_selection::key_set::KeySet;
+use scm_selection::moves::is_key;
 use scm_types::{Commit, RecordState, Tristate};
 use scm_view::{
     CommitViewMode, ComponentId, QuitDialog, SelectionKey, TristateBox, TristateIconStyle,

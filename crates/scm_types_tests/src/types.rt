@@ -102,7 +102,13 @@ fn is_side(changes: &SelectedChanges<'_>, mode: FileMode, side: Side) -> bool {
     is_same && changes.file_mode == mode
 }
 
-/// Splits the file, which is to have these two sides, and which is to stay as it is.
+/// Checks that a copy of the file equals it.
+fn check_copy(rt: &impl Abort, alloc: Global, file: &File<'_>) -> Result<(), RecordError> {
+    assert!(rt; file.try_clone(alloc)? == *file);
+    Ok(())
+}
+
+/// Splits the file, which is to have these two sides.
 fn check_split(
     rt: &impl Abort,
     alloc: Global,
@@ -110,10 +116,7 @@ fn check_split(
     selected: (FileMode, Side),
     unselected: (FileMode, Side),
 ) -> Result<(), RecordError> {
-    let before = file.try_clone(alloc)?;
-    let outcome = file.get_selected_contents(alloc);
-    assert!(rt; *file == before);
-    let sides = outcome?;
+    let sides = file.get_selected_contents(alloc)?;
     assert!(rt; is_side(&sides.0, selected.0, selected.1));
     assert!(rt; is_side(&sides.1, unselected.0, unselected.1));
     Ok(())
@@ -128,7 +131,12 @@ fn files_are_split(rt: HostRuntime) -> Result<(), Fail> {
     check_split(&rt, alloc, &mixed, first, second)?;
     mixed.toggle_all();
     check_split(&rt, alloc, &mixed, second, first)?;
+    Ok(())
+}
 
+#[test]
+fn removals_and_bytes_are_split(rt: HostRuntime) -> Result<(), Fail> {
+    let alloc = rt.alloc();
     let rest = (DEFAULT, Side::Text("x\n"));
     let emptied = (DEFAULT, Side::Text(""));
     check_split(&rt, alloc, &removal(alloc, false)?, emptied, rest)?;
@@ -168,6 +176,17 @@ fn text_len(contents: &SelectedContents<'_>) -> usize {
     }
 }
 
+/// A file of these lines of context, and these changed lines.
+fn file_with(
+    alloc: Global,
+    texts: &[&'static str],
+    lines: &[Line],
+) -> Result<File<'static>, RecordError> {
+    let context = context(alloc, texts)?;
+    let changes = changed(alloc, lines)?;
+    Ok(file_of(DEFAULT, vec![in alloc; context, changes]?))
+}
+
 /// Copies and splits a file of these lines, whose selected text is to have so many bytes.
 fn check_size(
     rt: &impl Abort,
@@ -176,11 +195,8 @@ fn check_size(
     lines: &[Line],
     bytes: usize,
 ) -> Result<(), RecordError> {
-    let mut sections = Vec::new(alloc);
-    sections.push(context(alloc, texts)?)?;
-    sections.push(changed(alloc, lines)?)?;
-    let file = file_of(DEFAULT, sections);
-    assert!(rt; file.try_clone(alloc)? == file);
+    let file = file_with(alloc, texts, lines)?;
+    check_copy(rt, alloc, &file)?;
     let sides = file.get_selected_contents(alloc)?;
     assert_eq!(rt; text_len(&sides.0.contents), bytes);
     Ok(())
@@ -212,25 +228,46 @@ fn laws_can_be_called(rt: HostRuntime) -> Result<(), Fail> {
 }
 
 #[test]
-fn copies_of_a_state_equal_it(rt: HostRuntime) -> Result<(), Fail> {
-    let alloc = rt.alloc();
-    let mut state = RecordState::empty(alloc);
+fn the_empty_state_has_nothing(rt: HostRuntime) {
+    let state = RecordState::empty(rt.alloc());
     assert!(rt; !state.is_read_only);
     assert!(rt; state.commits.is_empty());
     assert!(rt; state.files.is_empty());
+}
+
+/// A state of a new file.
+fn new_state(alloc: Global) -> Result<RecordState<'static>, RecordError> {
+    let mut state = RecordState::empty(alloc);
     state.files.push(new_file(alloc, &UNCHECKED, false)?)?;
-    assert!(rt; state.try_clone(alloc)? == state);
-    for file in state.files.iter() {
-        assert!(rt; file.try_clone(alloc)? == *file);
-        for section in file.sections.iter() {
-            assert!(rt; section.try_clone(alloc)? == *section);
-        }
+    Ok(state)
+}
+
+#[test]
+fn copies_of_a_state_equal_it(rt: HostRuntime) -> Result<(), Fail> {
+    let state = new_state(rt.alloc())?;
+    assert!(rt; state.try_clone(rt.alloc())? == state);
+    Ok(())
+}
+
+/// Checks that a copy of the section equals it.
+fn check_section(rt: &impl Abort, alloc: Global, section: &Section<'_>) -> Result<(), RecordError> {
+    assert!(rt; section.try_clone(alloc)? == *section);
+    Ok(())
+}
+
+#[test]
+fn copies_of_files_equal_them(rt: HostRuntime) -> Result<(), Fail> {
+    let alloc = rt.alloc();
+    let file = new_file(alloc, &UNCHECKED, false)?;
+    check_copy(&rt, alloc, &file)?;
+    for section in file.sections.iter() {
+        check_section(&rt, alloc, section)?;
     }
     Ok(())
 }
 
 #[test]
-fn copies_of_parts_equal_them(rt: HostRuntime) -> Result<(), Fail> {
+fn copies_of_lines_equal_them(rt: HostRuntime) -> Result<(), Fail> {
     let alloc = rt.alloc();
     let line = SectionChangedLine {
         is_checked: false,
@@ -238,16 +275,47 @@ fn copies_of_parts_equal_them(rt: HostRuntime) -> Result<(), Fail> {
         line: Text::from("n\n"),
     };
     assert!(rt; line.try_clone(alloc)? == line);
+    Ok(())
+}
+
+#[test]
+fn copies_of_commits_equal_them(rt: HostRuntime) -> Result<(), Fail> {
+    let alloc = rt.alloc();
     let commit = Commit {
         message: Some(owned(alloc, "m")?),
     };
     assert!(rt; commit.try_clone(alloc)? == commit);
     assert!(rt; Commit::default() != commit);
-    let mixed = mixed_file(alloc)?;
-    let sides = mixed.get_selected_contents(alloc)?;
-    assert!(rt; sides.0.contents.try_clone(alloc)? == sides.0.contents);
-    assert!(rt; sides.1.contents.try_clone(alloc)? == sides.1.contents);
     Ok(())
+}
+
+/// Checks that a copy of what a side has equals it.
+fn check_contents(
+    rt: &impl Abort,
+    alloc: Global,
+    contents: &SelectedContents<'_>,
+) -> Result<(), RecordError> {
+    assert!(rt; contents.try_clone(alloc)? == *contents);
+    Ok(())
+}
+
+#[test]
+fn copies_of_sides_equal_them(rt: HostRuntime) -> Result<(), Fail> {
+    let alloc = rt.alloc();
+    let file = mixed_file(alloc)?;
+    let sides = file.get_selected_contents(alloc)?;
+    check_contents(&rt, alloc, &sides.0.contents)?;
+    check_contents(&rt, alloc, &sides.1.contents)?;
+    Ok(())
+}
+
+/// Sets the marks of the section, and inverts them.
+fn check_marks(rt: &impl Abort, section: &mut Section<'_>) {
+    section.set_checked(true);
+    let is_editable = section.is_editable();
+    assert_eq!(rt; section.tristate(), Tristate::from(is_editable));
+    section.toggle_all();
+    assert_eq!(rt; section.tristate(), Tristate::False);
 }
 
 #[test]
@@ -260,11 +328,7 @@ fn marks_are_counted_and_written(rt: HostRuntime) -> Result<(), Fail> {
     file.toggle_all();
     assert_eq!(rt; file.tristate(), Tristate::False);
     for section in file.sections.iter_mut() {
-        section.set_checked(true);
-        let is_editable = section.is_editable();
-        assert_eq!(rt; section.tristate(), Tristate::from(is_editable));
-        section.toggle_all();
-        assert_eq!(rt; section.tristate(), Tristate::False);
+        check_marks(&rt, section);
     }
     Ok(())
 }
@@ -378,6 +442,14 @@ fn sizes_are_converted(rt: HostRuntime) -> Result<(), Fail> {
         assert_eq!(rt; IsizeExt::clamp_into_u16(place), nearest);
         assert_eq!(rt; IsizeExt::clamp_into_usize(place), size);
     }
+    assert!(rt; ENV_VAR_DUMP_UI_STATE == "SCM_RECORD_DUMP_UI_STATE");
+    assert!(rt; DUMP_UI_STATE_FILENAME == "scm_record_ui_state.json");
+    assert!(rt; ENV_VAR_DEBUG_UI == "SCM_RECORD_DEBUG_UI");
+    Ok(())
+}
+
+#[test]
+fn bytes_are_described(rt: HostRuntime) -> Result<(), Fail> {
     for (hash, size, text) in [
         ("", 0, " (0 bytes)"),
         ("abc123", 42, "abc123 (42 bytes)"),
@@ -386,9 +458,6 @@ fn sizes_are_converted(rt: HostRuntime) -> Result<(), Fail> {
         let description = make_binary_description(rt.alloc(), hash, size)?;
         assert!(rt; description.as_str() == text);
     }
-    assert!(rt; ENV_VAR_DUMP_UI_STATE == "SCM_RECORD_DUMP_UI_STATE");
-    assert!(rt; DUMP_UI_STATE_FILENAME == "scm_record_ui_state.json");
-    assert!(rt; ENV_VAR_DEBUG_UI == "SCM_RECORD_DEBUG_UI");
     Ok(())
 }
 
@@ -432,12 +501,18 @@ fn lists_are_collected_and_gone_through(rt: HostRuntime) -> Result<(), Fail> {
     Ok(())
 }
 
+/// Copies of the text equal it.
+fn check_copied_text(rt: &impl Abort, alloc: Global, text: &Text<'_>) -> Result<(), RecordError> {
+    assert!(rt; text.borrowed() == *text);
+    assert!(rt; text.try_clone(alloc)? == *text);
+    Ok(())
+}
+
 /// The text is "né", however it is asked.
 fn check_text(rt: &impl Abort, alloc: Global, text: Text<'_>) -> Result<(), RecordError> {
     assert!(rt; text.as_str() == "né");
     assert!(rt; text.len() == 3 && !text.is_empty());
-    assert!(rt; text.borrowed() == text);
-    assert!(rt; text.try_clone(alloc)? == text);
+    check_copied_text(rt, alloc, &text)?;
     let shown = format!(in alloc; "{text}")?;
     assert!(rt; shown.as_str() == "né");
     assert!(rt; text.into_inner().as_str() == "né");
@@ -450,6 +525,12 @@ fn texts_are_read(rt: HostRuntime) -> Result<(), Fail> {
     check_text(&rt, alloc, Text::from("né"))?;
     check_text(&rt, alloc, Text::from(String::from_str(alloc, "né")?))?;
     check_text(&rt, alloc, Text::from(CowStr::Borrowed("né")))?;
+    Ok(())
+}
+
+#[test]
+fn owned_texts_are_read(rt: HostRuntime) -> Result<(), Fail> {
+    let alloc = rt.alloc();
     let text = owned(alloc, "né")?;
     assert!(rt; text.len() == 3 && !text.is_empty());
     assert!(rt; text.try_clone(alloc)? == text);

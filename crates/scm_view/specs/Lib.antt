@@ -2,8 +2,6 @@
 pub mod Texts
 -- The rows of the document: what stands on each row of a section, of a file and of a commit.
 pub mod Rows
--- The keys that a key lies in, whether two keys are the same, and whether a list has a key.
-pub mod Keys
 -- What is shown of a session, and the views that show it.
 pub mod Shown
 -- What each part of the document draws.

@@ -9,9 +9,9 @@ ghost use Rattle.scm_view.specs.Pictures.{sections_picture};
 
 use crate::file_view_header::FileViewHeader;
 use crate::ids::ComponentId;
-use crate::keys::{FileKey, SelectionKey};
 use crate::section_view::SectionView;
 use crate::tristate_box::TristateBox;
+use scm_keys::{FileKey, SelectionKey};
 use scm_render::{Component, Viewport};
 use scm_types::{Items, RecordError};
 use std::alloc::Global;

@@ -2,9 +2,9 @@
 
 use crate::heading::draw_heading;
 use crate::ids::ComponentId;
-use crate::keys::FileKey;
 use crate::texts::path_text;
 use crate::tristate_box::TristateBox;
+use scm_keys::FileKey;
 use scm_render::{Component, Viewport};
 use scm_types::RecordError;
 use std::alloc::Global;

@@ -1,7 +1,7 @@
 //! What tells the parts of the screen apart.
 
-use crate::keys::{FileKey, SelectionKey};
 use crate::quit_dialog::QuitDialogButtonId;
+use scm_keys::{FileKey, SelectionKey};
 use scm_render::Clickable;
 
 /// A part of the screen.

@@ -10,11 +10,11 @@ ghost use Rattle.scm_view.specs.Rows.{line_texts};
 ghost use Rattle.scm_view.specs.Texts.{number_text, sign_text};
 
 use crate::ids::ComponentId;
-use crate::keys::{LineKey, SelectionKey};
 use crate::reach::cover_row;
 use crate::texts::{number_text, sign_text};
 use crate::tristate_box::TristateBox;
 use scm_cells::{Span, push_spans_from_line};
+use scm_keys::{LineKey, SelectionKey};
 use scm_render::{Component, Viewport};
 use scm_types::{ChangeType, RecordError};
 use std::alloc::Global;

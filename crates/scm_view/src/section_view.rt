@@ -11,12 +11,12 @@ ghost use Rattle.scm_view.specs.Pictures.{IdPicture, row_picture, rows_picture};
 
 use crate::heading::draw_heading;
 use crate::ids::ComponentId;
-use crate::keys::{LineKey, SectionKey, SelectionKey};
 use crate::reach::{cover_rest, highlight};
 use crate::section_line_view::{SectionLineView, SectionLineViewInner};
 use crate::texts::{binary_text, dots_text, mode_change_text, section_text};
 use crate::tristate_box::{TristateBox, TristateIconStyle};
 use scm_cells::Span;
+use scm_keys::{LineKey, SectionKey, SelectionKey};
 use scm_render::{Component, Viewport};
 use scm_types::{FileMode, RecordError, Section, SectionChangedLine, Text, Tristate};
 use std::alloc::Global;

@@ -3,8 +3,8 @@
 use super::{Flow, Selector};
 use crate::frame::DrawnFrame;
 use crate::menus::event_of_item;
-use crate::moves::is_key;
 use scm_input::Event;
+use scm_selection::moves::is_key;
 use scm_types::RecordError;
 use scm_view::{ComponentId, SelectionKey};
 

@@ -1,7 +1,7 @@
 //! What the help and the quit dialog make of events.
 
 use super::{Flow, Selector};
-use crate::counts::{changed_count, message_count};
+use scm_selection::counts::{changed_count, message_count};
 use scm_view::{QuitDialog, QuitDialogButtonId};
 
 impl<'state> Selector<'state> {

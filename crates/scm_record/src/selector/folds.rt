@@ -1,8 +1,8 @@
 //! How files and sections are folded.
 
 use super::{Flow, Selector};
-use crate::key_lists::all_keys;
-use crate::key_set::{KeySet, key_set_of};
+use scm_selection::key_lists::all_keys;
+use scm_selection::key_set::{KeySet, key_set_of};
 use scm_types::RecordError;
 use scm_view::SelectionKey;
 

@@ -1,7 +1,7 @@
 //! How marks are toggled.
 
 use super::{Flow, Selector};
-use crate::toggles::{invert_all, set_all, toggle_key};
+use scm_selection::toggles::{invert_all, set_all, toggle_key};
 use scm_types::RecordError;
 
 impl<'state> Selector<'state> {

@@ -1,0 +1,7 @@
+use Rattle.std.proofs.Common.{◌≡◌, ◌++◌, map, take, drop}
+use Rattle.scm_selection.specs.Toggle.{with_mode_checked}
+use Rattle.scm_selection.proofs.toggles.check_modes.Given as goal
+
+-- the sections so far are set
+abbrev pub invariant-loop-section : goal.invariant-loop-section
+invariant-loop-section l = l.sections ≡ map with_mode_checked (take l.section-index l.fn.sections) ++ drop l.section-index l.fn.sections

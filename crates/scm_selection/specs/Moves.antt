@@ -1,0 +1,51 @@
+-- Where the selection moves to, on lists of keys.
+use Rattle.std.specs.Prelude.{ℕ, zero, suc, ◌+◌, Bool, false, List, Option, Some, None, position, find, filter, slice_get, unwrap_or}
+use Rattle.std.specs.List.{after_first}
+use Rattle.scm_keys.specs.declared.keys.SelectionKey.{SelectionKey}
+use Rattle.scm_keys.specs.declared.keys.SelectionKey.TheVariants as keys
+use Rattle.scm_selection.specs.Keys.{is_file, is_section, is_line}
+use Rattle.scm_selection.specs.KeySet.{is_key}
+
+-- the key at a place of the list, the one after it, the one before it; where there is none, the one at that place
+abbrev pub next_at : List SelectionKey → SelectionKey → SelectionKey → Option ℕ → SelectionKey
+next_at list key otherwise None = otherwise
+next_at list key otherwise (Some i) = unwrap_or (slice_get list (i + 1)) key
+
+abbrev pub previous_at : List SelectionKey → SelectionKey → SelectionKey → Option ℕ → SelectionKey
+previous_at list key otherwise None = otherwise
+previous_at list key otherwise (Some zero) = key
+previous_at list key otherwise (Some (suc i)) = unwrap_or (slice_get list i) key
+
+-- the key after the selection in the list, the selection if it is the last, another where it isn't there
+abbrev pub next_key : List SelectionKey → SelectionKey → SelectionKey → SelectionKey
+next_key list selection otherwise = next_at list selection otherwise (position (is_key selection) list)
+
+-- the key before the selection in the list, the selection if it is the first, another where it isn't there
+abbrev pub previous_key : List SelectionKey → SelectionKey → SelectionKey → SelectionKey
+previous_key list selection otherwise = previous_at list selection otherwise (position (is_key selection) list)
+
+-- the keys behind a key
+abbrev pub keys_behind : List SelectionKey → SelectionKey → List SelectionKey
+keys_behind list key = after_first (is_key key) list
+
+-- whether a key is of the kind that lies inside the selection: sections in a file, lines in a section
+abbrev pub is_inside : SelectionKey → SelectionKey → Bool
+is_inside keys.None key = false
+is_inside (keys.File selection) key = is_section key
+is_inside (keys.Section selection) key = is_line key
+is_inside (keys.Line selection) key = false
+
+-- the first key behind the selection that is of the kind inside it, else the selection
+abbrev pub inner_key : List SelectionKey → SelectionKey → SelectionKey
+inner_key list selection = unwrap_or (find (is_inside selection) (keys_behind list selection)) selection
+
+-- whether a key is a file as the selection is, or a section, or a line
+abbrev pub is_same_kind : SelectionKey → SelectionKey → Bool
+is_same_kind keys.None key = false
+is_same_kind (keys.File selection) key = is_file key
+is_same_kind (keys.Section selection) key = is_section key
+is_same_kind (keys.Line selection) key = is_line key
+
+-- the keys of the selection's kind, in order
+abbrev pub of_kind : List SelectionKey → SelectionKey → List SelectionKey
+of_kind list selection = filter (is_same_kind selection) list

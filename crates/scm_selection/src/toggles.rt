@@ -1,0 +1,332 @@
+//! Toggles of files, sections and lines, in place, with all that follows from them in the same file.
+ghost use Rattle.std.specs.Prelude.{◌≡◌, MatchOption, false, map, not, option_and_then, slice_get, true};
+ghost use Rattle.std.specs.List.{list_all};
+ghost use Rattle.scm_types.specs.Marks.{file_with_marks, line_with_mark, section_with_marks};
+ghost use Rattle.scm_selection.specs.Coherence.{KeepsCoherent};
+ghost use Rattle.scm_types.specs.Edits.{modify};
+ghost use Rattle.scm_selection.specs.Toggle.{after_lines, after_mode, after_section, is_all_checked, is_checked_by, is_checked_file, line_mark, mark_after, with_all_inverted, with_all_set, with_changed_set, with_deletion_unchecked, with_file_toggled, with_key_toggled, with_line_inverted, with_line_toggled, with_mode_checked, with_section_toggled};
+
+use scm_keys::SelectionKey;
+use scm_types::{File, FileMode, Section, SectionChangedLine, Tristate};
+
+/// The mark that a toggle sets.
+fn mark_after(tristate: Tristate) -> bool
+    ensures { result ≡ mark_after tristate }
+{
+    match tristate {
+        Tristate::False => true,
+        Tristate::Partial | Tristate::True => false,
+    }
+}
+
+/// Sets every line, if the section is one of changed lines.
+fn set_changed(section: &mut Section<'_>, checked: bool)
+    ensures { section.new ≡ with_changed_set checked section.old }
+{
+    match section {
+        Section::Changed { .. } => section.set_checked(checked),
+        Section::Unchanged { .. } | Section::FileMode { .. } | Section::Binary { .. } => {}
+    }
+}
+
+/// Unchecks the section, if it is a deletion of the file.
+fn uncheck_deletion(section: &mut Section<'_>)
+    ensures { section.new ≡ with_deletion_unchecked section.old }
+{
+    match section {
+        Section::FileMode { is_checked, mode } => {
+            if mode.is_absent() {
+                *is_checked = false;
+            }
+        }
+        Section::Unchanged { .. } | Section::Changed { .. } | Section::Binary { .. } => {}
+    }
+}
+
+/// Checks the section, if it changes the mode.
+fn check_mode(section: &mut Section<'_>)
+    ensures { section.new ≡ with_mode_checked section.old }
+{
+    match section {
+        Section::FileMode { is_checked, .. } => {
+            *is_checked = true;
+        }
+        Section::Unchanged { .. } | Section::Changed { .. } | Section::Binary { .. } => {}
+    }
+}
+
+/// Checks every changed line.
+fn check_all_changed(sections: &mut [Section<'_>])
+    ensures { sections.new ≡ map (with_changed_set true) sections.old }
+{
+    for section in sections.iter_mut() {
+        set_changed(section, true);
+    }
+}
+
+/// Unchecks every section.
+fn uncheck_all(sections: &mut [Section<'_>])
+    ensures { sections.new ≡ map (section_with_marks (λ _. false)) sections.old }
+{
+    for section in sections.iter_mut() {
+        section.set_checked(false);
+    }
+}
+
+/// Unchecks every deletion of the file.
+fn uncheck_deletions(sections: &mut [Section<'_>])
+    ensures { sections.new ≡ map with_deletion_unchecked sections.old }
+{
+    for section in sections.iter_mut() {
+        uncheck_deletion(section);
+    }
+}
+
+/// Checks every change of the mode.
+fn check_modes(sections: &mut [Section<'_>])
+    ensures { sections.new ≡ map with_mode_checked sections.old }
+{
+    for section in sections.iter_mut() {
+        check_mode(section);
+    }
+}
+
+/// What follows from setting changed lines of a file of this mode.
+fn follow_lines(mode: FileMode, checked: bool, sections: &mut [Section<'_>])
+    ensures { sections.new ≡ after_lines mode checked sections.old }
+{
+    if !checked {
+        uncheck_deletions(sections);
+    } else if mode.is_absent() {
+        check_modes(sections);
+    }
+}
+
+/// What follows from setting a change to the new mode, in a file of this mode.
+fn follow_mode(mode: FileMode, new_mode: FileMode, checked: bool, sections: &mut [Section<'_>])
+    ensures { sections.new ≡ after_mode mode new_mode checked sections.old }
+{
+    if checked {
+        if new_mode.is_absent() {
+            check_all_changed(sections);
+        }
+    } else if mode.is_absent() {
+        uncheck_all(sections);
+    }
+}
+
+/// Sets the section at an index.
+fn set_section_at(sections: &mut [Section<'_>], index: usize, checked: bool)
+    ensures { sections.new ≡ modify (section_with_marks (λ _. checked)) sections.old index }
+{
+    if index < sections.len() {
+        sections[index].set_checked(checked);
+    }
+}
+
+/// Sets the section at an index, if there is one, in a file of this mode, with what follows.
+fn set_section(mode: FileMode, sections: &mut [Section<'_>], index: usize, checked: bool)
+    ensures { MatchOption (slice_get sections.old index) (sections.new ≡ sections.old)
+        (λ section. sections.new ≡ after_section mode checked section
+        (modify (section_with_marks (λ _. checked)) sections.old index)) }
+{
+    if index >= sections.len() {
+        return;
+    }
+    match &sections[index] {
+        Section::Unchanged { .. } | Section::Binary { .. } => {
+            set_section_at(sections, index, checked);
+        }
+        Section::Changed { .. } => {
+            set_section_at(sections, index, checked);
+            follow_lines(mode, checked, sections);
+        }
+        Section::FileMode { mode: new_mode, .. } => {
+            let new_mode = *new_mode;
+            set_section_at(sections, index, checked);
+            follow_mode(mode, new_mode, checked, sections);
+        }
+    }
+}
+
+/// The mark of a line of the section.
+fn line_mark(section: &Section<'_>, line: usize) -> Option<bool>
+    ensures { result ≡ line_mark line section.now }
+{
+    match section {
+        Section::Changed { lines } => {
+            lines.as_slice().get(line).map(|changed| changed.is_checked)
+        }
+        Section::Unchanged { .. } | Section::FileMode { .. } | Section::Binary { .. } => None,
+    }
+}
+
+/// The mark of a line of the section at an index.
+fn line_mark_at(sections: &[Section<'_>], section: usize, line: usize) -> Option<bool>
+    ensures { result ≡ option_and_then (line_mark line) (slice_get sections.now section) }
+{
+    sections
+        .get(section)
+        .and_then(|section| line_mark(section, line))
+}
+
+/// Inverts the line at an index.
+fn invert_in(lines: &mut [SectionChangedLine<'_>], line: usize)
+    ensures { lines.new ≡ modify (line_with_mark not) lines.old line }
+{
+    if line < lines.len() {
+        let changed = &mut lines[line];
+        changed.is_checked = !changed.is_checked;
+    }
+}
+
+/// Inverts a line of the section.
+fn invert_line(section: &mut Section<'_>, line: usize)
+    ensures { section.new ≡ with_line_inverted line section.old }
+{
+    match section {
+        Section::Changed { lines } => invert_in(lines.as_mut_slice(), line),
+        Section::Unchanged { .. } | Section::FileMode { .. } | Section::Binary { .. } => {}
+    }
+}
+
+/// Inverts a line of the section at an index.
+fn invert_line_at(sections: &mut [Section<'_>], section: usize, line: usize)
+    ensures { sections.new ≡ modify (with_line_inverted line) sections.old section }
+{
+    if section < sections.len() {
+        invert_line(&mut sections[section], line);
+    }
+}
+
+/// Inverts a line, which gets this mark, in a file of this mode, with what follows.
+fn set_line(
+    mode: FileMode,
+    sections: &mut [Section<'_>],
+    section: usize,
+    line: usize,
+    checked: bool,
+)
+    ensures { sections.new ≡ after_lines mode checked (modify (with_line_inverted line) sections.old section) }
+{
+    invert_line_at(sections, section, line);
+    follow_lines(mode, checked, sections);
+}
+
+/// Toggles the file as a whole.
+fn toggle_file(file: &mut File<'_>)
+    ensures { file.new ≡ with_file_toggled file.old }
+{
+    let checked = mark_after(file.tristate());
+    file.set_checked(checked);
+}
+
+/// Toggles a section of the file.
+fn toggle_section(file: &mut File<'_>, index: usize)
+    ensures { file.new ≡ with_section_toggled index file.old }
+{
+    if let Some(section) = file.sections.get(index) {
+        let checked = mark_after(section.tristate());
+        set_section(file.file_mode, file.sections.as_mut_slice(), index, checked);
+    }
+}
+
+/// Toggles a line of the file.
+fn toggle_line(file: &mut File<'_>, section: usize, line: usize)
+    ensures { file.new ≡ with_line_toggled section line file.old }
+{
+    if let Some(was_checked) = line_mark_at(file.sections.as_slice(), section, line) {
+        set_line(
+            file.file_mode,
+            file.sections.as_mut_slice(),
+            section,
+            line,
+            !was_checked,
+        );
+    }
+}
+
+/// Toggles what the key names, if it is there, with all that follows in the same file.
+pub fn toggle_key(files: &mut [File<'_>], key: SelectionKey)
+    ensures { files.new ≡ with_key_toggled key files.old }
+{
+    match key {
+        SelectionKey::None => {}
+        SelectionKey::File(key) => {
+            if key.file_idx < files.len() {
+                toggle_file(&mut files[key.file_idx]);
+            }
+        }
+        SelectionKey::Section(key) => {
+            if key.file_idx < files.len() {
+                toggle_section(&mut files[key.file_idx], key.section_idx);
+            }
+        }
+        SelectionKey::Line(key) => {
+            if key.file_idx < files.len() {
+                toggle_line(&mut files[key.file_idx], key.section_idx, key.line_idx);
+            }
+        }
+    }
+}
+
+/// Inverts every mark. It mends nothing: a deletion may come to stand beside unchecked lines.
+pub fn invert_all(files: &mut [File<'_>])
+    ensures { files.new ≡ with_all_inverted files.old }
+{
+    for file in files.iter_mut() {
+        file.toggle_all();
+    }
+}
+
+/// Whether the file is wholly checked.
+fn is_checked(file: &File<'_>) -> bool
+    ensures { result ≡ is_checked_file file.now }
+{
+    match file.tristate() {
+        Tristate::False | Tristate::Partial => false,
+        Tristate::True => true,
+    }
+}
+
+/// Whether each file is wholly checked.
+fn is_each_checked(files: &[File<'_>]) -> bool
+    ensures { result ≡ list_all is_checked_file files.now }
+{
+    files.iter().all(|file| is_checked(file))
+}
+
+/// Whether there are files, and each is wholly checked.
+fn is_all_checked(files: &[File<'_>]) -> bool
+    ensures { result ≡ is_all_checked files.now }
+{
+    if files.is_empty() {
+        false
+    } else {
+        is_each_checked(files)
+    }
+}
+
+/// Gives every item the mark.
+fn mark_all(files: &mut [File<'_>], checked: bool)
+    ensures { files.new ≡ map (file_with_marks (λ _. checked)) files.old }
+{
+    for file in files.iter_mut() {
+        file.set_checked(checked);
+    }
+}
+
+/// Unchecks everything where there are files and all is checked, and else checks everything.
+pub fn set_all(files: &mut [File<'_>])
+    ensures { files.new ≡ with_all_set files.old }
+{
+    let checked = !is_all_checked(files);
+    mark_all(files, checked);
+}
+
+/// A toggle of any key, and one of everything to the same mark, keep each file coherent that was
+/// so, unless the file is new and is also deleted.
+pub fn toggles_keep_coherence(_files: &[File<'_>], _key: SelectionKey)
+    ensures key { KeepsCoherent _files.now (with_key_toggled _key _files.now) }
+    ensures all { KeepsCoherent _files.now (with_all_set _files.now) }
+{}

@@ -1,0 +1,150 @@
+//! Lists and sets of keys, moves among them, toggles and counts, on a file of one section of two lines.
+use scm_keys::{FileKey, SelectionKey};
+use scm_selection::key_lists::{
+    all_keys, file_key, first_key, line_key, section_key, section_keys, visible_keys,
+};
+use scm_selection::key_set::{KeySet, key_set_of};
+use scm_selection::moves::{inner_key, is_key, keep_kind, next_key, position_of, previous_key};
+use scm_selection::{counts, toggles};
+use scm_state_tests::samples::{ADDED, DEFAULT, changed, context, file_of, owned};
+use scm_types::{Commit, File, Items, RecordError, RecordState, Tristate};
+use std::alloc::Global;
+use std::process::Abort;
+use std::test::Fail;
+
+/// A file with a line of context and a section of two unchecked lines.
+fn sample(alloc: Global) -> Result<File<'static>, RecordError> {
+    let mut sections = Vec::new(alloc);
+    sections.push(context(alloc, &["a\n"])?)?;
+    sections.push(changed(alloc, &[(false, ADDED, "b\n"), (false, ADDED, "c\n")])?)?;
+    Ok(file_of(DEFAULT, sections))
+}
+
+/// That file alone.
+fn samples(alloc: Global) -> Result<Items<File<'static>>, RecordError> {
+    let mut files = Items::new(alloc);
+    files.push(sample(alloc)?)?;
+    Ok(files)
+}
+
+/// The keys of that file, in order.
+fn sample_keys() -> [SelectionKey; 4] {
+    [
+        file_key(0),
+        section_key(0, 1),
+        line_key(0, 1, 0),
+        line_key(0, 1, 1),
+    ]
+}
+
+/// Checks which keys are visible where these are unfolded: so many of the file's first.
+fn check_visible(
+    rt: &impl Abort,
+    alloc: Global,
+    unfolded: &[SelectionKey],
+    count: usize,
+) -> Result<(), Fail> {
+    let files = samples(alloc)?;
+    let keys = visible_keys(alloc, &key_set_of(alloc, unfolded)?, files.as_slice())?;
+    assert_eq!(rt; keys.len(), count);
+    for (key, expected) in keys.iter().zip(sample_keys().iter()) {
+        assert!(rt; is_key(*key, *expected));
+    }
+    Ok(())
+}
+
+#[test]
+fn lists_of_keys(rt: HostRuntime) -> Result<(), Fail> {
+    let alloc = rt.alloc();
+    let files = samples(alloc)?;
+    let keys = all_keys(alloc, files.as_slice())?;
+    assert_eq!(rt; keys.as_slice(), sample_keys().as_slice());
+    let keys = section_keys(alloc, files.as_slice())?;
+    assert_eq!(rt; keys.as_slice(), [section_key(0, 1)].as_slice());
+    assert_eq!(rt; first_key(files.as_slice()), file_key(0));
+    assert_eq!(rt; first_key(&[]), SelectionKey::None);
+    check_visible(&rt, alloc, &[], 1)?;
+    check_visible(&rt, alloc, &[section_key(0, 1)], 1)?;
+    check_visible(&rt, alloc, &[file_key(0)], 2)?;
+    check_visible(&rt, alloc, &[section_key(0, 1), file_key(0)], 4)
+}
+
+#[test]
+fn sets_of_keys(rt: HostRuntime) -> Result<(), Fail> {
+    let alloc = rt.alloc();
+    let mut set = KeySet::new(alloc);
+    set.insert(line_key(0, 1, 0))?;
+    set.insert(file_key(0))?;
+    assert!(rt; set.contains(file_key(0)) && !set.contains(section_key(0, 1)));
+    assert!(rt; set.is_same(&key_set_of(alloc, &[file_key(0), line_key(0, 1, 0)])?));
+    set.flip(section_key(0, 1))?;
+    set.flip(file_key(0))?;
+    set.remove(line_key(0, 1, 0));
+    assert!(rt; set.is_same(&key_set_of(alloc, &[section_key(0, 1)])?));
+    Ok(())
+}
+
+#[test]
+fn moves_among_keys(rt: HostRuntime) {
+    let keys = sample_keys();
+    let [file, section, first, second] = keys;
+    assert_eq!(rt; position_of(&keys, section), Some(1));
+    assert_eq!(rt; next_key(&keys, section, file), first);
+    assert_eq!(rt; next_key(&keys, second, file), second);
+    assert_eq!(rt; next_key(&keys, SelectionKey::None, file), file);
+    assert_eq!(rt; previous_key(&keys, second, file), first);
+    assert_eq!(rt; previous_key(&keys, file, second), file);
+}
+
+#[test]
+fn moves_into_keys(rt: HostRuntime) -> Result<(), Fail> {
+    let keys = sample_keys();
+    let [file, section, first, second] = keys;
+    assert_eq!(rt; inner_key(&keys, file), section);
+    assert_eq!(rt; inner_key(&keys, section), first);
+    assert_eq!(rt; inner_key(&keys, second), second);
+    let mut lines = keys.to_vec(rt.alloc())?;
+    keep_kind(&mut lines, second);
+    assert_eq!(rt; lines.as_slice(), [first, second].as_slice());
+    Ok(())
+}
+
+/// The mark of the first file.
+fn first_mark(files: &[File<'_>]) -> Option<Tristate> {
+    files.first().map(|file| file.tristate())
+}
+
+#[test]
+fn toggles_of_keys(rt: HostRuntime) -> Result<(), Fail> {
+    let mut files = samples(rt.alloc())?;
+    toggles::toggle_key(files.as_mut_slice(), line_key(0, 1, 1));
+    assert_eq!(rt; first_mark(files.as_slice()), Some(Tristate::Partial));
+    toggles::invert_all(files.as_mut_slice());
+    toggles::toggle_key(files.as_mut_slice(), line_key(0, 1, 1));
+    assert_eq!(rt; first_mark(files.as_slice()), Some(Tristate::True));
+    toggles::set_all(files.as_mut_slice());
+    assert_eq!(rt; first_mark(files.as_slice()), Some(Tristate::False));
+    Ok(())
+}
+
+#[test]
+fn counts_of_a_state(rt: HostRuntime) -> Result<(), Fail> {
+    let alloc = rt.alloc();
+    let message = Commit {
+        message: Some(owned(alloc, "m")?),
+    };
+    let mut state = RecordState {
+        is_read_only: false,
+        commits: Items::from(vec![in alloc; message, Commit::default()]?),
+        files: samples(alloc)?,
+    };
+    assert_eq!(rt; counts::message_count(&state), 1);
+    assert_eq!(rt; counts::changed_count(&state), 0);
+    let file = SelectionKey::File(FileKey {
+        commit_idx: 0,
+        file_idx: 0,
+    });
+    toggles::toggle_key(state.files.as_mut_slice(), file);
+    assert_eq!(rt; counts::changed_count(&state), 1);
+    Ok(())
+}
