@@ -287,9 +287,8 @@ fn traces(rt: HostRuntime) -> Result<(), Fail> {
 }
 
 #[test]
-fn texts(rt: HostRuntime) -> Result<(), Fail> {
-    let alloc = rt.alloc();
-    let mut viewport = viewport_at(alloc, 0, 1, 6, 2)?;
+fn viewports_have_places(rt: HostRuntime) -> Result<(), Fail> {
+    let viewport = viewport_at(rt.alloc(), 0, 1, 6, 2)?;
     assert_eq!(rt; viewport.rect(), rect(0, 1, 6, 2));
     assert_eq!(rt; viewport.mask(), Mask::from(rect(0, 1, 6, 2)));
     assert_eq!(rt; viewport.mask_rect(), rect(0, 1, 6, 2));
@@ -301,15 +300,34 @@ fn texts(rt: HostRuntime) -> Result<(), Fail> {
         height: 2,
     };
     assert_eq!(rt; viewport.translate_rect(rect(0, 0, 3, 3)), Some(shown));
+    Ok(())
+}
+
+/// A grid of which the second row has a text that is cut at the end.
+fn grid_with_text(rt: &impl Abort, alloc: Global) -> Result<Grid, RecordError> {
+    let mut viewport = viewport_at(alloc, 0, 1, 6, 2)?;
     assert_eq!(rt;
-        draw_text(&rt, &mut viewport, 2, 2, &[Span("abcdef")])?,
+        draw_text(rt, &mut viewport, 2, 2, &[Span("abcdef")])?,
         rect(2, 2, 6, 1)
     );
     assert_eq!(rt; viewport.cover(rect(3, 1, 2, 2)), rect(3, 1, 2, 2));
-    let grid = viewport.into_grid();
+    Ok(viewport.into_grid())
+}
+
+#[test]
+fn texts(rt: HostRuntime) -> Result<(), Fail> {
+    let grid = grid_with_text(&rt, rt.alloc())?;
     assert_eq!(rt; grid.view()?.as_str(), "\"      \"\n\"  abc…\"\n");
     assert_eq!(rt; grid.width(), 6);
     assert_eq!(rt; grid.height(), 2);
+    Ok(())
+}
+
+#[test]
+fn captions_over_texts(rt: HostRuntime) -> Result<(), Fail> {
+    let alloc = rt.alloc();
+    let grid = grid_with_text(&rt, alloc)?;
+    assert_eq!(rt; (grid.width(), grid.height()), (6, 2));
     let mut viewport: Viewport<u8> = Viewport::new(alloc, grid, rect(0, 1, 6, 2));
     let caption = Caption { id: 1, text: "a" };
     assert_eq!(rt; viewport.draw_blank(rect(0, 1, 6, 2))?, rect(0, 1, 6, 2));

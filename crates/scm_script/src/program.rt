@@ -10,6 +10,7 @@ use crate::script::{Script, read_script};
 use scm_json::read_state;
 use scm_record::{
     RecordError, RecordInput, RecordState, Recorder, Screens, ScriptInput, ScriptRead,
+    TestingScreenshot,
 };
 use std::alloc::Global;
 use std::io::{self, ErrorKind, Read, Write};
@@ -142,14 +143,35 @@ fn run(alloc: Global, script: Script<'_>, state: RecordState<'static>) -> Result
     let Commands {
         reads,
         edits,
-        mut screens,
+        screens,
         shots,
     } = commands;
     let ends_in_fault = matches!(reads.last(), Some(ScriptRead::Fault(_)));
-    let mut input = ScriptInput::new(alloc, width as usize, height as usize, reads, edits)?;
+    let input = ScriptInput::new(alloc, width as usize, height as usize, reads, edits)?;
+    run_input(
+        alloc,
+        state,
+        input,
+        screens,
+        shots.as_slice(),
+        ends_in_fault,
+    )
+}
+
+/// The answer of a run of an input on an accepted state.
+fn run_input(
+    alloc: Global,
+    state: RecordState<'static>,
+    mut input: ScriptInput,
+    mut screens: Screens,
+    shots: &[TestingScreenshot],
+    ends_in_fault: bool,
+) -> Result<Answer, PlayError>
+    requires { IsTrue (is_accepted_state state) }
+{
     let outcome = record(alloc, state, &mut input, &mut screens);
     let is_at_end = input.batches_left() == 0 && !ends_in_fault;
-    let output = screens_text(alloc, &screens, shots.as_slice())?;
+    let output = screens_text(alloc, &screens, shots)?;
     match outcome {
         Ok(state) => accept(alloc, output, &state),
         Err(error) => fail(alloc, output, &error, is_at_end),

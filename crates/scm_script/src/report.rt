@@ -2,7 +2,7 @@
 
 use crate::error::PlayError;
 use scm_record::{Screens, TestingScreenshot};
-use scm_types::{File, RecordError, RecordState, SelectedChanges, SelectedContents};
+use scm_types::{File, FileMode, RecordError, RecordState, SelectedChanges, SelectedContents};
 use serde::Serialize;
 use std::alloc::Global;
 
@@ -14,11 +14,22 @@ pub fn screens_text(
 ) -> Result<String, PlayError> {
     let mut text = String::new(alloc);
     for (index, shot) in shots.iter().enumerate() {
-        let heading = format!(in alloc; "screen {index}\n")?;
-        text.push_str(heading.as_str())?;
+        push_heading(&mut text, alloc, "screen", index)?;
         push_screen(&mut text, screens.text(*shot))?;
     }
     Ok(text)
+}
+
+/// Adds a line with a word and a number.
+fn push_heading(
+    text: &mut String,
+    alloc: Global,
+    word: &str,
+    number: usize,
+) -> Result<(), PlayError> {
+    let heading = format!(in alloc; "{word} {number}\n")?;
+    text.push_str(heading.as_str())?;
+    Ok(())
 }
 
 /// Adds a screen. The rows of one that was taken have their line ends; the words for one that was not get theirs.
@@ -44,6 +55,7 @@ pub fn push_accepted(
     }
     Ok(())
 }
+
 /// Adds the two sides of a file.
 fn push_file(
     text: &mut String,
@@ -51,11 +63,10 @@ fn push_file(
     index: usize,
     file: &File<'_>,
 ) -> Result<(), PlayError> {
-    let (selected, unselected) = file.get_selected_contents(alloc)?;
-    let heading = format!(in alloc; "file {index}\n")?;
-    text.push_str(heading.as_str())?;
-    push_side(text, alloc, "selected", &selected)?;
-    push_side(text, alloc, "unselected", &unselected)
+    push_heading(text, alloc, "file", index)?;
+    let sides = file.get_selected_contents(alloc)?;
+    push_side(text, alloc, "selected", &sides.0)?;
+    push_side(text, alloc, "unselected", &sides.1)
 }
 
 /// Adds a side of a file on a line: its name, its mode, and its contents.
@@ -65,10 +76,31 @@ fn push_side(
     name: &str,
     side: &SelectedChanges<'_>,
 ) -> Result<(), PlayError> {
-    let mode = side.file_mode;
+    push_mode(text, alloc, name, side.file_mode)?;
+    push_contents(text, alloc, &side.contents)?;
+    text.push_str("\n")?;
+    Ok(())
+}
+
+/// Adds the name of a side and its mode, each with a space behind it.
+fn push_mode(
+    text: &mut String,
+    alloc: Global,
+    name: &str,
+    mode: FileMode,
+) -> Result<(), PlayError> {
     let heading = format!(in alloc; "{name} {mode} ")?;
     text.push_str(heading.as_str())?;
-    match &side.contents {
+    Ok(())
+}
+
+/// Adds the contents of a side.
+fn push_contents(
+    text: &mut String,
+    alloc: Global,
+    contents: &SelectedContents<'_>,
+) -> Result<(), PlayError> {
+    match contents {
         SelectedContents::Unchanged => text.push_str("unchanged")?,
         SelectedContents::Text { contents } => {
             text.push_str("text ")?;
@@ -84,7 +116,6 @@ fn push_side(
             push_json(text, alloc, new_description)?;
         }
     }
-    text.push_str("\n")?;
     Ok(())
 }
 
