@@ -15,8 +15,8 @@ use Rattle.scm_cells.specs.Screen.{view_of}
 use Rattle.scm_render.specs.Drawing.{texts_width}
 use Rattle.scm_render.specs.Lines.{line}
 use Rattle.scm_render.specs.Rows.{put_texts, say_texts}
-use Rattle.scm_keys.specs.declared.keys.SelectionKey.{SelectionKey}
-use Rattle.scm_keys.specs.declared.keys.SelectionKey.TheVariants as keys
+use Rattle.scm_types.specs.declared.keys.SelectionKey.{SelectionKey}
+use Rattle.scm_types.specs.declared.keys.SelectionKey.TheVariants as keys
 use Rattle.scm_view.specs.declared.ids.ComponentId.{ComponentId}
 use Rattle.scm_view.specs.declared.ids.ComponentId.TheVariants as ids
 use Rattle.scm_view.specs.Buttons.{button_width, buttons_strip, leftmost}

@@ -17,8 +17,8 @@ use Rattle.scm_cells.specs.Row.{put, overlay, written, placed, whole_before, who
 use Rattle.scm_cells.specs.Screen.{view_of}
 use Rattle.scm_render.specs.Canvas.{Row}
 use Rattle.scm_render.specs.Drawing.{texts_width}
-use Rattle.scm_keys.specs.declared.keys.SelectionKey.{SelectionKey}
-use Rattle.scm_keys.specs.declared.keys.SelectionKey.TheVariants as keys
+use Rattle.scm_types.specs.declared.keys.SelectionKey.{SelectionKey}
+use Rattle.scm_types.specs.declared.keys.SelectionKey.TheVariants as keys
 use Rattle.scm_view.specs.declared.ids.ComponentId.{ComponentId}
 use Rattle.scm_view.specs.declared.ids.ComponentId.TheVariants as ids
 use Rattle.scm_view.specs.declared.commit_view.CommitViewMode.TheVariants as mode

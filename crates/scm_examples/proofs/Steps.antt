@@ -6,8 +6,8 @@ use Rattle.scm_types.specs.declared.line.ChangeType.TheVariants.{Added}
 use Rattle.scm_types.specs.declared.section.Section.{Section}
 use Rattle.scm_types.specs.declared.section.Section.TheVariants.{Unchanged, Changed}
 use Rattle.scm_types.specs.declared.state.RecordState.{RecordState}
-use Rattle.scm_keys.specs.declared.keys.SelectionKey.{SelectionKey}
-use Rattle.scm_keys.specs.declared.keys.SelectionKey.TheVariants as keys
+use Rattle.scm_types.specs.declared.keys.SelectionKey.{SelectionKey}
+use Rattle.scm_types.specs.declared.keys.SelectionKey.TheVariants as keys
 use Rattle.scm_view.specs.declared.ids.ComponentId.{ComponentId}
 use Rattle.scm_view.specs.declared.ids.ComponentId.TheVariants as ids
 use Rattle.scm_view.specs.declared.quit_dialog.QuitDialogButtonId.TheVariants.{Quit, GoBack}
@@ -15,7 +15,7 @@ use Rattle.scm_examples.proofs.Computing.{documents, owners}
 use Rattle.scm_input.specs.declared.inputs.TerminalKind.TheVariants.{Testing}
 use Rattle.scm_input.specs.declared.events.Event.{Event}
 use Rattle.scm_input.specs.declared.events.Event.TheVariants as events
-use Rattle.scm_selection.specs.Keys.{file_key, section_key, line_key}
+use Rattle.scm_selection.specs.KeyLists.{file_key, section_key, line_key}
 use Rattle.scm_record.specs.Session.{Session, start, at_key, with_pushed, with_ensure, with_dialog, with_help, with_menu, with_scroll, after_toggle}
 use Rattle.scm_record.specs.Frames.{Scene, scene_of, frame_of}
 use Rattle.scm_record.specs.Change.{Change, stays, cancels, edits}

@@ -9,8 +9,8 @@ use Rattle.scm_types.specs.declared.line.ChangeType.TheVariants.{Added, Removed}
 use Rattle.scm_types.specs.declared.section.Section.{Section}
 use Rattle.scm_types.specs.declared.section.Section.TheVariants.{Unchanged, Changed}
 use Rattle.scm_cells.specs.Screen.{view_of}
-use Rattle.scm_keys.specs.declared.keys.SelectionKey.{SelectionKey}
-use Rattle.scm_keys.specs.declared.keys.SelectionKey.TheVariants as keys
+use Rattle.scm_types.specs.declared.keys.SelectionKey.{SelectionKey}
+use Rattle.scm_types.specs.declared.keys.SelectionKey.TheVariants as keys
 use Rattle.scm_view.specs.declared.quit_dialog.QuitDialogButtonId.TheVariants.{Quit, GoBack}
 use Rattle.scm_view.specs.declared.ids.ComponentId.TheVariants as ids
 use Rattle.scm_view.specs.declared.commit_view.CommitViewMode.TheVariants as mode

@@ -2,8 +2,8 @@
 use Rattle.std.proofs.Common.{◌≡◌, ℕ, ◌+◌, ◌-◌, Bool, true, false, List, [], ◌∷◌, ◌++◌, Option, Some, None, cond, refl}
 use Rattle.std.specs.Prelude.{option_map}
 use Rattle.scm_types.specs.declared.file.File.{File}
-use Rattle.scm_keys.specs.declared.keys.SelectionKey.{SelectionKey}
-use Rattle.scm_keys.specs.declared.keys.SelectionKey.TheVariants as keys
+use Rattle.scm_types.specs.declared.keys.SelectionKey.{SelectionKey}
+use Rattle.scm_types.specs.declared.keys.SelectionKey.TheVariants as keys
 use Rattle.scm_view.specs.declared.ids.ComponentId.{ComponentId}
 use Rattle.scm_view.specs.declared.ids.ComponentId.TheVariants as ids
 use Rattle.scm_view.specs.declared.quit_dialog.QuitDialogButtonId.{QuitDialogButtonId}
@@ -13,8 +13,8 @@ use Rattle.scm_input.specs.declared.events.Event.TheVariants as events
 use Rattle.scm_record.specs.declared.pages.Way.TheVariants.{Up, Down}
 use Rattle.scm_record.specs.declared.selector.Flow.{Flow}
 use Rattle.scm_record.specs.declared.selector.Flow.TheVariants as flows
-use Rattle.scm_keys.specs.Keys.{file_of, file_of_section}
-use Rattle.scm_selection.specs.Keys.{all_keys}
+use Rattle.scm_types.specs.Keys.{file_of, file_of_section}
+use Rattle.scm_selection.specs.KeyLists.{all_keys}
 use Rattle.scm_selection.specs.KeySet.{is_key, key_set, same_set}
 use Rattle.scm_selection.specs.Counts.{message_count, changed_count}
 use Rattle.scm_record.specs.Session.{Session, with_pushed, with_dialog, with_help, with_scroll, at_key, after_item, after_select, after_fold, after_next, after_previous, after_next_same_kind, after_previous_same_kind, after_advance, after_inner, after_outer, outside_of, after_expand, after_expand_all, with_files_changed, after_toggle, after_toggle_all, after_toggle_all_uniform, message_of}

@@ -12,8 +12,8 @@ use Rattle.scm_types.specs.Limits.{is_accepted_state}
 use Rattle.scm_types.specs.Marks.{file_marks, section_marks, tristate_of, line_with_mark, section_with_marks, file_with_marks}
 use Rattle.scm_types.specs.Same.{unmarked, emptied_commit}
 use Rattle.scm_types.specs.Mode.{is_absent}
-use Rattle.scm_keys.specs.declared.keys.SelectionKey.{SelectionKey}
-use Rattle.scm_keys.specs.declared.keys.SelectionKey.TheVariants as keys
+use Rattle.scm_types.specs.declared.keys.SelectionKey.{SelectionKey}
+use Rattle.scm_types.specs.declared.keys.SelectionKey.TheVariants as keys
 use Rattle.scm_types.specs.Edits.{modify}
 use Rattle.scm_types.specs.Limits.{is_short_text}
 use Rattle.scm_types.proofs.EditLemmas.{map-modify-same}

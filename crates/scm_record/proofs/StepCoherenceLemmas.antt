@@ -15,7 +15,7 @@ use Rattle.scm_record.specs.Uses.{shot_of}
 use Rattle.scm_record.specs.Step.{change}
 use Rattle.scm_record.specs.Run.{World, with_session, with_edits, with_text, Goes, Breaks, no_such_place, too_long, answered, edited, outcome_by}
 use Rattle.scm_selection.specs.Coherence.{KeepsCoherent}
-use Rattle.scm_record.specs.Coherence.{OutcomeKeepsCoherent, StepKeepsCoherent, is_toggle_all}
+use Rattle.scm_record.specs.StepCoherence.{OutcomeKeepsCoherent, StepKeepsCoherent, is_toggle_all}
 use Rattle.scm_selection.proofs.CoherenceLemmas.{keeps_coherent-same, toggle_keeps_coherent, all_set_keeps_coherent}
 use Rattle.scm_record.proofs.StepLemmas.{Marks, unmarked, toggled, inverted, all_set, leads}
 

@@ -9,9 +9,9 @@ use Rattle.scm_types.specs.declared.section.Section.TheVariants.{Unchanged, Chan
 use Rattle.scm_types.specs.declared.state.Commit.{Commit}
 use Rattle.scm_types.specs.Limits.{section_size}
 use Rattle.scm_types.specs.Marks.{is_editable_section}
-use Rattle.scm_keys.specs.declared.keys.FileKey.{FileKey}
-use Rattle.scm_keys.specs.declared.keys.SelectionKey.TheVariants as keys
-use Rattle.scm_keys.specs.Keys.{section_key_of, has_key}
+use Rattle.scm_types.specs.declared.keys.FileKey.{FileKey}
+use Rattle.scm_types.specs.declared.keys.SelectionKey.TheVariants as keys
+use Rattle.scm_types.specs.Keys.{section_key_of, has_key}
 use Rattle.scm_view.specs.Shown.{Shown, Totals, are_all_expanded, commit_at, file_view_of, file_views_of, is_changed, is_removed, old_lines, section_view_of, section_views_of}
 
 -- ---- lists

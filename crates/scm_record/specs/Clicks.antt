@@ -1,7 +1,7 @@
 -- What a click makes of a session, by what it hits.
 use Rattle.std.specs.Prelude.{ℕ, false, List, Option, Some, None, option_and_then, if◌then◌else◌}
-use Rattle.scm_keys.specs.declared.keys.SelectionKey.{SelectionKey}
-use Rattle.scm_keys.specs.declared.keys.SelectionKey.TheVariants as keys
+use Rattle.scm_types.specs.declared.keys.SelectionKey.{SelectionKey}
+use Rattle.scm_types.specs.declared.keys.SelectionKey.TheVariants as keys
 use Rattle.scm_view.specs.declared.ids.ComponentId.{ComponentId}
 use Rattle.scm_view.specs.declared.ids.ComponentId.TheVariants as ids
 use Rattle.scm_input.specs.declared.events.Event.{Event}

@@ -18,7 +18,7 @@ use Rattle.scm_view.specs.declared.commit_view.CommitViewMode.TheVariants.{Inlin
 use Rattle.scm_view.specs.Shown.{Shown}
 use Rattle.scm_view.specs.Window.{window, owner, span, extent, rows_of_box, height_of_box}
 use Rattle.scm_view.specs.contracts.ids.ComponentIdPartialEq.TheImpl as equality
-use Rattle.scm_keys.specs.declared.keys.SelectionKey.{SelectionKey}
+use Rattle.scm_types.specs.declared.keys.SelectionKey.{SelectionKey}
 use Rattle.scm_view.specs.declared.ids.ComponentId.{ComponentId}
 use Rattle.scm_view.specs.declared.ids.ComponentId.TheVariants as ids
 use Rattle.scm_input.specs.declared.inputs.TerminalKind.{TerminalKind}

@@ -21,7 +21,7 @@ pub mod Views
 -- runs, as steps from point to point
 pub mod Run
 -- which files an event keeps coherent
-pub mod Coherence
+pub mod StepCoherence
 -- what a run keeps of the state that it was given
 pub mod Keeping
 -- how a run ends
@@ -32,12 +32,12 @@ pub mod Headline
 pub mod Turn
 -- what the fields of a selector stand for
 pub mod SessionView
--- of the keys' crates, so that a caller lists this crate alone
-pub use Rattle.scm_keys.specs.Keys
+-- of the crate of what is selected, so that a caller lists this crate alone
+pub use Rattle.scm_selection.specs.KeyLists
 pub use Rattle.scm_selection.specs.KeySet
 pub use Rattle.scm_selection.specs.Moves
 pub use Rattle.scm_selection.specs.Toggle
-pub use Rattle.scm_selection.specs.Coherence as KeptFiles
+pub use Rattle.scm_selection.specs.Coherence
 pub use Rattle.scm_selection.specs.Counts
 -- of the crate of inputs
 pub use Rattle.scm_input.specs.Script
@@ -46,6 +46,7 @@ pub use Rattle.scm_input.specs.Testing
 pub use Rattle.scm_input.specs.Scripted
 pub use Rattle.scm_input.specs.Store
 -- of the state's crate
+pub use Rattle.scm_types.specs.Keys
 pub use Rattle.scm_types.specs.Marks
 pub use Rattle.scm_types.specs.Mode
 pub use Rattle.scm_types.specs.Split

@@ -1,7 +1,7 @@
 -- How a page is turned: the scroll moves, or the selection goes about half a screen on, by where the keys were last drawn.
 use Rattle.std.specs.Prelude.{ℕ, ◌+◌, ◌/◌, nat_le, Bool, false, List, [], ◌∷◌, drop, reverse, Option, Some, None, position, if◌then◌else◌}
-use Rattle.scm_keys.specs.declared.keys.SelectionKey.{SelectionKey}
-use Rattle.scm_keys.specs.declared.keys.SelectionKey.TheVariants as keys
+use Rattle.scm_types.specs.declared.keys.SelectionKey.{SelectionKey}
+use Rattle.scm_types.specs.declared.keys.SelectionKey.TheVariants as keys
 use Rattle.scm_record.specs.declared.pages.Way.{Way}
 use Rattle.scm_record.specs.declared.pages.Way.TheVariants.{Up, Down}
 use Rattle.scm_selection.specs.KeySet.{is_key}

@@ -6,16 +6,16 @@ use Rattle.scm_types.specs.declared.file.File.{File}
 use Rattle.scm_types.specs.declared.state.RecordState.{RecordState}
 use Rattle.scm_types.specs.Edits.{modify}
 use Rattle.scm_types.specs.Limits.{is_accepted_state}
-use Rattle.scm_keys.specs.declared.keys.SelectionKey.{SelectionKey}
-use Rattle.scm_keys.specs.declared.keys.SelectionKey.TheVariants as keys
+use Rattle.scm_types.specs.declared.keys.SelectionKey.{SelectionKey}
+use Rattle.scm_types.specs.declared.keys.SelectionKey.TheVariants as keys
 use Rattle.scm_view.specs.declared.quit_dialog.QuitDialog.{QuitDialog}
 use Rattle.scm_view.specs.declared.commit_view.CommitViewMode.{CommitViewMode}
 use Rattle.scm_view.specs.declared.commit_view.CommitViewMode.TheVariants.{Inline, Adjacent}
 use Rattle.scm_view.specs.Shown.{Shown}
 use Rattle.scm_input.specs.declared.events.Event.{Event}
 use Rattle.scm_input.specs.declared.events.Event.TheVariants as events
-use Rattle.scm_keys.specs.Keys.{file_of, file_of_section, file_of_line, section_of_line}
-use Rattle.scm_selection.specs.Keys.{all_keys, visible_keys, first_key, is_section}
+use Rattle.scm_types.specs.Keys.{file_of, file_of_section, file_of_line, section_of_line}
+use Rattle.scm_selection.specs.KeyLists.{all_keys, visible_keys, first_key, is_section}
 use Rattle.scm_selection.specs.KeySet.{has_key, same_set, with_key, without_key, with_key_flipped, key_set}
 use Rattle.scm_selection.specs.Moves.{next_key, previous_key, inner_key, of_kind}
 use Rattle.scm_selection.specs.Toggle.{with_key_toggled, with_all_inverted, with_all_set}

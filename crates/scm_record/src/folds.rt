@@ -1,7 +1,7 @@
 //! Which sections and files are unfolded.
 ghost use Rattle.std.specs.Prelude.{◌≡◌, true, if◌then◌else◌};
-ghost use Rattle.scm_keys.specs.declared.keys.SelectionKey.TheVariants as keys;
-ghost use Rattle.scm_keys.specs.Keys.{has_key};
+ghost use Rattle.scm_types.specs.declared.keys.SelectionKey.TheVariants as keys;
+ghost use Rattle.scm_types.specs.Keys.{has_key};
 ghost use Rattle.scm_view.specs.Shown.{are_all_expanded, file_fold, is_changed, section_fold};
 
 use crate::views::Showing;

@@ -15,7 +15,7 @@ ghost use Rattle.scm_record.specs.Turn.{BatchStops, Ceases, Follows, Handles, Is
 ghost use Rattle.scm_record.specs.Ending.{EndsWith, FailsWith};
 ghost use Rattle.scm_record.specs.Keeping.{IsKept};
 ghost use Rattle.scm_record.specs.Headline.{Headline};
-ghost use Rattle.scm_record.specs.Coherence.{StepKeepsCoherent, is_toggle_all};
+ghost use Rattle.scm_record.specs.StepCoherence.{StepKeepsCoherent, is_toggle_all};
 
 use crate::frame::DrawnFrame;
 use crate::recording::Recorder;

@@ -1,6 +1,6 @@
 //! What a session shows, and the boxes that show its marks and folds.
 ghost use Rattle.std.specs.Prelude.{◌≡◌};
-ghost use Rattle.scm_keys.specs.Keys.{has_key, is_key};
+ghost use Rattle.scm_types.specs.Keys.{has_key, is_key};
 ghost use Rattle.scm_view.specs.Shown.{expand_box_of, toggle_box_of};
 
 use scm_selection::key_set::KeySet;

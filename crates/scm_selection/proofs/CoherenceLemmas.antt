@@ -13,8 +13,8 @@ use Rattle.scm_types.specs.declared.file.File.{File}
 use Rattle.scm_types.specs.Marks.{file_with_marks, line_with_mark, section_with_marks, section_marks, file_marks, tristate_of}
 use Rattle.scm_types.specs.Mode.{is_absent}
 use Rattle.scm_types.specs.Same.{IsCoherent, is_checked_deletion, is_unchecked_creation, line_marks}
-use Rattle.scm_keys.specs.declared.keys.SelectionKey.{SelectionKey}
-use Rattle.scm_keys.specs.declared.keys.SelectionKey.TheVariants as keys
+use Rattle.scm_types.specs.declared.keys.SelectionKey.{SelectionKey}
+use Rattle.scm_types.specs.declared.keys.SelectionKey.TheVariants as keys
 use Rattle.scm_types.specs.Edits.{modify}
 use Rattle.scm_selection.specs.Toggle.{with_all_set, after_lines, after_mode, after_section, line_mark, mark_after, with_changed_set, with_deletion_unchecked, with_file_toggled, with_key_toggled, with_line_inverted, with_line_toggled, with_mode_checked, with_section_toggled, with_this_line_toggled, with_this_section_toggled}
 use Rattle.scm_selection.specs.Coherence.{is_deletion, is_new_and_deleted, KeepsCoherent}

@@ -6,8 +6,8 @@ use Rattle.scm_types.specs.declared.line.SectionChangedLine.{SectionChangedLine}
 use Rattle.scm_types.specs.declared.section.Section.{Section}
 use Rattle.scm_types.specs.declared.section.Section.TheVariants.{Unchanged, Changed, FileMode, Binary}
 use Rattle.scm_types.specs.Marks.{is_editable_section}
-use Rattle.scm_keys.specs.declared.keys.SelectionKey.{SelectionKey}
-use Rattle.scm_selection.specs.Keys.{file_key, section_key, line_key, line_keys, section_keys, sections_keys, is_visible, is_section}
+use Rattle.scm_types.specs.declared.keys.SelectionKey.{SelectionKey}
+use Rattle.scm_selection.specs.KeyLists.{file_key, section_key, line_key, line_keys, section_keys, sections_keys, is_visible, is_section}
 
 -- one more line
 line_keys-drop : (file section first i : ℕ) (lines : List SectionChangedLine) → i < length lines → line_keys file section first (drop i lines) ≡ line_key file section first ∷ line_keys file section (first + 1) (drop (i + 1) lines)

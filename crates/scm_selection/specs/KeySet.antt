@@ -3,8 +3,8 @@ use Rattle.std.specs.Prelude.{Bool, List, [], ◌∷◌, fold, if◌then◌else�
 use Rattle.std.specs.declared.cmp.Ordering.{Ordering}
 use Rattle.std.specs.Ordering.{nat_cmp, match_ordering}
 use Rattle.std.specs.Cmp.Lexicographic.{pointwise, slice_cmp}
-use Rattle.scm_keys.specs.declared.keys.SelectionKey.{SelectionKey}
-pub use Rattle.scm_keys.specs.Keys.{numbers_of, same_numbers, is_key, has_key}
+use Rattle.scm_types.specs.declared.keys.SelectionKey.{SelectionKey}
+pub use Rattle.scm_types.specs.Keys.{numbers_of, same_numbers, is_key, has_key}
 
 -- the order of keys: by their kinds, then by their numbers
 abbrev pub key_cmp : SelectionKey → SelectionKey → Ordering

@@ -1,5 +1,5 @@
 -- the keys of a state in order, and which of them are visible
-pub mod Keys
+pub mod KeyLists
 -- sets of keys, as of those that are unfolded
 pub mod KeySet
 -- where the selection moves to

@@ -1,9 +1,9 @@
 -- Where the selection moves to, on lists of keys.
 use Rattle.std.specs.Prelude.{ℕ, zero, suc, ◌+◌, Bool, false, List, Option, Some, None, position, find, filter, slice_get, unwrap_or}
 use Rattle.std.specs.List.{after_first}
-use Rattle.scm_keys.specs.declared.keys.SelectionKey.{SelectionKey}
-use Rattle.scm_keys.specs.declared.keys.SelectionKey.TheVariants as keys
-use Rattle.scm_selection.specs.Keys.{is_file, is_section, is_line}
+use Rattle.scm_types.specs.declared.keys.SelectionKey.{SelectionKey}
+use Rattle.scm_types.specs.declared.keys.SelectionKey.TheVariants as keys
+use Rattle.scm_selection.specs.KeyLists.{is_file, is_section, is_line}
 use Rattle.scm_selection.specs.KeySet.{is_key}
 
 -- the key at a place of the list, the one after it, the one before it; where there is none, the one at that place

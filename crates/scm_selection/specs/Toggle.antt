@@ -11,8 +11,8 @@ use Rattle.scm_types.specs.declared.tristate.Tristate.TheVariants as tristates
 use Rattle.scm_types.specs.Marks.{file_marks, section_marks, tristate_of, line_with_mark, section_with_marks, file_with_marks}
 use Rattle.scm_types.specs.Edits.{modify}
 use Rattle.scm_types.specs.Mode.{is_absent}
-use Rattle.scm_keys.specs.declared.keys.SelectionKey.{SelectionKey}
-use Rattle.scm_keys.specs.declared.keys.SelectionKey.TheVariants as keys
+use Rattle.scm_types.specs.declared.keys.SelectionKey.{SelectionKey}
+use Rattle.scm_types.specs.declared.keys.SelectionKey.TheVariants as keys
 
 -- the mark that a toggle sets: what is unchecked becomes checked, all else unchecked
 abbrev pub mark_after : Tristate → Bool

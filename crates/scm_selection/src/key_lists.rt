@@ -2,11 +2,12 @@
 ghost use Rattle.std.specs.Prelude.{◌≡◌, ◌∷◌, ◌++◌, filter, true, IfErr, IfOk, OnOk};
 ghost use Rattle.scm_errors.specs.declared.error.RecordError.TheVariants.{OutOfMemory};
 ghost use Rattle.scm_selection.specs.KeySet.{has_key};
-ghost use Rattle.scm_selection.specs.Keys.{all_keys, file_key, first_key, is_section, is_visible, line_key, line_keys, section_key, section_keys, sections_keys, visible_keys};
+ghost use Rattle.scm_selection.specs.KeyLists.{all_keys, file_key, first_key, is_section, is_visible, line_key, line_keys, section_key, section_keys, sections_keys, visible_keys};
 
 use crate::key_set::KeySet;
-use scm_keys::{FileKey, LineKey, SectionKey, SelectionKey};
-use scm_types::{File, RecordError, Section, SectionChangedLine};
+use scm_types::{
+    File, FileKey, LineKey, RecordError, Section, SectionChangedLine, SectionKey, SelectionKey,
+};
 use std::alloc::Global;
 
 /// The key of a file.

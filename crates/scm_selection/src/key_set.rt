@@ -3,8 +3,7 @@ ghost use Rattle.std.specs.Prelude.{◌≡◌, [], IfErr, OnErr, OnOk, IfOk};
 ghost use Rattle.scm_errors.specs.declared.error.RecordError.TheVariants.{OutOfMemory};
 ghost use Rattle.scm_selection.specs.KeySet.{has_key, key_set, same_set, with_key, with_key_flipped, without_key};
 
-use scm_keys::SelectionKey;
-use scm_types::RecordError;
+use scm_types::{RecordError, SelectionKey};
 use std::alloc::Global;
 use std::collections::BTreeSet;
 use std::marker::Model;
@@ -18,7 +17,7 @@ pub struct KeySet {
 
 impl Model for KeySet {
     ghost use Rattle.std.specs.Prelude.{List};
-    ghost use Rattle.scm_keys.specs.declared.keys.SelectionKey.{SelectionKey};
+    ghost use Rattle.scm_types.specs.declared.keys.SelectionKey.{SelectionKey};
 
     ghost Value = { List SelectionKey };
 

@@ -1,10 +1,10 @@
 //! Where the selection moves to, in lists of keys.
 ghost use Rattle.std.specs.Prelude.{◌≡◌, find, position};
 ghost use Rattle.scm_selection.specs.KeySet.{is_key};
-ghost use Rattle.scm_selection.specs.Keys.{is_file, is_line, is_section};
+ghost use Rattle.scm_selection.specs.KeyLists.{is_file, is_line, is_section};
 ghost use Rattle.scm_selection.specs.Moves.{inner_key, is_inside, is_same_kind, next_key, of_kind, previous_key};
 
-use scm_keys::SelectionKey;
+use scm_types::SelectionKey;
 
 /// Whether two keys are the same.
 pub fn is_key(key: SelectionKey, other: SelectionKey) -> bool

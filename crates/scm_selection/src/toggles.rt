@@ -6,8 +6,7 @@ ghost use Rattle.scm_selection.specs.Coherence.{KeepsCoherent};
 ghost use Rattle.scm_types.specs.Edits.{modify};
 ghost use Rattle.scm_selection.specs.Toggle.{after_lines, after_mode, after_section, is_all_checked, is_checked_by, is_checked_file, line_mark, mark_after, with_all_inverted, with_all_set, with_changed_set, with_deletion_unchecked, with_file_toggled, with_key_toggled, with_line_inverted, with_line_toggled, with_mode_checked, with_section_toggled};
 
-use scm_keys::SelectionKey;
-use scm_types::{File, FileMode, Section, SectionChangedLine, Tristate};
+use scm_types::{File, FileMode, Section, SectionChangedLine, SelectionKey, Tristate};
 
 /// The mark that a toggle sets.
 fn mark_after(tristate: Tristate) -> bool

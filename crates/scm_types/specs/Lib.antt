@@ -20,3 +20,5 @@ pub mod Lending
 pub mod Seen
 -- on the way through a list: the lines that were joined
 pub mod Joined
+-- the keys that a key lies in, whether two keys are the same, and whether a list has a key
+pub mod Keys

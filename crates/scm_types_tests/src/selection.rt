@@ -1,5 +1,4 @@
 //! Lists and sets of keys, moves among them, toggles and counts, on a file of one section of two lines.
-use scm_keys::{FileKey, SelectionKey};
 use scm_selection::key_lists::{
     all_keys, file_key, first_key, line_key, section_key, section_keys, visible_keys,
 };
@@ -7,7 +6,7 @@ use scm_selection::key_set::{KeySet, key_set_of};
 use scm_selection::moves::{inner_key, is_key, keep_kind, next_key, position_of, previous_key};
 use scm_selection::{counts, toggles};
 use scm_state_tests::samples::{ADDED, DEFAULT, changed, context, file_of, owned};
-use scm_types::{Commit, File, Items, RecordError, RecordState, Tristate};
+use scm_types::{Commit, File, FileKey, Items, RecordError, RecordState, SelectionKey, Tristate};
 use std::alloc::Global;
 use std::process::Abort;
 use std::test::Fail;
@@ -89,20 +88,24 @@ fn moves_among_keys(rt: HostRuntime) {
     let keys = sample_keys();
     let [file, section, first, second] = keys;
     assert_eq!(rt; position_of(&keys, section), Some(1));
-    assert_eq!(rt; next_key(&keys, section, file), first);
-    assert_eq!(rt; next_key(&keys, second, file), second);
-    assert_eq!(rt; next_key(&keys, SelectionKey::None, file), file);
-    assert_eq!(rt; previous_key(&keys, second, file), first);
-    assert_eq!(rt; previous_key(&keys, file, second), file);
+    for (moved, expected) in [
+        (next_key(&keys, section, file), first),
+        (next_key(&keys, second, file), second),
+        (next_key(&keys, SelectionKey::None, file), file),
+        (previous_key(&keys, second, file), first),
+        (previous_key(&keys, file, second), file),
+        (inner_key(&keys, file), section),
+        (inner_key(&keys, section), first),
+        (inner_key(&keys, second), second),
+    ] {
+        assert_eq!(rt; moved, expected);
+    }
 }
 
 #[test]
-fn moves_into_keys(rt: HostRuntime) -> Result<(), Fail> {
+fn keys_of_a_kind(rt: HostRuntime) -> Result<(), Fail> {
     let keys = sample_keys();
-    let [file, section, first, second] = keys;
-    assert_eq!(rt; inner_key(&keys, file), section);
-    assert_eq!(rt; inner_key(&keys, section), first);
-    assert_eq!(rt; inner_key(&keys, second), second);
+    let [_, _, first, second] = keys;
     let mut lines = keys.to_vec(rt.alloc())?;
     keep_kind(&mut lines, second);
     assert_eq!(rt; lines.as_slice(), [first, second].as_slice());

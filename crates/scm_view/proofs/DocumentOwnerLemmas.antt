@@ -13,7 +13,7 @@ use Rattle.scm_render.specs.Drawing.{row_rect, span_picture}
 use Rattle.scm_render.specs.Hits.{IsLawful, has_id, first_of_two, hit}
 use Rattle.scm_render.specs.Lines.{line}
 use Rattle.scm_render.proofs.HitLemmas.{Each, each-append, each_more, hit_apart, hit_still, two_assoc}
-use Rattle.scm_keys.specs.declared.keys.FileKey.{FileKey}
+use Rattle.scm_types.specs.declared.keys.FileKey.{FileKey}
 use Rattle.scm_view.specs.declared.ids.ComponentId.{ComponentId}
 use Rattle.scm_view.specs.declared.ids.ComponentId.TheVariants as ids
 use Rattle.scm_view.specs.Clicks.{is_clickable}

@@ -7,7 +7,7 @@ use Rattle.scm_render.specs.Picture.{nothing, followed_by, part, box_rect}
 use Rattle.scm_render.specs.Around.{no_rect}
 use Rattle.scm_render.specs.Canvas.{Sight}
 use Rattle.scm_render.proofs.SpanLemmas.{Spans, spans_more, join_none}
-use Rattle.scm_keys.specs.declared.keys.FileKey.{FileKey}
+use Rattle.scm_types.specs.declared.keys.FileKey.{FileKey}
 use Rattle.scm_view.specs.declared.ids.ComponentId.{ComponentId}
 use Rattle.scm_view.specs.Laws.{IsOpen}
 use Rattle.scm_view.specs.Owners.{AreSectionsOf}

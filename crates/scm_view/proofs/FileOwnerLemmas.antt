@@ -12,16 +12,16 @@ use Rattle.scm_render.specs.Hits.{IsLawful, holds, has_id, first_of_two, hit}
 use Rattle.scm_render.specs.Lines.{line}
 use Rattle.scm_render.proofs.LineLemmas.{line-below}
 use Rattle.scm_render.proofs.HitLemmas.{Each, each-append, each_more, hit-append, hit_apart, hit_box, hit_replaced, two_assoc}
-use Rattle.scm_keys.specs.declared.keys.FileKey.{FileKey}
-use Rattle.scm_keys.specs.declared.keys.SectionKey.{SectionKey}
-use Rattle.scm_keys.specs.declared.keys.SelectionKey.{SelectionKey}
-use Rattle.scm_keys.specs.declared.keys.SelectionKey.TheVariants as selection
+use Rattle.scm_types.specs.declared.keys.FileKey.{FileKey}
+use Rattle.scm_types.specs.declared.keys.SectionKey.{SectionKey}
+use Rattle.scm_types.specs.declared.keys.SelectionKey.{SelectionKey}
+use Rattle.scm_types.specs.declared.keys.SelectionKey.TheVariants as selection
 use Rattle.scm_view.specs.declared.ids.ComponentId.{ComponentId}
 use Rattle.scm_view.specs.declared.ids.ComponentId.TheVariants as ids
 use Rattle.scm_view.specs.Clicks.{is_clickable}
 use Rattle.scm_view.specs.Laws.{IsOpen}
 use Rattle.scm_view.specs.Layers.{Strip, clear, owned}
-use Rattle.scm_keys.specs.Keys.{section_of_line, file_of_section}
+use Rattle.scm_types.specs.Keys.{section_of_line, file_of_section}
 use Rattle.scm_view.specs.Owners.{AreSectionsOf}
 use Rattle.scm_view.proofs.FilesOf.{IsHeadingOf, IsFileOf, AreFilesOf}
 use Rattle.scm_view.specs.Rows.{file_id, Heading, HeaderRow, ShownFile, file_rows}

@@ -28,7 +28,7 @@ use Rattle.scm_cells.proofs.ReplacedLemmas.{text_width-line_pieces}
 use Rattle.scm_render.specs.Picture.{PictureInRange}
 use Rattle.scm_render.specs.Canvas.{Sight}
 use Rattle.scm_render.specs.Drawing.{texts_width}
-use Rattle.scm_keys.specs.declared.keys.FileKey.{FileKey}
+use Rattle.scm_types.specs.declared.keys.FileKey.{FileKey}
 use Rattle.scm_view.specs.declared.tristate_box.TristateIconStyle.{TristateIconStyle}
 use Rattle.scm_view.specs.declared.tristate_box.TristateIconStyle.TheVariants.{Check, Expand}
 use Rattle.scm_view.specs.declared.section_view.SectionView.{SectionView}
@@ -37,7 +37,7 @@ use Rattle.scm_view.specs.Texts.{icon_text, bracketed, box_text, path_text, sect
 use Rattle.scm_view.specs.Rows.{IdBox, Heading, DocRow, DotsRow, BlankRow, ShownSection, line_texts, line_box, section_box, is_first, is_fold_open, are_all_shown, lines_above, has_dots, first_below, rows_below, shown_lines, context_rows, lines_height, section_height, changed_rows, numbered_rows, rows_of, section_rows, is_shown, is_open, is_first_open, shown_section, shown_sections, sections_rows, shown_file, lent_text, file_rows, document_of, line_number, section_heading}
 use Rattle.scm_view.proofs.FilesRows.{files_rows}
 use Rattle.scm_view.specs.Pictures.{commit_picture}
-use Rattle.scm_keys.specs.Keys.{section_key_of}
+use Rattle.scm_types.specs.Keys.{section_key_of}
 use Rattle.scm_view.specs.Shown.{Shown, Shows, lent, Totals, totals_of, section_view_of, section_views_of, file_view_of, file_views_of, commit_at, commit_view_of, old_lines}
 use Rattle.scm_view.specs.Close.{IsClose, SightIsClose}
 use Rattle.scm_view.proofs.Near.{IsNarrow, IsNarrowBox, IsNarrowHeading, AreNarrow, AreNarrowSections, IsNarrowFile, AreNarrowFiles, IsNarrowMessage}

@@ -12,17 +12,17 @@ use Rattle.scm_render.specs.Drawing.{has_row, span_picture, line_picture, text_p
 use Rattle.scm_render.specs.Hits.{IsLawful, has_id, hit, latest}
 use Rattle.scm_render.specs.Lines.{line}
 use Rattle.scm_render.proofs.HitLemmas.{each_more}
-use Rattle.scm_keys.specs.declared.keys.FileKey.{FileKey}
-use Rattle.scm_keys.specs.declared.keys.SectionKey.{SectionKey}
-use Rattle.scm_keys.specs.declared.keys.LineKey.{LineKey}
-use Rattle.scm_keys.specs.declared.keys.SelectionKey.{SelectionKey}
-use Rattle.scm_keys.specs.declared.keys.SelectionKey.TheVariants as selection
+use Rattle.scm_types.specs.declared.keys.FileKey.{FileKey}
+use Rattle.scm_types.specs.declared.keys.SectionKey.{SectionKey}
+use Rattle.scm_types.specs.declared.keys.LineKey.{LineKey}
+use Rattle.scm_types.specs.declared.keys.SelectionKey.{SelectionKey}
+use Rattle.scm_types.specs.declared.keys.SelectionKey.TheVariants as selection
 use Rattle.scm_view.specs.declared.ids.ComponentId.{ComponentId}
 use Rattle.scm_view.specs.declared.ids.ComponentId.TheVariants as ids
 use Rattle.scm_view.specs.Clicks.{is_clickable}
 use Rattle.scm_view.specs.Laws.{IsOpen}
 use Rattle.scm_view.specs.Layers.{Strip, clear, over, owned, strip_at}
-use Rattle.scm_keys.specs.Keys.{section_of_line, file_of_section}
+use Rattle.scm_types.specs.Keys.{section_of_line, file_of_section}
 use Rattle.scm_view.specs.Owners.{IsRowOf, after_row, AreRowsOf, AreSectionsOf}
 use Rattle.scm_view.specs.Texts.{box_text}
 use Rattle.scm_view.specs.Rows.{IdBox, section_id, line_id, Heading, DocRow, HeaderRow, SectionRow, LineRow, MarkRow, ContextRow, DotsRow, BlankRow, ShownSection}

@@ -4,11 +4,11 @@ use Rattle.std.specs.Prelude.{pos, ◌||◌, if◌then◌else◌, Some, None, op
 use Rattle.scm_render.specs.Picture.{Box, followed_by, part, box_rect}
 use Rattle.scm_render.specs.Hits.{IsLawful, has_id, second_or, first_of_two, box_of}
 use Rattle.scm_render.proofs.HitLemmas.{Each, not_true, two_none}
-use Rattle.scm_keys.specs.declared.keys.SelectionKey.{SelectionKey}
+use Rattle.scm_types.specs.declared.keys.SelectionKey.{SelectionKey}
 use Rattle.scm_view.specs.declared.ids.ComponentId.{ComponentId}
 use Rattle.scm_view.specs.declared.ids.ComponentId.TheVariants as ids
 use Rattle.scm_view.specs.Clicks.{is_clickable}
-use Rattle.scm_keys.specs.Keys.{numbers_of, is_key}
+use Rattle.scm_types.specs.Keys.{numbers_of, is_key}
 use Rattle.scm_view.specs.Pictures.{IdPicture}
 use Rattle.scm_view.specs.Places.{Place}
 use Rattle.scm_view.specs.Window.{rows_of_box, rows_of_place, rows_of_key}

@@ -8,14 +8,14 @@ use Rattle.scm_types.specs.declared.line.SectionChangedLine.{SectionChangedLine}
 use Rattle.scm_types.specs.declared.section.Section.{Section}
 use Rattle.scm_types.specs.declared.section.Section.TheVariants.{Unchanged, Changed, FileMode, Binary}
 use Rattle.scm_types.specs.Marks.{is_editable_section}
-use Rattle.scm_keys.specs.declared.keys.FileKey.{FileKey}
-use Rattle.scm_keys.specs.declared.keys.SectionKey.{SectionKey}
-use Rattle.scm_keys.specs.declared.keys.SelectionKey.TheVariants as selection
+use Rattle.scm_types.specs.declared.keys.FileKey.{FileKey}
+use Rattle.scm_types.specs.declared.keys.SectionKey.{SectionKey}
+use Rattle.scm_types.specs.declared.keys.SelectionKey.TheVariants as selection
 use Rattle.scm_view.specs.declared.ids.ComponentId.TheVariants as ids
 use Rattle.scm_view.specs.declared.section_view.SectionView.{SectionView}
 use Rattle.scm_view.specs.Texts.{dots_text}
 use Rattle.scm_view.specs.Rows.{DocRow, HeaderRow, SectionRow, LineRow, MarkRow, ContextRow, DotsRow, BlankRow, ShownSection, is_fold_open, is_open, is_first_open, is_shown, is_first, is_last, has_dots, first_below, lines_above, shown_lines, rows_below, context_rows, changed_rows, numbered_rows, rows_of, section_rows, shown_section, shown_sections, shown_file, document_of}
-use Rattle.scm_keys.specs.Keys.{section_key_of}
+use Rattle.scm_types.specs.Keys.{section_key_of}
 use Rattle.scm_view.specs.Shown.{Shown, Totals, totals_of, old_lines, section_view_of, section_views_of, file_view_of, file_views_of, commit_view_of}
 use Rattle.scm_view.specs.Owners.{IsRowOf, after_row, AreRowsOf, AreSectionsOf}
 use Rattle.scm_view.proofs.FilesOf.{HaveRows, IsFileOf, AreFilesOf, HasItsIds}

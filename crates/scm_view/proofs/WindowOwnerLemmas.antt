@@ -4,7 +4,7 @@ use Rattle.std.specs.Prelude.{pos, option_map}
 use Rattle.scm_render.specs.Picture.{Picture, followed_by, part, box_rect}
 use Rattle.scm_render.specs.Hits.{IsLawful, has_id, box_of, first_of_two, hit, latest}
 use Rattle.scm_render.proofs.HitLemmas.{Each, hit_apart, hit_still}
-use Rattle.scm_keys.specs.declared.keys.SelectionKey.{SelectionKey}
+use Rattle.scm_types.specs.declared.keys.SelectionKey.{SelectionKey}
 use Rattle.scm_view.specs.declared.ids.ComponentId.{ComponentId}
 use Rattle.scm_view.specs.declared.ids.ComponentId.TheVariants as ids
 use Rattle.scm_view.specs.declared.app_view.AppView.{AppView}

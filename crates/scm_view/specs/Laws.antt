@@ -6,7 +6,7 @@ use Rattle.scm_render.specs.Picture.{PictureInRange}
 use Rattle.scm_render.specs.Canvas.{Row, Sight, paint}
 use Rattle.scm_render.specs.Drawing.{reach, has_row}
 use Rattle.scm_render.specs.Hits.{IsLawful, latest}
-use Rattle.scm_keys.specs.declared.keys.FileKey.{FileKey}
+use Rattle.scm_types.specs.declared.keys.FileKey.{FileKey}
 use Rattle.scm_view.specs.declared.ids.ComponentId.{ComponentId}
 use Rattle.scm_view.specs.declared.commit_view.CommitView.{CommitView}
 use Rattle.scm_view.specs.Rows.{ShownSection, document_of}

@@ -1,10 +1,10 @@
 -- Whose ids the rows of a document have: those of the keys of its files, of their sections and of their lines, each of them once.
 use Rattle.std.specs.Prelude.{◌≡◌, ℕ, suc, ◌≤◌, List, [], ◌∷◌}
-use Rattle.scm_keys.specs.declared.keys.FileKey.{FileKey}
-use Rattle.scm_keys.specs.declared.keys.SectionKey.{SectionKey}
-use Rattle.scm_keys.specs.declared.keys.SelectionKey.TheVariants as selection
+use Rattle.scm_types.specs.declared.keys.FileKey.{FileKey}
+use Rattle.scm_types.specs.declared.keys.SectionKey.{SectionKey}
+use Rattle.scm_types.specs.declared.keys.SelectionKey.TheVariants as selection
 use Rattle.scm_view.specs.declared.ids.ComponentId.TheVariants as ids
-use Rattle.scm_keys.specs.Keys.{file_of_section, section_of_line}
+use Rattle.scm_types.specs.Keys.{file_of_section, section_of_line}
 use Rattle.scm_view.specs.Rows.{DocRow, HeaderRow, SectionRow, LineRow, MarkRow, ContextRow, DotsRow, BlankRow, ShownSection}
 
 -- the ids of a row are those of the section's parts, from a rank on

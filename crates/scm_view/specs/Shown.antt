@@ -14,10 +14,10 @@ use Rattle.scm_types.specs.declared.state.RecordState.{RecordState}
 use Rattle.scm_types.specs.declared.tristate.Tristate.{Tristate}
 use Rattle.scm_types.specs.declared.tristate.Tristate.TheVariants as tristate
 use Rattle.scm_types.specs.Marks.{tristate_of, section_marks, file_marks, is_editable_section}
-use Rattle.scm_keys.specs.declared.keys.FileKey.{FileKey}
-use Rattle.scm_keys.specs.declared.keys.SectionKey.{SectionKey}
-use Rattle.scm_keys.specs.declared.keys.SelectionKey.{SelectionKey}
-use Rattle.scm_keys.specs.declared.keys.SelectionKey.TheVariants as keys
+use Rattle.scm_types.specs.declared.keys.FileKey.{FileKey}
+use Rattle.scm_types.specs.declared.keys.SectionKey.{SectionKey}
+use Rattle.scm_types.specs.declared.keys.SelectionKey.{SelectionKey}
+use Rattle.scm_types.specs.declared.keys.SelectionKey.TheVariants as keys
 use Rattle.scm_view.specs.declared.ids.ComponentId.TheVariants as ids
 use Rattle.scm_view.specs.declared.tristate_box.TristateIconStyle.TheVariants as style
 use Rattle.scm_view.specs.declared.quit_dialog.QuitDialog.{QuitDialog}
@@ -27,7 +27,7 @@ use Rattle.scm_view.specs.declared.section_view.SectionView.{SectionView}
 use Rattle.scm_view.specs.declared.file_view.FileView.{FileView}
 use Rattle.scm_view.specs.declared.commit_view.CommitView.{CommitView}
 use Rattle.scm_view.specs.declared.commit_view.CommitViewMode.{CommitViewMode}
-use Rattle.scm_keys.specs.Keys.{section_key_of, section_of_line, is_key, has_key}
+use Rattle.scm_types.specs.Keys.{section_key_of, section_of_line, is_key, has_key}
 use Rattle.scm_view.specs.Rows.{IdBox, document_of}
 
 pub record Shown : Type 0 where

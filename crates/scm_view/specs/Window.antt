@@ -6,12 +6,12 @@ use Rattle.scm_cells.specs.declared.rect.Rect.{Rect}
 use Rattle.scm_render.specs.Canvas.{Row, painted}
 use Rattle.scm_render.specs.Picture.{part}
 use Rattle.scm_render.specs.Hits.{IsLawful, box_of, latest}
-use Rattle.scm_keys.specs.declared.keys.SelectionKey.{SelectionKey}
+use Rattle.scm_types.specs.declared.keys.SelectionKey.{SelectionKey}
 use Rattle.scm_view.specs.declared.ids.ComponentId.{ComponentId}
 use Rattle.scm_view.specs.declared.ids.ComponentId.TheVariants as ids
 use Rattle.scm_view.specs.declared.app_view.AppView.{AppView}
 use Rattle.scm_view.specs.declared.commit_view.CommitViewMode.TheVariants.{Inline}
-use Rattle.scm_keys.specs.Keys.{is_key}
+use Rattle.scm_types.specs.Keys.{is_key}
 use Rattle.scm_view.specs.Rows.{Document, document_of}
 use Rattle.scm_view.specs.Shown.{Shown, commit_view_of}
 use Rattle.scm_view.specs.Blanks.{blank_row}

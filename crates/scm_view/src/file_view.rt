@@ -11,9 +11,8 @@ use crate::file_view_header::FileViewHeader;
 use crate::ids::ComponentId;
 use crate::section_view::SectionView;
 use crate::tristate_box::TristateBox;
-use scm_keys::{FileKey, SelectionKey};
 use scm_render::{Component, Viewport};
-use scm_types::{Items, RecordError};
+use scm_types::{FileKey, Items, RecordError, SelectionKey};
 use std::alloc::Global;
 
 /// A file: its header, and below it its sections if it is not folded.

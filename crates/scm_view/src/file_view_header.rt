@@ -4,9 +4,8 @@ use crate::heading::draw_heading;
 use crate::ids::ComponentId;
 use crate::texts::path_text;
 use crate::tristate_box::TristateBox;
-use scm_keys::FileKey;
 use scm_render::{Component, Viewport};
-use scm_types::RecordError;
+use scm_types::{FileKey, RecordError};
 use std::alloc::Global;
 
 /// The header of a file: the box that toggles it, its path, and the box that folds it.

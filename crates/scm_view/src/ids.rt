@@ -1,8 +1,8 @@
 //! What tells the parts of the screen apart.
 
 use crate::quit_dialog::QuitDialogButtonId;
-use scm_keys::{FileKey, SelectionKey};
 use scm_render::Clickable;
+use scm_types::{FileKey, SelectionKey};
 
 /// A part of the screen.
 #[derive(Clone, Copy, Debug, PartialEq, Eq, PartialOrd, Ord, Hash)]

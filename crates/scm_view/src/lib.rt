@@ -14,7 +14,7 @@ pub use ids::ComponentId;
 pub use menu::{Menu, MenuItem};
 pub use menu_bar::MenuBar;
 pub use quit_dialog::{QuitDialog, QuitDialogButtonId};
-pub use scm_keys::{FileKey, LineKey, SectionKey, SelectionKey};
+pub use scm_types::{FileKey, LineKey, SectionKey, SelectionKey};
 pub use section_line_view::{SectionLineView, SectionLineViewInner};
 pub use section_view::{SectionSelection, SectionView};
 pub use tristate_box::{TristateBox, TristateIconStyle};

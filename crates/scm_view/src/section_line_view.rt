@@ -14,9 +14,8 @@ use crate::reach::cover_row;
 use crate::texts::{number_text, sign_text};
 use crate::tristate_box::TristateBox;
 use scm_cells::{Span, push_spans_from_line};
-use scm_keys::{LineKey, SelectionKey};
 use scm_render::{Component, Viewport};
-use scm_types::{ChangeType, RecordError};
+use scm_types::{ChangeType, LineKey, RecordError, SelectionKey};
 use std::alloc::Global;
 
 /// What is shown of a line.

@@ -16,9 +16,11 @@ use crate::section_line_view::{SectionLineView, SectionLineViewInner};
 use crate::texts::{binary_text, dots_text, mode_change_text, section_text};
 use crate::tristate_box::{TristateBox, TristateIconStyle};
 use scm_cells::Span;
-use scm_keys::{LineKey, SectionKey, SelectionKey};
 use scm_render::{Component, Viewport};
-use scm_types::{FileMode, RecordError, Section, SectionChangedLine, Text, Tristate};
+use scm_types::{
+    FileMode, LineKey, RecordError, Section, SectionChangedLine, SectionKey, SelectionKey, Text,
+    Tristate,
+};
 use std::alloc::Global;
 
 /// What is selected in a section.

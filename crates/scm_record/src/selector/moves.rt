@@ -12,7 +12,7 @@ impl<'state> Selector<'state> {
     ghost use Rattle.std.specs.Prelude.{◌≡◌, IfErr, IfOk, OnOk};
     ghost use Rattle.scm_errors.specs.declared.error.RecordError.TheVariants.{OutOfMemory};
     ghost use Rattle.scm_view.specs.declared.quit_dialog.QuitDialogButtonId.TheVariants.{Quit, GoBack};
-    ghost use Rattle.scm_selection.specs.Keys.{first_key};
+    ghost use Rattle.scm_selection.specs.KeyLists.{first_key};
     ghost use Rattle.scm_record.specs.Frames.{IsShown, Scene};
     ghost use Rattle.scm_record.specs.Session.{visible, visible_of_kind, after_next, after_previous, after_next_same_kind, after_previous_same_kind, after_advance, after_inner, after_outer};
     ghost use Rattle.scm_record.specs.Change.{stays};

@@ -1,5 +1,5 @@
 use Rattle.std.proofs.Common.{◌∙◌, sym, refl}
-use Rattle.scm_keys.specs.declared.keys.SelectionKey.TheVariants as keys
+use Rattle.scm_types.specs.declared.keys.SelectionKey.TheVariants as keys
 use Rattle.scm_record.specs.Pages.{is_page_away}
 use Rattle.scm_record.proofs.PageLemmas.{walked-here, walked-on, walked-end}
 use Rattle.scm_record.proofs.pages.walk.Goals as goal

@@ -1,7 +1,7 @@
 use Rattle.std.proofs.Common.{◌≡◌, ◌∙◌, ◌+◌, ◌++◌, ◌∷◌, drop, append-nil, ap, sym, arith}
 use Rattle.scm_types.specs.Marks.{is_editable_section}
-use Rattle.scm_keys.specs.declared.keys.SectionKey.{SectionKey}
-use Rattle.scm_keys.specs.Keys.{section_key_of}
+use Rattle.scm_types.specs.declared.keys.SectionKey.{SectionKey}
+use Rattle.scm_types.specs.Keys.{section_key_of}
 use Rattle.scm_view.specs.Shown.{Totals, section_view_of, section_views_of, totals_of}
 use Rattle.scm_record.specs.Views.{lent_section, lent_sections}
 use Rattle.scm_record.proofs.ViewLemmas.{pushed, at_most_one_more, section_views-more, section_views-end, old_lines-more}

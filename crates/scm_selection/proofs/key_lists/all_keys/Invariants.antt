@@ -1,5 +1,5 @@
 use Rattle.std.proofs.Common.{◌≡◌, ◌++◌, drop}
-use Rattle.scm_selection.specs.Keys.{files_keys}
+use Rattle.scm_selection.specs.KeyLists.{files_keys}
 use Rattle.scm_selection.proofs.key_lists.all_keys.Given as goal
 
 -- the keys so far and those of the files that are left are all

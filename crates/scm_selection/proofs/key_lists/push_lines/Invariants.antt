@@ -1,5 +1,5 @@
 use Rattle.std.proofs.Common.{◌≡◌, ◌++◌, drop}
-use Rattle.scm_selection.specs.Keys.{line_keys}
+use Rattle.scm_selection.specs.KeyLists.{line_keys}
 use Rattle.scm_selection.proofs.key_lists.push_lines.Given as goal
 
 -- the keys so far and those of the lines that are left are all

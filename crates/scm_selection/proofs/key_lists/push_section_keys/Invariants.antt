@@ -1,6 +1,6 @@
 use Rattle.std.proofs.Common.{◌≡◌, ◌++◌, drop}
 use Rattle.std.specs.Prelude.{filter}
-use Rattle.scm_selection.specs.Keys.{is_section, sections_keys}
+use Rattle.scm_selection.specs.KeyLists.{is_section, sections_keys}
 use Rattle.scm_selection.proofs.key_lists.push_section_keys.Given as goal
 
 -- the keys so far and those of the sections that are left are all

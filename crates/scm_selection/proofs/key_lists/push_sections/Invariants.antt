@@ -1,5 +1,5 @@
 use Rattle.std.proofs.Common.{◌≡◌, ◌++◌, drop}
-use Rattle.scm_selection.specs.Keys.{sections_keys}
+use Rattle.scm_selection.specs.KeyLists.{sections_keys}
 use Rattle.scm_selection.proofs.key_lists.push_sections.Given as goal
 
 -- the keys so far and those of the sections that are left are all

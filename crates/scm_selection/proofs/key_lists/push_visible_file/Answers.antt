@@ -1,6 +1,6 @@
 use Rattle.std.proofs.Common.{◌≡◌, false}
 use Rattle.scm_selection.specs.KeySet.{has_key}
-use Rattle.scm_selection.specs.Keys.{file_key}
+use Rattle.scm_selection.specs.KeyLists.{file_key}
 use Rattle.scm_selection.proofs.KeyListLemmas.{sections_hidden}
 use Rattle.scm_selection.proofs.key_lists.push_visible_file.Goals as goal
 

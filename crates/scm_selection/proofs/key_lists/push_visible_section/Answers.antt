@@ -1,6 +1,6 @@
 use Rattle.std.proofs.Common.{◌≡◌, true, false}
 use Rattle.scm_selection.specs.KeySet.{has_key}
-use Rattle.scm_selection.specs.Keys.{section_key}
+use Rattle.scm_selection.specs.KeyLists.{section_key}
 use Rattle.scm_selection.proofs.KeyListLemmas.{section_visible, section_folded}
 use Rattle.scm_selection.proofs.key_lists.push_visible_section.Goals as goal
 

@@ -1,7 +1,7 @@
 use Rattle.std.proofs.Common.{◌≡◌, ◌++◌, drop}
 use Rattle.std.specs.Prelude.{filter}
 use Rattle.scm_selection.specs.KeySet.{has_key}
-use Rattle.scm_selection.specs.Keys.{is_visible, sections_keys}
+use Rattle.scm_selection.specs.KeyLists.{is_visible, sections_keys}
 use Rattle.scm_selection.proofs.key_lists.push_visible_sections.Given as goal
 
 -- the keys so far and those of the sections that are left are all

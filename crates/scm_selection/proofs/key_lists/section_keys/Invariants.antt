@@ -1,6 +1,6 @@
 use Rattle.std.proofs.Common.{◌≡◌, ◌++◌, drop}
 use Rattle.std.specs.Prelude.{filter}
-use Rattle.scm_selection.specs.Keys.{files_keys, is_section}
+use Rattle.scm_selection.specs.KeyLists.{files_keys, is_section}
 use Rattle.scm_selection.proofs.key_lists.section_keys.Given as goal
 
 -- the keys so far and those of the files that are left are all

@@ -1,7 +1,7 @@
 use Rattle.std.proofs.Common.{◌≡◌, ◌++◌, drop}
 use Rattle.std.specs.Prelude.{filter}
 use Rattle.scm_selection.specs.KeySet.{has_key}
-use Rattle.scm_selection.specs.Keys.{files_keys, is_visible}
+use Rattle.scm_selection.specs.KeyLists.{files_keys, is_visible}
 use Rattle.scm_selection.proofs.key_lists.visible_keys.Given as goal
 
 -- the keys so far and those of the files that are left are all

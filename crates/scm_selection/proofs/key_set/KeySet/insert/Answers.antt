@@ -1,5 +1,5 @@
 use Rattle.std.proofs.Common.{◌∙◌, ap, List, rules}
-use Rattle.scm_keys.specs.declared.keys.SelectionKey.{SelectionKey}
+use Rattle.scm_types.specs.declared.keys.SelectionKey.{SelectionKey}
 use Rattle.scm_selection.specs.KeySet.{with_key}
 use Rattle.scm_selection.proofs.KeySetLemmas.{with_key-is}
 use Rattle.scm_selection.proofs.key_set.KeySet.insert.Goals as goal

@@ -4,9 +4,9 @@ use Rattle.scm_types.specs.declared.line.SectionChangedLine.{SectionChangedLine}
 use Rattle.scm_types.specs.declared.section.Section.{Section}
 use Rattle.scm_types.specs.declared.section.Section.TheVariants as sections
 use Rattle.scm_types.specs.declared.file.File.{File}
-use Rattle.scm_keys.specs.declared.keys.SelectionKey.{SelectionKey}
-use Rattle.scm_keys.specs.declared.keys.SelectionKey.TheVariants as keys
-use Rattle.scm_keys.specs.Keys.{file_of_section, file_of_line, section_of_line}
+use Rattle.scm_types.specs.declared.keys.SelectionKey.{SelectionKey}
+use Rattle.scm_types.specs.declared.keys.SelectionKey.TheVariants as keys
+use Rattle.scm_types.specs.Keys.{file_of_section, file_of_line, section_of_line}
 
 -- the key of a file, of a section and of a line in the view of the first commit
 abbrev pub file_key : ℕ → SelectionKey
