@@ -1,5 +1,5 @@
 //! Calls that take no memory succeed where every request is refused, which no contract says.
-use crate::render::{columns, rect, viewport_on};
+use crate::render::{check_rect, columns, rect, viewport_on};
 use crate::samples::Caption;
 use scm_cells::{
     Clusters, Grid, Mask, Rect, RectSize, ScreenRect, replace_control_character, text_width,
@@ -12,11 +12,11 @@ use std::process::Abort;
 fn check_rects(rt: &impl Abort) {
     let whole = rect(0, 0, 4, 2);
     let small = rect(2, 1, 5, 5);
-    assert_eq!(rt; whole.intersect(small), rect(2, 1, 2, 1));
-    assert_eq!(rt; whole.union_bounding(small), rect(0, 0, 7, 6));
+    check_rect(rt, whole.intersect(small), rect(2, 1, 2, 1));
+    check_rect(rt, whole.union_bounding(small), rect(0, 0, 7, 6));
     assert_eq!(rt; (small.end_x(), small.end_y()), (7, 6));
     assert_eq!(rt; small.iter_ys().count(), 5);
-    assert_eq!(rt; small.top_row(), rect(2, 1, 5, 1));
+    check_rect(rt, small.top_row(), rect(2, 1, 5, 1));
     assert!(rt; small.contains_point(2, 1) && !small.is_empty());
     assert!(rt; Rect::default().is_empty());
 }
@@ -33,21 +33,19 @@ fn check_sizes(rt: &impl Abort) {
         width: 5,
         height: 5,
     };
-    assert_eq!(rt; Rect::from(screen), rect(2, 1, 5, 5));
+    check_rect(rt, Rect::from(screen), rect(2, 1, 5, 5));
     assert_eq!(rt; RectSize::from(screen), size);
     assert_eq!(rt; RectSize::from(rect(2, 1, 5, 5)), size);
     assert_eq!(rt; RectSize::default().width, 0);
-    assert_eq!(rt;
-        centered_rect(rect(0, 0, 4, 2), size, 50, 50),
-        rect(0, 0, 4, 2)
-    );
+    let whole = rect(0, 0, 4, 2);
+    check_rect(rt, centered_rect(whole, size, 50, 50), whole);
 }
 
 /// The calls on masks.
 fn check_masks(rt: &impl Abort) {
     let mask = columns(2, 5);
     assert_eq!(rt; (mask.end_x(), mask.end_y()), (Some(7), None));
-    assert_eq!(rt; mask.apply(rect(0, 0, 4, 2)), rect(2, 0, 2, 2));
+    check_rect(rt, mask.apply(rect(0, 0, 4, 2)), rect(2, 0, 2, 2));
     assert_eq!(rt; Mask::from(rect(2, 1, 5, 5)).width, Some(5));
     assert_eq!(rt; Mask::default().width, None);
 }
@@ -64,16 +62,16 @@ fn check_texts(rt: &impl Abort) {
 fn check_viewport(rt: &impl Abort, alloc: Global, mut grid: Grid) {
     grid.clear();
     let mut viewport = viewport_on(rt, alloc, grid);
-    assert_eq!(rt; viewport.rect(), rect(0, 0, 6, 2));
+    check_rect(rt, viewport.rect(), rect(0, 0, 6, 2));
     assert_eq!(rt; viewport.mask(), Mask::from(rect(0, 0, 6, 2)));
     assert_eq!(rt; viewport.swap_mask(Some(columns(2, 3))), None);
-    assert_eq!(rt; viewport.mask_rect(), rect(2, 0, 3, 2));
+    check_rect(rt, viewport.mask_rect(), rect(2, 0, 3, 2));
     assert_eq!(rt; viewport.translate_rect(rect(7, 0, 3, 1)), None);
     let grid = viewport.into_grid();
     assert_eq!(rt; (grid.width(), grid.height()), (6, 2));
     let mut trace: DrawTrace<u8> = DrawTrace::new(alloc);
     trace.merge_rect(rect(1, 1, 2, 1));
-    assert_eq!(rt; trace.rect, rect(1, 1, 2, 1));
+    check_rect(rt, trace.rect, rect(1, 1, 2, 1));
 }
 
 #[test]

@@ -39,6 +39,27 @@ pub(crate) fn columns(x: isize, width: usize) -> Mask
     }
 }
 
+/// Checks that a rectangle is the expected one.
+pub(crate) fn check_rect(rt: &impl Abort, found: Rect, expected: Rect) {
+    assert_eq!(rt; found, expected);
+}
+
+/// Checks what stands on a grid.
+fn check_view(rt: &impl Abort, grid: &Grid, expected: &str) -> Result<(), RecordError> {
+    assert_eq!(rt; grid.view()?.as_str(), expected);
+    Ok(())
+}
+
+/// Checks what stands on the grid of a viewport.
+fn check_drawing(
+    rt: &impl Abort,
+    viewport: Viewport<u8>,
+    expected: &str,
+) -> Result<(), RecordError> {
+    let grid = viewport.into_grid();
+    check_view(rt, &grid, expected)
+}
+
 /// Checks that a place is near the document's corner: at most 1000 columns or rows away.
 fn check_near(rt: &impl Abort, place: isize)
     ensures { IsNear place }
@@ -105,8 +126,7 @@ fn viewport_at(
 
 /// A viewport on a grid of six columns and two rows, which shows the document from its corner on.
 pub(crate) fn viewport_on(rt: &impl Abort, alloc: Global, grid: Grid) -> Viewport<u8> {
-    assert_eq!(rt; grid.width(), 6);
-    assert_eq!(rt; grid.height(), 2);
+    assert_eq!(rt; (grid.width(), grid.height()), (6, 2));
     Viewport::new(alloc, grid, rect(0, 0, 6, 2))
 }
 
@@ -248,78 +268,103 @@ fn centring(rt: HostRuntime) {
         width: 60,
         height: 3,
     };
-    assert_eq!(rt;
-        centered_rect(rect(0, 0, 80, 24), dialog, 60, 20),
-        rect(10, 9, 60, 4)
-    );
-    assert_eq!(rt;
-        centered_rect(rect(0, 0, 10, 2), dialog, 60, 20),
-        rect(0, 0, 10, 2)
-    );
+    let centred = centered_rect(rect(0, 0, 80, 24), dialog, 60, 20);
+    check_rect(&rt, centred, rect(10, 9, 60, 4));
+    let centred = centered_rect(rect(0, 0, 10, 2), dialog, 60, 20);
+    check_rect(&rt, centred, rect(0, 0, 10, 2));
     let text = RectSize {
         width: 29,
         height: 1,
     };
-    assert_eq!(rt;
-        centered_rect(rect(0, 1, 80, 23), text, 50, 50),
-        rect(20, 6, 40, 11)
-    );
+    let centred = centered_rect(rect(0, 1, 80, 23), text, 50, 50);
+    check_rect(&rt, centred, rect(20, 6, 40, 11));
+}
+
+/// A trace of a rectangle.
+fn trace_of(alloc: Global, rect: Rect) -> DrawTrace<u8> {
+    let mut trace = DrawTrace::new(alloc);
+    trace.merge_rect(rect);
+    trace
+}
+
+/// A box of one cell, at column 2.
+fn small_box() -> DrawnRect {
+    DrawnRect {
+        rect: rect(2, 0, 1, 1),
+        timestamp: 3,
+    }
+}
+
+/// Checks the rectangle of a trace, and its box with the id 7.
+fn check_trace(rt: &impl Abort, trace: &DrawTrace<u8>, rect: Rect, drawn: Option<DrawnRect>) {
+    check_rect(rt, trace.rect, rect);
+    assert_eq!(rt; trace.components.get(&7).copied(), drawn);
 }
 
 #[test]
 fn traces(rt: HostRuntime) -> Result<(), Fail> {
     let alloc = rt.alloc();
-    let mut trace: DrawTrace<u8> = DrawTrace::new(alloc);
-    assert_eq!(rt; trace.rect, rect(0, 0, 0, 0));
-    trace.merge_rect(rect(0, 0, 1, 1));
-    let mut other: DrawTrace<u8> = DrawTrace::new(alloc);
-    other.merge_rect(rect(2, 0, 1, 1));
-    assert_eq!(rt; other.rect, rect(2, 0, 1, 1));
-    let drawn = DrawnRect {
-        rect: rect(2, 0, 1, 1),
-        timestamp: 3,
-    };
-    let _ = other.components.insert(7, drawn)?;
+    check_trace(&rt, &DrawTrace::new(alloc), rect(0, 0, 0, 0), None);
+    let mut trace = trace_of(alloc, rect(0, 0, 1, 1));
+    let mut other = trace_of(alloc, rect(2, 0, 1, 1));
+    let _ = other.components.insert(7, small_box())?;
+    check_trace(&rt, &other, rect(2, 0, 1, 1), Some(small_box()));
     trace.merge(other)?;
-    assert_eq!(rt; trace.rect, rect(0, 0, 3, 1));
-    assert_eq!(rt; trace.components.get(&7).copied(), Some(drawn));
+    check_trace(&rt, &trace, rect(0, 0, 3, 1), Some(small_box()));
     Ok(())
 }
 
-#[test]
-fn viewports_have_places(rt: HostRuntime) -> Result<(), Fail> {
-    let viewport = viewport_at(rt.alloc(), 0, 1, 6, 2)?;
-    assert_eq!(rt; viewport.rect(), rect(0, 1, 6, 2));
-    assert_eq!(rt; viewport.mask(), Mask::from(rect(0, 1, 6, 2)));
-    assert_eq!(rt; viewport.mask_rect(), rect(0, 1, 6, 2));
-    assert_eq!(rt; viewport.translate_rect(rect(0, 0, 3, 1)), None);
+/// Checks the place of a viewport of six columns and two rows at row 1, and where it shows rectangles.
+fn check_places(rt: &impl Abort, viewport: &Viewport<u8>) {
+    let whole = rect(0, 1, 6, 2);
+    check_rect(rt, viewport.rect(), whole);
+    check_rect(rt, viewport.mask_rect(), whole);
+    assert_eq!(rt; viewport.mask(), Mask::from(whole));
     let shown = ScreenRect {
         x: 0,
         y: 0,
         width: 3,
         height: 2,
     };
-    assert_eq!(rt; viewport.translate_rect(rect(0, 0, 3, 3)), Some(shown));
+    for (height, expected) in [(1, None), (3, Some(shown))] {
+        assert_eq!(rt; viewport.translate_rect(rect(0, 0, 3, height)), expected);
+    }
+}
+
+#[test]
+fn viewports_have_places(rt: HostRuntime) -> Result<(), Fail> {
+    let viewport = viewport_at(rt.alloc(), 0, 1, 6, 2)?;
+    check_places(&rt, &viewport);
     Ok(())
 }
 
 /// A grid of which the second row has a text that is cut at the end.
 fn grid_with_text(rt: &impl Abort, alloc: Global) -> Result<Grid, RecordError> {
     let mut viewport = viewport_at(alloc, 0, 1, 6, 2)?;
-    assert_eq!(rt;
-        draw_text(rt, &mut viewport, 2, 2, &[Span("abcdef")])?,
-        rect(2, 2, 6, 1)
-    );
-    assert_eq!(rt; viewport.cover(rect(3, 1, 2, 2)), rect(3, 1, 2, 2));
+    let drawn = draw_text(rt, &mut viewport, 2, 2, &[Span("abcdef")])?;
+    check_rect(rt, drawn, rect(2, 2, 6, 1));
+    check_rect(rt, viewport.cover(rect(3, 1, 2, 2)), rect(3, 1, 2, 2));
     Ok(viewport.into_grid())
 }
 
 #[test]
 fn texts(rt: HostRuntime) -> Result<(), Fail> {
     let grid = grid_with_text(&rt, rt.alloc())?;
-    assert_eq!(rt; grid.view()?.as_str(), "\"      \"\n\"  abc…\"\n");
-    assert_eq!(rt; grid.width(), 6);
-    assert_eq!(rt; grid.height(), 2);
+    assert_eq!(rt; (grid.width(), grid.height()), (6, 2));
+    check_view(&rt, &grid, "\"      \"\n\"  abc…\"\n")?;
+    Ok(())
+}
+
+/// Blanks the place of a viewport of six columns and two rows at row 1, and draws a caption that begins outside it.
+fn check_caption(
+    rt: &impl Abort,
+    viewport: &mut Viewport<u8>,
+    caption: &Caption,
+) -> Result<(), RecordError> {
+    let whole = rect(0, 1, 6, 2);
+    check_rect(rt, viewport.draw_blank(whole)?, whole);
+    let drawn = draw_caption(rt, viewport, 9, 2, caption)?;
+    check_rect(rt, drawn, rect(5, 2, 5, 1));
     Ok(())
 }
 
@@ -329,17 +374,21 @@ fn captions_over_texts(rt: HostRuntime) -> Result<(), Fail> {
     let grid = grid_with_text(&rt, alloc)?;
     assert_eq!(rt; (grid.width(), grid.height()), (6, 2));
     let mut viewport: Viewport<u8> = Viewport::new(alloc, grid, rect(0, 1, 6, 2));
-    let caption = Caption { id: 1, text: "a" };
-    assert_eq!(rt; viewport.draw_blank(rect(0, 1, 6, 2))?, rect(0, 1, 6, 2));
-    assert_eq!(rt;
-        draw_caption(&rt, &mut viewport, 9, 2, &caption)?,
-        rect(5, 2, 5, 1)
-    );
-    assert_eq!(rt;
-        viewport.into_grid().view()?.as_str(),
-        "\"      \"\n\"     …\"\n"
-    );
+    check_caption(&rt, &mut viewport, &Caption { id: 1, text: "a" })?;
+    check_drawing(&rt, viewport, "\"      \"\n\"     …\"\n")?;
     Ok(())
+}
+
+/// A viewport at the document's corner, of six columns, of which the mask lets three through.
+fn masked_viewport(
+    rt: &impl Abort,
+    alloc: Global,
+    height: u16,
+) -> Result<Viewport<u8>, RecordError> {
+    let mut viewport = viewport_at(alloc, 0, 0, 6, height)?;
+    assert_eq!(rt; viewport.swap_mask(Some(columns(2, 3))), None);
+    check_rect(rt, viewport.mask_rect(), rect(2, 0, 3, height as usize));
+    Ok(viewport)
 }
 
 /// Takes the mask off, and checks what stands on the screen.
@@ -349,15 +398,12 @@ fn check_masked(
     expected: &str,
 ) -> Result<(), RecordError> {
     assert_eq!(rt; viewport.swap_mask(None), Some(columns(2, 3)));
-    assert_eq!(rt; viewport.into_grid().view()?.as_str(), expected);
-    Ok(())
+    check_drawing(rt, viewport, expected)
 }
 
 #[test]
 fn masked_spans(rt: HostRuntime) -> Result<(), Fail> {
-    let mut viewport = viewport_at(rt.alloc(), 0, 0, 6, 4)?;
-    assert_eq!(rt; viewport.swap_mask(Some(columns(2, 3))), None);
-    assert_eq!(rt; viewport.mask_rect(), rect(2, 0, 3, 4));
+    let mut viewport = masked_viewport(&rt, rt.alloc(), 4)?;
     for (x, y, text, width) in [
         (0, 0, "abcdef", 6),
         (1, 1, "日本", 4),
@@ -365,28 +411,35 @@ fn masked_spans(rt: HostRuntime) -> Result<(), Fail> {
         (2, 3, "日本", 4),
     ] {
         let drawn = draw_span(&rt, &mut viewport, x, y, &Span(text))?;
-        assert_eq!(rt; drawn, rect(x, y, width, 1));
+        check_rect(&rt, drawn, rect(x, y, width, 1));
     }
     let expected = "\"  cde \"\n\"   本 \"\n\"   本 \"\n\"  日  \"\n";
     check_masked(&rt, viewport, expected)?;
     Ok(())
 }
 
+/// Draws spans as a text on row 0 and as a line on row 1, of so many columns.
+fn check_texts(
+    rt: &impl Abort,
+    alloc: Global,
+    viewport: &mut Viewport<u8>,
+    spans: &[Span],
+    width: usize,
+) -> Result<(), RecordError> {
+    let drawn = draw_text(rt, viewport, 0, 0, spans)?;
+    check_rect(rt, drawn, rect(0, 0, width, 1));
+    let line = Line(spans.to_vec(alloc)?);
+    let drawn = draw_line(rt, viewport, 0, 1, &line)?;
+    check_rect(rt, drawn, rect(0, 1, width, 1));
+    Ok(())
+}
+
 #[test]
 fn masked_texts(rt: HostRuntime) -> Result<(), Fail> {
     let alloc = rt.alloc();
-    let mut viewport = viewport_at(alloc, 0, 0, 6, 2)?;
-    assert_eq!(rt; viewport.swap_mask(Some(columns(2, 3))), None);
+    let mut viewport = masked_viewport(&rt, alloc, 2)?;
     let text = [Span("a"), Span("日"), Span("bcd")];
-    assert_eq!(rt;
-        draw_text(&rt, &mut viewport, 0, 0, &text)?,
-        rect(0, 0, 6, 1)
-    );
-    let line = Line(text.to_vec(alloc)?);
-    assert_eq!(rt;
-        draw_line(&rt, &mut viewport, 0, 1, &line)?,
-        rect(0, 1, 6, 1)
-    );
+    check_texts(&rt, alloc, &mut viewport, &text, 6)?;
     check_masked(&rt, viewport, "\"   b… \"\n\"   bc \"\n")?;
     Ok(())
 }
@@ -401,9 +454,8 @@ fn check_frame(
 ) -> Result<(), RecordError> {
     let whole = rect(0, 0, width as usize, height as usize);
     let mut viewport = viewport_at(alloc, 0, 0, width, height)?;
-    assert_eq!(rt; viewport.draw_frame(whole, "Quit", &["body"])?, whole);
-    assert_eq!(rt; viewport.into_grid().view()?.as_str(), expected);
-    Ok(())
+    check_rect(rt, viewport.draw_frame(whole, "Quit", &["body"])?, whole);
+    check_drawing(rt, viewport, expected)
 }
 
 #[test]
@@ -423,38 +475,36 @@ fn frames(rt: HostRuntime) -> Result<(), Fail> {
     Ok(())
 }
 
+/// Checks the box of an id: its rectangle, and its rank in the order of beginning, from 0.
+fn check_box(rt: &impl Abort, boxes: &DrawnRects<u8>, id: u8, expected: (Rect, usize)) {
+    let (rect, timestamp) = expected;
+    let expected = DrawnRect { rect, timestamp };
+    assert_eq!(rt; boxes.get(&id).copied(), Some(expected));
+}
+
+/// Two texts of one id, under the id 1.
+fn twins() -> Pair {
+    Pair {
+        id: 1,
+        first: Caption { id: 2, text: "ab" },
+        second: Caption { id: 2, text: "c" },
+    }
+}
+
 #[test]
 fn boxes(rt: HostRuntime) -> Result<(), Fail> {
     let alloc = rt.alloc();
     let mut grid = Grid::new(alloc, 6, 3)?;
-    let pair = Pair {
-        id: 1,
-        first: Caption { id: 2, text: "ab" },
-        second: Caption { id: 2, text: "c" },
-    };
-    let drawn = render_pair(&rt, alloc, &mut grid, &pair)?;
-    let whole = DrawnRect {
-        rect: rect(0, 0, 2, 2),
-        timestamp: 0,
-    };
-    let later = DrawnRect {
-        rect: rect(0, 1, 1, 1),
-        timestamp: 2,
-    };
-    assert_eq!(rt; drawn.get(&1).copied(), Some(whole));
-    assert_eq!(rt; drawn.get(&2).copied(), Some(later));
-    assert_eq!(rt;
-        grid.view()?.as_str(),
-        "\"ab    \"\n\"c     \"\n\"      \"\n"
-    );
+    let drawn = render_pair(&rt, alloc, &mut grid, &twins())?;
+    check_box(&rt, &drawn, 1, (rect(0, 0, 2, 2), 0));
+    check_box(&rt, &drawn, 2, (rect(0, 1, 1, 1), 2));
+    check_view(&rt, &grid, "\"ab    \"\n\"c     \"\n\"      \"\n")?;
     Ok(())
 }
 
-#[test]
-fn nested_masks(rt: HostRuntime) -> Result<(), Fail> {
-    let alloc = rt.alloc();
-    let mut viewport = viewport_at(alloc, 0, 0, 6, 2)?;
-    let nest = Nest {
+/// A pane over a text, under a mask.
+fn sample_nest() -> Nest {
+    Nest {
         id: 1,
         mask: columns(1, 3),
         pane: Pane {
@@ -469,22 +519,23 @@ fn nested_masks(rt: HostRuntime) -> Result<(), Fail> {
             id: 4,
             text: "uvwxyz",
         },
-    };
-    let outer = columns(0, 5);
-    viewport.swap_mask(Some(outer));
-    assert_eq!(rt; draw_nest(&rt, &mut viewport, &nest)?, rect(0, 0, 6, 2));
-    assert_eq!(rt; viewport.mask(), outer);
-    assert_eq!(rt;
-        viewport.into_grid().view()?.as_str(),
-        "\"  cdef\"\n\" vw…  \"\n"
-    );
-    Ok(())
+    }
 }
 
 #[test]
-fn rows_of_captions(rt: HostRuntime) -> Result<(), Fail> {
-    let alloc = rt.alloc();
-    let mut grid = Grid::new(alloc, 6, 4)?;
+fn nested_masks(rt: HostRuntime) -> Result<(), Fail> {
+    let mut viewport = viewport_at(rt.alloc(), 0, 0, 6, 2)?;
+    let outer = columns(0, 5);
+    viewport.swap_mask(Some(outer));
+    let drawn = draw_nest(&rt, &mut viewport, &sample_nest())?;
+    check_rect(&rt, drawn, rect(0, 0, 6, 2));
+    assert_eq!(rt; viewport.mask(), outer);
+    check_drawing(&rt, viewport, "\"  cdef\"\n\" vw…  \"\n")?;
+    Ok(())
+}
+
+/// Three texts: of wide symbols, longer than the grid, and without columns.
+fn sample_column(alloc: Global) -> Result<Column, AllocError> {
     let captions = vec![in alloc;
         Caption { id: 2, text: "日" },
         Caption {
@@ -493,24 +544,27 @@ fn rows_of_captions(rt: HostRuntime) -> Result<(), Fail> {
         },
         Caption { id: 4, text: "" },
     ]?;
-    let column = Column { id: 1, captions };
-    let drawn = render_column(&rt, alloc, &mut grid, &column)?;
-    for (id, rect, timestamp) in [
-        (1, rect(0, 0, 8, 2), 0),
-        (2, rect(0, 0, 2, 1), 1),
-        (3, rect(0, 1, 8, 1), 2),
-        (4, rect(0, 0, 0, 0), 3),
+    Ok(Column { id: 1, captions })
+}
+
+#[test]
+fn rows_of_captions(rt: HostRuntime) -> Result<(), Fail> {
+    let alloc = rt.alloc();
+    let mut grid = Grid::new(alloc, 6, 4)?;
+    let drawn = render_column(&rt, alloc, &mut grid, &sample_column(alloc)?)?;
+    for (id, expected) in [
+        (1, (rect(0, 0, 8, 2), 0)),
+        (2, (rect(0, 0, 2, 1), 1)),
+        (3, (rect(0, 1, 8, 1), 2)),
+        (4, (rect(0, 0, 0, 0), 3)),
     ] {
-        assert_eq!(rt;
-            drawn.get(&id).copied(),
-            Some(DrawnRect { rect, timestamp })
-        );
+        check_box(&rt, &drawn, id, expected);
     }
-    let view = grid.view()?;
-    assert_eq!(rt;
-        view.as_str(),
-        "\"日    \"\n\"abcde…\"\n\"      \"\n\"      \"\n"
-    );
+    check_view(
+        &rt,
+        &grid,
+        "\"日    \"\n\"abcde…\"\n\"      \"\n\"      \"\n",
+    )?;
     Ok(())
 }
 
@@ -519,77 +573,60 @@ fn refused_memory_keeps_grids(rt: HostRuntime) {
     let Ok(mut grid) = Grid::new(rt.alloc(), 6, 3) else {
         return;
     };
-    let pair = Pair {
-        id: 1,
-        first: Caption { id: 2, text: "ab" },
-        second: Caption { id: 3, text: "c" },
-    };
-    let drawn = render_pair(&rt, rt.alloc(), &mut grid, &pair);
-    assert_eq!(rt; grid.width(), 6);
-    assert_eq!(rt; grid.height(), 3);
+    let drawn = render_pair(&rt, rt.alloc(), &mut grid, &twins());
+    assert_eq!(rt; (grid.width(), grid.height()), (6, 3));
     if let Ok(drawn) = drawn {
-        assert_eq!(rt; drawn.len(), 3);
+        assert_eq!(rt; drawn.len(), 2);
     }
 }
 
 #[test]
 fn refused_memory_keeps_traces(rt: HostRuntime) {
-    let mut trace: DrawTrace<u8> = DrawTrace::new(rt.alloc());
-    trace.merge_rect(rect(0, 0, 1, 1));
-    let mut other: DrawTrace<u8> = DrawTrace::new(rt.alloc());
-    other.merge_rect(rect(2, 0, 1, 1));
-    let box_of_seven = DrawnRect {
-        rect: rect(2, 0, 1, 1),
-        timestamp: 3,
-    };
-    if other.components.insert(7, box_of_seven).is_err() {
+    let mut trace = trace_of(rt.alloc(), rect(0, 0, 1, 1));
+    let mut other = trace_of(rt.alloc(), rect(2, 0, 1, 1));
+    if other.components.insert(7, small_box()).is_err() {
         return;
     }
     match trace.merge(other) {
-        Ok(()) => assert_eq!(rt; trace.rect, rect(0, 0, 3, 1)),
-        Err(_) => {
-            assert_eq!(rt; trace.rect, rect(0, 0, 1, 1));
-            assert_eq!(rt; trace.components.len(), 0);
-        }
+        Ok(()) => check_rect(&rt, trace.rect, rect(0, 0, 3, 1)),
+        Err(_) => check_trace(&rt, &trace, rect(0, 0, 1, 1), None),
     }
 }
 
-#[test]
-fn a_thousand_boxes(rt: HostRuntime) -> Result<(), Fail> {
-    let alloc = rt.alloc();
-    let mut grid = Grid::new(alloc, 6, 4)?;
+/// A thousand texts of two hundred ids.
+fn long_column(alloc: Global) -> Result<Column, AllocError> {
     let mut captions = Vec::new(alloc);
     for _ in 0..5 {
         for id in 0..200u8 {
             captions.push(Caption { id, text: "a" })?;
         }
     }
-    let column = Column { id: 255, captions };
-    let drawn = render_column(&rt, alloc, &mut grid, &column)?;
+    Ok(Column { id: 255, captions })
+}
+
+#[test]
+fn a_thousand_boxes(rt: HostRuntime) -> Result<(), Fail> {
+    let alloc = rt.alloc();
+    let mut grid = Grid::new(alloc, 6, 4)?;
+    let drawn = render_column(&rt, alloc, &mut grid, &long_column(alloc)?)?;
     assert_eq!(rt; drawn.len(), 201);
-    let last = DrawnRect {
-        rect: rect(0, 807, 1, 1),
-        timestamp: 808,
-    };
-    assert_eq!(rt; drawn.get(&7).copied(), Some(last));
+    check_box(&rt, &drawn, 7, (rect(0, 807, 1, 1), 808));
     Ok(())
 }
 
 #[test]
 fn texts_without_columns_and_texts_made_while_drawing(rt: HostRuntime) -> Result<(), Fail> {
-    let alloc = rt.alloc();
-    let mut viewport = viewport_at(alloc, 0, 0, 6, 1)?;
+    let mut viewport = viewport_at(rt.alloc(), 0, 0, 6, 1)?;
     let tag = Tag {
         id: 1,
         label: "ab",
         is_focused: true,
     };
-    assert_eq!(rt; draw_tag(&rt, &mut viewport, &tag)?, rect(0, 0, 4, 1));
-    assert_eq!(rt;
-        draw_span(&rt, &mut viewport, 5, 0, &Span(""))?,
-        rect(5, 0, 0, 1)
-    );
-    assert_eq!(rt; viewport.into_grid().view()?.as_str(), "\"(ab)  \"\n");
+    let drawn = draw_tag(&rt, &mut viewport, &tag)?;
+    check_rect(&rt, drawn, rect(0, 0, 4, 1));
+    let drawn = draw_span(&rt, &mut viewport, 5, 0, &Span(""))?;
+    check_rect(&rt, drawn, rect(5, 0, 0, 1));
+    check_drawing(&rt, viewport, "\"(ab)  \"\n")?;
     Ok(())
 }
 
@@ -601,12 +638,9 @@ fn check_drawn(
     text: &str,
     width: usize,
 ) -> Result<(), RecordError> {
-    let drawn = rect(0, 1, width, 1);
-    assert_eq!(rt; draw_span(rt, viewport, 0, 1, &Span(text))?, drawn);
-    assert_eq!(rt; draw_text(rt, viewport, 0, 1, &[Span(text)])?, drawn);
-    let line = Line(vec![in alloc; Span(text)]?);
-    assert_eq!(rt; draw_line(rt, viewport, 0, 1, &line)?, drawn);
-    Ok(())
+    let drawn = draw_span(rt, viewport, 0, 1, &Span(text))?;
+    check_rect(rt, drawn, rect(0, 1, width, 1));
+    check_texts(rt, alloc, viewport, &[Span(text)], width)
 }
 
 /// Fills so many columns and rows by each call that does so.
@@ -618,8 +652,8 @@ fn check_filled(
     body: &[&str],
 ) -> Result<(), RecordError> {
     let whole = rect(0, 0, width as usize, height as usize);
-    assert_eq!(rt; viewport.draw_blank(whole)?, whole);
-    assert_eq!(rt; viewport.draw_frame(whole, "Quit", body)?, whole);
+    check_rect(rt, viewport.draw_blank(whole)?, whole);
+    check_rect(rt, viewport.draw_frame(whole, "Quit", body)?, whole);
     Ok(())
 }
 
@@ -627,12 +661,7 @@ fn check_filled(
 fn texts_without_symbols_are_drawn(rt: HostRuntime) -> Result<(), Fail> {
     let alloc = rt.alloc();
     let mut viewport = viewport_at(alloc, 0, 0, 6, 2)?;
-    assert_eq!(rt; draw_text(&rt, &mut viewport, 3, 0, &[])?, rect(3, 0, 0, 1));
-    let line = Line(Vec::new(alloc));
-    assert_eq!(rt;
-        draw_line(&rt, &mut viewport, 3, 0, &line)?,
-        rect(3, 0, 0, 1)
-    );
+    check_texts(&rt, alloc, &mut viewport, &[], 0)?;
     Ok(())
 }
 

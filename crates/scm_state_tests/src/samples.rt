@@ -53,6 +53,25 @@ pub fn file_of(file_mode: FileMode, sections: Vec<Section<'static>>) -> File<'st
     }
 }
 
+/// The file `f` of these two sections.
+pub fn file_of_two(
+    alloc: Global,
+    first: Section<'static>,
+    second: Section<'static>,
+) -> Result<File<'static>, RecordError> {
+    Ok(file_of(DEFAULT, vec![in alloc; first, second]?))
+}
+
+/// The file `f` of a section of these lines of context, and a section of these changed lines.
+pub fn file_with(
+    alloc: Global,
+    texts: &[&'static str],
+    changes: &[Line],
+) -> Result<File<'static>, RecordError> {
+    let context = context(alloc, texts)?;
+    file_of_two(alloc, context, changed(alloc, changes)?)
+}
+
 /// A change of bytes, of which the old ones have a description.
 pub fn binary(is_checked: bool) -> Section<'static> {
     Section::Binary {

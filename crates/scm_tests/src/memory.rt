@@ -3,10 +3,10 @@
 use scm_record::{
     Event, File, FileMode, KeyCode, KeyEvent, KeyEventKind, KeyModifiers, MouseButton, MouseEvent,
     MouseEventKind, RecordError, RecordInput, RecordState, Recorder, Screens, ScriptEdit,
-    ScriptInput, ScriptRead, Section, SelectedContents, SelectionKey, TerminalEvent, TerminalKind,
-    TestingInput, TestingScreenshot,
+    ScriptInput, ScriptRead, Section, SelectedChanges, SelectedContents, SelectionKey,
+    TerminalEvent, TerminalKind, TestingInput, TestingScreenshot,
 };
-use scm_state_tests::samples::{ADDED, DEFAULT, binary, changed, context, file_of};
+use scm_state_tests::samples::{ADDED, DEFAULT, binary, changed, context, file_of, file_with};
 use std::alloc::Global;
 use std::process::Abort;
 use std::test::Fail;
@@ -33,10 +33,14 @@ fn check_edit(rt: &impl Abort, alloc: Global, count: usize) -> Result<(), Fail> 
     Ok(())
 }
 
+/// The reads of a script of one batch.
+fn reads_of(alloc: Global, batch: Vec<Event>) -> Result<Vec<ScriptRead>, RecordError> {
+    Ok(vec![in alloc; ScriptRead::Batch(batch)]?)
+}
+
 /// The batch of a script that has so many events.
 fn check_batch(rt: &impl Abort, alloc: Global, count: usize) -> Result<(), RecordError> {
-    let batch = vec![in alloc; Event::Redraw; count]?;
-    let reads = vec![in alloc; ScriptRead::Batch(batch)]?;
+    let reads = reads_of(alloc, vec![in alloc; Event::Redraw; count]?)?;
     let mut script = ScriptInput::new(alloc, 80, 24, reads, Vec::new(alloc))?;
     assert_eq!(rt; script.next_events()?.len(), count);
     Ok(())
@@ -84,19 +88,33 @@ fn check_side(
     Ok(())
 }
 
-/// Copies and splits a file.
-fn check_copies(rt: &impl Abort, alloc: Global, file: &File<'_>) -> Result<(), RecordError> {
-    assert!(rt; file.try_clone(alloc)? == *file);
-    let sides = file.get_selected_contents(alloc)?;
+/// Copies what both sides of a split have.
+fn check_sides(
+    rt: &impl Abort,
+    alloc: Global,
+    sides: &(SelectedChanges<'_>, SelectedChanges<'_>),
+) -> Result<(), RecordError> {
     check_side(rt, alloc, &sides.0.contents)?;
     check_side(rt, alloc, &sides.1.contents)
+}
+
+/// Copies a file.
+fn check_copy(rt: &impl Abort, alloc: Global, file: &File<'_>) -> Result<(), RecordError> {
+    assert!(rt; file.try_clone(alloc)? == *file);
+    Ok(())
+}
+
+/// Copies and splits a file.
+fn check_copies(rt: &impl Abort, alloc: Global, file: &File<'_>) -> Result<(), RecordError> {
+    check_copy(rt, alloc, file)?;
+    let sides = file.get_selected_contents(alloc)?;
+    check_sides(rt, alloc, &sides)
 }
 
 /// An input that opens the selected file, takes a screenshot and accepts.
 fn shot_input(alloc: Global, shot: TestingScreenshot) -> Result<ScriptInput, RecordError> {
     let batch = vec![in alloc; Event::FocusInner, shot.event(), Event::QuitAccept]?;
-    let reads = vec![in alloc; ScriptRead::Batch(batch)]?;
-    ScriptInput::new(alloc, 24, 8, reads, Vec::new(alloc))
+    ScriptInput::new(alloc, 24, 8, reads_of(alloc, batch)?, Vec::new(alloc))
 }
 
 /// Runs that input over the state.
@@ -115,17 +133,36 @@ fn run_shot(
 /// The first row of the screen, and the beginning of the second.
 const FIRST: &str = "\"[File] [Edit] [Select] [\"\n\"";
 
-/// Runs that input over a state of the file: nothing changes.
-fn check_run(rt: &impl Abort, alloc: Global, file: File<'static>) -> Result<(), RecordError> {
-    let mut state = RecordState::empty(alloc);
-    state.files.push(file)?;
-    let copy = state.try_clone(alloc)?;
+/// Runs that input over the state, and checks the screenshot.
+fn check_shot(
+    rt: &impl Abort,
+    alloc: Global,
+    state: RecordState<'static>,
+) -> Result<RecordState<'static>, RecordError> {
     let mut screens = Screens::new(alloc);
     let shot = screens.place()?;
     let answer = run_shot(rt, alloc, state, &mut screens, shot)?;
-    assert!(rt; answer.files == copy.files);
     assert!(rt; screens.text(shot).starts_with(FIRST));
+    Ok(answer)
+}
+
+/// Runs that input over a state, no file of which changes.
+fn check_run(
+    rt: &impl Abort,
+    alloc: Global,
+    state: RecordState<'static>,
+) -> Result<(), RecordError> {
+    let files = state.files.try_clone(alloc)?;
+    let answer = check_shot(rt, alloc, state)?;
+    assert!(rt; answer.files == files);
     Ok(())
+}
+
+/// A state of the file.
+fn state_of(alloc: Global, file: File<'static>) -> Result<RecordState<'static>, RecordError> {
+    let mut state = RecordState::empty(alloc);
+    state.files.push(file)?;
+    Ok(state)
 }
 
 /// Copies and splits a file of these sections, and runs a script over it.
@@ -136,7 +173,7 @@ fn check_file(
 ) -> Result<(), RecordError> {
     let file = file_of(DEFAULT, sections);
     check_copies(rt, alloc, &file)?;
-    check_run(rt, alloc, file)
+    check_run(rt, alloc, state_of(alloc, file)?)
 }
 
 /// The same of a file of one section.
@@ -165,9 +202,8 @@ fn files_of_one_section_are_copied_split_and_run(rt: HostRuntime) -> Result<(), 
 
 /// A section of each kind but that of modes.
 fn several(alloc: Global) -> Result<Vec<Section<'static>>, RecordError> {
-    let mut sections = Vec::new(alloc);
-    sections.push(context(alloc, &["a\n"])?)?;
-    sections.push(changed(alloc, &[(false, ADDED, "b\n")])?)?;
+    let file = file_with(alloc, &["a\n"], &[(false, ADDED, "b\n")])?;
+    let mut sections = file.sections.into_inner();
     sections.push(binary(false))?;
     Ok(sections)
 }

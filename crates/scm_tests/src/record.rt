@@ -269,16 +269,27 @@ fn check_next(
     Ok(())
 }
 
+/// Checks the outcome of a run, in words, and how many frames it draws.
+fn check_outcome(
+    rt: &impl Abort,
+    alloc: Global,
+    message: Option<&'static str>,
+    input: &mut dyn RecordInput,
+    wanted: (&str, usize),
+) -> Result<(), AllocError> {
+    let mut screens = Screens::new(alloc);
+    let text = run_words(alloc, message, input, &mut screens)?;
+    assert_eq!(rt; (text.as_str(), screens.frames()), wanted);
+    Ok(())
+}
+
 /// Runs a row.
 fn check_row(rt: &impl Abort, alloc: Global, row: Row) -> Result<(), RecordError> {
     let (message, reads, wanted, frames, left, next) = row;
     let mut input = script(alloc, reads)?;
     assert_eq!(rt; input.batches_left(), reads.len());
-    let mut screens = Screens::new(alloc);
-    let text = run_words(alloc, message, &mut input, &mut screens)?;
-    assert_eq!(rt; text.as_str(), wanted);
-    assert_eq!(rt; screens.frames(), frames, "to {text}");
-    assert_eq!(rt; input.batches_left(), left, "to {text}");
+    check_outcome(rt, alloc, message, &mut input, (wanted, frames))?;
+    assert_eq!(rt; input.batches_left(), left, "to {wanted}");
     check_next(rt, alloc, &mut input, next)?;
     Ok(())
 }
@@ -305,6 +316,24 @@ fn long_answer(alloc: Global, len: usize) -> Result<Vec<ScriptEdit>, Fail> {
     Ok(vec![in alloc; ScriptEdit::Answer(answer)]?)
 }
 
+/// That batch, with that answer.
+fn long_input(alloc: Global, len: usize) -> Result<ScriptInput, Fail> {
+    let edits = long_answer(alloc, len)?;
+    Ok(ScriptInput::new(alloc, 80, 24, long_batch(alloc)?, edits)?)
+}
+
+/// Checks how the outcome of a run begins, in words.
+fn check_words(
+    rt: &impl Abort,
+    alloc: Global,
+    input: &mut dyn RecordInput,
+    wanted: &str,
+) -> Result<(), AllocError> {
+    let text = run_words(alloc, HELLO, input, &mut Screens::new(alloc))?;
+    assert!(rt; text.as_str().starts_with(wanted));
+    Ok(())
+}
+
 #[test]
 fn long_scripts_and_messages(rt: HostRuntime) -> Result<(), Fail> {
     let alloc = rt.alloc();
@@ -312,11 +341,20 @@ fn long_scripts_and_messages(rt: HostRuntime) -> Result<(), Fail> {
         (1_000_000, "accepted"),
         (1_000_001, "commit message too long"),
     ] {
-        let edits = long_answer(alloc, len)?;
-        let mut input = ScriptInput::new(alloc, 80, 24, long_batch(alloc)?, edits)?;
-        let text = run_words(alloc, HELLO, &mut input, &mut Screens::new(alloc))?;
-        assert!(rt; text.as_str().starts_with(wanted));
+        let mut input = long_input(alloc, len)?;
+        check_words(&rt, alloc, &mut input, wanted)?;
     }
+    Ok(())
+}
+
+/// Adds a batch of one event so many times.
+fn push_batch(
+    alloc: Global,
+    reads: &mut Vec<ScriptRead>,
+    event: Event,
+    times: usize,
+) -> Result<(), RecordError> {
+    reads.push(ScriptRead::Batch(vec![in alloc; event; times]?))?;
     Ok(())
 }
 
@@ -327,11 +365,34 @@ fn scrolling(
     shot: TestingScreenshot,
 ) -> Result<Vec<ScriptRead>, RecordError> {
     let mut reads = Vec::new(alloc);
-    reads.push(ScriptRead::Batch(vec![in alloc; Event::FocusInner]?))?;
-    reads.push(ScriptRead::Batch(vec![in alloc; Event::ScrollDown; times]?))?;
-    reads.push(ScriptRead::Batch(vec![in alloc; shot.event()]?))?;
-    reads.push(ScriptRead::Batch(vec![in alloc; ACCEPT]?))?;
+    for (event, times) in [
+        (Event::FocusInner, 1),
+        (Event::ScrollDown, times),
+        (shot.event(), 1),
+        (ACCEPT, 1),
+    ] {
+        push_batch(alloc, &mut reads, event, times)?;
+    }
     Ok(reads)
+}
+
+/// Runs those reads on a screen of three columns and rows.
+fn scroll_words(
+    alloc: Global,
+    times: usize,
+    shot: TestingScreenshot,
+    screens: &mut Screens,
+) -> Result<String, RecordError> {
+    let reads = scrolling(alloc, times, shot)?;
+    let mut input = ScriptInput::new(alloc, 3, 3, reads, Vec::new(alloc))?;
+    Ok(run_words(alloc, None, &mut input, screens)?)
+}
+
+/// A place that a store of one place has not.
+fn other_place(alloc: Global) -> Result<TestingScreenshot, RecordError> {
+    let mut others = Screens::new(alloc);
+    let _ = others.place()?;
+    others.place()
 }
 
 #[test]
@@ -339,9 +400,7 @@ fn screenshots_are_kept_at_their_places(rt: HostRuntime) -> Result<(), Fail> {
     let alloc = rt.alloc();
     let mut screens = Screens::new(alloc);
     let first = screens.place()?;
-    let mut others = Screens::new(alloc);
-    let _ = others.place()?;
-    let second = others.place()?;
+    let second = other_place(alloc)?;
     for (times, shot, wanted, text) in [
         (0, first, "accepted 00", "\"[Fi\"\n\"[-]\"\n\"(-)\"\n"),
         (3, first, "accepted 00", "\"[Fi\"\n\"[-]\"\n\"   \"\n"),
@@ -353,11 +412,8 @@ fn screenshots_are_kept_at_their_places(rt: HostRuntime) -> Result<(), Fail> {
             "\"[Fi\"\n\"   \"\n\"   \"\n",
         ),
     ] {
-        let reads = scrolling(alloc, times, shot)?;
-        let mut input = ScriptInput::new(alloc, 3, 3, reads, Vec::new(alloc))?;
-        let outcome = run_words(alloc, None, &mut input, &mut screens)?;
-        assert_eq!(rt; outcome.as_str(), wanted);
-        assert_eq!(rt; screens.text(first), text, "after {times}");
+        let outcome = scroll_words(alloc, times, shot, &mut screens)?;
+        assert_eq!(rt; (outcome.as_str(), screens.text(first)), (wanted, text));
     }
     assert_eq!(rt; screens.frames(), 19);
     Ok(())
@@ -413,8 +469,7 @@ fn an_edit_is_shown_the_first_message(rt: HostRuntime) -> Result<(), Fail> {
         events: VecDeque::from(vec![in alloc; TOGGLE, EDIT, ACCEPT]?),
         asked: String::new(alloc),
     };
-    let text = run_words(alloc, HELLO, &mut input, &mut Screens::new(alloc))?;
-    assert_eq!(rt; text.as_str(), "No more commit messages available");
+    check_words(&rt, alloc, &mut input, "No more commit messages available")?;
     assert_eq!(rt; input.asked.as_str(), "hello");
     assert_eq!(rt; input.batches_left(), 1);
     Ok(())

@@ -5,24 +5,20 @@ use scm_selection::key_lists::{
 use scm_selection::key_set::{KeySet, key_set_of};
 use scm_selection::moves::{inner_key, is_key, keep_kind, next_key, position_of, previous_key};
 use scm_selection::{counts, toggles};
-use scm_state_tests::samples::{ADDED, DEFAULT, changed, context, file_of, owned};
+use scm_state_tests::samples::{ADDED, file_with, owned};
 use scm_types::{Commit, File, FileKey, Items, RecordError, RecordState, SelectionKey, Tristate};
 use std::alloc::Global;
 use std::process::Abort;
 use std::test::Fail;
 
-/// A file with a line of context and a section of two unchecked lines.
-fn sample(alloc: Global) -> Result<File<'static>, RecordError> {
-    let mut sections = Vec::new(alloc);
-    sections.push(context(alloc, &["a\n"])?)?;
-    sections.push(changed(alloc, &[(false, ADDED, "b\n"), (false, ADDED, "c\n")])?)?;
-    Ok(file_of(DEFAULT, sections))
-}
-
-/// That file alone.
+/// A file with a line of context and a section of two unchecked lines, alone.
 fn samples(alloc: Global) -> Result<Items<File<'static>>, RecordError> {
     let mut files = Items::new(alloc);
-    files.push(sample(alloc)?)?;
+    files.push(file_with(
+        alloc,
+        &["a\n"],
+        &[(false, ADDED, "b\n"), (false, ADDED, "c\n")],
+    )?)?;
     Ok(files)
 }
 
@@ -52,16 +48,30 @@ fn check_visible(
     Ok(())
 }
 
+/// Checks a list of keys.
+fn check_list(rt: &impl Abort, keys: Vec<SelectionKey>, expected: &[SelectionKey]) {
+    assert_eq!(rt; keys.as_slice(), expected);
+}
+
 #[test]
 fn lists_of_keys(rt: HostRuntime) -> Result<(), Fail> {
     let alloc = rt.alloc();
     let files = samples(alloc)?;
-    let keys = all_keys(alloc, files.as_slice())?;
-    assert_eq!(rt; keys.as_slice(), sample_keys().as_slice());
-    let keys = section_keys(alloc, files.as_slice())?;
-    assert_eq!(rt; keys.as_slice(), [section_key(0, 1)].as_slice());
-    assert_eq!(rt; first_key(files.as_slice()), file_key(0));
-    assert_eq!(rt; first_key(&[]), SelectionKey::None);
+    let files = files.as_slice();
+    check_list(&rt, all_keys(alloc, files)?, &sample_keys());
+    check_list(&rt, section_keys(alloc, files)?, &[section_key(0, 1)]);
+    for (found, expected) in [
+        (first_key(files), file_key(0)),
+        (first_key(&[]), SelectionKey::None),
+    ] {
+        assert_eq!(rt; found, expected);
+    }
+    Ok(())
+}
+
+#[test]
+fn lists_of_visible_keys(rt: HostRuntime) -> Result<(), Fail> {
+    let alloc = rt.alloc();
     check_visible(&rt, alloc, &[], 1)?;
     check_visible(&rt, alloc, &[section_key(0, 1)], 1)?;
     check_visible(&rt, alloc, &[file_key(0)], 2)?;

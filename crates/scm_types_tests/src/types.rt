@@ -1,5 +1,7 @@
 //! Marks, splits, limits, errors, lists and texts, by the project's values.
-use scm_state_tests::samples::{ADDED, DEFAULT, Line, REMOVED, changed, context, file_of, owned};
+use scm_state_tests::samples::{
+    ADDED, DEFAULT, Line, REMOVED, changed, context, file_of, file_with, owned,
+};
 use scm_types::consts::{DUMP_UI_STATE_FILENAME, ENV_VAR_DEBUG_UI, ENV_VAR_DUMP_UI_STATE};
 use scm_types::helpers::make_binary_description;
 use scm_types::{
@@ -47,10 +49,7 @@ const MIXED: [Line; 4] = [
 
 /// A line of context, and a changed line of each kind.
 fn mixed_file(alloc: Global) -> Result<File<'static>, RecordError> {
-    let mut sections = Vec::new(alloc);
-    sections.push(context(alloc, &["a\n"])?)?;
-    sections.push(changed(alloc, &MIXED)?)?;
-    Ok(file_of(DEFAULT, sections))
+    file_with(alloc, &["a\n"], &MIXED)
 }
 
 /// A removal, and, if asked for, the deletion of the file, both checked.
@@ -176,15 +175,16 @@ fn text_len(contents: &SelectedContents<'_>) -> usize {
     }
 }
 
-/// A file of these lines of context, and these changed lines.
-fn file_with(
+/// Splits the file, whose selected text is to have so many bytes.
+fn check_selected(
+    rt: &impl Abort,
     alloc: Global,
-    texts: &[&'static str],
-    lines: &[Line],
-) -> Result<File<'static>, RecordError> {
-    let context = context(alloc, texts)?;
-    let changes = changed(alloc, lines)?;
-    Ok(file_of(DEFAULT, vec![in alloc; context, changes]?))
+    file: &File<'_>,
+    bytes: usize,
+) -> Result<(), RecordError> {
+    let sides = file.get_selected_contents(alloc)?;
+    assert_eq!(rt; text_len(&sides.0.contents), bytes);
+    Ok(())
 }
 
 /// Copies and splits a file of these lines, whose selected text is to have so many bytes.
@@ -197,9 +197,7 @@ fn check_size(
 ) -> Result<(), RecordError> {
     let file = file_with(alloc, texts, lines)?;
     check_copy(rt, alloc, &file)?;
-    let sides = file.get_selected_contents(alloc)?;
-    assert_eq!(rt; text_len(&sides.0.contents), bytes);
-    Ok(())
+    check_selected(rt, alloc, &file, bytes)
 }
 
 #[test]
@@ -299,13 +297,22 @@ fn check_contents(
     Ok(())
 }
 
+/// Checks that copies of what both sides of a split have equal them.
+fn check_sides(
+    rt: &impl Abort,
+    alloc: Global,
+    sides: &(SelectedChanges<'_>, SelectedChanges<'_>),
+) -> Result<(), RecordError> {
+    check_contents(rt, alloc, &sides.0.contents)?;
+    check_contents(rt, alloc, &sides.1.contents)
+}
+
 #[test]
 fn copies_of_sides_equal_them(rt: HostRuntime) -> Result<(), Fail> {
     let alloc = rt.alloc();
     let file = mixed_file(alloc)?;
     let sides = file.get_selected_contents(alloc)?;
-    check_contents(&rt, alloc, &sides.0.contents)?;
-    check_contents(&rt, alloc, &sides.1.contents)?;
+    check_sides(&rt, alloc, &sides)?;
     Ok(())
 }
 
@@ -461,12 +468,13 @@ fn bytes_are_described(rt: HostRuntime) -> Result<(), Fail> {
     Ok(())
 }
 
-#[test]
-fn lists_are_read_and_changed(rt: HostRuntime) -> Result<(), Fail> {
-    let mut items = Items::new(rt.alloc());
-    for item in [3_u8, 5, 8] {
-        items.push(item)?;
-    }
+/// A list of three numbers.
+fn numbers(alloc: Global) -> Result<Items<u8>, AllocError> {
+    [3_u8, 5, 8].into_iter().collect(alloc)
+}
+
+/// Changes a list of three numbers by each call that lends elements.
+fn change_numbers(rt: &impl Abort, items: &mut Items<u8>) {
     assert_eq!(rt; items.len(), 3);
     items[0] = 4;
     for item in items.as_mut_slice() {
@@ -475,29 +483,51 @@ fn lists_are_read_and_changed(rt: HostRuntime) -> Result<(), Fail> {
     if let Some(item) = items.get_mut(2) {
         *item = 7;
     }
+}
+
+/// Checks the list that is left of those numbers.
+fn check_numbers(rt: &impl Abort, items: &Items<u8>) {
+    assert_eq!(rt; items.len(), 3);
     assert_eq!(rt; items[0], 5);
-    assert_eq!(rt; items.get(1).copied(), Some(4));
-    assert!(rt; items.get(3).is_none());
+    for (index, expected) in [(1, Some(4)), (3, None)] {
+        assert_eq!(rt; items.get(index).copied(), expected);
+    }
+    assert!(rt; items.iter().all(|item| *item > 3));
+}
+
+#[test]
+fn lists_are_read_and_changed(rt: HostRuntime) -> Result<(), Fail> {
+    let mut items = numbers(rt.alloc())?;
+    change_numbers(&rt, &mut items);
+    check_numbers(&rt, &items);
     let list = items.into_inner();
     assert!(rt; list.as_slice() == [5, 4, 7].as_slice());
-    assert!(rt; Items::from(list).iter().all(|item| *item > 3));
+    check_numbers(&rt, &Items::from(list));
     Ok(())
+}
+
+/// A list of the elements of another, in order.
+fn gone_through(alloc: Global, items: Items<u8>) -> Result<Items<u8>, AllocError> {
+    let mut rest = Items::new(alloc);
+    for item in items {
+        rest.push(item)?;
+    }
+    Ok(rest)
 }
 
 #[test]
 fn lists_are_collected_and_gone_through(rt: HostRuntime) -> Result<(), Fail> {
     let alloc = rt.alloc();
-    let mut items: Items<u8> = [3_u8, 5, 8].into_iter().collect(alloc)?;
+    let mut items = numbers(alloc)?;
     for item in &mut items {
         *item ^= 1;
     }
     assert_eq!(rt; items.pop(), Some(9));
-    let mut rest = Items::new(alloc);
-    for item in items {
-        rest.push(item)?;
-    }
+    let mut rest = gone_through(alloc, items)?;
     assert!(rt; rest.as_slice() == [2, 4].as_slice());
-    assert!(rt; rest.pop().is_some() && rest.pop().is_some() && rest.pop().is_none());
+    for expected in [Some(4), Some(2), None] {
+        assert_eq!(rt; rest.pop(), expected);
+    }
     Ok(())
 }
 

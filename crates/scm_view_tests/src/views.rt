@@ -316,16 +316,21 @@ enum Part {
     Changes(&'static [Line]),
 }
 
-/// The sections of these parts.
-fn sections_of(alloc: Global, parts: &[Part]) -> Result<Vec<Section<'static>>, RecordError> {
+/// The section of a part.
+fn section_of(alloc: Global, part: Part) -> Result<Section<'static>, RecordError> {
+    match part {
+        Part::Context(lines) => context(alloc, lines),
+        Part::Changes(lines) => changed(alloc, lines),
+    }
+}
+
+/// A file of these parts, alone.
+fn files_of(alloc: Global, parts: &[Part]) -> Result<Vec<File<'static>>, RecordError> {
     let mut sections = Vec::new(alloc);
     for part in parts {
-        sections.push(match *part {
-            Part::Context(lines) => context(alloc, lines)?,
-            Part::Changes(lines) => changed(alloc, lines)?,
-        })?;
+        sections.push(section_of(alloc, *part)?)?;
     }
-    Ok(sections)
+    Ok(vec![in alloc; file_of(DEFAULT, sections)]?)
 }
 
 /// A line of context, and two changes of it.
@@ -402,29 +407,50 @@ const DOCUMENTS: [Row; 5] = [
     ),
 ];
 
-/// Draws the document of these files alone, and gives the rows of the screen.
-fn document_rows(
-    rt: &impl Abort,
+/// The document of a commit without message, of these files.
+fn commit_view<'a>(
     alloc: Global,
     look: Look,
-    files: &[File<'static>],
-    grid: &mut Grid,
-    y: usize,
-) -> Result<String, RecordError> {
-    let commit = Commit::default();
+    commit: &'a Commit,
+    files: &'a [File<'a>],
+) -> Result<CommitView<'a>, RecordError> {
     let mut file_views = Items::new(alloc);
     for file in files {
         file_views.push(look.file_view(alloc, file)?)?;
     }
-    let view = CommitView {
+    Ok(CommitView {
         commit_message_view: CommitMessageView {
             commit_idx: 0,
-            commit: &commit,
+            commit,
         },
         file_views,
-    };
+    })
+}
+
+/// Draws the document of these files alone, from a row on.
+fn draw_files(
+    rt: &impl Abort,
+    alloc: Global,
+    look: Look,
+    files: &[File<'_>],
+    grid: &mut Grid,
+    y: usize,
+) -> Result<(), RecordError> {
+    let commit = Commit::default();
+    let view = commit_view(alloc, look, &commit, files)?;
     let _ = draw_commit(rt, alloc, grid, y, &view)?;
-    rows_of(alloc, grid)
+    Ok(())
+}
+
+/// Shows the rows of the screen.
+fn check_rows(
+    rt: &impl Abort,
+    alloc: Global,
+    grid: &Grid,
+    wanted: &str,
+) -> Result<(), RecordError> {
+    assert_eq!(rt; rows_of(alloc, grid)?.as_str(), wanted);
+    Ok(())
 }
 
 /// Draws the document of a row.
@@ -437,11 +463,10 @@ fn check_document(rt: &impl Abort, alloc: Global, row: Row) -> Result<(), Record
             None => SelectionKey::None,
         },
     };
-    let files = vec![in alloc; file_of(DEFAULT, sections_of(alloc, parts)?)]?;
+    let files = files_of(alloc, parts)?;
     let mut grid = Grid::new(alloc, width, height)?;
-    let rows = document_rows(rt, alloc, look, files.as_slice(), &mut grid, y)?;
-    assert_eq!(rt; rows.as_str(), wanted, "from row {y}");
-    Ok(())
+    draw_files(rt, alloc, look, files.as_slice(), &mut grid, y)?;
+    check_rows(rt, alloc, &grid, wanted)
 }
 
 #[test]
@@ -465,9 +490,8 @@ fn check_no_files(
         selection: SelectionKey::None,
     };
     let mut grid = Grid::new(alloc, width, height)?;
-    let rows = document_rows(rt, alloc, look, &[], &mut grid, 0)?;
-    assert_eq!(rt; rows.as_str(), wanted, "on {width} columns");
-    Ok(())
+    draw_files(rt, alloc, look, &[], &mut grid, 0)?;
+    check_rows(rt, alloc, &grid, wanted)
 }
 
 #[test]
@@ -505,24 +529,39 @@ fn context_rows(alloc: Global, names: &str) -> Result<String, AllocError> {
     Ok(rows)
 }
 
-/// Draws a section alone: the rows of the screen, and how many rows the section's box has.
-fn section_rows(
+/// Draws a section alone, and gives the number of rows of its box.
+fn drawn_height(
     rt: &impl Abort,
     alloc: Global,
+    grid: &mut Grid,
     index: usize,
     total: usize,
     section: &Section<'static>,
-) -> Result<(String, Option<usize>), RecordError> {
+) -> Result<Option<usize>, RecordError> {
     let look = Look {
         use_unicode: true,
         selection: SelectionKey::None,
     };
     let view = look.section_view(index, total, (1, 1), 1, section);
-    let mut grid = Grid::new(alloc, 24, 8)?;
-    let boxes = draw_section(rt, alloc, &mut grid, &view)?;
+    let boxes = draw_section(rt, alloc, grid, &view)?;
     let key = SelectionKey::Section(section_key(index));
     let drawn = boxes.get(&ComponentId::SelectableItem(key));
-    Ok((rows_of(alloc, &grid)?, drawn.map(|drawn| drawn.rect.height)))
+    Ok(drawn.map(|drawn| drawn.rect.height))
+}
+
+/// Draws a section of context alone, which is to have these rows.
+fn check_section_rows(
+    rt: &impl Abort,
+    alloc: Global,
+    index: usize,
+    total: usize,
+    section: &Section<'static>,
+    names: &str,
+) -> Result<(), RecordError> {
+    let mut grid = Grid::new(alloc, 24, 8)?;
+    let height = drawn_height(rt, alloc, &mut grid, index, total, section)?;
+    assert_eq!(rt; height, Some(names.len()), "section {index} of {total}");
+    check_rows(rt, alloc, &grid, context_rows(alloc, names)?.as_str())
 }
 
 /// Draws a section of so many lines of context alone, which is to have these rows.
@@ -533,18 +572,10 @@ fn check_context(
     index: usize,
     total: usize,
     names: &str,
-) -> Result<(), Fail> {
+) -> Result<(), RecordError> {
     let (texts, _) = TEXTS.split_at(count.min(7));
     let section = context(alloc, texts)?;
-    let (rows, height) = section_rows(rt, alloc, index, total, &section)?;
-    let wanted = context_rows(alloc, names)?;
-    assert_eq!(rt; rows.as_str(), wanted.as_str());
-    assert_eq!(rt;
-        height,
-        Some(names.len()),
-        "{count} lines in section {index} of {total}"
-    );
-    Ok(())
+    check_section_rows(rt, alloc, index, total, &section, names)
 }
 
 #[test]
@@ -566,17 +597,6 @@ fn lines_of_context_are_left_out(rt: HostRuntime) -> Result<(), Fail> {
 }
 
 // ---- headers and boxes
-
-/// Shows the rows of the screen.
-fn check_rows(
-    rt: &impl Abort,
-    alloc: Global,
-    grid: &Grid,
-    wanted: &str,
-) -> Result<(), RecordError> {
-    assert_eq!(rt; rows_of(alloc, grid)?.as_str(), wanted);
-    Ok(())
-}
 
 /// Draws the header of a folded file, on so many columns.
 fn check_header(
