@@ -9,7 +9,6 @@ use scm_cells::{
 use scm_errors::RecordError;
 use std::alloc::Global;
 use std::process::Abort;
-use std::test::Fail;
 
 /// The first four columns of the first two rows.
 const WHOLE: Rect = Rect {
@@ -126,7 +125,7 @@ fn marks_have_a_column(rt: HostRuntime) {
 }
 
 #[test]
-fn spans_of_a_line(rt: HostRuntime) -> Result<(), Fail> {
+fn spans_of_a_line(rt: HostRuntime) -> Result<(), RecordError> {
     let mut spans = Vec::new(rt.alloc());
     push_spans_from_line("a\tb", &mut spans)?;
     let line = Line(spans);
@@ -153,7 +152,7 @@ fn check_spans(
 }
 
 #[test]
-fn spans_of_lines(rt: HostRuntime) -> Result<(), Fail> {
+fn spans_of_lines(rt: HostRuntime) -> Result<(), RecordError> {
     for (line, pieces, columns) in [
         ("", 0, 0),
         ("ab", 1, 2),
@@ -231,7 +230,7 @@ fn check_text(
 }
 
 #[test]
-fn texts_on_a_grid(rt: HostRuntime) -> Result<(), Fail> {
+fn texts_on_a_grid(rt: HostRuntime) -> Result<(), RecordError> {
     let mut grid = Grid::new(rt.alloc(), 6, 1)?;
     for (column, text, low, high, view) in [
         (-1, "日a", 0, 6, "\" a    \"\n"),
@@ -295,7 +294,7 @@ fn repeated(alloc: Global, text: &str, times: usize) -> Result<String, RecordErr
 }
 
 #[test]
-fn empty_small_and_large_values(rt: HostRuntime) -> Result<(), Fail> {
+fn empty_small_and_large_values(rt: HostRuntime) -> Result<(), RecordError> {
     let alloc = rt.alloc();
     for (width, height, bytes) in [(0, 0, 0), (0, 3, 0), (3, 0, 0), (1, 1, 4), (400, 50, 20150)] {
         check_blank(&rt, alloc, width, height, bytes)?;
@@ -315,16 +314,15 @@ fn empty_small_and_large_values(rt: HostRuntime) -> Result<(), Fail> {
 }
 
 #[test]
-fn symbols_under_others(rt: HostRuntime) -> Result<(), Fail> {
+fn symbols_under_others(rt: HostRuntime) -> Result<(), RecordError> {
     let mut grid = Grid::new(rt.alloc(), 6, 1)?;
     put(&rt, &mut grid, 0, 0, "日本語", 0, 6)?;
     put(&rt, &mut grid, 0, 1, "x", 0, 6)?;
-    check_view(&rt, &grid, "\" x本語\"\n")?;
-    Ok(())
+    check_view(&rt, &grid, "\" x本語\"\n")
 }
 
 #[test]
-fn wide_symbols_under_others(rt: HostRuntime) -> Result<(), Fail> {
+fn wide_symbols_under_others(rt: HostRuntime) -> Result<(), RecordError> {
     let mut grid = Grid::new(rt.alloc(), 6, 2)?;
     put(&rt, &mut grid, 1, 0, "日本語", 0, 6)?;
     put(&rt, &mut grid, 1, 0, "日", 1, 6)?;
@@ -338,10 +336,9 @@ fn wide_symbols_under_others(rt: HostRuntime) -> Result<(), Fail> {
 }
 
 #[test]
-fn grids_without_columns_show_nothing(rt: HostRuntime) -> Result<(), Fail> {
+fn grids_without_columns_show_nothing(rt: HostRuntime) -> Result<(), RecordError> {
     let narrow = Grid::new(rt.alloc(), 0, 3)?;
-    check_view(&rt, &narrow, "")?;
-    Ok(())
+    check_view(&rt, &narrow, "")
 }
 
 /// Puts a text over others: it changes the row, or memory is refused and the row is as before.

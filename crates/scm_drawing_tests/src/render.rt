@@ -13,7 +13,6 @@ use scm_errors::RecordError;
 use scm_render::{DrawTrace, DrawnRect, DrawnRects, Viewport, centered_rect, find_target};
 use std::alloc::{AllocError, Global};
 use std::process::Abort;
-use std::test::Fail;
 
 /// The rectangle at a column and a row, with its numbers of columns and rows.
 pub(crate) fn rect(x: isize, y: isize, width: usize, height: usize) -> Rect
@@ -302,7 +301,7 @@ fn check_trace(rt: &impl Abort, trace: &DrawTrace<u8>, rect: Rect, drawn: Option
 }
 
 #[test]
-fn traces(rt: HostRuntime) -> Result<(), Fail> {
+fn traces(rt: HostRuntime) -> Result<(), RecordError> {
     let alloc = rt.alloc();
     check_trace(&rt, &DrawTrace::new(alloc), rect(0, 0, 0, 0), None);
     let mut trace = trace_of(alloc, rect(0, 0, 1, 1));
@@ -332,7 +331,7 @@ fn check_places(rt: &impl Abort, viewport: &Viewport<u8>) {
 }
 
 #[test]
-fn viewports_have_places(rt: HostRuntime) -> Result<(), Fail> {
+fn viewports_have_places(rt: HostRuntime) -> Result<(), RecordError> {
     let viewport = viewport_at(rt.alloc(), 0, 1, 6, 2)?;
     check_places(&rt, &viewport);
     Ok(())
@@ -348,11 +347,10 @@ fn grid_with_text(rt: &impl Abort, alloc: Global) -> Result<Grid, RecordError> {
 }
 
 #[test]
-fn texts(rt: HostRuntime) -> Result<(), Fail> {
+fn texts(rt: HostRuntime) -> Result<(), RecordError> {
     let grid = grid_with_text(&rt, rt.alloc())?;
     assert_eq!(rt; (grid.width(), grid.height()), (6, 2));
-    check_view(&rt, &grid, "\"      \"\n\"  abc…\"\n")?;
-    Ok(())
+    check_view(&rt, &grid, "\"      \"\n\"  abc…\"\n")
 }
 
 /// Blanks the place of a viewport of six columns and two rows at row 1, and draws a caption that begins outside it.
@@ -369,14 +367,13 @@ fn check_caption(
 }
 
 #[test]
-fn captions_over_texts(rt: HostRuntime) -> Result<(), Fail> {
+fn captions_over_texts(rt: HostRuntime) -> Result<(), RecordError> {
     let alloc = rt.alloc();
     let grid = grid_with_text(&rt, alloc)?;
     assert_eq!(rt; (grid.width(), grid.height()), (6, 2));
     let mut viewport: Viewport<u8> = Viewport::new(alloc, grid, rect(0, 1, 6, 2));
     check_caption(&rt, &mut viewport, &Caption { id: 1, text: "a" })?;
-    check_drawing(&rt, viewport, "\"      \"\n\"     …\"\n")?;
-    Ok(())
+    check_drawing(&rt, viewport, "\"      \"\n\"     …\"\n")
 }
 
 /// A viewport at the document's corner, of six columns, of which the mask lets three through.
@@ -402,7 +399,7 @@ fn check_masked(
 }
 
 #[test]
-fn masked_spans(rt: HostRuntime) -> Result<(), Fail> {
+fn masked_spans(rt: HostRuntime) -> Result<(), RecordError> {
     let mut viewport = masked_viewport(&rt, rt.alloc(), 4)?;
     for (x, y, text, width) in [
         (0, 0, "abcdef", 6),
@@ -414,8 +411,7 @@ fn masked_spans(rt: HostRuntime) -> Result<(), Fail> {
         check_rect(&rt, drawn, rect(x, y, width, 1));
     }
     let expected = "\"  cde \"\n\"   本 \"\n\"   本 \"\n\"  日  \"\n";
-    check_masked(&rt, viewport, expected)?;
-    Ok(())
+    check_masked(&rt, viewport, expected)
 }
 
 /// Draws spans as a text on row 0 and as a line on row 1, of so many columns.
@@ -435,13 +431,12 @@ fn check_texts(
 }
 
 #[test]
-fn masked_texts(rt: HostRuntime) -> Result<(), Fail> {
+fn masked_texts(rt: HostRuntime) -> Result<(), RecordError> {
     let alloc = rt.alloc();
     let mut viewport = masked_viewport(&rt, alloc, 2)?;
     let text = [Span("a"), Span("日"), Span("bcd")];
     check_texts(&rt, alloc, &mut viewport, &text, 6)?;
-    check_masked(&rt, viewport, "\"   b… \"\n\"   bc \"\n")?;
-    Ok(())
+    check_masked(&rt, viewport, "\"   b… \"\n\"   bc \"\n")
 }
 
 /// Draws a frame over a screen of so many columns and rows.
@@ -459,7 +454,7 @@ fn check_frame(
 }
 
 #[test]
-fn frames(rt: HostRuntime) -> Result<(), Fail> {
+fn frames(rt: HostRuntime) -> Result<(), RecordError> {
     let alloc = rt.alloc();
     for (width, height, expected) in [
         (10, 2, "\"┌Quit────┐\"\n\"└────────┘\"\n"),
@@ -492,14 +487,13 @@ fn twins() -> Pair {
 }
 
 #[test]
-fn boxes(rt: HostRuntime) -> Result<(), Fail> {
+fn boxes(rt: HostRuntime) -> Result<(), RecordError> {
     let alloc = rt.alloc();
     let mut grid = Grid::new(alloc, 6, 3)?;
     let drawn = render_pair(&rt, alloc, &mut grid, &twins())?;
     check_box(&rt, &drawn, 1, (rect(0, 0, 2, 2), 0));
     check_box(&rt, &drawn, 2, (rect(0, 1, 1, 1), 2));
-    check_view(&rt, &grid, "\"ab    \"\n\"c     \"\n\"      \"\n")?;
-    Ok(())
+    check_view(&rt, &grid, "\"ab    \"\n\"c     \"\n\"      \"\n")
 }
 
 /// A pane over a text, under a mask.
@@ -523,15 +517,14 @@ fn sample_nest() -> Nest {
 }
 
 #[test]
-fn nested_masks(rt: HostRuntime) -> Result<(), Fail> {
+fn nested_masks(rt: HostRuntime) -> Result<(), RecordError> {
     let mut viewport = viewport_at(rt.alloc(), 0, 0, 6, 2)?;
     let outer = columns(0, 5);
     viewport.swap_mask(Some(outer));
     let drawn = draw_nest(&rt, &mut viewport, &sample_nest())?;
     check_rect(&rt, drawn, rect(0, 0, 6, 2));
     assert_eq!(rt; viewport.mask(), outer);
-    check_drawing(&rt, viewport, "\"  cdef\"\n\" vw…  \"\n")?;
-    Ok(())
+    check_drawing(&rt, viewport, "\"  cdef\"\n\" vw…  \"\n")
 }
 
 /// Three texts: of wide symbols, longer than the grid, and without columns.
@@ -548,7 +541,7 @@ fn sample_column(alloc: Global) -> Result<Column, AllocError> {
 }
 
 #[test]
-fn rows_of_captions(rt: HostRuntime) -> Result<(), Fail> {
+fn rows_of_captions(rt: HostRuntime) -> Result<(), RecordError> {
     let alloc = rt.alloc();
     let mut grid = Grid::new(alloc, 6, 4)?;
     let drawn = render_column(&rt, alloc, &mut grid, &sample_column(alloc)?)?;
@@ -564,8 +557,7 @@ fn rows_of_captions(rt: HostRuntime) -> Result<(), Fail> {
         &rt,
         &grid,
         "\"日    \"\n\"abcde…\"\n\"      \"\n\"      \"\n",
-    )?;
-    Ok(())
+    )
 }
 
 #[test]
@@ -605,7 +597,7 @@ fn long_column(alloc: Global) -> Result<Column, AllocError> {
 }
 
 #[test]
-fn a_thousand_boxes(rt: HostRuntime) -> Result<(), Fail> {
+fn a_thousand_boxes(rt: HostRuntime) -> Result<(), RecordError> {
     let alloc = rt.alloc();
     let mut grid = Grid::new(alloc, 6, 4)?;
     let drawn = render_column(&rt, alloc, &mut grid, &long_column(alloc)?)?;
@@ -615,7 +607,7 @@ fn a_thousand_boxes(rt: HostRuntime) -> Result<(), Fail> {
 }
 
 #[test]
-fn texts_without_columns_and_texts_made_while_drawing(rt: HostRuntime) -> Result<(), Fail> {
+fn texts_without_columns_and_texts_made_while_drawing(rt: HostRuntime) -> Result<(), RecordError> {
     let mut viewport = viewport_at(rt.alloc(), 0, 0, 6, 1)?;
     let tag = Tag {
         id: 1,
@@ -626,8 +618,7 @@ fn texts_without_columns_and_texts_made_while_drawing(rt: HostRuntime) -> Result
     check_rect(&rt, drawn, rect(0, 0, 4, 1));
     let drawn = draw_span(&rt, &mut viewport, 5, 0, &Span(""))?;
     check_rect(&rt, drawn, rect(5, 0, 0, 1));
-    check_drawing(&rt, viewport, "\"(ab)  \"\n")?;
-    Ok(())
+    check_drawing(&rt, viewport, "\"(ab)  \"\n")
 }
 
 /// Draws a text of so many columns by each call that takes one.
@@ -658,11 +649,10 @@ fn check_filled(
 }
 
 #[test]
-fn texts_without_symbols_are_drawn(rt: HostRuntime) -> Result<(), Fail> {
+fn texts_without_symbols_are_drawn(rt: HostRuntime) -> Result<(), RecordError> {
     let alloc = rt.alloc();
     let mut viewport = viewport_at(alloc, 0, 0, 6, 2)?;
-    check_texts(&rt, alloc, &mut viewport, &[], 0)?;
-    Ok(())
+    check_texts(&rt, alloc, &mut viewport, &[], 0)
 }
 
 /// A text of one column: a letter under five thousand marks.
@@ -675,14 +665,13 @@ fn long_text(alloc: Global) -> Result<String, AllocError> {
 }
 
 #[test]
-fn texts_of_any_size_are_drawn(rt: HostRuntime) -> Result<(), Fail> {
+fn texts_of_any_size_are_drawn(rt: HostRuntime) -> Result<(), RecordError> {
     let alloc = rt.alloc();
     let mut viewport = viewport_at(alloc, 0, 0, 6, 2)?;
     check_drawn(&rt, alloc, &mut viewport, "", 0)?;
     check_drawn(&rt, alloc, &mut viewport, "abcdefgh", 8)?;
     let long = long_text(alloc)?;
-    check_drawn(&rt, alloc, &mut viewport, long.as_str(), 1)?;
-    Ok(())
+    check_drawn(&rt, alloc, &mut viewport, long.as_str(), 1)
 }
 
 /// Five thousand rows of text.
@@ -695,7 +684,7 @@ fn long_body(alloc: Global) -> Result<Vec<&'static str>, AllocError> {
 }
 
 #[test]
-fn frames_of_any_size_are_drawn(rt: HostRuntime) -> Result<(), Fail> {
+fn frames_of_any_size_are_drawn(rt: HostRuntime) -> Result<(), RecordError> {
     let alloc = rt.alloc();
     let mut viewport = viewport_at(alloc, 0, 0, 6, 2)?;
     let body = long_body(alloc)?;
@@ -707,7 +696,7 @@ fn frames_of_any_size_are_drawn(rt: HostRuntime) -> Result<(), Fail> {
 }
 
 #[test]
-fn components_are_drawn_without_places(rt: HostRuntime) -> Result<(), Fail> {
+fn components_are_drawn_without_places(rt: HostRuntime) -> Result<(), RecordError> {
     let alloc = rt.alloc();
     let mut nowhere = Grid::new(alloc, 0, 0)?;
     let captions = Vec::new(alloc);
@@ -717,7 +706,7 @@ fn components_are_drawn_without_places(rt: HostRuntime) -> Result<(), Fail> {
 }
 
 #[test]
-fn targets(rt: HostRuntime) -> Result<(), Fail> {
+fn targets(rt: HostRuntime) -> Result<(), RecordError> {
     let mut boxes: DrawnRects<Spot> = DrawnRects::new(rt.alloc());
     for (number, rect, timestamp) in [
         (0, rect(0, 0, 9, 9), 4),

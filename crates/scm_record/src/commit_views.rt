@@ -43,11 +43,11 @@ impl<'a> Showing<'a> {
         ensures count { IfOk result (λ views. length views ≡ views_shown self.now.view_mode) }
         ensures err { IfErr result (λ e. e ≡ OutOfMemory) }
     {
-        let first = self.commit_view(alloc, 0)?;
-        let views = match self.view_mode {
-            CommitViewMode::Inline => vec![in alloc; first]?,
-            CommitViewMode::Adjacent => vec![in alloc; first, self.commit_view(alloc, 1)?]?,
-        };
+        let mut views = Vec::new(alloc);
+        views.push(self.commit_view(alloc, 0)?)?;
+        if let CommitViewMode::Adjacent = self.view_mode {
+            views.push(self.commit_view(alloc, 1)?)?;
+        }
         Ok(Items::from(views))
     }
 

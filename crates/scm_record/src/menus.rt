@@ -1,5 +1,5 @@
 //! The selector's menus, and what a click on an item of them stands for.
-ghost use Rattle.std.specs.Prelude.{◌≡◌, IfOk, IfErr};
+ghost use Rattle.std.specs.Prelude.{◌≡◌, ◌++◌, ◌∷◌, [], IfOk, IfErr, OnOk};
 ghost use Rattle.scm_errors.specs.declared.error.RecordError.TheVariants.{OutOfMemory};
 ghost use Rattle.scm_view.specs.Tables.{menus_with};
 ghost use Rattle.scm_record.specs.Menus.{event_of_item, items_in, items_of_menu, menu_of};
@@ -104,6 +104,20 @@ fn menu_of(alloc: Global, menu: usize, label: &'static str) -> Result<Menu<'stat
     })
 }
 
+/// Adds a menu with its items. Menus count from 0.
+fn push_menu(
+    alloc: Global,
+    menus: &mut Vec<Menu<'static>>,
+    menu: usize,
+    label: &'static str,
+) -> Result<(), RecordError>
+    ensures ok { OnOk result (menus.new.items ≡ menus.old.items ++ (menu_of label.now (items_of_menu menu) ∷ [])) }
+    ensures err { IfErr result (λ e. e ≡ OutOfMemory) }
+{
+    menus.push(menu_of(alloc, menu, label)?)?;
+    Ok(())
+}
+
 /// The bar of all menus, of which one may be open.
 pub(crate) fn menu_bar(
     alloc: Global,
@@ -112,12 +126,11 @@ pub(crate) fn menu_bar(
     ensures ok { IfOk result (λ bar. bar ≡ menus_with open_menu) }
     ensures err { IfErr result (λ e. e ≡ OutOfMemory) }
 {
-    let menus = vec![in alloc;
-        menu_of(alloc, 0, "File")?,
-        menu_of(alloc, 1, "Edit")?,
-        menu_of(alloc, 2, "Select")?,
-        menu_of(alloc, 3, "View")?,
-    ]?;
+    let mut menus: Vec<Menu<'static>> = Vec::new(alloc);
+    push_menu(alloc, &mut menus, 0, "File")?;
+    push_menu(alloc, &mut menus, 1, "Edit")?;
+    push_menu(alloc, &mut menus, 2, "Select")?;
+    push_menu(alloc, &mut menus, 3, "View")?;
     Ok(MenuBar {
         menus: Items::from(menus),
         expanded_menu_idx: open_menu,

@@ -1,5 +1,5 @@
 //! What the derives of `serde` read and write: each form of a state in JSON, and forms that are refused.
-use crate::samples::{ADDED, DEFAULT, Line, REMOVED, changed, context, file_of, owned};
+use crate::samples::{ADDED, DEFAULT, Line, REMOVED, changed, commits_of, context, file_of, owned};
 use scm_types::{
     ChangeType, Commit, File, FileMode, Items, OwnedText, RecordError, RecordState, Section,
     SectionChangedLine, Text,
@@ -64,12 +64,11 @@ fn mode_change(is_checked: bool, mode: FileMode) -> Section<'static> {
 
 /// A renamed file with a section of each kind.
 fn renamed_file(alloc: Global) -> Result<File<'static>, RecordError> {
-    let sections = vec![in alloc;
-        context(alloc, &["a\n"])?,
-        changed(alloc, &[(true, ADDED, "b\n")])?,
-        mode_change(false, FileMode::Absent),
-        binary(true, None, Some("x")),
-    ]?;
+    let mut sections: Vec<Section<'static>> = Vec::new(alloc);
+    sections.push(context(alloc, &["a\n"])?)?;
+    sections.push(changed(alloc, &[(true, ADDED, "b\n")])?)?;
+    sections.push(mode_change(false, FileMode::Absent))?;
+    sections.push(binary(true, None, Some("x")))?;
     Ok(File {
         old_path: Some(Text::from("o")),
         path: Text::from("a/日本.txt"),
@@ -88,11 +87,12 @@ const WITH_FILE: &str =
 
 /// A state with two commits and a file without sections.
 fn state_with_file(alloc: Global) -> Result<RecordState<'static>, RecordError> {
-    let message = commit_with(owned(alloc, "m")?);
+    let mut files = Items::new(alloc);
+    files.push(file_of(DEFAULT, Vec::new(alloc)))?;
     Ok(RecordState {
         is_read_only: true,
-        commits: Items::from(vec![in alloc; message, Commit::default()]?),
-        files: Items::from(vec![in alloc; file_of(DEFAULT, Vec::new(alloc))]?),
+        commits: commits_of(alloc, "m")?,
+        files,
     })
 }
 

@@ -5,28 +5,51 @@ use scm_types::{
     Commit, File, FileMode, IsizeExt, RecordError, RecordState, Section, Text, Tristate, UsizeExt,
     make_binary_description,
 };
-use std::alloc::Global;
+use std::alloc::{AllocError, Global};
 use std::process::Abort;
-use std::test::Fail;
 
-/// Copies a text of so many bytes, and what holds it.
-fn check_texts(rt: &impl Abort, alloc: Global, count: usize) -> Result<(), Fail> {
-    let bytes = vec![in alloc; b'a'; count]?;
-    let text = String::from_utf8(bytes)?;
-    let description = make_binary_description(alloc, text.as_str(), 7)?;
-    assert_eq!(rt; description.len(), count.saturating_add(10));
-    let text = Text::from(text);
-    assert!(rt; text.clone()? == text);
-    assert!(rt; text.try_clone(alloc)? == text);
+/// A text of so many bytes.
+fn text_of(alloc: Global, count: usize) -> Result<Text<'static>, AllocError> {
+    let mut text = String::new(alloc);
+    for _ in 0..count {
+        text.push('a')?;
+    }
+    Ok(Text::from(text))
+}
+
+/// Describes bytes by a text and a number of one digit.
+fn check_description(rt: &impl Abort, alloc: Global, text: &str) -> Result<(), RecordError> {
+    let description = make_binary_description(alloc, text, 7)?;
+    assert_eq!(rt; description.len(), text.len().saturating_add(10));
+    Ok(())
+}
+
+/// Copies a text.
+fn check_text(rt: &impl Abort, alloc: Global, text: &Text<'_>) -> Result<(), RecordError> {
+    assert!(rt; text.clone()? == *text);
+    assert!(rt; text.try_clone(alloc)? == *text);
+    Ok(())
+}
+
+/// Copies a commit of a message.
+fn check_commit(rt: &impl Abort, alloc: Global, message: &str) -> Result<(), RecordError> {
     let commit = Commit {
-        message: Some(owned(alloc, text.as_str())?),
+        message: Some(owned(alloc, message)?),
     };
     assert!(rt; commit.try_clone(alloc)? == commit);
     Ok(())
 }
 
+/// Copies a text of so many bytes, and what holds it.
+fn check_texts(rt: &impl Abort, alloc: Global, count: usize) -> Result<(), RecordError> {
+    let text = text_of(alloc, count)?;
+    check_description(rt, alloc, text.as_str())?;
+    check_text(rt, alloc, &text)?;
+    check_commit(rt, alloc, text.as_str())
+}
+
 #[test]
-fn texts_of_any_size_are_copied(rt: HostRuntime) -> Result<(), Fail> {
+fn texts_of_any_size_are_copied(rt: HostRuntime) -> Result<(), RecordError> {
     let alloc = rt.alloc();
     for count in [0, 1, 10_000] {
         check_texts(&rt, alloc, count)?;
@@ -38,15 +61,14 @@ fn texts_of_any_size_are_copied(rt: HostRuntime) -> Result<(), Fail> {
 
 /// A file with a section of each kind, in a state; a part of its marks is checked.
 fn marked_state(alloc: Global) -> Result<RecordState<'static>, RecordError> {
-    let sections = vec![in alloc;
-        context(alloc, &["a\n"])?,
-        changed(alloc, &[(false, ADDED, "b\n"), (true, ADDED, "c\n")])?,
-        Section::FileMode {
-            is_checked: false,
-            mode: DEFAULT,
-        },
-        binary(true),
-    ]?;
+    let mut sections: Vec<Section<'static>> = Vec::new(alloc);
+    sections.push(context(alloc, &["a\n"])?)?;
+    sections.push(changed(alloc, &[(false, ADDED, "b\n"), (true, ADDED, "c\n")])?)?;
+    sections.push(Section::FileMode {
+        is_checked: false,
+        mode: DEFAULT,
+    })?;
+    sections.push(binary(true))?;
     let mut state = RecordState::empty(alloc);
     state.files.push(file_of(DEFAULT, sections))?;
     Ok(state)

@@ -1,6 +1,7 @@
 //! Sample states: lines, sections and files, made from tables.
 use scm_types::{
-    ChangeType, File, FileMode, Items, OwnedText, RecordError, Section, SectionChangedLine, Text,
+    ChangeType, Commit, File, FileMode, Items, OwnedText, RecordError, Section, SectionChangedLine,
+    Text,
 };
 use std::alloc::{AllocError, Global};
 
@@ -53,23 +54,26 @@ pub fn file_of(file_mode: FileMode, sections: Vec<Section<'static>>) -> File<'st
     }
 }
 
-/// The file `f` of these two sections.
-pub fn file_of_two(
-    alloc: Global,
-    first: Section<'static>,
-    second: Section<'static>,
-) -> Result<File<'static>, RecordError> {
-    Ok(file_of(DEFAULT, vec![in alloc; first, second]?))
-}
-
 /// The file `f` of a section of these lines of context, and a section of these changed lines.
 pub fn file_with(
     alloc: Global,
     texts: &[&'static str],
     changes: &[Line],
 ) -> Result<File<'static>, RecordError> {
-    let context = context(alloc, texts)?;
-    file_of_two(alloc, context, changed(alloc, changes)?)
+    let mut sections: Vec<Section<'static>> = Vec::new(alloc);
+    sections.push(context(alloc, texts)?)?;
+    sections.push(changed(alloc, changes)?)?;
+    Ok(file_of(DEFAULT, sections))
+}
+
+/// A commit with the message, and one without.
+pub fn commits_of(alloc: Global, message: &str) -> Result<Items<Commit>, RecordError> {
+    let mut commits = Items::new(alloc);
+    commits.push(Commit {
+        message: Some(owned(alloc, message)?),
+    })?;
+    commits.push(Commit::default())?;
+    Ok(commits)
 }
 
 /// A change of bytes, of which the old ones have a description.

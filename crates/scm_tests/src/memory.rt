@@ -7,9 +7,8 @@ use scm_record::{
     TerminalEvent, TerminalKind, TestingInput, TestingScreenshot,
 };
 use scm_state_tests::samples::{ADDED, DEFAULT, binary, changed, context, file_of, file_with};
-use std::alloc::Global;
+use std::alloc::{AllocError, Global};
 use std::process::Abort;
-use std::test::Fail;
 
 /// Reads of an input of so many events.
 fn check_events_left(rt: &impl Abort, alloc: Global, count: usize) -> Result<(), RecordError> {
@@ -21,12 +20,16 @@ fn check_events_left(rt: &impl Abort, alloc: Global, count: usize) -> Result<(),
 }
 
 /// An answer of so many bytes.
-fn answer_of(alloc: Global, count: usize) -> Result<String, Fail> {
-    Ok(String::from_utf8(vec![in alloc; b'a'; count]?)?)
+pub(crate) fn answer_of(alloc: Global, count: usize) -> Result<String, AllocError> {
+    let mut answer = String::new(alloc);
+    for _ in 0..count {
+        answer.push('a')?;
+    }
+    Ok(answer)
 }
 
 /// An edit that is answered in so many bytes.
-fn check_edit(rt: &impl Abort, alloc: Global, count: usize) -> Result<(), Fail> {
+fn check_edit(rt: &impl Abort, alloc: Global, count: usize) -> Result<(), RecordError> {
     let mut input = TestingInput::new(alloc, 80, 24, Vec::new(alloc))?;
     input.commit_messages.push_back(answer_of(alloc, count)?)?;
     assert_eq!(rt; input.edit_commit_message("")?.len(), count);
@@ -47,7 +50,7 @@ fn check_batch(rt: &impl Abort, alloc: Global, count: usize) -> Result<(), Recor
 }
 
 /// The answer of a script that has so many bytes.
-fn check_answer(rt: &impl Abort, alloc: Global, count: usize) -> Result<(), Fail> {
+fn check_answer(rt: &impl Abort, alloc: Global, count: usize) -> Result<(), RecordError> {
     let edits = vec![in alloc; ScriptEdit::Answer(answer_of(alloc, count)?)]?;
     let mut script = ScriptInput::new(alloc, 80, 24, Vec::new(alloc), edits)?;
     assert_eq!(rt; script.edit_commit_message("")?.len(), count);
@@ -66,7 +69,7 @@ fn check_store(rt: &impl Abort, alloc: Global, count: usize) -> Result<(), Recor
 }
 
 #[test]
-fn inputs_and_stores_of_any_size(rt: HostRuntime) -> Result<(), Fail> {
+fn inputs_and_stores_of_any_size(rt: HostRuntime) -> Result<(), RecordError> {
     let alloc = rt.alloc();
     for count in [0, 1, 10_000] {
         check_events_left(&rt, alloc, count)?;
@@ -186,7 +189,7 @@ fn check_section(
 }
 
 #[test]
-fn files_of_one_section_are_copied_split_and_run(rt: HostRuntime) -> Result<(), Fail> {
+fn files_of_one_section_are_copied_split_and_run(rt: HostRuntime) -> Result<(), RecordError> {
     let alloc = rt.alloc();
     check_file(&rt, alloc, Vec::new(alloc))?;
     check_section(&rt, alloc, context(alloc, &[])?)?;
@@ -196,8 +199,7 @@ fn files_of_one_section_are_copied_split_and_run(rt: HostRuntime) -> Result<(), 
         is_checked: true,
         mode: FileMode::Absent,
     };
-    check_section(&rt, alloc, deletion)?;
-    Ok(())
+    check_section(&rt, alloc, deletion)
 }
 
 /// A section of each kind but that of modes.
@@ -211,16 +213,17 @@ fn several(alloc: Global) -> Result<Vec<Section<'static>>, RecordError> {
 /// A section of ten thousand lines, and one of bytes.
 fn many_lines(alloc: Global) -> Result<Vec<Section<'static>>, RecordError> {
     let lines = vec![in alloc; (true, ADDED, "b\n"); 10_000]?;
-    let many = changed(alloc, lines.as_slice())?;
-    Ok(vec![in alloc; many, binary(true)]?)
+    let mut sections: Vec<Section<'static>> = Vec::new(alloc);
+    sections.push(changed(alloc, lines.as_slice())?)?;
+    sections.push(binary(true))?;
+    Ok(sections)
 }
 
 #[test]
-fn files_of_several_sections_are_copied_split_and_run(rt: HostRuntime) -> Result<(), Fail> {
+fn files_of_several_sections_are_copied_split_and_run(rt: HostRuntime) -> Result<(), RecordError> {
     let alloc = rt.alloc();
     check_file(&rt, alloc, several(alloc)?)?;
-    check_file(&rt, alloc, many_lines(alloc)?)?;
-    Ok(())
+    check_file(&rt, alloc, many_lines(alloc)?)
 }
 
 // ---- calls that take no memory

@@ -1,4 +1,5 @@
 //! The recorder: what a script of the program cannot say.
+use crate::memory::answer_of;
 use scm_record::{
     Commit, Event, File, OwnedText, RecordError, RecordInput, RecordState, Recorder, Screens,
     ScriptEdit, ScriptInput, ScriptRead, Section, TerminalKind, TestingInput, TestingScreenshot,
@@ -7,7 +8,6 @@ use scm_state_tests::samples::{ADDED, DEFAULT, changed, file_of};
 use std::alloc::{AllocError, Global};
 use std::collections::VecDeque;
 use std::process::Abort;
-use std::test::Fail;
 
 /// A commit with the message.
 fn commit(alloc: Global, message: Option<&'static str>) -> Result<Commit, AllocError> {
@@ -295,7 +295,7 @@ fn check_row(rt: &impl Abort, alloc: Global, row: Row) -> Result<(), RecordError
 }
 
 #[test]
-fn a_script_keeps_what_is_left(rt: HostRuntime) -> Result<(), Fail> {
+fn a_script_keeps_what_is_left(rt: HostRuntime) -> Result<(), RecordError> {
     for row in ROWS {
         check_row(&rt, rt.alloc(), row)?;
     }
@@ -311,13 +311,12 @@ fn long_batch(alloc: Global) -> Result<Vec<ScriptRead>, RecordError> {
 }
 
 /// An answer of so many bytes.
-fn long_answer(alloc: Global, len: usize) -> Result<Vec<ScriptEdit>, Fail> {
-    let answer = String::from_utf8(vec![in alloc; b'a'; len]?)?;
-    Ok(vec![in alloc; ScriptEdit::Answer(answer)]?)
+fn long_answer(alloc: Global, len: usize) -> Result<Vec<ScriptEdit>, RecordError> {
+    Ok(vec![in alloc; ScriptEdit::Answer(answer_of(alloc, len)?)]?)
 }
 
 /// That batch, with that answer.
-fn long_input(alloc: Global, len: usize) -> Result<ScriptInput, Fail> {
+fn long_input(alloc: Global, len: usize) -> Result<ScriptInput, RecordError> {
     let edits = long_answer(alloc, len)?;
     Ok(ScriptInput::new(alloc, 80, 24, long_batch(alloc)?, edits)?)
 }
@@ -335,7 +334,7 @@ fn check_words(
 }
 
 #[test]
-fn long_scripts_and_messages(rt: HostRuntime) -> Result<(), Fail> {
+fn long_scripts_and_messages(rt: HostRuntime) -> Result<(), RecordError> {
     let alloc = rt.alloc();
     for (len, wanted) in [
         (1_000_000, "accepted"),
@@ -396,7 +395,7 @@ fn other_place(alloc: Global) -> Result<TestingScreenshot, RecordError> {
 }
 
 #[test]
-fn screenshots_are_kept_at_their_places(rt: HostRuntime) -> Result<(), Fail> {
+fn screenshots_are_kept_at_their_places(rt: HostRuntime) -> Result<(), RecordError> {
     let alloc = rt.alloc();
     let mut screens = Screens::new(alloc);
     let first = screens.place()?;
@@ -463,7 +462,7 @@ impl RecordInput for Noting {
 }
 
 #[test]
-fn an_edit_is_shown_the_first_message(rt: HostRuntime) -> Result<(), Fail> {
+fn an_edit_is_shown_the_first_message(rt: HostRuntime) -> Result<(), RecordError> {
     let alloc = rt.alloc();
     let mut input = Noting {
         events: VecDeque::from(vec![in alloc; TOGGLE, EDIT, ACCEPT]?),
@@ -476,7 +475,7 @@ fn an_edit_is_shown_the_first_message(rt: HostRuntime) -> Result<(), Fail> {
 }
 
 #[test]
-fn a_testing_input_gives_its_events(rt: HostRuntime) -> Result<(), Fail> {
+fn a_testing_input_gives_its_events(rt: HostRuntime) -> Result<(), RecordError> {
     let alloc = rt.alloc();
     let events = vec![in alloc; Event::QuitCancel]?;
     let mut input = TestingInput::new(alloc, 80, 24, events)?;
@@ -490,7 +489,7 @@ fn a_testing_input_gives_its_events(rt: HostRuntime) -> Result<(), Fail> {
 }
 
 #[test]
-fn a_testing_input_gives_its_messages(rt: HostRuntime) -> Result<(), Fail> {
+fn a_testing_input_gives_its_messages(rt: HostRuntime) -> Result<(), RecordError> {
     let alloc = rt.alloc();
     let mut input = TestingInput::new(alloc, 80, 24, Vec::new(alloc))?;
     let kind = TerminalKind::Testing {
@@ -507,7 +506,7 @@ fn a_testing_input_gives_its_messages(rt: HostRuntime) -> Result<(), Fail> {
 }
 
 #[test]
-fn a_store_gives_places(rt: HostRuntime) -> Result<(), Fail> {
+fn a_store_gives_places(rt: HostRuntime) -> Result<(), RecordError> {
     let mut screens = Screens::new(rt.alloc());
     assert_eq!(rt; screens.frames(), 0);
     let first = screens.place()?;

@@ -5,11 +5,10 @@ use scm_selection::key_lists::{
 use scm_selection::key_set::{KeySet, key_set_of};
 use scm_selection::moves::{inner_key, is_key, keep_kind, next_key, position_of, previous_key};
 use scm_selection::{counts, toggles};
-use scm_state_tests::samples::{ADDED, file_with, owned};
-use scm_types::{Commit, File, FileKey, Items, RecordError, RecordState, SelectionKey, Tristate};
+use scm_state_tests::samples::{ADDED, commits_of, file_with};
+use scm_types::{File, FileKey, Items, RecordError, RecordState, SelectionKey, Tristate};
 use std::alloc::Global;
 use std::process::Abort;
-use std::test::Fail;
 
 /// A file with a line of context and a section of two unchecked lines, alone.
 fn samples(alloc: Global) -> Result<Items<File<'static>>, RecordError> {
@@ -38,7 +37,7 @@ fn check_visible(
     alloc: Global,
     unfolded: &[SelectionKey],
     count: usize,
-) -> Result<(), Fail> {
+) -> Result<(), RecordError> {
     let files = samples(alloc)?;
     let keys = visible_keys(alloc, &key_set_of(alloc, unfolded)?, files.as_slice())?;
     assert_eq!(rt; keys.len(), count);
@@ -54,7 +53,7 @@ fn check_list(rt: &impl Abort, keys: Vec<SelectionKey>, expected: &[SelectionKey
 }
 
 #[test]
-fn lists_of_keys(rt: HostRuntime) -> Result<(), Fail> {
+fn lists_of_keys(rt: HostRuntime) -> Result<(), RecordError> {
     let alloc = rt.alloc();
     let files = samples(alloc)?;
     let files = files.as_slice();
@@ -70,7 +69,7 @@ fn lists_of_keys(rt: HostRuntime) -> Result<(), Fail> {
 }
 
 #[test]
-fn lists_of_visible_keys(rt: HostRuntime) -> Result<(), Fail> {
+fn lists_of_visible_keys(rt: HostRuntime) -> Result<(), RecordError> {
     let alloc = rt.alloc();
     check_visible(&rt, alloc, &[], 1)?;
     check_visible(&rt, alloc, &[section_key(0, 1)], 1)?;
@@ -79,7 +78,7 @@ fn lists_of_visible_keys(rt: HostRuntime) -> Result<(), Fail> {
 }
 
 #[test]
-fn sets_of_keys(rt: HostRuntime) -> Result<(), Fail> {
+fn sets_of_keys(rt: HostRuntime) -> Result<(), RecordError> {
     let alloc = rt.alloc();
     let mut set = KeySet::new(alloc);
     set.insert(line_key(0, 1, 0))?;
@@ -113,7 +112,7 @@ fn moves_among_keys(rt: HostRuntime) {
 }
 
 #[test]
-fn keys_of_a_kind(rt: HostRuntime) -> Result<(), Fail> {
+fn keys_of_a_kind(rt: HostRuntime) -> Result<(), RecordError> {
     let keys = sample_keys();
     let [_, _, first, second] = keys;
     let mut lines = keys.to_vec(rt.alloc())?;
@@ -128,7 +127,7 @@ fn first_mark(files: &[File<'_>]) -> Option<Tristate> {
 }
 
 #[test]
-fn toggles_of_keys(rt: HostRuntime) -> Result<(), Fail> {
+fn toggles_of_keys(rt: HostRuntime) -> Result<(), RecordError> {
     let mut files = samples(rt.alloc())?;
     toggles::toggle_key(files.as_mut_slice(), line_key(0, 1, 1));
     assert_eq!(rt; first_mark(files.as_slice()), Some(Tristate::Partial));
@@ -141,14 +140,11 @@ fn toggles_of_keys(rt: HostRuntime) -> Result<(), Fail> {
 }
 
 #[test]
-fn counts_of_a_state(rt: HostRuntime) -> Result<(), Fail> {
+fn counts_of_a_state(rt: HostRuntime) -> Result<(), RecordError> {
     let alloc = rt.alloc();
-    let message = Commit {
-        message: Some(owned(alloc, "m")?),
-    };
     let mut state = RecordState {
         is_read_only: false,
-        commits: Items::from(vec![in alloc; message, Commit::default()]?),
+        commits: commits_of(alloc, "m")?,
         files: samples(alloc)?,
     };
     assert_eq!(rt; counts::message_count(&state), 1);

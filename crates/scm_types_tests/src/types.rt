@@ -122,34 +122,40 @@ fn check_split(
 }
 
 #[test]
-fn files_are_split(rt: HostRuntime) -> Result<(), Fail> {
+fn files_are_split(rt: HostRuntime) -> Result<(), RecordError> {
     let alloc = rt.alloc();
     let first = (DEFAULT, Side::Text("a\nb\nc\n"));
     let second = (DEFAULT, Side::Text("a\nd\ne\n"));
     let mut mixed = mixed_file(alloc)?;
     check_split(&rt, alloc, &mixed, first, second)?;
     mixed.toggle_all();
-    check_split(&rt, alloc, &mixed, second, first)?;
-    Ok(())
+    check_split(&rt, alloc, &mixed, second, first)
 }
 
 #[test]
-fn removals_and_bytes_are_split(rt: HostRuntime) -> Result<(), Fail> {
+fn removals_are_split(rt: HostRuntime) -> Result<(), RecordError> {
     let alloc = rt.alloc();
     let rest = (DEFAULT, Side::Text("x\n"));
-    let emptied = (DEFAULT, Side::Text(""));
-    check_split(&rt, alloc, &removal(alloc, false)?, emptied, rest)?;
-    let deleted = (FileMode::Absent, Side::Unchanged);
-    check_split(&rt, alloc, &removal(alloc, true)?, deleted, rest)?;
-
-    let bytes = (DEFAULT, Side::OldBinary);
-    let tail = (DEFAULT, Side::Text("z\n"));
-    check_split(&rt, alloc, &binary_file(alloc)?, bytes, tail)?;
+    for (is_deleted, selected) in [
+        (false, (DEFAULT, Side::Text(""))),
+        (true, (FileMode::Absent, Side::Unchanged)),
+    ] {
+        let file = removal(alloc, is_deleted)?;
+        check_split(&rt, alloc, &file, selected, rest)?;
+    }
     Ok(())
 }
 
 #[test]
-fn new_files_are_split(rt: HostRuntime) -> Result<(), Fail> {
+fn bytes_are_split(rt: HostRuntime) -> Result<(), RecordError> {
+    let bytes = (DEFAULT, Side::OldBinary);
+    let tail = (DEFAULT, Side::Text("z\n"));
+    let file = binary_file(rt.alloc())?;
+    check_split(&rt, rt.alloc(), &file, bytes, tail)
+}
+
+#[test]
+fn new_files_are_split(rt: HostRuntime) -> Result<(), RecordError> {
     let alloc = rt.alloc();
     let nowhere = (FileMode::Absent, Side::Unchanged);
     let lost = (FileMode::Absent, Side::Text("n\n"));
@@ -201,7 +207,7 @@ fn check_size(
 }
 
 #[test]
-fn files_of_any_size_are_copied_and_split(rt: HostRuntime) -> Result<(), Fail> {
+fn files_of_any_size_are_copied_and_split(rt: HostRuntime) -> Result<(), RecordError> {
     let alloc = rt.alloc();
     let (text, line) = ("a\n", (true, ADDED, "b\n"));
     let mut texts = Vec::new(alloc);
@@ -212,12 +218,11 @@ fn files_of_any_size_are_copied_and_split(rt: HostRuntime) -> Result<(), Fail> {
     }
     check_size(&rt, alloc, &[], &[], 0)?;
     check_size(&rt, alloc, &[text], &[line], 4)?;
-    check_size(&rt, alloc, texts.as_slice(), lines.as_slice(), 40_000)?;
-    Ok(())
+    check_size(&rt, alloc, texts.as_slice(), lines.as_slice(), 40_000)
 }
 
 #[test]
-fn laws_can_be_called(rt: HostRuntime) -> Result<(), Fail> {
+fn laws_can_be_called(rt: HostRuntime) -> Result<(), RecordError> {
     let file = mixed_file(rt.alloc())?;
     laws::toggle_twice(&file);
     laws::toggle_swaps(&file);
@@ -241,7 +246,7 @@ fn new_state(alloc: Global) -> Result<RecordState<'static>, RecordError> {
 }
 
 #[test]
-fn copies_of_a_state_equal_it(rt: HostRuntime) -> Result<(), Fail> {
+fn copies_of_a_state_equal_it(rt: HostRuntime) -> Result<(), RecordError> {
     let state = new_state(rt.alloc())?;
     assert!(rt; state.try_clone(rt.alloc())? == state);
     Ok(())
@@ -254,7 +259,7 @@ fn check_section(rt: &impl Abort, alloc: Global, section: &Section<'_>) -> Resul
 }
 
 #[test]
-fn copies_of_files_equal_them(rt: HostRuntime) -> Result<(), Fail> {
+fn copies_of_files_equal_them(rt: HostRuntime) -> Result<(), RecordError> {
     let alloc = rt.alloc();
     let file = new_file(alloc, &UNCHECKED, false)?;
     check_copy(&rt, alloc, &file)?;
@@ -265,7 +270,7 @@ fn copies_of_files_equal_them(rt: HostRuntime) -> Result<(), Fail> {
 }
 
 #[test]
-fn copies_of_lines_equal_them(rt: HostRuntime) -> Result<(), Fail> {
+fn copies_of_lines_equal_them(rt: HostRuntime) -> Result<(), RecordError> {
     let alloc = rt.alloc();
     let line = SectionChangedLine {
         is_checked: false,
@@ -277,7 +282,7 @@ fn copies_of_lines_equal_them(rt: HostRuntime) -> Result<(), Fail> {
 }
 
 #[test]
-fn copies_of_commits_equal_them(rt: HostRuntime) -> Result<(), Fail> {
+fn copies_of_commits_equal_them(rt: HostRuntime) -> Result<(), RecordError> {
     let alloc = rt.alloc();
     let commit = Commit {
         message: Some(owned(alloc, "m")?),
@@ -308,12 +313,11 @@ fn check_sides(
 }
 
 #[test]
-fn copies_of_sides_equal_them(rt: HostRuntime) -> Result<(), Fail> {
+fn copies_of_sides_equal_them(rt: HostRuntime) -> Result<(), RecordError> {
     let alloc = rt.alloc();
     let file = mixed_file(alloc)?;
     let sides = file.get_selected_contents(alloc)?;
-    check_sides(&rt, alloc, &sides)?;
-    Ok(())
+    check_sides(&rt, alloc, &sides)
 }
 
 /// Sets the marks of the section, and inverts them.
@@ -326,7 +330,7 @@ fn check_marks(rt: &impl Abort, section: &mut Section<'_>) {
 }
 
 #[test]
-fn marks_are_counted_and_written(rt: HostRuntime) -> Result<(), Fail> {
+fn marks_are_counted_and_written(rt: HostRuntime) -> Result<(), RecordError> {
     let alloc = rt.alloc();
     let mut file = mixed_file(alloc)?;
     assert_eq!(rt; file.tristate(), Tristate::Partial);
@@ -341,7 +345,7 @@ fn marks_are_counted_and_written(rt: HostRuntime) -> Result<(), Fail> {
 }
 
 #[test]
-fn three_commits_are_not_accepted(rt: HostRuntime) -> Result<(), Fail> {
+fn three_commits_are_not_accepted(rt: HostRuntime) -> Result<(), RecordError> {
     let mut state = RecordState::empty(rt.alloc());
     for is_accepted in [true, true, true, false] {
         assert_eq!(rt; state.is_accepted(), is_accepted);
@@ -375,7 +379,7 @@ fn check_caused<F: FnOnce(String) -> RecordError>(
 }
 
 #[test]
-fn errors_have_their_texts(rt: HostRuntime) -> Result<(), Fail> {
+fn errors_have_their_texts(rt: HostRuntime) -> Result<(), RecordError> {
     let alloc = rt.alloc();
     check_caused(
         &rt,
@@ -439,7 +443,7 @@ fn modes_are_converted_and_printed(rt: HostRuntime) -> Result<(), Fail> {
 }
 
 #[test]
-fn sizes_are_converted(rt: HostRuntime) -> Result<(), Fail> {
+fn sizes_are_converted(rt: HostRuntime) {
     assert_eq!(rt; 7_usize.unwrap_isize(), 7);
     assert_eq!(rt; 7_isize.unwrap_usize(), 7);
     for (size, nearest) in [(7, 7), (65_535, 65_535), (65_536, 65_535)] {
@@ -452,11 +456,10 @@ fn sizes_are_converted(rt: HostRuntime) -> Result<(), Fail> {
     assert!(rt; ENV_VAR_DUMP_UI_STATE == "SCM_RECORD_DUMP_UI_STATE");
     assert!(rt; DUMP_UI_STATE_FILENAME == "scm_record_ui_state.json");
     assert!(rt; ENV_VAR_DEBUG_UI == "SCM_RECORD_DEBUG_UI");
-    Ok(())
 }
 
 #[test]
-fn bytes_are_described(rt: HostRuntime) -> Result<(), Fail> {
+fn bytes_are_described(rt: HostRuntime) -> Result<(), RecordError> {
     for (hash, size, text) in [
         ("", 0, " (0 bytes)"),
         ("abc123", 42, "abc123 (42 bytes)"),
@@ -496,7 +499,7 @@ fn check_numbers(rt: &impl Abort, items: &Items<u8>) {
 }
 
 #[test]
-fn lists_are_read_and_changed(rt: HostRuntime) -> Result<(), Fail> {
+fn lists_are_read_and_changed(rt: HostRuntime) -> Result<(), RecordError> {
     let mut items = numbers(rt.alloc())?;
     change_numbers(&rt, &mut items);
     check_numbers(&rt, &items);
@@ -516,7 +519,7 @@ fn gone_through(alloc: Global, items: Items<u8>) -> Result<Items<u8>, AllocError
 }
 
 #[test]
-fn lists_are_collected_and_gone_through(rt: HostRuntime) -> Result<(), Fail> {
+fn lists_are_collected_and_gone_through(rt: HostRuntime) -> Result<(), RecordError> {
     let alloc = rt.alloc();
     let mut items = numbers(alloc)?;
     for item in &mut items {
@@ -550,16 +553,15 @@ fn check_text(rt: &impl Abort, alloc: Global, text: Text<'_>) -> Result<(), Reco
 }
 
 #[test]
-fn texts_are_read(rt: HostRuntime) -> Result<(), Fail> {
+fn texts_are_read(rt: HostRuntime) -> Result<(), RecordError> {
     let alloc = rt.alloc();
     check_text(&rt, alloc, Text::from("né"))?;
     check_text(&rt, alloc, Text::from(String::from_str(alloc, "né")?))?;
-    check_text(&rt, alloc, Text::from(CowStr::Borrowed("né")))?;
-    Ok(())
+    check_text(&rt, alloc, Text::from(CowStr::Borrowed("né")))
 }
 
 #[test]
-fn owned_texts_are_read(rt: HostRuntime) -> Result<(), Fail> {
+fn owned_texts_are_read(rt: HostRuntime) -> Result<(), RecordError> {
     let alloc = rt.alloc();
     let text = owned(alloc, "né")?;
     assert!(rt; text.len() == 3 && !text.is_empty());

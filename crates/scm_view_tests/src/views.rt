@@ -18,7 +18,6 @@ use scm_view::{
 };
 use std::alloc::{AllocError, Global};
 use std::process::Abort;
-use std::test::Fail;
 
 // ---- what is drawn is in range
 
@@ -470,7 +469,7 @@ fn check_document(rt: &impl Abort, alloc: Global, row: Row) -> Result<(), Record
 }
 
 #[test]
-fn documents_are_drawn_alone(rt: HostRuntime) -> Result<(), Fail> {
+fn documents_are_drawn_alone(rt: HostRuntime) -> Result<(), RecordError> {
     for row in DOCUMENTS {
         check_document(&rt, rt.alloc(), row)?;
     }
@@ -495,11 +494,10 @@ fn check_no_files(
 }
 
 #[test]
-fn documents_without_files_say_so(rt: HostRuntime) -> Result<(), Fail> {
+fn documents_without_files_say_so(rt: HostRuntime) -> Result<(), RecordError> {
     let alloc = rt.alloc();
     check_no_files(&rt, alloc, 1, 1, "…\n")?;
-    check_no_files(&rt, alloc, 20, 3, "There are no change…\n\n\n")?;
-    Ok(())
+    check_no_files(&rt, alloc, 20, 3, "There are no change…\n\n\n")
 }
 
 // ---- context
@@ -579,7 +577,7 @@ fn check_context(
 }
 
 #[test]
-fn lines_of_context_are_left_out(rt: HostRuntime) -> Result<(), Fail> {
+fn lines_of_context_are_left_out(rt: HostRuntime) -> Result<(), RecordError> {
     let alloc = rt.alloc();
     for (count, first, middle, last, only) in [
         (0, " ", " ", " ", " "),
@@ -627,12 +625,11 @@ fn check_header(
 }
 
 #[test]
-fn headers_are_drawn_alone(rt: HostRuntime) -> Result<(), Fail> {
+fn headers_are_drawn_alone(rt: HostRuntime) -> Result<(), RecordError> {
     let alloc = rt.alloc();
     check_header(&rt, alloc, 13, "( ) 日本語(+)\n")?;
     check_header(&rt, alloc, 12, "( ) 日本…(+)\n")?;
-    check_header(&rt, alloc, 11, "( ) 日 …(+)\n")?;
-    Ok(())
+    check_header(&rt, alloc, 11, "( ) 日 …(+)\n")
 }
 
 /// Draws a box.
@@ -648,7 +645,7 @@ fn check_box(
 }
 
 #[test]
-fn boxes_are_drawn_alone(rt: HostRuntime) -> Result<(), Fail> {
+fn boxes_are_drawn_alone(rt: HostRuntime) -> Result<(), RecordError> {
     use Tristate::{False, Partial, True};
     use TristateIconStyle::{Check, Expand};
     for (use_unicode, is_focused, is_read_only, tristate, icon_style, wanted) in [
