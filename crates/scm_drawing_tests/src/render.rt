@@ -279,13 +279,6 @@ fn centring(rt: HostRuntime) {
     check_rect(&rt, centred, rect(20, 6, 40, 11));
 }
 
-/// A trace of a rectangle.
-fn trace_of(alloc: Global, rect: Rect) -> DrawTrace<u8> {
-    let mut trace = DrawTrace::new(alloc);
-    trace.merge_rect(rect);
-    trace
-}
-
 /// A box of one cell, at column 2.
 fn small_box() -> DrawnRect {
     DrawnRect {
@@ -304,8 +297,10 @@ fn check_trace(rt: &impl Abort, trace: &DrawTrace<u8>, rect: Rect, drawn: Option
 fn traces(rt: HostRuntime) -> Result<(), RecordError> {
     let alloc = rt.alloc();
     check_trace(&rt, &DrawTrace::new(alloc), rect(0, 0, 0, 0), None);
-    let mut trace = trace_of(alloc, rect(0, 0, 1, 1));
-    let mut other = trace_of(alloc, rect(2, 0, 1, 1));
+    let mut trace: DrawTrace<u8> = DrawTrace::new(alloc);
+    trace.merge_rect(rect(0, 0, 1, 1));
+    let mut other: DrawTrace<u8> = DrawTrace::new(alloc);
+    other.merge_rect(rect(2, 0, 1, 1));
     let _ = other.components.insert(7, small_box())?;
     check_trace(&rt, &other, rect(2, 0, 1, 1), Some(small_box()));
     trace.merge(other)?;
@@ -353,26 +348,20 @@ fn texts(rt: HostRuntime) -> Result<(), RecordError> {
     check_view(&rt, &grid, "\"      \"\n\"  abc…\"\n")
 }
 
-/// Blanks the place of a viewport of six columns and two rows at row 1, and draws a caption that begins outside it.
-fn check_caption(
-    rt: &impl Abort,
-    viewport: &mut Viewport<u8>,
-    caption: &Caption,
-) -> Result<(), RecordError> {
-    let whole = rect(0, 1, 6, 2);
-    check_rect(rt, viewport.draw_blank(whole)?, whole);
-    let drawn = draw_caption(rt, viewport, 9, 2, caption)?;
-    check_rect(rt, drawn, rect(5, 2, 5, 1));
-    Ok(())
-}
-
 #[test]
 fn captions_over_texts(rt: HostRuntime) -> Result<(), RecordError> {
     let alloc = rt.alloc();
     let grid = grid_with_text(&rt, alloc)?;
     assert_eq!(rt; (grid.width(), grid.height()), (6, 2));
     let mut viewport: Viewport<u8> = Viewport::new(alloc, grid, rect(0, 1, 6, 2));
-    check_caption(&rt, &mut viewport, &Caption { id: 1, text: "a" })?;
+    let caption = Caption { id: 1, text: "a" };
+    check_rect(
+        &rt,
+        viewport.draw_blank(rect(0, 1, 6, 2))?,
+        rect(0, 1, 6, 2),
+    );
+    let drawn = draw_caption(&rt, &mut viewport, 9, 2, &caption)?;
+    check_rect(&rt, drawn, rect(5, 2, 5, 1));
     check_drawing(&rt, viewport, "\"      \"\n\"     …\"\n")
 }
 
@@ -574,8 +563,10 @@ fn refused_memory_keeps_grids(rt: HostRuntime) {
 
 #[test]
 fn refused_memory_keeps_traces(rt: HostRuntime) {
-    let mut trace = trace_of(rt.alloc(), rect(0, 0, 1, 1));
-    let mut other = trace_of(rt.alloc(), rect(2, 0, 1, 1));
+    let mut trace: DrawTrace<u8> = DrawTrace::new(rt.alloc());
+    trace.merge_rect(rect(0, 0, 1, 1));
+    let mut other: DrawTrace<u8> = DrawTrace::new(rt.alloc());
+    other.merge_rect(rect(2, 0, 1, 1));
     if other.components.insert(7, small_box()).is_err() {
         return;
     }
