@@ -1,7 +1,7 @@
 -- Rows and owners of documents, computed from the definitions.
 use Rattle.std.proofs.Common.{◌≡◌, ℕ, refl, [], ◌∷◌}
 use Rattle.std.specs.Fmt.{digits}
-use Rattle.std.specs.Prelude.{codes, Some, None, Option, List, ◌++◌, encode_utf8_all, true, false, map, replicate}
+use Rattle.std.specs.Prelude.{codes, Some, None, Option, List, ◌++◌, true, false, map, replicate}
 use lib.Utf8.{encode}
 use Rattle.unicode_segmentation.proofs.Computing.{unicode_segmentation}
 use Rattle.unicode_width.proofs.Computing.{unicode_width}
@@ -29,6 +29,7 @@ use Rattle.scm_view.proofs.FilesRows.{files_rows}
 use Rattle.scm_render.specs.Rows.{put_texts, say_texts}
 use Rattle.scm_view.specs.Strips.{row_strip, files_layer, message_strips, files_strips, file_strips, sections_strips, section_strips}
 use Rattle.scm_view.specs.Shown.{Shown, commit_at, commit_view_of, file_views_of, section_views_of, are_all_expanded}
+use Rattle.scm_examples.proofs.Computing.{quoted}
 
 abbrev strips_of : ℕ → ℕ → Document → List (Strip ComponentId)
 strips_of w m d = (files_layer w m 0 d).strips
@@ -36,9 +37,6 @@ strips_of w m d = (files_layer w m 0 d).strips
 -- the rows that strips make of blank ones
 abbrev rows_of : ℕ → List (Strip ComponentId) → List Row
 rows_of w ss = map (λ (s : Strip ComponentId). s.shows (blank_row w)) ss
-
-abbrev quoted : List ℕ → List ℕ
-quoted t = 34 ∷ (encode_utf8_all t ++ (34 ∷ (10 ∷ [])))
 
 -- ---- a line of context and two changed lines, whose section is selected
 

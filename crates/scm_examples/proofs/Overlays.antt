@@ -1,6 +1,6 @@
 -- Menus and dialogs computed from the definitions: what screens show of them, and who owns some of their points.
 use Rattle.std.proofs.Common.{◌≡◌, ℕ, zero, suc, refl, [], ◌∷◌}
-use Rattle.std.specs.Prelude.{codes, Some, None, Option, List, ◌++◌, encode_utf8_all}
+use Rattle.std.specs.Prelude.{codes, Some, None, Option, List, ◌++◌}
 use Rattle.unicode_segmentation.proofs.Computing.{unicode_segmentation}
 use Rattle.unicode_width.proofs.Computing.{unicode_width}
 use lib.Utf8.{encode}
@@ -21,6 +21,7 @@ use Rattle.scm_view.specs.Menus.{headers_strip, items_strips, opened, widest_ite
 use Rattle.scm_view.specs.Dialogs.{ShownDialog, widest_line, dialog_layer}
 use Rattle.scm_view.specs.declared.menu.Menu.{Menu}
 use Rattle.scm_view.specs.Tables.{all_menus, edit_menu, file_menu, help_lines, menus_with, quit_dialog, select_menu, view_menu}
+use Rattle.scm_examples.proofs.Computing.{quoted}
 
 -- ---- the columns of menus
 
@@ -44,9 +45,6 @@ menu_columns = (refl, refl, refl, refl)
 abbrev rows_under : List (Layer ComponentId) → ℕ → ℕ → ℕ → List Row
 rows_under ls w z zero = []
 rows_under ls w z (suc n) = shown_by ls z (blank_row w) ∷ rows_under ls w (suc z) n
-
-abbrev quoted : List ℕ → List ℕ
-quoted t = 34 ∷ (encode_utf8_all t ++ (34 ∷ (10 ∷ [])))
 
 abbrev one_file : QuitDialog
 one_file = record { num_commit_messages = 0; num_changed_files = 1; focused_button = Quit }
