@@ -554,10 +554,15 @@ fn refused_memory_keeps_grids(rt: HostRuntime) {
     let Ok(mut grid) = Grid::new(rt.alloc(), 6, 3) else {
         return;
     };
-    let drawn = render_pair(&rt, rt.alloc(), &mut grid, &twins());
+    let pair = Pair {
+        id: 1,
+        first: Caption { id: 2, text: "ab" },
+        second: Caption { id: 3, text: "c" },
+    };
+    let drawn = render_pair(&rt, rt.alloc(), &mut grid, &pair);
     assert_eq!(rt; (grid.width(), grid.height()), (6, 3));
     if let Ok(drawn) = drawn {
-        assert_eq!(rt; drawn.len(), 2);
+        assert_eq!(rt; drawn.len(), 3);
     }
 }
 
@@ -572,7 +577,10 @@ fn refused_memory_keeps_traces(rt: HostRuntime) {
     }
     match trace.merge(other) {
         Ok(()) => check_rect(&rt, trace.rect, rect(0, 0, 3, 1)),
-        Err(_) => check_trace(&rt, &trace, rect(0, 0, 1, 1), None),
+        Err(_) => {
+            check_rect(&rt, trace.rect, rect(0, 0, 1, 1));
+            assert_eq!(rt; trace.components.len(), 0);
+        }
     }
 }
 
@@ -643,7 +651,11 @@ fn check_filled(
 fn texts_without_symbols_are_drawn(rt: HostRuntime) -> Result<(), RecordError> {
     let alloc = rt.alloc();
     let mut viewport = viewport_at(alloc, 0, 0, 6, 2)?;
-    check_texts(&rt, alloc, &mut viewport, &[], 0)
+    let drawn = draw_text(&rt, &mut viewport, 3, 0, &[])?;
+    check_rect(&rt, drawn, rect(3, 0, 0, 1));
+    let drawn = draw_line(&rt, &mut viewport, 3, 0, &Line(Vec::new(alloc)))?;
+    check_rect(&rt, drawn, rect(3, 0, 0, 1));
+    Ok(())
 }
 
 /// A text of one column: a letter under five thousand marks.

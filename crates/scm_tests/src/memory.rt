@@ -155,9 +155,9 @@ fn check_run(
     alloc: Global,
     state: RecordState<'static>,
 ) -> Result<(), RecordError> {
-    let files = state.files.try_clone(alloc)?;
+    let copy = state.try_clone(alloc)?;
     let answer = check_shot(rt, alloc, state)?;
-    assert!(rt; answer.files == files);
+    assert!(rt; answer.files == copy.files);
     Ok(())
 }
 

@@ -468,7 +468,8 @@ fn an_edit_is_shown_the_first_message(rt: HostRuntime) -> Result<(), RecordError
         events: VecDeque::from(vec![in alloc; TOGGLE, EDIT, ACCEPT]?),
         asked: String::new(alloc),
     };
-    check_words(&rt, alloc, &mut input, "No more commit messages available")?;
+    let text = run_words(alloc, HELLO, &mut input, &mut Screens::new(alloc))?;
+    assert_eq!(rt; text.as_str(), "No more commit messages available");
     assert_eq!(rt; input.asked.as_str(), "hello");
     assert_eq!(rt; input.batches_left(), 1);
     Ok(())
