@@ -84,3 +84,85 @@ pub fn binary(is_checked: bool) -> Section<'static> {
         new_description: None,
     }
 }
+
+/// The deletion of a file, checked.
+pub fn deletion() -> Section<'static> {
+    Section::FileMode {
+        is_checked: true,
+        mode: FileMode::Absent,
+    }
+}
+
+/// What a file holds: little, much, or something of a kind.
+#[derive(Clone, Copy)]
+pub enum Held {
+    /// No section.
+    Nothing,
+    /// A section of context without a line.
+    NoContext,
+    /// A section of changes without a line.
+    NoChanges,
+    /// A checked change of bytes.
+    Bytes,
+    /// The deletion of the file.
+    Deletion,
+    /// A line of context, an added line and a change of bytes, each a section.
+    Several,
+    /// Ten thousand added lines, and a change of bytes.
+    ManyLines,
+}
+
+/// Every kind of what a file may hold.
+pub const HELD: [Held; 7] = [
+    Held::Nothing,
+    Held::NoContext,
+    Held::NoChanges,
+    Held::Bytes,
+    Held::Deletion,
+    Held::Several,
+    Held::ManyLines,
+];
+
+/// A list of this section alone.
+fn one_section(
+    alloc: Global,
+    section: Section<'static>,
+) -> Result<Vec<Section<'static>>, RecordError> {
+    let mut sections: Vec<Section<'static>> = Vec::new(alloc);
+    sections.push(section)?;
+    Ok(sections)
+}
+
+/// A section of each kind but that of modes.
+fn several_sections(alloc: Global) -> Result<Vec<Section<'static>>, RecordError> {
+    let mut sections = one_section(alloc, context(alloc, &["a\n"])?)?;
+    sections.push(changed(alloc, &[(false, ADDED, "b\n")])?)?;
+    sections.push(binary(false))?;
+    Ok(sections)
+}
+
+/// A section of ten thousand lines, and one of bytes.
+fn many_lines(alloc: Global) -> Result<Vec<Section<'static>>, RecordError> {
+    let lines = vec![in alloc; (true, ADDED, "b\n"); 10_000]?;
+    let mut sections = one_section(alloc, changed(alloc, lines.as_slice())?)?;
+    sections.push(binary(true))?;
+    Ok(sections)
+}
+
+/// The sections of what a file holds.
+fn sections_of(alloc: Global, held: Held) -> Result<Vec<Section<'static>>, RecordError> {
+    match held {
+        Held::Nothing => Ok(Vec::new(alloc)),
+        Held::NoContext => one_section(alloc, context(alloc, &[])?),
+        Held::NoChanges => one_section(alloc, changed(alloc, &[])?),
+        Held::Bytes => one_section(alloc, binary(true)),
+        Held::Deletion => one_section(alloc, deletion()),
+        Held::Several => several_sections(alloc),
+        Held::ManyLines => many_lines(alloc),
+    }
+}
+
+/// The file `f`, which holds that.
+pub fn file_holding(alloc: Global, held: Held) -> Result<File<'static>, RecordError> {
+    Ok(file_of(DEFAULT, sections_of(alloc, held)?))
+}

@@ -1,12 +1,12 @@
 //! Memory, of which no contract can say that it is asked for only where it is needed: calls that take it answer with ample
 //! memory, however small or large their arguments are, and the other calls succeed where every request is refused.
 use scm_record::{
-    Event, File, FileMode, KeyCode, KeyEvent, KeyEventKind, KeyModifiers, MouseButton, MouseEvent,
+    Event, File, KeyCode, KeyEvent, KeyEventKind, KeyModifiers, MouseButton, MouseEvent,
     MouseEventKind, RecordError, RecordInput, RecordState, Recorder, Screens, ScriptEdit,
-    ScriptInput, ScriptRead, Section, SelectedChanges, SelectedContents, SelectionKey,
-    TerminalEvent, TerminalKind, TestingInput, TestingScreenshot,
+    ScriptInput, ScriptRead, SelectionKey, TerminalEvent, TerminalKind, TestingInput,
+    TestingScreenshot,
 };
-use scm_state_tests::samples::{ADDED, DEFAULT, binary, changed, context, file_of, file_with};
+use scm_state_tests::samples::{HELD, file_holding};
 use std::alloc::{AllocError, Global};
 use std::process::Abort;
 
@@ -81,39 +81,6 @@ fn inputs_and_stores_of_any_size(rt: HostRuntime) -> Result<(), RecordError> {
     Ok(())
 }
 
-/// Copies what a side has.
-fn check_side(
-    rt: &impl Abort,
-    alloc: Global,
-    contents: &SelectedContents<'_>,
-) -> Result<(), RecordError> {
-    assert!(rt; contents.try_clone(alloc)? == *contents);
-    Ok(())
-}
-
-/// Copies what both sides of a split have.
-fn check_sides(
-    rt: &impl Abort,
-    alloc: Global,
-    sides: &(SelectedChanges<'_>, SelectedChanges<'_>),
-) -> Result<(), RecordError> {
-    check_side(rt, alloc, &sides.0.contents)?;
-    check_side(rt, alloc, &sides.1.contents)
-}
-
-/// Copies a file.
-fn check_copy(rt: &impl Abort, alloc: Global, file: &File<'_>) -> Result<(), RecordError> {
-    assert!(rt; file.try_clone(alloc)? == *file);
-    Ok(())
-}
-
-/// Copies and splits a file.
-fn check_copies(rt: &impl Abort, alloc: Global, file: &File<'_>) -> Result<(), RecordError> {
-    check_copy(rt, alloc, file)?;
-    let sides = file.get_selected_contents(alloc)?;
-    check_sides(rt, alloc, &sides)
-}
-
 /// An input that opens the selected file, takes a screenshot and accepts.
 fn shot_input(alloc: Global, shot: TestingScreenshot) -> Result<ScriptInput, RecordError> {
     let batch = vec![in alloc; Event::FocusInner, shot.event(), Event::QuitAccept]?;
@@ -168,62 +135,14 @@ fn state_of(alloc: Global, file: File<'static>) -> Result<RecordState<'static>, 
     Ok(state)
 }
 
-/// Copies and splits a file of these sections, and runs a script over it.
-fn check_file(
-    rt: &impl Abort,
-    alloc: Global,
-    sections: Vec<Section<'static>>,
-) -> Result<(), RecordError> {
-    let file = file_of(DEFAULT, sections);
-    check_copies(rt, alloc, &file)?;
-    check_run(rt, alloc, state_of(alloc, file)?)
-}
-
-/// The same of a file of one section.
-fn check_section(
-    rt: &impl Abort,
-    alloc: Global,
-    section: Section<'static>,
-) -> Result<(), RecordError> {
-    check_file(rt, alloc, vec![in alloc; section]?)
-}
-
 #[test]
-fn files_of_one_section_are_copied_split_and_run(rt: HostRuntime) -> Result<(), RecordError> {
+fn files_of_any_size_are_run(rt: HostRuntime) -> Result<(), RecordError> {
     let alloc = rt.alloc();
-    check_file(&rt, alloc, Vec::new(alloc))?;
-    check_section(&rt, alloc, context(alloc, &[])?)?;
-    check_section(&rt, alloc, changed(alloc, &[])?)?;
-    check_section(&rt, alloc, binary(true))?;
-    let deletion = Section::FileMode {
-        is_checked: true,
-        mode: FileMode::Absent,
-    };
-    check_section(&rt, alloc, deletion)
-}
-
-/// A section of each kind but that of modes.
-fn several(alloc: Global) -> Result<Vec<Section<'static>>, RecordError> {
-    let file = file_with(alloc, &["a\n"], &[(false, ADDED, "b\n")])?;
-    let mut sections = file.sections.into_inner();
-    sections.push(binary(false))?;
-    Ok(sections)
-}
-
-/// A section of ten thousand lines, and one of bytes.
-fn many_lines(alloc: Global) -> Result<Vec<Section<'static>>, RecordError> {
-    let lines = vec![in alloc; (true, ADDED, "b\n"); 10_000]?;
-    let mut sections: Vec<Section<'static>> = Vec::new(alloc);
-    sections.push(changed(alloc, lines.as_slice())?)?;
-    sections.push(binary(true))?;
-    Ok(sections)
-}
-
-#[test]
-fn files_of_several_sections_are_copied_split_and_run(rt: HostRuntime) -> Result<(), RecordError> {
-    let alloc = rt.alloc();
-    check_file(&rt, alloc, several(alloc)?)?;
-    check_file(&rt, alloc, many_lines(alloc)?)
+    for held in HELD {
+        let file = file_holding(alloc, held)?;
+        check_run(&rt, alloc, state_of(alloc, file)?)?;
+    }
+    Ok(())
 }
 
 // ---- calls that take no memory

@@ -1,6 +1,7 @@
 //! Marks, splits, limits, errors, lists and texts, by the project's values.
 use scm_state_tests::samples::{
-    ADDED, DEFAULT, Line, REMOVED, changed, context, file_of, file_with, owned,
+    ADDED, DEFAULT, HELD, Line, REMOVED, binary, changed, context, deletion, file_holding, file_of,
+    file_with, owned,
 };
 use scm_types::consts::{DUMP_UI_STATE_FILENAME, ENV_VAR_DEBUG_UI, ENV_VAR_DUMP_UI_STATE};
 use scm_types::helpers::make_binary_description;
@@ -57,10 +58,7 @@ fn removal(alloc: Global, is_deleted: bool) -> Result<File<'static>, RecordError
     let mut sections = Vec::new(alloc);
     sections.push(changed(alloc, &[(true, REMOVED, "x\n")])?)?;
     if is_deleted {
-        sections.push(Section::FileMode {
-            is_checked: true,
-            mode: FileMode::Absent,
-        })?;
+        sections.push(deletion())?;
     }
     Ok(file_of(DEFAULT, sections))
 }
@@ -68,11 +66,7 @@ fn removal(alloc: Global, is_deleted: bool) -> Result<File<'static>, RecordError
 /// A checked change of bytes, and a line of context after it.
 fn binary_file(alloc: Global) -> Result<File<'static>, RecordError> {
     let mut sections = Vec::new(alloc);
-    sections.push(Section::Binary {
-        is_checked: true,
-        old_description: Some(Text::from("old")),
-        new_description: None,
-    })?;
+    sections.push(binary(true))?;
     sections.push(context(alloc, &["z\n"])?)?;
     Ok(file_of(DEFAULT, sections))
 }
@@ -312,12 +306,21 @@ fn check_sides(
     check_contents(rt, alloc, &sides.1.contents)
 }
 
+/// Checks that copies of the file, and of what both sides of its split have, equal them.
+fn check_copies(rt: &impl Abort, alloc: Global, file: &File<'_>) -> Result<(), RecordError> {
+    check_copy(rt, alloc, file)?;
+    let sides = file.get_selected_contents(alloc)?;
+    check_sides(rt, alloc, &sides)
+}
+
 #[test]
 fn copies_of_sides_equal_them(rt: HostRuntime) -> Result<(), RecordError> {
     let alloc = rt.alloc();
-    let file = mixed_file(alloc)?;
-    let sides = file.get_selected_contents(alloc)?;
-    check_sides(&rt, alloc, &sides)
+    check_copies(&rt, alloc, &mixed_file(alloc)?)?;
+    for held in HELD {
+        check_copies(&rt, alloc, &file_holding(alloc, held)?)?;
+    }
+    Ok(())
 }
 
 /// Sets the marks of the section, and inverts them.
