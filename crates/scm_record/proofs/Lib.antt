@@ -27,3 +27,5 @@ pub mod ShotLemmas
 pub mod HeadlineLemmas
 -- what stays within the limits
 pub mod AcceptedLemmas
+-- a session that a program drives
+pub mod LiveLemmas

@@ -32,7 +32,7 @@ use Rattle.scm_record.proofs.BatchLemmas.{IsPlaced, reaches-placed, cleared-by-r
 -- ---- screenshots and clicks, in plain frames
 
 -- a plain frame is that of its document
-frame-plain : (kind : TerminalKind) (drawn : Session) → IsInline kind drawn → (scene_of kind drawn).frame ≡ frame_of_document (columns_of kind) (rows_of kind) drawn.scroll (shown_of drawn)
+pub frame-plain : (kind : TerminalKind) (drawn : Session) → IsInline kind drawn → (scene_of kind drawn).frame ≡ frame_of_document (columns_of kind) (rows_of kind) drawn.scroll (shown_of drawn)
 frame-plain kind drawn h = plain-frame (columns_of kind) (rows_of kind) drawn h.view_mode h.wide h.high
 
 inline-shot : (kind : TerminalKind) (drawn : Session) → IsInline kind drawn → (cleared : Bool) → shot_of (scene_of kind drawn) cleared ≡ cond cleared (blank_text kind) (window_text kind drawn)
@@ -49,7 +49,7 @@ pub shots-are-windows : (w0 : World) → ShotsAreWindows (Before w0)
 shots-are-windows w0 drawn w done left shot h plain = ap (kept_at w shot.place) (inline-text w0 h plain)
 
 -- on the screen, and scrolled no further than a session is, a click hits the owner
-hit-on_screen : (scene : Scene) (s row column : ℕ) → row < scene.height → column < scene.width → s ≤ max_scroll → hit scene s row column ≡ scene.frame.owner (s + row) column
+pub hit-on_screen : (scene : Scene) (s row column : ℕ) → row < scene.height → column < scene.width → s ≤ max_scroll → hit scene s row column ≡ scene.frame.owner (s + row) column
 hit-on_screen scene s row column is_row is_column is_low =
     let o = scene.frame.owner (s + row) column in
     ap (λ (b : Bool). cond ((b && nat_lt row scene.height) && nat_le s max_scroll) o None) (lt-ltb column scene.width is_column)

@@ -7,7 +7,7 @@ use Rattle.scm_errors.specs.declared.error.RecordError.{RecordError}
 use Rattle.scm_types.specs.declared.state.RecordState.{RecordState}
 use Rattle.scm_errors.specs.Fault.{fault_of}
 use Rattle.scm_types.specs.Limits.{is_accepted_state}
-use Rattle.scm_cells.specs.Screen.{view_of}
+use Rattle.scm_cells.specs.Screen.{Screen, view_of}
 use Rattle.scm_view.specs.declared.ids.ComponentId.{ComponentId}
 use Rattle.scm_view.specs.declared.commit_view.CommitViewMode.TheVariants.{Inline}
 use Rattle.scm_view.specs.Blanks.{blank_row}
@@ -31,10 +31,13 @@ pub record IsInline (kind : TerminalKind) (drawn : Session) : Type 0 where
   pub wide : 10 ≤ columns_of kind
   pub high : 2 ≤ rows_of kind
 
+-- its window
+abbrev pub window_of : TerminalKind → Session → Screen
+window_of kind drawn = record { width = columns_of kind; rows = window (columns_of kind) (rows_of kind) drawn.scroll (shown_of drawn) }
+
 -- the text of its window
 abbrev pub window_text : TerminalKind → Session → List ℕ
-window_text kind drawn =
-    view_of (record { width = columns_of kind; rows = window (columns_of kind) (rows_of kind) drawn.scroll (shown_of drawn) })
+window_text kind drawn = view_of (window_of kind drawn)
 
 -- the text of a blank screen
 abbrev pub blank_text : TerminalKind → List ℕ

@@ -28,6 +28,12 @@ pub mod Keeping
 pub mod Ending
 -- the headline, of runs
 pub mod Headline
+-- a session that a program drives
+pub mod Live
+-- what a call makes of it
+pub mod Calls
+-- what it keeps of what it drew
+pub mod LiveView
 -- what the parts of a run say of the points that they reach
 pub mod Turn
 -- what the fields of a selector stand for

@@ -91,6 +91,11 @@ with_ensure s = with_pushed s events.EnsureSelectionInViewport
 abbrev pub without_pending : Session → Session
 without_pending s = record s { pending = [] }
 
+-- the events of which at most one is there
+abbrev pub listed : Option Event → List Event
+listed None = []
+listed (Some event) = event ∷ []
+
 abbrev pub with_dialog : Session → Option QuitDialog → Session
 with_dialog s dialog = record s { quit_dialog = dialog }
 

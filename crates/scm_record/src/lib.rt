@@ -8,6 +8,7 @@ mod commit_views;
 mod file_views;
 mod folds;
 mod frame;
+pub mod live;
 mod menus;
 mod pages;
 pub mod recording;
@@ -16,6 +17,7 @@ mod section_views;
 mod selector;
 mod views;
 
+pub use live::{Editing, LiveSession, Turn};
 pub use recording::Recorder;
 pub use scm_cells::{
     Clusters, Grid, Line, Mask, Rect, RectSize, ScreenRect, Span, push_spans_from_line,

@@ -34,7 +34,7 @@ pub(crate) enum Next {
 }
 
 /// The fault of a screenshot to a place that the store lacks.
-fn no_such_place(alloc: Global) -> RecordError
+pub(crate) fn no_such_place(alloc: Global) -> RecordError
     ensures { IsFault no_such_place result }
 {
     match String::from_str(alloc, "no such screenshot place") {
@@ -44,7 +44,7 @@ fn no_such_place(alloc: Global) -> RecordError
 }
 
 /// The fault of a message that is too long.
-fn too_long(alloc: Global) -> RecordError
+pub(crate) fn too_long(alloc: Global) -> RecordError
     ensures { IsFault too_long result }
 {
     match String::from_str(alloc, "commit message too long") {
@@ -54,7 +54,7 @@ fn too_long(alloc: Global) -> RecordError
 }
 
 /// Whether a message is within its limit of 1,000,000 bytes.
-fn is_short(text: &String) -> bool
+pub(crate) fn is_short(text: &String) -> bool
     ensures { result ≡ is_short_text (string_bytes text.now) }
 {
     text.len() <= 1_000_000

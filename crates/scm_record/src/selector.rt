@@ -74,12 +74,12 @@ impl<'state> Model for Selector<'state> {
 }
 
 impl<'state> Selector<'state> {
-    ghost use Rattle.std.specs.Prelude.{◌≡◌, ◌↔◌, ◌<◌, [], IfErr, IfOk, IsTrue, OnOk, length, string_bytes};
+    ghost use Rattle.std.specs.Prelude.{◌≡◌, ◌↔◌, ◌<◌, ◌≤◌, [], IfErr, IfOk, IsTrue, OnOk, length, string_bytes};
     ghost use Rattle.std.specs.Option.{unwrap_or};
     ghost use Rattle.scm_errors.specs.declared.error.RecordError.TheVariants.{OutOfMemory};
     ghost use Rattle.scm_types.specs.Limits.{is_accepted_state};
     ghost use Rattle.scm_record.specs.Frames.{IsShown, Scene};
-    ghost use Rattle.scm_record.specs.Session.{after_frame, after_select, at_key, message_of, shown_of, start, with_ensure, with_message, with_pushed, without_pending};
+    ghost use Rattle.scm_record.specs.Session.{after_frame, after_select, at_key, listed, message_of, shown_of, start, with_ensure, with_message, with_pushed, without_pending};
     ghost use Rattle.scm_record.specs.Step.{change};
 
     /// A session over the state, to which commits without a message are added up to two.
@@ -274,6 +274,22 @@ impl<'state> Selector<'state> {
     {
         let nothing = Vec::new(self.allocator());
         mem::replace(&mut self.pending, nothing)
+    }
+
+    /// Takes the event that is pending, where at most one is.
+    pub(crate) fn take_next(&mut self) -> Option<Event>
+        requires few { length self.old.pending ≤ 1 }
+        ensures taken { listed result ≡ self.old.pending }
+        ensures rest { self.new ≡ without_pending self.old }
+    {
+        self.pending.pop()
+    }
+
+    /// The state, with the marks and messages of now.
+    pub(crate) fn state(&self) -> &RecordState<'state>
+        ensures { result.now ≡ self.now.state }
+    {
+        &self.state
     }
 
     /// Gives the state back.

@@ -16,4 +16,6 @@ mod script;
 mod words;
 
 pub use program::{play, play_with_hints};
+pub use report::accepted_text;
 pub use scm_json::read_state;
+pub use words::read_event;

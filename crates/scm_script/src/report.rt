@@ -56,6 +56,15 @@ pub fn push_accepted(
     Ok(())
 }
 
+/// What the program prints of an accepted state, unless memory is refused.
+pub fn accepted_text(alloc: Global, state: &RecordState<'_>) -> Option<String> {
+    let mut text = String::new(alloc);
+    match push_accepted(&mut text, alloc, state) {
+        Ok(()) => Some(text),
+        Err(_) => None,
+    }
+}
+
 /// Adds the two sides of a file.
 fn push_file(
     text: &mut String,

@@ -37,6 +37,14 @@ pub fn read_word(word: &str) -> Option<Word> {
     })
 }
 
+/// The event that a word stands for, if it is one.
+pub fn read_event(word: &str) -> Option<Event> {
+    match read_word(word) {
+        Some(Word::Event(event)) => Some(event),
+        _ => None,
+    }
+}
+
 /// A number written in digits alone, from 0 to 65535.
 pub fn read_decimal(word: &str) -> Option<u16> {
     if word.bytes().all(|byte| byte.is_ascii_digit()) {

@@ -1,0 +1,6 @@
+use Rattle.scm_c.specs.Stages.{Begins}
+use Rattle.scm_c.proofs.StageLemmas.{opens-at}
+use Rattle.scm_c.proofs.scm_new.Goals as goal
+
+pub returns-in-Ok-clause-begun : goal.returns-in-Ok-clause-begun
+returns-in-Ok-clause-begun c = λ done. opens-at (Begins c.args.json.now c.args.width c.args.height) c.put.new.session.handle.value c.in-Ok.held.value c.put.ensures c.in-Ok.ensures.ok

@@ -1,0 +1,201 @@
+//! What is behind a session that a C program keeps.
+ghost use Rattle.std.specs.Prelude.{◌≡◌, ◌<◌, IfErr, IfOk, IsTrue, false, string_bytes};
+ghost use Rattle.scm_input.specs.declared.inputs.TerminalKind.TheVariants.{Testing};
+ghost use Rattle.scm_c.specs.Stages.{Begins, Presses, Resizes, Says, code_of, stage_after, stage_resized};
+
+use crate::codes;
+use scm_json::read_state;
+use scm_record::{
+    ComponentId, Editing, Event, LiveSession, RecordError, RecordState, TerminalKind, Turn,
+};
+use scm_script::accepted_text;
+use std::alloc::Global;
+use std::mem;
+
+/// Where a session stands.
+#[derive(Drop)]
+pub enum Stage {
+    /// It waits for an event.
+    Waiting(LiveSession<'static>),
+    /// It waits for a message.
+    Editing(Editing<'static>),
+    /// The changes are accepted.
+    Accepted(RecordState<'static>),
+    /// It ended with an error.
+    Ended(RecordError),
+}
+
+/// What is behind a session.
+#[derive(Drop)]
+pub struct Held {
+    /// Where it stands.
+    stage: Stage,
+}
+
+/// Where a session stands after a call.
+fn stage_of(answer: Result<Turn<'static>, RecordError>) -> Stage
+    ensures { result ≡ stage_after answer.entry }
+{
+    match answer {
+        Ok(Turn::Waiting(session)) => Stage::Waiting(session),
+        Ok(Turn::Editing(editing)) => Stage::Editing(editing),
+        Ok(Turn::Accepted(state)) => Stage::Accepted(state),
+        Err(error) => Stage::Ended(error),
+    }
+}
+
+/// Where a session stands on another screen.
+fn resized(answer: Result<LiveSession<'static>, RecordError>) -> Stage
+    ensures { result ≡ stage_resized answer.entry }
+{
+    match answer {
+        Ok(session) => Stage::Waiting(session),
+        Err(error) => Stage::Ended(error),
+    }
+}
+
+/// The screen of this size.
+fn screen(width: u16, height: u16) -> TerminalKind
+    ensures { result ≡ Testing width height }
+{
+    TerminalKind::Testing {
+        width: width as usize,
+        height: height as usize,
+    }
+}
+
+impl Held {
+    /// A session over the state of this JSON form, or the code of a refusal.
+    pub(crate) fn new(alloc: Global, json: &[u8], width: u16, height: u16) -> Result<Box<Held>, u32>
+        ensures ok { IfOk result (λ held. Begins json.now width height held.value.stage) }
+        ensures err { IfErr result (λ code. 0 < code) }
+    {
+        let Ok(text) = str::from_utf8(json) else {
+            return Err(codes::NOT_TEXT);
+        };
+        let state = match read_state(alloc, text) {
+            Ok(Some(state)) => state,
+            Ok(None) => return Err(codes::BAD_STATE),
+            Err(_) => return Err(codes::NO_MEMORY),
+        };
+        if !state.is_accepted() {
+            return Err(codes::NOT_ACCEPTED);
+        }
+        let Ok(session) = LiveSession::new(alloc, screen(width, height), state) else {
+            return Err(codes::NO_MEMORY);
+        };
+        let stage = Stage::Waiting(session);
+        Box::new(alloc, Held { stage }).map_err(|_| codes::NO_MEMORY)
+    }
+
+    /// The code of where it stands.
+    pub(crate) fn stage(&self) -> u32
+        ensures { result ≡ code_of self.now.stage }
+    {
+        match &self.stage {
+            Stage::Waiting(_) => codes::WAITING,
+            Stage::Editing(_) => codes::EDITING,
+            Stage::Accepted(_) => codes::ACCEPTED,
+            Stage::Ended(_) => codes::ENDED,
+        }
+    }
+
+    /// Takes where it stands, and leaves that it has ended.
+    fn take_stage(&mut self) -> Stage
+        ensures { result ≡ self.old.stage }
+    {
+        mem::replace(&mut self.stage, Stage::Ended(RecordError::OutOfMemory))
+    }
+
+    /// Hands in an event, where it waits for one.
+    pub(crate) fn press(&mut self, event: Event) -> bool
+        ensures pressed { IsTrue result → Presses event self.old.stage self.new.stage }
+        ensures kept { result ≡ false → self.new ≡ self.old }
+    {
+        match self.take_stage() {
+            Stage::Waiting(session) => {
+                self.stage = stage_of(session.handle(event));
+                true
+            }
+            other => {
+                self.stage = other;
+                false
+            }
+        }
+    }
+
+    /// Hands in a message, where it waits for one.
+    pub(crate) fn answer(&mut self, text: String) -> bool
+        ensures said { IsTrue result → Says (string_bytes text) self.old.stage self.new.stage }
+        ensures kept { result ≡ false → self.new ≡ self.old }
+    {
+        match self.take_stage() {
+            Stage::Editing(editing) => {
+                self.stage = stage_of(editing.answer(text));
+                true
+            }
+            other => {
+                self.stage = other;
+                false
+            }
+        }
+    }
+
+    /// Goes on to another screen, where it waits for an event.
+    pub(crate) fn resize(&mut self, width: u16, height: u16) -> bool
+        ensures resized { IsTrue result → Resizes (Testing width height) self.old.stage self.new.stage }
+        ensures kept { result ≡ false → self.new ≡ self.old }
+    {
+        match self.take_stage() {
+            Stage::Waiting(session) => {
+                self.stage = resized(session.resize(screen(width, height)));
+                true
+            }
+            other => {
+                self.stage = other;
+                false
+            }
+        }
+    }
+
+    /// What there is to read where it stands: the screen's rows, the message to edit, the accepted state and each file's
+    /// two sides, or the words of the error.
+    pub(crate) fn text(&self, alloc: Global) -> Option<String> {
+        match &self.stage {
+            Stage::Waiting(session) => session.grid().view().ok(),
+            Stage::Editing(editing) => String::from_str(alloc, editing.message()).ok(),
+            Stage::Accepted(state) => accepted_text(alloc, state),
+            Stage::Ended(error) => format!(in alloc; "{error}").ok(),
+        }
+    }
+
+    /// The code of whose a place of the screen is.
+    pub(crate) fn owner(&self, row: u16, column: u16) -> u32 {
+        match &self.stage {
+            Stage::Waiting(session) => owner_code(session.owner(row as usize, column as usize)),
+            _ => codes::NOBODY,
+        }
+    }
+}
+
+/// The code of an owner.
+fn owner_code(owner: Option<ComponentId>) -> u32 {
+    match owner {
+        None => codes::NOBODY,
+        Some(id) => match id {
+            ComponentId::MenuBar | ComponentId::Menu(_) => codes::MENU,
+            ComponentId::MenuItem(_) => codes::MENU_ITEM,
+            ComponentId::CommitEditMessageButton(_) => codes::BUTTON,
+            ComponentId::FileViewHeader(_) => codes::FILE,
+            ComponentId::SelectableItem(_) => codes::ITEM,
+            ComponentId::ToggleBox(_) => codes::MARK,
+            ComponentId::ExpandBox(_) => codes::FOLD,
+            ComponentId::QuitDialog | ComponentId::HelpDialog => codes::DIALOG,
+            ComponentId::QuitDialogButton(_) | ComponentId::HelpDialogQuitButton => codes::BUTTON,
+            ComponentId::App
+            | ComponentId::AppFiles
+            | ComponentId::MenuHeader
+            | ComponentId::CommitMessageView => codes::NOBODY,
+        },
+    }
+}

@@ -1,0 +1,213 @@
+//! A session for C: `scm.h` tells what each function does.
+#![tactic(auto)]
+
+ghost use Rattle.std.specs.Prelude.{◌≡◌, ◌<◌, IfErr, IfOk, IsTrue, None, false, string_bytes};
+ghost use Rattle.scm_input.specs.declared.events.Event.{Event};
+ghost use Rattle.scm_input.specs.declared.events.Event.TheVariants as events;
+ghost use Rattle.scm_input.specs.declared.inputs.TerminalKind.TheVariants.{Testing};
+ghost use Rattle.scm_c.specs.Stages.{Begins, Behind, IsOpenAt, Presses, Resizes, Says, code_behind};
+
+mod codes;
+pub mod handle;
+pub mod held;
+mod loose;
+
+use crate::handle::{Session, put, take};
+use crate::held::Held;
+use scm_record::Event;
+use scm_script::read_event;
+use std::alloc::Global;
+
+/// Begins a session over the state of this JSON form, on a screen of this size. One that was open is closed.
+#[unsafe(no_mangle)]
+pub extern "C" fn scm_new(
+    alloc: Global,
+    session: &mut Session,
+    json: &[u8],
+    width: u16,
+    height: u16,
+) -> u32
+    // what is behind it then, and nothing where it is refused
+    ensures begun { result ≡ 0 → IsOpenAt (Begins json.now width height) session.new.handle.value }
+    ensures refused { 0 < result → session.new.handle.value ≡ None }
+{
+    drop(take(alloc, session));
+    match Held::new(alloc, json, width, height) {
+        Ok(held) => {
+            put(alloc, session, held);
+            codes::DONE
+        }
+        Err(code) => code,
+    }
+}
+
+/// Where a session stands.
+#[unsafe(no_mangle)]
+pub extern "C" fn scm_stage(alloc: Global, session: &mut Session) -> u32
+    ensures code { result ≡ code_behind session.old.handle.value }
+    ensures kept { session.new.handle.value ≡ session.old.handle.value }
+{
+    match take(alloc, session) {
+        Some(held) => {
+            let stage = held.stage();
+            put(alloc, session, held);
+            stage
+        }
+        None => codes::NONE,
+    }
+}
+
+/// Hands in the event of a script's word.
+#[unsafe(no_mangle)]
+pub extern "C" fn scm_press(alloc: Global, session: &mut Session, word: &[u8]) -> u32
+    // an event leads on as the contract of a live session says, and else all stays
+    ensures pressed { result ≡ 0 → (event : Event) × Behind (Presses event) session.old.handle.value session.new.handle.value }
+    ensures kept { 0 < result → session.new.handle.value ≡ session.old.handle.value }
+{
+    let Some(event) = event_of(word) else {
+        return codes::NO_WORD;
+    };
+    match take(alloc, session) {
+        Some(mut held) => {
+            let is_done = held.press(event);
+            put(alloc, session, held);
+            done_or_not_now(is_done)
+        }
+        None => codes::CLOSED,
+    }
+}
+
+/// Hands in a click on a row and column of the screen.
+#[unsafe(no_mangle)]
+pub extern "C" fn scm_click(alloc: Global, session: &mut Session, row: u16, column: u16) -> u32
+    ensures clicked { result ≡ 0 → Behind (Presses (events.Click row column)) session.old.handle.value session.new.handle.value }
+    ensures kept { 0 < result → session.new.handle.value ≡ session.old.handle.value }
+{
+    let click = Event::Click {
+        row: row as usize,
+        column: column as usize,
+    };
+    match take(alloc, session) {
+        Some(mut held) => {
+            let is_done = held.press(click);
+            put(alloc, session, held);
+            done_or_not_now(is_done)
+        }
+        None => codes::CLOSED,
+    }
+}
+
+/// The event of a script's word, if the bytes are one.
+fn event_of(word: &[u8]) -> Option<Event> {
+    match str::from_utf8(word) {
+        Ok(word) => read_event(word),
+        Err(_) => None,
+    }
+}
+
+/// The code of a call that is done, or for which a session doesn't wait.
+fn done_or_not_now(is_done: bool) -> u32
+    ensures done { result ≡ 0 → IsTrue is_done }
+    ensures not_now { 0 < result → is_done ≡ false }
+{
+    if is_done { codes::DONE } else { codes::NOT_NOW }
+}
+
+/// Hands in the message that a session waits for.
+#[unsafe(no_mangle)]
+pub extern "C" fn scm_answer(alloc: Global, session: &mut Session, text: &[u8]) -> u32
+    // the message leads on as the contract of a live session says, and else all stays
+    ensures said { result ≡ 0 → Behind (Says text.now) session.old.handle.value session.new.handle.value }
+    ensures kept { 0 < result → session.new.handle.value ≡ session.old.handle.value }
+{
+    let message = match message_of(alloc, text) {
+        Ok(message) => message,
+        Err(code) => return code,
+    };
+    match take(alloc, session) {
+        Some(mut held) => {
+            let is_done = held.answer(message);
+            put(alloc, session, held);
+            done_or_not_now(is_done)
+        }
+        None => codes::CLOSED,
+    }
+}
+
+/// The bytes as a message, or the code of a refusal.
+fn message_of(alloc: Global, text: &[u8]) -> Result<String, u32>
+    ensures ok { IfOk result (λ message. string_bytes message ≡ text.now) }
+    ensures err { IfErr result (λ code. 0 < code) }
+{
+    if text.len() > 1_000_000 {
+        return Err(codes::TOO_LONG);
+    }
+    match str::from_utf8(text) {
+        Ok(text) => String::from_str(alloc, text).map_err(|_| codes::NO_MEMORY),
+        Err(_) => Err(codes::NOT_TEXT),
+    }
+}
+
+/// Goes on to a screen of another size.
+#[unsafe(no_mangle)]
+pub extern "C" fn scm_resize(alloc: Global, session: &mut Session, width: u16, height: u16) -> u32
+    ensures resized { result ≡ 0 → Behind (Resizes (Testing width height)) session.old.handle.value session.new.handle.value }
+    ensures kept { 0 < result → session.new.handle.value ≡ session.old.handle.value }
+{
+    match take(alloc, session) {
+        Some(mut held) => {
+            let is_done = held.resize(width, height);
+            put(alloc, session, held);
+            done_or_not_now(is_done)
+        }
+        None => codes::CLOSED,
+    }
+}
+
+/// Writes what there is to read, as far as it fits, and answers how many bytes it has.
+#[unsafe(no_mangle)]
+pub extern "C" fn scm_text(alloc: Global, session: &mut Session, out: &mut [u8]) -> usize
+    ensures kept { session.new.handle.value ≡ session.old.handle.value }
+{
+    match take(alloc, session) {
+        Some(held) => {
+            let text = held.text(alloc);
+            put(alloc, session, held);
+            match text {
+                Some(text) => write_text(text.as_bytes(), out),
+                None => 0,
+            }
+        }
+        None => 0,
+    }
+}
+
+/// Writes as many of the bytes as fit, and answers how many there are.
+fn write_text(bytes: &[u8], out: &mut [u8]) -> usize {
+    let fits = bytes.len().min(out.len());
+    out[..fits].copy_from_slice(&bytes[..fits]);
+    bytes.len()
+}
+
+/// Whose a place of the screen is.
+#[unsafe(no_mangle)]
+pub extern "C" fn scm_owner(alloc: Global, session: &mut Session, row: u16, column: u16) -> u32
+    ensures kept { session.new.handle.value ≡ session.old.handle.value }
+{
+    match take(alloc, session) {
+        Some(held) => {
+            let owner = held.owner(row, column);
+            put(alloc, session, held);
+            owner
+        }
+        None => codes::NOBODY,
+    }
+}
+
+/// Closes a session.
+#[unsafe(no_mangle)]
+pub extern "C" fn scm_free(alloc: Global, session: &mut Session)
+    ensures closed { session.new.handle.value ≡ None }
+{
+    drop(take(alloc, session));
+}

@@ -1,0 +1,229 @@
+-- A live session goes by the steps of a run.
+use Rattle.std.proofs.Common.{◌≡◌, ℕ, ◌+◌, ◌<◌, ◌≤◌, Bool, true, false, IsTrue, cond, List, [], ◌∷◌, ◌++◌, length, sym, ap, ◌∙◌, refl, subst, arith}
+use Rattle.std.specs.Prelude.{nat_lt}
+use Rattle.std.proofs.lemmas.Bool.{le-ltb}
+use Rattle.scm_errors.specs.declared.error.RecordError.{RecordError}
+use Rattle.scm_errors.specs.declared.error.RecordError.TheVariants.{OutOfMemory, Cancelled as cancelled}
+use Rattle.scm_errors.specs.Fault.{Cancelled, fault_of}
+use Rattle.scm_types.specs.declared.state.RecordState.{RecordState}
+use Rattle.scm_input.specs.declared.events.Event.{Event}
+use Rattle.scm_input.specs.declared.inputs.TerminalKind.{TerminalKind}
+use Rattle.scm_input.specs.Script.{Read, Batch, Edit, Answer}
+use Rattle.scm_record.specs.declared.selector.Flow.{Flow}
+use Rattle.scm_record.specs.declared.selector.Flow.TheVariants as flows
+use Rattle.scm_record.specs.Session.{Session, IsDrawable, after_frame, start, with_message, without_pending}
+use Rattle.scm_record.specs.declared.frame.DrawnFrame.{DrawnFrame}
+use Rattle.scm_record.specs.Frames.{Frame, HasSize, IsShown, Scene, columns_of, rows_of, scene_of, screen_of}
+use Rattle.scm_record.specs.Uses.{hit, max_scroll, shot_of}
+use Rattle.scm_record.specs.Step.{Change, change}
+use Rattle.scm_record.specs.Run.{Setting, world_in, with_session, Outcome, Goes, Breaks, Point, Before, Drawn, Within, Accepted, no_such_place, too_long, kept_at, edited, outcome_by, resume, batch, Reaches, here, on, world_at}
+use Rattle.scm_record.specs.Turn.{IsFault}
+use Rattle.scm_record.specs.Live.{Live, Asking}
+use Rattle.scm_record.specs.declared.live.Turn.{Turn}
+use Rattle.scm_record.specs.declared.live.Turn.TheVariants.{Waiting, Editing, Accepted as Done}
+use Rattle.scm_record.specs.Calls.{live, waits, asks, Leads, Fails, Handles, Answers, Call, Path, still, press, say, reads_of, edits_of, beginning, IsRight, IsRun}
+use Rattle.scm_record.specs.Headline.{ConfirmsQuit, IsInline, owner_at, window_of}
+use Rattle.scm_record.proofs.ShotLemmas.{frame-plain, hit-on_screen}
+use Rattle.scm_record.proofs.QuitLemmas.{accepted-confirmed}
+use Rattle.scm_record.proofs.KeepingLemmas.{kept-reached}
+use Rattle.scm_types.specs.Limits.{is_accepted_state, is_short_text}
+use Rattle.scm_record.proofs.Budget.{rank}
+use Rattle.scm_record.proofs.StepLemmas.{Pushes, nothing, pushed, leads}
+use Rattle.scm_record.proofs.RunLemmas.{reaches-trans, step-of, stops-fault, stops-memory, stops-after}
+use Rattle.scm_record.proofs.AcceptedLemmas.{change-keeps-drawable}
+
+-- ---- what an event leaves pending
+
+pushes-few : (event : Event) (old new : List Event) → Pushes event old new → old ≡ [] → length new ≤ 1
+pushes-few event old _ nothing e = rw e (omega arith)
+pushes-few event old _ (pushed next below) e = rw e (omega arith)
+
+-- at most one event, where nothing was pending
+pub few-pending : (scene : Scene) (s : Session) (event : Event) → s.pending ≡ [] → length (change scene s event).session.pending ≤ 1
+few-pending scene s event e = pushes-few event s.pending (change scene s event).session.pending (leads scene s event).pushes e
+
+-- the same of the session that the event is known to make
+pub changed-few : (scene : Scene) (s t : Session) (event : Event) (flow : Flow) → change scene s event ≡ record { session = t; flow = flow } → s.pending ≡ [] → length t.pending ≤ 1
+changed-few scene s t event flow is e = subst (λ (c : Change). length c.session.pending ≤ 1) is (few-pending scene s event e)
+
+pub changed-drawable : (scene : Scene) (s t : Session) (event : Event) (flow : Flow) → change scene s event ≡ record { session = t; flow = flow } → IsDrawable s → IsDrawable t
+changed-drawable scene s t event flow is h = subst (λ (c : Change). IsDrawable c.session) is (change-keeps-drawable scene s event h)
+
+abbrev first-of : (d : Event) → List Event → Event
+first-of d [] = d
+first-of d (event ∷ rest) = event
+
+pushes-lower : (event next : Event) (old new : List Event) → Pushes event old new → old ≡ [] → next ∷ [] ≡ new → rank next < rank event
+pushes-lower event next old _ nothing e f =
+    let none : 1 ≡ 0 = ap length (f ∙ e) in
+    omega (arith, none)
+pushes-lower event next old _ (pushed one below) e f =
+    let same : next ≡ one = ap (first-of next) (f ∙ ap (λ (list : List Event). list ++ one ∷ []) e) in
+    rw same (omega (arith, below))
+
+-- of lower rank
+pub falls : (scene : Scene) (s : Session) (event next : Event) → s.pending ≡ [] → next ∷ [] ≡ (change scene s event).session.pending → rank next < rank event
+falls scene s event next e f = pushes-lower event next s.pending (change scene s event).session.pending (leads scene s event).pushes e f
+
+pub changed-falls : (scene : Scene) (s t : Session) (event next : Event) (flow : Flow) → change scene s event ≡ record { session = t; flow = flow } → s.pending ≡ [] → next ∷ [] ≡ t.pending → rank next < rank event
+changed-falls scene s t event next flow is e f = falls scene s event next e (f ∙ ap (λ (c : Change). c.session.pending) (sym is))
+
+-- a frame of what can be drawn can be drawn
+pub drawn-drawable : (t u : Session) → u ≡ without_pending (after_frame t) → IsDrawable t → IsDrawable u
+drawn-drawable t u f h = subst IsDrawable (sym f) (record { accepted = h.accepted; scroll = h.scroll })
+
+no-place : (place : ℕ) → nat_lt place 0 ≡ false
+no-place place = le-ltb place 0 (omega arith)
+
+-- ---- paths
+
+-- what leads later leads
+pub leads-after : (p q : Point) (kind : TerminalKind) (reads : List Read) (edits : List Edit) (turn : Turn) → Reaches p q → Leads q kind reads edits turn → Leads p kind reads edits turn
+leads-after p q kind reads edits (Waiting l) r h = (h.0, h.1, reaches-trans r h.2)
+leads-after p q kind reads edits (Editing a) r h = (h.0, h.1, h.2, reaches-trans r h.3)
+leads-after p q kind reads edits (Done state) r h = (h.0, h.1, h.2, reaches-trans r h.3)
+
+-- and fails
+pub fails-after : (p q : Point) (error : RecordError) → Reaches p q → Fails q error → Fails p error
+fails-after p q error r h = (h.0, stops-after error p q h.0 r h.1)
+
+-- where memory is refused
+pub fails-memory : (p : Point) (error : RecordError) → error ≡ OutOfMemory → Fails p error
+fails-memory p error e = (world_at p, stops-memory error p p (world_at p) (ap fault_of e) here (record { reads = refl; edits = refl; texts = refl; frames = refl }))
+
+module _ (a : Setting) (drawn s t : Session) (frames : ℕ) (event : Event) (flow : Flow) (is : change (scene_of a.kind drawn) s event ≡ record { session = t; flow = flow }) where
+  abbrev P : Point
+  P = Within drawn (world_in a s frames) (event ∷ [])
+
+  -- where it is known what follows
+  follows : (known : Flow) → flow ≡ known → Reaches P (resume drawn [] (outcome_by (scene_of a.kind drawn) (world_in a t frames) known))
+  follows known e =
+      subst (λ (o : Outcome). Reaches P (resume drawn [] o)) (step-of (scene_of a.kind drawn) a s t frames event flow known is e) (on here)
+
+  -- the next frame
+  pub goes : flow ≡ flows.GoOn → Reaches P (Drawn (world_in a (after_frame t) (frames + 1)))
+  goes e = on (on (follows flows.GoOn e))
+
+  -- the end
+  pub ends : flow ≡ flows.Accept → Reaches P (Accepted (world_in a t frames))
+  ends e = follows flows.Accept e
+
+  -- a message is asked for
+  pub edits : (commit : ℕ) → flow ≡ flows.Edit commit → Reaches P (resume drawn [] (edited (world_in a t frames) commit a.edits))
+  edits commit e = follows (flows.Edit commit) e
+
+  -- the user gives up
+  pub gives-up : flow ≡ flows.Cancel → Fails P cancelled
+  gives-up e = (world_in a t frames, stops-fault cancelled Cancelled P (world_in a t frames) (follows flows.Cancel e) refl)
+
+  -- a screenshot without a store
+  pub lacks-place : (place : ℕ) → flow ≡ flows.Shoot place → a.store.texts ≡ [] → (error : RecordError) → IsFault no_such_place error → Fails P error
+  lacks-place place e none error f =
+      let w = world_in a t frames in
+      let lacks : nat_lt place (length w.texts) ≡ false = rw none (no-place place) in
+      let broken : kept_at w place (shot_of (scene_of a.kind drawn) t.cleared) ≡ Breaks no_such_place w = rw lacks refl in
+      (w, stops-fault error no_such_place P w (subst (λ (o : Outcome). Reaches P (resume drawn [] o)) broken (follows (flows.Shoot place) e)) f)
+
+-- a frame has the size of the screen whose scene it shows
+pub shown-sized : (kind : TerminalKind) (drawn : Session) (frame : DrawnFrame) → IsShown (scene_of kind drawn) frame → HasSize kind frame
+shown-sized kind drawn frame h = record { width = h.width; height = h.height }
+
+-- with nothing pending nothing is taken
+pub calm-session : (t u : Session) → [] ≡ t.pending → u ≡ without_pending (after_frame t) → after_frame t ≡ u
+calm-session t u e f = ap (λ (list : List Event). record t { cleared = false; pending = list }) (sym e) ∙ sym f
+
+-- a frame with nothing pending: the session waits
+pub comes-to-wait : (p : Point) (kind : TerminalKind) (reads : List Read) (edits : List Edit) (t u : Session) (frames : ℕ)
+    → [] ≡ t.pending → u ≡ without_pending (after_frame t) → Reaches p (Drawn (world_in (live kind reads edits) (after_frame t) frames)) → Leads p kind reads edits (Waiting (record { session = u; kind = kind }))
+comes-to-wait p kind reads edits t u frames e f r =
+    (frames, refl, subst (λ (x : Session). Reaches p (Drawn (world_in (live kind reads edits) x frames))) (calm-session t u e f) r)
+
+-- a frame with an event pending: it is handled
+pub comes-to-handle : (p : Point) (a : Setting) (t u : Session) (frames : ℕ) (next : Event)
+    → next ∷ [] ≡ t.pending → u ≡ without_pending (after_frame t) → Reaches p (Drawn (world_in a (after_frame t) frames)) → Reaches p (Within (after_frame t) (world_in a u frames) (next ∷ []))
+comes-to-handle p a t u frames next e f r =
+    let w = world_in a (after_frame t) frames in
+    let begun : Reaches p (batch w (next ∷ [])) = subst (λ (list : List Event). Reaches p (batch w list)) (sym e) (on r) in
+    subst (λ (x : Session). Reaches p (Within (after_frame t) (world_in a x frames) (next ∷ []))) (sym f) begun
+
+-- ---- calls
+
+-- an event that is handed in is read
+pub reads-event : (l : Live) (event : Event) (reads : List Read) (edits : List Edit) (frames : ℕ) → l.session.pending ≡ []
+    → Reaches (waits l (Batch (event ∷ []) ∷ reads) edits frames) (Within l.session (world_in (live l.kind reads edits) l.session frames) (event ∷ []))
+reads-event l event reads edits frames e =
+    let p = waits l (Batch (event ∷ []) ∷ reads) edits frames in
+    subst (λ (list : List Event). Reaches p (batch (world_in (live l.kind (Batch (event ∷ []) ∷ reads) edits) l.session frames) list)) e (on here)
+
+module _ (a : Asking) (text : List ℕ) (drawn : Session) (reads : List Read) (edits : List Edit) (frames : ℕ) where
+  abbrev Asked : Point
+  Asked = asks drawn a reads (Answer text ∷ edits) frames
+
+  abbrev said : Session
+  said = with_message a.session a.commit text
+
+  -- a message that is handed in stands in the next frame
+  pub says-message : true ≡ is_short_text text → Reaches Asked (Drawn (world_in (live a.kind reads edits) (after_frame said) (frames + 1)))
+  says-message e =
+      let w = world_in (live a.kind reads edits) a.session frames in
+      let short : Reaches Asked (resume drawn [] (cond true (Goes (with_session w said)) (Breaks too_long w))) = subst (λ (b : Bool). Reaches Asked (resume drawn [] (cond b (Goes (with_session w said)) (Breaks too_long w)))) (sym e) here in
+      on (on short)
+
+  -- the same of the session that is known to say it
+  pub says-drawn : (t : Session) → t ≡ said → true ≡ is_short_text text → Reaches Asked (Drawn (world_in (live a.kind reads edits) (after_frame t) (frames + 1)))
+  says-drawn t e short = subst (λ (s : Session). Reaches Asked (Drawn (world_in (live a.kind reads edits) (after_frame s) (frames + 1)))) (sym e) (says-message short)
+
+  -- one that is too long is a fault
+  pub says-too-long : false ≡ is_short_text text → (error : RecordError) → IsFault too_long error → Fails Asked error
+  says-too-long e error f =
+      let w = world_in (live a.kind reads edits) a.session frames in
+      let long : Reaches Asked (resume drawn [] (cond false (Goes (with_session w said)) (Breaks too_long w))) = subst (λ (b : Bool). Reaches Asked (resume drawn [] (cond b (Goes (with_session w said)) (Breaks too_long w)))) (sym e) here in
+      (w, stops-fault error too_long Asked w long f)
+
+-- ---- any calls
+
+-- from a turn that the steps lead to they lead to the next one
+handles-on : (p : Point) (kind : TerminalKind) (l : Live) (event : Event) (turn : Turn) (reads : List Read) (edits : List Edit)
+    → Handles l event turn → Leads p kind (Batch (event ∷ []) ∷ reads) edits (Waiting l) → Leads p kind reads edits turn
+handles-on p kind l event turn reads edits g h =
+    let q = waits l (Batch (event ∷ []) ∷ reads) edits h.0 in
+    leads-after p q kind reads edits turn h.2 (subst (λ (k : TerminalKind). Leads q k reads edits turn) h.1 (g reads edits h.0))
+
+answers-on : (p : Point) (kind : TerminalKind) (a : Asking) (text : List ℕ) (turn : Turn) (reads : List Read) (edits : List Edit)
+    → Answers a text turn → Leads p kind reads (Answer text ∷ edits) (Editing a) → Leads p kind reads edits turn
+answers-on p kind a text turn reads edits g h =
+    let q = asks h.0 a reads (Answer text ∷ edits) h.1 in
+    leads-after p q kind reads edits turn h.3 (subst (λ (k : TerminalKind). Leads q k reads edits turn) h.2 (g h.0 reads edits h.1))
+
+path-leads : (reads : List Read) (edits : List Edit) (p : Point) (kind : TerminalKind) {turn last : Turn} {calls : List Call}
+    → Path turn calls last → Leads p kind (reads_of calls ++ reads) (edits_of calls ++ edits) turn → Leads p kind reads edits last
+path-leads reads edits p kind still h = h
+path-leads reads edits p kind (press {l = l} {event = event} {turn = turn} {calls = calls} g path) h =
+    path-leads reads edits p kind path (handles-on p kind l event turn (reads_of calls ++ reads) (edits_of calls ++ edits) g h)
+path-leads reads edits p kind (say {a = a} {text = text} {turn = turn} {calls = calls} g path) h =
+    path-leads reads edits p kind path (answers-on p kind a text turn (reads_of calls ++ reads) (edits_of calls ++ edits) g h)
+
+is-right : (given : RecordState) (kind : TerminalKind) (calls : List Call) (turn : Turn) → IsTrue (is_accepted_state given) → Leads (beginning given kind calls [] []) kind [] [] turn → IsRight (beginning given kind calls [] []) given turn
+is-right given kind calls (Waiting l) accepted h = tt
+is-right given kind calls (Editing a) accepted h = tt
+is-right given kind calls (Done state) accepted h =
+    let w = world_in (live kind (reads_of calls ++ []) (edits_of calls ++ [])) (start given) 0 in
+    (subst (λ (x : RecordState). ConfirmsQuit (Before w) x) h.2 (accepted-confirmed w _ h.3), kept-reached given state (start given) w _ accepted refl refl h.3 h.2)
+
+pub sessions-are-runs : (given : RecordState) (kind : TerminalKind) (calls : List Call) (turn : Turn) → IsTrue (is_accepted_state given) → Path (Waiting (record { session = start given; kind = kind })) calls turn → IsRun given kind calls turn
+sessions-are-runs given kind calls turn accepted path =
+    let leads : (reads : List Read) (edits : List Edit) → Leads (beginning given kind calls reads edits) kind reads edits turn = λ reads edits. path-leads reads edits (beginning given kind calls reads edits) kind path (1, refl, on here) in
+    record { leads = leads; right = is-right given kind calls turn accepted (leads [] []) }
+
+-- ---- what is seen
+
+-- inline the screen is the window
+pub inline-window : (kind : TerminalKind) (drawn : Session) → IsInline kind drawn → screen_of (scene_of kind drawn) ≡ window_of kind drawn
+inline-window kind drawn h = ap (λ (f : Frame). record { width = columns_of kind; rows = f.rows }) (frame-plain kind drawn h)
+
+-- and what a click on it hits is the owner of the place
+pub inline-owner : (kind : TerminalKind) (drawn : Session) (row column : ℕ) → IsInline kind drawn → drawn.scroll ≤ max_scroll → row < rows_of kind → column < columns_of kind
+    → hit (scene_of kind drawn) drawn.scroll row column ≡ owner_at kind drawn (drawn.scroll + row) column
+inline-owner kind drawn row column h low is_row is_column =
+    hit-on_screen (scene_of kind drawn) drawn.scroll row column is_row is_column low
+    ∙ ap (λ (f : Frame). f.owner (drawn.scroll + row) column) (frame-plain kind drawn h)

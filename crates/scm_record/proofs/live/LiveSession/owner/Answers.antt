@@ -1,0 +1,17 @@
+use Rattle.std.proofs.Common.{ℕ, ◌≤◌, sym, ap, ◌∙◌, subst}
+use Rattle.scm_record.specs.Live.{Live}
+use Rattle.scm_record.specs.Frames.{scene_of}
+use Rattle.scm_record.specs.Uses.{hit}
+use Rattle.scm_record.proofs.LiveLemmas.{inline-owner}
+use Rattle.scm_record.proofs.live.LiveSession.owner.Goals as goal
+
+pub returns-clause-hit : goal.returns-clause-hit
+returns-clause-hit c =
+    let seen = scene_of c.self.inside.kind c.self.inside.selector in
+    rw (sym c.self.view_is) (c.hit.ensures seen c.self.invariant.shown ∙ ap (λ (n : ℕ). hit seen n c.args.row c.args.column) c.scroll.ensures)
+
+pub returns-clause-owner : goal.returns-clause-owner
+returns-clause-owner c = λ inline is_row is_column.
+    returns-clause-hit c
+    ∙ inline-owner c.args.self.now.kind c.args.self.now.session c.args.row c.args.column inline
+    (subst (λ (l : Live). l.session.scroll ≤ 2000000) c.self.view_is c.self.invariant.calm.drawable.scroll) is_row is_column
