@@ -7,6 +7,7 @@ use Rattle.std.proofs.lemmas.List.{with_items_is, length-map, map-set, get_or-ma
 use Rattle.std.proofs.lemmas.List.Concat.{flat_map-append}
 use Rattle.std.proofs.lemmas.List.Elements.{All-head, All-tail, All-replicate, All-set}
 use Rattle.scm_cells.specs.Cell.{Cell, Place, blank, shown}
+use Rattle.scm_cells.specs.Counts.{Counts, no_counts}
 use Rattle.scm_cells.specs.Row.{IsWhole, row_text}
 use Rattle.scm_cells.specs.Screen.{Screen, IsScreen, blank_screen}
 use Rattle.scm_cells.specs.GridView.{row_of}
@@ -36,11 +37,11 @@ all-cleared width i (row ∷ rows) h =
     ∙ ap (λ t. replicate width blank ∷ t) (all-cleared width (suc i) rows (All-tail (λ (r : List Cell). length r ≡ width) row rows h))
 
 -- after the loop the grid is one of spaces
-pub screen-cleared : {Z : Type 0} (items init old final : List (Vec Place Z)) (i width : ℕ) → init ≡ old → final ≡ items → length init ≤ i → IsScreen (record { width = width; rows = map row_of old })
-    → map row_of items ≡ so_far cleared_row (map row_of init) i → ◌≡◌ {A = Screen} (record { width = width; rows = map row_of final }) (blank_screen width (length (map row_of old)))
+pub screen-cleared : {Z : Type 0} {k : Counts} (items init old final : List (Vec Place Z)) (i width : ℕ) → init ≡ old → final ≡ items → length init ≤ i → IsScreen (record { width = width; rows = map row_of old; counts = k })
+    → map row_of items ≡ so_far cleared_row (map row_of init) i → ◌≡◌ {A = Screen} (record { width = width; rows = map row_of final; counts = no_counts }) (blank_screen width (length (map row_of old)))
 screen-cleared items init old final i width was same le h inv =
     let past : length (map row_of init) ≤ i = omega (arith, length-map init row_of) in
-    ap (λ rows. record { width = width; rows = rows }) (ap (map row_of) same ∙ inv ∙ so_far-all cleared_row (map row_of init) i past ∙ ap (λ rows. map_from cleared_row 0 (map row_of rows)) was
+    ap (λ rows. record { width = width; rows = rows; counts = no_counts }) (ap (map row_of) same ∙ inv ∙ so_far-all cleared_row (map row_of init) i past ∙ ap (λ rows. map_from cleared_row 0 (map row_of rows)) was
     ∙ all-cleared width 0 (map row_of old) h.columns)
 
 length-blanks : (n : ℕ) → length (replicate n blank) ≡ n
@@ -74,15 +75,15 @@ pub row-read : {Z : Type 0} (rows : List (Vec Place Z)) (i : ℕ) (v : Vec Place
 row-read rows i v cols h e same = ap (map shown) same ∙ ap row_of e ∙ sym (get_or-map row_of rows i v [] h)
 
 -- the row's columns are the grid's
-pub length-read : {Z : Type 0} (rows : List (Vec Place Z)) (i width : ℕ) (v : Vec Place Z) (cols : List Place) → i < length rows → v ≡ get_or rows i v → cols ≡ v.items
-    → IsScreen (record { width = width; rows = map row_of rows }) → length cols ≡ width
+pub length-read : {Z : Type 0} {k : Counts} (rows : List (Vec Place Z)) (i width : ℕ) (v : Vec Place Z) (cols : List Place) → i < length rows → v ≡ get_or rows i v → cols ≡ v.items
+    → IsScreen (record { width = width; rows = map row_of rows; counts = k }) → length cols ≡ width
 length-read rows i width v cols h e same screen =
     let inside : i < length (map row_of rows) = omega (arith, length-map rows row_of) in
     sym (length-map cols shown) ∙ ap length (row-read rows i v cols h e same) ∙ screen.columns i [] inside
 
 -- and of whole symbols
-pub whole-read : {Z : Type 0} (rows : List (Vec Place Z)) (i width : ℕ) (v : Vec Place Z) (cols : List Place) → i < length rows → v ≡ get_or rows i v → cols ≡ v.items
-    → IsScreen (record { width = width; rows = map row_of rows }) → IsWhole (map shown cols)
+pub whole-read : {Z : Type 0} {k : Counts} (rows : List (Vec Place Z)) (i width : ℕ) (v : Vec Place Z) (cols : List Place) → i < length rows → v ≡ get_or rows i v → cols ≡ v.items
+    → IsScreen (record { width = width; rows = map row_of rows; counts = k }) → IsWhole (map shown cols)
 whole-read rows i width v cols h e same screen =
     let inside : i < length (map row_of rows) = omega (arith, length-map rows row_of) in
     subst IsWhole (sym (row-read rows i v cols h e same)) (screen.symbols i [] inside)

@@ -3,7 +3,8 @@ ghost use Rattle.std.specs.Prelude.{◌≡◌, ◌+◌, ◌<◌, ◌≤◌, IfOk
 ghost use Rattle.scm_cells.specs.Clusters.{text_width};
 ghost use Rattle.scm_cells.specs.Ruled.{cut_left};
 ghost use Rattle.scm_cells.specs.Laying.{columns_of};
-ghost use Rattle.scm_cells.specs.Screen.{IsScreen, blank_screen, put_on, view_of};
+ghost use Rattle.scm_cells.specs.Counts.{one_row, one_call};
+ghost use Rattle.scm_cells.specs.Screen.{IsScreen, blank_screen, counted, put_on, view_of};
 ghost use Rattle.scm_errors.specs.declared.error.RecordError.TheVariants.{OutOfMemory};
 
 use crate::column::Column;
@@ -14,7 +15,8 @@ use std::alloc::Global;
 use std::marker::Model;
 
 /// Rows of symbols, whose columns and rows count from 0. A row has as many columns as the grid is
-/// wide, and is a list of whole symbols, each of which takes as many of them as it has.
+/// wide, and is a list of whole symbols, each of which takes as many of them as it has. Whoever draws a
+/// document counts here how much of it was drawn.
 #[derive(Drop)]
 pub struct Grid {
     alloc: Global,
@@ -24,6 +26,12 @@ pub struct Grid {
 
     /// The columns of each row, from the top.
     rows: Vec<Vec<Column>>,
+
+    /// How many rows of a document were drawn.
+    rows_drawn: usize,
+
+    /// How many calls drew.
+    calls: usize,
 }
 
 impl Model for Grid {
@@ -49,7 +57,13 @@ impl Grid {
         'rows: for _ in 0..height {
             rows.push(row::blank_row(alloc, width)?)?;
         }
-        Ok(Grid { alloc, width, rows })
+        Ok(Grid {
+            alloc,
+            width,
+            rows,
+            rows_drawn: 0,
+            calls: 0,
+        })
     }
 
     /// How many columns each row has.
@@ -68,10 +82,42 @@ impl Grid {
         self.rows.len()
     }
 
-    /// Makes every column a space, and keeps the room for symbols.
+    /// How many rows of a document were drawn since the grid was made or cleared.
+    pub fn rows_drawn(&self) -> usize
+        ensures { result ≡ self.now.counts.rows }
+    {
+        self.rows_drawn
+    }
+
+    /// How many calls drew since the grid was made or cleared.
+    pub fn calls(&self) -> usize
+        ensures { result ≡ self.now.counts.calls }
+    {
+        self.calls
+    }
+
+    /// Counts a row of a document. The greatest count is kept.
+    #[tactic(auto, unfolding(crate::specs::Counts::added, crate::specs::Counts::raised_by))]
+    pub fn add_row(&mut self)
+        ensures { self.new ≡ counted self.old one_row }
+    {
+        self.rows_drawn = self.rows_drawn.saturating_add(1);
+    }
+
+    /// Counts a call that draws. The greatest count is kept.
+    #[tactic(auto, unfolding(crate::specs::Counts::added, crate::specs::Counts::raised_by))]
+    pub fn add_call(&mut self)
+        ensures { self.new ≡ counted self.old one_call }
+    {
+        self.calls = self.calls.saturating_add(1);
+    }
+
+    /// Makes every column a space and both counts 0, and keeps the room for symbols.
     pub fn clear(&mut self)
         ensures { self.new ≡ blank_screen self.old.width (length self.old.rows) }
     {
+        self.rows_drawn = 0;
+        self.calls = 0;
         'rows: for columns in self.rows.iter_mut() {
             row::clear_row(columns.as_mut_slice());
         }
@@ -81,7 +127,7 @@ impl Grid {
     /// before the first. Those that end by the column `low` are left out, one that goes on past it
     /// gives spaces from there, and the text ends before the first later one that would pass the
     /// column `high`. Of a symbol that is covered in part the other columns become spaces. Other
-    /// columns and rows stay. Where memory is refused the grid stays as it was.
+    /// columns and rows stay, and the counts. Where memory is refused the grid stays as it was.
     pub fn put(
         &mut self,
         row: usize,
@@ -145,7 +191,7 @@ impl Grid {
     /// The rows as text: for each a quote, its symbols, a quote and a newline. A grid without columns
     /// gives the empty text.
     pub fn view(&self) -> Result<String, RecordError>
-        ensures ok { IfOk result (λ text. string_bytes text ≡ view_of self.now) }
+        ensures ok { IfOk result (λ text. string_bytes text ≡ view_of self.now.rows) }
         ensures err { IfErr result (λ e. e ≡ OutOfMemory) }
     {
         let mut text = String::new(self.alloc);

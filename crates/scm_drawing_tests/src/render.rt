@@ -365,6 +365,21 @@ fn captions_over_texts(rt: HostRuntime) -> Result<(), RecordError> {
     check_drawing(&rt, viewport, "\"      \"\n\"     …\"\n")
 }
 
+#[test]
+fn counts(rt: HostRuntime) -> Result<(), RecordError> {
+    let mut viewport = viewport_at(rt.alloc(), 0, 0, 6, 2)?;
+    viewport.begin_row();
+    viewport.note_box(7, rect(9, 9, 2, 1))?;
+    check_rect(&rt, viewport.cover(rect(3, 1, 2, 2)), rect(3, 1, 2, 2));
+    let drawn = draw_text(&rt, &mut viewport, 2, 9, &[Span("abcdefgh")])?;
+    check_rect(&rt, drawn, rect(2, 9, 8, 1));
+    let mut grid = viewport.into_grid();
+    assert_eq!(rt; (grid.rows_drawn(), grid.calls()), (1, 1));
+    grid.clear();
+    assert_eq!(rt; (grid.rows_drawn(), grid.calls()), (0, 0));
+    Ok(())
+}
+
 /// A viewport at the document's corner, of six columns, of which the mask lets three through.
 fn masked_viewport(
     rt: &impl Abort,

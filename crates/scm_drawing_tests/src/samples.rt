@@ -24,6 +24,10 @@ impl Component for Caption {
 
     ghost picture = { caption_picture };
 
+    ghost rows = { λ c s x y. 0 };
+
+    ghost calls = { λ c s x y. 1 };
+
     fn id(&self) -> u8 {
         self.id
     }
@@ -56,6 +60,10 @@ impl Component for Pair {
     ghost key = { λ c. c.id };
 
     ghost picture = { pair_picture };
+
+    ghost rows = { λ c s x y. 0 };
+
+    ghost calls = { λ c s x y. 2 };
 
     fn id(&self) -> u8 {
         self.id
@@ -91,6 +99,10 @@ impl Component for Pane {
     ghost key = { λ c. c.id };
 
     ghost picture = { pane_picture };
+
+    ghost rows = { λ c s x y. 0 };
+
+    ghost calls = { λ c s x y. 1 };
 
     fn id(&self) -> u8 {
         self.id
@@ -129,6 +141,10 @@ impl Component for Nest {
 
     ghost picture = { nest_picture };
 
+    ghost rows = { λ c s x y. 0 };
+
+    ghost calls = { λ c s x y. 2 };
+
     fn id(&self) -> u8 {
         self.id
     }
@@ -162,7 +178,12 @@ impl Component for Column {
 
     ghost key = { λ c. c.id };
 
+    ghost use Rattle.std.specs.Prelude.{length};
     ghost picture = { λ c s x y. column_picture c.captions.items s x y };
+
+    ghost rows = { λ c s x y. 0 };
+
+    ghost calls = { λ c s x y. length c.captions.items };
 
     fn id(&self) -> u8 {
         self.id

@@ -38,6 +38,10 @@ impl<'a, K: Copy + Eq + Hash + Drop> Component for Tag<'a, K> {
 
     ghost picture = { λ c s x y. tag_picture c.is_focused c.label.now s x y };
 
+    ghost rows = { λ c s x y. 0 };
+
+    ghost calls = { λ c s x y. 1 };
+
     fn id(&self) -> K {
         self.id
     }

@@ -12,13 +12,16 @@ use Rattle.scm_cells.specs.Clusters.{text_width, clusters, with_width, kept, kep
 use Rattle.scm_cells.specs.Replaced.{line_pieces, pieces_from, replacement}
 use Rattle.scm_cells.specs.Row.{put, overlay, written, placed, whole_before, whole_after, cells_of, later_cells, row_text}
 use Rattle.scm_cells.specs.Screen.{view_of}
-use Rattle.scm_render.specs.Drawing.{texts_width}
+use Rattle.scm_render.specs.Drawing.{reach, texts_width}
 use Rattle.scm_render.specs.Lines.{line}
 use Rattle.scm_render.specs.Rows.{put_texts, say_texts}
 use Rattle.scm_types.specs.declared.keys.SelectionKey.{SelectionKey}
 use Rattle.scm_types.specs.declared.keys.SelectionKey.TheVariants as keys
 use Rattle.scm_view.specs.declared.ids.ComponentId.{ComponentId}
 use Rattle.scm_view.specs.declared.ids.ComponentId.TheVariants as ids
+use Rattle.scm_view.specs.AppView.{app_counts, views_counts}
+use Rattle.scm_view.specs.RowIndex.{section_parts, sections_parts, files_parts, message_parts}
+use Rattle.scm_view.specs.Counts.{document_counts, message_counts, files_counts, file_counts, pinned_counts, sections_counts, rows_counts, on_row, bar_calls}
 use Rattle.scm_view.specs.Buttons.{button_width, buttons_strip, leftmost}
 use Rattle.scm_view.specs.Dialogs.{widest_line}
 use Rattle.scm_view.specs.Layers.{shown_by, owned_by, laid_over}
@@ -35,6 +38,11 @@ use Rattle.scm_view.specs.Window.{rows_from, window, owner, rows_of_key, span, e
 unfoldable pub documents : Unit {0}
 unfolding digits commit_at file_views_of section_views_of are_all_expanded shown_file shown_sections section_rows context_rows changed_rows numbered_rows file_rows sections_rows message_strips files_strips file_strips sections_strips section_strips pinned_strips items_strips opened widest_item extent span rows_of_key files_places sections_places rows_places
 documents = tt
+
+-- how much is drawn of them
+unfoldable pub counting : Unit {0}
+unfolding documents app_counts views_counts document_counts message_counts files_counts file_counts pinned_counts sections_counts rows_counts on_row bar_calls reach section_parts sections_parts files_parts message_parts
+counting = tt
 
 unfoldable pub widths : Unit {0}
 unfolding unicode_segmentation unicode_width text_width clusters kept with_width kept_width has_control button_width widest_line help_lines
@@ -62,7 +70,7 @@ all_quoted rows = fold (λ text row. text ++ quoted row) [] rows
 
 -- a whole screen
 abbrev pub shot : ℕ → ℕ → ℕ → Shown → List ℕ
-shot w h s shown = view_of (record { width = w; rows = window w h s shown })
+shot w h s shown = view_of (window w h s shown)
 
 -- ---- keys of one file, and the file
 

@@ -25,7 +25,7 @@ use Rattle.scm_view.specs.declared.commit_view.CommitViewMode.TheVariants as mod
 use Rattle.scm_view.specs.Blanks.{blank_row}
 use Rattle.scm_view.specs.Layers.{Strip}
 use Rattle.scm_view.specs.Rows.{Document, document_of, shown_file, shown_sections, section_rows, context_rows, changed_rows, numbered_rows, file_rows, sections_rows}
-use Rattle.scm_view.proofs.FilesRows.{files_rows}
+use Rattle.scm_view.specs.FilesRows.{files_rows}
 use Rattle.scm_render.specs.Rows.{put_texts, say_texts}
 use Rattle.scm_view.specs.Strips.{row_strip, files_layer, message_strips, files_strips, file_strips, sections_strips, section_strips}
 use Rattle.scm_view.specs.Shown.{Shown, commit_at, commit_view_of, file_views_of, section_views_of, are_all_expanded}
@@ -64,7 +64,7 @@ two_changes = record {
   is_help_open = false;
 }
 
-two_changes_rows : view_of (record { width = 24; rows = rows_of 24 (strips_of 24 0 (document_of (commit_view_of two_changes 0))) })
+two_changes_rows : view_of (rows_of 24 (strips_of 24 0 (document_of (commit_view_of two_changes 0))))
     ≡ quoted (codes "[◐] f                [-]") ++ (quoted (codes "        1 a⏎            ") ++ (quoted (codes "  (◐) Section 1/1    (-)") ++ (quoted (codes "    [ ] - b⏎            ") ++ quoted (codes "    [●] + c⏎            "))))
 unfolding digits commit_at file_views_of section_views_of are_all_expanded shown_file shown_sections section_rows context_rows changed_rows numbered_rows file_rows files_rows sections_rows message_strips files_strips file_strips sections_strips section_strips row_strip put_texts say_texts line_pieces pieces_from replacement texts_width text_width clusters kept with_width kept_width has_control put overlay written placed whole_before whole_after cells_of later_cells row_text encode unicode_segmentation unicode_width
 two_changes_rows = refl
@@ -84,7 +84,7 @@ three_sections = record two_changes {
   expanded = file_key ∷ (key 0 ∷ (key 2 ∷ []));
 }
 
-three_sections_rows : view_of (record { width = 24; rows = rows_of 24 (strips_of 24 0 (document_of (commit_view_of three_sections 0))) })
+three_sections_rows : view_of (rows_of 24 (strips_of 24 0 (document_of (commit_view_of three_sections 0))))
     ≡ quoted (codes "[ ] f                [-]") ++ (quoted (codes "  ( ) Section 1/2    (-)") ++ (quoted (codes "    [ ] + x⏎            ") ++ (quoted (codes "        1 a⏎            ") ++ (quoted (codes "        2 b⏎            ") ++ (quoted (codes "        3 c⏎            ")
     ++ (quoted (codes "        ⋮               ") ++ (quoted (codes "        5 e⏎            ") ++ (quoted (codes "        6 f⏎            ") ++ (quoted (codes "        7 g⏎            ") ++ (quoted (codes "  [ ] Section 2/2    [-]") ++ quoted (codes "    [ ] - y⏎            ")))))))))))
 unfolding digits commit_at file_views_of section_views_of are_all_expanded shown_file shown_sections section_rows context_rows changed_rows numbered_rows file_rows files_rows sections_rows message_strips files_strips file_strips sections_strips section_strips row_strip put_texts say_texts line_pieces pieces_from replacement texts_width text_width clusters kept with_width kept_width has_control put overlay written placed whole_before whole_after cells_of later_cells row_text encode unicode_segmentation unicode_width

@@ -6,6 +6,8 @@ pub mod Ellipses
 pub mod Documents
 -- menus and dialogs
 pub mod Overlays
+-- how much is drawn, and the index of rows
+pub mod Counted
 -- whole screens, owners and extents of small sessions
 pub mod Windows
 -- screens that are scrolled, or that have dialogs

@@ -92,12 +92,12 @@ narrow_owners = (refl, refl, refl, refl)
 
 -- ---- what screens show
 
-narrow_window : view_of (record { width = 10; rows = rows_under (dialog_layer 10 2 0 ask ∷ []) 10 0 2 }) ≡ quoted (codes "┌Quit────┐") ++ quoted (codes "k]─(Quit)┘")
+narrow_window : view_of (rows_under (dialog_layer 10 2 0 ask ∷ []) 10 0 2) ≡ quoted (codes "┌Quit────┐") ++ quoted (codes "k]─(Quit)┘")
 unfolding shown_by line laid_over buttons_strip leftmost widest_line button_width text_width clusters kept with_width kept_width has_control put overlay written placed whole_before whole_after cells_of later_cells row_text encode unicode_segmentation unicode_width
 narrow_window = refl
 
 -- the menu bar, and the open menu below it, on 20 columns of a document that is scrolled by three rows
-menu_window : view_of (record { width = 20; rows = rows_under (menu_layer 20 3 (menus_with (Some 0)) ∷ []) 20 3 4 })
+menu_window : view_of (rows_under (menu_layer 20 3 (menus_with (Some 0)) ∷ []) 20 3 4)
     ≡ quoted (codes "[File] [Edit] [Selec") ++ (quoted (codes "[Confirm (c)]       ") ++ (quoted (codes "[Quit (q)]          ") ++ quoted (codes "                    ")))
 unfolding shown_by line headers_strip items_strips opened widest_item button_width text_width clusters kept with_width kept_width has_control put overlay written placed whole_before whole_after cells_of later_cells row_text encode unicode_segmentation unicode_width
 menu_window = refl

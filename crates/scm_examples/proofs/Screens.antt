@@ -20,7 +20,7 @@ use Rattle.scm_examples.proofs.Computing.{documents, owners, screens, blanks, qu
 
 -- n rows of a screen of 80 by 24 that is scrolled to row s, from document row z on
 abbrev rows_shot : ℕ → ℕ → ℕ → Shown → List ℕ
-rows_shot s z n shown = view_of (record { width = 80; rows = rows_from 80 (layers 80 24 s shown) z n })
+rows_shot s z n shown = view_of (rows_from 80 (layers 80 24 s shown) z n)
 
 -- ---- sessions with one file
 

@@ -103,7 +103,7 @@ quit_shot = refl
 -- ---- one row of a screen of 80 by 24
 
 abbrev row_shot : ℕ → Shown → List ℕ
-row_shot z shown = view_of (record { width = 80; rows = rows_from 80 (layers 80 24 0 shown) z 1 })
+row_shot z shown = view_of (rows_from 80 (layers 80 24 0 shown) z 1)
 
 -- the words that there are no files
 words_shot : row_shot 6 no_files ≡ quoted (blanks 20 ++ (codes "There are no changes to view." ++ blanks 31))

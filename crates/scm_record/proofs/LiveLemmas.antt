@@ -13,7 +13,7 @@ use Rattle.scm_record.specs.declared.selector.Flow.{Flow}
 use Rattle.scm_record.specs.declared.selector.Flow.TheVariants as flows
 use Rattle.scm_record.specs.Session.{Session, IsDrawable, after_frame, start, with_message, without_pending}
 use Rattle.scm_record.specs.declared.frame.DrawnFrame.{DrawnFrame}
-use Rattle.scm_record.specs.Frames.{Frame, HasSize, IsShown, Scene, columns_of, rows_of, scene_of, screen_of}
+use Rattle.scm_record.specs.Frames.{Frame, HasSize, IsShown, Scene, columns_of, rows_of, scene_of}
 use Rattle.scm_record.specs.Uses.{hit, max_scroll, shot_of}
 use Rattle.scm_record.specs.Step.{Change, change}
 use Rattle.scm_record.specs.Run.{Setting, world_in, with_session, Outcome, Goes, Breaks, Point, Before, Drawn, Within, Accepted, no_such_place, too_long, kept_at, edited, outcome_by, resume, batch, Reaches, here, on, world_at}
@@ -217,9 +217,9 @@ sessions-are-runs given kind calls turn accepted path =
 
 -- ---- what is seen
 
--- inline the screen is the window
-pub inline-window : (kind : TerminalKind) (drawn : Session) → IsInline kind drawn → screen_of (scene_of kind drawn) ≡ window_of kind drawn
-inline-window kind drawn h = ap (λ (f : Frame). record { width = columns_of kind; rows = f.rows }) (frame-plain kind drawn h)
+-- inline the screen's rows are the window's
+pub inline-window : (kind : TerminalKind) (drawn : Session) → IsInline kind drawn → (scene_of kind drawn).frame.rows ≡ window_of kind drawn
+inline-window kind drawn h = ap (λ (f : Frame). f.rows) (frame-plain kind drawn h)
 
 -- and what a click on it hits is the owner of the place
 pub inline-owner : (kind : TerminalKind) (drawn : Session) (row column : ℕ) → IsInline kind drawn → drawn.scroll ≤ max_scroll → row < rows_of kind → column < columns_of kind

@@ -37,7 +37,7 @@ frame-plain kind drawn h = plain-frame (columns_of kind) (rows_of kind) drawn h.
 
 inline-shot : (kind : TerminalKind) (drawn : Session) → IsInline kind drawn → (cleared : Bool) → shot_of (scene_of kind drawn) cleared ≡ cond cleared (blank_text kind) (window_text kind drawn)
 inline-shot kind drawn h true = refl
-inline-shot kind drawn h false = ap (λ (rows : List Row). view_of (record { width = columns_of kind; rows = rows })) (ap (λ (f : Frame). f.rows) (frame-plain kind drawn h))
+inline-shot kind drawn h false = ap (λ (rows : List Row). view_of rows) (ap (λ (f : Frame). f.rows) (frame-plain kind drawn h))
 
 -- the text of an inline screenshot
 pub inline-text : (w0 : World) {drawn : Session} {w : World} {done left : List Event} → Handling (Before w0) drawn w done left → IsInline w.kind drawn → shot_of (scene_of w.kind drawn) w.session.cleared ≡ shot_text w.kind drawn done

@@ -2,7 +2,6 @@
 -- stands, and how many rows all of it spans.
 use Rattle.std.specs.Prelude.{◌≡◌, ℕ, ◌<◌, nat_le, pos, Bool, false, ◌&&◌, if◌then◌else◌, List, length, replicate, min, Option, option_map}
 use Rattle.std.specs.HashMap.{HashMap, get}
-use Rattle.scm_cells.specs.Screen.{Screen}
 use Rattle.scm_cells.specs.declared.rect.Rect.{Rect}
 use Rattle.scm_render.specs.Canvas.{Row, painted}
 use Rattle.scm_render.specs.Picture.{Picture, part}
@@ -104,10 +103,6 @@ scene_of kind drawn = record {
   frame = frame_of (columns_of kind) (rows_of kind) drawn;
   open_menu = drawn.open_menu;
 }
-
--- the screen of a scene
-abbrev pub screen_of : Scene → Screen
-screen_of scene = record { width = scene.width; rows = scene.frame.rows }
 
 -- ---- what the code keeps of a drawing
 

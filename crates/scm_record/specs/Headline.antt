@@ -7,7 +7,8 @@ use Rattle.scm_errors.specs.declared.error.RecordError.{RecordError}
 use Rattle.scm_types.specs.declared.state.RecordState.{RecordState}
 use Rattle.scm_errors.specs.Fault.{fault_of}
 use Rattle.scm_types.specs.Limits.{is_accepted_state}
-use Rattle.scm_cells.specs.Screen.{Screen, view_of}
+use Rattle.scm_cells.specs.Screen.{view_of}
+use Rattle.scm_render.specs.Canvas.{Row}
 use Rattle.scm_view.specs.declared.ids.ComponentId.{ComponentId}
 use Rattle.scm_view.specs.declared.commit_view.CommitViewMode.TheVariants.{Inline}
 use Rattle.scm_view.specs.Blanks.{blank_row}
@@ -32,8 +33,8 @@ pub record IsInline (kind : TerminalKind) (drawn : Session) : Type 0 where
   pub high : 2 ≤ rows_of kind
 
 -- its window
-abbrev pub window_of : TerminalKind → Session → Screen
-window_of kind drawn = record { width = columns_of kind; rows = window (columns_of kind) (rows_of kind) drawn.scroll (shown_of drawn) }
+abbrev pub window_of : TerminalKind → Session → List Row
+window_of kind drawn = window (columns_of kind) (rows_of kind) drawn.scroll (shown_of drawn)
 
 -- the text of its window
 abbrev pub window_text : TerminalKind → Session → List ℕ
@@ -41,7 +42,7 @@ window_text kind drawn = view_of (window_of kind drawn)
 
 -- the text of a blank screen
 abbrev pub blank_text : TerminalKind → List ℕ
-blank_text kind = view_of (record { width = columns_of kind; rows = replicate (rows_of kind) (blank_row (columns_of kind)) })
+blank_text kind = view_of (replicate (rows_of kind) (blank_row (columns_of kind)))
 
 -- who owned a row and column of its document
 abbrev pub owner_at : TerminalKind → Session → ℕ → ℕ → Option ComponentId

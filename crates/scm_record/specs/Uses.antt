@@ -10,7 +10,7 @@ use Rattle.scm_record.specs.Frames.{Scene}
 -- the text of the screen, which is blank once it was cleared
 abbrev pub shot_of : Scene → Bool → List ℕ
 shot_of scene cleared =
-    view_of (record { width = scene.width; rows = if cleared then replicate scene.height (blank_row scene.width) else scene.frame.rows })
+    view_of (if cleared then replicate scene.height (blank_row scene.width) else scene.frame.rows)
 
 -- the greatest scroll
 abbrev pub max_scroll : ℕ

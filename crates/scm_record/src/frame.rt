@@ -5,7 +5,7 @@ ghost use Rattle.scm_errors.specs.declared.error.RecordError.TheVariants.{OutOfM
 ghost use Rattle.scm_types.specs.Limits.{is_accepted_state};
 ghost use Rattle.scm_view.specs.declared.ids.ComponentId.TheVariants as ids;
 ghost use Rattle.scm_view.specs.Window.{rows_of_box};
-ghost use Rattle.scm_record.specs.Frames.{HasSize, IsFrame, IsShown, Scene, frame_of_view, picture_of, scene_of, screen_of};
+ghost use Rattle.scm_record.specs.Frames.{HasSize, IsFrame, IsShown, Scene, frame_of_view, picture_of, scene_of};
 ghost use Rattle.scm_record.specs.Session.{Session, shown_of};
 ghost use Rattle.scm_record.specs.Uses.{ensured, held, hit, max_scroll, rows_above, scrolled_to, shot_of, top_in};
 
@@ -136,7 +136,8 @@ impl DrawnFrame {
 
     /// The screen.
     pub(crate) fn grid(&self) -> &Grid
-        ensures { (scene : Scene) → IsShown scene self.now → result.now ≡ screen_of scene }
+        ensures width { (scene : Scene) → IsShown scene self.now → result.now.width ≡ scene.width }
+        ensures rows { (scene : Scene) → IsShown scene self.now → result.now.rows ≡ scene.frame.rows }
     {
         &self.grid
     }

@@ -40,6 +40,6 @@ pub use scm_types::{
 pub use scm_view::{
     AppView, Button, CommitMessageView, CommitView, CommitViewMode, ComponentId, Dialog, FileKey,
     FileView, FileViewHeader, HelpDialog, LineKey, Menu, MenuBar, MenuItem, QuitDialog,
-    QuitDialogButtonId, SectionKey, SectionLineView, SectionLineViewInner, SectionSelection,
-    SectionView, SelectionKey, TristateBox, TristateIconStyle,
+    QuitDialogButtonId, RowIndex, RowPlace, SectionKey, SectionLineView, SectionLineViewInner,
+    SectionSelection, SectionView, SelectionKey, TristateBox, TristateIconStyle,
 };

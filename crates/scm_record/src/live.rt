@@ -7,7 +7,7 @@ ghost use Rattle.scm_types.specs.Limits.{is_accepted_state};
 ghost use Rattle.scm_input.specs.declared.inputs.TerminalKind.{TerminalKind};
 ghost use Rattle.scm_input.specs.Script.{Edit, Read};
 ghost use Rattle.scm_record.specs.Session.{IsDrawable, Session, after_frame, listed, message_of, start, without_pending};
-ghost use Rattle.scm_record.specs.Frames.{HasSize, IsShown, columns_of, rows_of, scene_of, screen_of};
+ghost use Rattle.scm_record.specs.Frames.{HasSize, IsShown, columns_of, rows_of, scene_of};
 ghost use Rattle.scm_record.specs.Run.{Within, world_in};
 ghost use Rattle.scm_record.specs.Calls.{AnswerFails, Answers, Call, Fails, HandleFails, Handles, IsRun, Leads, Path, live};
 ghost use Rattle.scm_record.specs.declared.live.Turn.{Turn};
@@ -212,9 +212,10 @@ impl<'state> LiveSession<'state> {
 
     /// What the screen shows.
     pub fn grid(&self) -> &Grid
-        ensures shown { result.now ≡ screen_of (scene_of self.now.kind self.now.session) }
-        // inline it is the window
-        ensures window { IsInline self.now.kind self.now.session → result.now ≡ window_of self.now.kind self.now.session }
+        ensures width { result.now.width ≡ columns_of self.now.kind }
+        ensures rows { result.now.rows ≡ (scene_of self.now.kind self.now.session).frame.rows }
+        // inline they are the window's
+        ensures window { IsInline self.now.kind self.now.session → result.now.rows ≡ window_of self.now.kind self.now.session }
     {
         self.frame.grid()
     }

@@ -68,6 +68,14 @@ module _ {K : Type 0} where
   with_picture-covering c d r s w a b =
       with_picture-plain c d (covering r) s (w ∙ sym (painted-none c.sight.rect c.sight.rect.y c.rows)) (a ∙ sym (around-one c.area r)) b refl
 
+  -- a box is noted
+  pub with_picture-noted : (c d : Canvas K) (id : K) (r own : Rect) → d.sight ≡ c.sight → d.rows ≡ c.rows → d.area ≡ join c.area r → own ≡ join no_rect r → d.boxes ≡ c.boxes ++ (id, own) ∷ []
+      → d ≡ with_picture c (part id (covering r))
+  unfolding with_picture part covering box_rect
+  with_picture-noted c d id r own s w a o b =
+      canvas-same d (with_picture c (part id (covering r))) s (w ∙ sym (painted-none c.sight.rect c.sight.rect.y c.rows)) (a ∙ sym (around-one c.area r))
+      (b ∙ ap (λ v. c.boxes ++ (id, v) ∷ []) (o ∙ sym (around-one no_rect r)))
+
   -- the place that a box took is filled
   set-place : (bs cs : List (Box K)) (b new : Box K) → set (bs ++ b ∷ cs) (length bs) new ≡ bs ++ new ∷ cs
   set-place [] cs b new = refl

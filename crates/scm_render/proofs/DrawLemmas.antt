@@ -8,6 +8,7 @@ use Rattle.std.proofs.lemmas.List.Sums.{sum_by-cons}
 use Rattle.scm_cells.proofs.RectLemmas.{places}
 use Rattle.scm_cells.specs.Rect.{end_x_of, end_y_of}
 use Rattle.scm_cells.specs.Clusters.{text_width}
+use Rattle.scm_cells.specs.Counts.{Counts, no_counts}
 use denote.Ref.{Bor}
 use Rattle.scm_cells.specs.Spans.{span_texts}
 use Rattle.scm_cells.specs.declared.text.Span.{Span}
@@ -28,16 +29,16 @@ use Rattle.scm_render.proofs.CanvasLemmas.{with_picture-plain, with_picture-sigh
 use Rattle.scm_render.proofs.PaintLemmas.{painted-above, painted-below, painted-at, with_puts-same, with_puts-none, with_puts-rest, with_puts-end, with_puts-three}
 
 -- a text put on a row of the screen
-pub put-whole : (v m : Rect) (rows : List Row) (x y : ℤ) (t : List ℕ) (n : ℕ) (at : ℤ) (low high : ℕ) → v.y ≤ℤ y → n ≡ unsigned_abs (v.y -ℤ y) → n < length rows
+pub put-whole : {k : Counts} (v m : Rect) (rows : List Row) (x y : ℤ) (t : List ℕ) (n : ℕ) (at : ℤ) (low high : ℕ) → v.y ≤ℤ y → n ≡ unsigned_abs (v.y -ℤ y) → n < length rows
     → at ≡ x -ℤ v.x → low ≡ limit v m.x → high ≡ limit v (end_x_of m)
-    → record { rect = v; rows = set rows n (put (get_or rows n []) at t low high) } ≡ with_puts (whole_put m x y t ∷ []) (record { rect = v; rows = rows })
+    → record { rect = v; rows = set rows n (put (get_or rows n []) at t low high); counts = k } ≡ with_puts (whole_put m x y t ∷ []) (record { rect = v; rows = rows; counts = k })
 unfolding with_puts
-put-whole v m rows x y t n at low high top e h f l k =
+put-whole {k} v m rows x y t n at low high top e h f l g =
     let row : y ≡ v.y +ℤ pos n = omega (arith, places) in
-    ap (λ w. record { rect = v; rows = w })
+    ap (λ w. record { rect = v; rows = w; counts = k })
     (ap (λ a. set rows n (put (get_or rows n []) a t low high)) f
     ∙ ap (λ a. set rows n (put (get_or rows n []) (x -ℤ v.x) t a high)) l
-    ∙ ap (λ a. set rows n (put (get_or rows n []) (x -ℤ v.x) t (limit v m.x) a)) k
+    ∙ ap (λ a. set rows n (put (get_or rows n []) (x -ℤ v.x) t (limit v m.x) a)) g
     ∙ sym (painted-at v (whole_put m x y t) v.y rows n [] h row))
 
 pub text_puts-shown : (m : Rect) (x y : ℤ) (t : List ℕ) → has_row m y ≡ true → text_puts m x y t ≡ whole_put m x y t ∷ []
@@ -205,51 +206,51 @@ frame-made m r i j k t b title body shown a p q s ei et ej eb ek es hp hq hs =
 -- ---- the pictures of the calls on a canvas
 
 module _ {K : Type 0} where
-  -- the rows of a canvas, and the part of the document that they show
-  abbrev surface_of : Canvas K → SurfaceState
-  surface_of c = record { rect = c.sight.rect; rows = c.rows }
+  -- the rows of a canvas, the part of the document that they show, and how much was drawn
+  abbrev surface_of : Canvas K → Counts → SurfaceState
+  surface_of c k = record { rect = c.sight.rect; rows = c.rows; counts = k }
 
   -- a picture without a box was put on the rows, and its areas are covered
-  put_and_covered : (c d : Canvas K) (p : Picture K) → surface_of d ≡ with_puts p.puts (surface_of c) → d.sight.mask ≡ c.sight.mask → d.area ≡ around c.area p.areas → d.boxes ≡ c.boxes → p.boxes ≡ [] → d ≡ with_picture c p
+  put_and_covered : {j : Counts} (k : Counts) (c d : Canvas K) (p : Picture K) → surface_of d j ≡ with_puts p.puts (surface_of c k) → d.sight.mask ≡ c.sight.mask → d.area ≡ around c.area p.areas → d.boxes ≡ c.boxes → p.boxes ≡ [] → d ≡ with_picture c p
   unfolding with_puts
-  put_and_covered c d p s m a b none =
+  put_and_covered k c d p s m a b none =
       let rect : d.sight.rect ≡ c.sight.rect = ap (λ (w : SurfaceState). w.rect) s in
       let sight : ◌≡◌ {A = Sight} (record { rect = d.sight.rect; mask = d.sight.mask }) (record { rect = c.sight.rect; mask = c.sight.mask }) = cc (rect, m) in
       with_picture-plain c d p sight (ap (λ (w : SurfaceState). w.rows) s) a b none
 
-  pub with_picture-span : (c d : Canvas K) (m : Rect) (x y : ℤ) (t : List ℕ) → m ≡ reach c.sight
-      → surface_of d ≡ with_puts (text_puts m x y t) (surface_of c) → d.sight.mask ≡ c.sight.mask → d.area ≡ join c.area (row_rect x y (text_width t)) → d.boxes ≡ c.boxes
+  pub with_picture-span : {j : Counts} (k : Counts) (c d : Canvas K) (m : Rect) (x y : ℤ) (t : List ℕ) → m ≡ reach c.sight
+      → surface_of d j ≡ with_puts (text_puts m x y t) (surface_of c k) → d.sight.mask ≡ c.sight.mask → d.area ≡ join c.area (row_rect x y (text_width t)) → d.boxes ≡ c.boxes
       → d ≡ with_picture c (span_picture c.sight x y t)
   unfolding span_picture
-  with_picture-span c d m x y t e s k a b =
-      put_and_covered c d (span_picture c.sight x y t) (s ∙ ap (λ w. with_puts (text_puts w x y t) (surface_of c)) e) k (a ∙ sym (around-one c.area (row_rect x y (text_width t)))) b refl
+  with_picture-span u c d m x y t e s k a b =
+      put_and_covered u c d (span_picture c.sight x y t) (s ∙ ap (λ w. with_puts (text_puts w x y t) (surface_of c u)) e) k (a ∙ sym (around-one c.area (row_rect x y (text_width t)))) b refl
 
-  pub with_picture-line : (c d : Canvas K) (m : Rect) (x y : ℤ) (ts : List (List ℕ)) → m ≡ reach c.sight
-      → surface_of d ≡ with_puts (texts_puts m x y ts) (surface_of c) → d.sight.mask ≡ c.sight.mask → d.area ≡ join c.area (row_rect x y (texts_width ts)) → d.boxes ≡ c.boxes
+  pub with_picture-line : {j : Counts} (k : Counts) (c d : Canvas K) (m : Rect) (x y : ℤ) (ts : List (List ℕ)) → m ≡ reach c.sight
+      → surface_of d j ≡ with_puts (texts_puts m x y ts) (surface_of c k) → d.sight.mask ≡ c.sight.mask → d.area ≡ join c.area (row_rect x y (texts_width ts)) → d.boxes ≡ c.boxes
       → d ≡ with_picture c (line_picture c.sight x y ts)
   unfolding line_picture
-  with_picture-line c d m x y ts e s k a b =
-      put_and_covered c d (line_picture c.sight x y ts) (s ∙ ap (λ w. with_puts (texts_puts w x y ts) (surface_of c)) e) k (a ∙ sym (around-one c.area (row_rect x y (texts_width ts)))) b refl
+  with_picture-line u c d m x y ts e s k a b =
+      put_and_covered u c d (line_picture c.sight x y ts) (s ∙ ap (λ w. with_puts (texts_puts w x y ts) (surface_of c u)) e) k (a ∙ sym (around-one c.area (row_rect x y (texts_width ts)))) b refl
 
-  pub with_picture-blank : (c d : Canvas K) (m r : Rect) → m ≡ intersect_of r (reach c.sight)
-      → surface_of d ≡ with_puts (fill_puts Blank m) (surface_of c) → d.sight.mask ≡ c.sight.mask → d.area ≡ join c.area r → d.boxes ≡ c.boxes
+  pub with_picture-blank : {j : Counts} (k : Counts) (c d : Canvas K) (m r : Rect) → m ≡ intersect_of r (reach c.sight)
+      → surface_of d j ≡ with_puts (fill_puts Blank m) (surface_of c k) → d.sight.mask ≡ c.sight.mask → d.area ≡ join c.area r → d.boxes ≡ c.boxes
       → d ≡ with_picture c (blank_picture c.sight r)
   unfolding blank_picture
-  with_picture-blank c d m r e s k a b =
-      put_and_covered c d (blank_picture c.sight r) (s ∙ ap (λ w. with_puts (fill_puts Blank w) (surface_of c)) e) k (a ∙ sym (around-one c.area r)) b refl
+  with_picture-blank u c d m r e s k a b =
+      put_and_covered u c d (blank_picture c.sight r) (s ∙ ap (λ w. with_puts (fill_puts Blank w) (surface_of c u)) e) k (a ∙ sym (around-one c.area r)) b refl
 
-  pub with_picture-frame : (c d : Canvas K) (m r : Rect) (title : List ℕ) (body : List (List ℕ)) → m ≡ reach c.sight → is_empty r ≡ false
-      → surface_of d ≡ with_puts (frame_puts m r title body) (surface_of c) → d.sight.mask ≡ c.sight.mask → d.area ≡ join c.area r → d.boxes ≡ c.boxes
+  pub with_picture-frame : {j : Counts} (k : Counts) (c d : Canvas K) (m r : Rect) (title : List ℕ) (body : List (List ℕ)) → m ≡ reach c.sight → is_empty r ≡ false
+      → surface_of d j ≡ with_puts (frame_puts m r title body) (surface_of c k) → d.sight.mask ≡ c.sight.mask → d.area ≡ join c.area r → d.boxes ≡ c.boxes
       → d ≡ with_picture c (frame_picture c.sight r title body)
   unfolding frame_picture
-  with_picture-frame c d m r title body e full s k a b =
-      put_and_covered c d (frame_picture c.sight r title body) (s ∙ ap (λ w. with_puts (frame_puts w r title body) (surface_of c)) e ∙ rw full refl) k (a ∙ sym (around-one c.area r)) b refl
+  with_picture-frame u c d m r title body e full s k a b =
+      put_and_covered u c d (frame_picture c.sight r title body) (s ∙ ap (λ w. with_puts (frame_puts w r title body) (surface_of c u)) e ∙ rw full refl) k (a ∙ sym (around-one c.area r)) b refl
 
   pub with_picture-no_frame : (c d : Canvas K) (r : Rect) (title : List ℕ) (body : List (List ℕ)) → is_empty r ≡ true
-      → surface_of d ≡ surface_of c → d.sight.mask ≡ c.sight.mask → d.area ≡ join c.area r → d.boxes ≡ c.boxes → d ≡ with_picture c (frame_picture c.sight r title body)
+      → surface_of d no_counts ≡ surface_of c no_counts → d.sight.mask ≡ c.sight.mask → d.area ≡ join c.area r → d.boxes ≡ c.boxes → d ≡ with_picture c (frame_picture c.sight r title body)
   unfolding frame_picture
   with_picture-no_frame c d r title body none s k a b =
-      put_and_covered c d (frame_picture c.sight r title body) (s ∙ sym (with_puts-none (surface_of c)) ∙ rw none refl) k (a ∙ sym (around-one c.area r)) b refl
+      put_and_covered no_counts c d (frame_picture c.sight r title body) (s ∙ sym (with_puts-none (surface_of c no_counts)) ∙ rw none refl) k (a ∙ sym (around-one c.area r)) b refl
 
   -- a text with its ellipsis, and one without
   pub text_picture-long : (s : Sight) (x y : ℤ) (ts : List (List ℕ)) → end_x_of (reach s) <ℤ (x +ℤ pos (texts_width ts))

@@ -7,6 +7,7 @@ pub mod OnScreen
 pub mod AroundLemmas
 pub mod BoundLemmas
 pub mod CanvasLemmas
+pub mod CountLemmas
 pub mod CentringLemmas
 pub mod DrawLemmas
 pub mod HitLemmas

@@ -91,17 +91,22 @@ int_eq-false a b h = go (int_eq a b) refl
 
 -- ---- a surface with puts
 
+-- puts leave what was counted
+pub with_puts-counts : (ps : List Put) (a s : SurfaceState) → a ≡ with_puts ps s → a.counts ≡ s.counts
+unfolding with_puts
+with_puts-counts ps a s e = ap (λ (w : SurfaceState). w.counts) e
+
 -- puts that leave the rows as they are
 pub with_puts-same : (ps : List Put) (s : SurfaceState) → painted s.rect ps s.rect.y s.rows ≡ s.rows → with_puts ps s ≡ s
 unfolding with_puts
-with_puts-same ps s e = ap (λ rows. record { rect = s.rect; rows = rows }) e
+with_puts-same ps s e = ap (λ rows. record { rect = s.rect; rows = rows; counts = s.counts }) e
 
 pub with_puts-none : (s : SurfaceState) → with_puts [] s ≡ s
 with_puts-none s = with_puts-same [] s (painted-none s.rect s.rect.y s.rows)
 
 pub with_puts-append : (ps qs : List Put) (s : SurfaceState) → with_puts (ps ++ qs) s ≡ with_puts qs (with_puts ps s)
 unfolding with_puts
-with_puts-append ps qs s = ap (λ rows. record { rect = s.rect; rows = rows }) (painted-append s.rect ps qs s.rect.y s.rows)
+with_puts-append ps qs s = ap (λ rows. record { rect = s.rect; rows = rows; counts = s.counts }) (painted-append s.rect ps qs s.rect.y s.rows)
 
 -- what is left to put after the first of several
 pub with_puts-rest : (a b all : SurfaceState) (ps qs rs : List Put) → rs ≡ ps ++ qs → b ≡ with_puts ps a → with_puts rs a ≡ all → with_puts qs b ≡ all

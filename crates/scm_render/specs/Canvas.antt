@@ -6,6 +6,7 @@ use Rattle.scm_cells.specs.declared.rect.Rect.{Rect}
 use Rattle.scm_cells.specs.declared.mask.Mask.{Mask}
 use Rattle.scm_cells.specs.Mask.{MaskInRange}
 use Rattle.scm_cells.specs.Cell.{Cell}
+use Rattle.scm_cells.specs.Counts.{Counts}
 use Rattle.scm_cells.specs.Row.{put}
 use Rattle.scm_render.specs.Picture.{Put, Box, Picture}
 use Rattle.scm_render.specs.Around.{around}
@@ -36,14 +37,16 @@ pub record Canvas (K : Type 0) : Type 0 where
   pub area : Rect
   pub boxes : List (Box K)
 
--- rows of the screen, and the part of the document that they show
+-- rows of the screen, the part of the document that they show, and how much was drawn
 pub record SurfaceState : Type 0 where
   pub rect : Rect
   pub rows : List Row
+  pub counts : Counts
 
--- what a contract sees of a viewport
+-- what a contract sees of a viewport: what it holds, and how much was drawn
 pub record ViewportState (K : Type 0) : Type 0 where
   pub canvas : Canvas K
+  pub counts : Counts
 
 -- a place as a number of columns, at most the limit
 abbrev pub clipped : ℕ → ℤ → ℕ
@@ -66,7 +69,7 @@ painted v ps z (row ∷ rows) = paint v ps z row ∷ painted v ps (z +ℤ pos 1)
 
 -- the rows with the puts
 unfoldable pub with_puts : List Put → SurfaceState → SurfaceState
-with_puts ps s = record { rect = s.rect; rows = painted s.rect ps s.rect.y s.rows }
+with_puts ps s = record { rect = s.rect; rows = painted s.rect ps s.rect.y s.rows; counts = s.counts }
 
 module _ {K : Type 0} where
   -- the canvas with this mask set, or with none

@@ -1,5 +1,6 @@
 //! What draws itself in a viewport.
-ghost use Rattle.std.specs.Prelude.{◌≡◌, ℤ, OnOk, IfErr};
+ghost use Rattle.std.specs.Prelude.{◌≡◌, ℕ, ℤ, OnOk, IfErr};
+ghost use Rattle.scm_cells.specs.Counts.{added};
 ghost use Rattle.scm_render.specs.Picture.{Picture, PictureInRange};
 ghost use Rattle.scm_render.specs.Canvas.{Sight, Canvas, with_picture};
 ghost use Rattle.scm_errors.specs.declared.error.RecordError.TheVariants.{OutOfMemory};
@@ -10,8 +11,9 @@ use std::alloc::Global;
 use std::hash::Hash;
 
 /// What draws itself in a viewport. Its law: drawing adds the component's picture to what the
-/// viewport holds. The picture depends on the component, on the part of the document that is on the
-/// screen, on the mask, and on the place.
+/// viewport holds, and to the viewport's counts the rows that it begins and the calls that it makes. All
+/// three depend on the component, on the part of the document that is on the screen, on the mask, and on
+/// the place.
 pub trait Component: Sized {
     /// What tells components apart.
     type Id: Copy + Eq + Hash + Drop;
@@ -21,6 +23,12 @@ pub trait Component: Sized {
 
     // What it draws at a place in a sight.
     ghost picture: { Self → Sight → ℤ → ℤ → Picture Self.Id };
+
+    // How many rows of the document it begins there.
+    ghost rows: { Self → Sight → ℤ → ℤ → ℕ };
+
+    // How many calls draw it there.
+    ghost calls: { Self → Sight → ℤ → ℤ → ℕ };
 
     /// The component's id.
     fn id(&self) -> Self::Id
@@ -37,6 +45,7 @@ pub trait Component: Sized {
     ) -> Result<(), RecordError>
         requires { PictureInRange (picture self.now viewport.old.canvas.sight x y) }
         ensures ok { OnOk result (viewport.new.canvas ≡ with_picture viewport.old.canvas (picture self.now viewport.old.canvas.sight x y)) }
+        ensures counts { OnOk result (viewport.new.counts ≡ added viewport.old.counts (record { rows = rows self.now viewport.old.canvas.sight x y; calls = calls self.now viewport.old.canvas.sight x y })) }
         ensures rect { viewport.new.canvas.sight.rect ≡ viewport.old.canvas.sight.rect }
         ensures err { IfErr result (λ e. e ≡ OutOfMemory) };
 }

@@ -2,6 +2,7 @@
 ghost use Rattle.std.specs.Prelude.{◌≡◌, OnOk, IfOk, IfErr};
 ghost use Rattle.scm_cells.specs.Spans.{span_texts};
 ghost use Rattle.scm_cells.specs.Clusters.{text_width};
+ghost use Rattle.scm_cells.specs.Counts.{added, one_call};
 ghost use Rattle.scm_render.specs.Picture.{PictureInRange};
 ghost use Rattle.scm_render.specs.Canvas.{with_picture};
 ghost use Rattle.scm_render.specs.Drawing.{texts_width, row_rect, span_picture, line_picture, text_picture, body_texts, blank_picture, frame_picture};
@@ -32,9 +33,11 @@ impl<K: Copy + Eq + Hash + Drop> Viewport<K> {
         requires { PictureInRange {K = K} (span_picture self.old.canvas.sight x y span.now.0.now) }
         ensures ok { OnOk result (self.new.canvas ≡ with_picture self.old.canvas (span_picture self.old.canvas.sight x y span.now.0.now)) }
         ensures drawn { IfOk result (λ r. r ≡ row_rect x y (text_width span.now.0.now)) }
+        ensures counts { OnOk result (self.new.counts ≡ added self.old.counts one_call) }
         ensures rect { self.new.canvas.sight.rect ≡ self.old.canvas.sight.rect }
         ensures err { IfErr result (λ e. e ≡ OutOfMemory) }
     {
+        self.count_call();
         self.add_text(x, y, span.0)
     }
 
@@ -43,9 +46,11 @@ impl<K: Copy + Eq + Hash + Drop> Viewport<K> {
         requires { PictureInRange {K = K} (line_picture self.old.canvas.sight x y (span_texts line.now.0.items)) }
         ensures ok { OnOk result (self.new.canvas ≡ with_picture self.old.canvas (line_picture self.old.canvas.sight x y (span_texts line.now.0.items))) }
         ensures drawn { IfOk result (λ r. r ≡ row_rect x y (texts_width (span_texts line.now.0.items))) }
+        ensures counts { OnOk result (self.new.counts ≡ added self.old.counts one_call) }
         ensures rect { self.new.canvas.sight.rect ≡ self.old.canvas.sight.rect }
         ensures err { IfErr result (λ e. e ≡ OutOfMemory) }
     {
+        self.count_call();
         self.add_spans(x, y, line.0.as_slice())
     }
 
@@ -56,15 +61,12 @@ impl<K: Copy + Eq + Hash + Drop> Viewport<K> {
         requires { PictureInRange {K = K} (text_picture self.old.canvas.sight x y (span_texts spans.now)) }
         ensures ok { OnOk result (self.new.canvas ≡ with_picture self.old.canvas (text_picture self.old.canvas.sight x y (span_texts spans.now))) }
         ensures drawn { IfOk result (λ r. r ≡ row_rect x y (texts_width (span_texts spans.now))) }
+        ensures counts { OnOk result (self.new.counts ≡ added self.old.counts one_call) }
         ensures rect { self.new.canvas.sight.rect ≡ self.old.canvas.sight.rect }
         ensures err { IfErr result (λ e. e ≡ OutOfMemory) }
     {
-        let drawn = self.add_spans(x, y, spans)?;
-        let end = self.mask_rect().end_x();
-        if end < drawn.end_x() {
-            self.add_text(end - 1, y, "…")?;
-        }
-        Ok(drawn)
+        self.count_call();
+        self.add_cut(x, y, spans)
     }
 
     /// Draws spaces over the rectangle, as far as the mask goes, and gives the rectangle.
@@ -72,13 +74,12 @@ impl<K: Copy + Eq + Hash + Drop> Viewport<K> {
         requires { PictureInRange {K = K} (blank_picture self.old.canvas.sight rect) }
         ensures ok { OnOk result (self.new.canvas ≡ with_picture self.old.canvas (blank_picture self.old.canvas.sight rect)) }
         ensures drawn { IfOk result (λ r. r ≡ rect) }
+        ensures counts { OnOk result (self.new.counts ≡ added self.old.counts one_call) }
         ensures rect { self.new.canvas.sight.rect ≡ self.old.canvas.sight.rect }
         ensures err { IfErr result (λ e. e ≡ OutOfMemory) }
     {
-        let part = rect.intersect(self.mask_rect());
-        self.surface.fill(&mut self.scratch, part, Filling::Blank)?;
-        self.area = grown(self.area, rect);
-        Ok(rect)
+        self.count_call();
+        self.add_blank(rect)
     }
 
     /// Draws a frame over the rectangle, as far as the mask goes, and gives the rectangle: a border of
@@ -95,16 +96,20 @@ impl<K: Copy + Eq + Hash + Drop> Viewport<K> {
         requires { PictureInRange {K = K} (frame_picture self.old.canvas.sight rect title.now (body_texts body.now)) }
         ensures ok { OnOk result (self.new.canvas ≡ with_picture self.old.canvas (frame_picture self.old.canvas.sight rect title.now (body_texts body.now))) }
         ensures drawn { IfOk result (λ r. r ≡ rect) }
+        ensures counts { OnOk result (self.new.counts ≡ added self.old.counts one_call) }
         ensures rect { self.new.canvas.sight.rect ≡ self.old.canvas.sight.rect }
         ensures err { IfErr result (λ e. e ≡ OutOfMemory) }
     {
-        let within = self.mask_rect();
-        if rect.width > 0 && rect.height > 0 {
-            self.surface
-                .put_frame(&mut self.scratch, within, rect, title, body)?;
-        }
-        self.area = grown(self.area, rect);
-        Ok(rect)
+        self.count_call();
+        self.add_frame(rect, title, body)
+    }
+
+    /// Counts a call that draws, whether or not it shows.
+    fn count_call(&mut self)
+        ensures canvas { self.new.canvas ≡ self.old.canvas }
+        ensures counts { self.new.counts ≡ added self.old.counts one_call }
+    {
+        self.surface.add_call();
     }
 
     /// Adds a text to what is drawn.
@@ -112,6 +117,7 @@ impl<K: Copy + Eq + Hash + Drop> Viewport<K> {
         requires { PictureInRange {K = K} (span_picture self.old.canvas.sight x y text.now) }
         ensures ok { OnOk result (self.new.canvas ≡ with_picture self.old.canvas (span_picture self.old.canvas.sight x y text.now)) }
         ensures drawn { IfOk result (λ r. r ≡ row_rect x y (text_width text.now)) }
+        ensures counts { OnOk result (self.new.counts ≡ self.old.counts) }
         ensures rect { self.new.canvas.sight.rect ≡ self.old.canvas.sight.rect }
         ensures err { IfErr result (λ e. e ≡ OutOfMemory) }
     {
@@ -127,6 +133,7 @@ impl<K: Copy + Eq + Hash + Drop> Viewport<K> {
         requires { PictureInRange {K = K} (line_picture self.old.canvas.sight x y (span_texts spans.now)) }
         ensures ok { OnOk result (self.new.canvas ≡ with_picture self.old.canvas (line_picture self.old.canvas.sight x y (span_texts spans.now))) }
         ensures drawn { IfOk result (λ r. r ≡ row_rect x y (texts_width (span_texts spans.now))) }
+        ensures counts { OnOk result (self.new.counts ≡ self.old.counts) }
         ensures rect { self.new.canvas.sight.rect ≡ self.old.canvas.sight.rect }
         ensures err { IfErr result (λ e. e ≡ OutOfMemory) }
     {
@@ -135,5 +142,55 @@ impl<K: Copy + Eq + Hash + Drop> Viewport<K> {
         let drawn = row_rect(x, y, columns);
         self.area = grown(self.area, drawn);
         Ok(drawn)
+    }
+
+    /// Adds spans to what is drawn, and an ellipsis where they go past the mask.
+    fn add_cut(&mut self, x: isize, y: isize, spans: &[Span]) -> Result<Rect, RecordError>
+        requires { PictureInRange {K = K} (text_picture self.old.canvas.sight x y (span_texts spans.now)) }
+        ensures ok { OnOk result (self.new.canvas ≡ with_picture self.old.canvas (text_picture self.old.canvas.sight x y (span_texts spans.now))) }
+        ensures drawn { IfOk result (λ r. r ≡ row_rect x y (texts_width (span_texts spans.now))) }
+        ensures counts { OnOk result (self.new.counts ≡ self.old.counts) }
+        ensures rect { self.new.canvas.sight.rect ≡ self.old.canvas.sight.rect }
+        ensures err { IfErr result (λ e. e ≡ OutOfMemory) }
+    {
+        let drawn = self.add_spans(x, y, spans)?;
+        let end = self.mask_rect().end_x();
+        if end < drawn.end_x() {
+            self.add_text(end - 1, y, "…")?;
+        }
+        Ok(drawn)
+    }
+
+    /// Adds spaces over the rectangle to what is drawn.
+    fn add_blank(&mut self, rect: Rect) -> Result<Rect, RecordError>
+        requires { PictureInRange {K = K} (blank_picture self.old.canvas.sight rect) }
+        ensures ok { OnOk result (self.new.canvas ≡ with_picture self.old.canvas (blank_picture self.old.canvas.sight rect)) }
+        ensures drawn { IfOk result (λ r. r ≡ rect) }
+        ensures counts { OnOk result (self.new.counts ≡ self.old.counts) }
+        ensures rect { self.new.canvas.sight.rect ≡ self.old.canvas.sight.rect }
+        ensures err { IfErr result (λ e. e ≡ OutOfMemory) }
+    {
+        let part = rect.intersect(self.mask_rect());
+        self.surface.fill(&mut self.scratch, part, Filling::Blank)?;
+        self.area = grown(self.area, rect);
+        Ok(rect)
+    }
+
+    /// Adds a frame over the rectangle to what is drawn.
+    fn add_frame(&mut self, rect: Rect, title: &str, body: &[&str]) -> Result<Rect, RecordError>
+        requires { PictureInRange {K = K} (frame_picture self.old.canvas.sight rect title.now (body_texts body.now)) }
+        ensures ok { OnOk result (self.new.canvas ≡ with_picture self.old.canvas (frame_picture self.old.canvas.sight rect title.now (body_texts body.now))) }
+        ensures drawn { IfOk result (λ r. r ≡ rect) }
+        ensures counts { OnOk result (self.new.counts ≡ self.old.counts) }
+        ensures rect { self.new.canvas.sight.rect ≡ self.old.canvas.sight.rect }
+        ensures err { IfErr result (λ e. e ≡ OutOfMemory) }
+    {
+        let within = self.mask_rect();
+        if rect.width > 0 && rect.height > 0 {
+            self.surface
+                .put_frame(&mut self.scratch, within, rect, title, body)?;
+        }
+        self.area = grown(self.area, rect);
+        Ok(rect)
     }
 }

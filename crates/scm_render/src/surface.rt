@@ -2,6 +2,7 @@
 ghost use Rattle.std.specs.Prelude.{◌≡◌, ◌<◌, ◌≤◌, ◌^◌, ◌+ℤ◌, pos, ◌∷◌, [], length, OnOk, IfOk, IfErr, IsTrue, ◌≤ℤ◌, ◌<ℤ◌, ◌↔◌};
 ghost use Rattle.scm_cells.specs.Rect.{RectInRange, InRange, end_y_of};
 ghost use Rattle.scm_cells.specs.Clusters.{text_width};
+ghost use Rattle.scm_cells.specs.Counts.{added, one_row, one_call};
 ghost use Rattle.scm_cells.specs.Spans.{span_texts};
 ghost use Rattle.scm_render.specs.Canvas.{with_puts};
 ghost use Rattle.scm_render.specs.Rows.{limit};
@@ -68,7 +69,7 @@ impl Model for Surface {
 
     ghost Value = { SurfaceState };
 
-    ghost view = { λ s. record { rect = s.rect; rows = s.grid.rows } };
+    ghost view = { λ s. record { rect = s.rect; rows = s.grid.rows; counts = s.grid.counts } };
 
     ghost use Rattle.std.specs.Prelude.{◌≡◌, length};
     ghost use Rattle.scm_cells.specs.Rect.{RectInRange};
@@ -86,7 +87,7 @@ impl Surface {
         requires rect { RectInRange rect }
         requires width { grid.width ≡ rect.width }
         requires height { length grid.rows ≡ rect.height }
-        ensures { result ≡ record { rect = rect; rows = grid.rows } }
+        ensures { result ≡ record { rect = rect; rows = grid.rows; counts = grid.counts } }
     {
         Surface { grid, rect }
     }
@@ -96,9 +97,24 @@ impl Surface {
         ensures width { result.width ≡ self.rect.width }
         ensures height { length result.rows ≡ self.rect.height }
         ensures rows { result.rows ≡ self.rows }
+        ensures counts { result.counts ≡ self.counts }
     {
         let Surface { grid, .. } = self;
         grid
+    }
+
+    /// Counts a row of the document.
+    pub(crate) fn add_row(&mut self)
+        ensures { self.new ≡ record self.old { counts = added self.old.counts one_row } }
+    {
+        self.grid.add_row();
+    }
+
+    /// Counts a call that draws.
+    pub(crate) fn add_call(&mut self)
+        ensures { self.new ≡ record self.old { counts = added self.old.counts one_call } }
+    {
+        self.grid.add_call();
     }
 
     /// The part of the document that the grid shows.

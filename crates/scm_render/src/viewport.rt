@@ -2,6 +2,7 @@
 ghost use Rattle.std.specs.Prelude.{◌≡◌, ◌<◌, ◌≤◌, OnOk, OnErr, IfOk, IfErr, IfSome, length, [], ◌∷◌, Option, None, Some, pos};
 ghost use Rattle.scm_cells.specs.Rect.{RectInRange, InRange};
 ghost use Rattle.scm_cells.specs.Mask.{MaskInRange, apply_of};
+ghost use Rattle.scm_cells.specs.Counts.{added, one_row};
 ghost use Rattle.scm_render.specs.Around.{join, no_rect};
 ghost use Rattle.scm_render.specs.Picture.{PictureInRange, part, box_rect, covering};
 ghost use Rattle.scm_render.specs.Canvas.{painted, with_mask, with_picture, MaskIsInRange};
@@ -35,7 +36,8 @@ pub(crate) fn grown(area: Rect, rect: Rect) -> Rect
 }
 
 /// A part of a document on a grid. What is drawn outside that part, or outside the mask if one is set,
-/// does not show, and still counts for the boxes of components.
+/// does not show, and still counts for the boxes of components. The grid counts the rows that are begun,
+/// and the calls that draw, whether or not they show.
 #[derive(Drop)]
 pub struct Viewport<K> {
     alloc: Global,
@@ -58,6 +60,7 @@ impl<K> Model for Viewport<K> {
         area = v.area;
         boxes = v.boxes.items;
       };
+      counts = v.surface.counts;
     } };
 
     ghost use Rattle.scm_cells.specs.Rect.{RectInRange};
@@ -76,7 +79,8 @@ impl<K: Copy + Eq + Hash + Drop> Viewport<K> {
         requires rect { RectInRange rect }
         requires width { grid.width ≡ rect.width }
         requires height { length grid.rows ≡ rect.height }
-        ensures { result.canvas ≡ record { sight = record { rect = rect; mask = None }; rows = grid.rows; area = no_rect; boxes = [] } }
+        ensures canvas { result.canvas ≡ record { sight = record { rect = rect; mask = None }; rows = grid.rows; area = no_rect; boxes = [] } }
+        ensures counts { result.counts ≡ grid.counts }
     {
         Viewport {
             alloc,
@@ -93,6 +97,7 @@ impl<K: Copy + Eq + Hash + Drop> Viewport<K> {
         ensures width { result.width ≡ self.canvas.sight.rect.width }
         ensures height { length result.rows ≡ self.canvas.sight.rect.height }
         ensures rows { result.rows ≡ self.canvas.rows }
+        ensures counts { result.counts ≡ self.counts }
     {
         let Viewport { surface, .. } = self;
         surface.into_grid()
@@ -132,6 +137,7 @@ impl<K: Copy + Eq + Hash + Drop> Viewport<K> {
         requires { MaskIsInRange mask }
         ensures old { result ≡ self.old.canvas.sight.mask }
         ensures new { self.new.canvas ≡ with_mask mask self.old.canvas }
+        ensures counts { self.new.counts ≡ self.old.counts }
         ensures in_range { MaskIsInRange result }
     {
         mem::replace(&mut self.mask, mask)
@@ -162,10 +168,35 @@ impl<K: Copy + Eq + Hash + Drop> Viewport<K> {
     pub fn cover(&mut self, rect: Rect) -> Rect
         requires { RectInRange rect }
         ensures new { self.new.canvas ≡ with_picture self.old.canvas (covering rect) }
+        ensures counts { self.new.counts ≡ self.old.counts }
         ensures rect { result ≡ rect }
     {
         self.area = grown(self.area, rect);
         rect
+    }
+
+    /// Begins a row of the document: counts it.
+    pub fn begin_row(&mut self)
+        ensures canvas { self.new.canvas ≡ self.old.canvas }
+        ensures counts { self.new.counts ≡ added self.old.counts one_row }
+    {
+        self.surface.add_row();
+    }
+
+    /// Notes the box of a component that would only cover a rectangle, and draws nothing: its box is the
+    /// next one, and the component around it grows as if it had drawn there. The box of an empty
+    /// rectangle is that of a component that draws nothing, a rectangle of zeros.
+    pub fn note_box(&mut self, id: K, covered: Rect) -> Result<(), RecordError>
+        requires { RectInRange covered }
+        ensures ok { OnOk result (self.new.canvas ≡ with_picture self.old.canvas (part id (covering covered))) }
+        ensures counts { self.new.counts ≡ self.old.counts }
+        ensures rect { self.new.canvas.sight.rect ≡ self.old.canvas.sight.rect }
+        ensures err { IfErr result (λ e. e ≡ OutOfMemory) }
+    {
+        let own = grown(Rect::default(), covered);
+        self.boxes.push((id, own))?;
+        self.area = grown(self.area, covered);
+        Ok(())
     }
 
     /// Draws a component as a part of the one that is being drawn, and gives its box: the least
@@ -178,6 +209,7 @@ impl<K: Copy + Eq + Hash + Drop> Viewport<K> {
     ) -> Result<Rect, RecordError>
         requires { PictureInRange (part (C.key component.now) (C.picture component.now self.old.canvas.sight x y)) }
         ensures ok { OnOk result (self.new.canvas ≡ with_picture self.old.canvas (part (C.key component.now) (C.picture component.now self.old.canvas.sight x y))) }
+        ensures counts { OnOk result (self.new.counts ≡ added self.old.counts (record { rows = C.rows component.now self.old.canvas.sight x y; calls = C.calls component.now self.old.canvas.sight x y })) }
         ensures drawn { IfOk result (λ r. r ≡ box_rect (C.picture component.now self.old.canvas.sight x y)) }
         ensures rect { self.new.canvas.sight.rect ≡ self.old.canvas.sight.rect }
         ensures err { IfErr result (λ e. e ≡ OutOfMemory) }
@@ -209,6 +241,7 @@ impl<K: Copy + Eq + Hash + Drop> Viewport<K> {
         requires picture { PictureInRange (part (C.key component.now) (C.picture component.now (whole_sight grid.old x y) (pos 0) (pos 0))) }
         ensures rows { OnOk result (grid.new.rows ≡ painted (screen_rect grid.old x y) (C.picture component.now (whole_sight grid.old x y) (pos 0) (pos 0)).puts y grid.old.rows) }
         ensures boxes { IfOk result (IsFromIterResult K.eq (timed (part (C.key component.now) (C.picture component.now (whole_sight grid.old x y) (pos 0) (pos 0))).boxes)) }
+        ensures counts { OnOk result (grid.new.counts ≡ added grid.old.counts (record { rows = C.rows component.now (whole_sight grid.old x y) (pos 0) (pos 0); calls = C.calls component.now (whole_sight grid.old x y) (pos 0) (pos 0) })) }
         ensures width { grid.new.width ≡ grid.old.width }
         ensures height { length grid.new.rows ≡ length grid.old.rows }
         ensures err { IfErr result (λ e. e ≡ OutOfMemory) }
@@ -235,6 +268,7 @@ impl<K: Copy + Eq + Hash + Drop> Viewport<K> {
         ensures width { result.0.width ≡ self.canvas.sight.rect.width }
         ensures height { length result.0.rows ≡ self.canvas.sight.rect.height }
         ensures rows { result.0.rows ≡ self.canvas.rows }
+        ensures counts { result.0.counts ≡ self.counts }
         ensures boxes { result.1.items ≡ self.canvas.boxes }
     {
         (self.surface.into_grid(), self.boxes)

@@ -24,7 +24,7 @@ use Rattle.scm_view.specs.Layers.{end_of}
 use Rattle.scm_view.specs.Texts.{button_text, divider_text, message_text, no_files_text}
 use Rattle.scm_view.proofs.FilesOf.{IsFileOf, AreFilesOf, HasItsIds}
 use Rattle.scm_view.specs.Rows.{file_id, HeaderRow, ShownFile, Document, file_rows, message_height}
-use Rattle.scm_view.proofs.FilesRows.{files_rows}
+use Rattle.scm_view.specs.FilesRows.{files_rows}
 use Rattle.scm_view.specs.Pictures.{to_end, edit_button, button_picture, beside_button, message_picture, shown_file_picture, file_mask, mask_row, pinned_header, pinned_mask, pinned_picture, one_file_picture, files_picture, no_files_picture, document_picture}
 use Rattle.scm_view.specs.Strips.{file_strips, is_over, files_strips, message_strips, no_files_gap, files_layer, document_layers}
 use Rattle.scm_view.specs.Window.{rows_layers}

@@ -6,9 +6,11 @@ pub mod Parts
 pub mod OpenMenus
 pub mod OwnButtons
 pub mod OverlaysPicture
-pub mod FilesRows
 -- ---- lemmas
 pub mod HeadingLemmas
+pub mod HiddenLemmas
+pub mod CountLemmas
+pub mod FewLemmas
 pub mod RowsLemmas
 pub mod SectionsLemmas
 pub mod FilesLemmas
@@ -41,6 +43,8 @@ pub mod WindowLemmas
 pub mod DocumentOwnerLemmas
 pub mod IdBoxLemmas
 pub mod PlaceLemmas
+pub mod IndexLemmas
+pub mod SpanLemmas
 pub mod DocumentKeyLemmas
 pub mod RunLemmas
 pub mod DocumentExtentLemmas

@@ -34,8 +34,8 @@ use Rattle.scm_view.specs.declared.tristate_box.TristateIconStyle.TheVariants.{C
 use Rattle.scm_view.specs.declared.section_view.SectionView.{SectionView}
 use Rattle.scm_view.specs.declared.commit_view.CommitView.{CommitView}
 use Rattle.scm_view.specs.Texts.{icon_text, bracketed, box_text, path_text, section_text, mode_change_text, binary_text, number_text, sign_text, dots_text, message_text}
-use Rattle.scm_view.specs.Rows.{IdBox, Heading, DocRow, DotsRow, BlankRow, ShownSection, line_texts, line_box, section_box, is_first, is_fold_open, are_all_shown, lines_above, has_dots, first_below, rows_below, shown_lines, context_rows, lines_height, section_height, changed_rows, numbered_rows, rows_of, section_rows, is_shown, is_open, is_first_open, shown_section, shown_sections, sections_rows, shown_file, lent_text, file_rows, document_of, line_number, section_heading}
-use Rattle.scm_view.proofs.FilesRows.{files_rows}
+use Rattle.scm_view.specs.Rows.{Document, message_height, IdBox, Heading, DocRow, DotsRow, BlankRow, ShownSection, line_texts, line_box, section_box, is_first, is_fold_open, are_all_shown, lines_above, has_dots, first_below, rows_below, shown_lines, context_rows, lines_height, section_height, changed_rows, numbered_rows, rows_of, section_rows, is_shown, is_open, is_first_open, shown_section, shown_sections, sections_rows, shown_file, lent_text, file_rows, document_of, line_number, section_heading}
+use Rattle.scm_view.specs.FilesRows.{files_rows}
 use Rattle.scm_view.specs.Pictures.{commit_picture}
 use Rattle.scm_types.specs.Keys.{section_key_of}
 use Rattle.scm_view.specs.Shown.{Shown, Shows, lent, Totals, totals_of, section_view_of, section_views_of, file_view_of, file_views_of, commit_at, commit_view_of, old_lines}
@@ -396,3 +396,21 @@ commits-in-range shown commit v s x y a e c p q =
     let few : state_size shown.state ≤ 1000000 = within (state_size shown.state) 1000000 (second_true (two && messages) size first) in
     rw e (document-near (document_of (commit_view_of shown commit)) s x y c p q (omega (arith, files-few shown commit 0 fs, few))
     (record { message = message-narrow _ (short-commit commit cs (second_true two messages (first_true (two && messages) size first))); files = files-narrow shown commit 0 fs (second_true ((two && messages) && size) texts a) }))
+
+-- an accepted state has few rows
+pub few-rows : (shown : Shown) (commit : ℕ) (v : CommitView) → is_accepted_state shown.state ≡ true → Shows v shown commit → length (files_rows (map shown_file v.file_views)) ≤ 3000000
+few-rows shown commit v a e =
+    let cs = shown.state.commits in
+    let fs = shown.state.files in
+    let messages = list_all (λ (c : Commit). is_short_option c.message) cs in
+    let size = nat_le (state_size shown.state) 1000000 in
+    let texts = list_all has_short_texts_in_file fs in
+    let two = nat_le (length cs) 2 in
+    let first = first_true ((two && messages) && size) texts a in
+    let few : state_size shown.state ≤ 1000000 = within (state_size shown.state) 1000000 (second_true (two && messages) size first) in
+    let same = ap (λ (d : Document). length (files_rows d.files)) e in
+    omega (arith, same, files-few shown commit 0 fs, few)
+
+pub message-most : (m : Option (List ℕ)) → message_height m ≤ 3
+message-most None = omega arith
+message-most (Some text) = omega arith

@@ -16,6 +16,7 @@ use Rattle.scm_view.specs.declared.menu.MenuItem.{MenuItem}
 use Rattle.scm_view.specs.declared.menu.Menu.{Menu}
 use Rattle.scm_view.specs.declared.menu_bar.MenuBar.{MenuBar}
 use Rattle.scm_view.specs.Buttons.{button_width, button_part}
+use Rattle.scm_view.specs.Counts.{first_calls}
 use Rattle.scm_view.specs.Menus.{header_button, item_button, header_step, headers_width, headers_picture, items_picture, widest_item, opened, menus_before, open_picture, first_picture, menu_bar_picture}
 use Rattle.scm_view.specs.Dialogs.{widest_line}
 use Rattle.scm_view.proofs.ButtonRowLemmas.{button-rect}
@@ -167,6 +168,10 @@ open-split (Some (suc k)) (m ∷ ms) s x y c =
 pub first_picture-none : (ms : List Menu) (s : Sight) (x y : ℤ) → None ≡ slice_get ms 0 → first_picture ms s x y ≡ nothing
 first_picture-none [] s x y e = refl
 first_picture-none (m ∷ ms) s x y e = absurd (cc e)
+
+pub first_calls-none : (ms : List Menu) → None ≡ slice_get ms 0 → first_calls ms ≡ 0
+first_calls-none [] e = refl
+first_calls-none (m ∷ ms) e = absurd (cc e)
 
 -- the menu bar, part by part
 pub bar-parts : (b : MenuBar) (s : Sight) (x y : ℤ) →

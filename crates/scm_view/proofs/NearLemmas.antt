@@ -18,7 +18,7 @@ use Rattle.scm_view.specs.Close.{IsClose, SightIsClose}
 use Rattle.scm_view.proofs.Near.{IsNear, SightIsNear, IsNarrow, IsNarrowBox, IsNarrowHeading, IsNarrowRow, AreNarrow, AreNarrowSections, IsNarrowFile, AreNarrowFiles, IsNarrowMessage, IsNarrowDocument}
 use Rattle.scm_view.specs.Texts.{box_text, button_text, divider_text, message_text, no_files_text}
 use Rattle.scm_view.specs.Rows.{IdBox, Heading, DocRow, HeaderRow, SectionRow, LineRow, MarkRow, ContextRow, DotsRow, BlankRow, ShownSection, ShownFile, Document, sections_rows, file_rows, message_height}
-use Rattle.scm_view.proofs.FilesRows.{files_rows}
+use Rattle.scm_view.specs.FilesRows.{files_rows}
 use Rattle.scm_view.specs.Pictures.{to_end, rest_of_row, whole_row, box_picture, box_part, fold_column, heading_width, heading_mask, title_picture, heading_picture, changed_picture, context_picture, highlight, row_picture, rows_picture, sections_picture, shown_file_picture, file_mask, pinned_mask, mask_row, is_pinned, pinned_picture, one_file_picture, files_picture, edit_button, button_picture, beside_button, message_picture, no_files_picture, document_picture}
 
 -- ---- rectangles

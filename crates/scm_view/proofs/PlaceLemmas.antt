@@ -31,14 +31,14 @@ abbrev pub AllHaveRows : List Place → Type 0
 AllHaveRows [] = Unit {0}
 AllHaveRows (p ∷ ps) = (0 < p.rows) × AllHaveRows ps
 
-all-append : (ps qs : List Place) → AllHaveRows ps → AllHaveRows qs → AllHaveRows (ps ++ qs)
+pub all-append : (ps qs : List Place) → AllHaveRows ps → AllHaveRows qs → AllHaveRows (ps ++ qs)
 all-append [] qs h k = k
 all-append (p ∷ ps) qs h k = (h.0, all-append ps qs h.1 k)
 
 some-rows : (p : Place) → 0 < p.rows → rows_of_place p ≡ Some (p.top, p.rows)
 some-rows p h = let some : (p.rows == 0) ≡ false = grind (arith, h) in rw some refl
 
-rows-append : (k : SelectionKey) (ps qs : List Place) → AllHaveRows ps → rows_of_key k (ps ++ qs) ≡ first_of_two (rows_of_key k ps) (rows_of_key k qs)
+pub rows-append : (k : SelectionKey) (ps qs : List Place) → AllHaveRows ps → rows_of_key k (ps ++ qs) ≡ first_of_two (rows_of_key k ps) (rows_of_key k qs)
 unfolding rows_of_key
 rows-append k [] qs h = refl
 rows-append k (p ∷ ps) qs h = go (is_key k p.key) (rows-append k ps qs h.1)

@@ -116,6 +116,10 @@ pub shown_sections-more : (before : Bool) (vs : List SectionView) (i : ℕ) (d :
 unfolding shown_sections
 shown_sections-more before vs i d h = rw (add-one, drop-cons vs i d h) refl
 
+pub shown_sections-none : (before : Bool) (vs : List SectionView) (i : ℕ) → length vs ≤ i → shown_sections before (drop i vs) ≡ []
+unfolding shown_sections
+shown_sections-none before vs i h = rw (drop_all i vs h) refl
+
 pub shown_sections-end : (before : Bool) (vs : List SectionView) (i : ℕ) (s : Sight) (x y : ℤ) → length vs ≤ i → sections_picture (shown_sections before (drop i vs)) s x y ≡ nothing
 unfolding shown_sections sections_picture
 shown_sections-end before vs i s x y h = rw (drop_all i vs h) refl
@@ -148,3 +152,10 @@ file-fits f s x y r =
 pub header-fits : (f : ShownFile) (s : Sight) (x y : ℤ) → PictureInRange (row_picture (HeaderRow f.key f.heading) s x y) → InRange x × InRange y × InRange (y +ℤ pos 1)
 unfolding row_picture
 header-fits f s x y r = let h = heading-rect f.heading s x y (PictureInRange-part _ _ r) in (h.x, h.y, h.end_y)
+
+pub section-size : (v : SectionView) → length (section_rows v) ≡ section_height v v.section.now
+unfolding section_rows
+section-size v = height-of v v.section.now
+
+pub shown-size : (v : SectionView) → length (sections_rows (shown_section true v)) ≡ length (section_rows v)
+shown-size v = one-height v ∙ sym (section-size v)

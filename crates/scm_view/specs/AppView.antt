@@ -15,7 +15,10 @@ use Rattle.scm_view.specs.declared.commit_view.CommitView.{CommitView}
 use Rattle.scm_view.specs.declared.commit_view.CommitViewMode.{CommitViewMode}
 use Rattle.scm_view.specs.declared.commit_view.CommitViewMode.TheVariants.{Inline, Adjacent}
 use Rattle.scm_view.specs.declared.help_dialog.HelpDialog.{HelpDialog}
+use Rattle.scm_cells.specs.Counts.{Counts, no_counts, plus}
+use Rattle.scm_view.specs.Rows.{document_of}
 use Rattle.scm_view.specs.Pictures.{commit_picture}
+use Rattle.scm_view.specs.Counts.{drawn, document_counts, bar_calls, quit_calls, help_calls}
 use Rattle.scm_view.specs.Shown.{Shown, Shows, commit_view_of}
 use Rattle.scm_view.specs.Menus.{menu_bar_picture}
 use Rattle.scm_view.specs.Tables.{menus_with}
@@ -59,6 +62,11 @@ unfoldable pub views_picture : List CommitView → ℕ → Sight → ℤ → Pic
 views_picture [] n s x = nothing
 views_picture (v ∷ vs) n s x = followed_by (part ids.AppFiles (view_picture v s x n)) (views_picture vs n s (next_view v s x n))
 
+-- how much the views draw
+unfoldable pub views_counts : List CommitView → ℕ → Sight → ℤ → Counts
+views_counts [] n s x = no_counts
+views_counts (v ∷ vs) n s x = plus (document_counts (document_of v) (under (view_mask s x n) s) (pos 1)) (views_counts vs n s (next_view v s x n))
+
 -- whether the help is open
 abbrev pub has_help : Option HelpDialog → Bool
 has_help None = false
@@ -70,6 +78,12 @@ app_picture a s x y =
     followed_by (views_picture (shown_views a) (view_width a.commit_view_mode s.rect.width) s x)
     (followed_by (part ids.MenuBar (menu_bar_picture a.menu_bar s x s.rect.y))
     (followed_by (quit_picture a.quit_dialog s) (help_picture (has_help a.help_dialog) s)))
+
+-- how much all that draws: the rows are those of the documents
+unfoldable pub app_counts : AppView → Sight → ℤ → Counts
+app_counts a s x =
+    plus (views_counts (shown_views a) (view_width a.commit_view_mode s.rect.width) s x)
+    (plus (drawn 0 (bar_calls a.menu_bar)) (plus (drawn 0 (quit_calls a.quit_dialog)) (drawn 0 (help_calls (has_help a.help_dialog)))))
 
 -- ---- what it shows of a session
 

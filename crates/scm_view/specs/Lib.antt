@@ -14,6 +14,8 @@ pub mod Blanks
 pub mod Strips
 -- Where the keys stand in the document.
 pub mod Places
+-- The rows of files, one below another.
+pub mod FilesRows
 -- Places that are close to the document's corner.
 pub mod Close
 -- Whose ids the rows of a document have.
@@ -36,5 +38,11 @@ pub mod Clicks
 pub mod Overlays
 -- All that the selector shows.
 pub mod AppView
+-- What stands on each row of a document, and on which rows each key stands.
+pub mod RowIndex
+-- An index as a list of spans; only contracts within this crate cite it.
+pub mod Spans
+-- How much each part draws: rows, and calls.
+pub mod Counts
 -- What a screen shows of a session inline.
 pub mod Window

@@ -1,7 +1,8 @@
 -- The window: what a screen of w columns and h rows shows of a session inline, from row s of its document on; who owns each point;
 -- on which rows each key stands; and how many rows all of it spans.
-use Rattle.std.specs.Prelude.{◌≡◌, ℕ, zero, suc, ◌-◌, ◌+◌, ◌<◌, ◌≤◌, ◌==◌, pos, Bool, List, [], ◌∷◌, ◌++◌, replicate, if◌then◌else◌, Option, Some, None, option_map}
+use Rattle.std.specs.Prelude.{◌≡◌, ℕ, zero, suc, ◌-◌, ◌+◌, ◌*◌, ◌<◌, ◌≤◌, ◌==◌, pos, Bool, List, [], ◌∷◌, ◌++◌, replicate, if◌then◌else◌, Option, Some, None, option_map}
 use Rattle.scm_cells.specs.Rect.{or_zero}
+use Rattle.scm_cells.specs.Counts.{Counts, no_counts, added}
 use Rattle.scm_cells.specs.declared.rect.Rect.{Rect}
 use Rattle.scm_render.specs.Canvas.{Row, painted}
 use Rattle.scm_render.specs.Picture.{part}
@@ -23,7 +24,7 @@ use Rattle.scm_view.specs.Overlays.{quit_layers, help_layers, overlays}
 use Rattle.scm_view.specs.Places.{Place, places}
 use Rattle.scm_view.specs.Screens.{screen, sight}
 use Rattle.scm_view.specs.Clicks.{is_clickable}
-use Rattle.scm_view.specs.AppView.{app_picture, ShowsSession}
+use Rattle.scm_view.specs.AppView.{app_picture, app_counts, ShowsSession}
 
 -- ---- the layers
 
@@ -127,3 +128,14 @@ AppsHaveExtents =
     (same : ComponentId → ComponentId → Bool) → IsLawful same
     → (shown : Shown) (a : AppView) (w h s : ℕ) → IsPlain a shown w h
     → height_of_box (box_of same ids.App (part ids.App (app_picture a (sight w h s) (pos 0) (pos 0))).boxes) ≡ extent w h s shown
+
+-- few rows and calls for a screen of h rows: no more rows than it has and one, the pinned header
+pub record IsFew (h : ℕ) (c : Counts) : Type 0 where
+  pub rows : c.rows ≤ h + 1
+  pub calls : c.calls ≤ 8 * (h + 1) + 40
+
+-- drawing begins few rows and takes few calls, and so a cleared grid counts few
+abbrev pub AppsTakeFewCalls : Type 0
+AppsTakeFewCalls =
+    (shown : Shown) (a : AppView) (w h s : ℕ) → IsPlain a shown w h
+    → IsFew h (app_counts a (sight w h s) (pos 0)) × IsFew h (added no_counts (app_counts a (sight w h s) (pos 0)))

@@ -3,11 +3,14 @@ ghost use Rattle.std.specs.Prelude.{◌≡◌, ◌≤◌, ℤ, pos, ◌+ℤ◌, 
 ghost use Rattle.scm_cells.specs.Rect.{InRange, RectInRange, end_x_of};
 ghost use Rattle.scm_cells.specs.Mask.{MaskInRange};
 ghost use Rattle.scm_render.specs.Picture.{PictureInRange, part};
-ghost use Rattle.scm_render.specs.Canvas.{with_picture};
+ghost use Rattle.scm_cells.specs.Counts.{added};
+ghost use Rattle.scm_render.specs.Canvas.{with_picture, under};
+ghost use Rattle.scm_view.specs.Rows.{document_of};
+ghost use Rattle.scm_view.specs.Counts.{drawn, document_counts, quit_calls, help_calls};
 ghost use Rattle.scm_errors.specs.declared.error.RecordError.TheVariants.{OutOfMemory};
 ghost use Rattle.scm_view.specs.declared.ids.ComponentId.TheVariants as ids;
 ghost use Rattle.scm_view.specs.Overlays.{quit_picture, help_picture};
-ghost use Rattle.scm_view.specs.AppView.{views_shown, view_width, held, view_mask, view_picture, next_view, views_picture, has_help};
+ghost use Rattle.scm_view.specs.AppView.{views_shown, view_width, held, view_mask, view_picture, next_view, views_picture, views_counts, has_help};
 
 use crate::commit_view::{CommitView, CommitViewMode};
 use crate::help_dialog::HelpDialog;
@@ -96,6 +99,7 @@ fn draw_view(
     requires picture { PictureInRange (part ids.AppFiles (view_picture view.now viewport.old.canvas.sight x width)) }
     ensures ok { OnOk result (viewport.new.canvas ≡ with_picture viewport.old.canvas (part ids.AppFiles (view_picture view.now viewport.old.canvas.sight x width))) }
     ensures next { IfOk result (λ c. c ≡ next_view view.now viewport.old.canvas.sight x width) }
+    ensures counts { OnOk result (viewport.new.counts ≡ added viewport.old.counts (document_counts (document_of view.now) (under (view_mask viewport.old.canvas.sight x width) viewport.old.canvas.sight) (pos 1))) }
     ensures rect { viewport.new.canvas.sight.rect ≡ viewport.old.canvas.sight.rect }
     ensures err { IfErr result (λ e. e ≡ OutOfMemory) }
 {
@@ -117,6 +121,7 @@ fn draw_views(
     requires end { InRange (end_x_of viewport.old.canvas.sight.rect) }
     requires picture { PictureInRange (views_picture views.now width viewport.old.canvas.sight x) }
     ensures ok { OnOk result (viewport.new.canvas ≡ with_picture viewport.old.canvas (views_picture views.now width viewport.old.canvas.sight x)) }
+    ensures counts { OnOk result (viewport.new.counts ≡ added viewport.old.counts (views_counts views.now width viewport.old.canvas.sight x)) }
     ensures rect { viewport.new.canvas.sight.rect ≡ viewport.old.canvas.sight.rect }
     ensures err { IfErr result (λ e. e ≡ OutOfMemory) }
 {
@@ -134,6 +139,7 @@ fn draw_quit(
 ) -> Result<(), RecordError>
     requires { PictureInRange (quit_picture dialog.now viewport.old.canvas.sight) }
     ensures ok { OnOk result (viewport.new.canvas ≡ with_picture viewport.old.canvas (quit_picture dialog.now viewport.old.canvas.sight)) }
+    ensures counts { OnOk result (viewport.new.counts ≡ added viewport.old.counts (drawn 0 (quit_calls dialog.now))) }
     ensures rect { viewport.new.canvas.sight.rect ≡ viewport.old.canvas.sight.rect }
     ensures err { IfErr result (λ e. e ≡ OutOfMemory) }
 {
@@ -153,6 +159,7 @@ fn draw_help(
 ) -> Result<(), RecordError>
     requires { PictureInRange (help_picture (has_help dialog.now) viewport.old.canvas.sight) }
     ensures ok { OnOk result (viewport.new.canvas ≡ with_picture viewport.old.canvas (help_picture (has_help dialog.now) viewport.old.canvas.sight)) }
+    ensures counts { OnOk result (viewport.new.counts ≡ added viewport.old.counts (drawn 0 (help_calls (has_help dialog.now)))) }
     ensures rect { viewport.new.canvas.sight.rect ≡ viewport.old.canvas.sight.rect }
     ensures err { IfErr result (λ e. e ≡ OutOfMemory) }
 {
@@ -187,7 +194,13 @@ impl<'a> Component for AppView<'a> {
 
     ghost key = { λ a. App };
 
+    ghost use Rattle.scm_view.specs.AppView.{app_counts};
+
     ghost picture = { app_picture };
+
+    ghost rows = { λ a s x y. (app_counts a s x).rows };
+
+    ghost calls = { λ a s x y. (app_counts a s x).calls };
 
     fn id(&self) -> ComponentId {
         ComponentId::App

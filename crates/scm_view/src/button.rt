@@ -45,6 +45,10 @@ impl<'a, Id: Copy + Eq + Hash + Drop> Component for Button<'a, Id> {
 
     ghost picture = { button_picture };
 
+    ghost rows = { λ b s x y. 0 };
+
+    ghost calls = { λ b s x y. 1 };
+
     fn id(&self) -> Id {
         self.id
     }

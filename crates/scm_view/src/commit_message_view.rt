@@ -2,6 +2,8 @@
 ghost use Rattle.std.specs.Prelude.{◌≡◌, Some, OnOk, IfErr};
 ghost use Rattle.scm_render.specs.Picture.{PictureInRange};
 ghost use Rattle.scm_render.specs.Canvas.{with_picture};
+ghost use Rattle.scm_cells.specs.Counts.{added};
+ghost use Rattle.scm_view.specs.Counts.{drawn, on_row, message_counts};
 ghost use Rattle.scm_errors.specs.declared.error.RecordError.TheVariants.{OutOfMemory};
 ghost use Rattle.scm_view.specs.Pictures.{beside_button, edit_button, message_picture};
 ghost use Rattle.scm_view.specs.Rows.{message_height};
@@ -10,6 +12,7 @@ ghost use Rattle.scm_view.specs.Texts.{divider_text, message_text};
 use crate::button::Button;
 use crate::ids::ComponentId;
 use crate::reach::{cover_rect, to_end};
+use crate::shown::{begin_row, show_button, show_span, show_text};
 use crate::texts::{divider_text, message_text};
 use scm_cells::{Rect, Span};
 use scm_render::{Component, Viewport};
@@ -45,16 +48,18 @@ fn draw_beside_button(
 ) -> Result<(), RecordError>
     requires { PictureInRange (beside_button text.now viewport.old.canvas.sight x y) }
     ensures ok { OnOk result (viewport.new.canvas ≡ with_picture viewport.old.canvas (beside_button text.now viewport.old.canvas.sight x y)) }
+    ensures counts { OnOk result (viewport.new.counts ≡ added viewport.old.counts (on_row viewport.old.canvas.sight.rect y (drawn 0 2))) }
     ensures rect { viewport.new.canvas.sight.rect ≡ viewport.old.canvas.sight.rect }
     ensures err { IfErr result (λ e. e ≡ OutOfMemory) }
 {
-    viewport.draw_span(x + 15, y, &Span(divider_text()))?;
-    viewport.draw_text(x + 19, y, &[Span(text)])?;
+    show_span(viewport, x + 15, y, divider_text())?;
+    show_text(viewport, x + 19, y, &[Span(text)])?;
     Ok(())
 }
 
 /// Draws a message.
 fn draw_message(
+    alloc: Global,
     viewport: &mut Viewport<ComponentId>,
     x: isize,
     y: isize,
@@ -63,6 +68,7 @@ fn draw_message(
 ) -> Result<(), RecordError>
     requires { PictureInRange (message_picture commit_idx (Some message.now) viewport.old.canvas.sight x y) }
     ensures ok { OnOk result (viewport.new.canvas ≡ with_picture viewport.old.canvas (message_picture commit_idx (Some message.now) viewport.old.canvas.sight x y)) }
+    ensures counts { OnOk result (viewport.new.counts ≡ added viewport.old.counts (message_counts (Some message.now) viewport.old.canvas.sight.rect y)) }
     ensures rect { viewport.new.canvas.sight.rect ≡ viewport.old.canvas.sight.rect }
     ensures err { IfErr result (λ e. e ≡ OutOfMemory) }
 {
@@ -79,8 +85,11 @@ fn draw_message(
             height: 3,
         },
     );
-    viewport.draw_component(x, row, &button)?;
+    begin_row(viewport, y);
+    begin_row(viewport, row);
+    show_button(alloc, viewport, x, row, &button)?;
     draw_beside_button(viewport, x, row, text)?;
+    begin_row(viewport, row + 1);
     Ok(())
 }
 
@@ -106,20 +115,24 @@ impl<'a> Component for CommitMessageView<'a> {
 
     ghost picture = { commit_message_picture };
 
+    ghost rows = { λ v s x y. (message_counts v.commit.now.message s.rect y).rows };
+
+    ghost calls = { λ v s x y. (message_counts v.commit.now.message s.rect y).calls };
+
     fn id(&self) -> ComponentId {
         ComponentId::CommitMessageView
     }
 
     fn draw(
         &self,
-        _alloc: Global,
+        alloc: Global,
         viewport: &mut Viewport<ComponentId>,
         x: isize,
         y: isize,
     ) -> Result<(), RecordError> {
         match &self.commit.message {
             None => Ok(()),
-            Some(message) => draw_message(viewport, x, y, self.commit_idx, message.as_str()),
+            Some(message) => draw_message(alloc, viewport, x, y, self.commit_idx, message.as_str()),
         }
     }
 }

@@ -4,6 +4,8 @@ ghost use Rattle.scm_cells.specs.Rect.{InRange};
 ghost use Rattle.scm_cells.specs.Mask.{MaskInRange};
 ghost use Rattle.scm_render.specs.Picture.{PictureInRange};
 ghost use Rattle.scm_render.specs.Canvas.{with_picture};
+ghost use Rattle.scm_cells.specs.Counts.{added, plus};
+ghost use Rattle.scm_view.specs.Counts.{header_counts, file_counts, pinned_counts, files_counts, body_counts};
 ghost use Rattle.scm_errors.specs.declared.error.RecordError.TheVariants.{OutOfMemory};
 ghost use Rattle.scm_view.specs.Rows.{shown_file};
 ghost use Rattle.scm_view.specs.Pictures.{mask_row, file_mask, pinned_mask, pinned_header, one_file_picture, files_picture, body_picture};
@@ -94,6 +96,7 @@ fn draw_pinned(
 ) -> Result<(), RecordError>
     requires { PictureInRange (pinned_header (shown_file file.now) viewport.old.canvas.sight x y) }
     ensures ok { OnOk result (viewport.new.canvas ≡ with_picture viewport.old.canvas (pinned_header (shown_file file.now) viewport.old.canvas.sight x y)) }
+    ensures counts { OnOk result (viewport.new.counts ≡ added viewport.old.counts (header_counts viewport.old.canvas.sight.rect y)) }
     ensures rect { viewport.new.canvas.sight.rect ≡ viewport.old.canvas.sight.rect }
     ensures err { IfErr result (λ e. e ≡ OutOfMemory) }
 {
@@ -112,6 +115,7 @@ fn draw_file(
 ) -> Result<(), RecordError>
     requires { PictureInRange (one_file_picture (shown_file file.now) viewport.old.canvas.sight x y) }
     ensures ok { OnOk result (viewport.new.canvas ≡ with_picture viewport.old.canvas (one_file_picture (shown_file file.now) viewport.old.canvas.sight x y)) }
+    ensures counts { OnOk result (viewport.new.counts ≡ added viewport.old.counts (plus (file_counts (shown_file file.now) viewport.old.canvas.sight.rect y) (pinned_counts (shown_file file.now) viewport.old.canvas.sight.rect (mask_row viewport.old.canvas.sight) y))) }
     ensures rect { viewport.new.canvas.sight.rect ≡ viewport.old.canvas.sight.rect }
     ensures err { IfErr result (λ e. e ≡ OutOfMemory) }
 {
@@ -135,6 +139,7 @@ fn draw_files(
 ) -> Result<(), RecordError>
     requires { PictureInRange (files_picture (map shown_file files.now) viewport.old.canvas.sight x y) }
     ensures ok { OnOk result (viewport.new.canvas ≡ with_picture viewport.old.canvas (files_picture (map shown_file files.now) viewport.old.canvas.sight x y)) }
+    ensures counts { OnOk result (viewport.new.counts ≡ added viewport.old.counts (files_counts (map shown_file files.now) viewport.old.canvas.sight.rect (mask_row viewport.old.canvas.sight) y)) }
     ensures rect { viewport.new.canvas.sight.rect ≡ viewport.old.canvas.sight.rect }
     ensures err { IfErr result (λ e. e ≡ OutOfMemory) }
 {
@@ -156,6 +161,7 @@ fn draw_body(
 ) -> Result<(), RecordError>
     requires { PictureInRange (body_picture (map shown_file files.now) viewport.old.canvas.sight x y (y +ℤ pos height)) }
     ensures ok { OnOk result (viewport.new.canvas ≡ with_picture viewport.old.canvas (body_picture (map shown_file files.now) viewport.old.canvas.sight x y (y +ℤ pos height))) }
+    ensures counts { OnOk result (viewport.new.counts ≡ added viewport.old.counts (body_counts (map shown_file files.now) viewport.old.canvas.sight y (y +ℤ pos height))) }
     ensures rect { viewport.new.canvas.sight.rect ≡ viewport.old.canvas.sight.rect }
     ensures err { IfErr result (λ e. e ≡ OutOfMemory) }
 {
@@ -174,7 +180,14 @@ impl<'a> Component for CommitView<'a> {
 
     ghost key = { λ v. ids.AppFiles };
 
+    ghost use Rattle.scm_view.specs.Counts.{document_counts};
+    ghost use Rattle.scm_view.specs.Rows.{document_of};
+
     ghost picture = { commit_picture };
+
+    ghost rows = { λ v s x y. (document_counts (document_of v) s y).rows };
+
+    ghost calls = { λ v s x y. (document_counts (document_of v) s y).calls };
 
     fn id(&self) -> ComponentId {
         ComponentId::AppFiles

@@ -59,7 +59,13 @@ impl<'a, Id: Copy + Eq + Hash + Drop> Component for Dialog<'a, Id> {
 
     ghost key = { λ d. d.id };
 
+    ghost use Rattle.std.specs.Prelude.{◌+◌, length};
+
     ghost picture = { λ d s x y. dialog_picture (shown_dialog d) s };
+
+    ghost rows = { λ d s x y. 0 };
+
+    ghost calls = { λ d s x y. 1 + length d.buttons.now };
 
     fn id(&self) -> Id {
         self.id

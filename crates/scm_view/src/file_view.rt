@@ -3,6 +3,8 @@ ghost use Rattle.std.specs.Prelude.{◌≡◌, ◌+◌, pos, ◌+ℤ◌, length,
 ghost use Rattle.scm_cells.specs.Rect.{InRange};
 ghost use Rattle.scm_render.specs.Picture.{PictureInRange};
 ghost use Rattle.scm_render.specs.Canvas.{with_picture};
+ghost use Rattle.scm_cells.specs.Counts.{added};
+ghost use Rattle.scm_view.specs.Counts.{sections_counts};
 ghost use Rattle.scm_errors.specs.declared.error.RecordError.TheVariants.{OutOfMemory};
 ghost use Rattle.scm_view.specs.Rows.{header_heading, lent_text, shown_file, is_shown, is_open, is_first_open, shown_section, shown_sections, sections_rows, file_rows};
 ghost use Rattle.scm_view.specs.Pictures.{sections_picture};
@@ -35,7 +37,7 @@ pub struct FileView<'a> {
 }
 
 /// There is a section at this index, and it is open.
-fn is_open_at(views: &[SectionView<'_>], index: usize) -> bool
+pub(crate) fn is_open_at(views: &[SectionView<'_>], index: usize) -> bool
     ensures { result ≡ is_first_open (drop index views.now) }
 {
     match views.get(index) {
@@ -45,7 +47,7 @@ fn is_open_at(views: &[SectionView<'_>], index: usize) -> bool
 }
 
 /// The section is shown: it can be edited, or stands beside an open one.
-fn is_shown(before: bool, view: &SectionView<'_>, after: bool) -> bool
+pub(crate) fn is_shown(before: bool, view: &SectionView<'_>, after: bool) -> bool
     ensures { result ≡ is_shown before view.now after }
 {
     let is_editable = view.section.is_editable();
@@ -62,6 +64,7 @@ fn draw_section(
 ) -> Result<(), RecordError>
     requires { PictureInRange (sections_picture (shown_section is_shown view.now) viewport.old.canvas.sight x y) }
     ensures ok { OnOk result (viewport.new.canvas ≡ with_picture viewport.old.canvas (sections_picture (shown_section is_shown view.now) viewport.old.canvas.sight x y)) }
+    ensures counts { OnOk result (viewport.new.counts ≡ added viewport.old.counts (sections_counts (shown_section is_shown view.now) viewport.old.canvas.sight.rect y)) }
     ensures rect { viewport.new.canvas.sight.rect ≡ viewport.old.canvas.sight.rect }
     ensures err { IfErr result (λ e. e ≡ OutOfMemory) }
 {
@@ -92,6 +95,7 @@ fn draw_sections(
     requires y { InRange y }
     requires picture { PictureInRange (sections_picture (shown_sections false views.now) viewport.old.canvas.sight x y) }
     ensures ok { OnOk result (viewport.new.canvas ≡ with_picture viewport.old.canvas (sections_picture (shown_sections false views.now) viewport.old.canvas.sight x y)) }
+    ensures counts { OnOk result (viewport.new.counts ≡ added viewport.old.counts (sections_counts (shown_sections false views.now) viewport.old.canvas.sight.rect y)) }
     ensures rect { viewport.new.canvas.sight.rect ≡ viewport.old.canvas.sight.rect }
     ensures err { IfErr result (λ e. e ≡ OutOfMemory) }
 {
@@ -165,7 +169,13 @@ impl<'a> Component for FileView<'a> {
 
     ghost key = { λ v. file_id v.file_key };
 
+    ghost use Rattle.scm_view.specs.Counts.{file_counts};
+
     ghost picture = { file_picture };
+
+    ghost rows = { λ v s x y. (file_counts (shown_file v) s.rect y).rows };
+
+    ghost calls = { λ v s x y. (file_counts (shown_file v) s.rect y).calls };
 
     fn id(&self) -> ComponentId {
         ComponentId::SelectableItem(SelectionKey::File(self.file_key))

@@ -2,6 +2,7 @@
 
 use crate::heading::draw_heading;
 use crate::ids::ComponentId;
+use crate::shown::begin_row;
 use crate::texts::path_text;
 use crate::tristate_box::TristateBox;
 use scm_render::{Component, Viewport};
@@ -33,7 +34,13 @@ impl<'a> Component for FileViewHeader<'a> {
 
     ghost key = { λ v. ids.FileViewHeader v.file_key };
 
+    ghost use Rattle.scm_view.specs.Counts.{header_counts};
+
     ghost picture = { header_picture };
+
+    ghost rows = { λ v s x y. (header_counts s.rect y).rows };
+
+    ghost calls = { λ v s x y. (header_counts s.rect y).calls };
 
     fn id(&self) -> ComponentId {
         ComponentId::FileViewHeader(self.file_key)
@@ -46,6 +53,7 @@ impl<'a> Component for FileViewHeader<'a> {
         x: isize,
         y: isize,
     ) -> Result<(), RecordError> {
+        begin_row(viewport, y);
         let title = path_text(alloc, self.old_path, self.path)?;
         draw_heading(
             viewport,

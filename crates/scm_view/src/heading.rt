@@ -2,13 +2,16 @@
 ghost use Rattle.std.specs.Prelude.{◌≡◌, OnOk, IfErr};
 ghost use Rattle.scm_render.specs.Picture.{PictureInRange};
 ghost use Rattle.scm_render.specs.Canvas.{with_picture};
+ghost use Rattle.scm_cells.specs.Counts.{added};
+ghost use Rattle.scm_view.specs.Counts.{drawn, on_row};
 ghost use Rattle.scm_errors.specs.declared.error.RecordError.TheVariants.{OutOfMemory};
 ghost use Rattle.scm_view.specs.Pictures.{title_picture, heading_picture};
 
 use crate::ids::ComponentId;
 use crate::reach::{columns, fold_column};
+use crate::shown::{show_blank, show_box, show_text};
 use crate::tristate_box::TristateBox;
-use scm_cells::{Mask, Rect, Span};
+use scm_cells::{Mask, Span};
 use scm_render::Viewport;
 use scm_types::RecordError;
 
@@ -24,18 +27,13 @@ fn draw_before_fold(
 ) -> Result<(), RecordError>
     requires { PictureInRange (title_picture toggle_box.now title.now width viewport.old.canvas.sight x y) }
     ensures ok { OnOk result (viewport.new.canvas ≡ with_picture viewport.old.canvas (title_picture toggle_box.now title.now width viewport.old.canvas.sight x y)) }
+    ensures counts { OnOk result (viewport.new.counts ≡ added viewport.old.counts (on_row viewport.old.canvas.sight.rect y (drawn 0 3))) }
     ensures rect { viewport.new.canvas.sight.rect ≡ viewport.old.canvas.sight.rect }
     ensures err { IfErr result (λ e. e ≡ OutOfMemory) }
 {
-    let blank = Rect {
-        x,
-        y,
-        width,
-        height: 1,
-    };
-    viewport.draw_blank(blank)?;
-    viewport.draw_component(x, y, toggle_box)?;
-    viewport.draw_text(x + 4, y, &[Span(title)])?;
+    show_blank(viewport, x, y, width)?;
+    show_box(viewport, x, y, toggle_box)?;
+    show_text(viewport, x + 4, y, &[Span(title)])?;
     Ok(())
 }
 
@@ -51,12 +49,13 @@ pub(crate) fn draw_heading(
 ) -> Result<(), RecordError>
     requires { PictureInRange (heading_picture (record { toggle = toggle_box.now; fold = expand_box.now; title = title.now }) viewport.old.canvas.sight x y) }
     ensures ok { OnOk result (viewport.new.canvas ≡ with_picture viewport.old.canvas (heading_picture (record { toggle = toggle_box.now; fold = expand_box.now; title = title.now }) viewport.old.canvas.sight x y)) }
+    ensures counts { OnOk result (viewport.new.counts ≡ added viewport.old.counts (on_row viewport.old.canvas.sight.rect y (drawn 0 4))) }
     ensures rect { viewport.new.canvas.sight.rect ≡ viewport.old.canvas.sight.rect }
     ensures err { IfErr result (λ e. e ≡ OutOfMemory) }
 {
     let fold_x = fold_column(viewport);
     let width = columns(x, fold_x);
-    viewport.draw_component(fold_x, y, expand_box)?;
+    show_box(viewport, fold_x, y, expand_box)?;
     let outer = viewport.swap_mask(Some(Mask {
         x,
         y,

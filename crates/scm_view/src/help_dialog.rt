@@ -63,6 +63,10 @@ impl Component for HelpDialog {
 
     ghost picture = { λ d s x y. named_dialog_picture help_dialog s };
 
+    ghost rows = { λ d s x y. 0 };
+
+    ghost calls = { λ d s x y. 2 };
+
     fn id(&self) -> ComponentId {
         ComponentId::HelpDialog
     }

@@ -4,6 +4,7 @@ ghost use Rattle.scm_view.specs.Laws.{CommitsAreInRange, DocumentsArePainted, Se
 ghost use Rattle.scm_view.specs.Window.{
   AppsHaveExtents,
   AppsShowWindows,
+  AppsTakeFewCalls,
   ClicksFindOwners,
   KeysHaveRows,
 };
@@ -60,4 +61,10 @@ pub fn keys_have_rows()
 /// menu bar with its open menu, and the open dialogs.
 pub fn apps_have_extents()
     ensures { AppsHaveExtents }
+{}
+
+/// Of all that is shown inline, no more rows are begun than the screen has and one more, the pinned
+/// header, however long the document is, and the calls that draw are few.
+pub fn apps_take_few_calls()
+    ensures { AppsTakeFewCalls }
 {}

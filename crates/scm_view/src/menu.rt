@@ -75,7 +75,13 @@ impl<'a> Component for Menu<'a> {
 
     ghost key = { λ m. MenuHeader };
 
+    ghost use Rattle.std.specs.Prelude.{◌*◌, length};
+
     ghost picture = { λ m. menu_picture m.items };
+
+    ghost rows = { λ m s x y. 0 };
+
+    ghost calls = { λ m s x y. 2 * length m.items };
 
     fn id(&self) -> ComponentId {
         ComponentId::MenuHeader

@@ -3,6 +3,8 @@ ghost use Rattle.std.specs.Prelude.{◌≡◌, ◌+◌, ◌<◌, ◌^◌, pos, �
 ghost use Rattle.scm_cells.specs.Rect.{InRange};
 ghost use Rattle.scm_render.specs.Picture.{PictureInRange};
 ghost use Rattle.scm_render.specs.Canvas.{with_picture};
+ghost use Rattle.scm_cells.specs.Counts.{added};
+ghost use Rattle.scm_view.specs.Counts.{drawn, first_calls};
 ghost use Rattle.scm_errors.specs.declared.error.RecordError.TheVariants.{OutOfMemory};
 ghost use Rattle.scm_view.specs.Menus.{headers_picture, headers_width, menus_before, first_picture};
 
@@ -49,6 +51,7 @@ fn draw_headers(
     requires count { first_idx + length menus.now < 2 ^ 64 }
     ensures ok { OnOk result (viewport.new.canvas ≡ with_picture viewport.old.canvas (headers_picture viewport.old.canvas.sight x y first_idx menus.now)) }
     ensures column { IfOk result (λ c. c ≡ x +ℤ pos (headers_width menus.now)) }
+    ensures counts { OnOk result (viewport.new.counts ≡ added viewport.old.counts (drawn 0 (length menus.now))) }
     ensures rect { viewport.new.canvas.sight.rect ≡ viewport.old.canvas.sight.rect }
     ensures err { IfErr result (λ e. e ≡ OutOfMemory) }
 {
@@ -72,6 +75,7 @@ fn draw_first(
     requires picture { PictureInRange (first_picture menus.now viewport.old.canvas.sight x y) }
     requires below { 0 < length menus.now → InRange (y +ℤ pos 1) }
     ensures ok { OnOk result (viewport.new.canvas ≡ with_picture viewport.old.canvas (first_picture menus.now viewport.old.canvas.sight x y)) }
+    ensures counts { OnOk result (viewport.new.counts ≡ added viewport.old.counts (drawn 0 (first_calls menus.now))) }
     ensures rect { viewport.new.canvas.sight.rect ≡ viewport.old.canvas.sight.rect }
     ensures err { IfErr result (λ e. e ≡ OutOfMemory) }
 {
@@ -92,7 +96,13 @@ impl<'a> Component for MenuBar<'a> {
 
     ghost key = { λ b. ids.MenuBar };
 
+    ghost use Rattle.scm_view.specs.Counts.{bar_calls};
+
     ghost picture = { menu_bar_picture };
+
+    ghost rows = { λ b s x y. 0 };
+
+    ghost calls = { λ b s x y. bar_calls b };
 
     fn id(&self) -> ComponentId {
         ComponentId::MenuBar

@@ -2,10 +2,13 @@
 ghost use Rattle.std.specs.Prelude.{◌≡◌, OnOk, IfErr};
 ghost use Rattle.scm_render.specs.Picture.{PictureInRange};
 ghost use Rattle.scm_render.specs.Canvas.{with_picture};
+ghost use Rattle.scm_cells.specs.Counts.{added};
+ghost use Rattle.scm_view.specs.Counts.{no_files_counts};
 ghost use Rattle.scm_errors.specs.declared.error.RecordError.TheVariants.{OutOfMemory};
 ghost use Rattle.scm_view.specs.Pictures.{no_files_place, no_files_picture};
 
 use crate::ids::ComponentId;
+use crate::shown::{begin_row, show_text};
 use crate::texts::no_files_text;
 use scm_cells::{Rect, RectSize, Span};
 use scm_render::{Viewport, centered_rect};
@@ -37,10 +40,13 @@ pub(crate) fn draw_no_files(
 ) -> Result<(), RecordError>
     requires { PictureInRange (no_files_picture viewport.old.canvas.sight x y) }
     ensures ok { OnOk result (viewport.new.canvas ≡ with_picture viewport.old.canvas (no_files_picture viewport.old.canvas.sight x y)) }
+    ensures counts { OnOk result (viewport.new.counts ≡ added viewport.old.counts (no_files_counts viewport.old.canvas.sight y)) }
     ensures rect { viewport.new.canvas.sight.rect ≡ viewport.old.canvas.sight.rect }
     ensures err { IfErr result (λ e. e ≡ OutOfMemory) }
 {
     let place = no_files_place(viewport);
-    viewport.draw_text(x + place.x, y + place.y, &[Span(no_files_text())])?;
+    let row = y + place.y;
+    begin_row(viewport, row);
+    show_text(viewport, x + place.x, row, &[Span(no_files_text())])?;
     Ok(())
 }

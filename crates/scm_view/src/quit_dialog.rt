@@ -124,6 +124,10 @@ impl Component for QuitDialog {
 
     ghost picture = { λ q s x y. named_dialog_picture (quit_dialog q) s };
 
+    ghost rows = { λ q s x y. 0 };
+
+    ghost calls = { λ q s x y. 3 };
+
     fn id(&self) -> ComponentId {
         ComponentId::QuitDialog
     }

@@ -2,6 +2,7 @@
 ghost use Rattle.std.specs.Prelude.{◌≡◌, ◌-ℤ◌, ◌+ℤ◌, pos, OnOk, IfErr};
 ghost use Rattle.scm_cells.specs.Rect.{or_zero, InRange, RectInRange};
 ghost use Rattle.scm_cells.specs.Mask.{MaskInRange};
+ghost use Rattle.scm_cells.specs.Counts.{added};
 ghost use Rattle.scm_render.specs.Picture.{PictureInRange, covering, part};
 ghost use Rattle.scm_render.specs.Canvas.{with_picture, under};
 ghost use Rattle.scm_errors.specs.declared.error.RecordError.TheVariants.{OutOfMemory};
@@ -42,6 +43,7 @@ pub(crate) fn fold_column(viewport: &Viewport<ComponentId>) -> isize
 pub(crate) fn cover_rect(viewport: &mut Viewport<ComponentId>, rect: Rect)
     requires { RectInRange rect }
     ensures new { viewport.new.canvas ≡ with_picture viewport.old.canvas (covering rect) }
+    ensures counts { viewport.new.counts ≡ viewport.old.counts }
     ensures rect { viewport.new.canvas.sight.rect ≡ viewport.old.canvas.sight.rect }
 {
     viewport.cover(rect);
@@ -51,6 +53,7 @@ pub(crate) fn cover_rect(viewport: &mut Viewport<ComponentId>, rect: Rect)
 pub(crate) fn cover_rest(viewport: &mut Viewport<ComponentId>, x: isize, y: isize)
     requires { PictureInRange {K = ComponentId} (covering (rest_of_row viewport.old.canvas.sight x y)) }
     ensures new { viewport.new.canvas ≡ with_picture viewport.old.canvas (covering (rest_of_row viewport.old.canvas.sight x y)) }
+    ensures counts { viewport.new.counts ≡ viewport.old.counts }
     ensures rect { viewport.new.canvas.sight.rect ≡ viewport.old.canvas.sight.rect }
 {
     let rest = Rect {
@@ -66,6 +69,7 @@ pub(crate) fn cover_rest(viewport: &mut Viewport<ComponentId>, x: isize, y: isiz
 pub(crate) fn cover_row(viewport: &mut Viewport<ComponentId>, y: isize)
     requires { PictureInRange {K = ComponentId} (covering (whole_row viewport.old.canvas.sight y)) }
     ensures new { viewport.new.canvas ≡ with_picture viewport.old.canvas (covering (whole_row viewport.old.canvas.sight y)) }
+    ensures counts { viewport.new.counts ≡ viewport.old.counts }
     ensures rect { viewport.new.canvas.sight.rect ≡ viewport.old.canvas.sight.rect }
 {
     let reach = viewport.mask_rect();
@@ -82,6 +86,7 @@ pub(crate) fn cover_row(viewport: &mut Viewport<ComponentId>, y: isize)
 pub(crate) fn highlight(viewport: &mut Viewport<ComponentId>, y: isize, is_selected: bool)
     requires { PictureInRange (highlight is_selected viewport.old.canvas.sight y) }
     ensures new { viewport.new.canvas ≡ with_picture viewport.old.canvas (highlight is_selected viewport.old.canvas.sight y) }
+    ensures counts { viewport.new.counts ≡ viewport.old.counts }
     ensures rect { viewport.new.canvas.sight.rect ≡ viewport.old.canvas.sight.rect }
 {
     if is_selected {
@@ -100,6 +105,7 @@ pub(crate) fn draw_under<K: Copy + Eq + Hash + Drop, C: Component<Id = K>>(
     requires mask { MaskInRange mask }
     requires picture { PictureInRange (part (C.key component.now) (C.picture component.now (under mask viewport.old.canvas.sight) x y)) }
     ensures ok { OnOk result (viewport.new.canvas ≡ with_picture viewport.old.canvas (part (C.key component.now) (C.picture component.now (under mask viewport.old.canvas.sight) x y))) }
+    ensures counts { OnOk result (viewport.new.counts ≡ added viewport.old.counts (record { rows = C.rows component.now (under mask viewport.old.canvas.sight) x y; calls = C.calls component.now (under mask viewport.old.canvas.sight) x y })) }
     ensures rect { viewport.new.canvas.sight.rect ≡ viewport.old.canvas.sight.rect }
     ensures err { IfErr result (λ e. e ≡ OutOfMemory) }
 {

@@ -3,6 +3,8 @@ ghost use Rattle.std.specs.Prelude.{◌≡◌, pos, ◌+ℤ◌, OnOk, IfErr};
 ghost use Rattle.scm_render.specs.Picture.{PictureInRange};
 ghost use Rattle.scm_render.specs.Canvas.{with_picture};
 ghost use Rattle.scm_render.specs.Drawing.{text_picture};
+ghost use Rattle.scm_cells.specs.Counts.{added, one_call};
+ghost use Rattle.scm_view.specs.Counts.{drawn, on_row};
 ghost use Rattle.scm_errors.specs.declared.error.RecordError.TheVariants.{OutOfMemory};
 ghost use Rattle.scm_view.specs.declared.ids.ComponentId.{ComponentId};
 ghost use Rattle.scm_view.specs.Pictures.{context_picture, changed_picture};
@@ -11,6 +13,7 @@ ghost use Rattle.scm_view.specs.Texts.{number_text, sign_text};
 
 use crate::ids::ComponentId;
 use crate::reach::cover_row;
+use crate::shown::{begin_row, show_box, show_text};
 use crate::texts::{number_text, sign_text};
 use crate::tristate_box::TristateBox;
 use scm_cells::{Span, push_spans_from_line};
@@ -60,13 +63,14 @@ fn draw_line_texts(
 ) -> Result<(), RecordError>
     requires { PictureInRange {K = ComponentId} (text_picture viewport.old.canvas.sight x y (line_texts front.now line.now)) }
     ensures ok { OnOk result (viewport.new.canvas ≡ with_picture viewport.old.canvas (text_picture viewport.old.canvas.sight x y (line_texts front.now line.now))) }
+    ensures counts { OnOk result (viewport.new.counts ≡ added viewport.old.counts (on_row viewport.old.canvas.sight.rect y one_call)) }
     ensures rect { viewport.new.canvas.sight.rect ≡ viewport.old.canvas.sight.rect }
     ensures err { IfErr result (λ e. e ≡ OutOfMemory) }
 {
     let mut spans = Vec::new(alloc);
     spans.push(Span(front))?;
     push_spans_from_line(line, &mut spans)?;
-    viewport.draw_text(x, y, spans.as_slice())?;
+    show_text(viewport, x, y, spans.as_slice())?;
     Ok(())
 }
 
@@ -81,6 +85,7 @@ fn draw_context_line(
 ) -> Result<(), RecordError>
     requires { PictureInRange (context_picture (line_texts (number_text number) line.now) viewport.old.canvas.sight x y) }
     ensures ok { OnOk result (viewport.new.canvas ≡ with_picture viewport.old.canvas (context_picture (line_texts (number_text number) line.now) viewport.old.canvas.sight x y)) }
+    ensures counts { OnOk result (viewport.new.counts ≡ added viewport.old.counts (on_row viewport.old.canvas.sight.rect y (drawn 0 1))) }
     ensures rect { viewport.new.canvas.sight.rect ≡ viewport.old.canvas.sight.rect }
     ensures err { IfErr result (λ e. e ≡ OutOfMemory) }
 {
@@ -102,11 +107,12 @@ fn draw_changed_line(
 ) -> Result<(), RecordError>
     requires { PictureInRange (changed_picture toggle_box.now (line_texts (sign_text change_type) line.now) viewport.old.canvas.sight x y) }
     ensures ok { OnOk result (viewport.new.canvas ≡ with_picture viewport.old.canvas (changed_picture toggle_box.now (line_texts (sign_text change_type) line.now) viewport.old.canvas.sight x y)) }
+    ensures counts { OnOk result (viewport.new.counts ≡ added viewport.old.counts (on_row viewport.old.canvas.sight.rect y (drawn 0 2))) }
     ensures rect { viewport.new.canvas.sight.rect ≡ viewport.old.canvas.sight.rect }
     ensures err { IfErr result (λ e. e ≡ OutOfMemory) }
 {
     cover_row(viewport, y);
-    viewport.draw_component(x, y, toggle_box)?;
+    show_box(viewport, x, y, toggle_box)?;
     draw_line_texts(alloc, viewport, x + 4, y, sign_text(change_type), line)?;
     Ok(())
 }
@@ -119,7 +125,13 @@ impl<'a> Component for SectionLineView<'a> {
 
     ghost key = { λ v. line_id v.line_key };
 
+    ghost use Rattle.scm_view.specs.Counts.{line_counts};
+
     ghost picture = { line_picture };
+
+    ghost rows = { λ v s x y. (line_counts v.inner s.rect y).rows };
+
+    ghost calls = { λ v s x y. (line_counts v.inner s.rect y).calls };
 
     fn id(&self) -> ComponentId {
         ComponentId::SelectableItem(SelectionKey::Line(self.line_key))
@@ -132,6 +144,7 @@ impl<'a> Component for SectionLineView<'a> {
         x: isize,
         y: isize,
     ) -> Result<(), RecordError> {
+        begin_row(viewport, y);
         match &self.inner {
             SectionLineViewInner::Unchanged { line, line_num } => {
                 draw_context_line(alloc, viewport, x, y, line, *line_num)

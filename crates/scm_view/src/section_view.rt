@@ -3,16 +3,21 @@ ghost use Rattle.std.specs.Prelude.{◌≡◌, ℕ, ◌≤◌, ◌+◌, ◌-◌,
 ghost use Rattle.scm_cells.specs.Rect.{InRange};
 ghost use Rattle.scm_render.specs.Picture.{PictureInRange};
 ghost use Rattle.scm_render.specs.Canvas.{with_picture};
+ghost use Rattle.scm_cells.specs.Counts.{added};
+ghost use Rattle.scm_view.specs.Counts.{row_counts, rows_counts};
 ghost use Rattle.scm_errors.specs.declared.error.RecordError.TheVariants.{OutOfMemory};
 ghost use Rattle.scm_types.specs.declared.section.Section.TheVariants.{Changed};
 ghost use Rattle.scm_view.specs.Texts.{section_text, mode_change_text, binary_text, dots_text};
-ghost use Rattle.scm_view.specs.Rows.{SectionRow, MarkRow, DotsRow, mark_of, line_key_of, section_box, line_box, section_heading, line_number, numbered_row, numbered_rows, changed_row, changed_rows, context_rows, section_rows, is_selected, is_line_selected, is_header_selected, is_first, is_last, is_open, are_all_shown, lines_above, has_dots, first_below, rows_below, shown_lines, rows_of, dots_height, lines_height, context_height, changed_height, section_height};
+ghost use Rattle.scm_view.specs.Rows.{SectionRow, MarkRow, DotsRow, mark_of, line_key_of, section_box, line_box, section_heading, is_fold_open, line_number, numbered_row, numbered_rows, changed_row, changed_rows, context_rows, section_rows, is_selected, is_line_selected, is_header_selected, is_first, is_last, is_open, are_all_shown, lines_above, has_dots, first_below, rows_below, shown_lines, rows_of, dots_height, lines_height, context_height, changed_height, section_height};
+ghost use Rattle.scm_view.specs.Spans.{no_lines, context_lines, lines_of};
 ghost use Rattle.scm_view.specs.Pictures.{IdPicture, row_picture, rows_picture};
 
 use crate::heading::draw_heading;
 use crate::ids::ComponentId;
+use crate::line_rows::LineRows;
 use crate::reach::{cover_rest, highlight};
 use crate::section_line_view::{SectionLineView, SectionLineViewInner};
+use crate::shown::{begin_row, show_box, show_span, show_text};
 use crate::texts::{binary_text, dots_text, mode_change_text, section_text};
 use crate::tristate_box::{TristateBox, TristateIconStyle};
 use scm_cells::Span;
@@ -158,6 +163,7 @@ impl<'a> SectionView<'a> {
     ) -> Result<(), RecordError>
         requires { PictureInRange (row_picture (numbered_row self.now index line.now) viewport.old.canvas.sight x y) }
         ensures ok { OnOk result (viewport.new.canvas ≡ with_picture viewport.old.canvas (row_picture (numbered_row self.now index line.now) viewport.old.canvas.sight x y)) }
+        ensures counts { OnOk result (viewport.new.counts ≡ added viewport.old.counts (row_counts (numbered_row self.now index line.now) viewport.old.canvas.sight.rect y)) }
         ensures rect { viewport.new.canvas.sight.rect ≡ viewport.old.canvas.sight.rect }
         ensures err { IfErr result (λ e. e ≡ OutOfMemory) }
     {
@@ -184,6 +190,7 @@ impl<'a> SectionView<'a> {
         requires index { first + length lines.now ≤ 2 ^ 64 - 1 }
         requires picture { PictureInRange (rows_picture (numbered_rows self.now first lines.now) viewport.old.canvas.sight x y) }
         ensures ok { OnOk result (viewport.new.canvas ≡ with_picture viewport.old.canvas (rows_picture (numbered_rows self.now first lines.now) viewport.old.canvas.sight x y)) }
+        ensures counts { OnOk result (viewport.new.counts ≡ added viewport.old.counts (rows_counts (numbered_rows self.now first lines.now) viewport.old.canvas.sight.rect y)) }
         ensures rect { viewport.new.canvas.sight.rect ≡ viewport.old.canvas.sight.rect }
         ensures err { IfErr result (λ e. e ≡ OutOfMemory) }
     {
@@ -206,6 +213,7 @@ impl<'a> SectionView<'a> {
     ) -> Result<(), RecordError>
         requires { PictureInRange (row_picture (changed_row self.now index line.now) viewport.old.canvas.sight x y) }
         ensures ok { OnOk result (viewport.new.canvas ≡ with_picture viewport.old.canvas (row_picture (changed_row self.now index line.now) viewport.old.canvas.sight x y)) }
+        ensures counts { OnOk result (viewport.new.counts ≡ added viewport.old.counts (row_counts (changed_row self.now index line.now) viewport.old.canvas.sight.rect y)) }
         ensures rect { viewport.new.canvas.sight.rect ≡ viewport.old.canvas.sight.rect }
         ensures err { IfErr result (λ e. e ≡ OutOfMemory) }
     {
@@ -231,6 +239,7 @@ impl<'a> SectionView<'a> {
     ) -> Result<(), RecordError>
         requires { PictureInRange (rows_picture (changed_rows self.now 0 lines.now) viewport.old.canvas.sight x y) }
         ensures ok { OnOk result (viewport.new.canvas ≡ with_picture viewport.old.canvas (rows_picture (changed_rows self.now 0 lines.now) viewport.old.canvas.sight x y)) }
+        ensures counts { OnOk result (viewport.new.counts ≡ added viewport.old.counts (rows_counts (changed_rows self.now 0 lines.now) viewport.old.canvas.sight.rect y)) }
         ensures rect { viewport.new.canvas.sight.rect ≡ viewport.old.canvas.sight.rect }
         ensures err { IfErr result (λ e. e ≡ OutOfMemory) }
     {
@@ -252,9 +261,11 @@ impl<'a> SectionView<'a> {
     ) -> Result<(), RecordError>
         requires { PictureInRange (row_picture (SectionRow (is_selected self.now) (section_heading self.now)) viewport.old.canvas.sight x y) }
         ensures ok { OnOk result (viewport.new.canvas ≡ with_picture viewport.old.canvas (row_picture (SectionRow (is_selected self.now) (section_heading self.now)) viewport.old.canvas.sight x y)) }
+        ensures counts { OnOk result (viewport.new.counts ≡ added viewport.old.counts (row_counts (SectionRow (is_selected self.now) (section_heading self.now)) viewport.old.canvas.sight.rect y)) }
         ensures rect { viewport.new.canvas.sight.rect ≡ viewport.old.canvas.sight.rect }
         ensures err { IfErr result (λ e. e ≡ OutOfMemory) }
     {
+        begin_row(viewport, y);
         let title = section_text(
             alloc,
             self.editable_section_num,
@@ -283,13 +294,15 @@ impl<'a> SectionView<'a> {
     ) -> Result<(), RecordError>
         requires { PictureInRange (row_picture (MarkRow (is_selected self.now) (section_box self.now is_checked) text.now) viewport.old.canvas.sight x y) }
         ensures ok { OnOk result (viewport.new.canvas ≡ with_picture viewport.old.canvas (row_picture (MarkRow (is_selected self.now) (section_box self.now is_checked) text.now) viewport.old.canvas.sight x y)) }
+        ensures counts { OnOk result (viewport.new.counts ≡ added viewport.old.counts (row_counts (MarkRow (is_selected self.now) (section_box self.now is_checked) text.now) viewport.old.canvas.sight.rect y)) }
         ensures rect { viewport.new.canvas.sight.rect ≡ viewport.old.canvas.sight.rect }
         ensures err { IfErr result (λ e. e ≡ OutOfMemory) }
     {
         let toggle_box = self.section_box(is_checked);
+        begin_row(viewport, y);
         cover_rest(viewport, x, y);
-        viewport.draw_component(x, y, &toggle_box)?;
-        viewport.draw_text(x + 4, y, &[Span(text)])?;
+        show_box(viewport, x, y, &toggle_box)?;
+        show_text(viewport, x + 4, y, &[Span(text)])?;
         highlight(viewport, y, self.is_selected());
         Ok(())
     }
@@ -303,12 +316,27 @@ impl<'a> SectionView<'a> {
     ) -> Result<(), RecordError>
         requires { PictureInRange (row_picture (DotsRow (dots_text self.now.use_unicode)) viewport.old.canvas.sight x y) }
         ensures ok { OnOk result (viewport.new.canvas ≡ with_picture viewport.old.canvas (row_picture (DotsRow (dots_text self.now.use_unicode)) viewport.old.canvas.sight x y)) }
+        ensures counts { OnOk result (viewport.new.counts ≡ added viewport.old.counts (row_counts (DotsRow (dots_text self.now.use_unicode)) viewport.old.canvas.sight.rect y)) }
         ensures rect { viewport.new.canvas.sight.rect ≡ viewport.old.canvas.sight.rect }
         ensures err { IfErr result (λ e. e ≡ OutOfMemory) }
     {
+        begin_row(viewport, y);
         cover_rest(viewport, x, y);
-        viewport.draw_span(x + 6, y, &Span(dots_text(self.use_unicode)))?;
+        show_span(viewport, x + 6, y, dots_text(self.use_unicode))?;
         Ok(())
+    }
+}
+
+/// No line stands on a row.
+pub(crate) fn no_line_rows() -> LineRows
+    ensures { result ≡ no_lines }
+{
+    LineRows {
+        first_row: 0,
+        above: 0,
+        below_row: 0,
+        below: 0,
+        count: 0,
     }
 }
 
@@ -330,7 +358,7 @@ impl<'a> SectionView<'a> {
     }
 
     /// How many lines are shown below the section before.
-    fn lines_above(&self, count: usize) -> usize
+    pub(crate) fn lines_above(&self, count: usize) -> usize
         ensures lines { result ≡ lines_above self.now count }
         ensures most { result ≤ count }
     {
@@ -352,7 +380,7 @@ impl<'a> SectionView<'a> {
     }
 
     /// The first of the lines that are shown above the section after.
-    fn first_below(&self, count: usize) -> usize
+    pub(crate) fn first_below(&self, count: usize) -> usize
         ensures line { result ≡ first_below self.now count }
         ensures most { result ≤ count }
     {
@@ -366,7 +394,7 @@ impl<'a> SectionView<'a> {
     }
 
     /// The row of dots, if some of the lines may be left out.
-    fn dots_height(&self, count: usize) -> usize
+    pub(crate) fn dots_height(&self, count: usize) -> usize
         ensures { result ≡ dots_height self.now count }
     {
         if self.has_dots(count) { 1 } else { 0 }
@@ -423,6 +451,53 @@ impl<'a> SectionView<'a> {
         }
     }
 
+    /// On which rows so many lines of context stand.
+    fn context_line_rows(&self, count: usize) -> LineRows
+        ensures { result ≡ (if count == 0 then no_lines else context_lines self.now count) }
+    {
+        if count == 0 {
+            no_line_rows()
+        } else {
+            let above = self.lines_above(count);
+            LineRows {
+                first_row: 0,
+                above,
+                below_row: above + self.dots_height(count),
+                below: self.first_below(count),
+                count,
+            }
+        }
+    }
+
+    /// On which rows so many changed lines stand.
+    fn changed_line_rows(&self, count: usize) -> LineRows
+        ensures { result ≡ (if is_fold_open self.now.expand_box then record { first_row = 1; above = count; below_row = 0; below = count; count = count } else no_lines) }
+    {
+        if self.expand_box.is_open() {
+            LineRows {
+                first_row: 1,
+                above: count,
+                below_row: 0,
+                below: count,
+                count,
+            }
+        } else {
+            no_line_rows()
+        }
+    }
+
+    /// On which rows its lines stand.
+    pub(crate) fn line_rows(&self) -> LineRows
+        ensures { result ≡ lines_of self.now self.now.section.now }
+    {
+        match self.section {
+            Section::Unchanged { lines } => self.context_line_rows(lines.len()),
+            Section::Changed { lines } => self.changed_line_rows(lines.len()),
+            Section::FileMode { .. } => no_line_rows(),
+            Section::Binary { .. } => no_line_rows(),
+        }
+    }
+
     /// Its kind can be edited, and it is not folded.
     pub(crate) fn is_open(&self) -> bool
         ensures { result ≡ is_open self.now }
@@ -440,6 +515,7 @@ impl<'a> SectionView<'a> {
     ) -> Result<(), RecordError>
         requires { PictureInRange (rows_picture (rows_below self.now lines.now) viewport.old.canvas.sight x y) }
         ensures ok { OnOk result (viewport.new.canvas ≡ with_picture viewport.old.canvas (rows_picture (rows_below self.now lines.now) viewport.old.canvas.sight x y)) }
+        ensures counts { OnOk result (viewport.new.counts ≡ added viewport.old.counts (rows_counts (rows_below self.now lines.now) viewport.old.canvas.sight.rect y)) }
         ensures rect { viewport.new.canvas.sight.rect ≡ viewport.old.canvas.sight.rect }
         ensures err { IfErr result (λ e. e ≡ OutOfMemory) }
     {
@@ -462,6 +538,7 @@ impl<'a> SectionView<'a> {
     ) -> Result<(), RecordError>
         requires { PictureInRange (rows_picture (shown_lines self.now lines.now) viewport.old.canvas.sight x y) }
         ensures ok { OnOk result (viewport.new.canvas ≡ with_picture viewport.old.canvas (rows_picture (shown_lines self.now lines.now) viewport.old.canvas.sight x y)) }
+        ensures counts { OnOk result (viewport.new.counts ≡ added viewport.old.counts (rows_counts (shown_lines self.now lines.now) viewport.old.canvas.sight.rect y)) }
         ensures rect { viewport.new.canvas.sight.rect ≡ viewport.old.canvas.sight.rect }
         ensures err { IfErr result (λ e. e ≡ OutOfMemory) }
     {
@@ -480,10 +557,12 @@ impl<'a> SectionView<'a> {
     ) -> Result<(), RecordError>
         requires { PictureInRange (rows_picture (context_rows self.now lines.now) viewport.old.canvas.sight x y) }
         ensures ok { OnOk result (viewport.new.canvas ≡ with_picture viewport.old.canvas (rows_picture (context_rows self.now lines.now) viewport.old.canvas.sight x y)) }
+        ensures counts { OnOk result (viewport.new.counts ≡ added viewport.old.counts (rows_counts (context_rows self.now lines.now) viewport.old.canvas.sight.rect y)) }
         ensures rect { viewport.new.canvas.sight.rect ≡ viewport.old.canvas.sight.rect }
         ensures err { IfErr result (λ e. e ≡ OutOfMemory) }
     {
         if lines.is_empty() {
+            begin_row(viewport, y);
             cover_rest(viewport, x, y);
             Ok(())
         } else {
@@ -502,6 +581,7 @@ impl<'a> SectionView<'a> {
     ) -> Result<(), RecordError>
         requires { PictureInRange (rows_picture (rows_of self.now (Changed lines.now)) viewport.old.canvas.sight x y) }
         ensures ok { OnOk result (viewport.new.canvas ≡ with_picture viewport.old.canvas (rows_picture (rows_of self.now (Changed lines.now)) viewport.old.canvas.sight x y)) }
+        ensures counts { OnOk result (viewport.new.counts ≡ added viewport.old.counts (rows_counts (rows_of self.now (Changed lines.now)) viewport.old.canvas.sight.rect y)) }
         ensures rect { viewport.new.canvas.sight.rect ≡ viewport.old.canvas.sight.rect }
         ensures err { IfErr result (λ e. e ≡ OutOfMemory) }
     {
@@ -523,6 +603,10 @@ impl<'a> Component for SectionView<'a> {
     ghost key = { λ v. section_id v.section_key };
 
     ghost picture = { section_picture };
+
+    ghost rows = { λ v s x y. (rows_counts (section_rows v) s.rect y).rows };
+
+    ghost calls = { λ v s x y. (rows_counts (section_rows v) s.rect y).calls };
 
     fn id(&self) -> ComponentId {
         ComponentId::SelectableItem(SelectionKey::Section(self.section_key))

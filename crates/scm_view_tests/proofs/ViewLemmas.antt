@@ -19,7 +19,7 @@ use Rattle.scm_view.specs.declared.file_view_header.FileViewHeader.{FileViewHead
 use Rattle.scm_view.specs.declared.commit_view.CommitView.{CommitView}
 use Rattle.scm_view.specs.Texts.{box_text, path_text}
 use Rattle.scm_view.specs.Rows.{IdBox, Heading, ShownSection, lent_text, header_heading, is_first, is_fold_open, is_open, is_first_open, is_shown, are_all_shown, has_dots, lines_height, section_height, rows_of, section_rows, shown_section, shown_sections, sections_rows, shown_file, file_rows, document_of}
-use Rattle.scm_view.proofs.FilesRows.{files_rows}
+use Rattle.scm_view.specs.FilesRows.{files_rows}
 use Rattle.scm_view.specs.Pictures.{box_picture, header_picture, section_picture, commit_picture}
 use Rattle.scm_view.specs.Shown.{lent}
 use Rattle.scm_view.specs.Close.{IsClose, SightIsClose}

@@ -476,6 +476,43 @@ fn documents_are_drawn_alone(rt: HostRuntime) -> Result<(), RecordError> {
     Ok(())
 }
 
+/// A file of so many added lines, alone.
+fn long_file(alloc: Global, count: usize) -> Result<Vec<File<'static>>, RecordError> {
+    let mut lines = Items::new(alloc);
+    for _ in 0..count {
+        lines.push(SectionChangedLine {
+            is_checked: false,
+            change_type: ADDED,
+            line: Text::from("0\n"),
+        })?;
+    }
+    let sections = vec![in alloc; Section::Changed { lines }]?;
+    Ok(vec![in alloc; file_of(DEFAULT, sections)]?)
+}
+
+/// How many rows and calls a screen of 24 by 8 takes that shows such a file from its second row on.
+fn counts_of(
+    rt: &impl Abort,
+    alloc: Global,
+    count: usize,
+) -> Result<(usize, usize), RecordError> {
+    let look = Look {
+        use_unicode: true,
+        selection: SelectionKey::None,
+    };
+    let files = long_file(alloc, count)?;
+    let mut grid = Grid::new(alloc, 24, 8)?;
+    draw_files(rt, alloc, look, files.as_slice(), &mut grid, 1)?;
+    Ok((grid.rows_drawn(), grid.calls()))
+}
+
+#[test]
+fn long_files_take_no_more_calls(rt: HostRuntime) -> Result<(), RecordError> {
+    assert_eq!(rt; counts_of(&rt, rt.alloc(), 10)?, (9, 22));
+    assert_eq!(rt; counts_of(&rt, rt.alloc(), 900)?, (9, 22));
+    Ok(())
+}
+
 /// Draws the document without files.
 fn check_no_files(
     rt: &impl Abort,

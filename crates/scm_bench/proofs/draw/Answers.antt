@@ -12,7 +12,7 @@ use Rattle.scm_bench.proofs.draw.Goals as goal
 pub loop-row-init : goal.loop-row-init
 loop-row-init c =
     let columns : c.width.result ≤ 100 = rw (c.width.ensures.value, c.clear.ensures) c.requires.screen in
-    rw c.new-viewport.ensures (record {
+    rw c.new-viewport.ensures.canvas (record {
       near = record { x = omega (arith, places); end_x = omega (arith, places, columns); mask_x = omega (arith, places) };
       width = rw (c.width.ensures.value, c.clear.ensures) refl;
     })

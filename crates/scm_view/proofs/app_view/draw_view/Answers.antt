@@ -69,3 +69,12 @@ returns-clause-next c =
     let end : FitsSigned w64 (c.args.x +ℤ pos (apply_of (view_mask s c.args.x c.args.width) (box_rect (view_picture v s c.args.x c.args.width))).width) = fits.0 in
     let next : FitsSigned w64 (next_view v s c.args.x c.args.width) = fits.1 in
     rw sum (simp to_z-of_z refl)
+
+pub returns-clause-counts : goal.returns-clause-counts
+returns-clause-counts c =
+    let fx : FitsSigned w64 c.args.x = c.ranges.x in
+    let s = c.args.viewport.now.canvas.sight in
+    let mask = simp to_z-of_z at c.view_mask-mask.ensures.mask in
+    let seen : c.swap_mask-outer.new.self.canvas.sight ≡ under (view_mask s c.args.x c.args.width) s = ap (λ v. v.sight) c.swap_mask-outer.ensures.new ∙ ap (λ m. under m s) mask in
+    let drawn = rw c.swap_mask-outer.ensures.counts at (rw seen at c.in_ok-drawn.ensures.counts) in
+    c.swap_mask.ensures.counts ∙ drawn

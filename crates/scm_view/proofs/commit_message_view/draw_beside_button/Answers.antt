@@ -6,6 +6,7 @@ use Rattle.scm_render.specs.Drawing.{text_picture}
 use Rattle.scm_render.proofs.PictureLemmas.{PictureInRange-left}
 use Rattle.scm_view.specs.Pictures.{IdPicture, beside_button}
 use Rattle.scm_render.proofs.StepLemmas.{step, rest, span-place, text-place, InRange-fits}
+use Rattle.scm_view.proofs.CountLemmas.{on_row-then}
 use Rattle.scm_view.proofs.commit_message_view.draw_beside_button.Goals as goal
 
 abbrev text : List ℕ → ℤ → ℤ → Sight → IdPicture
@@ -17,9 +18,9 @@ overflow_add-x c =
     let fx : FitsSigned w64 c.args.x = c.ranges.x in
     simp to_z-of_z (InRange-fits _ (span-place _ _ _ _ (PictureInRange-left _ _ c.requires)).0)
 
-pub draw_span-requires : goal.draw_span-requires
+pub show_span-requires : goal.show_span-requires
 unfolding beside_button
-draw_span-requires c =
+show_span-requires c =
     let fx : FitsSigned w64 c.args.x = c.ranges.x in
     let fy : FitsSigned w64 c.args.y = c.ranges.y in
     let f15 : FitsSigned w64 (c.args.x +ℤ pos 15) = InRange-fits _ (span-place _ _ _ _ (PictureInRange-left _ _ c.requires)).0 in
@@ -31,16 +32,16 @@ overflow_add-x-2 c =
     let fx : FitsSigned w64 c.args.x = c.ranges.x in
     let fy : FitsSigned w64 c.args.y = c.ranges.y in
     let f15 : FitsSigned w64 (c.args.x +ℤ pos 15) = InRange-fits _ (span-place _ _ _ _ (PictureInRange-left _ _ c.requires)).0 in
-    let drawn = rw c.divider_text.ensures at (simp to_z-of_z at c.in_ok-draw_span.ensures.ok) in
+    let drawn = rw c.divider_text.ensures at (simp to_z-of_z at c.in_ok-show_span.ensures.ok) in
     simp to_z-of_z (InRange-fits _ (text-place _ _ _ _ (rest _ _ _ (text c.args.text.now c.args.x c.args.y) drawn c.requires)).0)
 
-pub draw_text-requires : goal.draw_text-requires
+pub show_text-requires : goal.show_text-requires
 unfolding beside_button
-draw_text-requires c =
+show_text-requires c =
     let fx : FitsSigned w64 c.args.x = c.ranges.x in
     let fy : FitsSigned w64 c.args.y = c.ranges.y in
     let f15 : FitsSigned w64 (c.args.x +ℤ pos 15) = InRange-fits _ (span-place _ _ _ _ (PictureInRange-left _ _ c.requires)).0 in
-    let drawn = rw c.divider_text.ensures at (simp to_z-of_z at c.in_ok-draw_span.ensures.ok) in
+    let drawn = rw c.divider_text.ensures at (simp to_z-of_z at c.in_ok-show_span.ensures.ok) in
     let last = rest _ _ _ (text c.args.text.now c.args.x c.args.y) drawn c.requires in
     let f19 : FitsSigned w64 (c.args.x +ℤ pos 19) = InRange-fits _ (text-place _ _ _ _ last).0 in
     simp to_z-of_z last
@@ -51,7 +52,15 @@ returns-clause-ok c =
     let fx : FitsSigned w64 c.args.x = c.ranges.x in
     let fy : FitsSigned w64 c.args.y = c.ranges.y in
     let f15 : FitsSigned w64 (c.args.x +ℤ pos 15) = InRange-fits _ (span-place _ _ _ _ (PictureInRange-left _ _ c.requires)).0 in
-    let drawn = rw c.divider_text.ensures at (simp to_z-of_z at c.in_ok-draw_span.ensures.ok) in
+    let drawn = rw c.divider_text.ensures at (simp to_z-of_z at c.in_ok-show_span.ensures.ok) in
     let last = rest _ _ _ (text c.args.text.now c.args.x c.args.y) drawn c.requires in
     let f19 : FitsSigned w64 (c.args.x +ℤ pos 19) = InRange-fits _ (text-place _ _ _ _ last).0 in
-    step _ _ _ _ (text c.args.text.now c.args.x c.args.y) drawn (simp to_z-of_z at c.in_ok-draw_text.ensures.ok)
+    step _ _ _ _ (text c.args.text.now c.args.x c.args.y) drawn (simp to_z-of_z at c.in_ok-show_text.ensures.ok)
+
+pub returns-clause-counts : goal.returns-clause-counts
+unfolding beside_button
+returns-clause-counts c =
+    let fx : FitsSigned w64 c.args.x = c.ranges.x in
+    let fy : FitsSigned w64 c.args.y = c.ranges.y in
+    let divider = simp to_z-of_z at c.in_ok-show_span.ensures.counts in
+    on_row-then _ _ _ _ _ _ _ _ c.in_ok-show_span.ensures.rect divider (simp to_z-of_z at c.in_ok-show_text.ensures.counts)

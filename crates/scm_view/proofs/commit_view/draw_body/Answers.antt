@@ -44,3 +44,19 @@ returns-else-is_empty-clause-ok c =
     let fits : FitsSigned w64 (c.args.y +ℤ pos c.args.height) = InRange-fits _ (files-top _ _ _ _ some (rw some at c.requires)) in
     let row = simp to_z-of_z at c.strict_add_unsigned.ensures in
     rw some (simp to_z-of_z at (rw row at c.draw_files.ensures.ok))
+
+pub returns-then-is_empty-clause-counts : goal.returns-then-is_empty-clause-counts
+returns-then-is_empty-clause-counts c =
+    let fx : FitsSigned w64 c.args.x = c.ranges.x in
+    let fy : FitsSigned w64 c.args.y = c.ranges.y in
+    let none : (length (map shown_file c.args.files.now) == 0) ≡ true = ap (λ n. n == 0) (length-shown c.args.files.now) ∙ sym c.is_empty.ensures ∙ c.if-is_empty.true in
+    rw none (simp to_z-of_z at c.draw_no_files.ensures.counts)
+
+pub returns-else-is_empty-clause-counts : goal.returns-else-is_empty-clause-counts
+returns-else-is_empty-clause-counts c =
+    let fx : FitsSigned w64 c.args.x = c.ranges.x in
+    let fy : FitsSigned w64 c.args.y = c.ranges.y in
+    let some : (length (map shown_file c.args.files.now) == 0) ≡ false = ap (λ n. n == 0) (length-shown c.args.files.now) ∙ sym c.is_empty.ensures ∙ c.if-is_empty.false in
+    let fits : FitsSigned w64 (c.args.y +ℤ pos c.args.height) = InRange-fits _ (files-top _ _ _ _ some (rw some at c.requires)) in
+    let row = simp to_z-of_z at c.strict_add_unsigned.ensures in
+    rw some (simp to_z-of_z at (rw row at c.draw_files.ensures.counts))

@@ -5,6 +5,9 @@ use Rattle.scm_render.proofs.CanvasLemmas.{with_picture-after, with_picture-sigh
 use Rattle.scm_view.specs.Rows.{shown_file, file_rows}
 use Rattle.scm_render.proofs.StepLemmas.{InRange-fits}
 use Rattle.scm_view.proofs.FilesLemmas.{one_file-fits, files_picture-more, files_picture-end}
+use Rattle.scm_view.specs.Pictures.{mask_row}
+use Rattle.scm_render.proofs.CountLemmas.{counts-more, counts-end}
+use Rattle.scm_view.proofs.CountLemmas.{files_counts-more, files_counts-end}
 use Rattle.scm_view.proofs.commit_view.draw_files.Goals as goal
 
 pub draw_file-requires : goal.draw_file-requires
@@ -41,7 +44,11 @@ loop-file-preserved c =
     let fits : FitsSigned w64 (c.loop-file.row +ℤ pos (length (file_rows (shown_file v)))) = InRange-fits _ (one_file-fits (shown_file v) _ _ _ (PictureInRange-left _ _ all)).end in
     let drawn = simp c.loop-file.invariant.sight at (simp (to_z-of_z, c.loop-file.row-is) at c.in_ok-draw_file.ensures.ok) in
     let row = simp c.loop-file.row-is at c.row_below-row.ensures in
+    let count = rw (sym c.file-item.is) at (files_counts-more c.args.files.now c.loop-file.file-index v c.args.viewport.now.canvas.sight.rect (mask_row c.args.viewport.now.canvas.sight) c.loop-file.row c.loop-file-test.true) in
+    let left = simp (to_z-of_z, c.loop-file.row-is) at c.loop-file.invariant.counts in
+    let counted = simp c.loop-file.invariant.sight at (simp (to_z-of_z, c.loop-file.row-is) at c.in_ok-draw_file.ensures.counts) in
     rw row (simp to_z-of_z (record {
+      counts = counts-more _ _ _ _ _ _ _ count left counted;
       sight = ap (λ w. w.sight) drawn ∙ with_picture-sight _ _ ∙ c.loop-file.invariant.sight;
       in_range = PictureInRange-right _ _ all;
       whole = with_picture-after _ _ _ _ drawn ∙ whole;
@@ -54,3 +61,10 @@ returns-clause-ok c =
     let end = files_picture-end c.args.files.now c.loop-file.file-index c.args.viewport.now.canvas.sight c.args.x c.loop-file.row c.loop-file-test.false in
     let whole = rw end at (simp (to_z-of_z, c.loop-file.row-is) at c.loop-file.invariant.whole) in
     sym (with_picture-nothing _) ∙ whole
+
+pub returns-clause-counts : goal.returns-clause-counts
+returns-clause-counts c =
+    let fx : FitsSigned w64 c.args.x = c.ranges.x in
+    let fy : FitsSigned w64 c.args.y = c.ranges.y in
+    let left = simp (to_z-of_z, c.loop-file.row-is) at c.loop-file.invariant.counts in
+    counts-end _ _ _ _ (files_counts-end c.args.files.now c.loop-file.file-index c.args.viewport.now.canvas.sight.rect (mask_row c.args.viewport.now.canvas.sight) c.loop-file.row c.loop-file-test.false) left

@@ -33,3 +33,9 @@ returns-clause-ok c =
     let fx : FitsSigned w64 c.args.x = c.ranges.x in
     let fy : FitsSigned w64 c.args.y = c.ranges.y in
     simp to_z-of_z at (rw (c.header-header.ensures.key, c.header-header.ensures.heading, c.pinned_mask-row.ensures.mask) at c.draw_under.ensures.ok)
+
+pub returns-clause-counts : goal.returns-clause-counts
+returns-clause-counts c =
+    let fx : FitsSigned w64 c.args.x = c.ranges.x in
+    let fy : FitsSigned w64 c.args.y = c.ranges.y in
+    simp to_z-of_z at c.draw_under.ensures.counts

@@ -1,8 +1,11 @@
-use Rattle.std.proofs.Common.{sym, FitsSigned, w64}
+use Rattle.std.proofs.Common.{◌∙◌, [], refl, ap, sym, FitsSigned, w64}
 use Rattle.std.proofs.lemmas.Int.{to_z-of_z}
+use Rattle.scm_cells.specs.Counts.{added}
 use Rattle.scm_render.proofs.CanvasLemmas.{with_picture-nothing}
+use Rattle.scm_render.proofs.CountLemmas.{added-none}
 use Rattle.scm_view.specs.Pictures.{section_picture, sections_picture}
 use Rattle.scm_view.proofs.SectionsLemmas.{one-first, one-alone}
+use Rattle.scm_view.proofs.CountLemmas.{sections_counts-one, sections_counts-none}
 use Rattle.scm_view.proofs.file_view.draw_section.Goals as goal
 
 pub draw_component-requires : goal.draw_component-requires
@@ -22,3 +25,12 @@ returns-in_ok-draw_component-clause-ok c =
 pub returns-else-is_shown-clause-ok : goal.returns-else-is_shown-clause-ok
 unfolding sections_picture
 returns-else-is_shown-clause-ok c = rw c.if-is_shown.false (sym (with_picture-nothing _))
+
+pub returns-in_ok-draw_component-clause-counts : goal.returns-in_ok-draw_component-clause-counts
+returns-in_ok-draw_component-clause-counts c =
+    let fx : FitsSigned w64 c.args.x = c.ranges.x in
+    let fy : FitsSigned w64 c.args.y = c.ranges.y in
+    rw c.if-is_shown.true (simp to_z-of_z at c.in_ok-draw_component.ensures.counts ∙ ap (added c.args.viewport.now.counts) (sym (sections_counts-one _ _ _)))
+
+pub returns-else-is_shown-clause-counts : goal.returns-else-is_shown-clause-counts
+returns-else-is_shown-clause-counts c = rw c.if-is_shown.false (sym (added-none _) ∙ ap (added c.args.viewport.now.counts) (sym (sections_counts-none [] _ _ refl)))

@@ -7,6 +7,7 @@ use Rattle.scm_render.proofs.PictureLemmas.{PictureInRange-left}
 use Rattle.scm_view.specs.Rows.{IdBox}
 use Rattle.scm_view.specs.Pictures.{IdPicture, box_part, title_picture}
 use Rattle.scm_render.proofs.StepLemmas.{three, second, third, text-place, InRange-fits}
+use Rattle.scm_view.proofs.CountLemmas.{on_row-three}
 use Rattle.scm_view.proofs.heading.draw_before_fold.Goals as goal
 
 abbrev box : IdBox → ℤ → ℤ → Sight → IdPicture
@@ -15,19 +16,19 @@ box b x y s = box_part b s x y
 abbrev text : List ℕ → ℤ → ℤ → Sight → IdPicture
 text t x y s = text_picture s (x +ℤ pos 4) y (t ∷ [])
 
-pub draw_blank-requires : goal.draw_blank-requires
+pub show_blank-requires : goal.show_blank-requires
 unfolding title_picture
-draw_blank-requires c =
+show_blank-requires c =
     let fx : FitsSigned w64 c.args.x = c.ranges.x in
     let fy : FitsSigned w64 c.args.y = c.ranges.y in
     simp to_z-of_z (PictureInRange-left _ _ c.requires)
 
-pub draw_component-requires : goal.draw_component-requires
+pub show_box-requires : goal.show_box-requires
 unfolding title_picture
-draw_component-requires c =
+show_box-requires c =
     let fx : FitsSigned w64 c.args.x = c.ranges.x in
     let fy : FitsSigned w64 c.args.y = c.ranges.y in
-    let blank = simp to_z-of_z at c.in_ok-draw_blank.ensures.ok in
+    let blank = simp to_z-of_z at c.in_ok-show_blank.ensures.ok in
     simp to_z-of_z (second _ _ _ (box c.args.toggle_box.now c.args.x c.args.y) (text c.args.title.now c.args.x c.args.y) blank c.requires)
 
 pub overflow_add-x : goal.overflow_add-x
@@ -35,17 +36,17 @@ unfolding title_picture
 overflow_add-x c =
     let fx : FitsSigned w64 c.args.x = c.ranges.x in
     let fy : FitsSigned w64 c.args.y = c.ranges.y in
-    let blank = simp to_z-of_z at c.in_ok-draw_blank.ensures.ok in
-    let toggle = simp to_z-of_z at c.in_ok-draw_component.ensures.ok in
+    let blank = simp to_z-of_z at c.in_ok-show_blank.ensures.ok in
+    let toggle = simp to_z-of_z at c.in_ok-show_box.ensures.ok in
     simp to_z-of_z (InRange-fits _ (text-place _ _ _ _ (third _ _ _ _ (box c.args.toggle_box.now c.args.x c.args.y) (text c.args.title.now c.args.x c.args.y) blank toggle c.requires)).0)
 
-pub draw_text-requires : goal.draw_text-requires
+pub show_text-requires : goal.show_text-requires
 unfolding title_picture
-draw_text-requires c =
+show_text-requires c =
     let fx : FitsSigned w64 c.args.x = c.ranges.x in
     let fy : FitsSigned w64 c.args.y = c.ranges.y in
-    let blank = simp to_z-of_z at c.in_ok-draw_blank.ensures.ok in
-    let toggle = simp to_z-of_z at c.in_ok-draw_component.ensures.ok in
+    let blank = simp to_z-of_z at c.in_ok-show_blank.ensures.ok in
+    let toggle = simp to_z-of_z at c.in_ok-show_box.ensures.ok in
     let last = third _ _ _ _ (box c.args.toggle_box.now c.args.x c.args.y) (text c.args.title.now c.args.x c.args.y) blank toggle c.requires in
     let fits : FitsSigned w64 (c.args.x +ℤ pos 4) = InRange-fits _ (text-place _ _ _ _ last).0 in
     simp to_z-of_z last
@@ -55,8 +56,17 @@ unfolding title_picture
 returns-clause-ok c =
     let fx : FitsSigned w64 c.args.x = c.ranges.x in
     let fy : FitsSigned w64 c.args.y = c.ranges.y in
-    let blank = simp to_z-of_z at c.in_ok-draw_blank.ensures.ok in
-    let toggle = simp to_z-of_z at c.in_ok-draw_component.ensures.ok in
+    let blank = simp to_z-of_z at c.in_ok-show_blank.ensures.ok in
+    let toggle = simp to_z-of_z at c.in_ok-show_box.ensures.ok in
     let last = third _ _ _ _ (box c.args.toggle_box.now c.args.x c.args.y) (text c.args.title.now c.args.x c.args.y) blank toggle c.requires in
     let fits : FitsSigned w64 (c.args.x +ℤ pos 4) = InRange-fits _ (text-place _ _ _ _ last).0 in
-    three _ _ _ _ _ (box c.args.toggle_box.now c.args.x c.args.y) (text c.args.title.now c.args.x c.args.y) blank toggle (simp to_z-of_z at c.in_ok-draw_text.ensures.ok)
+    three _ _ _ _ _ (box c.args.toggle_box.now c.args.x c.args.y) (text c.args.title.now c.args.x c.args.y) blank toggle (simp to_z-of_z at c.in_ok-show_text.ensures.ok)
+
+pub returns-clause-counts : goal.returns-clause-counts
+returns-clause-counts c =
+    let fx : FitsSigned w64 c.args.x = c.ranges.x in
+    let fy : FitsSigned w64 c.args.y = c.ranges.y in
+    let blank = simp to_z-of_z at c.in_ok-show_blank.ensures.counts in
+    let toggle = simp to_z-of_z at c.in_ok-show_box.ensures.counts in
+    let title = simp to_z-of_z at c.in_ok-show_text.ensures.counts in
+    on_row-three _ _ _ _ _ _ _ _ _ _ _ c.in_ok-show_blank.ensures.rect c.in_ok-show_box.ensures.rect blank toggle title

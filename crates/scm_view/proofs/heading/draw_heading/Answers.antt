@@ -7,15 +7,16 @@ use Rattle.scm_view.specs.Rows.{IdBox}
 use Rattle.scm_view.specs.Pictures.{IdPicture, fold_column, heading_width, heading_mask, title_picture, heading_picture}
 use Rattle.scm_render.proofs.StepLemmas.{step, masked, sight-after, InRange-fits}
 use Rattle.scm_view.proofs.HeadingLemmas.{heading-fold, heading-mask}
+use Rattle.scm_view.proofs.CountLemmas.{on_row-then}
 use Rattle.scm_view.proofs.heading.draw_heading.Goals as goal
 
 -- what is drawn before the box of the fold
 abbrev before : IdBox → List ℕ → ℕ → ℤ → ℤ → Sight → IdPicture
 before b t n x y s = title_picture b t n s x y
 
-pub draw_component-requires : goal.draw_component-requires
+pub show_box-requires : goal.show_box-requires
 unfolding heading_picture
-draw_component-requires c =
+show_box-requires c =
     let fx : FitsSigned w64 c.args.x = c.ranges.x in
     let fy : FitsSigned w64 c.args.y = c.ranges.y in
     let column = c.fold_column-fold_x.ensures.column in
@@ -39,7 +40,7 @@ draw_before_fold-requires c =
     let column = c.fold_column-fold_x.ensures.column in
     let fits : FitsSigned w64 (fold_column c.args.viewport.now.canvas.sight) = InRange-fits _ (heading-fold _ _ _ _ c.requires) in
     let width = simp to_z-of_z at (rw column at c.columns-width.ensures) in
-    let fold = simp to_z-of_z at (rw column at c.in_ok-draw_component.ensures.ok) in
+    let fold = simp to_z-of_z at (rw column at c.in_ok-show_box.ensures.ok) in
     let set = simp to_z-of_z at (rw width at c.swap_mask-outer.ensures.new) in
     let sight = ap (λ v. v.sight) set ∙ ap (λ s. under (heading_mask c.args.viewport.now.canvas.sight c.args.x c.args.y) s) (sight-after _ _ _ fold) in
     rw (width, sight) (simp to_z-of_z (PictureInRange-right _ _ c.requires))
@@ -53,10 +54,19 @@ returns-clause-ok c =
     let column = c.fold_column-fold_x.ensures.column in
     let fits : FitsSigned w64 (fold_column s) = InRange-fits _ (heading-fold _ _ _ _ c.requires) in
     let width = simp to_z-of_z at (rw column at c.columns-width.ensures) in
-    let fold = simp to_z-of_z at (rw column at c.in_ok-draw_component.ensures.ok) in
+    let fold = simp to_z-of_z at (rw column at c.in_ok-show_box.ensures.ok) in
     let set = simp to_z-of_z at (rw width at c.swap_mask-outer.ensures.new) in
     let drawn = simp to_z-of_z at (rw width at c.in_ok-draw_before_fold.ensures.ok) in
     let back = rw c.swap_mask-outer.ensures.old at c.swap_mask.ensures.new in
     let mask = heading_mask s c.args.x c.args.y in
     step _ _ _ _ (λ t. before c.args.toggle_box.now c.args.title.now (heading_width s c.args.x) c.args.x c.args.y (under mask t)) fold
     (masked _ _ _ _ mask (before c.args.toggle_box.now c.args.title.now (heading_width s c.args.x) c.args.x c.args.y) set drawn back)
+
+pub returns-clause-counts : goal.returns-clause-counts
+returns-clause-counts c =
+    let fx : FitsSigned w64 c.args.x = c.ranges.x in
+    let fy : FitsSigned w64 c.args.y = c.ranges.y in
+    let fold = simp to_z-of_z at c.in_ok-show_box.ensures.counts in
+    let before = simp to_z-of_z at c.in_ok-draw_before_fold.ensures.counts in
+    c.swap_mask.ensures.counts
+    ∙ on_row-then _ _ _ _ _ _ _ _ (ap (λ v. v.sight.rect) c.swap_mask-outer.ensures.new ∙ c.in_ok-show_box.ensures.rect) (c.swap_mask-outer.ensures.counts ∙ fold) before

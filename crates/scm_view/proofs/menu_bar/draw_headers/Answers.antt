@@ -1,4 +1,4 @@
-use Rattle.std.proofs.Common.{ℕ, ◌≡◌, ◌+◌, ◌∙◌, sym, ap, ◌+ℤ◌, pos, FitsSigned, w64}
+use Rattle.std.proofs.Common.{arith, length, ◌-◌, ℕ, ◌≡◌, ◌+◌, ◌∙◌, sym, ap, ◌+ℤ◌, pos, FitsSigned, w64}
 use Rattle.std.specs.Prelude.{ℤ}
 use Rattle.std.proofs.lemmas.Int.{to_z-of_z}
 use Rattle.scm_render.specs.Canvas.{Sight}
@@ -10,6 +10,7 @@ use Rattle.scm_view.specs.Buttons.{button_width, button_part}
 use Rattle.scm_view.specs.Menus.{header_button}
 use Rattle.scm_view.proofs.ButtonRowLemmas.{button-columns}
 use Rattle.scm_view.proofs.MenuPartsLemmas.{headers_picture-more, headers_picture-end, headers_width-more, headers_width-end, header-fits, header_after-fits, header-next}
+use Rattle.scm_view.proofs.CountLemmas.{calls-more, calls-end}
 use Rattle.scm_view.proofs.menu_bar.draw_headers.Goals as goal
 
 abbrev header : ℕ → Menu → ℤ → ℤ → Sight → Picture ComponentId
@@ -66,7 +67,10 @@ loop-menu_idx-preserved c =
     let sum = simp c.loop-menu_idx.column-is at (rw width at c.strict_add_unsigned-column.ensures) in
     let drawn = simp (to_z-of_z, c.loop-menu_idx.column-is) at (rw c.header-header.ensures at c.in_ok-drawn.ensures.ok) in
     let next = header-next c.loop-menu_idx.column (c.args.first_idx + i) m in
+    let n = length c.args.menus.now in
+    let counted = calls-more _ _ _ (n - i) 1 (n - (i + 1)) n (omega arith) c.loop-menu_idx.invariant.counts c.in_ok-drawn.ensures.counts in
     rw sum (simp to_z-of_z (rw next (record {
+      counts = counted;
       left = left-more _ _ _ (header (c.args.first_idx + i) m column c.args.y) _ _ _ more left drawn;
       columns = columns ∙ before;
     })))
@@ -83,3 +87,6 @@ returns-clause-column c =
     let fx : FitsSigned w64 c.args.x = c.ranges.x in
     let before = simp (to_z-of_z, c.loop-menu_idx.column-is) at c.loop-menu_idx.invariant.columns in
     simp c.loop-menu_idx.column-is (sym (headers_width-end c.args.menus.now c.loop-menu_idx.menu_idx c.loop-menu_idx.column c.loop-menu_idx-test.false) ∙ before)
+
+pub returns-clause-counts : goal.returns-clause-counts
+returns-clause-counts c = calls-end _ _ _ _ (omega arith) c.loop-menu_idx.invariant.counts

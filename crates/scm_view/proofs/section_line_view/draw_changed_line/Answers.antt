@@ -1,4 +1,4 @@
-use Rattle.std.proofs.Common.{List, ℕ, FitsSigned, w64}
+use Rattle.std.proofs.Common.{◌∙◌, List, ℕ, FitsSigned, w64}
 use Rattle.std.specs.Prelude.{ℤ, pos, ◌+ℤ◌}
 use Rattle.std.proofs.lemmas.Int.{to_z-of_z}
 use Rattle.scm_types.specs.declared.line.ChangeType.{ChangeType}
@@ -9,6 +9,7 @@ use Rattle.scm_view.specs.Rows.{IdBox, line_texts}
 use Rattle.scm_view.specs.Texts.{sign_text}
 use Rattle.scm_view.specs.Pictures.{IdPicture, box_part, changed_picture}
 use Rattle.scm_render.proofs.StepLemmas.{three, second, third, text-place, InRange-fits}
+use Rattle.scm_view.proofs.CountLemmas.{on_row-then}
 use Rattle.scm_view.proofs.section_line_view.draw_changed_line.Goals as goal
 
 abbrev box : IdBox → ℤ → ℤ → Sight → IdPicture
@@ -23,9 +24,9 @@ cover_row-requires c =
     let fy : FitsSigned w64 c.args.y = c.ranges.y in
     simp to_z-of_z (PictureInRange-left _ _ c.requires)
 
-pub draw_component-requires : goal.draw_component-requires
+pub show_box-requires : goal.show_box-requires
 unfolding changed_picture
-draw_component-requires c =
+show_box-requires c =
     let fx : FitsSigned w64 c.args.x = c.ranges.x in
     let fy : FitsSigned w64 c.args.y = c.ranges.y in
     let cover = simp to_z-of_z at c.cover_row.ensures.new in
@@ -37,7 +38,7 @@ overflow_add-x c =
     let fx : FitsSigned w64 c.args.x = c.ranges.x in
     let fy : FitsSigned w64 c.args.y = c.ranges.y in
     let cover = simp to_z-of_z at c.cover_row.ensures.new in
-    let toggle = simp to_z-of_z at c.in_ok-draw_component.ensures.ok in
+    let toggle = simp to_z-of_z at c.in_ok-show_box.ensures.ok in
     let last = third _ _ _ _ (box c.args.toggle_box.now c.args.x c.args.y) (texts c.args.change_type c.args.line.now c.args.x c.args.y) cover toggle c.requires in
     simp to_z-of_z (InRange-fits _ (text-place _ _ _ _ last).0)
 
@@ -47,7 +48,7 @@ draw_line_texts-requires c =
     let fx : FitsSigned w64 c.args.x = c.ranges.x in
     let fy : FitsSigned w64 c.args.y = c.ranges.y in
     let cover = simp to_z-of_z at c.cover_row.ensures.new in
-    let toggle = simp to_z-of_z at c.in_ok-draw_component.ensures.ok in
+    let toggle = simp to_z-of_z at c.in_ok-show_box.ensures.ok in
     let last = third _ _ _ _ (box c.args.toggle_box.now c.args.x c.args.y) (texts c.args.change_type c.args.line.now c.args.x c.args.y) cover toggle c.requires in
     let fits : FitsSigned w64 (c.args.x +ℤ pos 4) = InRange-fits _ (text-place _ _ _ _ last).0 in
     rw c.sign_text.ensures (simp to_z-of_z last)
@@ -58,8 +59,16 @@ returns-clause-ok c =
     let fx : FitsSigned w64 c.args.x = c.ranges.x in
     let fy : FitsSigned w64 c.args.y = c.ranges.y in
     let cover = simp to_z-of_z at c.cover_row.ensures.new in
-    let toggle = simp to_z-of_z at c.in_ok-draw_component.ensures.ok in
+    let toggle = simp to_z-of_z at c.in_ok-show_box.ensures.ok in
     let last = third _ _ _ _ (box c.args.toggle_box.now c.args.x c.args.y) (texts c.args.change_type c.args.line.now c.args.x c.args.y) cover toggle c.requires in
     let fits : FitsSigned w64 (c.args.x +ℤ pos 4) = InRange-fits _ (text-place _ _ _ _ last).0 in
     let drawn = rw c.sign_text.ensures at (simp to_z-of_z at c.in_ok-draw_line_texts.ensures.ok) in
     three _ _ _ _ _ (box c.args.toggle_box.now c.args.x c.args.y) (texts c.args.change_type c.args.line.now c.args.x c.args.y) cover toggle drawn
+
+pub returns-clause-counts : goal.returns-clause-counts
+returns-clause-counts c =
+    let fx : FitsSigned w64 c.args.x = c.ranges.x in
+    let fy : FitsSigned w64 c.args.y = c.ranges.y in
+    let toggle = rw (c.cover_row.ensures.counts, c.cover_row.ensures.rect) at (simp to_z-of_z at c.in_ok-show_box.ensures.counts) in
+    let texts = simp to_z-of_z at c.in_ok-draw_line_texts.ensures.counts in
+    on_row-then _ _ _ _ _ _ _ _ (c.in_ok-show_box.ensures.rect ∙ c.cover_row.ensures.rect) toggle texts

@@ -1,11 +1,12 @@
 use Rattle.std.proofs.Common.{ap, arith}
 use Rattle.std.specs.Prelude.{List}
 use Rattle.scm_cells.specs.Cell.{Cell}
+use Rattle.scm_cells.specs.Counts.{no_counts}
 use Rattle.scm_cells.specs.Screen.{blank_screen}
 use Rattle.scm_cells.proofs.ScreenLemmas.{IsScreen-blank, IsScreen-same}
 use Rattle.scm_cells.proofs.grid.Grid.new.Goals as goal
 
 pub invariant_of-result : goal.invariant_of-result
 invariant_of-result c =
-    IsScreen-same _ (blank_screen c.args.width c.rows.counter) (ap (λ (rows : List (List Cell)). record { width = c.args.width; rows = rows }) c.rows.invariant)
+    IsScreen-same _ (blank_screen c.args.width c.rows.counter) (ap (λ (rows : List (List Cell)). record { width = c.args.width; rows = rows; counts = no_counts }) c.rows.invariant)
     (IsScreen-blank c.args.width c.rows.counter (omega arith) (omega arith))

@@ -26,7 +26,7 @@ invariant_of-self c =
     let inside : c.args.row < length rows = omega (arith, length-map rows row_of, same) in
     let size = length-read rows c.args.row c.self.inside.width c.index_mut-columns.result.now c.as_mut_slice.result.now inside c.index_mut-columns.ensures.value c.as_mut_slice.ensures.value c.self.invariant in
     let whole = whole-read rows c.args.row c.self.inside.width c.index_mut-columns.result.now c.as_mut_slice.result.now inside c.index_mut-columns.ensures.value c.as_mut_slice.ensures.value c.self.invariant in
-    IsScreen-same _ _ (ap (λ (rs : List (List Cell)). record { width = c.self.inside.width; rows = rs })
+    IsScreen-same _ _ (ap (λ (rs : List (List Cell)). record { width = c.self.inside.width; rows = rs; counts = record { rows = c.self.inside.rows_drawn; calls = c.self.inside.calls } })
     (rows-set rows c.args.row c.index_mut-columns.result.now c.put_row.new.columns (c.put_row.auto.columns ∙ c.as_mut_slice.ensures.len)))
     (IsScreen-set _ c.args.row (map shown c.put_row.new.columns) c.self.invariant (length-map c.put_row.new.columns shown ∙ c.put_row.auto.columns ∙ size)
     (subst IsWhole (sym c.in_err-rest.ensures.err) whole))
@@ -39,7 +39,7 @@ invariant_of-self-2 c =
     let inside : c.args.row < length rows = omega (arith, length-map rows row_of, same) in
     let size = length-read rows c.args.row c.self.inside.width c.index_mut-columns.result.now c.as_mut_slice.result.now inside c.index_mut-columns.ensures.value c.as_mut_slice.ensures.value c.self.invariant in
     let whole = whole-read rows c.args.row c.self.inside.width c.index_mut-columns.result.now c.as_mut_slice.result.now inside c.index_mut-columns.ensures.value c.as_mut_slice.ensures.value c.self.invariant in
-    IsScreen-same _ _ (ap (λ (rs : List (List Cell)). record { width = c.self.inside.width; rows = rs })
+    IsScreen-same _ _ (ap (λ (rs : List (List Cell)). record { width = c.self.inside.width; rows = rs; counts = record { rows = c.self.inside.rows_drawn; calls = c.self.inside.calls } })
     (rows-set rows c.args.row c.index_mut-columns.result.now c.put_row.new.columns (c.put_row.auto.columns ∙ c.as_mut_slice.ensures.len)))
     (IsScreen-set _ c.args.row (map shown c.put_row.new.columns) c.self.invariant (length-map c.put_row.new.columns shown ∙ c.put_row.auto.columns ∙ size)
     (subst IsWhole (sym (simp to_z-of_z at c.in_ok-rest.ensures.ok)) (IsWhole-put _ c.args.column c.args.text.now c.args.low c.args.high whole)))
@@ -50,7 +50,7 @@ returns-in_err-rest-clause-unchanged c =
     let same = ap (λ (s : Screen). length s.rows) c.self.view_is in
     let inside : c.args.row < length rows = omega (arith, length-map rows row_of, same) in
     let read = row-read rows c.args.row c.index_mut-columns.result.now c.as_mut_slice.result.now inside c.index_mut-columns.ensures.value c.as_mut_slice.ensures.value in
-    on_err c.from_residual.result (ap (λ (rs : List (List Cell)). record { width = c.self.inside.width; rows = rs })
+    on_err c.from_residual.result (ap (λ (rs : List (List Cell)). record { width = c.self.inside.width; rows = rs; counts = record { rows = c.self.inside.rows_drawn; calls = c.self.inside.calls } })
     (rows-set rows c.args.row c.index_mut-columns.result.now c.put_row.new.columns (c.put_row.auto.columns ∙ c.as_mut_slice.ensures.len)
     ∙ rows-unchanged (map row_of rows) c.args.row (map shown c.put_row.new.columns) (c.in_err-rest.ensures.err ∙ read))
     ∙ c.self.view_is)
@@ -63,7 +63,7 @@ returns-clause-ok c =
     let inside : c.args.row < length rows = omega (arith, length-map rows row_of, same) in
     let read = row-read rows c.args.row c.index_mut-columns.result.now c.as_mut_slice.result.now inside c.index_mut-columns.ensures.value c.as_mut_slice.ensures.value in
     let made = simp to_z-of_z at c.in_ok-rest.ensures.ok in
-    ap (λ (rs : List (List Cell)). record { width = c.self.inside.width; rows = rs })
+    ap (λ (rs : List (List Cell)). record { width = c.self.inside.width; rows = rs; counts = record { rows = c.self.inside.rows_drawn; calls = c.self.inside.calls } })
     (rows-set rows c.args.row c.index_mut-columns.result.now c.put_row.new.columns (c.put_row.auto.columns ∙ c.as_mut_slice.ensures.len)
     ∙ ap (set (map row_of rows) c.args.row) (made ∙ ap (λ row. put row c.args.column c.args.text.now c.args.low c.args.high) read))
     ∙ ap (λ (s : Screen). put_on s c.args.row c.args.column c.args.text.now c.args.low c.args.high) c.self.view_is

@@ -3,7 +3,7 @@ use Rattle.scm_cells.specs.Cell.{Place}
 use Rattle.std.specs.List.{flat_map}
 use Rattle.scm_cells.specs.Row.{row_text}
 use Rattle.scm_cells.specs.GridView.{row_of}
-use Rattle.scm_cells.specs.Screen.{view_of}
+use Rattle.scm_cells.specs.Screen.{Screen, view_of}
 use Rattle.scm_cells.proofs.ScreenLemmas.{view-more}
 use Rattle.scm_cells.proofs.grid.Grid.view.Goals as goal
 
@@ -14,4 +14,4 @@ rows-preserved c = view-more c.deref-columns-items.result.now c.rows.columns-ind
 pub returns-clause-ok : goal.returns-clause-ok
 returns-clause-ok c =
     c.rows.invariant ∙ ap (λ rows. flat_map row_text (map row_of rows)) (take_all c.rows.columns-index c.deref-columns-items.result.now (omega arith) ∙ c.deref-columns-items.ensures.value)
-    ∙ ap view_of c.self.view_is
+    ∙ ap (λ (s : Screen). view_of s.rows) c.self.view_is

@@ -1,4 +1,4 @@
-use Rattle.std.proofs.Common.{ℕ, ℤ, pos, ◌+ℤ◌, FitsSigned, w64}
+use Rattle.std.proofs.Common.{◌∙◌, ℕ, ℤ, pos, ◌+ℤ◌, FitsSigned, w64}
 use Rattle.std.proofs.lemmas.Int.{to_z-of_z}
 use Rattle.scm_render.specs.Picture.{Picture, PictureInRange, part, followed_by}
 use Rattle.scm_render.specs.Canvas.{Sight, under}
@@ -7,6 +7,8 @@ use Rattle.scm_render.proofs.StepLemmas.{step, rest, masked}
 use Rattle.scm_drawing_tests.specs.Samples.{caption_picture, pane_picture, nest_picture}
 use Rattle.scm_drawing_tests.specs.declared.samples.Nest.{Nest}
 use Rattle.scm_drawing_tests.proofs.SampleLemmas.{caption_row-fits}
+use Rattle.scm_cells.specs.Counts.{one_call}
+use Rattle.scm_render.proofs.CountLemmas.{counts-then}
 use Rattle.scm_drawing_tests.proofs.samples.NestComponent.draw.Goals as goal
 
 abbrev upper : Nest → ℤ → ℤ → Sight → Picture ℕ
@@ -54,3 +56,8 @@ returns-clause-ok c =
     c.swap_mask-outer.ensures.new
     (step _ _ _ _ (lower nest c.args.x c.args.y) first second)
     (rw c.swap_mask-outer.ensures.old at c.swap_mask.ensures.new)
+
+pub returns-clause-counts : goal.returns-clause-counts
+returns-clause-counts c =
+    let first = rw c.swap_mask-outer.ensures.counts at c.in_ok-draw_component.ensures.counts in
+    c.swap_mask.ensures.counts ∙ counts-then _ _ _ one_call one_call first c.in_ok-draw_component-2.ensures.counts

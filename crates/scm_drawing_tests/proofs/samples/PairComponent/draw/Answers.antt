@@ -7,6 +7,8 @@ use Rattle.scm_render.proofs.StepLemmas.{step, rest}
 use Rattle.scm_drawing_tests.specs.Samples.{caption_picture, pair_picture}
 use Rattle.scm_drawing_tests.specs.declared.samples.Pair.{Pair}
 use Rattle.scm_drawing_tests.proofs.SampleLemmas.{caption_row-fits}
+use Rattle.scm_cells.specs.Counts.{one_call}
+use Rattle.scm_render.proofs.CountLemmas.{counts-then}
 use Rattle.scm_drawing_tests.proofs.samples.PairComponent.draw.Goals as goal
 
 abbrev lower : Pair → ℤ → ℤ → Sight → Picture ℕ
@@ -46,3 +48,6 @@ returns-clause-ok c =
     let first = simp to_z-of_z at c.in_ok-draw_component.ensures.ok in
     let second = simp to_z-of_z at c.in_ok-draw_component-2.ensures.ok in
     step _ _ _ _ (lower c.args.self.now c.args.x c.args.y) first second
+
+pub returns-clause-counts : goal.returns-clause-counts
+returns-clause-counts c = counts-then _ _ _ one_call one_call c.in_ok-draw_component.ensures.counts c.in_ok-draw_component-2.ensures.counts

@@ -3,8 +3,11 @@ use Rattle.scm_record.specs.Frames.{scene_of}
 use Rattle.scm_record.proofs.LiveLemmas.{inline-window}
 use Rattle.scm_record.proofs.live.LiveSession.grid.Goals as goal
 
-pub returns-clause-shown : goal.returns-clause-shown
-returns-clause-shown c = rw (sym c.self.view_is) (c.grid.ensures (scene_of c.self.inside.kind c.self.inside.selector) c.self.invariant.shown)
+pub returns-clause-width : goal.returns-clause-width
+returns-clause-width c = rw (sym c.self.view_is) (c.grid.ensures.width (scene_of c.self.inside.kind c.self.inside.selector) c.self.invariant.shown)
+
+pub returns-clause-rows : goal.returns-clause-rows
+returns-clause-rows c = rw (sym c.self.view_is) (c.grid.ensures.rows (scene_of c.self.inside.kind c.self.inside.selector) c.self.invariant.shown)
 
 pub returns-clause-window : goal.returns-clause-window
-returns-clause-window c = λ inline. returns-clause-shown c ∙ inline-window _ _ inline
+returns-clause-window c = λ inline. returns-clause-rows c ∙ inline-window _ _ inline

@@ -32,6 +32,6 @@ returns-clause-ok c =
     let high = rw (sym c.self.view_is) at (simp to_z-of_z at (rw c.end_x.ensures at c.column-high.ensures.value)) in
     let there = simp to_z-of_z at c.in_ok-columns.ensures.ok in
     rw (sym c.self.view_is)
-    (ap (λ g. record { rect = v; rows = g.rows }) there
+    (ap (λ g. record { rect = v; rows = g.rows; counts = g.counts }) there
     ∙ put-whole v c.args.within c.self.inside.grid.rows c.args.x c.args.y c.args.text.now c.abs_diff-row.result (c.args.x -ℤ v.x) c.column-low.result c.column-high.result top gap
     (omega (arith, places, gap, top, bottom, c.self.invariant.height)) refl low high)

@@ -6,6 +6,7 @@ use Rattle.scm_render.specs.Around.{join}
 use Rattle.scm_render.specs.Drawing.{reach, row_rect, texts_width}
 use Rattle.scm_render.proofs.AroundLemmas.{RectInRange-join}
 use Rattle.scm_render.proofs.DrawLemmas.{with_picture-line, line_in_range}
+use Rattle.scm_render.proofs.PaintLemmas.{with_puts-counts}
 use Rattle.scm_render.proofs.viewport.Viewport.add_spans.Goals as goal
 
 pub put_spans-requires-clause-x : goal.put_spans-requires-clause-x
@@ -32,7 +33,7 @@ returns-clause-ok g c =
     let drawn : c.row_rect-drawn.result ≡ row_rect c.args.x c.args.y (texts_width (span_texts c.args.spans.now)) =
     rw (c.row_rect-drawn.ensures, c.in_ok-columns.ensures.columns) (simp to_z-of_z refl) in
     rw (sym c.self.view_is)
-    (with_picture-line _ _ c.mask_rect-within.result c.args.x c.args.y (span_texts c.args.spans.now)
+    (with_picture-line _ _ _ c.mask_rect-within.result c.args.x c.args.y (span_texts c.args.spans.now)
     (c.mask_rect-within.ensures.value ∙ ap (λ v. reach v.canvas.sight) (sym c.self.view_is))
     rows refl
     (c.grown-self-inside.ensures ∙ ap (join c.self.inside.area) drawn)
@@ -47,3 +48,6 @@ invariant_of-self-2 g c =
       mask = c.self.invariant.mask;
       area = rw c.grown-self-inside.ensures (RectInRange-join _ _ c.self.invariant.area drawn);
     }
+
+pub returns-clause-counts : goal.returns-clause-counts
+returns-clause-counts g c = with_puts-counts _ _ _ c.in_ok-columns.ensures.ok ∙ ap (λ v. v.counts) c.self.view_is

@@ -58,3 +58,10 @@ invariant_of-self-3 g c =
       mask = c.self-2.invariant.mask;
       area = rw c.grown-self-inside.ensures (RectInRange-join _ _ c.self.invariant.area c.self-2.invariant.area);
     }
+
+pub returns-clause-counts : goal.returns-clause-counts
+returns-clause-counts g c =
+    let fx : FitsSigned w64 c.args.x = c.ranges.x in
+    let fy : FitsSigned w64 c.args.y = c.ranges.y in
+    let counted = simp to_z-of_z at c.in_ok-draw.ensures.counts in
+    rw (sym c.self.view_is) (ap (λ v. v.counts) c.self-2.view_is ∙ counted)

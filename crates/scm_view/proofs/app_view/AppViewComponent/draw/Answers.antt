@@ -16,6 +16,7 @@ use Rattle.scm_view.specs.Overlays.{quit_picture, help_picture}
 use Rattle.scm_view.specs.AppView.{has_help, app_picture}
 use Rattle.scm_view.proofs.RowsLemmas.{on-ok}
 use Rattle.scm_view.proofs.AppLemmas.{bar-below}
+use Rattle.scm_view.proofs.CountLemmas.{app-counted}
 use Rattle.scm_view.proofs.app_view.AppViewComponent.draw.Goals as goal
 
 abbrev bar : MenuBar → ℤ → ℤ → Sight → Picture ComponentId
@@ -93,3 +94,9 @@ returns-clause-ok c =
     let views = simp to_z-of_z at (rw (c.shown_views.ensures, c.view_width-width.ensures, c.rect-screen.ensures.value) at c.in_ok-draw_views.ensures.ok) in
     let menus = simp to_z-of_z at (rw c.rect-screen.ensures.value at c.in_ok-draw_component.ensures.ok) in
     on-ok _ (four _ _ _ _ _ _ (bar a.menu_bar c.args.x s.rect.y) (quit a.quit_dialog) (help a.help_dialog) views menus c.in_ok-draw_quit.ensures.ok) c.draw_help.ensures.ok
+
+pub returns-clause-counts : goal.returns-clause-counts
+returns-clause-counts c =
+    let fx : FitsSigned w64 c.args.x = c.ranges.x in
+    let views = simp to_z-of_z at (rw (c.shown_views.ensures, c.view_width-width.ensures, c.rect-screen.ensures.value) at c.in_ok-draw_views.ensures.counts) in
+    on-ok _ (app-counted _ _ _ _ _ c.args.self.now c.args.viewport.now.canvas.sight c.args.x views c.in_ok-draw_component.ensures.counts c.in_ok-draw_quit.ensures.counts) c.draw_help.ensures.counts

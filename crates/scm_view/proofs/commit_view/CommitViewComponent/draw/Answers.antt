@@ -7,6 +7,9 @@ use Rattle.scm_view.specs.Rows.{ShownFile, shown_file, message_height}
 use Rattle.scm_view.specs.Pictures.{IdPicture, commit_message_picture, body_picture, document_picture, commit_picture}
 use Rattle.scm_render.proofs.StepLemmas.{step, rest}
 use Rattle.scm_view.proofs.RowsLemmas.{on-ok}
+use Rattle.scm_view.specs.Counts.{document_counts}
+use Rattle.scm_render.proofs.CountLemmas.{counts-then}
+use Rattle.scm_render.proofs.StepLemmas.{sight-after}
 use Rattle.scm_view.proofs.commit_view.CommitViewComponent.draw.Goals as goal
 
 abbrev body : List ShownFile → ℕ → ℤ → ℤ → Sight → IdPicture
@@ -37,3 +40,13 @@ returns-clause-ok c =
     let message = simp to_z-of_z at c.in_ok-draw_component.ensures.ok in
     on-ok _ (step _ _ _ _ (body (map shown_file v.file_views) (message_height v.commit_message_view.commit.now.message) c.args.x c.args.y) message)
     (rw (c.as_slice.ensures, c.height-height.ensures) at (simp to_z-of_z at c.draw_body.ensures.ok))
+
+pub returns-clause-counts : goal.returns-clause-counts
+unfolding document_counts commit_message_picture
+returns-clause-counts c =
+    let fx : FitsSigned w64 c.args.x = c.ranges.x in
+    let fy : FitsSigned w64 c.args.y = c.ranges.y in
+    let message = simp to_z-of_z at c.in_ok-draw_component.ensures.ok in
+    let counted = simp to_z-of_z at c.in_ok-draw_component.ensures.counts in
+    on-ok _ (counts-then _ _ _ _ _ counted)
+    (rw (c.as_slice.ensures, c.height-height.ensures, sight-after _ _ _ message) at (simp to_z-of_z at c.draw_body.ensures.counts))

@@ -6,6 +6,7 @@ use Rattle.scm_render.proofs.StepLemmas.{step, rest, InRange-fits}
 use Rattle.scm_view.specs.Buttons.{buttons_picture}
 use Rattle.scm_view.specs.Dialogs.{shown_dialog, dialog_rect, dialog_picture}
 use Rattle.scm_view.proofs.DialogPlaceLemmas.{last-fits}
+use Rattle.scm_view.proofs.CountLemmas.{calls-then}
 use Rattle.scm_view.proofs.dialog.DialogComponent.draw.Goals as goal
 
 pub draw_frame-requires : goal.draw_frame-requires
@@ -57,3 +58,6 @@ returns-clause-ok g c =
     let frame = rw (place, c.as_str.ensures) at c.in_ok-draw_frame.ensures.ok in
     let drawn = simp to_z-of_z at (rw (rw place at c.end_x.ensures, rw place at c.end_y.ensures) at c.in_ok-draw_buttons.ensures.ok) in
     step _ _ _ _ (λ s. buttons_picture s (end_x_of r -ℤ pos 1) (end_y_of r -ℤ pos 1) c.args.self.now.buttons.now) frame drawn
+
+pub returns-clause-counts : goal.returns-clause-counts
+returns-clause-counts g c = calls-then _ _ _ 1 _ c.in_ok-draw_frame.ensures.counts c.in_ok-draw_buttons.ensures.counts

@@ -1,4 +1,4 @@
-use Rattle.std.proofs.Common.{ℕ, sym, ◌+ℤ◌, pos, FitsSigned, w64}
+use Rattle.std.proofs.Common.{arith, length, ◌+◌, ◌-◌, ◌*◌, ℕ, sym, ◌+ℤ◌, pos, FitsSigned, w64}
 use Rattle.std.specs.Prelude.{ℤ}
 use Rattle.std.proofs.lemmas.Int.{to_z-of_z}
 use Rattle.scm_render.specs.Canvas.{Sight}
@@ -11,6 +11,7 @@ use Rattle.scm_view.specs.declared.menu.MenuItem.{MenuItem}
 use Rattle.scm_view.specs.Buttons.{button_part}
 use Rattle.scm_view.specs.Menus.{item_button, menu_picture}
 use Rattle.scm_view.proofs.MenuPartsLemmas.{items_picture-more, items_picture-end, item_below-fits}
+use Rattle.scm_view.proofs.CountLemmas.{calls-first, calls-then, calls-more, calls-end}
 use Rattle.scm_view.proofs.menu.MenuComponent.draw.Goals as goal
 
 -- an item, over n blanks
@@ -22,7 +23,7 @@ unfolding menu_picture
 loop-item_idx-init c =
     let fx : FitsSigned w64 c.args.x = c.ranges.x in
     let fy : FitsSigned w64 c.args.y = c.ranges.y in
-    rw (c.in_ok-width.ensures.ok, c.as_slice.ensures) (simp to_z-of_z (left-first _ _ c.requires))
+    rw (c.in_ok-width.ensures.ok, c.as_slice.ensures) (simp to_z-of_z (record { left = left-first _ _ c.requires; counts = calls-first _ 2 _ }))
 
 pub draw_blank-requires : goal.draw_blank-requires
 draw_blank-requires c =
@@ -32,7 +33,7 @@ draw_blank-requires c =
     let t = c.item-item.result in
     let row = c.loop-item_idx.row in
     let more = rw (sym (rw items at c.item-item.is)) at (items_picture-more c.in_ok-width.width c.args.self.now.items i t c.args.viewport.now.canvas.sight c.args.x row (rw items at c.loop-item_idx-test.true)) in
-    let left = simp (to_z-of_z, c.loop-item_idx.row-is) at c.loop-item_idx.invariant in
+    let left = simp (to_z-of_z, c.loop-item_idx.row-is) at c.loop-item_idx.invariant.left in
     simp (to_z-of_z, c.loop-item_idx.row-is) (PictureInRange-left _ _ (left-part _ _ (item c.in_ok-width.width i t c.args.x row) _ _ _ more left))
 
 pub draw_component-requires : goal.draw_component-requires
@@ -43,7 +44,7 @@ draw_component-requires c =
     let t = c.item-item.result in
     let row = c.loop-item_idx.row in
     let more = rw (sym (rw items at c.item-item.is)) at (items_picture-more c.in_ok-width.width c.args.self.now.items i t c.args.viewport.now.canvas.sight c.args.x row (rw items at c.loop-item_idx-test.true)) in
-    let left = simp (to_z-of_z, c.loop-item_idx.row-is) at c.loop-item_idx.invariant in
+    let left = simp (to_z-of_z, c.loop-item_idx.row-is) at c.loop-item_idx.invariant.left in
     let blank = simp (to_z-of_z, c.loop-item_idx.row-is) at c.in_ok-draw_blank.ensures.ok in
     rw c.button.ensures (simp (to_z-of_z, c.loop-item_idx.row-is)
     (rest _ _ _ (λ s. button_part (item_button i t) s c.args.x row) blank (left-part _ _ (item c.in_ok-width.width i t c.args.x row) _ _ _ more left)))
@@ -56,7 +57,7 @@ overflow_add-row c =
     let t = c.item-item.result in
     let row = c.loop-item_idx.row in
     let more = rw (sym (rw items at c.item-item.is)) at (items_picture-more c.in_ok-width.width c.args.self.now.items i t c.args.viewport.now.canvas.sight c.args.x row (rw items at c.loop-item_idx-test.true)) in
-    let left = simp (to_z-of_z, c.loop-item_idx.row-is) at c.loop-item_idx.invariant in
+    let left = simp (to_z-of_z, c.loop-item_idx.row-is) at c.loop-item_idx.invariant.left in
     simp c.loop-item_idx.row-is (item_below-fits _ _ _ _ _ _ (rw more at left.in_range))
 
 pub loop-item_idx-preserved : goal.loop-item_idx-preserved
@@ -67,17 +68,26 @@ loop-item_idx-preserved c =
     let t = c.item-item.result in
     let row = c.loop-item_idx.row in
     let more = rw (sym (rw items at c.item-item.is)) at (items_picture-more c.in_ok-width.width c.args.self.now.items i t c.args.viewport.now.canvas.sight c.args.x row (rw items at c.loop-item_idx-test.true)) in
-    let left = simp (to_z-of_z, c.loop-item_idx.row-is) at c.loop-item_idx.invariant in
+    let left = simp (to_z-of_z, c.loop-item_idx.row-is) at c.loop-item_idx.invariant.left in
     let below : FitsSigned w64 (c.loop-item_idx.row +ℤ pos 1) = item_below-fits _ _ _ _ _ _ (rw more at left.in_range) in
     let blank = simp (to_z-of_z, c.loop-item_idx.row-is) at c.in_ok-draw_blank.ensures.ok in
     let drawn = simp (to_z-of_z, c.loop-item_idx.row-is) at (rw c.button.ensures at c.in_ok-draw_component.ensures.ok) in
+    let inside = rw items at c.loop-item_idx-test.true in
+    let n = length c.args.self.now.items in
+    let counted = calls-more _ _ _ (2 * (n - i)) 2 (2 * (n - (i + 1))) (2 * n) (omega (arith, inside)) c.loop-item_idx.invariant.counts (calls-then _ _ _ 1 1 c.in_ok-draw_blank.ensures.counts c.in_ok-draw_component.ensures.counts) in
     simp c.loop-item_idx.row-is (simp to_z-of_z
-    (left-more _ _ _ (item c.in_ok-width.width i t c.args.x row) _ _ _ more left (step _ _ _ _ (λ s. button_part (item_button i t) s c.args.x row) blank drawn)))
+    (record { left = left-more _ _ _ (item c.in_ok-width.width i t c.args.x row) _ _ _ more left (step _ _ _ _ (λ s. button_part (item_button i t) s c.args.x row) blank drawn); counts = counted }))
 
 pub returns-clause-ok : goal.returns-clause-ok
 returns-clause-ok c =
     let fx : FitsSigned w64 c.args.x = c.ranges.x in
     let fy : FitsSigned w64 c.args.y = c.ranges.y in
     let items = c.as_slice-item-items.ensures in
-    let left = simp (to_z-of_z, c.loop-item_idx.row-is) at c.loop-item_idx.invariant in
+    let left = simp (to_z-of_z, c.loop-item_idx.row-is) at c.loop-item_idx.invariant.left in
     left-none _ _ _ _ (items_picture-end _ _ _ _ _ _ (rw items at c.loop-item_idx-test.false)) left
+
+pub returns-clause-counts : goal.returns-clause-counts
+returns-clause-counts c =
+    let items = c.as_slice-item-items.ensures in
+    let past = rw items at c.loop-item_idx-test.false in
+    calls-end _ _ _ _ (omega (arith, past)) c.loop-item_idx.invariant.counts

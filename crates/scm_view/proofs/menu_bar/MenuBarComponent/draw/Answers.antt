@@ -10,6 +10,7 @@ use Rattle.scm_view.specs.declared.menu.Menu.{Menu}
 use Rattle.scm_view.specs.declared.menu_bar.MenuBar.{MenuBar}
 use Rattle.scm_view.specs.Menus.{menus_before, headers_width, headers_picture, first_picture}
 use Rattle.scm_view.proofs.MenuPartsLemmas.{bar-parts, headers_end-fits, header-below}
+use Rattle.scm_view.proofs.CountLemmas.{bar-counted}
 use Rattle.scm_view.proofs.menu_bar.MenuBarComponent.draw.Goals as goal
 
 abbrev heads : ℤ → ℤ → ℕ → List Menu → Sight → Picture ComponentId
@@ -130,3 +131,10 @@ returns-clause-ok c =
     let last = simp to_z-of_z at (rw (column, back) at c.in_ok-draw_first.ensures.ok) in
     rw (bar-parts b s c.args.x c.args.y)
     (four _ _ _ _ _ _ (heads c.args.x c.args.y 0 (take n b.menus)) (heads (after c.args.x b) c.args.y n (drop n b.menus)) (first c.args.y (after c.args.x b) (drop n b.menus)) blank drawn others last)
+
+pub returns-clause-counts : goal.returns-clause-counts
+returns-clause-counts c =
+    let b = c.args.self.now in
+    let front = rw (c.open_idx-open_idx.ensures, c.as_slice.ensures) at c.split_at.ensures.front in
+    let back = rw (c.open_idx-open_idx.ensures, c.as_slice.ensures) at c.split_at.ensures.back in
+    bar-counted b _ _ _ _ _ _ _ front back c.in_ok-draw_blank.ensures.counts c.in_ok-column.ensures.counts c.in_ok-draw_headers.ensures.counts c.in_ok-draw_first.ensures.counts

@@ -3,6 +3,7 @@ use Rattle.std.specs.Prelude.{pos, ◌+ℤ◌}
 use Rattle.std.proofs.lemmas.Int.{to_z-of_z}
 use Rattle.scm_render.proofs.StepLemmas.{InRange-fits}
 use Rattle.scm_view.proofs.RowsLemmas.{row-first, row-rest, row-then, row-alone, row-end, on-ok}
+use Rattle.scm_view.proofs.CountLemmas.{row-counted, row-counted-alone}
 use Rattle.scm_view.proofs.section_view.SectionView.draw_changed.Goals as goal
 
 pub draw_header-requires : goal.draw_header-requires
@@ -41,3 +42,19 @@ returns-else-is_open-clause-ok c =
     let fy : FitsSigned w64 c.args.y = c.ranges.y in
     let folded = sym c.is_open.ensures ∙ c.if-is_open.false in
     rw folded (row-alone _ _ _ _ _ (simp to_z-of_z at c.in_ok-draw_header.ensures.ok))
+
+pub returns-then-is_open-clause-counts : goal.returns-then-is_open-clause-counts
+returns-then-is_open-clause-counts c =
+    let fx : FitsSigned w64 c.args.x = c.ranges.x in
+    let fy : FitsSigned w64 c.args.y = c.ranges.y in
+    let next : FitsSigned w64 (c.args.y +ℤ pos 1) = InRange-fits _ (row-end _ _ _ _ (row-first _ _ _ _ _ c.requires)) in
+    let header = simp to_z-of_z at c.in_ok-draw_header.ensures.counts in
+    let shown = sym c.is_open.ensures ∙ c.if-is_open.true in
+    rw shown (on-ok _ (row-counted _ _ _ _ _ _ _ _ c.in_ok-draw_header.ensures.rect header) (simp to_z-of_z at c.draw_changed_lines.ensures.counts))
+
+pub returns-else-is_open-clause-counts : goal.returns-else-is_open-clause-counts
+returns-else-is_open-clause-counts c =
+    let fx : FitsSigned w64 c.args.x = c.ranges.x in
+    let fy : FitsSigned w64 c.args.y = c.ranges.y in
+    let folded = sym c.is_open.ensures ∙ c.if-is_open.false in
+    rw folded (row-counted-alone _ _ _ _ _ (simp to_z-of_z at c.in_ok-draw_header.ensures.counts))

@@ -3,6 +3,7 @@ use Rattle.std.proofs.lemmas.Int.{to_z-of_z}
 use Rattle.scm_view.specs.Rows.{context_rows, BlankRow}
 use Rattle.scm_view.specs.Pictures.{row_picture}
 use Rattle.scm_view.proofs.RowsLemmas.{row-first, row-alone}
+use Rattle.scm_view.proofs.CountLemmas.{row-counted-alone}
 use Rattle.scm_view.proofs.section_view.SectionView.draw_context.Goals as goal
 
 pub cover_rest-requires : goal.cover_rest-requires
@@ -11,7 +12,7 @@ cover_rest-requires c =
     let fx : FitsSigned w64 c.args.x = c.ranges.x in
     let fy : FitsSigned w64 c.args.y = c.ranges.y in
     let none = sym c.is_empty.ensures ∙ c.if-is_empty.true in
-    simp to_z-of_z (row-first _ _ _ _ _ (rw none at c.requires))
+    rw c.begin_row.ensures.canvas (simp to_z-of_z (row-first _ _ _ _ _ (rw none at c.requires)))
 
 pub draw_shown_lines-requires : goal.draw_shown_lines-requires
 unfolding context_rows
@@ -27,7 +28,7 @@ returns-then-is_empty-clause-ok c =
     let fx : FitsSigned w64 c.args.x = c.ranges.x in
     let fy : FitsSigned w64 c.args.y = c.ranges.y in
     let none = sym c.is_empty.ensures ∙ c.if-is_empty.true in
-    rw none (row-alone _ _ BlankRow _ _ (simp to_z-of_z at c.cover_rest.ensures.new))
+    rw none (row-alone _ _ BlankRow _ _ (rw c.begin_row.ensures.canvas at (simp to_z-of_z at c.cover_rest.ensures.new)))
 
 pub returns-else-is_empty-clause-ok : goal.returns-else-is_empty-clause-ok
 unfolding context_rows
@@ -36,3 +37,19 @@ returns-else-is_empty-clause-ok c =
     let fy : FitsSigned w64 c.args.y = c.ranges.y in
     let some = sym c.is_empty.ensures ∙ c.if-is_empty.false in
     rw some (simp to_z-of_z at c.draw_shown_lines.ensures.ok)
+
+pub returns-then-is_empty-clause-counts : goal.returns-then-is_empty-clause-counts
+unfolding context_rows
+returns-then-is_empty-clause-counts c =
+    let fx : FitsSigned w64 c.args.x = c.ranges.x in
+    let fy : FitsSigned w64 c.args.y = c.ranges.y in
+    let none = sym c.is_empty.ensures ∙ c.if-is_empty.true in
+    rw none (row-counted-alone _ _ _ BlankRow _ (c.cover_rest.ensures.counts ∙ simp to_z-of_z at c.begin_row.ensures.counts))
+
+pub returns-else-is_empty-clause-counts : goal.returns-else-is_empty-clause-counts
+unfolding context_rows
+returns-else-is_empty-clause-counts c =
+    let fx : FitsSigned w64 c.args.x = c.ranges.x in
+    let fy : FitsSigned w64 c.args.y = c.ranges.y in
+    let some = sym c.is_empty.ensures ∙ c.if-is_empty.false in
+    rw some (simp to_z-of_z at c.draw_shown_lines.ensures.counts)

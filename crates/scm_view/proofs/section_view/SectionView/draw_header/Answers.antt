@@ -1,4 +1,4 @@
-use Rattle.std.proofs.Common.{Bool, FitsSigned, w64}
+use Rattle.std.proofs.Common.{◌∙◌, ap, Bool, FitsSigned, w64}
 use Rattle.std.specs.Prelude.{ℤ}
 use Rattle.std.proofs.lemmas.Int.{to_z-of_z}
 use Rattle.scm_render.specs.Canvas.{Sight}
@@ -6,6 +6,7 @@ use Rattle.scm_render.proofs.PictureLemmas.{PictureInRange-left}
 use Rattle.scm_view.specs.Rows.{is_selected}
 use Rattle.scm_view.specs.Pictures.{IdPicture, row_picture, highlight}
 use Rattle.scm_render.proofs.StepLemmas.{step, rest}
+use Rattle.scm_view.proofs.CountLemmas.{on_row-then}
 use Rattle.scm_view.proofs.section_view.SectionView.draw_header.Goals as goal
 
 abbrev light : Bool → ℤ → Sight → IdPicture
@@ -16,14 +17,14 @@ unfolding row_picture
 draw_heading-requires c =
     let fx : FitsSigned w64 c.args.x = c.ranges.x in
     let fy : FitsSigned w64 c.args.y = c.ranges.y in
-    rw (c.as_str.ensures.value, c.in_ok-title.ensures.ok) (simp to_z-of_z (PictureInRange-left _ _ c.requires))
+    rw (c.as_str.ensures.value, c.in_ok-title.ensures.ok, c.begin_row.ensures.canvas) (simp to_z-of_z (PictureInRange-left _ _ c.requires))
 
 pub highlight-requires : goal.highlight-requires
 unfolding row_picture
 highlight-requires c =
     let fx : FitsSigned w64 c.args.x = c.ranges.x in
     let fy : FitsSigned w64 c.args.y = c.ranges.y in
-    let heading = rw (c.as_str.ensures.value, c.in_ok-title.ensures.ok) at (simp to_z-of_z at c.in_ok-draw_heading.ensures.ok) in
+    let heading = rw (c.as_str.ensures.value, c.in_ok-title.ensures.ok, c.begin_row.ensures.canvas) at (simp to_z-of_z at c.in_ok-draw_heading.ensures.ok) in
     rw c.is_selected.ensures (simp to_z-of_z (rest _ _ _ (light (is_selected c.args.self.now) c.args.y) heading c.requires))
 
 pub returns-clause-ok : goal.returns-clause-ok
@@ -31,5 +32,12 @@ unfolding row_picture
 returns-clause-ok c =
     let fx : FitsSigned w64 c.args.x = c.ranges.x in
     let fy : FitsSigned w64 c.args.y = c.ranges.y in
-    let heading = rw (c.as_str.ensures.value, c.in_ok-title.ensures.ok) at (simp to_z-of_z at c.in_ok-draw_heading.ensures.ok) in
+    let heading = rw (c.as_str.ensures.value, c.in_ok-title.ensures.ok, c.begin_row.ensures.canvas) at (simp to_z-of_z at c.in_ok-draw_heading.ensures.ok) in
     step _ _ _ _ (light (is_selected c.args.self.now) c.args.y) heading (rw c.is_selected.ensures at (simp to_z-of_z at c.highlight.ensures.new))
+
+pub returns-clause-counts : goal.returns-clause-counts
+returns-clause-counts c =
+    let fx : FitsSigned w64 c.args.x = c.ranges.x in
+    let fy : FitsSigned w64 c.args.y = c.ranges.y in
+    let began = simp to_z-of_z at c.begin_row.ensures.counts in
+    c.highlight.ensures.counts ∙ on_row-then _ _ _ _ _ _ _ _ (ap (λ v. v.sight.rect) c.begin_row.ensures.canvas) began (simp to_z-of_z at c.in_ok-draw_heading.ensures.counts)

@@ -1,4 +1,4 @@
-use Rattle.std.proofs.Common.{Bool, List, [], ◌∷◌, ℕ, FitsSigned, w64}
+use Rattle.std.proofs.Common.{◌∙◌, ap, Bool, List, [], ◌∷◌, ℕ, FitsSigned, w64}
 use Rattle.std.specs.Prelude.{ℤ, pos, ◌+ℤ◌}
 use Rattle.std.proofs.lemmas.Int.{to_z-of_z}
 use Rattle.scm_render.specs.Canvas.{Sight}
@@ -7,6 +7,7 @@ use Rattle.scm_render.proofs.PictureLemmas.{PictureInRange-left}
 use Rattle.scm_view.specs.Rows.{IdBox, is_selected, section_box}
 use Rattle.scm_view.specs.Pictures.{IdPicture, box_part, row_picture, highlight}
 use Rattle.scm_render.proofs.StepLemmas.{four, second-of-four, second, third, text-place, InRange-fits}
+use Rattle.scm_view.proofs.CountLemmas.{on_row-three}
 use Rattle.scm_view.proofs.section_view.SectionView.draw_mark.Goals as goal
 
 abbrev light : Bool → ℤ → Sight → IdPicture
@@ -23,14 +24,14 @@ unfolding row_picture
 cover_rest-requires c =
     let fx : FitsSigned w64 c.args.x = c.ranges.x in
     let fy : FitsSigned w64 c.args.y = c.ranges.y in
-    simp to_z-of_z (PictureInRange-left _ _ c.requires)
+    rw c.begin_row.ensures.canvas (simp to_z-of_z (PictureInRange-left _ _ c.requires))
 
-pub draw_component-requires : goal.draw_component-requires
+pub show_box-requires : goal.show_box-requires
 unfolding row_picture
-draw_component-requires c =
+show_box-requires c =
     let fx : FitsSigned w64 c.args.x = c.ranges.x in
     let fy : FitsSigned w64 c.args.y = c.ranges.y in
-    let cover = simp to_z-of_z at c.cover_rest.ensures.new in
+    let cover = rw c.begin_row.ensures.canvas at (simp to_z-of_z at c.cover_rest.ensures.new) in
     let b = section_box c.args.self.now c.args.is_checked in
     let more = second-of-four _ _ _ (box b c.args.x c.args.y) (text c.args.text.now c.args.x c.args.y) (light (is_selected c.args.self.now) c.args.y) cover c.requires in
     rw c.section_box-toggle_box.ensures (simp to_z-of_z (PictureInRange-left _ _ more))
@@ -41,19 +42,19 @@ overflow_add-x c =
     let fx : FitsSigned w64 c.args.x = c.ranges.x in
     let fy : FitsSigned w64 c.args.y = c.ranges.y in
     let b = section_box c.args.self.now c.args.is_checked in
-    let cover = simp to_z-of_z at c.cover_rest.ensures.new in
-    let toggle = rw c.section_box-toggle_box.ensures at (simp to_z-of_z at c.in_ok-draw_component.ensures.ok) in
+    let cover = rw c.begin_row.ensures.canvas at (simp to_z-of_z at c.cover_rest.ensures.new) in
+    let toggle = rw c.section_box-toggle_box.ensures at (simp to_z-of_z at c.in_ok-show_box.ensures.ok) in
     let more = second-of-four _ _ _ (box b c.args.x c.args.y) (text c.args.text.now c.args.x c.args.y) (light (is_selected c.args.self.now) c.args.y) cover c.requires in
     simp to_z-of_z (InRange-fits _ (text-place _ _ _ _ (second _ _ _ (text c.args.text.now c.args.x c.args.y) (light (is_selected c.args.self.now) c.args.y) toggle more)).0)
 
-pub draw_text-requires : goal.draw_text-requires
+pub show_text-requires : goal.show_text-requires
 unfolding row_picture
-draw_text-requires c =
+show_text-requires c =
     let fx : FitsSigned w64 c.args.x = c.ranges.x in
     let fy : FitsSigned w64 c.args.y = c.ranges.y in
     let b = section_box c.args.self.now c.args.is_checked in
-    let cover = simp to_z-of_z at c.cover_rest.ensures.new in
-    let toggle = rw c.section_box-toggle_box.ensures at (simp to_z-of_z at c.in_ok-draw_component.ensures.ok) in
+    let cover = rw c.begin_row.ensures.canvas at (simp to_z-of_z at c.cover_rest.ensures.new) in
+    let toggle = rw c.section_box-toggle_box.ensures at (simp to_z-of_z at c.in_ok-show_box.ensures.ok) in
     let more = second-of-four _ _ _ (box b c.args.x c.args.y) (text c.args.text.now c.args.x c.args.y) (light (is_selected c.args.self.now) c.args.y) cover c.requires in
     let own = second _ _ _ (text c.args.text.now c.args.x c.args.y) (light (is_selected c.args.self.now) c.args.y) toggle more in
     let fits : FitsSigned w64 (c.args.x +ℤ pos 4) = InRange-fits _ (text-place _ _ _ _ own).0 in
@@ -65,12 +66,12 @@ highlight-requires c =
     let fx : FitsSigned w64 c.args.x = c.ranges.x in
     let fy : FitsSigned w64 c.args.y = c.ranges.y in
     let b = section_box c.args.self.now c.args.is_checked in
-    let cover = simp to_z-of_z at c.cover_rest.ensures.new in
-    let toggle = rw c.section_box-toggle_box.ensures at (simp to_z-of_z at c.in_ok-draw_component.ensures.ok) in
+    let cover = rw c.begin_row.ensures.canvas at (simp to_z-of_z at c.cover_rest.ensures.new) in
+    let toggle = rw c.section_box-toggle_box.ensures at (simp to_z-of_z at c.in_ok-show_box.ensures.ok) in
     let more = second-of-four _ _ _ (box b c.args.x c.args.y) (text c.args.text.now c.args.x c.args.y) (light (is_selected c.args.self.now) c.args.y) cover c.requires in
     let own = second _ _ _ (text c.args.text.now c.args.x c.args.y) (light (is_selected c.args.self.now) c.args.y) toggle more in
     let fits : FitsSigned w64 (c.args.x +ℤ pos 4) = InRange-fits _ (text-place _ _ _ _ own).0 in
-    let drawn = simp to_z-of_z at c.in_ok-draw_text.ensures.ok in
+    let drawn = simp to_z-of_z at c.in_ok-show_text.ensures.ok in
     rw c.is_selected.ensures (simp to_z-of_z (third _ _ _ _ (text c.args.text.now c.args.x c.args.y) (light (is_selected c.args.self.now) c.args.y) toggle drawn more))
 
 pub returns-clause-ok : goal.returns-clause-ok
@@ -79,11 +80,21 @@ returns-clause-ok c =
     let fx : FitsSigned w64 c.args.x = c.ranges.x in
     let fy : FitsSigned w64 c.args.y = c.ranges.y in
     let b = section_box c.args.self.now c.args.is_checked in
-    let cover = simp to_z-of_z at c.cover_rest.ensures.new in
-    let toggle = rw c.section_box-toggle_box.ensures at (simp to_z-of_z at c.in_ok-draw_component.ensures.ok) in
+    let cover = rw c.begin_row.ensures.canvas at (simp to_z-of_z at c.cover_rest.ensures.new) in
+    let toggle = rw c.section_box-toggle_box.ensures at (simp to_z-of_z at c.in_ok-show_box.ensures.ok) in
     let more = second-of-four _ _ _ (box b c.args.x c.args.y) (text c.args.text.now c.args.x c.args.y) (light (is_selected c.args.self.now) c.args.y) cover c.requires in
     let own = second _ _ _ (text c.args.text.now c.args.x c.args.y) (light (is_selected c.args.self.now) c.args.y) toggle more in
     let fits : FitsSigned w64 (c.args.x +ℤ pos 4) = InRange-fits _ (text-place _ _ _ _ own).0 in
-    let drawn = simp to_z-of_z at c.in_ok-draw_text.ensures.ok in
+    let drawn = simp to_z-of_z at c.in_ok-show_text.ensures.ok in
     let lit = rw c.is_selected.ensures at (simp to_z-of_z at c.highlight.ensures.new) in
     four _ _ _ _ _ _ (box b c.args.x c.args.y) (text c.args.text.now c.args.x c.args.y) (light (is_selected c.args.self.now) c.args.y) cover toggle drawn lit
+
+pub returns-clause-counts : goal.returns-clause-counts
+returns-clause-counts c =
+    let fx : FitsSigned w64 c.args.x = c.ranges.x in
+    let fy : FitsSigned w64 c.args.y = c.ranges.y in
+    let began = simp to_z-of_z at c.begin_row.ensures.counts in
+    let toggle = rw (c.cover_rest.ensures.counts, c.cover_rest.ensures.rect) at (simp to_z-of_z at c.in_ok-show_box.ensures.counts) in
+    let text = simp to_z-of_z at c.in_ok-show_text.ensures.counts in
+    c.highlight.ensures.counts
+    ∙ on_row-three _ _ _ _ _ _ _ _ _ _ _ (ap (λ v. v.sight.rect) c.begin_row.ensures.canvas) (c.in_ok-show_box.ensures.rect ∙ c.cover_rest.ensures.rect) began toggle text

@@ -2,7 +2,9 @@ use Rattle.std.proofs.Common.{◌≡◌, ◌+◌, drop}
 use Rattle.scm_render.specs.Picture.{PictureInRange}
 use Rattle.scm_render.specs.Canvas.{with_picture}
 use Rattle.scm_view.specs.Rows.{numbered_rows}
+use Rattle.scm_cells.specs.Counts.{added}
 use Rattle.scm_view.specs.Pictures.{rows_picture}
+use Rattle.scm_view.specs.Counts.{rows_counts}
 use Rattle.scm_view.proofs.section_view.SectionView.draw_numbered.Given as goal
 
 abbrev pub invariant-loop-index : goal.invariant-loop-index
@@ -11,5 +13,6 @@ invariant-loop-index l =
     record {
       sight : l.viewport.canvas.sight ≡ l.fn.viewport.canvas.sight;
       in_range : PictureInRange rest;
+      counts : added l.viewport.counts (rows_counts (numbered_rows l.self (l.first + l.index) (drop l.index l.lines)) l.fn.viewport.canvas.sight.rect l.row) ≡ added l.fn.viewport.counts (rows_counts (numbered_rows l.self l.first l.lines) l.fn.viewport.canvas.sight.rect l.fn.y);
       whole : with_picture l.viewport.canvas rest ≡ with_picture l.fn.viewport.canvas (rows_picture (numbered_rows l.self l.first l.lines) l.fn.viewport.canvas.sight l.fn.x l.fn.y);
     }

@@ -28,3 +28,9 @@ returns-clause-ok c =
     let fy : FitsSigned w64 c.args.y = c.ranges.y in
     let fits : FitsSigned w64 (c.args.x +ℤ pos 2) = InRange-fits _ (context-place _ _ _ _ (PictureInRange-part _ _ c.requires)) in
     rw (c.line_key.ensures, c.line_number.ensures, c.as_str.ensures) at (simp to_z-of_z at c.in_ok-draw_component.ensures.ok)
+
+pub returns-clause-counts : goal.returns-clause-counts
+returns-clause-counts c =
+    let fx : FitsSigned w64 c.args.x = c.ranges.x in
+    let fy : FitsSigned w64 c.args.y = c.ranges.y in
+    simp to_z-of_z at c.in_ok-draw_component.ensures.counts

@@ -3,6 +3,7 @@ use Rattle.std.proofs.lemmas.Int.{to_z-of_z}
 use Rattle.scm_view.specs.Rows.{section_rows}
 use Rattle.scm_view.specs.Pictures.{section_picture}
 use Rattle.scm_view.proofs.RowsLemmas.{row-first, row-alone, on-ok}
+use Rattle.scm_view.proofs.CountLemmas.{row-counted-alone}
 use Rattle.scm_view.proofs.section_view.SectionViewComponent.draw.Goals as goal
 
 pub draw_context-requires : goal.draw_context-requires
@@ -60,3 +61,31 @@ returns-in_ok-text-in-Binary-clause-ok c =
     let fx : FitsSigned w64 c.args.x = c.ranges.x in
     let fy : FitsSigned w64 c.args.y = c.ranges.y in
     rw c.in-Binary.is (on-ok _ (row-alone _ _ _ _ _) (rw (c.as_str-in-Binary.ensures.value, c.in_ok-text-in-Binary.ensures.ok) at (simp to_z-of_z at c.draw_mark-in-Binary.ensures.ok)))
+
+pub returns-in-Unchanged-clause-counts : goal.returns-in-Unchanged-clause-counts
+unfolding section_rows
+returns-in-Unchanged-clause-counts c =
+    let fx : FitsSigned w64 c.args.x = c.ranges.x in
+    let fy : FitsSigned w64 c.args.y = c.ranges.y in
+    rw c.in-Unchanged.is (rw c.as_slice.ensures at (simp to_z-of_z at c.draw_context.ensures.counts))
+
+pub returns-in-Changed-clause-counts : goal.returns-in-Changed-clause-counts
+unfolding section_rows
+returns-in-Changed-clause-counts c =
+    let fx : FitsSigned w64 c.args.x = c.ranges.x in
+    let fy : FitsSigned w64 c.args.y = c.ranges.y in
+    rw c.in-Changed.is (rw c.as_slice-in-Changed.ensures at (simp to_z-of_z at c.draw_changed.ensures.counts))
+
+pub returns-in_ok-text-in-FileMode-clause-counts : goal.returns-in_ok-text-in-FileMode-clause-counts
+unfolding section_rows
+returns-in_ok-text-in-FileMode-clause-counts c =
+    let fx : FitsSigned w64 c.args.x = c.ranges.x in
+    let fy : FitsSigned w64 c.args.y = c.ranges.y in
+    rw c.in-FileMode.is (on-ok _ (row-counted-alone _ _ _ _ _) (simp to_z-of_z at c.draw_mark.ensures.counts))
+
+pub returns-in_ok-text-in-Binary-clause-counts : goal.returns-in_ok-text-in-Binary-clause-counts
+unfolding section_rows
+returns-in_ok-text-in-Binary-clause-counts c =
+    let fx : FitsSigned w64 c.args.x = c.ranges.x in
+    let fy : FitsSigned w64 c.args.y = c.ranges.y in
+    rw c.in-Binary.is (on-ok _ (row-counted-alone _ _ _ _ _) (simp to_z-of_z at c.draw_mark-in-Binary.ensures.counts))

@@ -6,8 +6,8 @@ use Rattle.scm_cells.specs.Spans.{span_texts}
 use Rattle.scm_cells.proofs.RectLemmas.{places}
 use Rattle.scm_render.specs.Drawing.{row_rect, texts_width}
 use Rattle.scm_render.proofs.DrawLemmas.{text_picture-line, line_in_range, ellipsis_in_range, with_picture-long, with_picture-fitting}
-use Rattle.scm_render.proofs.viewport.Viewport.draw_text.Goals as goal
-use Rattle.scm_render.proofs.viewport.Viewport.draw_text.Goals.{then-end-end_x+in_ok-add_text, else-end-end_x}
+use Rattle.scm_render.proofs.viewport.Viewport.add_cut.Goals as goal
+use Rattle.scm_render.proofs.viewport.Viewport.add_cut.Goals.{then-end-end_x+in_ok-add_text, else-end-end_x}
 
 pub add_spans-requires : goal.add_spans-requires
 add_spans-requires g c =

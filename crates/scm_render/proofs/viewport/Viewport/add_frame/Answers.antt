@@ -5,8 +5,9 @@ use Rattle.scm_render.specs.Around.{join}
 use Rattle.scm_render.specs.Drawing.{reach, body_texts}
 use Rattle.scm_render.proofs.AroundLemmas.{RectInRange-join, is_empty-in}
 use Rattle.scm_render.proofs.DrawLemmas.{frame_in_range, with_picture-frame, with_picture-no_frame}
-use Rattle.scm_render.proofs.viewport.Viewport.draw_frame.Goals as goal
-use Rattle.scm_render.proofs.viewport.Viewport.draw_frame.Goals.{then-rect-gt0+then-rect-gt0-2+in_ok-put_frame, else-rect-gt0, else-rect-gt0-via-then-rect-gt0+else-rect-gt0-2, else-rect-gt0-via-else-rect-gt0}
+use Rattle.scm_render.proofs.PaintLemmas.{with_puts-counts}
+use Rattle.scm_render.proofs.viewport.Viewport.add_frame.Goals as goal
+use Rattle.scm_render.proofs.viewport.Viewport.add_frame.Goals.{then-rect-gt0+then-rect-gt0-2+in_ok-put_frame, else-rect-gt0, else-rect-gt0-via-then-rect-gt0+else-rect-gt0-2, else-rect-gt0-via-else-rect-gt0}
 
 pub put_frame-requires-clause-frame : goal.put_frame-requires-clause-frame
 put_frame-requires-clause-frame g c = frame_in_range _ _ _ _ c.requires
@@ -18,7 +19,7 @@ pub returns-clause-ok : goal.returns-clause-ok
 returns-clause-ok g c = elim c.if-rect-gt0.branch [
   | then-rect-gt0+then-rect-gt0-2+in_ok-put_frame w ↦
       rw (w.self-inside-is, sym c.self.view_is)
-      (with_picture-frame _ _ c.mask_rect-within.result c.args.rect c.args.title.now (body_texts c.args.body.now)
+      (with_picture-frame _ _ _ c.mask_rect-within.result c.args.rect c.args.title.now (body_texts c.args.body.now)
       (c.mask_rect-within.ensures.value ∙ ap (λ v. reach v.canvas.sight) (sym c.self.view_is))
       (is_empty-in c.args.rect w.if-rect-gt0.true w.if-rect-gt0-2.true)
       w.in_ok-put_frame.ensures.ok refl
@@ -44,4 +45,10 @@ invariant_of-self-2 g c = elim c.if-rect-gt0.branch [
         mask = c.self.invariant.mask;
         area = rw w.self-inside-is (RectInRange-join _ _ c.self.invariant.area (frame_in_range _ _ _ _ c.requires));
       })
+]
+
+pub returns-clause-counts : goal.returns-clause-counts
+returns-clause-counts g c = elim c.if-rect-gt0.branch [
+  | then-rect-gt0+then-rect-gt0-2+in_ok-put_frame w ↦ ap (λ i. i.surface.counts) w.self-inside-is ∙ with_puts-counts _ _ _ w.in_ok-put_frame.ensures.ok ∙ ap (λ v. v.counts) c.self.view_is
+  | else-rect-gt0 w ↦ ap (λ i. i.surface.counts) w.self-inside-is ∙ ap (λ v. v.counts) c.self.view_is
 ]

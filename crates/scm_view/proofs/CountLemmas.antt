@@ -1,0 +1,181 @@
+-- How much is drawn: on one row, call after call, and on rows below one another.
+use Rattle.std.proofs.Common.{◌≡◌, ℕ, suc, ◌+◌, ◌*◌, ◌<◌, ◌≤◌, List, [], ◌∷◌, ◌++◌, length, length-append, map, drop, get_or, refl, sym, ap, ◌∙◌, arith, add-one, drop-cons, true, false, Bool}
+use Rattle.std.specs.Prelude.{ℤ, pos, ◌+ℤ◌, ◌-◌, take, Some, if◌then◌else◌}
+use Rattle.std.proofs.lemmas.Int.{ints}
+use Rattle.std.proofs.lemmas.List.{drop_all, length-drop, length-take}
+use Rattle.scm_cells.specs.Counts.{Counts, no_counts, plus, added}
+use Rattle.scm_cells.specs.declared.rect.Rect.{Rect}
+use Rattle.scm_render.specs.Drawing.{has_row}
+use Rattle.scm_render.specs.Canvas.{Sight, under}
+use Rattle.scm_render.proofs.CountLemmas.{counts-then, counts-more, counts-end}
+use Rattle.scm_view.specs.declared.file_view.FileView.{FileView}
+use Rattle.scm_view.specs.declared.commit_view.CommitView.{CommitView}
+use Rattle.scm_view.specs.declared.menu.Menu.{Menu}
+use Rattle.scm_view.specs.declared.menu_bar.MenuBar.{MenuBar}
+use Rattle.scm_view.specs.Menus.{menus_before}
+use Rattle.scm_view.specs.Rows.{DocRow, ShownSection, shown_file, file_rows, sections_rows, document_of}
+use Rattle.scm_view.specs.declared.app_view.AppView.{AppView}
+use Rattle.scm_view.specs.AppView.{shown_views, view_width, view_mask, next_view, views_counts, has_help, app_counts}
+use Rattle.scm_view.specs.Counts.{drawn, on_row, row_counts, rows_counts, sections_counts, file_counts, pinned_counts, files_counts, message_counts, document_counts, first_calls, bar_calls, quit_calls, help_calls}
+
+pub counts-same : (a b : Counts) → a.rows ≡ b.rows → a.calls ≡ b.calls → a ≡ b
+counts-same a b p q = let e : ◌≡◌ {A = Counts} (record { rows = a.rows; calls = a.calls }) (record { rows = b.rows; calls = b.calls }) = cc (p, q) in e
+
+pub plus-assoc : (a b c : Counts) → plus (plus a b) c ≡ plus a (plus b c)
+plus-assoc a b c = counts-same (plus (plus a b) c) (plus a (plus b c)) (omega arith) (omega arith)
+
+pub plus-none : (a : Counts) → plus a no_counts ≡ a
+plus-none a = counts-same (plus a no_counts) a (omega arith) (omega arith)
+
+pub none-plus : (a : Counts) → plus no_counts a ≡ a
+none-plus a = counts-same (plus no_counts a) a (omega arith) (omega arith)
+
+-- ---- calls on one row
+
+on_row-plus : (v : Rect) (y : ℤ) (a b : Counts) → plus (on_row v y a) (on_row v y b) ≡ on_row v y (plus a b)
+unfolding on_row
+on_row-plus v y a b = go (has_row v y)
+  where
+    go : (t : Bool) → plus (if t then a else no_counts) (if t then b else no_counts) ≡ (if t then plus a b else no_counts)
+    go true = refl
+    go false = refl
+
+-- one call, and then another in the same sight
+pub on_row-then : (c d e : Counts) (v w : Rect) (y : ℤ) (a b : Counts) → w ≡ v → d ≡ added c (on_row v y a) → e ≡ added d (on_row w y b) → e ≡ added c (on_row v y (plus a b))
+on_row-then c d e v w y a b s p q = counts-then c d e (on_row v y a) (on_row v y b) p (q ∙ ap (λ r. added d (on_row r y b)) s) ∙ ap (added c) (on_row-plus v y a b)
+
+pub on_row-three : (c d e f : Counts) (v w u : Rect) (y : ℤ) (a b g : Counts) → w ≡ v → u ≡ w → d ≡ added c (on_row v y a) → e ≡ added d (on_row w y b) → f ≡ added e (on_row u y g)
+    → f ≡ added c (on_row v y (plus (plus a b) g))
+on_row-three c d e f v w u y a b g s t p q r = on_row-then c e f v u y (plus a b) g (t ∙ s) (on_row-then c d e v w y a b s p q) r
+
+-- ---- rows below one another
+
+pub rows_counts-more : (rows : List DocRow) (r : DocRow) (rs : List DocRow) (v : Rect) (y : ℤ) → rows ≡ r ∷ rs → rows_counts rows v y ≡ plus (row_counts r v y) (rows_counts rs v (y +ℤ pos 1))
+unfolding rows_counts
+rows_counts-more rows r rs v y e = rw e refl
+
+pub rows_counts-end : (rows : List DocRow) (v : Rect) (y : ℤ) → rows ≡ [] → rows_counts rows v y ≡ no_counts
+unfolding rows_counts
+rows_counts-end rows v y e = rw e refl
+
+pub rows_counts-one : (r : DocRow) (v : Rect) (y : ℤ) → rows_counts (r ∷ []) v y ≡ row_counts r v y
+unfolding rows_counts
+rows_counts-one r v y = plus-none (row_counts r v y)
+
+pub rows_counts-append : (rs qs : List DocRow) (v : Rect) (y : ℤ) → rows_counts (rs ++ qs) v y ≡ plus (rows_counts rs v y) (rows_counts qs v (y +ℤ pos (length rs)))
+unfolding rows_counts
+rows_counts-append [] qs v y =
+    let same : y ≡ y +ℤ pos 0 = omega (arith, ints) in
+    ap (rows_counts qs v) same ∙ sym (none-plus (rows_counts qs v (y +ℤ pos 0)))
+rows_counts-append (r ∷ rs) qs v y =
+    let same : (y +ℤ pos 1) +ℤ pos (length rs) ≡ y +ℤ pos (suc (length rs)) = omega (arith, ints) in
+    ap (plus (row_counts r v y)) (rows_counts-append rs qs v (y +ℤ pos 1) ∙ ap (λ z. plus (rows_counts rs v (y +ℤ pos 1)) (rows_counts qs v z)) same)
+    ∙ sym (plus-assoc (row_counts r v y) (rows_counts rs v (y +ℤ pos 1)) (rows_counts qs v (y +ℤ pos (suc (length rs)))))
+
+-- ---- sections below one another
+
+pub sections_counts-one : (p : ShownSection) (v : Rect) (y : ℤ) → sections_counts (p ∷ []) v y ≡ rows_counts p.rows v y
+unfolding sections_counts
+sections_counts-one p v y = plus-none (rows_counts p.rows v y)
+
+pub sections_counts-none : (ps : List ShownSection) (v : Rect) (y : ℤ) → ps ≡ [] → sections_counts ps v y ≡ no_counts
+unfolding sections_counts
+sections_counts-none ps v y e = rw e refl
+
+pub sections_counts-append : (ps qs : List ShownSection) (v : Rect) (y : ℤ)
+    → sections_counts (ps ++ qs) v y ≡ plus (sections_counts ps v y) (sections_counts qs v (y +ℤ pos (length (sections_rows ps))))
+unfolding sections_counts sections_rows
+sections_counts-append [] qs v y =
+    let same : y ≡ y +ℤ pos 0 = omega (arith, ints) in
+    ap (sections_counts qs v) same ∙ sym (none-plus (sections_counts qs v (y +ℤ pos 0)))
+sections_counts-append (p ∷ ps) qs v y =
+    let next = y +ℤ pos (length p.rows) in
+    let sum : next +ℤ pos (length (sections_rows ps)) ≡ y +ℤ pos (length (p.rows ++ sections_rows ps)) = omega (arith, ints, length-append p.rows (sections_rows ps)) in
+    ap (plus (rows_counts p.rows v y)) (sections_counts-append ps qs v next ∙ ap (λ z. plus (sections_counts ps v next) (sections_counts qs v z)) sum)
+    ∙ sym (plus-assoc (rows_counts p.rows v y) (sections_counts ps v next) (sections_counts qs v (y +ℤ pos (length (p.rows ++ sections_rows ps)))))
+
+-- ---- files below one another
+
+pub files_counts-more : (files : List FileView) (i : ℕ) (d : FileView) (v : Rect) (row y : ℤ) → i < length files
+    → files_counts (map shown_file (drop i files)) v row y
+    ≡ plus (plus (file_counts (shown_file (get_or files i d)) v y) (pinned_counts (shown_file (get_or files i d)) v row y))
+    (files_counts (map shown_file (drop (i + 1) files)) v row (y +ℤ pos (length (file_rows (shown_file (get_or files i d))))))
+unfolding files_counts
+files_counts-more files i d v row y h = rw (add-one, drop-cons files i d h) refl
+
+pub files_counts-end : (files : List FileView) (i : ℕ) (v : Rect) (row y : ℤ) → length files ≤ i → files_counts (map shown_file (drop i files)) v row y ≡ no_counts
+unfolding files_counts
+files_counts-end files i v row y h = rw (drop_all i files h) refl
+
+-- ---- calls that draw rows
+
+-- a row, and below it others
+pub row-counted : (c d e : Counts) (v w : Rect) (r : DocRow) (rs : List DocRow) (y : ℤ) → w ≡ v → d ≡ added c (row_counts r v y) → e ≡ added d (rows_counts rs w (y +ℤ pos 1)) → e ≡ added c (rows_counts (r ∷ rs) v y)
+unfolding rows_counts
+row-counted c d e v w r rs y s p q = counts-then c d e (row_counts r v y) (rows_counts rs v (y +ℤ pos 1)) p (q ∙ ap (λ u. added d (rows_counts rs u (y +ℤ pos 1))) s)
+
+pub row-counted-alone : (c d : Counts) (v : Rect) (r : DocRow) (y : ℤ) → d ≡ added c (row_counts r v y) → d ≡ added c (rows_counts (r ∷ []) v y)
+row-counted-alone c d v r y p = p ∙ ap (added c) (sym (rows_counts-one r v y))
+
+-- rows, and below them others
+pub rows-counted : (c d e : Counts) (v w : Rect) (rs qs : List DocRow) (n : ℕ) (y : ℤ) → length rs ≡ n → w ≡ v → d ≡ added c (rows_counts rs v y) → e ≡ added d (rows_counts qs w (y +ℤ pos n)) → e ≡ added c (rows_counts (rs ++ qs) v y)
+rows-counted c d e v w rs qs n y l s p q =
+    counts-then c d e (rows_counts rs v y) (rows_counts qs v (y +ℤ pos n)) p (q ∙ ap (λ u. added d (rows_counts qs u (y +ℤ pos n))) s)
+    ∙ ap (λ k. added c (plus (rows_counts rs v y) (rows_counts qs v (y +ℤ pos k)))) (sym l) ∙ ap (added c) (sym (rows_counts-append rs qs v y))
+
+-- the rows of a message
+pub message-counted : (c p q d e f : Counts) (v : Rect) (y : ℤ) (text : List ℕ) → p ≡ added c (on_row v y (drawn 1 0)) → q ≡ added p (on_row v (y +ℤ pos 1) (drawn 1 0)) → d ≡ added q (on_row v (y +ℤ pos 1) (drawn 0 1))
+    → e ≡ added d (on_row v (y +ℤ pos 1) (drawn 0 2)) → f ≡ added e (on_row v ((y +ℤ pos 1) +ℤ pos 1) (drawn 1 0)) → f ≡ added c (message_counts (Some text) v y)
+unfolding message_counts
+message-counted c p q d e f v y text hp hq hd he hf =
+    let below : (y +ℤ pos 1) +ℤ pos 1 ≡ y +ℤ pos 2 = omega (arith, ints) in
+    let middle = on_row-three p q d e v v v (y +ℤ pos 1) (drawn 1 0) (drawn 0 1) (drawn 0 2) refl refl hq hd he in
+    counts-then c p f (on_row v y (drawn 1 0)) (plus (on_row v (y +ℤ pos 1) (drawn 1 3)) (on_row v (y +ℤ pos 2) (drawn 1 0))) hp
+    (counts-then p e f (on_row v (y +ℤ pos 1) (drawn 1 3)) (on_row v (y +ℤ pos 2) (drawn 1 0)) middle (rw below at hf))
+
+-- ---- calls alone
+
+pub calls-then : (c d e : Counts) (m n : ℕ) → d ≡ added c (drawn 0 m) → e ≡ added d (drawn 0 n) → e ≡ added c (drawn 0 (m + n))
+calls-then c d e m n p q = counts-then c d e (drawn 0 m) (drawn 0 n) p q
+
+pub calls-more : (c d e : Counts) (left one more whole : ℕ) → left ≡ one + more → added d (drawn 0 left) ≡ added c (drawn 0 whole) → e ≡ added d (drawn 0 one) → added e (drawn 0 more) ≡ added c (drawn 0 whole)
+calls-more c d e left one more whole k h p = counts-more c d e (drawn 0 left) (drawn 0 one) (drawn 0 more) (drawn 0 whole) (ap (drawn 0) k) h p
+
+pub calls-end : (c d : Counts) (left whole : ℕ) → left ≡ 0 → added d (drawn 0 left) ≡ added c (drawn 0 whole) → d ≡ added c (drawn 0 whole)
+calls-end c d left whole k h = counts-end c d (drawn 0 left) (drawn 0 whole) (ap (drawn 0) k) h
+
+pub calls-first : (c : Counts) (k n : ℕ) → added c (drawn 0 (k * (n - 0))) ≡ added c (drawn 0 (k * n))
+calls-first c k n = let same : n - 0 ≡ n = omega arith in ap (λ m. added c (drawn 0 (k * m))) same
+
+-- the bar: its blank, the headers before the open menu's, the others, and the open menu
+pub bar-counted : (b : MenuBar) (c d e f g : Counts) (before rest : List Menu) → before ≡ take (menus_before b.expanded_menu_idx (length b.menus)) b.menus → rest ≡ drop (menus_before b.expanded_menu_idx (length b.menus)) b.menus
+    → d ≡ added c (drawn 0 1) → e ≡ added d (drawn 0 (length before)) → f ≡ added e (drawn 0 (length rest)) → g ≡ added f (drawn 0 (first_calls rest)) → g ≡ added c (drawn 0 (bar_calls b))
+unfolding bar_calls
+bar-counted b c d e f g before rest p q hd he hf hg =
+    let n = menus_before b.expanded_menu_idx (length b.menus) in
+    let all = calls-then c f g ((1 + length before) + length rest) (first_calls rest) (calls-then c e f (1 + length before) (length rest) (calls-then c d e 1 (length before) hd he) hf) hg in
+    let split : length before + length rest ≡ length b.menus = rw (p, q) (omega (arith, length-take n b.menus, length-drop n b.menus)) in
+    let same : ((1 + length before) + length rest) + first_calls rest ≡ 1 + (length b.menus + first_calls (drop n b.menus)) = omega (arith, split, ap first_calls q) in
+    all ∙ ap (λ m. added c (drawn 0 m)) same
+
+-- ---- views beside each other
+
+pub views_counts-more : (vs : List CommitView) (i : ℕ) (d : CommitView) (n : ℕ) (s : Sight) (x z : ℤ) → i < length vs → z ≡ next_view (get_or vs i d) s x n
+    → views_counts (drop i vs) n s x ≡ plus (document_counts (document_of (get_or vs i d)) (under (view_mask s x n) s) (pos 1)) (views_counts (drop (i + 1) vs) n s z)
+unfolding views_counts
+views_counts-more vs i d n s x z h e = rw (add-one, drop-cons vs i d h, e) refl
+
+pub views_counts-end : (vs : List CommitView) (i n : ℕ) (s : Sight) (x : ℤ) → length vs ≤ i → views_counts (drop i vs) n s x ≡ no_counts
+unfolding views_counts
+views_counts-end vs i n s x h = rw (drop_all i vs h) refl
+
+-- all of them, and what lies over them
+pub app-counted : (c d e f g : Counts) (a : AppView) (s : Sight) (x : ℤ) → d ≡ added c (views_counts (shown_views a) (view_width a.commit_view_mode s.rect.width) s x)
+    → e ≡ added d (drawn 0 (bar_calls a.menu_bar)) → f ≡ added e (drawn 0 (quit_calls a.quit_dialog)) → g ≡ added f (drawn 0 (help_calls (has_help a.help_dialog))) → g ≡ added c (app_counts a s x)
+unfolding app_counts
+app-counted c d e f g a s x hd he hf hg =
+    let views = views_counts (shown_views a) (view_width a.commit_view_mode s.rect.width) s x in
+    let quit = drawn 0 (quit_calls a.quit_dialog) in
+    let help = drawn 0 (help_calls (has_help a.help_dialog)) in
+    let bar = drawn 0 (bar_calls a.menu_bar) in
+    counts-then c d g views (plus bar (plus quit help)) hd (counts-then d e g bar (plus quit help) he (counts-then e f g quit help hf hg))

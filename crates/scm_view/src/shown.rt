@@ -1,0 +1,195 @@
+//! What is drawn where the screen has its row, and noted elsewhere: the boxes are the same, and nothing
+//! is put.
+ghost use Rattle.std.specs.Prelude.{◌≡◌, ◌<◌, ◌^◌, ◌∷◌, [], length, false, OnOk, IfErr};
+ghost use Rattle.scm_cells.specs.Counts.{added, one_row, one_call};
+ghost use Rattle.scm_cells.specs.Spans.{span_texts};
+ghost use Rattle.scm_render.specs.Picture.{PictureInRange};
+ghost use Rattle.scm_render.specs.Canvas.{with_picture};
+ghost use Rattle.scm_render.specs.Drawing.{has_row, row_rect, span_picture, text_picture, blank_picture, texts_width};
+ghost use Rattle.scm_errors.specs.declared.error.RecordError.TheVariants.{OutOfMemory};
+ghost use Rattle.scm_view.specs.declared.ids.ComponentId.{ComponentId};
+ghost use Rattle.scm_view.specs.Pictures.{box_part};
+ghost use Rattle.scm_view.specs.Buttons.{button_part};
+ghost use Rattle.scm_view.specs.Counts.{on_row};
+
+use crate::button::Button;
+use crate::button_row::button_width;
+use crate::ids::ComponentId;
+use crate::reach::cover_rect;
+use crate::tristate_box::TristateBox;
+use scm_cells::{Rect, Span, text_width};
+use scm_render::Viewport;
+use scm_types::RecordError;
+use std::alloc::Global;
+
+/// So many columns of a row.
+fn row_of(x: isize, y: isize, width: usize) -> Rect
+    ensures { result ≡ row_rect x y width }
+{
+    Rect {
+        x,
+        y,
+        width,
+        height: 1,
+    }
+}
+
+/// The screen has the row of the document.
+fn is_on_screen(viewport: &Viewport<ComponentId>, y: isize) -> bool
+    ensures test { result ≡ has_row viewport.now.canvas.sight.rect y }
+    ensures rows { length viewport.now.canvas.rows ≡ viewport.now.canvas.sight.rect.height }
+{
+    let rect = viewport.rect();
+    rect.y <= y && y < rect.end_y()
+}
+
+/// Begins a row, if the screen has it.
+pub(crate) fn begin_row(viewport: &mut Viewport<ComponentId>, y: isize)
+    ensures canvas { viewport.new.canvas ≡ viewport.old.canvas }
+    ensures counts { viewport.new.counts ≡ added viewport.old.counts (on_row viewport.old.canvas.sight.rect y one_row) }
+{
+    if is_on_screen(viewport, y) {
+        viewport.begin_row();
+    }
+}
+
+/// Draws a text.
+pub(crate) fn show_span(
+    viewport: &mut Viewport<ComponentId>,
+    x: isize,
+    y: isize,
+    text: &str,
+) -> Result<(), RecordError>
+    requires { PictureInRange {K = ComponentId} (span_picture viewport.old.canvas.sight x y text.now) }
+    ensures ok { OnOk result (viewport.new.canvas ≡ with_picture viewport.old.canvas (span_picture viewport.old.canvas.sight x y text.now)) }
+    ensures counts { OnOk result (viewport.new.counts ≡ added viewport.old.counts (on_row viewport.old.canvas.sight.rect y one_call)) }
+    ensures rect { viewport.new.canvas.sight.rect ≡ viewport.old.canvas.sight.rect }
+    ensures err { IfErr result (λ e. e ≡ OutOfMemory) }
+{
+    if is_on_screen(viewport, y) {
+        viewport.draw_span(x, y, &Span(text))?;
+        Ok(())
+    } else {
+        cover_rect(viewport, row_of(x, y, text_width(text)));
+        Ok(())
+    }
+}
+
+/// Covers what texts one after another would take, and the ellipsis where they go past the mask.
+fn cover_texts(viewport: &mut Viewport<ComponentId>, x: isize, y: isize, spans: &[Span])
+    requires hidden { has_row viewport.old.canvas.sight.rect y ≡ false }
+    requires rows { length viewport.old.canvas.rows ≡ viewport.old.canvas.sight.rect.height }
+    requires picture { PictureInRange {K = ComponentId} (text_picture viewport.old.canvas.sight x y (span_texts spans.now)) }
+    ensures new { viewport.new.canvas ≡ with_picture viewport.old.canvas (text_picture viewport.old.canvas.sight x y (span_texts spans.now)) }
+    ensures counts { viewport.new.counts ≡ viewport.old.counts }
+    ensures rect { viewport.new.canvas.sight.rect ≡ viewport.old.canvas.sight.rect }
+{
+    let end = viewport.mask_rect().end_x();
+    let texts = row_of(x, y, spans_width(spans));
+    cover_rect(viewport, texts);
+    if end < texts.end_x() {
+        cover_rect(viewport, row_of(end - 1, y, text_width("…")));
+    }
+}
+
+/// The columns of texts one after another.
+fn spans_width(spans: &[Span]) -> usize
+    requires { texts_width (span_texts spans.now) < 2 ^ 64 }
+    ensures { result ≡ texts_width (span_texts spans.now) }
+{
+    let mut columns = 0;
+    for span in spans {
+        columns += text_width(span.0);
+    }
+    columns
+}
+
+/// Draws texts one after another, and an ellipsis where they go past the mask.
+pub(crate) fn show_text(
+    viewport: &mut Viewport<ComponentId>,
+    x: isize,
+    y: isize,
+    spans: &[Span],
+) -> Result<(), RecordError>
+    requires { PictureInRange {K = ComponentId} (text_picture viewport.old.canvas.sight x y (span_texts spans.now)) }
+    ensures ok { OnOk result (viewport.new.canvas ≡ with_picture viewport.old.canvas (text_picture viewport.old.canvas.sight x y (span_texts spans.now))) }
+    ensures counts { OnOk result (viewport.new.counts ≡ added viewport.old.counts (on_row viewport.old.canvas.sight.rect y one_call)) }
+    ensures rect { viewport.new.canvas.sight.rect ≡ viewport.old.canvas.sight.rect }
+    ensures err { IfErr result (λ e. e ≡ OutOfMemory) }
+{
+    if is_on_screen(viewport, y) {
+        viewport.draw_text(x, y, spans)?;
+        Ok(())
+    } else {
+        cover_texts(viewport, x, y, spans);
+        Ok(())
+    }
+}
+
+/// Draws spaces on a row.
+pub(crate) fn show_blank(
+    viewport: &mut Viewport<ComponentId>,
+    x: isize,
+    y: isize,
+    width: usize,
+) -> Result<(), RecordError>
+    requires { PictureInRange {K = ComponentId} (blank_picture viewport.old.canvas.sight (row_rect x y width)) }
+    ensures ok { OnOk result (viewport.new.canvas ≡ with_picture viewport.old.canvas (blank_picture viewport.old.canvas.sight (row_rect x y width))) }
+    ensures counts { OnOk result (viewport.new.counts ≡ added viewport.old.counts (on_row viewport.old.canvas.sight.rect y one_call)) }
+    ensures rect { viewport.new.canvas.sight.rect ≡ viewport.old.canvas.sight.rect }
+    ensures err { IfErr result (λ e. e ≡ OutOfMemory) }
+{
+    if is_on_screen(viewport, y) {
+        viewport.draw_blank(row_of(x, y, width))?;
+        Ok(())
+    } else {
+        cover_rect(viewport, row_of(x, y, width));
+        Ok(())
+    }
+}
+
+/// Draws a box of a mark or a fold.
+pub(crate) fn show_box(
+    viewport: &mut Viewport<ComponentId>,
+    x: isize,
+    y: isize,
+    tristate_box: &TristateBox<ComponentId>,
+) -> Result<(), RecordError>
+    requires { PictureInRange (box_part tristate_box.now viewport.old.canvas.sight x y) }
+    ensures ok { OnOk result (viewport.new.canvas ≡ with_picture viewport.old.canvas (box_part tristate_box.now viewport.old.canvas.sight x y)) }
+    ensures counts { OnOk result (viewport.new.counts ≡ added viewport.old.counts (on_row viewport.old.canvas.sight.rect y one_call)) }
+    ensures rect { viewport.new.canvas.sight.rect ≡ viewport.old.canvas.sight.rect }
+    ensures err { IfErr result (λ e. e ≡ OutOfMemory) }
+{
+    if is_on_screen(viewport, y) {
+        viewport.draw_component(x, y, tristate_box)?;
+        Ok(())
+    } else {
+        viewport.note_box(tristate_box.id, row_of(x, y, 3))?;
+        Ok(())
+    }
+}
+
+/// Draws a button.
+pub(crate) fn show_button(
+    alloc: Global,
+    viewport: &mut Viewport<ComponentId>,
+    x: isize,
+    y: isize,
+    button: &Button<'_, ComponentId>,
+) -> Result<(), RecordError>
+    requires { PictureInRange (button_part button.now viewport.old.canvas.sight x y) }
+    ensures ok { OnOk result (viewport.new.canvas ≡ with_picture viewport.old.canvas (button_part button.now viewport.old.canvas.sight x y)) }
+    ensures counts { OnOk result (viewport.new.counts ≡ added viewport.old.counts (on_row viewport.old.canvas.sight.rect y one_call)) }
+    ensures rect { viewport.new.canvas.sight.rect ≡ viewport.old.canvas.sight.rect }
+    ensures err { IfErr result (λ e. e ≡ OutOfMemory) }
+{
+    if is_on_screen(viewport, y) {
+        viewport.draw_component(x, y, button)?;
+        Ok(())
+    } else {
+        let width = button_width(alloc, button)?;
+        viewport.note_box(button.id, row_of(x, y, width))?;
+        Ok(())
+    }
+}
