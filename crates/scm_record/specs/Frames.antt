@@ -23,7 +23,11 @@ use Rattle.scm_view.specs.declared.ids.ComponentId.{ComponentId}
 use Rattle.scm_view.specs.declared.ids.ComponentId.TheVariants as ids
 use Rattle.scm_input.specs.declared.inputs.TerminalKind.{TerminalKind}
 use Rattle.scm_input.specs.declared.inputs.TerminalKind.TheVariants.{Testing}
+use Rattle.scm_view.specs.declared.frame_index.FrameIndex.{FrameIndex}
+use Rattle.scm_view.specs.Index.{IsIndexOf}
 use Rattle.scm_record.specs.declared.frame.DrawnFrame.{DrawnFrame}
+use Rattle.scm_record.specs.declared.frame.Places.{Places}
+use Rattle.scm_record.specs.declared.frame.Places.TheVariants.{Plain, Free}
 use Rattle.scm_record.specs.Session.{Session, shown_of}
 
 pub record Frame : Type 0 where
@@ -116,9 +120,8 @@ module _ {S : Type 0} where
   abbrev pub rect_in : HashMap ComponentId DrawnRect S → ComponentId → Option Rect
   rect_in boxes i = option_map (λ (d : DrawnRect). d.rect) (get same_id boxes i)
 
-  -- rows of a screen of w columns and a map of boxes are the frame, on the screen's columns: the one place that says how
-  pub record IsFrame (w : ℕ) (frame : Frame) (rows : List Row) (boxes : HashMap ComponentId DrawnRect S) : Type 0 where
-    pub rows_are : rows ≡ frame.rows
+  -- a map of boxes answers for the frame, on a screen of w columns
+  pub record IsMapOf (w : ℕ) (frame : Frame) (boxes : HashMap ComponentId DrawnRect S) : Type 0 where
     -- what a point hits, of the boxes in the map, is its owner
     pub owner : (y x : ℕ) → x < w → (o : Option ComponentId) → IsTargetOf same_id is_clickable boxes (pos y) (pos x) o → o ≡ frame.owner y x
     -- the map has a box for each key that is drawn, on its rows
@@ -126,9 +129,23 @@ module _ {S : Type 0} where
     -- and one for all that is drawn
     pub extent : height_of_box (rect_in boxes ids.App) ≡ frame.extent
 
+-- an index answers for the frame of its document
+pub record IsIndexFor (w : ℕ) (frame : Frame) (index : FrameIndex) : Type 0 where
+  pub height : ℕ
+  pub scroll : ℕ
+  pub shown : Shown
+  pub is_index : IsIndexOf w height scroll shown index
+  pub is_frame : frame ≡ frame_of_document w height scroll shown
+
+-- what is kept of where things stand answers for the frame, on a screen of w columns: the one place that says how
+abbrev pub KnowsPlaces : ℕ → Frame → Places → Type 0
+KnowsPlaces w frame (Plain index) = IsIndexFor w frame index
+KnowsPlaces w frame (Free boxes) = IsMapOf w frame boxes
+
 -- what the code keeps of a drawing shows the scene
 pub record IsShown (scene : Scene) (drawn : DrawnFrame) : Type 0 where
   pub width : drawn.grid.width ≡ scene.width
   pub height : length drawn.grid.rows ≡ scene.height
-  pub frame : IsFrame scene.width scene.frame drawn.grid.rows drawn.boxes
+  pub rows : drawn.grid.rows ≡ scene.frame.rows
+  pub places : KnowsPlaces scene.width scene.frame drawn.places
   pub open_menu : drawn.open_menu ≡ scene.open_menu

@@ -1,11 +1,12 @@
 //! The frame last drawn: the screen, and where each thing on it was drawn.
-ghost use Rattle.std.specs.Prelude.{◌≡◌, ℕ, ◌<◌, ◌≤◌, ◌+◌, ◌^◌, IfErr, IfOk, IfSome, IsTrue, OnOk, length, string_bytes};
+ghost use Rattle.std.specs.Prelude.{◌≡◌, ℕ, ◌<◌, ◌≤◌, ◌+◌, ◌^◌, IfErr, IfOk, IsTrue, OnOk, length, string_bytes};
 ghost use Rattle.scm_render.specs.Picture.{PictureInRange, part};
 ghost use Rattle.scm_errors.specs.declared.error.RecordError.TheVariants.{OutOfMemory};
 ghost use Rattle.scm_types.specs.Limits.{is_accepted_state};
 ghost use Rattle.scm_view.specs.declared.ids.ComponentId.TheVariants as ids;
-ghost use Rattle.scm_view.specs.Window.{rows_of_box};
-ghost use Rattle.scm_record.specs.Frames.{HasSize, IsFrame, IsShown, Scene, frame_of_view, picture_of, scene_of};
+ghost use Rattle.scm_view.specs.Shown.{Shown};
+ghost use Rattle.scm_view.specs.Window.{IsPlain, ShowsInline, rows_of_box, window};
+ghost use Rattle.scm_record.specs.Frames.{HasSize, IsMapOf, IsShown, KnowsPlaces, Scene, frame_of_document, frame_of_view, is_plain, picture_of, scene_of};
 ghost use Rattle.scm_record.specs.Session.{Session, shown_of};
 ghost use Rattle.scm_record.specs.Uses.{ensured, held, hit, max_scroll, rows_above, scrolled_to, shot_of, top_in};
 
@@ -14,16 +15,25 @@ use scm_cells::{Grid, Rect};
 use scm_input::TerminalKind;
 use scm_render::{DrawnRects, Viewport, find_target};
 use scm_types::RecordError;
-use scm_view::{AppView, ComponentId, SelectionKey, laws};
+use scm_view::{AppView, CommitViewMode, ComponentId, FrameIndex, SelectionKey, laws};
 use std::alloc::Global;
+
+/// Where things stand on the frame last drawn, in places of the document.
+#[derive(Drop)]
+enum Places {
+    /// Of a frame that shows a document inline, its index.
+    Plain(FrameIndex),
+    /// Of any other, where each component was drawn.
+    Free(DrawnRects<ComponentId>),
+}
 
 /// The frame last drawn.
 #[derive(Drop)]
 pub(crate) struct DrawnFrame {
     /// The screen.
     grid: Grid,
-    /// Where each component was drawn, in places of the document.
-    boxes: DrawnRects<ComponentId>,
+    /// Where things stand on it.
+    places: Places,
     /// The index of the menu that was open.
     open_menu: Option<usize>,
 }
@@ -38,8 +48,9 @@ fn render(
 ) -> Result<DrawnRects<ComponentId>, RecordError>
     requires scroll { scroll ≤ max_scroll }
     requires in_range { (w h : ℕ) → w ≤ 65535 → h ≤ 65535 → PictureInRange (part ids.App (picture_of w h scroll view.now)) }
+    ensures rows { OnOk result (grid.new.rows ≡ (frame_of_view grid.old.width (length grid.old.rows) scroll view.now).rows) }
     ensures ok { let w = grid.old.width in let h = length grid.old.rows in
-        IfOk result (λ boxes. IsFrame w (frame_of_view w h scroll view.now) grid.new.rows boxes) }
+        IfOk result (λ boxes. IsMapOf w (frame_of_view w h scroll view.now) boxes) }
     ensures width { grid.new.width ≡ grid.old.width }
     ensures height { length grid.new.rows ≡ length grid.old.rows }
     ensures err { IfErr result (λ e. e ≡ OutOfMemory) }
@@ -55,8 +66,7 @@ fn render(
 
 /// The first row of a rectangle, and how many rows it has.
 fn rows_of(rect: Rect) -> (usize, usize)
-    ensures rows { result ≡ rows_of_box rect }
-    ensures first { result.0 < 2 ^ 63 }
+    ensures { result ≡ rows_of_box rect }
 {
     (rect.y.max(0) as usize, rect.height)
 }
@@ -76,18 +86,27 @@ fn rows_above(key: SelectionKey) -> usize
 /// The scroll, or the one that brings so many rows from `top` on onto a screen of `height` rows, of which
 /// the first `above` stay free.
 fn scrolled_to(height: usize, scroll: usize, above: usize, top: usize, rows: usize) -> usize
-    requires height { height < 2 ^ 16 }
-    requires top { top < 2 ^ 63 }
     ensures { result ≡ scrolled_to height scroll above top (top + rows) }
 {
-    let first = scroll.saturating_add(above);
-    let end = top.saturating_add(rows);
-    if first <= top && end < scroll.saturating_add(height) {
+    let Some(row) = top.checked_sub(scroll) else {
+        return top.saturating_sub(above);
+    };
+    if above <= row && rows < height.saturating_sub(row) {
         scroll
-    } else if height.saturating_sub(above) <= rows || top < first {
+    } else if row < above || height.saturating_sub(above) <= rows {
         top.saturating_sub(above)
     } else {
-        end.saturating_sub(height)
+        top.saturating_sub(height.saturating_sub(rows))
+    }
+}
+
+/// Whether a frame shows a document inline, on a screen of at least ten columns and two rows.
+fn is_plain(width: usize, height: usize, mode: CommitViewMode) -> bool
+    ensures { result ≡ is_plain width height mode }
+{
+    match mode {
+        CommitViewMode::Inline => 10 <= width && 2 <= height,
+        CommitViewMode::Adjacent => false,
     }
 }
 
@@ -102,9 +121,54 @@ impl DrawnFrame {
         let boxes = DrawnRects::new(alloc);
         Ok(DrawnFrame {
             grid,
-            boxes,
+            places: Places::Free(boxes),
             open_menu: None,
         })
+    }
+
+    /// Draws a view that shows a document inline.
+    fn draw_plain(
+        &mut self,
+        alloc: Global,
+        view: &AppView<'_>,
+        scroll: usize,
+    ) -> Result<(), RecordError>
+        requires shows { ShowsInline view.now self.old.grid.width (length self.old.grid.rows) }
+        requires scroll { scroll ≤ max_scroll }
+        ensures rows { OnOk result ((shown : Shown) → IsPlain view.now shown self.old.grid.width (length self.old.grid.rows) →
+            self.new.grid.rows ≡ window self.old.grid.width (length self.old.grid.rows) scroll shown) }
+        ensures places { OnOk result ((shown : Shown) → IsPlain view.now shown self.old.grid.width (length self.old.grid.rows) →
+            KnowsPlaces self.old.grid.width (frame_of_document self.old.grid.width (length self.old.grid.rows) scroll shown) self.new.places) }
+        ensures width { self.new.grid.width ≡ self.old.grid.width }
+        ensures height { length self.new.grid.rows ≡ length self.old.grid.rows }
+        ensures err { IfErr result (λ e. e ≡ OutOfMemory) }
+    {
+        let width = self.grid.width() as u16;
+        let height = self.grid.height() as u16;
+        view.paint(alloc, &mut self.grid, scroll)?;
+        let index = FrameIndex::new(alloc, view, width, height, scroll)?;
+        self.places = Places::Plain(index);
+        Ok(())
+    }
+
+    /// Draws a view by its components.
+    fn draw_free(
+        &mut self,
+        alloc: Global,
+        view: &AppView<'_>,
+        scroll: usize,
+    ) -> Result<(), RecordError>
+        requires scroll { scroll ≤ max_scroll }
+        requires in_range { (w h : ℕ) → w ≤ 65535 → h ≤ 65535 → PictureInRange (part ids.App (picture_of w h scroll view.now)) }
+        ensures rows { OnOk result (self.new.grid.rows ≡ (frame_of_view self.old.grid.width (length self.old.grid.rows) scroll view.now).rows) }
+        ensures places { OnOk result (KnowsPlaces self.old.grid.width (frame_of_view self.old.grid.width (length self.old.grid.rows) scroll view.now) self.new.places) }
+        ensures width { self.new.grid.width ≡ self.old.grid.width }
+        ensures height { length self.new.grid.rows ≡ length self.old.grid.rows }
+        ensures err { IfErr result (λ e. e ≡ OutOfMemory) }
+    {
+        let boxes = render(alloc, &mut self.grid, scroll, view)?;
+        self.places = Places::Free(boxes);
+        Ok(())
     }
 
     /// Draws what a session shows, from a row of the document on. Where memory is refused the frame
@@ -125,11 +189,13 @@ impl DrawnFrame {
         let view = showing.app_view(alloc)?;
         laws::apps_are_in_range();
         laws::apps_are_drawn_alike();
-        laws::apps_show_windows();
-        laws::clicks_find_owners();
-        laws::keys_have_rows();
-        laws::apps_have_extents();
-        self.boxes = render(alloc, &mut self.grid, scroll, &view)?;
+        let width = self.grid.width();
+        let height = self.grid.height();
+        if is_plain(width, height, showing.view_mode) {
+            self.draw_plain(alloc, &view, scroll)?;
+        } else {
+            self.draw_free(alloc, &view, scroll)?;
+        }
         self.open_menu = showing.open_menu;
         Ok(())
     }
@@ -155,12 +221,24 @@ impl DrawnFrame {
         }
     }
 
+    /// Who owns a row of the document and a column of the screen.
+    fn owner(&self, row: usize, column: usize) -> Option<ComponentId>
+        requires row { row < 2 ^ 63 }
+        requires column { column < 2 ^ 63 }
+        ensures { (scene : Scene) → IsShown scene self.now → column < scene.width → result ≡ scene.frame.owner row column }
+    {
+        match &self.places {
+            Places::Plain(index) => index.owner(row, column),
+            Places::Free(boxes) => find_target(boxes, row as isize, column as isize),
+        }
+    }
+
     /// What a click on a row and column of the screen hits, where the screen is scrolled so far.
     pub(crate) fn hit(&self, scroll: usize, row: usize, column: usize) -> Option<ComponentId>
         ensures { (scene : Scene) → IsShown scene self.now → result ≡ hit scene scroll row column }
     {
         if column < self.grid.width() && row < self.grid.height() && scroll <= 2_000_000 {
-            find_target(&self.boxes, (scroll + row) as isize, column as isize)
+            self.owner(scroll + row, column)
         } else {
             None
         }
@@ -208,20 +286,25 @@ impl DrawnFrame {
 
     /// The first row of a key in the document and how many rows it has, where it was drawn.
     fn span(&self, key: SelectionKey) -> Option<(usize, usize)>
-        ensures rows { (scene : Scene) → IsShown scene self.now → result ≡ scene.frame.span key }
-        ensures first { IfSome result (λ span. span.0 < 2 ^ 63) }
+        ensures { (scene : Scene) → IsShown scene self.now → result ≡ scene.frame.span key }
     {
-        self.boxes
-            .get(&ComponentId::SelectableItem(key))
-            .map(|drawn| rows_of(drawn.rect))
+        match &self.places {
+            Places::Plain(index) => index.span(key),
+            Places::Free(boxes) => boxes
+                .get(&ComponentId::SelectableItem(key))
+                .map(|drawn| rows_of(drawn.rect)),
+        }
     }
 
     /// How many rows all that was drawn spans.
     fn extent(&self) -> usize
         ensures { (scene : Scene) → IsShown scene self.now → result ≡ scene.frame.extent }
     {
-        self.boxes
-            .get(&ComponentId::App)
-            .map_or(0, |drawn| drawn.rect.height)
+        match &self.places {
+            Places::Plain(index) => index.extent(),
+            Places::Free(boxes) => boxes
+                .get(&ComponentId::App)
+                .map_or(0, |drawn| drawn.rect.height),
+        }
     }
 }

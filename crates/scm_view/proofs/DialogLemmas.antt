@@ -99,7 +99,7 @@ border-strips w h s c y n m fits =
     (ap (λ k. put_strip c (top_text n) c (c + n) ∷ k) (map-append plain (replicate (m - 2) (λ (row : Row). put row (pos c) (side_text n) c (c + n))) ((λ row. put row (pos c) (bottom_text n) c (c + n)) ∷ [])
     ∙ ap (λ k. k ++ put_strip c (bottom_text n) c (c + n) ∷ []) (map-replicate plain (m - 2) (λ (row : Row). put row (pos c) (side_text n) c (c + n)))))
 
-length-border : (K : Type 0) (c n m : ℕ) → 2 ≤ m → length (border_strips {K = K} c n m) ≡ m
+pub length-border : (K : Type 0) (c n m : ℕ) → 2 ≤ m → length (border_strips {K = K} c n m) ≡ m
 length-border K c n m h =
     let side : Strip K = put_strip c (side_text n) c (c + n) in
     let bottom : Strip K = put_strip c (bottom_text n) c (c + n) in

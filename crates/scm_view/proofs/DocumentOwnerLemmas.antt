@@ -50,7 +50,7 @@ unfolding message_picture followed_by covering part button_picture span_picture 
 message-boxes commit message s y = rw (beside-none (message_text message) s (pos 0) (y +ℤ pos 1)) refl
 
 -- the button owns its columns on the second of the message's rows
-message-cell : (w commit : ℕ) (message : List ℕ) (y z : ℤ) (x : ℕ)
+pub message-cell : (w commit : ℕ) (message : List ℕ) (y z : ℤ) (x : ℕ)
     → cond (int_eq z (y +ℤ pos 1) && (nat_le 0 x && nat_lt x 14)) (Some (ids.CommitEditMessageButton commit)) None ≡ (line clear (message_strips w commit (Some message)) y z).owner x
 unfolding line message_strips
 message-cell w commit message y z x = go (int_eq z y) refl

@@ -7,6 +7,7 @@ pub mod OpenMenus
 pub mod OwnButtons
 pub mod OverlaysPicture
 -- ---- lemmas
+pub mod ScreenLemmas
 pub mod HeadingLemmas
 pub mod HiddenLemmas
 pub mod CountLemmas
@@ -34,6 +35,12 @@ pub mod AppShapeLemmas
 pub mod BoxLemmas
 pub mod OwnerLemmas
 pub mod SessionLemmas
+pub mod SectionTopLemmas
+pub mod TopLemmas
+pub mod KeySpanLemmas
+pub mod SpotLemmas
+pub mod OverSpotLemmas
+pub mod FrameIndexLemmas
 pub mod FileBoxLemmas
 pub mod FileOwnerLemmas
 pub mod AlikeLemmas

@@ -414,3 +414,7 @@ few-rows shown commit v a e =
 pub message-most : (m : Option (List ℕ)) → message_height m ≤ 3
 message-most None = omega arith
 message-most (Some text) = omega arith
+
+-- and a document of an accepted session too
+pub session-few : (shown : Shown) (commit : ℕ) (v : CommitView) → is_accepted_state shown.state ≡ true → Shows v shown commit → length (files_rows (document_of v).files) ≤ 4000000
+session-few shown commit v a e = omega (arith, few-rows shown commit v a e)

@@ -46,3 +46,13 @@ pub mod Spans
 pub mod Counts
 -- What a screen shows of a session inline.
 pub mod Window
+-- The index of a frame that is shown inline.
+pub mod Index
+-- Where files and sections stand, by the views that show them.
+pub mod Tops
+-- Spots: what lies over the rows of files.
+pub mod Spots
+-- Runs of rows.
+pub mod Runs
+-- Where a dialog stands.
+pub mod PlaceOf

@@ -1,6 +1,6 @@
 -- The window: what a screen of w columns and h rows shows of a session inline, from row s of its document on; who owns each point;
 -- on which rows each key stands; and how many rows all of it spans.
-use Rattle.std.specs.Prelude.{◌≡◌, ℕ, zero, suc, ◌-◌, ◌+◌, ◌*◌, ◌<◌, ◌≤◌, ◌==◌, pos, Bool, List, [], ◌∷◌, ◌++◌, replicate, if◌then◌else◌, Option, Some, None, option_map}
+use Rattle.std.specs.Prelude.{◌≡◌, ℕ, zero, suc, ◌-◌, ◌+◌, ◌*◌, ◌<◌, ◌≤◌, ◌==◌, pos, Bool, true, List, [], ◌∷◌, ◌++◌, replicate, if◌then◌else◌, Option, Some, None, option_map}
 use Rattle.scm_cells.specs.Rect.{or_zero}
 use Rattle.scm_cells.specs.Counts.{Counts, no_counts, added}
 use Rattle.scm_cells.specs.declared.rect.Rect.{Rect}
@@ -13,6 +13,7 @@ use Rattle.scm_view.specs.declared.ids.ComponentId.TheVariants as ids
 use Rattle.scm_view.specs.declared.app_view.AppView.{AppView}
 use Rattle.scm_view.specs.declared.commit_view.CommitViewMode.TheVariants.{Inline}
 use Rattle.scm_types.specs.Keys.{is_key}
+use Rattle.scm_types.specs.Limits.{is_accepted_state}
 use Rattle.scm_view.specs.Rows.{Document, document_of}
 use Rattle.scm_view.specs.Shown.{Shown, commit_view_of}
 use Rattle.scm_view.specs.Blanks.{blank_row}
@@ -92,6 +93,10 @@ pub record IsPlain (a : AppView) (shown : Shown) (w h : ℕ) : Type 0 where
   pub high : 2 ≤ h
   pub width : w ≤ 65535
   pub height : h ≤ 65535
+
+-- and the session is an accepted one
+abbrev pub ShowsInline : AppView → ℕ → ℕ → Type 0
+ShowsInline a w h = (shown : Shown) × (is_accepted_state shown.state ≡ true) × IsPlain a shown w h
 
 -- the first row of a box, and how many rows it has
 abbrev pub rows_of_box : Rect → ℕ × ℕ

@@ -10,6 +10,8 @@ ghost use Rattle.scm_view.specs.Counts.{drawn, document_counts, quit_calls, help
 ghost use Rattle.scm_errors.specs.declared.error.RecordError.TheVariants.{OutOfMemory};
 ghost use Rattle.scm_view.specs.declared.ids.ComponentId.TheVariants as ids;
 ghost use Rattle.scm_view.specs.Overlays.{quit_picture, help_picture};
+ghost use Rattle.scm_view.specs.Shown.{Shown};
+ghost use Rattle.scm_view.specs.Window.{IsPlain, ShowsInline, window};
 ghost use Rattle.scm_view.specs.AppView.{views_shown, view_width, held, view_mask, view_picture, next_view, views_picture, views_counts, has_help};
 
 use crate::commit_view::{CommitView, CommitViewMode};
@@ -18,7 +20,7 @@ use crate::ids::ComponentId;
 use crate::menu_bar::MenuBar;
 use crate::quit_dialog::QuitDialog;
 use crate::reach::columns;
-use scm_cells::{Mask, Rect};
+use scm_cells::{Grid, Mask, Rect};
 use scm_render::{Component, Viewport};
 use scm_types::{Items, RecordError};
 use std::alloc::Global;
@@ -183,6 +185,24 @@ impl<'a> AppView<'a> {
             .min(self.commit_views.len());
         let (shown, _) = self.commit_views.as_slice().split_at(count);
         shown
+    }
+}
+
+impl<'a> AppView<'a> {
+    /// Clears the grid, and paints what the view shows inline, from this row of the document on. Where
+    /// memory is refused the grid keeps its size.
+    pub fn paint(&self, alloc: Global, grid: &mut Grid, scroll: usize) -> Result<(), RecordError>
+        requires shows { ShowsInline self.now grid.old.width (length grid.old.rows) }
+        requires scroll { scroll ≤ 2000000 }
+        ensures ok { OnOk result ((shown : Shown) → IsPlain self.now shown grid.old.width (length grid.old.rows) →
+            grid.new.rows ≡ window grid.old.width (length grid.old.rows) scroll shown) }
+        ensures width { grid.new.width ≡ grid.old.width }
+        ensures height { length grid.new.rows ≡ length grid.old.rows }
+        ensures err { IfErr result (λ e. e ≡ OutOfMemory) }
+    {
+        grid.clear();
+        Viewport::render_top_level(alloc, grid, 0, scroll as isize, self)?;
+        Ok(())
     }
 }
 

@@ -1,13 +1,16 @@
 //! Buttons beside others.
-ghost use Rattle.std.specs.Prelude.{◌≡◌, length, OnOk, IfOk, IfErr};
+ghost use Rattle.std.specs.Prelude.{◌≡◌, length, OnOk, IfOk, IfErr, ◌<◌, ◌^◌, ◌++◌};
 ghost use Rattle.scm_render.specs.Picture.{PictureInRange};
 ghost use Rattle.scm_render.specs.Canvas.{with_picture};
 ghost use Rattle.scm_cells.specs.Counts.{added};
 ghost use Rattle.scm_view.specs.Counts.{drawn};
 ghost use Rattle.scm_errors.specs.declared.error.RecordError.TheVariants.{OutOfMemory};
 ghost use Rattle.scm_view.specs.Buttons.{button_width, buttons_picture};
+ghost use Rattle.scm_view.specs.Spots.{buttons_spots, least_left};
 
 use crate::button::Button;
+use crate::ids::ComponentId;
+use crate::spots::{Spot, row_spot};
 use scm_cells::text_width;
 use scm_render::Viewport;
 use scm_types::RecordError;
@@ -50,4 +53,46 @@ pub(crate) fn draw_buttons<K: Copy + Eq + Hash + Drop>(
         right = left - 1;
     }
     Ok(())
+}
+
+/// Adds the spots of buttons on a row, the first of which ends before a column, and each next one a column
+/// before the one to its right begins. Columns are counted from 65,536 columns left of the screen.
+pub(crate) fn push_buttons(
+    alloc: Global,
+    spots: &mut Vec<Spot>,
+    row: usize,
+    end: usize,
+    buttons: &[Button<'_, ComponentId>],
+) -> Result<(), RecordError>
+    requires { row < 2 ^ 63 }
+    ensures ok { OnOk result (spots.new.items ≡ spots.old.items ++ buttons_spots row end buttons.now) }
+    ensures err { IfErr result (λ e. e ≡ OutOfMemory) }
+{
+    let mut right = end;
+    for button in buttons {
+        let left = right.saturating_sub(button_width(alloc, button)?);
+        spots.push(row_spot(button.id, row, left, right))?;
+        right = left.saturating_sub(1);
+    }
+    Ok(())
+}
+
+/// The first column of such buttons, or a column where that comes first.
+pub(crate) fn least_left(
+    alloc: Global,
+    first: usize,
+    end: usize,
+    buttons: &[Button<'_, ComponentId>],
+) -> Result<usize, RecordError>
+    ensures ok { IfOk result (λ left. left ≡ least_left first end buttons.now) }
+    ensures err { IfErr result (λ e. e ≡ OutOfMemory) }
+{
+    let mut least = first;
+    let mut right = end;
+    for button in buttons {
+        let left = right.saturating_sub(button_width(alloc, button)?);
+        least = least.min(left);
+        right = left.saturating_sub(1);
+    }
+    Ok(least)
 }

@@ -1,5 +1,5 @@
 //! The message of a commit.
-ghost use Rattle.std.specs.Prelude.{◌≡◌, Some, OnOk, IfErr};
+ghost use Rattle.std.specs.Prelude.{◌≡◌, ◌++◌, is_some, Some, OnOk, IfErr};
 ghost use Rattle.scm_render.specs.Picture.{PictureInRange};
 ghost use Rattle.scm_render.specs.Canvas.{with_picture};
 ghost use Rattle.scm_cells.specs.Counts.{added};
@@ -7,12 +7,14 @@ ghost use Rattle.scm_view.specs.Counts.{drawn, on_row, message_counts};
 ghost use Rattle.scm_errors.specs.declared.error.RecordError.TheVariants.{OutOfMemory};
 ghost use Rattle.scm_view.specs.Pictures.{beside_button, edit_button, message_picture};
 ghost use Rattle.scm_view.specs.Rows.{message_height};
+ghost use Rattle.scm_view.specs.Spots.{message_spots};
 ghost use Rattle.scm_view.specs.Texts.{divider_text, message_text};
 
 use crate::button::Button;
 use crate::ids::ComponentId;
 use crate::reach::{cover_rect, to_end};
 use crate::shown::{begin_row, show_button, show_span, show_text};
+use crate::spots::{Spot, far, row_spot};
 use crate::texts::{divider_text, message_text};
 use scm_cells::{Rect, Span};
 use scm_render::{Component, Viewport};
@@ -94,6 +96,21 @@ fn draw_message(
 }
 
 impl<'a> CommitMessageView<'a> {
+    /// Adds the spot of the button that edits the message, if there is a message.
+    pub(crate) fn push_spots(&self, spots: &mut Vec<Spot>) -> Result<(), RecordError>
+        ensures ok { OnOk result (spots.new.items ≡ spots.old.items ++ message_spots self.now.commit_idx (is_some self.now.commit.now.message)) }
+        ensures err { IfErr result (λ e. e ≡ OutOfMemory) }
+    {
+        match self.commit.message {
+            None => Ok(()),
+            Some(_) => {
+                let id = ComponentId::CommitEditMessageButton(self.commit_idx);
+                spots.push(row_spot(id, 2, far(0), far(14)))?;
+                Ok(())
+            }
+        }
+    }
+
     /// How many rows the message takes.
     pub(crate) fn height(&self) -> usize
         ensures { result ≡ message_height self.now.commit.now.message }

@@ -1,5 +1,5 @@
 //! The document of a commit.
-ghost use Rattle.std.specs.Prelude.{◌≡◌, ◌&&◌, int_lt, ℤ, pos, ◌+ℤ◌, Some, None, map, OnOk, IfErr};
+ghost use Rattle.std.specs.Prelude.{◌≡◌, ◌+◌, ◌<◌, ◌^◌, ◌++◌, ◌&&◌, int_lt, ℤ, pos, ◌+ℤ◌, Some, None, map, OnOk, IfOk, IfErr};
 ghost use Rattle.scm_cells.specs.Rect.{InRange};
 ghost use Rattle.scm_cells.specs.Mask.{MaskInRange};
 ghost use Rattle.scm_render.specs.Picture.{PictureInRange};
@@ -8,6 +8,7 @@ ghost use Rattle.scm_cells.specs.Counts.{added, plus};
 ghost use Rattle.scm_view.specs.Counts.{header_counts, file_counts, pinned_counts, files_counts, body_counts};
 ghost use Rattle.scm_errors.specs.declared.error.RecordError.TheVariants.{OutOfMemory};
 ghost use Rattle.scm_view.specs.Rows.{shown_file};
+ghost use Rattle.scm_view.specs.Tops.{file_tops, files_height, tops_in_files};
 ghost use Rattle.scm_view.specs.Pictures.{mask_row, file_mask, pinned_mask, pinned_header, one_file_picture, files_picture, body_picture};
 
 use crate::commit_message_view::CommitMessageView;
@@ -15,6 +16,7 @@ use crate::file_view::FileView;
 use crate::ids::ComponentId;
 use crate::no_files::draw_no_files;
 use crate::reach::{draw_under, to_end};
+use crate::tops::{FileTop, SectionTop};
 use scm_cells::Mask;
 use scm_render::{Component, Viewport};
 use scm_types::{Items, RecordError};
@@ -170,6 +172,28 @@ fn draw_body(
     } else {
         draw_files(viewport, x, y.strict_add_unsigned(height), files)
     }
+}
+
+/// Adds where files and their sections stand, if the first of them stands on this row and a header is
+/// pinned on another, and gives the row below them.
+pub(crate) fn push_tops(
+    files: &mut Vec<FileTop>,
+    sections: &mut Vec<SectionTop>,
+    pinned: usize,
+    top: usize,
+    views: &[FileView<'_>],
+) -> Result<usize, RecordError>
+    requires { top + files_height views.now < 2 ^ 63 }
+    ensures end { IfOk result (λ end. end ≡ top + files_height views.now) }
+    ensures files { OnOk result (files.new.items ≡ files.old.items ++ file_tops pinned top views.now) }
+    ensures sections { OnOk result (sections.new.items ≡ sections.old.items ++ tops_in_files top views.now) }
+    ensures err { IfErr result (λ e. e ≡ OutOfMemory) }
+{
+    let mut row = top;
+    for view in views {
+        row = view.push_tops(files, sections, pinned, row)?;
+    }
+    Ok(row)
 }
 
 impl<'a> Component for CommitView<'a> {

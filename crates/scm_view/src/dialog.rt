@@ -1,12 +1,18 @@
 //! Dialogs.
-ghost use Rattle.std.specs.Prelude.{◌≡◌};
+ghost use Rattle.std.specs.Prelude.{◌≡◌, ◌<◌, ◌≤◌, ◌+◌, ◌^◌, min, ◌++◌, OnOk, IfOk, IfErr};
+ghost use Rattle.scm_errors.specs.declared.error.RecordError.TheVariants.{OutOfMemory};
+ghost use Rattle.scm_view.specs.Dialogs.{shown_dialog as as_shown};
+ghost use Rattle.scm_view.specs.Spots.{dialog_run, dialog_spots};
+ghost use Rattle.scm_view.specs.PlaceOf.{standing_of};
 ghost use Rattle.scm_cells.specs.Rect.{RectInRange};
-ghost use Rattle.scm_render.specs.Centring.{centred};
+ghost use Rattle.scm_render.specs.Centring.{centred, centred_gap, centred_size, hundredths};
 ghost use Rattle.scm_render.specs.Drawing.{body_texts};
 ghost use Rattle.scm_view.specs.Dialogs.{widest_line, least_size};
 
 use crate::button::Button;
-use crate::button_row::draw_buttons;
+use crate::button_row::{draw_buttons, least_left, push_buttons};
+use crate::ids::ComponentId;
+use crate::spots::{Spot, far};
 use scm_cells::{Rect, RectSize, text_width};
 use scm_render::{Component, Viewport, centered_rect};
 use scm_types::{RecordError, Text};
@@ -50,6 +56,96 @@ fn dialog_place(rect: Rect, lines: &[&str]) -> Rect
         height: lines.len().saturating_add(2),
     };
     centered_rect(rect, least, 60, 20)
+}
+
+/// Where a dialog stands, in places of the document.
+#[derive(Clone, Copy)]
+struct Standing {
+    /// Its first column.
+    left: usize,
+    /// How many columns it has.
+    width: usize,
+    /// Its first row.
+    top: usize,
+    /// How many rows it has.
+    height: usize,
+}
+
+/// So many hundredths of a room, or a least size where that is more, as far as the room goes.
+fn hundredths(room: usize, least: usize, percent: usize) -> usize
+    requires room { room < 2 ^ 16 }
+    requires percent { percent ≤ 100 }
+    ensures { result ≡ hundredths room least percent }
+{
+    (percent * room).max(100 * least.min(room))
+}
+
+/// The cells of such a size, and those before it in the middle of the room.
+pub(crate) fn middle(room: usize, least: usize, percent: usize) -> (usize, usize)
+    requires room { room < 2 ^ 16 }
+    requires percent { percent ≤ 100 }
+    ensures size { result.0 ≡ centred_size room least percent }
+    ensures gap { result.1 ≡ centred_gap room least percent }
+{
+    let size = hundredths(room, least, percent);
+    (size / 100, (100 * room).saturating_sub(size) / 200)
+}
+
+/// A size with a border around it, as far as a screen goes.
+fn bordered(size: usize) -> usize
+    ensures { result ≡ min size 65535 + 2 }
+{
+    size.min(65_535) + 2
+}
+
+/// Where a dialog with these lines stands, in the middle of a screen of so many columns and rows, whose
+/// first row shows this row of the document.
+fn place_of(width: u16, height: u16, row: usize, lines: &[&str]) -> Standing
+    requires { row ≤ 100000000 }
+    ensures place { result ≡ standing_of width height row (body_texts lines.now) }
+    ensures right { result.left + result.width ≤ 2 ^ 17 }
+    ensures below { result.top + result.height ≤ 2 ^ 30 }
+{
+    let (columns, left) = middle(usize::from(width), bordered(widest_line(lines)), 60);
+    let (rows, top) = middle(usize::from(height), bordered(lines.len()), 20);
+    Standing {
+        left,
+        width: columns,
+        top: row + top,
+        height: rows,
+    }
+}
+
+impl<'a> Dialog<'a, ComponentId> {
+    /// Adds the spots of the dialog, on a screen of so many columns and rows, whose first row shows this
+    /// row of the document, and gives its first row and the row below its last.
+    pub(crate) fn push_spots(
+        &self,
+        alloc: Global,
+        spots: &mut Vec<Spot>,
+        width: u16,
+        height: u16,
+        row: usize,
+    ) -> Result<(usize, usize), RecordError>
+        requires { row ≤ 100000000 }
+        ensures rows { IfOk result (λ r. r ≡ dialog_run width height row (as_shown self.now)) }
+        ensures ok { OnOk result (spots.new.items ≡ spots.old.items ++ dialog_spots width height row (as_shown self.now)) }
+        ensures err { IfErr result (λ e. e ≡ OutOfMemory) }
+    {
+        let place = place_of(width, height, row, self.body);
+        let right = far(place.left + place.width);
+        let end = place.top + place.height;
+        let left = least_left(alloc, far(place.left), right - 1, self.buttons)?;
+        spots.push(Spot {
+            id: self.id,
+            top: place.top,
+            end,
+            left,
+            right,
+        })?;
+        push_buttons(alloc, spots, end.saturating_sub(1), right - 1, self.buttons)?;
+        Ok((place.top, end))
+    }
 }
 
 impl<'a, Id: Copy + Eq + Hash + Drop> Component for Dialog<'a, Id> {

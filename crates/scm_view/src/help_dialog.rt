@@ -1,11 +1,14 @@
 //! The dialog with the keyboard shortcuts.
-ghost use Rattle.std.specs.Prelude.{◌≡◌};
+ghost use Rattle.std.specs.Prelude.{◌≡◌, ◌≤◌, ◌++◌, OnOk, IfOk, IfErr};
+ghost use Rattle.scm_errors.specs.declared.error.RecordError.TheVariants.{OutOfMemory};
 ghost use Rattle.scm_render.specs.Drawing.{body_texts};
-ghost use Rattle.scm_view.specs.Tables.{help_lines, close_button};
+ghost use Rattle.scm_view.specs.Tables.{help_lines, close_button, help_dialog as shown_help};
+ghost use Rattle.scm_view.specs.Spots.{dialog_run, dialog_spots};
 
 use crate::button::Button;
 use crate::dialog::Dialog;
 use crate::ids::ComponentId;
+use crate::spots::Spot;
 use scm_render::{Component, Viewport};
 use scm_types::{RecordError, Text};
 use std::alloc::Global;
@@ -50,6 +53,32 @@ fn close_button() -> Button<'static, ComponentId>
         id: ComponentId::HelpDialogQuitButton,
         label: Text::from("Close"),
         is_focused: true,
+    }
+}
+
+impl HelpDialog {
+    /// Adds the spots of the dialog, on a screen of so many columns and rows, whose first row shows this
+    /// row of the document, and gives its first row and the row below its last.
+    pub(crate) fn push_spots(
+        &self,
+        alloc: Global,
+        spots: &mut Vec<Spot>,
+        width: u16,
+        height: u16,
+        row: usize,
+    ) -> Result<(usize, usize), RecordError>
+        requires { row ≤ 100000000 }
+        ensures rows { IfOk result (λ r. r ≡ dialog_run width height row shown_help) }
+        ensures ok { OnOk result (spots.new.items ≡ spots.old.items ++ dialog_spots width height row shown_help) }
+        ensures err { IfErr result (λ e. e ≡ OutOfMemory) }
+    {
+        let dialog = Dialog {
+            id: ComponentId::HelpDialog,
+            title: Text::from("Help"),
+            body: help_lines(),
+            buttons: &[close_button()],
+        };
+        dialog.push_spots(alloc, spots, width, height, row)
     }
 }
 

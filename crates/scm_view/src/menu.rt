@@ -1,11 +1,13 @@
 //! A menu: what opens below a header of the menu bar.
-ghost use Rattle.std.specs.Prelude.{◌≡◌, IfOk, IfErr};
+ghost use Rattle.std.specs.Prelude.{◌≡◌, ◌+◌, ◌<◌, ◌^◌, ◌++◌, length, IfOk, IfErr, OnOk};
 ghost use Rattle.scm_errors.specs.declared.error.RecordError.TheVariants.{OutOfMemory};
 ghost use Rattle.scm_view.specs.Menus.{header_button, item_button, widest_item};
+ghost use Rattle.scm_view.specs.Spots.{items_spots};
 
 use crate::button::Button;
 use crate::button_row::button_width;
 use crate::ids::ComponentId;
+use crate::spots::{Spot, far, row_spot};
 use scm_cells::Rect;
 use scm_render::{Component, Viewport};
 use scm_types::{Items, RecordError, Text};
@@ -65,6 +67,28 @@ fn widest_item(alloc: Global, items: &[MenuItem<'_>]) -> Result<usize, RecordErr
         widest = widest.max(width);
     }
     Ok(widest)
+}
+
+/// Adds the spots of items, one below another from a row and a column on.
+pub(crate) fn push_items(
+    alloc: Global,
+    spots: &mut Vec<Spot>,
+    top: usize,
+    left: usize,
+    items: &[MenuItem<'_>],
+) -> Result<(), RecordError>
+    requires columns { left + widest_item items.now < 2 ^ 62 }
+    requires rows { top + length items.now < 2 ^ 62 }
+    ensures ok { OnOk result (spots.new.items ≡ spots.old.items ++ items_spots top left 0 items.now) }
+    ensures err { IfErr result (λ e. e ≡ OutOfMemory) }
+{
+    let mut row = top;
+    for (item_idx, item) in items.iter().enumerate() {
+        let right = left + button_width(alloc, &item.button(item_idx))?;
+        spots.push(row_spot(ComponentId::MenuItem(item_idx), row, far(left), far(right)))?;
+        row += 1;
+    }
+    Ok(())
 }
 
 impl<'a> Component for Menu<'a> {

@@ -1,15 +1,18 @@
 //! The bar of menus on the screen's first row.
-ghost use Rattle.std.specs.Prelude.{◌≡◌, ◌+◌, ◌<◌, ◌^◌, pos, ◌+ℤ◌, length, OnOk, IfOk, IfErr};
+ghost use Rattle.std.specs.Prelude.{◌≡◌, ◌+◌, ◌<◌, ◌≤◌, ◌^◌, ◌++◌, Some, pos, ◌+ℤ◌, length, OnOk, IfOk, IfErr};
 ghost use Rattle.scm_cells.specs.Rect.{InRange};
 ghost use Rattle.scm_render.specs.Picture.{PictureInRange};
 ghost use Rattle.scm_render.specs.Canvas.{with_picture};
 ghost use Rattle.scm_cells.specs.Counts.{added};
 ghost use Rattle.scm_view.specs.Counts.{drawn, first_calls};
 ghost use Rattle.scm_errors.specs.declared.error.RecordError.TheVariants.{OutOfMemory};
-ghost use Rattle.scm_view.specs.Menus.{headers_picture, headers_width, menus_before, first_picture};
+ghost use Rattle.scm_view.specs.Menus.{headers_picture, headers_width, menus_before, first_picture, opened};
+ghost use Rattle.scm_view.specs.Spots.{IsShortMenu, bar_spots, headers_spots, open_height, open_spots};
 
+use crate::button_row::button_width;
 use crate::ids::ComponentId;
-use crate::menu::Menu;
+use crate::menu::{Menu, push_items};
+use crate::spots::{Spot, far, row_spot};
 use scm_render::{Component, Viewport};
 use scm_types::{Items, RecordError};
 use std::alloc::Global;
@@ -85,6 +88,129 @@ fn draw_first(
             Ok(())
         }
         None => Ok(()),
+    }
+}
+
+/// Adds the spots of headers beside each other, the first of them from a column on.
+#[tactic(auto, unfolding(crate::specs::Menus::headers_width))]
+fn push_headers(
+    alloc: Global,
+    spots: &mut Vec<Spot>,
+    row: usize,
+    left: usize,
+    menus: &[Menu<'_>],
+) -> Result<(), RecordError>
+    requires row { row < 2 ^ 62 }
+    requires columns { left + headers_width menus.now < 2 ^ 62 }
+    ensures ok { OnOk result (spots.new.items ≡ spots.old.items ++ headers_spots row left 0 menus.now) }
+    ensures err { IfErr result (λ e. e ≡ OutOfMemory) }
+{
+    let mut column = left;
+    for (menu_idx, menu) in menus.iter().enumerate() {
+        let right = column + button_width(alloc, &menu.header(0))?;
+        spots.push(row_spot(ComponentId::Menu(menu_idx), row, far(column), far(right)))?;
+        column = right + 1;
+    }
+    Ok(())
+}
+
+/// How many items the open menu has, if one of these menus is open.
+fn open_below(menus: &[Menu<'_>], chosen: Option<usize>) -> usize
+    ensures { result ≡ open_height (opened 0 menus.now chosen) }
+{
+    match chosen {
+        None => 0,
+        Some(place) => {
+            if place < menus.len() {
+                menus[place].items.len()
+            } else {
+                0
+            }
+        }
+    }
+}
+
+/// Adds the spots of the open menu's items, below its header, if one of these menus is open, the first
+/// of whose headers begins at a column.
+#[tactic(auto, unfolding(crate::specs::Menus::headers_width, crate::specs::Menus::opened))]
+fn push_open(
+    alloc: Global,
+    spots: &mut Vec<Spot>,
+    row: usize,
+    left: usize,
+    menus: &[Menu<'_>],
+    chosen: usize,
+) -> Result<(), RecordError>
+    requires row { row < 2 ^ 61 }
+    requires columns { left + headers_width menus.now < 2 ^ 61 }
+    requires items { IsShortMenu (opened left menus.now (Some chosen)) }
+    ensures ok { OnOk result (spots.new.items ≡ spots.old.items ++ open_spots row (opened left menus.now (Some chosen))) }
+    ensures err { IfErr result (λ e. e ≡ OutOfMemory) }
+{
+    let mut column = left;
+    let mut before = chosen;
+    for menu in menus {
+        if before == 0 {
+            return push_items(alloc, spots, row, column, menu.items.as_slice());
+        }
+        before -= 1;
+        column = column + button_width(alloc, &menu.header(0))? + 1;
+    }
+    Ok(())
+}
+
+/// Adds the spots of the open menu's items, if one of the menus is open.
+#[tactic(auto, unfolding(crate::specs::Menus::opened))]
+fn push_chosen(
+    alloc: Global,
+    spots: &mut Vec<Spot>,
+    row: usize,
+    menus: &[Menu<'_>],
+    chosen: Option<usize>,
+) -> Result<(), RecordError>
+    requires row { row < 2 ^ 61 }
+    requires columns { headers_width menus.now < 2 ^ 61 }
+    requires items { IsShortMenu (opened 0 menus.now chosen) }
+    ensures ok { OnOk result (spots.new.items ≡ spots.old.items ++ open_spots row (opened 0 menus.now chosen)) }
+    ensures err { IfErr result (λ e. e ≡ OutOfMemory) }
+{
+    match chosen {
+        None => Ok(()),
+        Some(place) => push_open(alloc, spots, row, 0, menus, place),
+    }
+}
+
+impl<'a> MenuBar<'a> {
+    /// Adds the spots of the bar and of its open menu on a screen of so many columns, whose first row
+    /// shows this row of the document, and gives the row below them.
+    pub(crate) fn push_spots(
+        &self,
+        alloc: Global,
+        spots: &mut Vec<Spot>,
+        width: usize,
+        row: usize,
+    ) -> Result<usize, RecordError>
+        requires width { width < 2 ^ 16 }
+        requires row { row < 2 ^ 60 }
+        requires headers { headers_width self.now.menus ≤ 100000000 }
+        requires items { IsShortMenu (opened 0 self.now.menus self.now.expanded_menu_idx) }
+        ensures end { IfOk result (λ end. end ≡ row + 1 + open_height (opened 0 self.now.menus self.now.expanded_menu_idx)) }
+        ensures ok { OnOk result (spots.new.items ≡ spots.old.items ++ bar_spots width row self.now) }
+        ensures err { IfErr result (λ e. e ≡ OutOfMemory) }
+    {
+        let below = open_below(self.menus.as_slice(), self.expanded_menu_idx);
+        let end = row + 1 + below;
+        spots.push(Spot {
+            id: ComponentId::MenuBar,
+            top: row,
+            end,
+            left: far(0),
+            right: far(width),
+        })?;
+        push_headers(alloc, spots, row, 0, self.menus.as_slice())?;
+        let menus = self.menus.as_slice();
+        push_chosen(alloc, spots, row + 1, menus, self.expanded_menu_idx)?;
+        Ok(end)
     }
 }
 

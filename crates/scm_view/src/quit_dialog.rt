@@ -1,11 +1,13 @@
 //! The dialog that asks whether to quit.
-ghost use Rattle.std.specs.Prelude.{◌≡◌, codes, IfOk, IfErr, string_bytes};
+ghost use Rattle.std.specs.Prelude.{◌≡◌, codes, IfOk, IfErr, string_bytes, ◌≤◌, ◌++◌, OnOk};
 ghost use Rattle.scm_errors.specs.declared.error.RecordError.TheVariants.{OutOfMemory};
-ghost use Rattle.scm_view.specs.Tables.{counted, changes_text, quit_text, is_quit, is_go_back, quit_button, go_back_button};
+ghost use Rattle.scm_view.specs.Tables.{counted, changes_text, quit_text, is_quit, is_go_back, quit_button, go_back_button, quit_dialog as shown_quit};
+ghost use Rattle.scm_view.specs.Spots.{dialog_run, dialog_spots};
 
 use crate::button::Button;
 use crate::dialog::Dialog;
 use crate::ids::ComponentId;
+use crate::spots::Spot;
 use scm_render::{Component, Viewport};
 use scm_types::{RecordError, Text};
 use std::alloc::Global;
@@ -111,6 +113,33 @@ impl QuitDialog {
             label: Text::from("Go Back"),
             is_focused: self.focused_button.is_go_back(),
         }
+    }
+}
+
+impl QuitDialog {
+    /// Adds the spots of the dialog, on a screen of so many columns and rows, whose first row shows this
+    /// row of the document, and gives its first row and the row below its last.
+    pub(crate) fn push_spots(
+        &self,
+        alloc: Global,
+        spots: &mut Vec<Spot>,
+        width: u16,
+        height: u16,
+        row: usize,
+    ) -> Result<(usize, usize), RecordError>
+        requires { row ≤ 100000000 }
+        ensures rows { IfOk result (λ r. r ≡ dialog_run width height row (shown_quit self.now)) }
+        ensures ok { OnOk result (spots.new.items ≡ spots.old.items ++ dialog_spots width height row (shown_quit self.now)) }
+        ensures err { IfErr result (λ e. e ≡ OutOfMemory) }
+    {
+        let text = self.text(alloc)?;
+        let dialog = Dialog {
+            id: self.id(),
+            title: Text::from("Quit"),
+            body: &[text.as_str()],
+            buttons: &[self.quit_button(), self.go_back_button()],
+        };
+        dialog.push_spots(alloc, spots, width, height, row)
     }
 }
 

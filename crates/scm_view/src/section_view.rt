@@ -1,5 +1,5 @@
 //! The sections of a file.
-ghost use Rattle.std.specs.Prelude.{◌≡◌, ℕ, ◌≤◌, ◌+◌, ◌-◌, ◌^◌, ◌==◌, pos, ◌+ℤ◌, List, length, nat_lt, not, ◌&&◌, Option, option_map, OnOk, IfOk, IfErr, string_bytes, if◌then◌else◌, ◌++◌, [], ◌∷◌};
+ghost use Rattle.std.specs.Prelude.{◌≡◌, ℕ, ◌≤◌, ◌+◌, ◌-◌, ◌<◌, ◌^◌, ◌==◌, pos, ◌+ℤ◌, List, length, nat_lt, not, ◌&&◌, Option, option_map, OnOk, IfOk, IfErr, string_bytes, if◌then◌else◌, ◌++◌, [], ◌∷◌};
 ghost use Rattle.scm_cells.specs.Rect.{InRange};
 ghost use Rattle.scm_render.specs.Picture.{PictureInRange};
 ghost use Rattle.scm_render.specs.Canvas.{with_picture};
@@ -11,6 +11,7 @@ ghost use Rattle.scm_view.specs.Texts.{section_text, mode_change_text, binary_te
 ghost use Rattle.scm_view.specs.Rows.{SectionRow, MarkRow, DotsRow, mark_of, line_key_of, section_box, line_box, section_heading, is_fold_open, line_number, numbered_row, numbered_rows, changed_row, changed_rows, context_rows, section_rows, is_selected, is_line_selected, is_header_selected, is_first, is_last, is_open, are_all_shown, lines_above, has_dots, first_below, rows_below, shown_lines, rows_of, dots_height, lines_height, context_height, changed_height, section_height};
 ghost use Rattle.scm_view.specs.Spans.{no_lines, context_lines, lines_of};
 ghost use Rattle.scm_view.specs.Pictures.{IdPicture, row_picture, rows_picture};
+ghost use Rattle.scm_view.specs.Tops.{context_kinds, has_context_row, is_wide_of, kinds_of, section_top_of};
 
 use crate::heading::draw_heading;
 use crate::ids::ComponentId;
@@ -19,6 +20,7 @@ use crate::reach::{cover_rest, highlight};
 use crate::section_line_view::{SectionLineView, SectionLineViewInner};
 use crate::shown::{begin_row, show_box, show_span, show_text};
 use crate::texts::{binary_text, dots_text, mode_change_text, section_text};
+use crate::tops::{RowKinds, SectionTop};
 use crate::tristate_box::{TristateBox, TristateIconStyle};
 use scm_cells::Span;
 use scm_render::{Component, Viewport};
@@ -495,6 +497,120 @@ impl<'a> SectionView<'a> {
             Section::Changed { lines } => self.changed_line_rows(lines.len()),
             Section::FileMode { .. } => no_line_rows(),
             Section::Binary { .. } => no_line_rows(),
+        }
+    }
+
+    /// What stands on the rows of so many lines of context.
+    fn context_kinds(&self, count: usize) -> RowKinds
+        requires { lines_above self.now count + dots_height self.now count < 2 ^ 63 }
+        ensures { result ≡ context_kinds self.now count }
+    {
+        if count == 0 {
+            RowKinds::Context {
+                above: 0,
+                first: 1,
+                lines: 0,
+            }
+        } else {
+            let above = self.lines_above(count);
+            RowKinds::Context {
+                above,
+                first: above + self.dots_height(count),
+                lines: count,
+            }
+        }
+    }
+
+    /// Whether so many lines of context are shown at all.
+    fn has_context_row(&self, count: usize) -> bool
+        ensures { result ≡ has_context_row self.now count }
+    {
+        let is_above = 0 < self.lines_above(count);
+        let is_below = self.first_below(count) < count;
+        let is_some = count != 0;
+        is_some & (is_above | is_below)
+    }
+
+    /// How many rows so many lines of context have.
+    fn context_rows(&self, count: usize) -> usize
+        requires { context_height self.now count < 2 ^ 63 }
+        ensures { result ≡ context_height self.now count }
+    {
+        if count == 0 {
+            1
+        } else {
+            let above = self.lines_above(count);
+            let below = count - self.first_below(count);
+            above + (self.dots_height(count) + below)
+        }
+    }
+
+    /// Whether it is unfolded.
+    fn is_unfolded(&self) -> bool
+        ensures { result ≡ is_fold_open self.now.expand_box }
+    {
+        self.expand_box.is_open()
+    }
+
+    /// How many rows the section has.
+    fn height(&self) -> usize
+        requires { section_height self.now self.now.section.now < 2 ^ 63 }
+        ensures { result ≡ section_height self.now self.now.section.now }
+    {
+        match self.section {
+            Section::Unchanged { lines } => self.context_rows(lines.len()),
+            Section::Changed { lines } => {
+                if self.is_unfolded() {
+                    1 + lines.len()
+                } else {
+                    1
+                }
+            }
+            Section::FileMode { .. } => 1,
+            Section::Binary { .. } => 1,
+        }
+    }
+
+    /// Whether columns 0 and 1 of its rows are its own.
+    fn is_wide(&self) -> bool
+        ensures { result ≡ is_wide_of self.now self.now.section.now }
+    {
+        match self.section {
+            Section::Unchanged { lines } => self.has_context_row(lines.len()),
+            Section::Changed { lines } => {
+                let is_selected = self.is_selected();
+                let is_some = self.is_unfolded() && 0 < lines.len();
+                is_selected | is_some
+            }
+            Section::FileMode { .. } => self.is_selected(),
+            Section::Binary { .. } => self.is_selected(),
+        }
+    }
+
+    /// What stands on its rows.
+    fn kinds(&self) -> RowKinds
+        requires { section_height self.now self.now.section.now < 2 ^ 63 }
+        ensures { result ≡ kinds_of self.now self.now.section.now }
+    {
+        match self.section {
+            Section::Unchanged { lines } => self.context_kinds(lines.len()),
+            Section::Changed { .. } => RowKinds::Changed,
+            Section::FileMode { .. } => RowKinds::Mark,
+            Section::Binary { .. } => RowKinds::Mark,
+        }
+    }
+
+    /// Where the section stands, if its first row is this one.
+    pub(crate) fn top(&self, top: usize) -> SectionTop
+        requires { top + section_height self.now self.now.section.now < 2 ^ 63 }
+        ensures { result ≡ section_top_of self.now top }
+    {
+        SectionTop {
+            key: self.section_key,
+            top,
+            end: top + self.height(),
+            is_wide: self.is_wide(),
+            kinds: self.kinds(),
         }
     }
 

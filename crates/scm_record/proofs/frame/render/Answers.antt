@@ -1,6 +1,7 @@
 use Rattle.std.proofs.Common.{◌≡◌, pos, arith, length, w64, to_z}
 use Rattle.std.proofs.lemmas.Int.{to_z_pos}
-use Rattle.scm_record.proofs.FrameLemmas.{screen-in_range, cleared-screen, cleared-sight, drawn_is_frame}
+use Rattle.scm_view.proofs.ScreenLemmas.{screen-in_range, cleared-screen, cleared-sight}
+use Rattle.scm_record.proofs.FrameLemmas.{drawn_is_map, drawn-rows}
 use Rattle.scm_record.proofs.frame.render.Goals as goal
 
 pub render_top_level-requires-clause-place : goal.render_top_level-requires-clause-place
@@ -17,8 +18,14 @@ render_top_level-requires-clause-picture c =
     (c.requires.in_range c.args.grid.now.width (length c.args.grid.now.rows)
     (omega (arith, c.width-width.ensures.value, c.if-prove.false)) (omega (arith, c.height-height.ensures.value, c.if-prove-2.false)))
 
+pub returns-clause-rows : goal.returns-clause-rows
+returns-clause-rows c =
+    let y : to_z w64 c.args.scroll ≡ pos c.args.scroll = to_z_pos w64 c.args.scroll (omega (arith, c.requires.scroll)) in
+    drawn-rows c.args.grid.now.width (length c.args.grid.now.rows) c.args.scroll c.args.view.now c.clear.new.self
+    (to_z w64 c.args.scroll) c.render_top_level.new.grid.rows c.clear.ensures y c.in_ok-boxes.ensures.rows
+
 pub returns-clause-ok : goal.returns-clause-ok
 returns-clause-ok c =
     let y : to_z w64 c.args.scroll ≡ pos c.args.scroll = to_z_pos w64 c.args.scroll (omega (arith, c.requires.scroll)) in
-    drawn_is_frame c.args.grid.now.width (length c.args.grid.now.rows) c.args.scroll c.args.view.now c.clear.new.self
-    (to_z w64 c.args.scroll) c.render_top_level.new.grid.rows c.in_ok-boxes.boxes c.clear.ensures y c.in_ok-boxes.ensures.rows c.in_ok-boxes.ensures.boxes
+    drawn_is_map c.args.grid.now.width (length c.args.grid.now.rows) c.args.scroll c.args.view.now c.clear.new.self
+    (to_z w64 c.args.scroll) c.in_ok-boxes.boxes c.clear.ensures y c.in_ok-boxes.ensures.boxes

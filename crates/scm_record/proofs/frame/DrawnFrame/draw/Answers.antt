@@ -1,10 +1,11 @@
-use Rattle.std.proofs.Common.{◌∙◌, ◌≤◌, ap, arith, sym}
+use Rattle.std.proofs.Common.{◌≡◌, ◌∙◌, ◌≤◌, ap, arith, sym, subst, true, false, length}
 use Rattle.scm_view.specs.Shown.{Shown}
-use Rattle.scm_record.specs.Frames.{columns_of, rows_of}
+use Rattle.scm_record.specs.Frames.{columns_of, rows_of, is_plain}
 use Rattle.scm_input.specs.declared.inputs.TerminalKind.{TerminalKind}
 use Rattle.scm_input.specs.declared.inputs.TerminalKind.TheVariants.{Testing}
-use Rattle.scm_record.proofs.FrameLemmas.{Laws, drawn-frame}
+use Rattle.scm_record.proofs.FrameLemmas.{plain-shows, free-shows}
 use Rattle.scm_record.proofs.frame.DrawnFrame.draw.Goals as goal
+use Rattle.scm_record.proofs.frame.DrawnFrame.draw.Goals.{then-is_plain+in_ok-draw_plain, else-is_plain+in_ok-draw_free}
 
 few-columns : (kind : TerminalKind) → columns_of kind ≤ 65535
 few-columns (Testing width height) = omega arith
@@ -14,19 +15,32 @@ few-rows (Testing width height) = omega arith
 
 pub returns-clause-ok : goal.returns-clause-ok
 returns-clause-ok c = λ kind s same scroll size.
-    let laws : Laws = record {
-      alike = c.apps_are_drawn_alike.ensures;
-      windows = c.apps_show_windows.ensures;
-      owners = c.clicks_find_owners.ensures;
-      keys = c.keys_have_rows.ensures;
-      extents = c.apps_have_extents.ensures;
-    } in
-    let drawn = rw (size.width, size.height) at c.in_ok-self.ensures.ok in
-    record {
-      width = c.in_ok-self.ensures.width ∙ size.width;
-      height = c.in_ok-self.ensures.height ∙ size.height;
-      frame =
-          drawn-frame laws (columns_of kind) (rows_of kind) c.in_ok-view.view c.args.showing.now c.args.scroll s c.render.new.grid.rows c.in_ok-self.field-0
-          c.in_ok-view.ensures.ok same scroll (few-columns kind) (few-rows kind) drawn;
-      open_menu = ap (λ (shown : Shown). shown.open_menu) (c.showing.view_is ∙ sym same);
-    }
+    let w = c.args.self.now.grid.width in
+    let h = length c.args.self.now.grid.rows in
+    let menu = ap (λ (shown : Shown). shown.open_menu) (c.showing.view_is ∙ sym same) in
+    elim c.if-is_plain.branch [
+      | then-is_plain+in_ok-draw_plain b ↦
+          let tested = rw (c.width-width.ensures.value, c.height-height.ensures.value) at (sym c.is_plain.ensures ∙ b.if-is_plain.true) in
+          let plain = subst (λ (shown : Shown). is_plain w h shown.view_mode ≡ true) c.showing.view_is tested in
+          let drawn = plain-shows kind s c.in_ok-view.view c.args.showing.now c.args.scroll w h b.draw_plain.new.self.grid.rows b.draw_plain.new.self.places
+          size.width size.height c.in_ok-view.ensures.ok same scroll (few-columns kind) (few-rows kind) plain b.in_ok-draw_plain.ensures.rows b.in_ok-draw_plain.ensures.places in
+          rw b.self-is (record {
+            width = b.in_ok-draw_plain.ensures.width ∙ size.width;
+            height = b.in_ok-draw_plain.ensures.height ∙ size.height;
+            rows = drawn.0;
+            places = drawn.1;
+            open_menu = menu;
+          })
+      | else-is_plain+in_ok-draw_free b ↦
+          let tested = rw (c.width-width.ensures.value, c.height-height.ensures.value) at (sym c.is_plain.ensures ∙ b.if-is_plain.false) in
+          let free = subst (λ (shown : Shown). is_plain w h shown.view_mode ≡ false) c.showing.view_is tested in
+          let drawn = free-shows c.apps_are_drawn_alike.ensures kind s c.in_ok-view.view c.args.showing.now c.args.scroll w h b.draw_free.new.self.grid.rows b.draw_free.new.self.places
+          size.width size.height c.in_ok-view.ensures.ok same scroll free b.in_ok-draw_free.ensures.rows b.in_ok-draw_free.ensures.places in
+          rw b.self-is (record {
+            width = b.in_ok-draw_free.ensures.width ∙ size.width;
+            height = b.in_ok-draw_free.ensures.height ∙ size.height;
+            rows = drawn.0;
+            places = drawn.1;
+            open_menu = menu;
+          })
+    ]

@@ -39,6 +39,9 @@ settle-requires-clause-drawable c =
     drawn-drawable c.set_message.new.self c.advance.new.selector c.in_ok-advance.ensures.rest
     (subst IsDrawable (sym c.set_message.ensures) (message-keeps-drawable c.self.inside.selector c.self.inside.commit (string_bytes c.args.text) (sym c.if-not-is_short.ensures) c.self.invariant.busy.drawable))
 
+pub settle-requires-clause-shown : goal.settle-requires-clause-shown
+settle-requires-clause-shown c = (after_frame c.set_message.new.self, c.in_ok-advance.ensures.shown c.self.inside.kind c.self.invariant.sized)
+
 pub returns-in-None-clause-ok : goal.returns-in-None-clause-ok
 returns-in-None-clause-ok c =
     let a : Asking = record { session = c.self.inside.selector; kind = c.self.inside.kind; commit = c.self.inside.commit } in

@@ -1,0 +1,11 @@
+use Rattle.std.proofs.Common.{◌≡◌, ◌+◌, ◌++◌, drop, false}
+use Rattle.scm_view.specs.Tops.{section_tops, sections_height}
+use Rattle.scm_view.proofs.file_view.push_sections.Given as goal
+
+-- what was added, and what is left to add
+abbrev pub invariant-loop-index : goal.invariant-loop-index
+invariant-loop-index l =
+    record {
+      added : l.tops.items ++ section_tops l.row l.before (drop l.index l.views) ≡ l.fn.tops.items ++ section_tops l.fn.top false l.views;
+      left : l.row + sections_height l.before (drop l.index l.views) ≡ l.fn.top + sections_height false l.views;
+    }

@@ -1,0 +1,54 @@
+use Rattle.std.proofs.Common.{◌∙◌, ◌≤◌, ◌+◌, ap, ap₂, sym, get_or, subst, List}
+use Rattle.scm_view.specs.declared.commit_view.CommitView.{CommitView}
+use Rattle.scm_view.specs.declared.menu_bar.MenuBar.{MenuBar}
+use Rattle.scm_view.specs.declared.tops.FileTop.{FileTop}
+use Rattle.scm_view.specs.declared.tops.SectionTop.{SectionTop}
+use Rattle.scm_view.specs.Index.{span_in}
+use Rattle.scm_view.specs.Menus.{headers_width, opened}
+use Rattle.scm_view.specs.Spots.{IsShortMenu}
+use Rattle.scm_view.proofs.FixedLemmas.{short_bar}
+use Rattle.scm_view.proofs.FrameIndexLemmas.{index-few, shows-first, short-menu, answers-owner, index-span, answers-extent}
+use Rattle.scm_view.proofs.frame_index.FrameIndex.new.Goals as goal
+
+pub push_tops-requires : goal.push_tops-requires
+push_tops-requires c =
+    let plain = c.requires.shows.2 in
+    let v = c.index-as_slice-0.result in
+    let first = c.index-as_slice-0.is ∙ ap (λ (vs : List CommitView). get_or vs 0 v) c.as_slice.ensures in
+    let shows = shows-first c.args.view.now c.requires.shows.0 c.args.width c.args.height v plain first in
+    rw (c.height-message.ensures, c.as_slice-views.ensures) (index-few c.requires.shows.0 v c.requires.shows.1 shows)
+
+pub push_spots-requires-2-clause-headers : goal.push_spots-requires-2-clause-headers
+push_spots-requires-2-clause-headers c =
+    let plain = c.requires.shows.2 in
+    subst (λ (b : MenuBar). headers_width b.menus ≤ 100000000) (sym plain.shows.menu_bar) (short_bar c.requires.shows.0.open_menu).0
+
+pub push_spots-requires-2-clause-items : goal.push_spots-requires-2-clause-items
+push_spots-requires-2-clause-items c =
+    let plain = c.requires.shows.2 in
+    subst (λ (b : MenuBar). IsShortMenu (opened 0 b.menus b.expanded_menu_idx)) (sym plain.shows.menu_bar) (short-menu _ (short_bar c.requires.shows.0.open_menu).1)
+
+pub returns-clause-ok : goal.returns-clause-ok
+returns-clause-ok c = λ shown plain.
+    let a = c.args.view.now in
+    let w = c.args.width in
+    let h = c.args.height in
+    let s = c.args.scroll in
+    let v = c.index-as_slice-0.result in
+    let first = c.index-as_slice-0.is ∙ ap (λ (vs : List CommitView). get_or vs 0 v) c.as_slice.ensures in
+    let shows = shows-first a shown w h v plain first in
+    let files = rw (c.new-files.ensures.items, c.height-message.ensures, c.as_slice-views.ensures) at c.in_ok-end.ensures.files in
+    let sections = rw (c.new-sections.ensures.items, c.height-message.ensures, c.as_slice-views.ensures) at c.in_ok-end.ensures.sections in
+    let m0 = rw c.new-spots.ensures.items at c.in_ok-push_spots.ensures.ok in
+    let m1 = rw (c.from-columns.ensures, c.deref.ensures.value) at c.in_ok-push_pinned.ensures.ok in
+    let m2 = rw c.from-columns.ensures at c.in_ok-below.ensures.ok in
+    let run = rw (c.joined_with.ensures, c.joined.ensures, c.document_run-document.ensures, c.saturating_sub-rows.ensures, c.from.ensures) at c.joined_with-run.ensures in
+    let empty = rw c.as_slice-views.ensures at c.is_empty.ensures in
+    let end = rw (c.height-message.ensures, c.as_slice-views.ensures) at c.in_ok-end.ensures.end in
+    record {
+      owner = λ y x. answers-owner w h s y x a shown v c.push_spots.new.spots.items c.push_pinned.new.spots.items c.push_spots-2.new.spots.items c.push_quit.new.spots.items c.push_help.new.spots.items
+          c.push_tops.new.files.items c.push_tops.new.sections.items plain shows m0 m1 m2 c.in_ok-quit.ensures.ok c.in_ok-help.ensures.ok files sections;
+      span = λ k. ap₂ (λ (fs : List FileTop) (ss : List SectionTop). span_in fs ss k) files sections ∙ index-span (s + 1) shown v k shows;
+      extent = c.saturating_sub.ensures ∙ answers-extent w h s a shown v c.joined_with-run.result c.in_ok-below.below c.height-message.result c.in_ok-end.end c.is_empty.result c.in_ok-quit.quit c.in_ok-help.help plain shows
+          run c.in_ok-below.ensures.end c.height-message.ensures empty end c.in_ok-quit.ensures.rows c.in_ok-help.ensures.rows;
+    }
