@@ -10,7 +10,7 @@ use Rattle.scm_types.specs.declared.keys.SelectionKey.{SelectionKey}
 use Rattle.scm_selection.specs.KeyLists.{file_key, section_key, line_key, line_keys, section_keys, sections_keys, is_visible, is_section}
 
 -- one more line
-line_keys-drop : (file section first i : ℕ) (lines : List SectionChangedLine) → i < length lines → line_keys file section first (drop i lines) ≡ line_key file section first ∷ line_keys file section (first + 1) (drop (i + 1) lines)
+pub line_keys-drop : (file section first i : ℕ) (lines : List SectionChangedLine) → i < length lines → line_keys file section first (drop i lines) ≡ line_key file section first ∷ line_keys file section (first + 1) (drop (i + 1) lines)
 line_keys-drop file section first i [] h = absurd (omega arith)
 line_keys-drop file section first zero (l ∷ ls) h = refl
 line_keys-drop file section first (suc i) (l ∷ ls) h =

@@ -2,6 +2,9 @@
 pub mod KeySetLemmas
 pub mod KeyListLemmas
 pub mod MoveLemmas
+pub mod PartLemmas
+pub mod RelationLemmas
+pub mod StepLemmas
 -- toggles, and the files that they keep coherent
 pub mod ToggleLemmas
 pub mod CoherenceLemmas

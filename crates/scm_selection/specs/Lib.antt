@@ -4,6 +4,8 @@ pub mod KeyLists
 pub mod KeySet
 -- where the selection moves to
 pub mod Moves
+-- the keys before and after a key, and the keys at which a move stops
+pub mod Steps
 -- what a toggle makes of the files
 pub mod Toggle
 -- which files a toggle keeps coherent

@@ -7,6 +7,7 @@ pub mod counts;
 pub mod key_lists;
 pub mod key_set;
 pub mod moves;
+pub mod steps;
 pub mod toggles;
 
 pub use key_set::KeySet;

@@ -80,7 +80,7 @@ fn is_line(key: SelectionKey) -> bool
 }
 
 /// Whether a key is of the kind that lies inside the selection.
-fn is_inside(selection: SelectionKey, key: SelectionKey) -> bool
+pub fn is_inside(selection: SelectionKey, key: SelectionKey) -> bool
     ensures { result ≡ is_inside selection key }
 {
     match selection {
@@ -108,7 +108,7 @@ pub fn inner_key(list: &[SelectionKey], selection: SelectionKey) -> SelectionKey
 }
 
 /// Whether a key is a file as the selection is, or a section, or a line.
-fn is_same_kind(selection: SelectionKey, key: SelectionKey) -> bool
+pub fn is_same_kind(selection: SelectionKey, key: SelectionKey) -> bool
     ensures { result ≡ is_same_kind selection key }
 {
     match selection {

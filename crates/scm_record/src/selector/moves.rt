@@ -3,8 +3,10 @@
 use super::{Flow, Selector};
 use crate::frame::DrawnFrame;
 use crate::pages::{Way, page_key, turn};
-use scm_selection::key_lists::{all_keys, first_key, visible_keys};
-use scm_selection::moves::{inner_key, keep_kind, next_key, previous_key};
+use scm_selection::key_lists::{first_key, visible_keys};
+use scm_selection::steps::{
+    first_inside, next_of_kind, next_visible, previous_of_kind, previous_visible,
+};
 use scm_types::RecordError;
 use scm_view::{QuitDialogButtonId, SelectionKey};
 
@@ -13,18 +15,12 @@ impl<'state> Selector<'state> {
     ghost use Rattle.scm_errors.specs.declared.error.RecordError.TheVariants.{OutOfMemory};
     ghost use Rattle.scm_view.specs.declared.quit_dialog.QuitDialogButtonId.TheVariants.{Quit, GoBack};
     ghost use Rattle.scm_selection.specs.KeyLists.{first_key};
+    ghost use Rattle.scm_selection.specs.Moves.{next_key, previous_key};
     ghost use Rattle.scm_record.specs.Frames.{IsShown, Scene};
-    ghost use Rattle.scm_record.specs.Session.{visible, visible_of_kind, after_next, after_previous, after_next_same_kind, after_previous_same_kind, after_advance, after_inner, after_outer};
+    ghost use Rattle.scm_record.specs.Session.{visible, after_next, after_previous, after_next_same_kind, after_previous_same_kind, after_advance, after_inner, after_outer};
     ghost use Rattle.scm_record.specs.Change.{stays};
     ghost use Rattle.scm_record.specs.Dialogs.{dialog_focused_or, unless_asked};
     ghost use Rattle.scm_record.specs.Pages.{after_page, towards};
-
-    /// The first file, if there is one.
-    fn first_key(&self) -> SelectionKey
-        ensures { result ≡ first_key self.now.state.files }
-    {
-        first_key(self.state.files.as_slice())
-    }
 
     /// The visible keys, in order.
     fn visible_keys(&self) -> Result<Vec<SelectionKey>, RecordError>
@@ -38,14 +34,20 @@ impl<'state> Selector<'state> {
         )
     }
 
-    /// The visible keys of the selection's kind, in order.
-    fn visible_keys_of_kind(&self) -> Result<Vec<SelectionKey>, RecordError>
-        ensures ok { IfOk result (λ keys. keys.items ≡ visible_of_kind self.now) }
-        ensures err { IfErr result (λ e. e ≡ OutOfMemory) }
+    /// The visible key after the selection.
+    fn next_key(&self) -> SelectionKey
+        ensures { result ≡ next_key (visible self.now) self.now.selection (first_key self.now.state.files) }
     {
-        let mut keys = self.visible_keys()?;
-        keep_kind(&mut keys, self.selection);
-        Ok(keys)
+        let files = self.state.files.as_slice();
+        next_visible(&self.expanded, files, self.selection, first_key(files))
+    }
+
+    /// The visible key before the selection.
+    fn previous_key(&self) -> SelectionKey
+        ensures { result ≡ previous_key (visible self.now) self.now.selection (first_key self.now.state.files) }
+    {
+        let files = self.state.files.as_slice();
+        previous_visible(&self.expanded, files, self.selection, first_key(files))
     }
 
     /// Selects the first key inside the selection; in the quit dialog, the button Quit.
@@ -56,8 +58,8 @@ impl<'state> Selector<'state> {
         if self.is_asked() {
             self.focus(QuitDialogButtonId::Quit);
         } else {
-            let keys = all_keys(self.allocator(), self.state.files.as_slice())?;
-            self.select(inner_key(&keys, self.selection))?;
+            let key = first_inside(&self.expanded, self.state.files.as_slice(), self.selection);
+            self.select(key)?;
         }
         Ok(Flow::GoOn)
     }
@@ -100,8 +102,9 @@ impl<'state> Selector<'state> {
         ensures ok { OnOk result (self.new ≡ after_advance self.old) }
         ensures err { IfErr result (λ e. e ≡ OutOfMemory) }
     {
-        let keys = self.visible_keys_of_kind()?;
-        self.select(next_key(&keys, self.selection, SelectionKey::None))
+        let files = self.state.files.as_slice();
+        let key = next_of_kind(&self.expanded, files, self.selection, SelectionKey::None);
+        self.select(key)
     }
 
     /// Selects the visible key before.
@@ -110,8 +113,7 @@ impl<'state> Selector<'state> {
         ensures err { IfErr result (λ e. e ≡ OutOfMemory) }
     {
         if !self.is_asked() {
-            let keys = self.visible_keys()?;
-            self.select(previous_key(&keys, self.selection, self.first_key()))?;
+            self.select(self.previous_key())?;
         }
         Ok(Flow::GoOn)
     }
@@ -122,8 +124,9 @@ impl<'state> Selector<'state> {
         ensures err { IfErr result (λ e. e ≡ OutOfMemory) }
     {
         if !self.is_asked() {
-            let keys = self.visible_keys_of_kind()?;
-            self.select(previous_key(&keys, self.selection, self.first_key()))?;
+            let files = self.state.files.as_slice();
+            let key = previous_of_kind(&self.expanded, files, self.selection, first_key(files));
+            self.select(key)?;
         }
         Ok(Flow::GoOn)
     }
@@ -134,8 +137,7 @@ impl<'state> Selector<'state> {
         ensures err { IfErr result (λ e. e ≡ OutOfMemory) }
     {
         if !self.is_asked() {
-            let keys = self.visible_keys()?;
-            self.select(next_key(&keys, self.selection, self.first_key()))?;
+            self.select(self.next_key())?;
         }
         Ok(Flow::GoOn)
     }
@@ -146,8 +148,9 @@ impl<'state> Selector<'state> {
         ensures err { IfErr result (λ e. e ≡ OutOfMemory) }
     {
         if !self.is_asked() {
-            let keys = self.visible_keys_of_kind()?;
-            self.select(next_key(&keys, self.selection, self.first_key()))?;
+            let files = self.state.files.as_slice();
+            let key = next_of_kind(&self.expanded, files, self.selection, first_key(files));
+            self.select(key)?;
         }
         Ok(Flow::GoOn)
     }

@@ -1,0 +1,5 @@
+use Rattle.std.proofs.Common.{◌≡◌, sym, ◌∙◌, ap}
+use Rattle.scm_record.proofs.selector.Selector.previous_key.Goals as goal
+
+pub returns : goal.returns
+returns c = rw (← c.self.view_is, ← c.as_slice-files.ensures, ← c.first_key.ensures) c.previous_visible.ensures

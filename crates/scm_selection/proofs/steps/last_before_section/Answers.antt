@@ -1,0 +1,21 @@
+use Rattle.std.proofs.Common.{◌≡◌, ℕ, ◌+◌, ◌-◌, ◌<◌, Bool, true, false, List, [], ◌∷◌, ◌++◌, length, drop, take, refl, ap, sym, ◌∙◌, arith, Option, Some, None, rules}
+use Rattle.std.specs.Prelude.{find, get_or, min, slice_get, is_some}
+use Rattle.scm_selection.specs.KeySet.{has_key}
+use Rattle.scm_selection.specs.KeyLists.{file_key, section_key, line_key, line_keys, section_keys, sections_keys, files_keys}
+use Rattle.scm_selection.specs.Steps.{is_stop, find_last, sections_at, lines_at, lines_of, after_file, after_section, before_file, before_section}
+use Rattle.scm_selection.proofs.StepLemmas.{take-end, item-at, first_line, last_line, lines-alike, sooner, later, last-sooner, last-later, section-found, section-missed, file-found, file-missed, section-last-found, section-last-missed, file-last-found, file-last-missed}
+use Rattle.scm_selection.proofs.steps.last_before_section.Goals as goal
+
+pub returns-in-None-stop_at : goal.returns-in-None-stop_at
+returns-in-None-stop_at c =
+    let stop : None ≡ find (is_stop c.args.reach (has_key c.args.expanded.now)) ((file_key c.args.file) ∷ []) = rw (← c.file_key.ensures) c.in-None-stop_at.ensures in
+    rw (← c.sections_at.ensures) (last-later (is_stop c.args.reach (has_key c.args.expanded.now)) (before_file c.args.files.now c.args.file) ((file_key c.args.file) ∷ (sections_keys c.args.file 0 (take c.args.section c.sections_at.result.now))) c.last_of_files.result (last-later (is_stop c.args.reach (has_key c.args.expanded.now)) ((file_key c.args.file) ∷ []) (sections_keys c.args.file 0 (take c.args.section c.sections_at.result.now)) None c.in-None.ensures stop) c.last_of_files.ensures)
+
+pub returns-in-Some-stop_at : goal.returns-in-Some-stop_at
+returns-in-Some-stop_at c =
+    let stop : Some c.in-Some-stop_at.key ≡ find (is_stop c.args.reach (has_key c.args.expanded.now)) ((file_key c.args.file) ∷ []) = rw (← c.file_key.ensures) c.in-Some-stop_at.ensures in
+    rw (← c.sections_at.ensures) (last-sooner (is_stop c.args.reach (has_key c.args.expanded.now)) (before_file c.args.files.now c.args.file) ((file_key c.args.file) ∷ (sections_keys c.args.file 0 (take c.args.section c.sections_at.result.now))) c.in-Some-stop_at.key (last-later (is_stop c.args.reach (has_key c.args.expanded.now)) ((file_key c.args.file) ∷ []) (sections_keys c.args.file 0 (take c.args.section c.sections_at.result.now)) (Some c.in-Some-stop_at.key) c.in-None.ensures stop))
+
+pub returns-in-Some : goal.returns-in-Some
+returns-in-Some c =
+    rw (← c.sections_at.ensures) (last-sooner (is_stop c.args.reach (has_key c.args.expanded.now)) (before_file c.args.files.now c.args.file) ((file_key c.args.file) ∷ (sections_keys c.args.file 0 (take c.args.section c.sections_at.result.now))) c.in-Some.key (last-sooner (is_stop c.args.reach (has_key c.args.expanded.now)) ((file_key c.args.file) ∷ []) (sections_keys c.args.file 0 (take c.args.section c.sections_at.result.now)) c.in-Some.key c.in-Some.ensures))

@@ -1,0 +1,24 @@
+use Rattle.std.proofs.Common.{◌≡◌, ◌&&◌, Bool, true, false, refl, ap, sym, ◌∙◌}
+use Rattle.std.specs.Prelude.{find, filter}
+use Rattle.std.specs.Option.{unwrap_or}
+use Rattle.scm_selection.specs.KeySet.{has_key}
+use Rattle.scm_selection.specs.KeyLists.{is_visible, files_keys, visible_keys}
+use Rattle.scm_selection.specs.Moves.{is_inside, is_same_kind, next_key, previous_key}
+use Rattle.scm_selection.specs.Steps.{is_key_of, is_stop, find_last, keys_after, keys_before}
+use Rattle.scm_selection.proofs.RelationLemmas.{next-there, next-away, previous-there, previous-away, inner-there, inner-away, filter-filter, kind-self, kind-away, and-left, and-right}
+use Rattle.scm_selection.proofs.steps.next_of_kind.Goals as goal
+
+pub returns-then-is_shown : goal.returns-then-is_shown
+returns-then-is_shown c =
+    let both : ((is_key_of c.args.files.now c.args.selection) && (is_visible (has_key c.args.expanded.now) c.args.selection)) ≡ true = cc in
+    let there : is_key_of c.args.files.now c.args.selection ≡ true = and-left (is_key_of c.args.files.now c.args.selection) (is_visible (has_key c.args.expanded.now) c.args.selection) both in
+    let shown : is_visible (has_key c.args.expanded.now) c.args.selection ≡ true = and-right (is_key_of c.args.files.now c.args.selection) (is_visible (has_key c.args.expanded.now) c.args.selection) both in
+    c.unwrap_or.ensures ∙ ap (λ r. unwrap_or r c.args.selection) c.first_after.ensures
+    ∙ next-there (λ k. is_visible (has_key c.args.expanded.now) k && is_same_kind c.args.selection k) c.args.files.now c.args.selection c.args.otherwise there (rw (shown, kind-self c.args.files.now c.args.selection there) refl)
+    ∙ ap (λ ks. next_key ks c.args.selection c.args.otherwise) (sym (filter-filter (is_same_kind c.args.selection) (is_visible (has_key c.args.expanded.now)) (files_keys 0 c.args.files.now)))
+
+pub returns-else-is_shown : goal.returns-else-is_shown
+returns-else-is_shown c =
+    let hidden : (is_key_of c.args.files.now c.args.selection && is_visible (has_key c.args.expanded.now) c.args.selection) ≡ false = cc in
+    next-away (λ k. is_visible (has_key c.args.expanded.now) k && is_same_kind c.args.selection k) c.args.files.now c.args.selection c.args.otherwise (kind-away (is_key_of c.args.files.now c.args.selection) (is_visible (has_key c.args.expanded.now) c.args.selection) (is_same_kind c.args.selection c.args.selection) hidden)
+    ∙ ap (λ ks. next_key ks c.args.selection c.args.otherwise) (sym (filter-filter (is_same_kind c.args.selection) (is_visible (has_key c.args.expanded.now)) (files_keys 0 c.args.files.now)))
