@@ -27,7 +27,7 @@ use Rattle.scm_view.specs.Counts.{on_row}
 use Rattle.scm_view.proofs.BoxLemmas.{box-width}
 
 -- puts that leave each row of the screen leave all of them
-painted-same : (v : Rect) (ps : List Put) (z : ℤ) (rows : List Row) → ((k : ℕ) (row : Row) → k < length rows → paint v ps (z +ℤ pos k) row ≡ row) → painted v ps z rows ≡ rows
+pub painted-same : (v : Rect) (ps : List Put) (z : ℤ) (rows : List Row) → ((k : ℕ) (row : Row) → k < length rows → paint v ps (z +ℤ pos k) row ≡ row) → painted v ps z rows ≡ rows
 unfolding painted
 painted-same v ps z [] h = refl
 painted-same v ps z (row ∷ rows) h =
@@ -38,7 +38,7 @@ painted-same v ps z (row ∷ rows) h =
     ap (λ w. paint v ps w r) same ∙ h (suc k) r (omega arith)) in
     ap (λ w. w ∷ painted v ps (z +ℤ pos 1) rows) one ∙ ap (λ w. row ∷ w) more
 
-on-screen : (v : Rect) (k : ℕ) → k < v.height → has_row v (v.y +ℤ pos k) ≡ true
+pub on-screen : (v : Rect) (k : ℕ) → k < v.height → has_row v (v.y +ℤ pos k) ≡ true
 on-screen v k h = grind (arith, ints)
 
 off-screen : (v : Rect) (y : ℤ) (ps : List Put) (f : Row → Row) (rows : List Row) → length rows ≡ v.height → has_row v y ≡ false → OneRow v v y ps f → painted v ps v.y rows ≡ rows
@@ -47,7 +47,7 @@ off-screen v y ps f rows n e one =
     let seen = on-screen v k (omega (arith, n)) in
     rw (not_seen v y e (v.y +ℤ pos k) seen) at (one (v.y +ℤ pos k) row seen))
 
-no-reach : (v m : Rect) (y : ℤ) → has_row v y ≡ false → IsReached v m y
+pub no-reach : (v m : Rect) (y : ℤ) → has_row v y ≡ false → IsReached v m y
 no-reach v m y e h = absurd (cc (h, e))
 
 -- a picture on a row that the screen has not, and one of the same boxes and areas that puts nothing

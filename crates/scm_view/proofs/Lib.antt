@@ -12,6 +12,9 @@ pub mod HeadingLemmas
 pub mod HiddenLemmas
 pub mod CountLemmas
 pub mod FewLemmas
+pub mod PaintsLemmas
+pub mod PaintsAppLemmas
+pub mod ScreenLemmas
 pub mod RowsLemmas
 pub mod SectionsLemmas
 pub mod FilesLemmas

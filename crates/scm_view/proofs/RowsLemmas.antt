@@ -34,14 +34,16 @@ pub rows_picture-end : (rows : List DocRow) (s : Sight) (x y : ℤ) → rows ≡
 unfolding rows_picture
 rows_picture-end rows s x y e = rw e refl
 
-pub changed_rows-more : (v : SectionView) (ls : List SectionChangedLine) (i : ℕ) (d : SectionChangedLine) → i < length ls
-    → changed_rows v i (drop i ls) ≡ changed_row v i (get_or ls i d) ∷ changed_rows v (i + 1) (drop (i + 1) ls)
+pub changed_rows-more : (v : SectionView) (first : ℕ) (ls : List SectionChangedLine) (i : ℕ) (d : SectionChangedLine) → i < length ls
+    → changed_rows v (first + i) (drop i ls) ≡ changed_row v (first + i) (get_or ls i d) ∷ changed_rows v (first + (i + 1)) (drop (i + 1) ls)
 unfolding changed_rows
-changed_rows-more v ls i d h = rw (add-one, drop-cons ls i d h) refl
+changed_rows-more v first ls i d h =
+    let next : suc (first + i) ≡ first + suc i = omega arith in
+    rw (add-one, drop-cons ls i d h) (ap (λ n. changed_row v (first + i) (get_or ls i d) ∷ changed_rows v n (drop (suc i) ls)) next)
 
-pub changed_rows-end : (v : SectionView) (ls : List SectionChangedLine) (i : ℕ) → length ls ≤ i → changed_rows v i (drop i ls) ≡ []
+pub changed_rows-end : (v : SectionView) (first : ℕ) (ls : List SectionChangedLine) (i : ℕ) → length ls ≤ i → changed_rows v (first + i) (drop i ls) ≡ []
 unfolding changed_rows
-changed_rows-end v ls i h = rw (drop_all i ls h) refl
+changed_rows-end v first ls i h = rw (drop_all i ls h) refl
 
 pub numbered_rows-more : (v : SectionView) (first : ℕ) (ls : List (List ℕ)) (i : ℕ) (d : List ℕ) → i < length ls
     → numbered_rows v (first + i) (drop i ls) ≡ numbered_row v (first + i) (get_or ls i d) ∷ numbered_rows v (first + (i + 1)) (drop (i + 1) ls)

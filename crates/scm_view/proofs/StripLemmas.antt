@@ -185,7 +185,7 @@ column_of (ContextRow key ts) = 2
 column_of (DotsRow t) = 2
 column_of BlankRow = 2
 
-no-highlight : (b : Bool) (s : Sight) (y : ℤ) → (highlight b s y).puts ≡ []
+pub no-highlight : (b : Bool) (s : Sight) (y : ℤ) → (highlight b s y).puts ≡ []
 unfolding covering nothing
 no-highlight true s y = refl
 no-highlight false s y = refl

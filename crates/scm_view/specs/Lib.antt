@@ -6,6 +6,8 @@ pub mod Rows
 pub mod Shown
 -- What each part of the document draws.
 pub mod Pictures
+-- What stands on the screen's rows after drawing.
+pub mod Paints
 -- Rows over rows: what stands on consecutive rows, and who owns each of their columns.
 pub mod Layers
 -- Columns that are blanked.

@@ -11,8 +11,10 @@ ghost use Rattle.scm_errors.specs.declared.error.RecordError.TheVariants.{OutOfM
 ghost use Rattle.scm_view.specs.declared.ids.ComponentId.TheVariants as ids;
 ghost use Rattle.scm_view.specs.Overlays.{quit_picture, help_picture};
 ghost use Rattle.scm_view.specs.Shown.{Shown};
-ghost use Rattle.scm_view.specs.Window.{IsPlain, ShowsInline, window};
-ghost use Rattle.scm_view.specs.AppView.{views_shown, view_width, held, view_mask, view_picture, next_view, views_picture, views_counts, has_help};
+ghost use Rattle.scm_view.specs.Window.{IsPlain, ShowsInline, window, IsFew};
+ghost use Rattle.scm_view.specs.AppView.{views_shown, view_width, held, view_mask, view_picture, next_view, views_picture, views_counts, has_help, app_picture, app_counts};
+ghost use Rattle.scm_view.specs.Paints.{IsPainted};
+ghost use Rattle.scm_view.specs.declared.commit_view.CommitViewMode.TheVariants.{Inline};
 
 use crate::commit_view::{CommitView, CommitViewMode};
 use crate::help_dialog::HelpDialog;
@@ -24,6 +26,7 @@ use scm_cells::{Grid, Mask, Rect};
 use scm_render::{Component, Viewport};
 use scm_types::{Items, RecordError};
 use std::alloc::Global;
+use std::mem;
 
 /// All that the selector shows: documents of commits below the menu bar, and the dialogs that are open.
 #[derive(Drop)]
@@ -188,21 +191,94 @@ impl<'a> AppView<'a> {
     }
 }
 
+/// Paints what the screen shows of the document of a commit, below the menu bar, in so many columns
+/// from one on.
+fn paint_view(
+    alloc: Global,
+    viewport: &mut Viewport<ComponentId>,
+    x: isize,
+    width: usize,
+    view: &CommitView<'_>,
+) -> Result<(), RecordError>
+    requires below { InRange (viewport.old.canvas.sight.rect.y +ℤ pos 1) }
+    requires picture { PictureInRange (view_picture view.now viewport.old.canvas.sight x width) }
+    ensures ok { OnOk result (IsPainted viewport.old.canvas viewport.new.canvas (view_picture view.now viewport.old.canvas.sight x width)) }
+    ensures counts { OnOk result (viewport.new.counts ≡ added viewport.old.counts (document_counts (document_of view.now) (under (view_mask viewport.old.canvas.sight x width) viewport.old.canvas.sight) (pos 1))) }
+    ensures rect { viewport.new.canvas.sight.rect ≡ viewport.old.canvas.sight.rect }
+    ensures err { IfErr result (λ e. e ≡ OutOfMemory) }
+{
+    let mask = view_mask(viewport, x, width);
+    let outer = viewport.swap_mask(Some(mask));
+    view.paint(alloc, viewport, x, 1)?;
+    viewport.swap_mask(outer);
+    Ok(())
+}
+
+/// Paints what the screen shows of the first document.
+fn paint_first(
+    alloc: Global,
+    viewport: &mut Viewport<ComponentId>,
+    width: usize,
+    views: &[CommitView<'_>],
+) -> Result<(), RecordError>
+    requires below { InRange (viewport.old.canvas.sight.rect.y +ℤ pos 1) }
+    requires picture { PictureInRange (views_picture (take 1 views.now) width viewport.old.canvas.sight (pos 0)) }
+    ensures ok { OnOk result (IsPainted viewport.old.canvas viewport.new.canvas (views_picture (take 1 views.now) width viewport.old.canvas.sight (pos 0))) }
+    ensures counts { OnOk result (viewport.new.counts ≡ added viewport.old.counts (views_counts (take 1 views.now) width viewport.old.canvas.sight (pos 0))) }
+    ensures rect { viewport.new.canvas.sight.rect ≡ viewport.old.canvas.sight.rect }
+    ensures err { IfErr result (λ e. e ≡ OutOfMemory) }
+{
+    match views.first() {
+        Some(view) => paint_view(alloc, viewport, 0, width, view),
+        None => Ok(()),
+    }
+}
+
 impl<'a> AppView<'a> {
-    /// Clears the grid, and paints what the view shows inline, from this row of the document on. Where
-    /// memory is refused the grid keeps its size.
+    /// Paints what the screen shows inline.
+    fn paint_inline(
+        &self,
+        alloc: Global,
+        viewport: &mut Viewport<ComponentId>,
+    ) -> Result<(), RecordError>
+        requires inline { self.now.commit_view_mode ≡ Inline }
+        requires picture { PictureInRange (app_picture self.now viewport.old.canvas.sight (pos 0) (pos 0)) }
+        ensures ok { OnOk result (IsPainted viewport.old.canvas viewport.new.canvas (app_picture self.now viewport.old.canvas.sight (pos 0) (pos 0))) }
+        ensures counts { OnOk result (viewport.new.counts ≡ added viewport.old.counts (app_counts self.now viewport.old.canvas.sight (pos 0))) }
+        ensures rect { viewport.new.canvas.sight.rect ≡ viewport.old.canvas.sight.rect }
+        ensures err { IfErr result (λ e. e ≡ OutOfMemory) }
+    {
+        let screen = viewport.rect();
+        paint_first(alloc, viewport, screen.width, self.commit_views.as_slice())?;
+        viewport.draw_component(0, screen.y, &self.menu_bar)?;
+        draw_quit(viewport, &self.quit_dialog)?;
+        draw_help(viewport, &self.help_dialog)
+    }
+
+    /// Clears the grid, and paints what the view shows inline, from this row of the document on: only
+    /// what is on the screen, with few rows and calls. Where memory is refused the grid keeps its size.
     pub fn paint(&self, alloc: Global, grid: &mut Grid, scroll: usize) -> Result<(), RecordError>
         requires shows { ShowsInline self.now grid.old.width (length grid.old.rows) }
         requires scroll { scroll ≤ 2000000 }
         ensures ok { OnOk result ((shown : Shown) → IsPlain self.now shown grid.old.width (length grid.old.rows) →
             grid.new.rows ≡ window grid.old.width (length grid.old.rows) scroll shown) }
+        ensures few { OnOk result (IsFew (length grid.old.rows) grid.new.counts) }
         ensures width { grid.new.width ≡ grid.old.width }
         ensures height { length grid.new.rows ≡ length grid.old.rows }
         ensures err { IfErr result (λ e. e ≡ OutOfMemory) }
     {
         grid.clear();
-        Viewport::render_top_level(alloc, grid, 0, scroll as isize, self)?;
-        Ok(())
+        let rect = Rect {
+            x: 0,
+            y: scroll as isize,
+            width: grid.width(),
+            height: grid.height(),
+        };
+        let empty = Grid::new(alloc, 0, 0)?;
+        let mut viewport = Viewport::new(alloc, mem::replace(grid, empty), rect);
+        let outcome = self.paint_inline(alloc, &mut viewport);
+        *grid = viewport.into_grid();
+        outcome
     }
 }
 
@@ -210,11 +286,7 @@ impl<'a> Component for AppView<'a> {
     type Id = ComponentId;
 
     ghost use Rattle.scm_view.specs.declared.ids.ComponentId.TheVariants.{App};
-    ghost use Rattle.scm_view.specs.AppView.{app_picture};
-
     ghost key = { λ a. App };
-
-    ghost use Rattle.scm_view.specs.AppView.{app_counts};
 
     ghost picture = { app_picture };
 

@@ -1,15 +1,16 @@
 //! The document of a commit.
-ghost use Rattle.std.specs.Prelude.{◌≡◌, ◌+◌, ◌<◌, ◌^◌, ◌++◌, ◌&&◌, int_lt, ℤ, pos, ◌+ℤ◌, Some, None, map, OnOk, IfOk, IfErr};
+ghost use Rattle.std.specs.Prelude.{◌≡◌, ◌+◌, ◌<◌, ◌^◌, ◌++◌, ◌&&◌, int_lt, ℤ, pos, ◌+ℤ◌, Some, None, map, OnOk, IfOk, IfErr, length};
 ghost use Rattle.scm_cells.specs.Rect.{InRange};
 ghost use Rattle.scm_cells.specs.Mask.{MaskInRange};
 ghost use Rattle.scm_render.specs.Picture.{PictureInRange};
-ghost use Rattle.scm_render.specs.Canvas.{with_picture};
+ghost use Rattle.scm_render.specs.Canvas.{with_picture, under};
 ghost use Rattle.scm_cells.specs.Counts.{added, plus};
-ghost use Rattle.scm_view.specs.Counts.{header_counts, file_counts, pinned_counts, files_counts, body_counts};
+ghost use Rattle.scm_view.specs.Counts.{header_counts, file_counts, pinned_counts, files_counts, body_counts, document_counts};
 ghost use Rattle.scm_errors.specs.declared.error.RecordError.TheVariants.{OutOfMemory};
-ghost use Rattle.scm_view.specs.Rows.{shown_file};
+ghost use Rattle.scm_view.specs.Rows.{shown_file, file_rows, document_of};
 ghost use Rattle.scm_view.specs.Tops.{file_tops, files_height, tops_in_files};
-ghost use Rattle.scm_view.specs.Pictures.{mask_row, file_mask, pinned_mask, pinned_header, one_file_picture, files_picture, body_picture};
+ghost use Rattle.scm_view.specs.Pictures.{mask_row, file_mask, pinned_mask, pinned_header, one_file_picture, files_picture, body_picture, file_picture, commit_picture};
+ghost use Rattle.scm_view.specs.Paints.{IsPainted};
 
 use crate::commit_message_view::CommitMessageView;
 use crate::file_view::FileView;
@@ -196,16 +197,126 @@ pub(crate) fn push_tops(
     Ok(row)
 }
 
+/// Paints what the screen shows of a file under a mask.
+fn paint_under(
+    alloc: Global,
+    viewport: &mut Viewport<ComponentId>,
+    mask: Mask,
+    x: isize,
+    y: isize,
+    below: isize,
+    file: &FileView<'_>,
+) -> Result<(), RecordError>
+    requires mask { MaskInRange mask }
+    requires below { below ≡ y +ℤ pos (length (file_rows (shown_file file.now))) }
+    requires picture { PictureInRange (file_picture file.now (under mask viewport.old.canvas.sight) x y) }
+    ensures ok { OnOk result (IsPainted viewport.old.canvas viewport.new.canvas (file_picture file.now (under mask viewport.old.canvas.sight) x y)) }
+    ensures counts { OnOk result (viewport.new.counts ≡ added viewport.old.counts (file_counts (shown_file file.now) viewport.old.canvas.sight.rect y)) }
+    ensures rect { viewport.new.canvas.sight.rect ≡ viewport.old.canvas.sight.rect }
+    ensures err { IfErr result (λ e. e ≡ OutOfMemory) }
+{
+    let outer = viewport.swap_mask(Some(mask));
+    file.paint(alloc, viewport, x, y, below)?;
+    viewport.swap_mask(outer);
+    Ok(())
+}
+
+/// Paints what the screen shows of a file, and of its pinned header.
+fn paint_file(
+    alloc: Global,
+    viewport: &mut Viewport<ComponentId>,
+    x: isize,
+    y: isize,
+    file: &FileView<'_>,
+) -> Result<(), RecordError>
+    requires { PictureInRange (one_file_picture (shown_file file.now) viewport.old.canvas.sight x y) }
+    ensures ok { OnOk result (IsPainted viewport.old.canvas viewport.new.canvas (one_file_picture (shown_file file.now) viewport.old.canvas.sight x y)) }
+    ensures counts { OnOk result (viewport.new.counts ≡ added viewport.old.counts (plus (file_counts (shown_file file.now) viewport.old.canvas.sight.rect y) (pinned_counts (shown_file file.now) viewport.old.canvas.sight.rect (mask_row viewport.old.canvas.sight) y))) }
+    ensures rect { viewport.new.canvas.sight.rect ≡ viewport.old.canvas.sight.rect }
+    ensures err { IfErr result (λ e. e ≡ OutOfMemory) }
+{
+    let first = mask_row(viewport);
+    let below = file.row_below(y);
+    let rows = file_mask(viewport, x, y);
+    paint_under(alloc, viewport, rows, x, y, below, file)?;
+    if is_between(y, first, below) {
+        draw_pinned(viewport, x, first, file)
+    } else {
+        Ok(())
+    }
+}
+
+/// Paints what the screen shows of files one below another.
+fn paint_files(
+    alloc: Global,
+    viewport: &mut Viewport<ComponentId>,
+    x: isize,
+    y: isize,
+    files: &[FileView<'_>],
+) -> Result<(), RecordError>
+    requires { PictureInRange (files_picture (map shown_file files.now) viewport.old.canvas.sight x y) }
+    ensures ok { OnOk result (IsPainted viewport.old.canvas viewport.new.canvas (files_picture (map shown_file files.now) viewport.old.canvas.sight x y)) }
+    ensures counts { OnOk result (viewport.new.counts ≡ added viewport.old.counts (files_counts (map shown_file files.now) viewport.old.canvas.sight.rect (mask_row viewport.old.canvas.sight) y)) }
+    ensures rect { viewport.new.canvas.sight.rect ≡ viewport.old.canvas.sight.rect }
+    ensures err { IfErr result (λ e. e ≡ OutOfMemory) }
+{
+    let mut row = y;
+    for file in files {
+        paint_file(alloc, viewport, x, row, file)?;
+        row = file.row_below(row);
+    }
+    Ok(())
+}
+
+/// Paints what the screen shows below a message of so many rows.
+fn paint_body(
+    alloc: Global,
+    viewport: &mut Viewport<ComponentId>,
+    x: isize,
+    y: isize,
+    height: usize,
+    files: &[FileView<'_>],
+) -> Result<(), RecordError>
+    requires { PictureInRange (body_picture (map shown_file files.now) viewport.old.canvas.sight x y (y +ℤ pos height)) }
+    ensures ok { OnOk result (IsPainted viewport.old.canvas viewport.new.canvas (body_picture (map shown_file files.now) viewport.old.canvas.sight x y (y +ℤ pos height))) }
+    ensures counts { OnOk result (viewport.new.counts ≡ added viewport.old.counts (body_counts (map shown_file files.now) viewport.old.canvas.sight y (y +ℤ pos height))) }
+    ensures rect { viewport.new.canvas.sight.rect ≡ viewport.old.canvas.sight.rect }
+    ensures err { IfErr result (λ e. e ≡ OutOfMemory) }
+{
+    if files.is_empty() {
+        draw_no_files(viewport, x, y)
+    } else {
+        paint_files(alloc, viewport, x, y.strict_add_unsigned(height), files)
+    }
+}
+
+impl<'a> CommitView<'a> {
+    /// Paints what the screen shows of the document.
+    pub(crate) fn paint(
+        &self,
+        alloc: Global,
+        viewport: &mut Viewport<ComponentId>,
+        x: isize,
+        y: isize,
+    ) -> Result<(), RecordError>
+        requires { PictureInRange (commit_picture self.now viewport.old.canvas.sight x y) }
+        ensures ok { OnOk result (IsPainted viewport.old.canvas viewport.new.canvas (commit_picture self.now viewport.old.canvas.sight x y)) }
+        ensures counts { OnOk result (viewport.new.counts ≡ added viewport.old.counts (document_counts (document_of self.now) viewport.old.canvas.sight y)) }
+        ensures rect { viewport.new.canvas.sight.rect ≡ viewport.old.canvas.sight.rect }
+        ensures err { IfErr result (λ e. e ≡ OutOfMemory) }
+    {
+        let height = self.commit_message_view.height();
+        viewport.draw_component(x, y, &self.commit_message_view)?;
+        paint_body(alloc, viewport, x, y, height, self.file_views.as_slice())
+    }
+}
+
 impl<'a> Component for CommitView<'a> {
     type Id = ComponentId;
 
-    ghost use Rattle.scm_view.specs.Pictures.{commit_picture};
     ghost use Rattle.scm_view.specs.declared.ids.ComponentId.TheVariants as ids;
 
     ghost key = { λ v. ids.AppFiles };
-
-    ghost use Rattle.scm_view.specs.Counts.{document_counts};
-    ghost use Rattle.scm_view.specs.Rows.{document_of};
 
     ghost picture = { commit_picture };
 

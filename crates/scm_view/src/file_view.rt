@@ -4,15 +4,17 @@ ghost use Rattle.scm_cells.specs.Rect.{InRange};
 ghost use Rattle.scm_render.specs.Picture.{PictureInRange};
 ghost use Rattle.scm_render.specs.Canvas.{with_picture};
 ghost use Rattle.scm_cells.specs.Counts.{added};
-ghost use Rattle.scm_view.specs.Counts.{sections_counts};
+ghost use Rattle.scm_view.specs.Counts.{sections_counts, file_counts};
+ghost use Rattle.scm_view.specs.Paints.{IsPainted};
 ghost use Rattle.scm_errors.specs.declared.error.RecordError.TheVariants.{OutOfMemory};
 ghost use Rattle.scm_view.specs.Rows.{header_heading, lent_text, shown_file, is_shown, is_open, is_first_open, shown_section, shown_sections, sections_rows, file_rows};
-ghost use Rattle.scm_view.specs.Pictures.{sections_picture};
+ghost use Rattle.scm_view.specs.Pictures.{sections_picture, file_picture};
 ghost use Rattle.scm_view.specs.Tops.{file_height, file_top_of, section_tops, sections_height, tops_in_file};
 
 use crate::file_view_header::FileViewHeader;
 use crate::ids::ComponentId;
 use crate::section_view::SectionView;
+use crate::shown::is_seen;
 use crate::tops::{FileTop, SectionTop};
 use crate::tristate_box::TristateBox;
 use scm_render::{Component, Viewport};
@@ -106,6 +108,55 @@ fn draw_sections(
     for (index, view) in views.iter().enumerate() {
         let shown = is_shown(before, view, is_open_at(views, index + 1));
         draw_section(viewport, x, row, view, shown)?;
+        row = row_below(row, view, shown);
+        before = view.is_open();
+    }
+    Ok(())
+}
+
+/// Paints what the screen shows of a section, if the section is shown.
+fn paint_section(
+    alloc: Global,
+    viewport: &mut Viewport<ComponentId>,
+    x: isize,
+    y: isize,
+    view: &SectionView<'_>,
+    is_shown: bool,
+) -> Result<(), RecordError>
+    requires y { InRange y }
+    requires picture { PictureInRange (sections_picture (shown_section is_shown view.now) viewport.old.canvas.sight x y) }
+    ensures ok { OnOk result (IsPainted viewport.old.canvas viewport.new.canvas (sections_picture (shown_section is_shown view.now) viewport.old.canvas.sight x y)) }
+    ensures counts { OnOk result (viewport.new.counts ≡ added viewport.old.counts (sections_counts (shown_section is_shown view.now) viewport.old.canvas.sight.rect y)) }
+    ensures rect { viewport.new.canvas.sight.rect ≡ viewport.old.canvas.sight.rect }
+    ensures err { IfErr result (λ e. e ≡ OutOfMemory) }
+{
+    if is_shown {
+        view.paint(alloc, viewport, x, y)
+    } else {
+        Ok(())
+    }
+}
+
+/// Paints what the screen shows of the sections that are shown.
+fn paint_sections(
+    alloc: Global,
+    viewport: &mut Viewport<ComponentId>,
+    x: isize,
+    y: isize,
+    views: &[SectionView<'_>],
+) -> Result<(), RecordError>
+    requires y { InRange y }
+    requires picture { PictureInRange (sections_picture (shown_sections false views.now) viewport.old.canvas.sight x y) }
+    ensures ok { OnOk result (IsPainted viewport.old.canvas viewport.new.canvas (sections_picture (shown_sections false views.now) viewport.old.canvas.sight x y)) }
+    ensures counts { OnOk result (viewport.new.counts ≡ added viewport.old.counts (sections_counts (shown_sections false views.now) viewport.old.canvas.sight.rect y)) }
+    ensures rect { viewport.new.canvas.sight.rect ≡ viewport.old.canvas.sight.rect }
+    ensures err { IfErr result (λ e. e ≡ OutOfMemory) }
+{
+    let mut row = y;
+    let mut before = false;
+    for (index, view) in views.iter().enumerate() {
+        let shown = is_shown(before, view, is_open_at(views, index + 1));
+        paint_section(alloc, viewport, x, row, view, shown)?;
         row = row_below(row, view, shown);
         before = view.is_open();
     }
@@ -232,15 +283,60 @@ impl<'a> FileView<'a> {
     }
 }
 
+impl<'a> FileView<'a> {
+    /// Paints the file's header, and what the screen shows of its sections.
+    fn paint_parts(
+        &self,
+        alloc: Global,
+        viewport: &mut Viewport<ComponentId>,
+        x: isize,
+        y: isize,
+    ) -> Result<(), RecordError>
+        requires { PictureInRange (file_picture self.now viewport.old.canvas.sight x y) }
+        ensures ok { OnOk result (IsPainted viewport.old.canvas viewport.new.canvas (file_picture self.now viewport.old.canvas.sight x y)) }
+        ensures counts { OnOk result (viewport.new.counts ≡ added viewport.old.counts (file_counts (shown_file self.now) viewport.old.canvas.sight.rect y)) }
+        ensures rect { viewport.new.canvas.sight.rect ≡ viewport.old.canvas.sight.rect }
+        ensures err { IfErr result (λ e. e ≡ OutOfMemory) }
+    {
+        let header = self.header();
+        viewport.draw_component(x, y, &header)?;
+        if self.expand_box.is_open() {
+            paint_sections(alloc, viewport, x + 2, y + 1, self.section_views.as_slice())
+        } else {
+            Ok(())
+        }
+    }
+
+    /// Paints what the screen shows of the file, whose last row is above this one.
+    pub(crate) fn paint(
+        &self,
+        alloc: Global,
+        viewport: &mut Viewport<ComponentId>,
+        x: isize,
+        y: isize,
+        below: isize,
+    ) -> Result<(), RecordError>
+        requires below { below ≡ y +ℤ pos (length (file_rows (shown_file self.now))) }
+        requires picture { PictureInRange (file_picture self.now viewport.old.canvas.sight x y) }
+        ensures ok { OnOk result (IsPainted viewport.old.canvas viewport.new.canvas (file_picture self.now viewport.old.canvas.sight x y)) }
+        ensures counts { OnOk result (viewport.new.counts ≡ added viewport.old.counts (file_counts (shown_file self.now) viewport.old.canvas.sight.rect y)) }
+        ensures rect { viewport.new.canvas.sight.rect ≡ viewport.old.canvas.sight.rect }
+        ensures err { IfErr result (λ e. e ≡ OutOfMemory) }
+    {
+        if is_seen(viewport, y, below) {
+            self.paint_parts(alloc, viewport, x, y)
+        } else {
+            Ok(())
+        }
+    }
+}
+
 impl<'a> Component for FileView<'a> {
     type Id = ComponentId;
 
-    ghost use Rattle.scm_view.specs.Pictures.{file_picture};
     ghost use Rattle.scm_view.specs.Rows.{file_id};
 
     ghost key = { λ v. file_id v.file_key };
-
-    ghost use Rattle.scm_view.specs.Counts.{file_counts};
 
     ghost picture = { file_picture };
 

@@ -10,15 +10,16 @@ ghost use Rattle.scm_types.specs.declared.section.Section.TheVariants.{Changed};
 ghost use Rattle.scm_view.specs.Texts.{section_text, mode_change_text, binary_text, dots_text};
 ghost use Rattle.scm_view.specs.Rows.{SectionRow, MarkRow, DotsRow, mark_of, line_key_of, section_box, line_box, section_heading, is_fold_open, line_number, numbered_row, numbered_rows, changed_row, changed_rows, context_rows, section_rows, is_selected, is_line_selected, is_header_selected, is_first, is_last, is_open, are_all_shown, lines_above, has_dots, first_below, rows_below, shown_lines, rows_of, dots_height, lines_height, context_height, changed_height, section_height};
 ghost use Rattle.scm_view.specs.Spans.{no_lines, context_lines, lines_of};
-ghost use Rattle.scm_view.specs.Pictures.{IdPicture, row_picture, rows_picture};
+ghost use Rattle.scm_view.specs.Pictures.{IdPicture, row_picture, rows_picture, section_picture};
 ghost use Rattle.scm_view.specs.Tops.{context_kinds, has_context_row, is_wide_of, kinds_of, section_top_of};
+ghost use Rattle.scm_view.specs.Paints.{IsPainted};
 
 use crate::heading::draw_heading;
 use crate::ids::ComponentId;
 use crate::line_rows::LineRows;
 use crate::reach::{cover_rest, highlight};
 use crate::section_line_view::{SectionLineView, SectionLineViewInner};
-use crate::shown::{begin_row, show_box, show_span, show_text};
+use crate::shown::{begin_row, is_seen, rows_above, show_box, show_span, show_text};
 use crate::texts::{binary_text, dots_text, mode_change_text, section_text};
 use crate::tops::{RowKinds, SectionTop};
 use crate::tristate_box::{TristateBox, TristateIconStyle};
@@ -231,8 +232,32 @@ impl<'a> SectionView<'a> {
         Ok(())
     }
 
-    /// Draws changed lines.
+    /// Draws changed lines, the first of which has this index.
     fn draw_changed_lines(
+        &self,
+        viewport: &mut Viewport<ComponentId>,
+        x: isize,
+        y: isize,
+        first: usize,
+        lines: &[SectionChangedLine<'a>],
+    ) -> Result<(), RecordError>
+        requires index { first + length lines.now ≤ 2 ^ 64 - 1 }
+        requires picture { PictureInRange (rows_picture (changed_rows self.now first lines.now) viewport.old.canvas.sight x y) }
+        ensures ok { OnOk result (viewport.new.canvas ≡ with_picture viewport.old.canvas (rows_picture (changed_rows self.now first lines.now) viewport.old.canvas.sight x y)) }
+        ensures counts { OnOk result (viewport.new.counts ≡ added viewport.old.counts (rows_counts (changed_rows self.now first lines.now) viewport.old.canvas.sight.rect y)) }
+        ensures rect { viewport.new.canvas.sight.rect ≡ viewport.old.canvas.sight.rect }
+        ensures err { IfErr result (λ e. e ≡ OutOfMemory) }
+    {
+        let mut row = y;
+        for (index, line) in lines.iter().enumerate() {
+            self.draw_changed_row(viewport, x, row, first + index, line)?;
+            row += 1;
+        }
+        Ok(())
+    }
+
+    /// Paints those of the changed lines that are on the screen.
+    fn paint_changed_lines(
         &self,
         viewport: &mut Viewport<ComponentId>,
         x: isize,
@@ -240,17 +265,16 @@ impl<'a> SectionView<'a> {
         lines: &[SectionChangedLine<'a>],
     ) -> Result<(), RecordError>
         requires { PictureInRange (rows_picture (changed_rows self.now 0 lines.now) viewport.old.canvas.sight x y) }
-        ensures ok { OnOk result (viewport.new.canvas ≡ with_picture viewport.old.canvas (rows_picture (changed_rows self.now 0 lines.now) viewport.old.canvas.sight x y)) }
+        ensures ok { OnOk result (IsPainted viewport.old.canvas viewport.new.canvas (rows_picture (changed_rows self.now 0 lines.now) viewport.old.canvas.sight x y)) }
         ensures counts { OnOk result (viewport.new.counts ≡ added viewport.old.counts (rows_counts (changed_rows self.now 0 lines.now) viewport.old.canvas.sight.rect y)) }
         ensures rect { viewport.new.canvas.sight.rect ≡ viewport.old.canvas.sight.rect }
         ensures err { IfErr result (λ e. e ≡ OutOfMemory) }
     {
-        let mut row = y;
-        for (index, line) in lines.iter().enumerate() {
-            self.draw_changed_row(viewport, x, row, index, line)?;
-            row += 1;
-        }
-        Ok(())
+        let screen = viewport.rect();
+        let first = rows_above(y, screen.y, lines.len());
+        let end = rows_above(y, screen.end_y(), lines.len());
+        let upper = &lines[..end];
+        self.draw_changed_lines(viewport, x, y.strict_add_unsigned(first), first, &upper[first..])
     }
 
     /// Draws the first row of a section of changed lines.
@@ -703,7 +727,79 @@ impl<'a> SectionView<'a> {
     {
         self.draw_header(alloc, viewport, x, y)?;
         if self.expand_box.is_open() {
-            self.draw_changed_lines(viewport, x, y + 1, lines)
+            self.draw_changed_lines(viewport, x, y + 1, 0, lines)
+        } else {
+            Ok(())
+        }
+    }
+}
+
+impl<'a> SectionView<'a> {
+    /// Paints a section of changed lines.
+    fn paint_changed(
+        &self,
+        alloc: Global,
+        viewport: &mut Viewport<ComponentId>,
+        x: isize,
+        y: isize,
+        lines: &[SectionChangedLine<'a>],
+    ) -> Result<(), RecordError>
+        requires { PictureInRange (rows_picture (rows_of self.now (Changed lines.now)) viewport.old.canvas.sight x y) }
+        ensures ok { OnOk result (IsPainted viewport.old.canvas viewport.new.canvas (rows_picture (rows_of self.now (Changed lines.now)) viewport.old.canvas.sight x y)) }
+        ensures counts { OnOk result (viewport.new.counts ≡ added viewport.old.counts (rows_counts (rows_of self.now (Changed lines.now)) viewport.old.canvas.sight.rect y)) }
+        ensures rect { viewport.new.canvas.sight.rect ≡ viewport.old.canvas.sight.rect }
+        ensures err { IfErr result (λ e. e ≡ OutOfMemory) }
+    {
+        self.draw_header(alloc, viewport, x, y)?;
+        if self.expand_box.is_open() {
+            self.paint_changed_lines(viewport, x, y + 1, lines)
+        } else {
+            Ok(())
+        }
+    }
+
+    /// Paints the section, some of whose rows are on the screen.
+    fn paint_rows(
+        &self,
+        alloc: Global,
+        viewport: &mut Viewport<ComponentId>,
+        x: isize,
+        y: isize,
+    ) -> Result<(), RecordError>
+        requires { PictureInRange (section_picture self.now viewport.old.canvas.sight x y) }
+        ensures ok { OnOk result (IsPainted viewport.old.canvas viewport.new.canvas (section_picture self.now viewport.old.canvas.sight x y)) }
+        ensures counts { OnOk result (viewport.new.counts ≡ added viewport.old.counts (rows_counts (section_rows self.now) viewport.old.canvas.sight.rect y)) }
+        ensures rect { viewport.new.canvas.sight.rect ≡ viewport.old.canvas.sight.rect }
+        ensures err { IfErr result (λ e. e ≡ OutOfMemory) }
+    {
+        match self.section {
+            Section::Unchanged { .. } => self.draw(alloc, viewport, x, y),
+            Section::Changed { lines } => {
+                self.paint_changed(alloc, viewport, x, y, lines.as_slice())
+            }
+            Section::FileMode { .. } => self.draw(alloc, viewport, x, y),
+            Section::Binary { .. } => self.draw(alloc, viewport, x, y),
+        }
+    }
+
+    /// Paints what the screen shows of the section.
+    pub(crate) fn paint(
+        &self,
+        alloc: Global,
+        viewport: &mut Viewport<ComponentId>,
+        x: isize,
+        y: isize,
+    ) -> Result<(), RecordError>
+        requires y { InRange y }
+        requires end { InRange (y +ℤ pos (section_height self.now self.now.section.now)) }
+        requires picture { PictureInRange (section_picture self.now viewport.old.canvas.sight x y) }
+        ensures ok { OnOk result (IsPainted viewport.old.canvas viewport.new.canvas (section_picture self.now viewport.old.canvas.sight x y)) }
+        ensures counts { OnOk result (viewport.new.counts ≡ added viewport.old.counts (rows_counts (section_rows self.now) viewport.old.canvas.sight.rect y)) }
+        ensures rect { viewport.new.canvas.sight.rect ≡ viewport.old.canvas.sight.rect }
+        ensures err { IfErr result (λ e. e ≡ OutOfMemory) }
+    {
+        if is_seen(viewport, y, self.row_below(y)) {
+            self.paint_rows(alloc, viewport, x, y)
         } else {
             Ok(())
         }
@@ -713,7 +809,6 @@ impl<'a> SectionView<'a> {
 impl<'a> Component for SectionView<'a> {
     type Id = ComponentId;
 
-    ghost use Rattle.scm_view.specs.Pictures.{section_picture};
     ghost use Rattle.scm_view.specs.Rows.{section_id};
 
     ghost key = { λ v. section_id v.section_key };

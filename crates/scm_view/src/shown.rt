@@ -1,6 +1,6 @@
 //! What is drawn where the screen has its row, and noted elsewhere: the boxes are the same, and nothing
 //! is put.
-ghost use Rattle.std.specs.Prelude.{◌≡◌, ◌<◌, ◌^◌, ◌∷◌, [], length, false, OnOk, IfErr};
+ghost use Rattle.std.specs.Prelude.{◌≡◌, ◌<◌, ◌≤◌, ◌^◌, ◌∷◌, [], length, false, OnOk, IfErr};
 ghost use Rattle.scm_cells.specs.Counts.{added, one_row, one_call};
 ghost use Rattle.scm_cells.specs.Spans.{span_texts};
 ghost use Rattle.scm_render.specs.Picture.{PictureInRange};
@@ -11,11 +11,12 @@ ghost use Rattle.scm_view.specs.declared.ids.ComponentId.{ComponentId};
 ghost use Rattle.scm_view.specs.Pictures.{box_part};
 ghost use Rattle.scm_view.specs.Buttons.{button_part};
 ghost use Rattle.scm_view.specs.Counts.{on_row};
+ghost use Rattle.scm_view.specs.Paints.{is_seen, rows_above};
 
 use crate::button::Button;
 use crate::button_row::button_width;
 use crate::ids::ComponentId;
-use crate::reach::cover_rect;
+use crate::reach::{columns, cover_rect};
 use crate::tristate_box::TristateBox;
 use scm_cells::{Rect, Span, text_width};
 use scm_render::Viewport;
@@ -41,6 +42,23 @@ fn is_on_screen(viewport: &Viewport<ComponentId>, y: isize) -> bool
 {
     let rect = viewport.rect();
     rect.y <= y && y < rect.end_y()
+}
+
+/// The screen has one of the rows from one on and above another.
+pub(crate) fn is_seen(viewport: &Viewport<ComponentId>, y: isize, below: isize) -> bool
+    ensures test { result ≡ is_seen viewport.now.canvas.sight.rect y below }
+    ensures rows { length viewport.now.canvas.rows ≡ viewport.now.canvas.sight.rect.height }
+{
+    let rect = viewport.rect();
+    rect.y < below && y < rect.end_y()
+}
+
+/// Of so many rows from one on, how many stand above another.
+pub(crate) fn rows_above(y: isize, row: isize, count: usize) -> usize
+    ensures value { result ≡ rows_above y row count }
+    ensures most { result ≤ count }
+{
+    columns(y, row).min(count)
 }
 
 /// Begins a row, if the screen has it.

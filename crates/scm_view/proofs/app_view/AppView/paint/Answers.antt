@@ -1,30 +1,55 @@
-use Rattle.std.proofs.Common.{◌≡◌, ◌∙◌, pos, arith, length, w64, to_z}
+use Rattle.std.proofs.Common.{◌≡◌, ◌∙◌, pos, ap, arith, length, replicate, w64, to_z}
 use Rattle.std.proofs.lemmas.Int.{to_z_pos}
+use Rattle.std.proofs.lemmas.List.{length-replicate}
+use Rattle.scm_cells.specs.Counts.{no_counts}
+use Rattle.scm_cells.specs.Screen.{Screen}
+use Rattle.scm_render.specs.Canvas.{Canvas}
+use Rattle.scm_render.proofs.PictureLemmas.{PictureInRange-part}
+use Rattle.scm_view.specs.declared.ids.ComponentId.{ComponentId}
+use Rattle.scm_view.specs.Blanks.{blank_row}
+use Rattle.scm_view.specs.Screens.{sight}
+use Rattle.scm_view.proofs.RowsLemmas.{on-ok}
 use Rattle.scm_view.proofs.AppRangeLemmas.{apps-in-range}
-use Rattle.scm_view.proofs.WindowLemmas.{shows-window}
-use Rattle.scm_view.proofs.ScreenLemmas.{screen-in_range, cleared-screen, cleared-sight, cleared-rows}
+use Rattle.scm_view.proofs.PaintsAppLemmas.{window-painted, few-painted}
 use Rattle.scm_view.proofs.app_view.AppView.paint.Goals as goal
 
-pub render_top_level-requires-clause-place : goal.render_top_level-requires-clause-place
-render_top_level-requires-clause-place c =
-    let y : to_z w64 c.args.scroll ≡ pos c.args.scroll = to_z_pos w64 c.args.scroll (omega (arith, c.requires.scroll)) in
-    let plain = c.requires.shows.2 in
-    rw (y, c.clear.ensures, cleared-screen c.args.grid.now.width (length c.args.grid.now.rows) c.args.scroll)
-    (screen-in_range c.args.grid.now.width (length c.args.grid.now.rows) c.args.scroll plain.width plain.height c.requires.scroll)
-
-pub render_top_level-requires-clause-picture : goal.render_top_level-requires-clause-picture
-render_top_level-requires-clause-picture c =
-    let y : to_z w64 c.args.scroll ≡ pos c.args.scroll = to_z_pos w64 c.args.scroll (omega (arith, c.requires.scroll)) in
-    let shown = c.requires.shows.0 in
-    let plain = c.requires.shows.2 in
-    rw (y, c.clear.ensures, cleared-sight c.args.grid.now.width (length c.args.grid.now.rows) c.args.scroll)
-    (apps-in-range shown c.args.self.now c.args.grid.now.width (length c.args.grid.now.rows) c.args.scroll (pos 0)
-    c.requires.shows.1 plain.shows plain.width plain.height c.requires.scroll)
-
-pub returns-clause-ok : goal.returns-clause-ok
-returns-clause-ok c = λ shown plain.
+pub paint_inline-outcome-requires-clause-picture : goal.paint_inline-outcome-requires-clause-picture
+paint_inline-outcome-requires-clause-picture c =
     let w = c.args.grid.now.width in
     let h = length c.args.grid.now.rows in
     let y : to_z w64 c.args.scroll ≡ pos c.args.scroll = to_z_pos w64 c.args.scroll (omega (arith, c.requires.scroll)) in
-    cleared-rows w h c.args.scroll c.args.self.now c.clear.new.self (to_z w64 c.args.scroll) c.render_top_level.new.grid.rows c.clear.ensures y c.in_ok-render_top_level.ensures.rows
-    ∙ shows-window shown c.args.self.now w h c.args.scroll plain
+    let wide : c.width.result ≡ w = c.width.ensures.value ∙ ap (λ (g : Screen). g.width) c.clear.ensures in
+    let tall : c.height.result ≡ h = c.height.ensures.value ∙ ap (λ (g : Screen). length g.rows) c.clear.ensures ∙ length-replicate h (blank_row w) in
+    let whole = c.replace.ensures.value ∙ c.clear.ensures in
+    let seen : c.new-viewport.result.canvas.sight ≡ sight w h c.args.scroll =
+    rw (y, wide, tall) at (ap (λ (v : Canvas ComponentId). v.sight) c.new-viewport.ensures.canvas) in
+    let plain = c.requires.shows.2 in
+    rw seen (PictureInRange-part _ _ (apps-in-range c.requires.shows.0 c.args.self.now w h c.args.scroll (pos 0) c.requires.shows.1 plain.shows plain.width plain.height c.requires.scroll))
+
+pub returns-clause-ok : goal.returns-clause-ok
+returns-clause-ok c =
+    let w = c.args.grid.now.width in
+    let h = length c.args.grid.now.rows in
+    let y : to_z w64 c.args.scroll ≡ pos c.args.scroll = to_z_pos w64 c.args.scroll (omega (arith, c.requires.scroll)) in
+    let wide : c.width.result ≡ w = c.width.ensures.value ∙ ap (λ (g : Screen). g.width) c.clear.ensures in
+    let tall : c.height.result ≡ h = c.height.ensures.value ∙ ap (λ (g : Screen). length g.rows) c.clear.ensures ∙ length-replicate h (blank_row w) in
+    let whole = c.replace.ensures.value ∙ c.clear.ensures in
+    let seen : c.new-viewport.result.canvas.sight ≡ sight w h c.args.scroll =
+    rw (y, wide, tall) at (ap (λ (v : Canvas ComponentId). v.sight) c.new-viewport.ensures.canvas) in
+    let blank : c.new-viewport.result.canvas.rows ≡ replicate h (blank_row w) = ap (λ (v : Canvas ComponentId). v.rows) c.new-viewport.ensures.canvas ∙ ap (λ (g : Screen). g.rows) whole in
+    on-ok _ (window-painted c.new-viewport.result.canvas c.paint_inline-outcome.new.viewport.canvas c.args.self.now w h c.args.scroll c.into_grid.result.rows seen blank c.into_grid.ensures.rows)
+    c.paint_inline-outcome.ensures.ok
+
+pub returns-clause-few : goal.returns-clause-few
+returns-clause-few c =
+    let w = c.args.grid.now.width in
+    let h = length c.args.grid.now.rows in
+    let y : to_z w64 c.args.scroll ≡ pos c.args.scroll = to_z_pos w64 c.args.scroll (omega (arith, c.requires.scroll)) in
+    let wide : c.width.result ≡ w = c.width.ensures.value ∙ ap (λ (g : Screen). g.width) c.clear.ensures in
+    let tall : c.height.result ≡ h = c.height.ensures.value ∙ ap (λ (g : Screen). length g.rows) c.clear.ensures ∙ length-replicate h (blank_row w) in
+    let whole = c.replace.ensures.value ∙ c.clear.ensures in
+    let seen : c.new-viewport.result.canvas.sight ≡ sight w h c.args.scroll =
+    rw (y, wide, tall) at (ap (λ (v : Canvas ComponentId). v.sight) c.new-viewport.ensures.canvas) in
+    let none : c.new-viewport.result.counts ≡ no_counts = c.new-viewport.ensures.counts ∙ ap (λ (g : Screen). g.counts) whole in
+    on-ok _ (few-painted c.new-viewport.result.counts c.paint_inline-outcome.new.viewport.counts c.into_grid.result.counts c.args.self.now c.requires.shows.0 w h c.args.scroll c.new-viewport.result.canvas.sight c.requires.shows.2 seen none c.into_grid.ensures.counts)
+    c.paint_inline-outcome.ensures.counts

@@ -18,8 +18,8 @@ overflow_add-y c =
     let fy : FitsSigned w64 c.args.y = c.ranges.y in
     simp to_z-of_z (InRange-fits _ (row-end _ _ _ _ (row-first _ _ _ _ _ c.requires)))
 
-pub draw_changed_lines-requires : goal.draw_changed_lines-requires
-draw_changed_lines-requires c =
+pub draw_changed_lines-requires-clause-picture : goal.draw_changed_lines-requires-clause-picture
+draw_changed_lines-requires-clause-picture c =
     let fx : FitsSigned w64 c.args.x = c.ranges.x in
     let fy : FitsSigned w64 c.args.y = c.ranges.y in
     let next : FitsSigned w64 (c.args.y +ℤ pos 1) = InRange-fits _ (row-end _ _ _ _ (row-first _ _ _ _ _ c.requires)) in

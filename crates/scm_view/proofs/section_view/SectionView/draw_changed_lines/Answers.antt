@@ -11,26 +11,26 @@ use Rattle.scm_view.proofs.section_view.SectionView.draw_changed_lines.Goals as 
 pub draw_changed_row-requires : goal.draw_changed_row-requires
 draw_changed_row-requires c =
     let fx : FitsSigned w64 c.args.x = c.ranges.x in
-    let more = rows_picture-more _ _ _ c.args.viewport.now.canvas.sight c.args.x c.loop-index.row (changed_rows-more c.args.self.now c.args.lines.now c.loop-index.index c.index-lines-index.result c.loop-index-test.true) in
+    let more = rows_picture-more _ _ _ c.args.viewport.now.canvas.sight c.args.x c.loop-index.row (changed_rows-more c.args.self.now c.args.first c.args.lines.now c.loop-index.index c.index-lines-index.result c.loop-index-test.true) in
     let rest = rw more at (simp (to_z-of_z, c.loop-index.row-is) at c.loop-index.invariant.in_range) in
     rw c.index-lines-index.is (simp (to_z-of_z, c.loop-index.row-is) (simp c.loop-index.invariant.sight (PictureInRange-left _ _ rest)))
 
 pub overflow_add-row : goal.overflow_add-row
 overflow_add-row c =
     let fx : FitsSigned w64 c.args.x = c.ranges.x in
-    let more = rows_picture-more _ _ _ c.args.viewport.now.canvas.sight c.args.x c.loop-index.row (changed_rows-more c.args.self.now c.args.lines.now c.loop-index.index c.index-lines-index.result c.loop-index-test.true) in
+    let more = rows_picture-more _ _ _ c.args.viewport.now.canvas.sight c.args.x c.loop-index.row (changed_rows-more c.args.self.now c.args.first c.args.lines.now c.loop-index.index c.index-lines-index.result c.loop-index-test.true) in
     let rest = rw more at (simp (to_z-of_z, c.loop-index.row-is) at c.loop-index.invariant.in_range) in
     simp c.loop-index.row-is (InRange-fits _ (row-end _ _ _ _ (PictureInRange-left _ _ rest)))
 
 pub loop-index-preserved : goal.loop-index-preserved
 loop-index-preserved c =
     let fx : FitsSigned w64 c.args.x = c.ranges.x in
-    let more = rows_picture-more _ _ _ c.args.viewport.now.canvas.sight c.args.x c.loop-index.row (changed_rows-more c.args.self.now c.args.lines.now c.loop-index.index c.index-lines-index.result c.loop-index-test.true) in
+    let more = rows_picture-more _ _ _ c.args.viewport.now.canvas.sight c.args.x c.loop-index.row (changed_rows-more c.args.self.now c.args.first c.args.lines.now c.loop-index.index c.index-lines-index.result c.loop-index-test.true) in
     let rest = rw more at (simp (to_z-of_z, c.loop-index.row-is) at c.loop-index.invariant.in_range) in
     let whole = rw more at (simp (to_z-of_z, c.loop-index.row-is) at c.loop-index.invariant.whole) in
     let below : FitsSigned w64 (c.loop-index.row +ℤ pos 1) = InRange-fits _ (row-end _ _ _ _ (PictureInRange-left _ _ rest)) in
     let drawn = simp c.loop-index.invariant.sight at (simp (to_z-of_z, c.loop-index.row-is) at (rw c.index-lines-index.is at c.in_ok-draw_changed_row.ensures.ok)) in
-    let count = rows_counts-more _ _ _ c.args.viewport.now.canvas.sight.rect c.loop-index.row (changed_rows-more c.args.self.now c.args.lines.now c.loop-index.index c.index-lines-index.result c.loop-index-test.true) in
+    let count = rows_counts-more _ _ _ c.args.viewport.now.canvas.sight.rect c.loop-index.row (changed_rows-more c.args.self.now c.args.first c.args.lines.now c.loop-index.index c.index-lines-index.result c.loop-index-test.true) in
     let left = simp (to_z-of_z, c.loop-index.row-is) at c.loop-index.invariant.counts in
     let counted = simp c.loop-index.invariant.sight at (simp (to_z-of_z, c.loop-index.row-is) at c.in_ok-draw_changed_row.ensures.counts) in
     simp c.loop-index.row-is (simp to_z-of_z (record {
@@ -44,7 +44,7 @@ pub returns-clause-ok : goal.returns-clause-ok
 returns-clause-ok c =
     let fx : FitsSigned w64 c.args.x = c.ranges.x in
     let fy : FitsSigned w64 c.args.y = c.ranges.y in
-    let end = rows_picture-end _ c.args.viewport.now.canvas.sight c.args.x c.loop-index.row (changed_rows-end c.args.self.now c.args.lines.now c.loop-index.index c.loop-index-test.false) in
+    let end = rows_picture-end _ c.args.viewport.now.canvas.sight c.args.x c.loop-index.row (changed_rows-end c.args.self.now c.args.first c.args.lines.now c.loop-index.index c.loop-index-test.false) in
     let whole = rw end at (simp (to_z-of_z, c.loop-index.row-is) at c.loop-index.invariant.whole) in
     sym (with_picture-nothing _) ∙ whole
 
@@ -53,4 +53,4 @@ returns-clause-counts c =
     let fx : FitsSigned w64 c.args.x = c.ranges.x in
     let fy : FitsSigned w64 c.args.y = c.ranges.y in
     let left = simp (to_z-of_z, c.loop-index.row-is) at c.loop-index.invariant.counts in
-    counts-end _ _ _ _ (rows_counts-end _ c.args.viewport.now.canvas.sight.rect c.loop-index.row (changed_rows-end c.args.self.now c.args.lines.now c.loop-index.index c.loop-index-test.false)) left
+    counts-end _ _ _ _ (rows_counts-end _ c.args.viewport.now.canvas.sight.rect c.loop-index.row (changed_rows-end c.args.self.now c.args.first c.args.lines.now c.loop-index.index c.loop-index-test.false)) left

@@ -1,0 +1,103 @@
+use Rattle.std.proofs.Common.{FitsSigned, w64}
+use Rattle.std.specs.Prelude.{ℤ, Option}
+use Rattle.std.proofs.lemmas.Int.{to_z-of_z}
+use Rattle.scm_cells.specs.Rect.{RectInRange}
+use Rattle.scm_render.specs.Canvas.{Sight}
+use Rattle.scm_render.specs.Picture.{Picture, followed_by, part}
+use Rattle.scm_render.proofs.PictureLemmas.{PictureInRange-left, PictureInRange-right, PictureInRange-part}
+use Rattle.scm_render.proofs.StepLemmas.{InRange-fits, rest}
+use Rattle.scm_view.proofs.PaintsLemmas.{rest-in}
+use Rattle.scm_view.proofs.PaintsAppLemmas.{four-painted}
+use Rattle.std.proofs.Common.{◌≡◌}
+use Rattle.std.specs.Prelude.{pos}
+use Rattle.scm_cells.specs.Counts.{added}
+use Rattle.scm_view.specs.AppView.{shown_views, view_width, views_counts}
+use Rattle.scm_view.specs.declared.ids.ComponentId.{ComponentId}
+use Rattle.scm_view.specs.declared.ids.ComponentId.TheVariants as ids
+use Rattle.scm_view.specs.declared.menu_bar.MenuBar.{MenuBar}
+use Rattle.scm_view.specs.declared.quit_dialog.QuitDialog.{QuitDialog}
+use Rattle.scm_view.specs.declared.help_dialog.HelpDialog.{HelpDialog}
+use Rattle.scm_view.specs.Menus.{menu_bar_picture}
+use Rattle.scm_view.specs.Overlays.{quit_picture, help_picture}
+use Rattle.scm_view.specs.AppView.{has_help, app_picture}
+use Rattle.scm_view.proofs.RowsLemmas.{on-ok}
+use Rattle.scm_view.proofs.AppLemmas.{bar-below}
+use Rattle.scm_view.proofs.CountLemmas.{app-counted}
+use Rattle.scm_view.proofs.app_view.AppView.paint_inline.Goals as goal
+
+abbrev bar : MenuBar → ℤ → ℤ → Sight → Picture ComponentId
+bar b x y s = part ids.MenuBar (menu_bar_picture b s x y)
+
+abbrev quit : Option QuitDialog → Sight → Picture ComponentId
+quit q s = quit_picture q s
+
+abbrev help : Option HelpDialog → Sight → Picture ComponentId
+help h s = help_picture (has_help h) s
+
+pub paint_first-requires-clause-below : goal.paint_first-requires-clause-below
+unfolding app_picture
+paint_first-requires-clause-below c = bar-below _ _ _ _ (PictureInRange-part _ _ (PictureInRange-left _ _ (PictureInRange-right _ _ c.requires.picture)))
+
+pub paint_first-requires-clause-picture : goal.paint_first-requires-clause-picture
+unfolding app_picture
+paint_first-requires-clause-picture c =
+    rw (c.as_slice.ensures, c.rect-screen.ensures.value) (PictureInRange-left _ _ (rw c.requires.inline at c.requires.picture))
+
+pub draw_component-requires : goal.draw_component-requires
+unfolding app_picture
+draw_component-requires c =
+    let s = c.args.viewport.now.canvas.sight in
+    let a = c.args.self.now in
+    let all = rw c.requires.inline at c.requires.picture in
+    let r : RectInRange s.rect = rw c.rect-screen.ensures.value at c.rect-screen.ensures.in_range in
+    let fy : FitsSigned w64 s.rect.y = InRange-fits _ r.y in
+    let views = rw (c.as_slice.ensures, c.rect-screen.ensures.value) at c.in_ok-paint_first.ensures.ok in
+    let over = rest-in _ _ _ (λ t. followed_by (bar a.menu_bar (pos 0) s.rect.y t) (followed_by (quit a.quit_dialog t) (help a.help_dialog t))) views all in
+    rw c.rect-screen.ensures.value (simp to_z-of_z (PictureInRange-left _ _ over))
+
+pub draw_quit-requires : goal.draw_quit-requires
+unfolding app_picture
+draw_quit-requires c =
+    let s = c.args.viewport.now.canvas.sight in
+    let a = c.args.self.now in
+    let all = rw c.requires.inline at c.requires.picture in
+    let r : RectInRange s.rect = rw c.rect-screen.ensures.value at c.rect-screen.ensures.in_range in
+    let fy : FitsSigned w64 s.rect.y = InRange-fits _ r.y in
+    let views = rw (c.as_slice.ensures, c.rect-screen.ensures.value) at c.in_ok-paint_first.ensures.ok in
+    let over = rest-in _ _ _ (λ t. followed_by (bar a.menu_bar (pos 0) s.rect.y t) (followed_by (quit a.quit_dialog t) (help a.help_dialog t))) views all in
+    let menus = simp to_z-of_z at (rw c.rect-screen.ensures.value at c.in_ok-draw_component.ensures.ok) in
+    let dialogs = rest _ _ _ (λ t. followed_by (quit a.quit_dialog t) (help a.help_dialog t)) menus over in
+    PictureInRange-left _ _ dialogs
+
+pub draw_help-requires : goal.draw_help-requires
+unfolding app_picture
+draw_help-requires c =
+    let s = c.args.viewport.now.canvas.sight in
+    let a = c.args.self.now in
+    let all = rw c.requires.inline at c.requires.picture in
+    let r : RectInRange s.rect = rw c.rect-screen.ensures.value at c.rect-screen.ensures.in_range in
+    let fy : FitsSigned w64 s.rect.y = InRange-fits _ r.y in
+    let views = rw (c.as_slice.ensures, c.rect-screen.ensures.value) at c.in_ok-paint_first.ensures.ok in
+    let over = rest-in _ _ _ (λ t. followed_by (bar a.menu_bar (pos 0) s.rect.y t) (followed_by (quit a.quit_dialog t) (help a.help_dialog t))) views all in
+    let menus = simp to_z-of_z at (rw c.rect-screen.ensures.value at c.in_ok-draw_component.ensures.ok) in
+    let dialogs = rest _ _ _ (λ t. followed_by (quit a.quit_dialog t) (help a.help_dialog t)) menus over in
+    rest _ _ _ (help a.help_dialog) c.in_ok-draw_quit.ensures.ok dialogs
+
+pub returns-clause-ok : goal.returns-clause-ok
+unfolding app_picture
+returns-clause-ok c =
+    let s = c.args.viewport.now.canvas.sight in
+    let a = c.args.self.now in
+    let r : RectInRange s.rect = rw c.rect-screen.ensures.value at c.rect-screen.ensures.in_range in
+    let fy : FitsSigned w64 s.rect.y = InRange-fits _ r.y in
+    let views = rw (c.as_slice.ensures, c.rect-screen.ensures.value) at c.in_ok-paint_first.ensures.ok in
+    let menus = simp to_z-of_z at (rw c.rect-screen.ensures.value at c.in_ok-draw_component.ensures.ok) in
+    rw c.requires.inline (on-ok _ (four-painted _ _ _ _ _ _ (bar a.menu_bar (pos 0) s.rect.y) (quit a.quit_dialog) (help a.help_dialog) views menus c.in_ok-draw_quit.ensures.ok) c.draw_help.ensures.ok)
+
+pub returns-clause-counts : goal.returns-clause-counts
+returns-clause-counts c =
+    let s = c.args.viewport.now.canvas.sight in
+    let a = c.args.self.now in
+    let counted = rw (c.as_slice.ensures, c.rect-screen.ensures.value) at c.in_ok-paint_first.ensures.counts in
+    let views : c.paint_first.new.viewport.counts ≡ added c.args.viewport.now.counts (views_counts (shown_views a) (view_width a.commit_view_mode s.rect.width) s (pos 0)) = rw c.requires.inline counted in
+    on-ok _ (app-counted _ _ _ _ _ a s (pos 0) views c.in_ok-draw_component.ensures.counts c.in_ok-draw_quit.ensures.counts) c.draw_help.ensures.counts

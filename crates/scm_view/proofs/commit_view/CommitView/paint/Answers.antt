@@ -1,0 +1,52 @@
+use Rattle.std.proofs.Common.{List, ℕ, map, FitsSigned, w64}
+use Rattle.std.specs.Prelude.{ℤ, pos, ◌+ℤ◌}
+use Rattle.std.proofs.lemmas.Int.{to_z-of_z}
+use Rattle.scm_render.specs.Canvas.{Sight}
+use Rattle.scm_render.proofs.PictureLemmas.{PictureInRange-left}
+use Rattle.scm_view.specs.Rows.{ShownFile, shown_file, message_height}
+use Rattle.scm_view.specs.Pictures.{IdPicture, commit_message_picture, body_picture, document_picture, commit_picture}
+use Rattle.scm_view.proofs.PaintsLemmas.{drawn-painted, painted-step, rest-in}
+use Rattle.scm_view.proofs.RowsLemmas.{on-ok}
+use Rattle.scm_view.specs.Counts.{document_counts}
+use Rattle.scm_render.proofs.CountLemmas.{counts-then}
+use Rattle.scm_render.proofs.StepLemmas.{sight-after}
+use Rattle.scm_view.proofs.commit_view.CommitView.paint.Goals as goal
+
+abbrev body : List ShownFile → ℕ → ℤ → ℤ → Sight → IdPicture
+body fs n x y s = body_picture fs s x y (y +ℤ pos n)
+
+pub draw_component-requires : goal.draw_component-requires
+unfolding commit_picture document_picture commit_message_picture
+draw_component-requires c =
+    let fx : FitsSigned w64 c.args.x = c.ranges.x in
+    let fy : FitsSigned w64 c.args.y = c.ranges.y in
+    simp to_z-of_z (PictureInRange-left _ _ c.requires)
+
+pub paint_body-requires : goal.paint_body-requires
+unfolding commit_picture document_picture commit_message_picture
+paint_body-requires c =
+    let fx : FitsSigned w64 c.args.x = c.ranges.x in
+    let fy : FitsSigned w64 c.args.y = c.ranges.y in
+    let v = c.args.self.now in
+    let message = simp to_z-of_z at c.in_ok-draw_component.ensures.ok in
+    rw (c.as_slice.ensures, c.height-height.ensures) (simp to_z-of_z (rest-in _ _ _ (body (map shown_file v.file_views) (message_height v.commit_message_view.commit.now.message) c.args.x c.args.y) (drawn-painted _ _ _ message) c.requires))
+
+pub returns-clause-ok : goal.returns-clause-ok
+unfolding commit_picture document_picture commit_message_picture
+returns-clause-ok c =
+    let fx : FitsSigned w64 c.args.x = c.ranges.x in
+    let fy : FitsSigned w64 c.args.y = c.ranges.y in
+    let v = c.args.self.now in
+    let message = simp to_z-of_z at c.in_ok-draw_component.ensures.ok in
+    on-ok _ (painted-step _ _ _ _ (body (map shown_file v.file_views) (message_height v.commit_message_view.commit.now.message) c.args.x c.args.y) (drawn-painted _ _ _ message))
+    (rw (c.as_slice.ensures, c.height-height.ensures) at (simp to_z-of_z at c.paint_body.ensures.ok))
+
+pub returns-clause-counts : goal.returns-clause-counts
+unfolding document_counts commit_message_picture
+returns-clause-counts c =
+    let fx : FitsSigned w64 c.args.x = c.ranges.x in
+    let fy : FitsSigned w64 c.args.y = c.ranges.y in
+    let message = simp to_z-of_z at c.in_ok-draw_component.ensures.ok in
+    let counted = simp to_z-of_z at c.in_ok-draw_component.ensures.counts in
+    on-ok _ (counts-then _ _ _ _ _ counted)
+    (rw (c.as_slice.ensures, c.height-height.ensures, sight-after _ _ _ message) at (simp to_z-of_z at c.paint_body.ensures.counts))

@@ -1,0 +1,74 @@
+use Rattle.std.proofs.Common.{sym, length, FitsSigned, w64, ◌+ℤ◌, pos}
+use Rattle.std.specs.Prelude.{ℤ}
+use Rattle.std.proofs.lemmas.Int.{to_z-of_z}
+use Rattle.scm_render.specs.Canvas.{Sight}
+use Rattle.scm_render.proofs.StepLemmas.{InRange-fits}
+use Rattle.scm_render.proofs.CountLemmas.{counts-more, counts-end}
+use Rattle.scm_view.specs.Rows.{ShownFile, shown_file, file_rows}
+use Rattle.scm_view.specs.Pictures.{IdPicture, mask_row, one_file_picture}
+use Rattle.scm_view.proofs.FilesLemmas.{one_file-fits, files_picture-more, files_picture-end}
+use Rattle.scm_view.proofs.CountLemmas.{files_counts-more, files_counts-end}
+use Rattle.scm_view.proofs.PaintsLemmas.{to-part, to-more, to-none}
+use Rattle.scm_view.proofs.commit_view.paint_files.Goals as goal
+
+abbrev one : ShownFile → ℤ → ℤ → Sight → IdPicture
+one f x y s = one_file_picture f s x y
+
+pub paint_file-requires : goal.paint_file-requires
+paint_file-requires c =
+    let fx : FitsSigned w64 c.args.x = c.ranges.x in
+    let v = c.file-item.result in
+    let more = rw (sym c.file-item.is) at (files_picture-more c.args.files.now c.loop-file.file-index v c.args.viewport.now.canvas.sight c.args.x c.loop-file.row c.loop-file-test.true) in
+    let left = simp (to_z-of_z, c.loop-file.row-is) at c.loop-file.invariant.left in
+    let one_in = to-part _ _ (one (shown_file v) c.args.x c.loop-file.row) _ _ _ more left in
+    simp (to_z-of_z, c.loop-file.row-is) one_in
+
+pub row_below-row-requires-clause-y : goal.row_below-row-requires-clause-y
+row_below-row-requires-clause-y c =
+    let fx : FitsSigned w64 c.args.x = c.ranges.x in
+    let v = c.file-item.result in
+    let more = rw (sym c.file-item.is) at (files_picture-more c.args.files.now c.loop-file.file-index v c.args.viewport.now.canvas.sight c.args.x c.loop-file.row c.loop-file-test.true) in
+    let left = simp (to_z-of_z, c.loop-file.row-is) at c.loop-file.invariant.left in
+    let one_in = to-part _ _ (one (shown_file v) c.args.x c.loop-file.row) _ _ _ more left in
+    simp c.loop-file.row-is (one_file-fits (shown_file v) _ _ _ one_in).next
+
+pub row_below-row-requires-clause-end : goal.row_below-row-requires-clause-end
+row_below-row-requires-clause-end c =
+    let fx : FitsSigned w64 c.args.x = c.ranges.x in
+    let v = c.file-item.result in
+    let more = rw (sym c.file-item.is) at (files_picture-more c.args.files.now c.loop-file.file-index v c.args.viewport.now.canvas.sight c.args.x c.loop-file.row c.loop-file-test.true) in
+    let left = simp (to_z-of_z, c.loop-file.row-is) at c.loop-file.invariant.left in
+    let one_in = to-part _ _ (one (shown_file v) c.args.x c.loop-file.row) _ _ _ more left in
+    simp c.loop-file.row-is (one_file-fits (shown_file v) _ _ _ one_in).end
+
+pub loop-file-preserved : goal.loop-file-preserved
+loop-file-preserved c =
+    let fx : FitsSigned w64 c.args.x = c.ranges.x in
+    let v = c.file-item.result in
+    let more = rw (sym c.file-item.is) at (files_picture-more c.args.files.now c.loop-file.file-index v c.args.viewport.now.canvas.sight c.args.x c.loop-file.row c.loop-file-test.true) in
+    let left = simp (to_z-of_z, c.loop-file.row-is) at c.loop-file.invariant.left in
+    let one_in = to-part _ _ (one (shown_file v) c.args.x c.loop-file.row) _ _ _ more left in
+    let fits : FitsSigned w64 (c.loop-file.row +ℤ pos (length (file_rows (shown_file v)))) = InRange-fits _ (one_file-fits (shown_file v) _ _ _ one_in).end in
+    let painted = simp (to_z-of_z, c.loop-file.row-is) at c.in_ok-paint_file.ensures.ok in
+    let row = simp c.loop-file.row-is at c.row_below-row.ensures in
+    let count = rw (sym c.file-item.is) at (files_counts-more c.args.files.now c.loop-file.file-index v c.args.viewport.now.canvas.sight.rect (mask_row c.args.viewport.now.canvas.sight) c.loop-file.row c.loop-file-test.true) in
+    let so_far = simp (to_z-of_z, c.loop-file.row-is) at c.loop-file.invariant.counts in
+    let counted = simp left.sight at (simp (to_z-of_z, c.loop-file.row-is) at c.in_ok-paint_file.ensures.counts) in
+    rw row (simp to_z-of_z (record {
+      counts = counts-more _ _ _ _ _ _ _ count so_far counted;
+      left = to-more _ _ _ (one (shown_file v) c.args.x c.loop-file.row) _ _ _ more left painted;
+    }))
+
+pub returns-clause-ok : goal.returns-clause-ok
+returns-clause-ok c =
+    let fx : FitsSigned w64 c.args.x = c.ranges.x in
+    let fy : FitsSigned w64 c.args.y = c.ranges.y in
+    let left = simp (to_z-of_z, c.loop-file.row-is) at c.loop-file.invariant.left in
+    to-none _ _ _ _ (files_picture-end c.args.files.now c.loop-file.file-index c.args.viewport.now.canvas.sight c.args.x c.loop-file.row c.loop-file-test.false) left
+
+pub returns-clause-counts : goal.returns-clause-counts
+returns-clause-counts c =
+    let fx : FitsSigned w64 c.args.x = c.ranges.x in
+    let fy : FitsSigned w64 c.args.y = c.ranges.y in
+    let left = simp (to_z-of_z, c.loop-file.row-is) at c.loop-file.invariant.counts in
+    counts-end _ _ _ _ (files_counts-end c.args.files.now c.loop-file.file-index c.args.viewport.now.canvas.sight.rect (mask_row c.args.viewport.now.canvas.sight) c.loop-file.row c.loop-file-test.false) left

@@ -1,0 +1,44 @@
+use Rattle.std.proofs.Common.{◌∙◌, [], refl, ap, sym, FitsSigned, w64}
+use Rattle.std.proofs.lemmas.Int.{to_z-of_z}
+use Rattle.scm_cells.specs.Counts.{added}
+use Rattle.scm_render.proofs.CountLemmas.{added-none}
+use Rattle.scm_render.proofs.PictureLemmas.{PictureInRange-part}
+use Rattle.scm_view.specs.Pictures.{section_picture, sections_picture}
+use Rattle.scm_view.proofs.RowsLemmas.{on-ok}
+use Rattle.scm_view.proofs.SectionsLemmas.{one-first, one-height, sections-in}
+use Rattle.scm_view.proofs.CountLemmas.{sections_counts-none}
+use Rattle.scm_view.proofs.PaintsLemmas.{one-painted, one-counted, painted-nothing}
+use Rattle.scm_view.proofs.file_view.paint_section.Goals as goal
+
+pub paint-requires-clause-end : goal.paint-requires-clause-end
+paint-requires-clause-end c =
+    let fx : FitsSigned w64 c.args.x = c.ranges.x in
+    let fy : FitsSigned w64 c.args.y = c.ranges.y in
+    simp to_z-of_z (rw (one-height c.args.view.now) at (sections-in _ _ _ _ c.requires.y (rw c.if-is_shown.true at c.requires.picture)))
+
+pub paint-requires-clause-picture : goal.paint-requires-clause-picture
+unfolding section_picture
+paint-requires-clause-picture c =
+    let fx : FitsSigned w64 c.args.x = c.ranges.x in
+    let fy : FitsSigned w64 c.args.y = c.ranges.y in
+    simp to_z-of_z (PictureInRange-part _ _ (one-first _ _ _ _ (rw c.if-is_shown.true at c.requires.picture)))
+
+pub returns-then-is_shown-clause-ok : goal.returns-then-is_shown-clause-ok
+unfolding section_picture
+returns-then-is_shown-clause-ok c =
+    let fx : FitsSigned w64 c.args.x = c.ranges.x in
+    let fy : FitsSigned w64 c.args.y = c.ranges.y in
+    rw c.if-is_shown.true (on-ok _ (one-painted _ _ _ _ _) (simp to_z-of_z at c.paint.ensures.ok))
+
+pub returns-then-is_shown-clause-counts : goal.returns-then-is_shown-clause-counts
+returns-then-is_shown-clause-counts c =
+    let fx : FitsSigned w64 c.args.x = c.ranges.x in
+    let fy : FitsSigned w64 c.args.y = c.ranges.y in
+    rw c.if-is_shown.true (on-ok _ (one-counted _ _ _ _ _) (simp to_z-of_z at c.paint.ensures.counts))
+
+pub returns-else-is_shown-clause-ok : goal.returns-else-is_shown-clause-ok
+unfolding sections_picture
+returns-else-is_shown-clause-ok c = rw c.if-is_shown.false (painted-nothing _)
+
+pub returns-else-is_shown-clause-counts : goal.returns-else-is_shown-clause-counts
+returns-else-is_shown-clause-counts c = rw c.if-is_shown.false (sym (added-none _) ∙ ap (added c.args.viewport.now.counts) (sym (sections_counts-none [] _ _ refl)))

@@ -1,0 +1,61 @@
+use Rattle.std.proofs.Common.{◌∙◌, sym, FitsSigned, w64}
+use Rattle.std.specs.Prelude.{pos, ◌+ℤ◌}
+use Rattle.std.proofs.lemmas.Int.{to_z-of_z}
+use Rattle.scm_render.proofs.StepLemmas.{InRange-fits}
+use Rattle.scm_view.proofs.RowsLemmas.{row-first, row-rest, row-alone, row-end, on-ok}
+use Rattle.scm_view.proofs.PaintsLemmas.{drawn-painted, row-painted}
+use Rattle.scm_view.proofs.CountLemmas.{row-counted, row-counted-alone}
+use Rattle.scm_view.proofs.section_view.SectionView.paint_changed.Goals as goal
+
+pub draw_header-requires : goal.draw_header-requires
+draw_header-requires c =
+    let fx : FitsSigned w64 c.args.x = c.ranges.x in
+    let fy : FitsSigned w64 c.args.y = c.ranges.y in
+    simp to_z-of_z (row-first _ _ _ _ _ c.requires)
+
+pub overflow_add-y : goal.overflow_add-y
+overflow_add-y c =
+    let fx : FitsSigned w64 c.args.x = c.ranges.x in
+    let fy : FitsSigned w64 c.args.y = c.ranges.y in
+    simp to_z-of_z (InRange-fits _ (row-end _ _ _ _ (row-first _ _ _ _ _ c.requires)))
+
+pub paint_changed_lines-requires : goal.paint_changed_lines-requires
+paint_changed_lines-requires c =
+    let fx : FitsSigned w64 c.args.x = c.ranges.x in
+    let fy : FitsSigned w64 c.args.y = c.ranges.y in
+    let next : FitsSigned w64 (c.args.y +ℤ pos 1) = InRange-fits _ (row-end _ _ _ _ (row-first _ _ _ _ _ c.requires)) in
+    let header = simp to_z-of_z at c.in_ok-draw_header.ensures.ok in
+    let shown = sym c.is_open.ensures ∙ c.if-is_open.true in
+    simp to_z-of_z (row-rest _ _ _ _ _ _ header (rw shown at c.requires))
+
+pub returns-then-is_open-clause-ok : goal.returns-then-is_open-clause-ok
+returns-then-is_open-clause-ok c =
+    let fx : FitsSigned w64 c.args.x = c.ranges.x in
+    let fy : FitsSigned w64 c.args.y = c.ranges.y in
+    let next : FitsSigned w64 (c.args.y +ℤ pos 1) = InRange-fits _ (row-end _ _ _ _ (row-first _ _ _ _ _ c.requires)) in
+    let header = simp to_z-of_z at c.in_ok-draw_header.ensures.ok in
+    let shown = sym c.is_open.ensures ∙ c.if-is_open.true in
+    rw shown (on-ok _ (row-painted _ _ _ _ _ _ _ header) (simp to_z-of_z at c.paint_changed_lines.ensures.ok))
+
+pub returns-else-is_open-clause-ok : goal.returns-else-is_open-clause-ok
+returns-else-is_open-clause-ok c =
+    let fx : FitsSigned w64 c.args.x = c.ranges.x in
+    let fy : FitsSigned w64 c.args.y = c.ranges.y in
+    let folded = sym c.is_open.ensures ∙ c.if-is_open.false in
+    rw folded (drawn-painted _ _ _ (row-alone _ _ _ _ _ (simp to_z-of_z at c.in_ok-draw_header.ensures.ok)))
+
+pub returns-then-is_open-clause-counts : goal.returns-then-is_open-clause-counts
+returns-then-is_open-clause-counts c =
+    let fx : FitsSigned w64 c.args.x = c.ranges.x in
+    let fy : FitsSigned w64 c.args.y = c.ranges.y in
+    let next : FitsSigned w64 (c.args.y +ℤ pos 1) = InRange-fits _ (row-end _ _ _ _ (row-first _ _ _ _ _ c.requires)) in
+    let header = simp to_z-of_z at c.in_ok-draw_header.ensures.counts in
+    let shown = sym c.is_open.ensures ∙ c.if-is_open.true in
+    rw shown (on-ok _ (row-counted _ _ _ _ _ _ _ _ c.in_ok-draw_header.ensures.rect header) (simp to_z-of_z at c.paint_changed_lines.ensures.counts))
+
+pub returns-else-is_open-clause-counts : goal.returns-else-is_open-clause-counts
+returns-else-is_open-clause-counts c =
+    let fx : FitsSigned w64 c.args.x = c.ranges.x in
+    let fy : FitsSigned w64 c.args.y = c.ranges.y in
+    let folded = sym c.is_open.ensures ∙ c.if-is_open.false in
+    rw folded (row-counted-alone _ _ _ _ _ (simp to_z-of_z at c.in_ok-draw_header.ensures.counts))

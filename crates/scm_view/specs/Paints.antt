@@ -1,0 +1,20 @@
+-- Painting: what stands on the screen's rows after drawing, whatever boxes were noted.
+use Rattle.std.specs.Prelude.{◌≡◌, ℕ, min, ℤ, ◌-ℤ◌, int_lt, Bool, ◌&&◌}
+use Rattle.scm_cells.specs.Rect.{or_zero, end_y_of}
+use Rattle.scm_cells.specs.declared.rect.Rect.{Rect}
+use Rattle.scm_render.specs.Canvas.{Canvas, painted}
+use Rattle.scm_view.specs.declared.ids.ComponentId.{ComponentId}
+use Rattle.scm_view.specs.Pictures.{IdPicture}
+
+-- the rows are those that the picture makes, and the sight is as before
+pub record IsPainted (before after : Canvas ComponentId) (picture : IdPicture) : Type 0 where
+  pub sight : after.sight ≡ before.sight
+  pub rows : after.rows ≡ painted before.sight.rect picture.puts before.sight.rect.y before.rows
+
+-- the screen has one of the rows from y on and above another
+abbrev pub is_seen : Rect → ℤ → ℤ → Bool
+is_seen v y below = int_lt v.y below && int_lt y (end_y_of v)
+
+-- of n rows from row y on, how many stand above another
+abbrev pub rows_above : ℤ → ℤ → ℕ → ℕ
+rows_above y row n = min (or_zero (row -ℤ y)) n
