@@ -14,7 +14,6 @@ pub mod CountLemmas
 pub mod FewLemmas
 pub mod PaintsLemmas
 pub mod PaintsAppLemmas
-pub mod ScreenLemmas
 pub mod RowsLemmas
 pub mod SectionsLemmas
 pub mod FilesLemmas
