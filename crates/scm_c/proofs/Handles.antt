@@ -42,14 +42,14 @@ none_good h fits = (and_tt (has_ty (layout Heap) h) fits.0, (record { fits = lit
 
 module _ {M : Type 1} {𝓤 : Ura M} {𝓛 : Logic 𝓤} {K : Type 0} {Γ : List (Item 𝓤)} {G : Goal 𝓤 𝓛.H} where
   pub handle_out : K → (d : Handle.Denot) (vs : List Val)
-      → ((h : Val) → vs ≡ vstruct (of_list (ptr_val d.at ∷ h ∷ [])) ∷ [] → Good (layout Heap) h → Seq K 𝓛 (‵ (handle_owns Value d.at d.value) ∷ ‵ (Heap.own_val d.alloc (h ∷ [])) ∷ Γ) G)
+      → ((h : Val) → vs ≡ vstruct (of_list (ptr_val d.at ∷ h ∷ [])) ∷ [] → Good (layout Heap) h → Seq K 𝓛 (‵ (handle_owns Value d.alloc d.at d.value) ∷ ‵ (Heap.own_val d.alloc (h ∷ [])) ∷ Γ) G)
       → Seq K 𝓛 (‵ (Handle.own_val d vs) ∷ Γ) G
   handle_out t d vs k =
       fsplit t $ fpick t (λ vss. fsplit t $ feq_l t (λ ev. fsplit t $ feq_l t (λ ep. fsplit t $ handle_tells al t d.alloc vss.1.0 (λ h ea fits. move t (1 ∷ []) $ drop t $ move t (1 ∷ []) $ k h
       (subst (λ (ws : List Val). vs ≡ vstruct (of_list (ptr_val d.at ∷ (ws ++ []))) ∷ []) ea (subst (λ (ps : List Val). vs ≡ vstruct (of_list (ps ++ (vss.1.0 ++ []))) ∷ []) ep ev)) fits))))
 
   pub handle_in : K → (p : Ptr) (h : Val) (a : Heap.Denot) (o : Option Held)
-      → Step K 𝓛 (‵ (Handle.own_val (record { at = p; alloc = a; value = o }) (vstruct (of_list (ptr_val p ∷ h ∷ [])) ∷ [])) ∷ Γ) G (‵ (handle_owns Value p o) ∷ ‵ (Heap.own_val a (h ∷ [])) ∷ Γ) G
+      → Step K 𝓛 (‵ (Handle.own_val (record { at = p; alloc = a; value = o }) (vstruct (of_list (ptr_val p ∷ h ∷ [])) ∷ [])) ∷ Γ) G (‵ (handle_owns Value a p o) ∷ ‵ (Heap.own_val a (h ∷ [])) ∷ Γ) G
   handle_in t p h a o = step (λ s. let v : Val = vstruct (of_list (ptr_val p ∷ h ∷ [])) in
       nothing t $ move t (2 ∷ 0 ∷ []) $ fjoin t $ feq_i t (List Val) (ptr_val p ∷ []) (ptr_val p ∷ []) refl $ fjoin t $ feq_i t (List Val) (v ∷ []) (v ∷ []) refl $ fjoin t $
       fpack t (Valss (RawPtr ∷ Heap ∷ [])) (within (shape handle.the_type) (p, (((tt, tt), tt), tt)) (v ∷ [])) (ptr_val p ∷ [], (h ∷ [], tt)) $ fjoin t $ s)

@@ -21,7 +21,7 @@ impl Model for Handle {
     ghost use Rattle.scm_c.specs.Ownership.{handle_owns};
     ghost use Rattle.scm_c.specs.contracts.held.Held.{the_row};
 
-    ghost also_owns = { λ h. handle_owns the_row h.at h.value };
+    ghost also_owns = { λ h. handle_owns the_row h.alloc h.at h.value };
 }
 
 impl Handle {

@@ -16,7 +16,6 @@ use denote.Exit.{yes}
 use denote.RattleType.{RattleType, owns}
 use denote.RawPtr.{Ptr, block_ptr, null_ptr, ptr_val, in_a_block}
 use denote.Param.{layout}
-use Rattle.libc.specs.Heap.{chunk}
 use denote.Signature.{types_at, plain}
 use denote.Steps.{nothing, heard}
 use denote.Triple.Walked.{Stays, stay_dropped, walk_of}
@@ -48,8 +47,8 @@ into_loose_spec 𝓤 𝓛 𝓜 𝓡 wired =
     let Asked = IsTrue (is_some v.value) in
     qed 𝓛 ((‵ ftrue ⊛ ‵ (owns (types_at En.signature.params z.0.0) z.0.3 z.0.4)) ∷ raw (fact 𝓤 Asked) ∷ []) ∵ move ! (1 ∷ []) $ heard ! Asked (λ asked. split ! $ move ! (1 ∷ []) $ fsplit ! $
     let x = (held v.value asked).0 in let there = (held v.value asked).1 in
-    handle_out ! v z.0.4.0 (λ h ws fits. rewrite ! 0 (λ (o : Option Held). ‵ (handle_owns Value v.at o)) there refl $
-    in_a_block ! v.at (λ p. handle_owns Value p (Some x)) (fst∗ 𝓤 (never 𝓤) (sem 𝓛 (chunk (bare (layout Value)) null_ptr))) (λ b o e.
+    handle_out ! v z.0.4.0 (λ h ws fits. rewrite ! 0 (λ (o : Option Held). ‵ (handle_owns Value v.alloc v.at o)) there refl $
+    in_a_block ! v.at (λ p. handle_owns Value a p (Some x)) (fst∗ 𝓤 (never 𝓤) (sem 𝓛 (ghosts.dealloc_token a (bare (layout Value)) null_ptr))) (λ b o e.
     let w : Val = both (vptr b o) h in let typed = loose_good Value Heap heap_laws ghosts b o h fits in
     let is : z.0.4.0 ≡ w ∷ [] = ws ∙ ap (λ (p : Ptr). vstruct (of_list (ptr_val p ∷ h ∷ [])) ∷ []) e in
     suffices ! (Run (w ∷ [])) (subst (λ (us : List Val). ent 𝓤 (Run (w ∷ [])) (Run us)) (sym (λ i. is i ++ [])) (id⊢ 𝓤 (Run (w ∷ [])))) $
