@@ -1,5 +1,5 @@
 -- The keys of a state, cut at a key: those before it and those after it.
-use Rattle.std.proofs.Common.{◌≡◌, ℕ, zero, suc, ◌+◌, ◌-◌, ◌<◌, ◌≤◌, Bool, true, false, cond, ◌&&◌, List, [], ◌∷◌, ◌++◌, length, drop, take, length-drop, refl, ap, sym, ◌∙◌, append_assoc, append-nil, arith, nat_eq, nat_lt, Option, Some, None}
+use Rattle.std.proofs.Common.{◌≡◌, ℕ, zero, suc, ◌+◌, ◌<◌, ◌≤◌, Bool, true, false, ◌&&◌, List, [], ◌∷◌, ◌++◌, length, drop, take, refl, ap, sym, ◌∙◌, append_assoc, append-nil, arith, nat_eq, nat_lt, Option, Some, None}
 use Rattle.std.specs.Prelude.{slice_get}
 use Rattle.std.proofs.lemmas.Bool.Decides.{nat_tests}
 use Rattle.scm_types.specs.declared.line.SectionChangedLine.{SectionChangedLine}
@@ -15,7 +15,7 @@ use Rattle.scm_types.specs.declared.keys.SectionKey.{SectionKey}
 use Rattle.scm_types.specs.declared.keys.LineKey.{LineKey}
 use Rattle.scm_types.specs.declared.keys.SelectionKey.TheVariants as keys
 use Rattle.scm_selection.specs.KeySet.{is_key}
-use Rattle.scm_selection.specs.Steps.{sections_in, sections_at, lines_of, lines_in, lines_at, is_editable_in, is_key_of, keys_before, keys_after}
+use Rattle.scm_selection.specs.Steps.{lines_of, is_key_of, keys_before, keys_after}
 use Rattle.scm_selection.specs.KeyLists.{file_key, section_key, line_key, line_keys, section_keys, sections_keys, files_keys}
 
 -- what stands before and after the first key that passes a test
@@ -150,22 +150,22 @@ module _ (q : SelectionKey → Bool) where
   at-file fs f file e away =
       ap (parted q) (files-cut 0 f f fs file (omega arith) e)
       ∙ parted-middle q (files_keys 0 (take f fs)) (file_key f ∷ sections_keys f 0 file.sections) (files_keys (f + 1) (drop (f + 1) fs))
-        (files-away q 0 (take f fs) (λ j lo hi. away j (not-below f j (let h = take-short f fs in omega (arith, h, hi)))))
-        (files-away q (f + 1) (drop (f + 1) fs) (λ j lo hi. away j (not-above f j (omega (arith, lo)))))
+      (files-away q 0 (take f fs) (λ j lo hi. away j (not-below f j (let h = take-short f fs in omega (arith, h, hi)))))
+      (files-away q (f + 1) (drop (f + 1) fs) (λ j lo hi. away j (not-above f j (omega (arith, lo)))))
 
   pub at-section : (f s : ℕ) (ss : List Section) (section : Section) → slice_get ss s ≡ Some section → ((j : ℕ) → nat_eq s j ≡ false → SectionAway q f j) → parted q (sections_keys f 0 ss) ≡ within (sections_keys f 0 (take s ss)) (sections_keys f (s + 1) (drop (s + 1) ss)) (parted q (section_keys f s section))
   at-section f s ss section e away =
       ap (parted q) (sections-cut f 0 s s ss section (omega arith) e)
       ∙ parted-middle q (sections_keys f 0 (take s ss)) (section_keys f s section) (sections_keys f (s + 1) (drop (s + 1) ss))
-        (sections-away q f 0 (take s ss) (λ j lo hi. away j (not-below s j (let h = take-short s ss in omega (arith, h, hi)))))
-        (sections-away q f (s + 1) (drop (s + 1) ss) (λ j lo hi. away j (not-above s j (omega (arith, lo)))))
+      (sections-away q f 0 (take s ss) (λ j lo hi. away j (not-below s j (let h = take-short s ss in omega (arith, h, hi)))))
+      (sections-away q f (s + 1) (drop (s + 1) ss) (λ j lo hi. away j (not-above s j (omega (arith, lo)))))
 
   pub at-line : (f s i : ℕ) (ls : List SectionChangedLine) (line : SectionChangedLine) → slice_get ls i ≡ Some line → ((j : ℕ) → nat_eq i j ≡ false → q (line_key f s j) ≡ false) → parted q (line_keys f s 0 ls) ≡ within (line_keys f s 0 (take i ls)) (line_keys f s (i + 1) (drop (i + 1) ls)) (parted q (line_key f s i ∷ []))
   at-line f s i ls line e away =
       ap (parted q) (lines-cut f s 0 i i ls line (omega arith) e)
       ∙ parted-middle q (line_keys f s 0 (take i ls)) (line_key f s i ∷ []) (line_keys f s (i + 1) (drop (i + 1) ls))
-        (lines-away q f s 0 (take i ls) (λ j lo hi. away j (not-below i j (let h = take-short i ls in omega (arith, h, hi)))))
-        (lines-away q f s (i + 1) (drop (i + 1) ls) (λ j lo hi. away j (not-above i j (omega (arith, lo)))))
+      (lines-away q f s 0 (take i ls) (λ j lo hi. away j (not-below i j (let h = take-short i ls in omega (arith, h, hi)))))
+      (lines-away q f s (i + 1) (drop (i + 1) ls) (λ j lo hi. away j (not-above i j (omega (arith, lo)))))
 
 -- ---- the keys of files, cut at a key
 
@@ -227,6 +227,7 @@ file-parts fs k = by_commit (nat_eq k.commit_idx 0) refl
     by_place (Some file) e c =
         at-file (is_key (keys.File k)) fs k.file_idx file e (λ j ne. file-other k j (rw (c, ne) refl))
         ∙ rw (c, eq-self k.file_idx, is-within fs k.file_idx file e, e, append-nil (files_keys 0 (take k.file_idx fs))) refl
+
     by_commit : (b : Bool) → nat_eq k.commit_idx 0 ≡ b → parted (is_key (keys.File k)) (files_keys 0 fs) ≡ if_there (is_key_of fs (keys.File k)) (keys_before fs (keys.File k)) (keys_after fs (keys.File k))
     by_commit true c = by_place (slice_get fs k.file_idx) refl c
     by_commit false c = rw c (files-away (is_key (keys.File k)) 0 fs (λ j lo hi. file-other k j (rw c refl)))
@@ -254,15 +255,17 @@ section-parts fs k = by_commit (nat_eq k.commit_idx 0) refl
     by_section file e c (Some section) e2 =
         at-file (is_key (keys.Section k)) fs k.file_idx file e (λ j ne. section-other k j (rw (c, ne) refl))
         ∙ ap (λ r. within (files_keys 0 (take k.file_idx fs)) (files_keys (k.file_idx + 1) (drop (k.file_idx + 1) fs)) (parted_on false (file_key k.file_idx) (sections_keys k.file_idx 0 file.sections) r))
-          (at-section (is_key (keys.Section k)) k.file_idx k.section_idx file.sections section e2 (λ j ne. (rw (c, eq-self k.file_idx, ne) refl, λ i. refl))
-          ∙ ap (within (sections_keys k.file_idx 0 (take k.section_idx file.sections)) (sections_keys k.file_idx (k.section_idx + 1) (drop (k.section_idx + 1) file.sections)))
-            (own-section (is_key (keys.Section k)) k.file_idx k.section_idx section (rw (c, eq-self k.file_idx, eq-self k.section_idx) refl)))
+        (at-section (is_key (keys.Section k)) k.file_idx k.section_idx file.sections section e2 (λ j ne. (rw (c, eq-self k.file_idx, ne) refl, λ i. refl))
+        ∙ ap (within (sections_keys k.file_idx 0 (take k.section_idx file.sections)) (sections_keys k.file_idx (k.section_idx + 1) (drop (k.section_idx + 1) file.sections)))
+        (own-section (is_key (keys.Section k)) k.file_idx k.section_idx section (rw (c, eq-self k.file_idx, eq-self k.section_idx) refl)))
         ∙ section-shape (is_editable_section section) (files_keys 0 (take k.file_idx fs)) (files_keys (k.file_idx + 1) (drop (k.file_idx + 1) fs)) (sections_keys k.file_idx 0 (take k.section_idx file.sections)) (sections_keys k.file_idx (k.section_idx + 1) (drop (k.section_idx + 1) file.sections)) (line_keys k.file_idx k.section_idx 0 (lines_of section)) (sections_keys k.file_idx 0 file.sections) (file_key k.file_idx)
         ∙ rw (c, e, e2) refl
+
     by_file : (r : Option File) → slice_get fs k.file_idx ≡ r → nat_eq k.commit_idx 0 ≡ true → parted (is_key (keys.Section k)) (files_keys 0 fs) ≡ if_there (is_key_of fs (keys.Section k)) (keys_before fs (keys.Section k)) (keys_after fs (keys.Section k))
     by_file None e c =
         rw (c, e) (files-away (is_key (keys.Section k)) 0 fs (λ j lo hi. section-other k j (rw c (past fs k.file_idx j e (omega (arith, hi))))))
     by_file (Some file) e c = by_section file e c (slice_get file.sections k.section_idx) refl
+
     by_commit : (b : Bool) → nat_eq k.commit_idx 0 ≡ b → parted (is_key (keys.Section k)) (files_keys 0 fs) ≡ if_there (is_key_of fs (keys.Section k)) (keys_before fs (keys.Section k)) (keys_after fs (keys.Section k))
     by_commit true c = by_file (slice_get fs k.file_idx) refl c
     by_commit false c = rw c (files-away (is_key (keys.Section k)) 0 fs (λ j lo hi. section-other k j (rw c refl)))
@@ -297,15 +300,17 @@ line-parts fs k = by_commit (nat_eq k.commit_idx 0) refl
     by_section file e c (Some section) e2 =
         at-file (is_key (keys.Line k)) fs k.file_idx file e (λ j ne. line-other k j (rw (c, ne) refl))
         ∙ ap (λ r. within (files_keys 0 (take k.file_idx fs)) (files_keys (k.file_idx + 1) (drop (k.file_idx + 1) fs)) (parted_on false (file_key k.file_idx) (sections_keys k.file_idx 0 file.sections) r))
-          (at-section (is_key (keys.Line k)) k.file_idx k.section_idx file.sections section e2 (λ j ne. (refl, λ i. rw (c, eq-self k.file_idx, ne) refl))
-          ∙ ap (within (sections_keys k.file_idx 0 (take k.section_idx file.sections)) (sections_keys k.file_idx (k.section_idx + 1) (drop (k.section_idx + 1) file.sections)))
-            (own-lines (is_key (keys.Line k)) k.file_idx k.section_idx k.line_idx section refl (rw (c, eq-self k.file_idx, eq-self k.section_idx, eq-self k.line_idx) refl) (λ j ne. rw (c, eq-self k.file_idx, eq-self k.section_idx, ne) refl)))
+        (at-section (is_key (keys.Line k)) k.file_idx k.section_idx file.sections section e2 (λ j ne. (refl, λ i. rw (c, eq-self k.file_idx, ne) refl))
+        ∙ ap (within (sections_keys k.file_idx 0 (take k.section_idx file.sections)) (sections_keys k.file_idx (k.section_idx + 1) (drop (k.section_idx + 1) file.sections)))
+        (own-lines (is_key (keys.Line k)) k.file_idx k.section_idx k.line_idx section refl (rw (c, eq-self k.file_idx, eq-self k.section_idx, eq-self k.line_idx) refl) (λ j ne. rw (c, eq-self k.file_idx, eq-self k.section_idx, ne) refl)))
         ∙ line-shape (nat_lt k.line_idx (length (lines_of section))) (files_keys 0 (take k.file_idx fs)) (files_keys (k.file_idx + 1) (drop (k.file_idx + 1) fs)) (sections_keys k.file_idx 0 (take k.section_idx file.sections)) (sections_keys k.file_idx (k.section_idx + 1) (drop (k.section_idx + 1) file.sections)) (line_keys k.file_idx k.section_idx 0 (take k.line_idx (lines_of section))) (line_keys k.file_idx k.section_idx (k.line_idx + 1) (drop (k.line_idx + 1) (lines_of section))) (sections_keys k.file_idx 0 file.sections) (file_key k.file_idx) (section_key k.file_idx k.section_idx)
         ∙ rw (c, e, e2) refl
+
     by_file : (r : Option File) → slice_get fs k.file_idx ≡ r → nat_eq k.commit_idx 0 ≡ true → parted (is_key (keys.Line k)) (files_keys 0 fs) ≡ if_there (is_key_of fs (keys.Line k)) (keys_before fs (keys.Line k)) (keys_after fs (keys.Line k))
     by_file None e c =
         rw (c, e, nothing-below k.line_idx) (files-away (is_key (keys.Line k)) 0 fs (λ j lo hi. line-other k j (rw c (past fs k.file_idx j e (omega (arith, hi))))))
     by_file (Some file) e c = by_section file e c (slice_get file.sections k.section_idx) refl
+
     by_commit : (b : Bool) → nat_eq k.commit_idx 0 ≡ b → parted (is_key (keys.Line k)) (files_keys 0 fs) ≡ if_there (is_key_of fs (keys.Line k)) (keys_before fs (keys.Line k)) (keys_after fs (keys.Line k))
     by_commit true c = by_file (slice_get fs k.file_idx) refl c
     by_commit false c = rw c (files-away (is_key (keys.Line k)) 0 fs (λ j lo hi. line-other k j (rw c refl)))

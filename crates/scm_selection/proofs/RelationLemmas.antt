@@ -1,8 +1,8 @@
 -- The moves on lists, by what stands before and after the selection.
-use Rattle.std.proofs.Common.{◌≡◌, ℕ, zero, suc, ◌+◌, ◌<◌, ◌≤◌, Bool, true, false, cond, not, ◌&&◌, List, [], ◌∷◌, ◌++◌, length, drop, refl, ap, sym, ◌∙◌, arith, nat_eq, nat_lt, Option, Some, None}
-use Rattle.std.specs.Prelude.{slice_get, find, filter, position, if◌then◌else◌}
+use Rattle.std.proofs.Common.{◌≡◌, ℕ, zero, suc, ◌+◌, ◌<◌, Bool, true, false, cond, not, ◌&&◌, List, [], ◌∷◌, length, drop, refl, ap, sym, ◌∙◌, arith, nat_eq, nat_lt, Option, Some, None}
+use Rattle.std.specs.Prelude.{slice_get, find, filter, if◌then◌else◌}
 use Rattle.std.specs.Option.{option_or, unwrap_or}
-use Rattle.std.specs.List.{position_or_len, after_first}
+use Rattle.std.specs.List.{position_or_len}
 use Rattle.std.proofs.lemmas.List.{drop_all}
 use Rattle.std.proofs.lemmas.Bool.Decides.{nat_tests, Decides-eqb}
 use Rattle.scm_types.specs.declared.file.File.{File}
@@ -110,6 +110,7 @@ previous-is ks sel o = go (parted (is_key sel) ks) (position_or_len (is_key sel)
     at : (before : List SelectionKey) → ((j : ℕ) → length before ≡ suc j → slice_get ks j ≡ find_last (λ _. true) before) → previous_at ks sel o (Some (length before)) ≡ unwrap_or (find_last (λ _. true) before) sel
     at [] h = refl
     at (y ∷ ys) h = ap (λ r. unwrap_or r sel) (h (length ys) refl)
+
     go : (r : Option (List SelectionKey × List SelectionKey)) (place : ℕ) → IsPlaced (is_key sel) r ks place → previous_at ks sel o (cond (nat_lt place (length ks)) (Some place) None) ≡ previous_part sel o r
     go None place h =
         let out : nat_lt place (length ks) ≡ false = grind (arith, nat_tests) in rw out refl

@@ -1,5 +1,5 @@
 -- The first and the last key that passes a test, by files, sections and lines.
-use Rattle.std.proofs.Common.{◌≡◌, ℕ, zero, suc, ◌+◌, ◌-◌, ◌<◌, ◌≤◌, Bool, true, false, cond, ◌&&◌, List, [], ◌∷◌, ◌++◌, length, drop, take, refl, ap, sym, ◌∙◌, append_assoc, append-nil, arith, Option, Some, None}
+use Rattle.std.proofs.Common.{◌≡◌, ℕ, zero, suc, ◌+◌, ◌<◌, Bool, true, false, cond, List, [], ◌∷◌, ◌++◌, length, drop, take, refl, ap, sym, ◌∙◌, append_assoc, append-nil, arith, Option, Some, None}
 use Rattle.std.specs.Prelude.{find, get_or, min, slice_get, is_some, if◌then◌else◌}
 use Rattle.std.specs.Option.{option_or}
 use Rattle.std.proofs.lemmas.Option.{slice_get-get_or}
@@ -12,7 +12,7 @@ use Rattle.scm_types.specs.declared.keys.SelectionKey.{SelectionKey}
 use Rattle.scm_types.specs.declared.keys.SelectionKey.TheVariants as keys
 use Rattle.scm_selection.specs.declared.steps.Reach.{Reach}
 use Rattle.scm_selection.specs.declared.steps.Reach.TheVariants as reaches
-use Rattle.scm_selection.specs.KeyLists.{file_key, section_key, line_key, line_keys, section_keys, sections_keys, files_keys}
+use Rattle.scm_selection.specs.KeyLists.{file_key, line_key, line_keys, section_keys, sections_keys, files_keys}
 use Rattle.scm_selection.specs.Steps.{is_stop, find_last}
 use Rattle.scm_selection.proofs.KeyListLemmas.{line_keys-drop}
 

@@ -1,5 +1,5 @@
 -- The keys before and after a key of a state, and the keys at which a move stops.
-use Rattle.std.specs.Prelude.{ℕ, ◌+◌, Bool, true, false, ◌&&◌, List, [], ◌∷◌, ◌++◌, Option, Some, None, slice_get, take, drop, length, nat_eq, nat_lt, if◌then◌else◌}
+use Rattle.std.specs.Prelude.{ℕ, ◌+◌, Bool, false, ◌&&◌, List, [], ◌∷◌, ◌++◌, Option, Some, None, slice_get, take, drop, length, nat_eq, nat_lt, if◌then◌else◌}
 use Rattle.std.specs.Option.{option_or}
 use Rattle.scm_types.specs.declared.line.SectionChangedLine.{SectionChangedLine}
 use Rattle.scm_types.specs.declared.section.Section.{Section}
@@ -10,7 +10,7 @@ use Rattle.scm_types.specs.declared.keys.SelectionKey.{SelectionKey}
 use Rattle.scm_types.specs.declared.keys.SelectionKey.TheVariants as keys
 use Rattle.scm_selection.specs.declared.steps.Reach.{Reach}
 use Rattle.scm_selection.specs.declared.steps.Reach.TheVariants as reaches
-use Rattle.scm_selection.specs.KeyLists.{file_key, section_key, line_keys, section_keys, sections_keys, files_keys, is_visible}
+use Rattle.scm_selection.specs.KeyLists.{file_key, section_key, line_keys, sections_keys, files_keys, is_visible}
 use Rattle.scm_selection.specs.Moves.{is_inside, is_same_kind}
 
 -- the sections of the file at a place, none where there is no file
@@ -84,7 +84,7 @@ keys_before files (keys.Section key) = before_section files key.file_idx key.sec
 keys_before files (keys.Line key) =
     before_section files key.file_idx key.section_idx
     ++ (section_key key.file_idx key.section_idx
-        ∷ line_keys key.file_idx key.section_idx 0 (take key.line_idx (lines_at (sections_at files key.file_idx) key.section_idx)))
+    ∷ line_keys key.file_idx key.section_idx 0 (take key.line_idx (lines_at (sections_at files key.file_idx) key.section_idx)))
 
 -- whether a move stops at a key: at each visible key, at those of the selection's kind, or at those of the kind inside it
 abbrev pub is_stop : Reach → (SelectionKey → Bool) → SelectionKey → Bool

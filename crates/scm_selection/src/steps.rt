@@ -43,9 +43,7 @@ fn is_stop(reach: Reach, expanded: &KeySet, key: SelectionKey) -> bool
 {
     match reach {
         Reach::Visible => is_visible(expanded, key),
-        Reach::SameKind(selection) => {
-            is_visible(expanded, key) && is_same_kind(selection, key)
-        }
+        Reach::SameKind(selection) => { is_visible(expanded, key) && is_same_kind(selection, key) }
         Reach::Inside(selection) => is_inside(selection, key),
     }
 }
@@ -547,11 +545,7 @@ pub fn previous_of_kind(
 }
 
 /// The first key after the selection that is of the kind inside it, visible or not, else the selection.
-pub fn first_inside(
-    expanded: &KeySet,
-    files: &[File<'_>],
-    selection: SelectionKey,
-) -> SelectionKey
+pub fn first_inside(expanded: &KeySet, files: &[File<'_>], selection: SelectionKey) -> SelectionKey
     ensures { result ≡ inner_key (all_keys files.now) selection }
 {
     if is_key_of(files, selection) {

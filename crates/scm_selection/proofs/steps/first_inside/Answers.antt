@@ -1,11 +1,8 @@
-use Rattle.std.proofs.Common.{◌≡◌, ◌&&◌, Bool, true, false, refl, ap, sym, ◌∙◌}
-use Rattle.std.specs.Prelude.{find, filter}
+use Rattle.std.proofs.Common.{◌≡◌, true, false, ap, ◌∙◌}
 use Rattle.std.specs.Option.{unwrap_or}
-use Rattle.scm_selection.specs.KeySet.{has_key}
-use Rattle.scm_selection.specs.KeyLists.{is_visible, files_keys, visible_keys}
-use Rattle.scm_selection.specs.Moves.{is_inside, is_same_kind, next_key, previous_key}
-use Rattle.scm_selection.specs.Steps.{is_key_of, is_stop, find_last, keys_after, keys_before}
-use Rattle.scm_selection.proofs.RelationLemmas.{next-there, next-away, previous-there, previous-away, inner-there, inner-away, filter-filter, kind-self, kind-away}
+use Rattle.scm_selection.specs.Moves.{is_inside}
+use Rattle.scm_selection.specs.Steps.{is_key_of}
+use Rattle.scm_selection.proofs.RelationLemmas.{inner-there, inner-away}
 use Rattle.scm_selection.proofs.steps.first_inside.Goals as goal
 
 pub returns-then-is_key_of : goal.returns-then-is_key_of

@@ -1,9 +1,9 @@
-use Rattle.std.proofs.Common.{◌≡◌, ℕ, ◌+◌, ◌-◌, ◌<◌, Bool, true, false, List, [], ◌∷◌, ◌++◌, length, drop, take, refl, ap, sym, ◌∙◌, arith, Option, Some, None, rules}
-use Rattle.std.specs.Prelude.{find, get_or, min, slice_get, is_some}
+use Rattle.std.proofs.Common.{◌≡◌, ◌+◌, ◌-◌, ◌<◌, true, false, length, take, ap, ◌∙◌, arith}
+use Rattle.std.specs.Prelude.{is_some}
 use Rattle.scm_selection.specs.KeySet.{has_key}
-use Rattle.scm_selection.specs.KeyLists.{file_key, section_key, line_key, line_keys, section_keys, sections_keys, files_keys}
-use Rattle.scm_selection.specs.Steps.{is_stop, find_last, sections_at, lines_at, lines_of, after_file, after_section, before_file, before_section}
-use Rattle.scm_selection.proofs.StepLemmas.{take-end, item-at, first_line, last_line, lines-alike, sooner, later, last-sooner, last-later, section-found, section-missed, file-found, file-missed, section-last-found, section-last-missed, file-last-found, file-last-missed}
+use Rattle.scm_selection.specs.KeyLists.{section_keys, sections_keys}
+use Rattle.scm_selection.specs.Steps.{is_stop, find_last}
+use Rattle.scm_selection.proofs.StepLemmas.{item-at, section-last-found, section-last-missed}
 use Rattle.scm_selection.proofs.steps.last_of_sections.Goals as goal
 
 pub returns-then-is_some : goal.returns-then-is_some
