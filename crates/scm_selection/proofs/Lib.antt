@@ -5,6 +5,7 @@ pub mod MoveLemmas
 pub mod PartLemmas
 pub mod RelationLemmas
 pub mod StepLemmas
+pub mod WalkLemmas
 -- toggles, and the files that they keep coherent
 pub mod ToggleLemmas
 pub mod CoherenceLemmas

@@ -59,7 +59,7 @@ module _ (q : SelectionKey → Bool) where
   parted-append [] ys = only ys (parted q ys)
   parted-append (x ∷ xs) ys = append_step (q x) x xs ys (parted q xs) (parted q ys) (parted q (xs ++ ys)) (parted-append xs ys)
 
-  both_none : (xs ys : List SelectionKey) → parted q xs ≡ None → parted q ys ≡ None → parted q (xs ++ ys) ≡ None
+  pub both_none : (xs ys : List SelectionKey) → parted q xs ≡ None → parted q ys ≡ None → parted q (xs ++ ys) ≡ None
   both_none xs ys a b = parted-append xs ys ∙ rw (a, b) refl
 
   around : (ys zs : List SelectionKey) (xs : List SelectionKey) (p : Option (List SelectionKey × List SelectionKey)) → joined xs (ys ++ zs) None (joined ys zs p None) ≡ within xs zs p
@@ -142,7 +142,7 @@ take-short (suc n) (x ∷ xs) = let h = take-short n xs in omega (arith, h)
 not-below : (m n : ℕ) → n < m → nat_eq m n ≡ false
 not-below m n h = grind (arith, nat_tests)
 
-not-above : (m n : ℕ) → m < n → nat_eq m n ≡ false
+pub not-above : (m n : ℕ) → m < n → nat_eq m n ≡ false
 not-above m n h = grind (arith, nat_tests)
 
 module _ (q : SelectionKey → Bool) where
@@ -173,7 +173,7 @@ abbrev pub if_there : Bool → List SelectionKey → List SelectionKey → Optio
 if_there true before after = Some (before, after)
 if_there false before after = None
 
-eq-self : (n : ℕ) → nat_eq n n ≡ true
+pub eq-self : (n : ℕ) → nat_eq n n ≡ true
 eq-self n = (Decides-eqb n n).1 refl
 
 past : {X : Type 0} (xs : List X) (i j : ℕ) → slice_get xs i ≡ None → j < length xs → nat_eq i j ≡ false
@@ -194,7 +194,7 @@ is-within xs i x e = let h = slice_get_within xs i x e in grind (arith, nat_test
 none_away : (fs : List File) (j : ℕ) → FileAway (is_key keys.None) j
 none_away fs j = (refl, λ s. (refl, λ i. refl))
 
-file-other : (k : FileKey) (j : ℕ) → (nat_eq k.commit_idx 0 && nat_eq k.file_idx j) ≡ false → FileAway (is_key (keys.File k)) j
+pub file-other : (k : FileKey) (j : ℕ) → (nat_eq k.commit_idx 0 && nat_eq k.file_idx j) ≡ false → FileAway (is_key (keys.File k)) j
 file-other k j e = (go (nat_eq k.commit_idx 0) (nat_eq k.file_idx j) e, λ s. (refl, λ i. refl))
   where
     go : (a b : Bool) → (a && b) ≡ false → (a && (b && true)) ≡ false
@@ -202,7 +202,7 @@ file-other k j e = (go (nat_eq k.commit_idx 0) (nat_eq k.file_idx j) e, λ s. (r
     go true false e = refl
     go false b e = refl
 
-section-other : (k : SectionKey) (j : ℕ) → (nat_eq k.commit_idx 0 && nat_eq k.file_idx j) ≡ false → FileAway (is_key (keys.Section k)) j
+pub section-other : (k : SectionKey) (j : ℕ) → (nat_eq k.commit_idx 0 && nat_eq k.file_idx j) ≡ false → FileAway (is_key (keys.Section k)) j
 section-other k j e = (refl, λ s. (go (nat_eq k.commit_idx 0) (nat_eq k.file_idx j) _ e, λ i. refl))
   where
     go : (a b c : Bool) → (a && b) ≡ false → (a && (b && c)) ≡ false
@@ -210,7 +210,7 @@ section-other k j e = (refl, λ s. (go (nat_eq k.commit_idx 0) (nat_eq k.file_id
     go true false c e = refl
     go false b c e = refl
 
-line-other : (k : LineKey) (j : ℕ) → (nat_eq k.commit_idx 0 && nat_eq k.file_idx j) ≡ false → FileAway (is_key (keys.Line k)) j
+pub line-other : (k : LineKey) (j : ℕ) → (nat_eq k.commit_idx 0 && nat_eq k.file_idx j) ≡ false → FileAway (is_key (keys.Line k)) j
 line-other k j e = (refl, λ s. (refl, λ i. go (nat_eq k.commit_idx 0) (nat_eq k.file_idx j) _ e))
   where
     go : (a b c : Bool) → (a && b) ≡ false → (a && (b && c)) ≡ false

@@ -16,7 +16,7 @@ use Rattle.scm_selection.proofs.PartLemmas.{parted_on, parted, if_there, parts}
 
 -- what is known of the place where the first key stands that passes
 module _ (q : SelectionKey → Bool) where
-  abbrev IsPlaced : Option (List SelectionKey × List SelectionKey) → List SelectionKey → ℕ → Type 0
+  abbrev pub IsPlaced : Option (List SelectionKey × List SelectionKey) → List SelectionKey → ℕ → Type 0
   IsPlaced None ks place = place ≡ length ks
   IsPlaced (Some p) ks place = (place ≡ length p.0) × (length p.0 < length ks) × (slice_get ks (length p.0 + 1) ≡ slice_get p.1 0) × (drop (length p.0 + 1) ks ≡ p.1) × ((j : ℕ) → length p.0 ≡ suc j → slice_get ks j ≡ find_last (λ _. true) p.0)
 
@@ -37,15 +37,15 @@ module _ (q : SelectionKey → Bool) where
       let n : suc (length p.0) + 1 ≡ suc (length p.0 + 1) = omega arith in
       ((let e = h.0 in omega (arith, e)), (let l = h.1 in omega (arith, l)), rw n h.2, rw n h.3, before_step k ks p.0 h.4)
 
-  placed : (ks : List SelectionKey) → IsPlaced (parted q ks) ks (position_or_len q ks)
+  pub placed : (ks : List SelectionKey) → IsPlaced (parted q ks) ks (position_or_len q ks)
   placed [] = refl
   placed (k ∷ ks) = placed_step (q k) k ks (parted q ks) (position_or_len q ks) (placed ks)
 
-abbrev next_part : SelectionKey → SelectionKey → Option (List SelectionKey × List SelectionKey) → SelectionKey
+abbrev pub next_part : SelectionKey → SelectionKey → Option (List SelectionKey × List SelectionKey) → SelectionKey
 next_part sel o None = o
 next_part sel o (Some p) = unwrap_or (slice_get p.1 0) sel
 
-next-is : (ks : List SelectionKey) (sel o : SelectionKey) → next_key ks sel o ≡ next_part sel o (parted (is_key sel) ks)
+pub next-is : (ks : List SelectionKey) (sel o : SelectionKey) → next_key ks sel o ≡ next_part sel o (parted (is_key sel) ks)
 next-is ks sel o = go (parted (is_key sel) ks) (position_or_len (is_key sel) ks) (placed (is_key sel) ks)
   where
     go : (r : Option (List SelectionKey × List SelectionKey)) (place : ℕ) → IsPlaced (is_key sel) r ks place → next_at ks sel o (cond (nat_lt place (length ks)) (Some place) None) ≡ next_part sel o r
@@ -58,7 +58,7 @@ next-is ks sel o = go (parted (is_key sel) ks) (position_or_len (is_key sel) ks)
         rw (e, inside, h.2) refl
 
 -- of a part of the keys
-abbrev kept : Bool → (SelectionKey → Bool) → Option (List SelectionKey × List SelectionKey) → Option (List SelectionKey × List SelectionKey)
+abbrev pub kept : Bool → (SelectionKey → Bool) → Option (List SelectionKey × List SelectionKey) → Option (List SelectionKey × List SelectionKey)
 kept b test None = None
 kept false test (Some p) = None
 kept true test (Some p) = Some (filter test p.0, filter test p.1)
@@ -79,7 +79,7 @@ kept_step q test v false false k ks None qa tb same ih = rw tb ih
 kept_step q test true false false k ks (Some p) qa tb same ih = rw tb ih
 kept_step q test false false false k ks (Some p) qa tb same ih = rw tb ih
 
-kept-is : (q test : SelectionKey → Bool) (v : Bool) → ((k : SelectionKey) → q k ≡ true → test k ≡ v) → (ks : List SelectionKey) → parted q (filter test ks) ≡ kept v test (parted q ks)
+pub kept-is : (q test : SelectionKey → Bool) (v : Bool) → ((k : SelectionKey) → q k ≡ true → test k ≡ v) → (ks : List SelectionKey) → parted q (filter test ks) ≡ kept v test (parted q ks)
 kept-is q test v same [] = refl
 kept-is q test v same (k ∷ ks) = kept_step q test v (q k) (test k) k ks (parted q ks) refl refl (same k) (kept-is q test v same ks)
 
@@ -100,11 +100,11 @@ last-kept : (test : SelectionKey → Bool) (ks : List SelectionKey) → find_las
 last-kept test [] = refl
 last-kept test (k ∷ ks) = last-step (test k) k (filter test ks) (find_last test ks) (find_last test ks) refl (last-kept test ks)
 
-abbrev previous_part : SelectionKey → SelectionKey → Option (List SelectionKey × List SelectionKey) → SelectionKey
+abbrev pub previous_part : SelectionKey → SelectionKey → Option (List SelectionKey × List SelectionKey) → SelectionKey
 previous_part sel o None = o
 previous_part sel o (Some p) = unwrap_or (find_last (λ _. true) p.0) sel
 
-previous-is : (ks : List SelectionKey) (sel o : SelectionKey) → previous_key ks sel o ≡ previous_part sel o (parted (is_key sel) ks)
+pub previous-is : (ks : List SelectionKey) (sel o : SelectionKey) → previous_key ks sel o ≡ previous_part sel o (parted (is_key sel) ks)
 previous-is ks sel o = go (parted (is_key sel) ks) (position_or_len (is_key sel) ks) (placed (is_key sel) ks)
   where
     at : (before : List SelectionKey) → ((j : ℕ) → length before ≡ suc j → slice_get ks j ≡ find_last (λ _. true) before) → previous_at ks sel o (Some (length before)) ≡ unwrap_or (find_last (λ _. true) before) sel
@@ -120,11 +120,11 @@ previous-is ks sel o = go (parted (is_key sel) ks) (position_or_len (is_key sel)
         let inside : nat_lt (length p.0) (length ks) ≡ true = grind (arith, nat_tests) in
         rw (e, inside) (at p.0 h.4)
 
-abbrev behind : Option (List SelectionKey × List SelectionKey) → List SelectionKey
+abbrev pub behind : Option (List SelectionKey × List SelectionKey) → List SelectionKey
 behind None = []
 behind (Some p) = p.1
 
-behind-is : (ks : List SelectionKey) (sel : SelectionKey) → keys_behind ks sel ≡ behind (parted (is_key sel) ks)
+pub behind-is : (ks : List SelectionKey) (sel : SelectionKey) → keys_behind ks sel ≡ behind (parted (is_key sel) ks)
 behind-is ks sel = go (parted (is_key sel) ks) (position_or_len (is_key sel) ks) (placed (is_key sel) ks)
   where
     go : (r : Option (List SelectionKey × List SelectionKey)) (place : ℕ) → IsPlaced (is_key sel) r ks place → drop (place + 1) ks ≡ behind r
@@ -160,13 +160,13 @@ key-back (keys.File k) = refl
 key-back (keys.Section k) = refl
 key-back (keys.Line k) = refl
 
-key-same : (a b : SelectionKey) → is_key a b ≡ true → a ≡ b
+pub key-same : (a b : SelectionKey) → is_key a b ≡ true → a ≡ b
 key-same a b e = sym (key-back a) ∙ ap key_at (numbers-same (numbers_of a) (numbers_of b) e) ∙ key-back b
 
 -- ---- the moves, where the selection is a key of the files that is kept, and where it isn't
 
 module _ (test : SelectionKey → Bool) (fs : List File) (sel : SelectionKey) where
-  kept-parts : parted (is_key sel) (filter test (files_keys 0 fs)) ≡ kept (test sel) test (if_there (is_key_of fs sel) (keys_before fs sel) (keys_after fs sel))
+  pub kept-parts : parted (is_key sel) (filter test (files_keys 0 fs)) ≡ kept (test sel) test (if_there (is_key_of fs sel) (keys_before fs sel) (keys_after fs sel))
   kept-parts = kept-is (is_key sel) test (test sel) (λ k e. ap test (sym (key-same sel k e))) (files_keys 0 fs) ∙ ap (kept (test sel) test) (parts fs sel)
 
   away : (a b : Bool) (before after : List SelectionKey) → (a && b) ≡ false → kept b test (if_there a before after) ≡ None

@@ -1,7 +1,7 @@
 //! Moves from a key to another by steps through files, sections and lines, without lists of keys.
-ghost use Rattle.std.specs.Prelude.{◌≡◌, ◌&&◌, ◌∷◌, [], ◌+◌, List, drop, find, length, min, slice_get, take};
+ghost use Rattle.std.specs.Prelude.{◌≡◌, ◌&&◌, ◌∷◌, [], ◌+◌, List, drop, find, is_some, length, min, position, slice_get, take};
 ghost use Rattle.scm_types.specs.declared.line.SectionChangedLine.{SectionChangedLine};
-ghost use Rattle.scm_selection.specs.KeySet.{has_key};
+ghost use Rattle.scm_selection.specs.KeySet.{has_key, is_key};
 ghost use Rattle.scm_selection.specs.KeyLists.{all_keys, file_key, files_keys, is_visible, line_keys, section_key, section_keys, sections_keys, visible_keys};
 ghost use Rattle.scm_selection.specs.Moves.{inner_key, is_inside, is_same_kind, next_key, of_kind, previous_key};
 ghost use Rattle.scm_selection.specs.Steps.{after_file, after_section, before_file, before_section, find_last, is_editable_in, is_key_of, is_stop, keys_after, keys_before, lines_at, lines_of, sections_at};
@@ -476,6 +476,13 @@ fn is_shown(expanded: &KeySet, files: &[File<'_>], key: SelectionKey) -> bool
     ensures { result ≡ (is_key_of files.now key && is_visible (has_key expanded.now) key) }
 {
     is_key_of(files, key) && is_visible(expanded, key)
+}
+
+/// Whether a key is one of the visible keys.
+pub fn is_among_visible(expanded: &KeySet, files: &[File<'_>], key: SelectionKey) -> bool
+    ensures { result ≡ is_some (position (is_key key) (visible_keys (has_key expanded.now) files.now)) }
+{
+    is_shown(expanded, files, key)
 }
 
 /// The visible key after the selection, the selection if it is the last, and `otherwise` if it isn't
