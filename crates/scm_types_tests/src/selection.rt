@@ -1,11 +1,14 @@
-//! Lists and sets of keys, moves among them, toggles and counts, on a file of one section of two lines.
+//! Lists and sets of keys, moves among them, toggles and counts, on a file of one section of two lines and some more.
 use scm_selection::key_lists::{
     all_keys, file_key, first_key, line_key, section_key, section_keys, visible_keys,
 };
 use scm_selection::key_set::{KeySet, key_set_of};
-use scm_selection::moves::{inner_key, is_key, keep_kind, next_key, position_of, previous_key};
+use scm_selection::moves::is_key;
+use scm_selection::steps::{
+    first_inside, is_among_visible, next_of_kind, next_visible, previous_of_kind, previous_visible,
+};
 use scm_selection::{counts, toggles};
-use scm_state_tests::samples::{ADDED, commits_of, file_with};
+use scm_state_tests::samples::{ADDED, Held, commits_of, file_holding, file_with};
 use scm_types::{File, FileKey, Items, RecordError, RecordState, SelectionKey, Tristate};
 use std::alloc::Global;
 use std::process::Abort;
@@ -92,32 +95,132 @@ fn sets_of_keys(rt: HostRuntime) -> Result<(), RecordError> {
     Ok(())
 }
 
-#[test]
-fn moves_among_keys(rt: HostRuntime) {
-    let keys = sample_keys();
-    let [file, section, first, second] = keys;
-    assert_eq!(rt; position_of(&keys, section), Some(1));
-    for (moved, expected) in [
-        (next_key(&keys, section, file), first),
-        (next_key(&keys, second, file), second),
-        (next_key(&keys, SelectionKey::None, file), file),
-        (previous_key(&keys, second, file), first),
-        (previous_key(&keys, file, second), file),
-        (inner_key(&keys, file), section),
-        (inner_key(&keys, section), first),
-        (inner_key(&keys, second), second),
-    ] {
-        assert_eq!(rt; moved, expected);
+/// Four files: that one, one of an empty section after context, one of context alone, and one of a section of a line.
+fn several_files(alloc: Global) -> Result<Items<File<'static>>, RecordError> {
+    let mut files = samples(alloc)?;
+    files.push(file_with(alloc, &["d\n"], &[])?)?;
+    files.push(file_holding(alloc, Held::NoContext)?)?;
+    files.push(file_with(alloc, &["e\n"], &[(false, ADDED, "f\n")])?)?;
+    Ok(files)
+}
+
+/// A move of the selection.
+#[derive(Clone, Copy)]
+enum Move {
+    Next,
+    Previous,
+    NextOfKind,
+    PreviousOfKind,
+    Inside,
+}
+
+/// Where a move leads from a key: nowhere if it asks for a visible key and this isn't one.
+fn moved(expanded: &KeySet, files: &[File<'_>], step: Move, key: SelectionKey) -> SelectionKey {
+    match step {
+        Move::Next => next_visible(expanded, files, key, SelectionKey::None),
+        Move::Previous => previous_visible(expanded, files, key, SelectionKey::None),
+        Move::NextOfKind => next_of_kind(expanded, files, key, SelectionKey::None),
+        Move::PreviousOfKind => previous_of_kind(expanded, files, key, SelectionKey::None),
+        Move::Inside => first_inside(expanded, files, key),
     }
 }
 
+/// Checks moves from one key to another among these files, where these keys are unfolded.
+fn check_moves(
+    rt: &impl Abort,
+    alloc: Global,
+    files: &[File<'_>],
+    unfolded: &[SelectionKey],
+    moves: &[(Move, SelectionKey, SelectionKey)],
+) -> Result<(), RecordError> {
+    let expanded = key_set_of(alloc, unfolded)?;
+    for (step, from, to) in moves {
+        assert_eq!(rt; moved(&expanded, files, *step, *from), *to);
+    }
+    Ok(())
+}
+
 #[test]
-fn keys_of_a_kind(rt: HostRuntime) -> Result<(), RecordError> {
-    let keys = sample_keys();
-    let [_, _, first, second] = keys;
-    let mut lines = keys.to_vec(rt.alloc())?;
-    keep_kind(&mut lines, second);
-    assert_eq!(rt; lines.as_slice(), [first, second].as_slice());
+fn moves_among_unfolded_keys(rt: HostRuntime) -> Result<(), RecordError> {
+    let alloc = rt.alloc();
+    let files = several_files(alloc)?;
+    let unfolded = all_keys(alloc, files.as_slice())?;
+    let context = section_key(0, 0);
+    let moves = [
+        (Move::Next, file_key(0), section_key(0, 1)),
+        (Move::Next, line_key(0, 1, 1), file_key(1)),
+        (Move::Next, section_key(1, 1), file_key(2)),
+        (Move::Next, file_key(2), file_key(3)),
+        (Move::Next, line_key(3, 1, 0), line_key(3, 1, 0)),
+        (Move::Next, context, SelectionKey::None),
+        (Move::Previous, file_key(0), file_key(0)),
+        (Move::Previous, file_key(1), line_key(0, 1, 1)),
+        (Move::Previous, file_key(2), section_key(1, 1)),
+        (Move::Previous, file_key(3), file_key(2)),
+        (Move::Previous, context, SelectionKey::None),
+    ];
+    check_moves(&rt, alloc, files.as_slice(), unfolded.as_slice(), &moves)
+}
+
+#[test]
+fn moves_to_keys_of_a_kind(rt: HostRuntime) -> Result<(), RecordError> {
+    let alloc = rt.alloc();
+    let files = several_files(alloc)?;
+    let unfolded = all_keys(alloc, files.as_slice())?;
+    let moves = [
+        (Move::NextOfKind, file_key(2), file_key(3)),
+        (Move::NextOfKind, section_key(1, 1), section_key(3, 1)),
+        (Move::NextOfKind, line_key(0, 1, 1), line_key(3, 1, 0)),
+        (Move::NextOfKind, section_key(3, 1), section_key(3, 1)),
+        (Move::PreviousOfKind, file_key(1), file_key(0)),
+        (Move::PreviousOfKind, section_key(3, 1), section_key(1, 1)),
+        (Move::PreviousOfKind, line_key(3, 1, 0), line_key(0, 1, 1)),
+        (Move::PreviousOfKind, line_key(0, 1, 0), line_key(0, 1, 0)),
+        (Move::Inside, file_key(0), section_key(0, 1)),
+        (Move::Inside, file_key(2), section_key(3, 1)),
+        (Move::Inside, section_key(1, 1), line_key(3, 1, 0)),
+        (Move::Inside, line_key(0, 1, 0), line_key(0, 1, 0)),
+    ];
+    check_moves(&rt, alloc, files.as_slice(), unfolded.as_slice(), &moves)
+}
+
+#[test]
+fn moves_among_folded_keys(rt: HostRuntime) -> Result<(), RecordError> {
+    let alloc = rt.alloc();
+    let files = several_files(alloc)?;
+    let moves = [
+        (Move::Next, file_key(0), file_key(1)),
+        (Move::Next, section_key(0, 1), SelectionKey::None),
+        (Move::Previous, file_key(1), file_key(0)),
+        (Move::NextOfKind, file_key(3), file_key(3)),
+        (Move::PreviousOfKind, section_key(3, 1), SelectionKey::None),
+        (Move::Inside, file_key(0), section_key(0, 1)),
+    ];
+    check_moves(&rt, alloc, files.as_slice(), &[], &moves)?;
+    let moves = [
+        (Move::Next, section_key(0, 1), file_key(1)),
+        (Move::Previous, file_key(1), section_key(0, 1)),
+    ];
+    check_moves(&rt, alloc, files.as_slice(), &[file_key(0)], &moves)?;
+    let moves = [
+        (Move::Next, file_key(0), SelectionKey::None),
+        (Move::Inside, file_key(0), file_key(0)),
+    ];
+    check_moves(&rt, alloc, &[], &[file_key(0)], &moves)
+}
+
+#[test]
+fn keys_among_the_visible_ones(rt: HostRuntime) -> Result<(), RecordError> {
+    let files = samples(rt.alloc())?;
+    let expanded = key_set_of(rt.alloc(), &[file_key(0)])?;
+    for (key, is_there) in [
+        (section_key(0, 1), true),
+        (section_key(0, 0), false),
+        (line_key(0, 1, 0), false),
+        (file_key(1), false),
+    ] {
+        assert_eq!(rt; is_among_visible(&expanded, files.as_slice(), key), is_there);
+    }
     Ok(())
 }
 
