@@ -1,6 +1,7 @@
 //! One column of a row.
-ghost use Rattle.std.specs.Prelude.{◌≡◌, ◌-◌, ◌<◌, [], OnOk, OnErr, length};
+ghost use Rattle.std.specs.Prelude.{◌≡◌, ◌-◌, ◌<◌, [], OnOk, OnErr, length, option_map};
 ghost use Rattle.scm_cells.specs.Cell.{blank};
+ghost use Rattle.scm_cells.specs.Symbols.{symbol_of};
 
 use std::alloc::{AllocError, Global};
 use std::marker::Model;
@@ -110,6 +111,17 @@ impl Column {
             " "
         } else {
             self.symbol.as_str()
+        }
+    }
+
+    /// The symbol that is shown and begins here, if one does.
+    pub(crate) fn first_symbol(&self) -> Option<&str>
+        ensures { option_map (λ s. s.now) result ≡ symbol_of self.now.shown }
+    {
+        if self.offset == 0 {
+            Some(self.symbol())
+        } else {
+            None
         }
     }
 

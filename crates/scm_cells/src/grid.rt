@@ -1,10 +1,11 @@
 //! A grid of cells, as a screen shows it.
-ghost use Rattle.std.specs.Prelude.{◌≡◌, ◌+◌, ◌<◌, ◌≤◌, IfOk, IfErr, OnOk, OnErr, length, string_bytes};
+ghost use Rattle.std.specs.Prelude.{◌≡◌, ◌+◌, ◌<◌, ◌≤◌, IfOk, IfErr, OnOk, OnErr, length, option_map, string_bytes};
 ghost use Rattle.scm_cells.specs.Clusters.{text_width};
 ghost use Rattle.scm_cells.specs.Ruled.{cut_left};
 ghost use Rattle.scm_cells.specs.Laying.{columns_of};
 ghost use Rattle.scm_cells.specs.Counts.{one_row, one_call};
 ghost use Rattle.scm_cells.specs.Screen.{IsScreen, blank_screen, counted, put_on, view_of};
+ghost use Rattle.scm_cells.specs.Symbols.{symbol_at};
 ghost use Rattle.scm_errors.specs.declared.error.RecordError.TheVariants.{OutOfMemory};
 
 use crate::column::Column;
@@ -186,6 +187,15 @@ impl Grid {
         let columns = &mut self.rows[row];
         let rest = row::put_row(columns.as_mut_slice(), column, text, low, high)?;
         Ok(rest)
+    }
+
+    /// The symbol that begins at a row and column, if one does: none begins at a later column of a
+    /// symbol that takes more than one, nor past the last row and column.
+    pub fn symbol(&self, row: usize, column: usize) -> Option<&str>
+        ensures { option_map (λ s. s.now) result ≡ symbol_at self.now.rows row column }
+    {
+        let columns = self.rows.get(row)?;
+        row::symbol_in(columns.as_slice(), column)
     }
 
     /// The rows as text: for each a quote, its symbols, a quote and a newline. A grid without columns

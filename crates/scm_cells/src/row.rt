@@ -1,11 +1,12 @@
 //! A row of the grid: what a text put on it makes of its columns.
-ghost use Rattle.std.specs.Prelude.{◌≡◌, ◌+◌, ◌-◌, ◌^◌, ◌<◌, ◌≤◌, ◌++◌, pos, IfOk, OnOk, OnErr, length, map, take, slice_range, replicate, min, string_bytes};
+ghost use Rattle.std.specs.Prelude.{◌≡◌, ◌+◌, ◌-◌, ◌^◌, ◌<◌, ◌≤◌, ◌++◌, pos, IfOk, OnOk, OnErr, length, map, take, slice_range, replicate, min, option_map, string_bytes};
 ghost use Rattle.std.specs.Int.{int_max};
 ghost use Rattle.scm_cells.specs.Rect.{or_zero};
 ghost use Rattle.scm_cells.specs.Cell.{blank, shown, laid};
 ghost use Rattle.scm_cells.specs.Clusters.{text_width};
 ghost use Rattle.scm_cells.specs.Row.{cells_of, later_cells, whole_before, whole_after, overlay, put, row_text};
 ghost use Rattle.scm_cells.specs.Ruled.{cut_left};
+ghost use Rattle.scm_cells.specs.Symbols.{symbol_in};
 ghost use Rattle.scm_cells.specs.Laying.{fit, columns_of, IsPassed, IsBegun};
 
 use crate::column::Column;
@@ -272,6 +273,13 @@ pub(crate) fn put_row<'a>(
     let laid = lay(&mut columns[start.from..high], start.blanks, &mut clusters)?;
     show_between(columns, start.from, start.from + laid.end);
     Ok((clusters, start.passed + laid.taken))
+}
+
+/// The symbol that begins at a column of the row, if one does.
+pub(crate) fn symbol_in(columns: &[Column], column: usize) -> Option<&str>
+    ensures { option_map (λ s. s.now) result ≡ symbol_in (map shown columns.now) column }
+{
+    columns.get(column)?.first_symbol()
 }
 
 /// Adds the row's symbols between quotes, and a newline; nothing for a row without columns.

@@ -336,6 +336,25 @@ fn wide_symbols_under_others(rt: HostRuntime) -> Result<(), RecordError> {
 }
 
 #[test]
+fn symbols_with_their_columns(rt: HostRuntime) -> Result<(), RecordError> {
+    let mut grid = Grid::new(rt.alloc(), 4, 2)?;
+    put(&rt, &mut grid, 1, 0, "日e\u{301}", 0, 4)?;
+    for (row, column, symbol) in [
+        (1, 0, Some("日")),
+        (1, 1, None),
+        (1, 2, Some("e\u{301}")),
+        (1, 3, Some(" ")),
+        (1, 4, None),
+        (0, 0, Some(" ")),
+        (2, 0, None),
+        (usize::MAX, usize::MAX, None),
+    ] {
+        assert_eq!(rt; grid.symbol(row, column), symbol);
+    }
+    Ok(())
+}
+
+#[test]
 fn grids_without_columns_show_nothing(rt: HostRuntime) -> Result<(), RecordError> {
     let narrow = Grid::new(rt.alloc(), 0, 3)?;
     check_view(&rt, &narrow, "")
