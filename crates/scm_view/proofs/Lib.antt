@@ -10,6 +10,8 @@ pub mod OverlaysPicture
 pub mod ScreenLemmas
 pub mod HeadingLemmas
 pub mod HiddenLemmas
+pub mod CoverLemmas
+pub mod WidthLemmas
 pub mod CountLemmas
 pub mod FewLemmas
 pub mod PaintsLemmas

@@ -286,6 +286,7 @@ impl<'a> Component for AppView<'a> {
     type Id = ComponentId;
 
     ghost use Rattle.scm_view.specs.declared.ids.ComponentId.TheVariants.{App};
+
     ghost key = { λ a. App };
 
     ghost picture = { app_picture };

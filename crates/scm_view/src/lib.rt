@@ -48,3 +48,4 @@ mod spots;
 mod texts;
 mod tops;
 mod tristate_box;
+mod widths;

@@ -1,8 +1,10 @@
 //! The lines of a section.
-ghost use Rattle.std.specs.Prelude.{◌≡◌, pos, ◌+ℤ◌, OnOk, IfErr};
+ghost use Rattle.std.specs.Prelude.{◌≡◌, ◌+◌, pos, ◌+ℤ◌, OnOk, IfErr};
 ghost use Rattle.scm_render.specs.Picture.{PictureInRange};
 ghost use Rattle.scm_render.specs.Canvas.{with_picture};
-ghost use Rattle.scm_render.specs.Drawing.{text_picture};
+ghost use Rattle.scm_render.specs.Drawing.{text_picture, texts_width};
+ghost use Rattle.scm_cells.specs.Replaced.{line_pieces};
+ghost use Rattle.scm_view.specs.Covers.{texts_cover};
 ghost use Rattle.scm_cells.specs.Counts.{added, one_call};
 ghost use Rattle.scm_view.specs.Counts.{drawn, on_row};
 ghost use Rattle.scm_errors.specs.declared.error.RecordError.TheVariants.{OutOfMemory};
@@ -13,10 +15,11 @@ ghost use Rattle.scm_view.specs.Texts.{number_text, sign_text};
 
 use crate::ids::ComponentId;
 use crate::reach::cover_row;
-use crate::shown::{begin_row, show_box, show_text};
+use crate::shown::{begin_row, cover_texts, is_on_screen, show_box, show_text};
 use crate::texts::{number_text, sign_text};
 use crate::tristate_box::TristateBox;
-use scm_cells::{Span, push_spans_from_line};
+use crate::widths::{number_width, pieces_width};
+use scm_cells::{Span, push_spans_from_line, text_width};
 use scm_render::{Component, Viewport};
 use scm_types::{ChangeType, LineKey, RecordError, SelectionKey};
 use std::alloc::Global;
@@ -52,6 +55,16 @@ pub struct SectionLineView<'a> {
     pub inner: SectionLineViewInner<'a>,
 }
 
+/// Covers what a number or sign of so many columns and a line's text would take.
+fn cover_line(viewport: &mut Viewport<ComponentId>, x: isize, y: isize, front: usize, line: &str)
+    requires { PictureInRange (texts_cover viewport.old.canvas.sight x y (front + texts_width (line_pieces line.now))) }
+    ensures new { viewport.new.canvas ≡ with_picture viewport.old.canvas (texts_cover viewport.old.canvas.sight x y (front + texts_width (line_pieces line.now))) }
+    ensures counts { viewport.new.counts ≡ viewport.old.counts }
+    ensures rect { viewport.new.canvas.sight.rect ≡ viewport.old.canvas.sight.rect }
+{
+    cover_texts(viewport, x, y, front + pieces_width(line));
+}
+
 /// Draws a line's number or sign, and its text as a screen can show it.
 fn draw_line_texts(
     alloc: Global,
@@ -67,11 +80,41 @@ fn draw_line_texts(
     ensures rect { viewport.new.canvas.sight.rect ≡ viewport.old.canvas.sight.rect }
     ensures err { IfErr result (λ e. e ≡ OutOfMemory) }
 {
-    let mut spans = Vec::new(alloc);
-    spans.push(Span(front))?;
-    push_spans_from_line(line, &mut spans)?;
-    show_text(viewport, x, y, spans.as_slice())?;
-    Ok(())
+    if is_on_screen(viewport, y) {
+        let mut spans = Vec::new(alloc);
+        spans.push(Span(front))?;
+        push_spans_from_line(line, &mut spans)?;
+        show_text(viewport, x, y, spans.as_slice())?;
+        Ok(())
+    } else {
+        cover_line(viewport, x, y, text_width(front), line);
+        Ok(())
+    }
+}
+
+/// Draws a line's number, and its text as a screen can show it.
+fn draw_numbered_texts(
+    alloc: Global,
+    viewport: &mut Viewport<ComponentId>,
+    x: isize,
+    y: isize,
+    number: usize,
+    line: &str,
+) -> Result<(), RecordError>
+    requires { PictureInRange {K = ComponentId} (text_picture viewport.old.canvas.sight x y (line_texts (number_text number) line.now)) }
+    ensures ok { OnOk result (viewport.new.canvas ≡ with_picture viewport.old.canvas (text_picture viewport.old.canvas.sight x y (line_texts (number_text number) line.now))) }
+    ensures counts { OnOk result (viewport.new.counts ≡ added viewport.old.counts (on_row viewport.old.canvas.sight.rect y one_call)) }
+    ensures rect { viewport.new.canvas.sight.rect ≡ viewport.old.canvas.sight.rect }
+    ensures err { IfErr result (λ e. e ≡ OutOfMemory) }
+{
+    if is_on_screen(viewport, y) {
+        let text = number_text(alloc, number)?;
+        draw_line_texts(alloc, viewport, x, y, text.as_str(), line)?;
+        Ok(())
+    } else {
+        cover_line(viewport, x, y, number_width(number), line);
+        Ok(())
+    }
 }
 
 /// Draws a line of context.
@@ -89,9 +132,8 @@ fn draw_context_line(
     ensures rect { viewport.new.canvas.sight.rect ≡ viewport.old.canvas.sight.rect }
     ensures err { IfErr result (λ e. e ≡ OutOfMemory) }
 {
-    let text = number_text(alloc, number)?;
     cover_row(viewport, y);
-    draw_line_texts(alloc, viewport, x, y, text.as_str(), line)?;
+    draw_numbered_texts(alloc, viewport, x, y, number, line)?;
     Ok(())
 }
 

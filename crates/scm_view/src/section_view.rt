@@ -274,7 +274,13 @@ impl<'a> SectionView<'a> {
         let first = rows_above(y, screen.y, lines.len());
         let end = rows_above(y, screen.end_y(), lines.len());
         let upper = &lines[..end];
-        self.draw_changed_lines(viewport, x, y.strict_add_unsigned(first), first, &upper[first..])
+        self.draw_changed_lines(
+            viewport,
+            x,
+            y.strict_add_unsigned(first),
+            first,
+            &upper[first..],
+        )
     }
 
     /// Draws the first row of a section of changed lines.

@@ -12,6 +12,7 @@ ghost use Rattle.scm_view.specs.Pictures.{box_part};
 ghost use Rattle.scm_view.specs.Buttons.{button_part};
 ghost use Rattle.scm_view.specs.Counts.{on_row};
 ghost use Rattle.scm_view.specs.Paints.{is_seen, rows_above};
+ghost use Rattle.scm_view.specs.Covers.{texts_cover};
 
 use crate::button::Button;
 use crate::button_row::button_width;
@@ -36,7 +37,7 @@ fn row_of(x: isize, y: isize, width: usize) -> Rect
 }
 
 /// The screen has the row of the document.
-fn is_on_screen(viewport: &Viewport<ComponentId>, y: isize) -> bool
+pub(crate) fn is_on_screen(viewport: &Viewport<ComponentId>, y: isize) -> bool
     ensures test { result ≡ has_row viewport.now.canvas.sight.rect y }
     ensures rows { length viewport.now.canvas.rows ≡ viewport.now.canvas.sight.rect.height }
 {
@@ -93,17 +94,15 @@ pub(crate) fn show_span(
     }
 }
 
-/// Covers what texts one after another would take, and the ellipsis where they go past the mask.
-fn cover_texts(viewport: &mut Viewport<ComponentId>, x: isize, y: isize, spans: &[Span])
-    requires hidden { has_row viewport.old.canvas.sight.rect y ≡ false }
-    requires rows { length viewport.old.canvas.rows ≡ viewport.old.canvas.sight.rect.height }
-    requires picture { PictureInRange {K = ComponentId} (text_picture viewport.old.canvas.sight x y (span_texts spans.now)) }
-    ensures new { viewport.new.canvas ≡ with_picture viewport.old.canvas (text_picture viewport.old.canvas.sight x y (span_texts spans.now)) }
+/// Covers so many columns of a row, and the ellipsis where they go past the mask.
+pub(crate) fn cover_texts(viewport: &mut Viewport<ComponentId>, x: isize, y: isize, width: usize)
+    requires { PictureInRange (texts_cover viewport.old.canvas.sight x y width) }
+    ensures new { viewport.new.canvas ≡ with_picture viewport.old.canvas (texts_cover viewport.old.canvas.sight x y width) }
     ensures counts { viewport.new.counts ≡ viewport.old.counts }
     ensures rect { viewport.new.canvas.sight.rect ≡ viewport.old.canvas.sight.rect }
 {
     let end = viewport.mask_rect().end_x();
-    let texts = row_of(x, y, spans_width(spans));
+    let texts = row_of(x, y, width);
     cover_rect(viewport, texts);
     if end < texts.end_x() {
         cover_rect(viewport, row_of(end - 1, y, text_width("…")));
@@ -139,7 +138,7 @@ pub(crate) fn show_text(
         viewport.draw_text(x, y, spans)?;
         Ok(())
     } else {
-        cover_texts(viewport, x, y, spans);
+        cover_texts(viewport, x, y, spans_width(spans));
         Ok(())
     }
 }

@@ -27,8 +27,8 @@ paint_section-requires-clause-picture c =
     let more : shown_sections c.loop-index.before (drop i views) ≡ shown_section c.is_shown-shown.result v ++ shown_sections (is_open v) (drop (i + 1) views) =
     rw test (rw (sym c.index-views-index.is) at (shown_sections-more c.loop-index.before views i v c.loop-index-test.true)) in
     let all : sections_picture (shown_sections c.loop-index.before (drop i views)) c.args.viewport.now.canvas.sight c.args.x c.loop-index.row
-        ≡ followed_by (one (shown_section c.is_shown-shown.result v) c.args.x c.loop-index.row c.args.viewport.now.canvas.sight)
-        (sections_picture (shown_sections (is_open v) (drop (i + 1) views)) c.args.viewport.now.canvas.sight c.args.x (c.loop-index.row +ℤ pos (length (sections_rows (shown_section c.is_shown-shown.result v))))) =
+    ≡ followed_by (one (shown_section c.is_shown-shown.result v) c.args.x c.loop-index.row c.args.viewport.now.canvas.sight)
+    (sections_picture (shown_sections (is_open v) (drop (i + 1) views)) c.args.viewport.now.canvas.sight c.args.x (c.loop-index.row +ℤ pos (length (sections_rows (shown_section c.is_shown-shown.result v))))) =
     ap (λ ps. sections_picture ps c.args.viewport.now.canvas.sight c.args.x c.loop-index.row) more
     ∙ sections_picture-append (shown_section c.is_shown-shown.result v) (shown_sections (is_open v) (drop (i + 1) views)) c.args.viewport.now.canvas.sight c.args.x c.loop-index.row in
     let left = simp (to_z-of_z, c.loop-index.row-is) at c.loop-index.invariant.left in
@@ -45,8 +45,8 @@ row_below-row-requires-clause-end c =
     let more : shown_sections c.loop-index.before (drop i views) ≡ shown_section c.is_shown-shown.result v ++ shown_sections (is_open v) (drop (i + 1) views) =
     rw test (rw (sym c.index-views-index.is) at (shown_sections-more c.loop-index.before views i v c.loop-index-test.true)) in
     let all : sections_picture (shown_sections c.loop-index.before (drop i views)) c.args.viewport.now.canvas.sight c.args.x c.loop-index.row
-        ≡ followed_by (one (shown_section c.is_shown-shown.result v) c.args.x c.loop-index.row c.args.viewport.now.canvas.sight)
-        (sections_picture (shown_sections (is_open v) (drop (i + 1) views)) c.args.viewport.now.canvas.sight c.args.x (c.loop-index.row +ℤ pos (length (sections_rows (shown_section c.is_shown-shown.result v))))) =
+    ≡ followed_by (one (shown_section c.is_shown-shown.result v) c.args.x c.loop-index.row c.args.viewport.now.canvas.sight)
+    (sections_picture (shown_sections (is_open v) (drop (i + 1) views)) c.args.viewport.now.canvas.sight c.args.x (c.loop-index.row +ℤ pos (length (sections_rows (shown_section c.is_shown-shown.result v))))) =
     ap (λ ps. sections_picture ps c.args.viewport.now.canvas.sight c.args.x c.loop-index.row) more
     ∙ sections_picture-append (shown_section c.is_shown-shown.result v) (shown_sections (is_open v) (drop (i + 1) views)) c.args.viewport.now.canvas.sight c.args.x c.loop-index.row in
     let left = simp (to_z-of_z, c.loop-index.row-is) at c.loop-index.invariant.left in
@@ -64,8 +64,8 @@ loop-index-preserved c =
     let more : shown_sections c.loop-index.before (drop i views) ≡ shown_section c.is_shown-shown.result v ++ shown_sections (is_open v) (drop (i + 1) views) =
     rw test (rw (sym c.index-views-index.is) at (shown_sections-more c.loop-index.before views i v c.loop-index-test.true)) in
     let all : sections_picture (shown_sections c.loop-index.before (drop i views)) c.args.viewport.now.canvas.sight c.args.x c.loop-index.row
-        ≡ followed_by (one (shown_section c.is_shown-shown.result v) c.args.x c.loop-index.row c.args.viewport.now.canvas.sight)
-        (sections_picture (shown_sections (is_open v) (drop (i + 1) views)) c.args.viewport.now.canvas.sight c.args.x (c.loop-index.row +ℤ pos (length (sections_rows (shown_section c.is_shown-shown.result v))))) =
+    ≡ followed_by (one (shown_section c.is_shown-shown.result v) c.args.x c.loop-index.row c.args.viewport.now.canvas.sight)
+    (sections_picture (shown_sections (is_open v) (drop (i + 1) views)) c.args.viewport.now.canvas.sight c.args.x (c.loop-index.row +ℤ pos (length (sections_rows (shown_section c.is_shown-shown.result v))))) =
     ap (λ ps. sections_picture ps c.args.viewport.now.canvas.sight c.args.x c.loop-index.row) more
     ∙ sections_picture-append (shown_section c.is_shown-shown.result v) (shown_sections (is_open v) (drop (i + 1) views)) c.args.viewport.now.canvas.sight c.args.x c.loop-index.row in
     let left = simp (to_z-of_z, c.loop-index.row-is) at c.loop-index.invariant.left in

@@ -19,13 +19,13 @@ cover_row-requires c =
     let fy : FitsSigned w64 c.args.y = c.ranges.y in
     simp to_z-of_z (PictureInRange-left _ _ c.requires)
 
-pub draw_line_texts-requires : goal.draw_line_texts-requires
+pub draw_numbered_texts-requires : goal.draw_numbered_texts-requires
 unfolding context_picture
-draw_line_texts-requires c =
+draw_numbered_texts-requires c =
     let fx : FitsSigned w64 c.args.x = c.ranges.x in
     let fy : FitsSigned w64 c.args.y = c.ranges.y in
     let cover = simp to_z-of_z at c.cover_row.ensures.new in
-    rw (c.as_str.ensures.value, c.in_ok-text.ensures.ok) (simp to_z-of_z (rest _ _ _ (texts c.args.number c.args.line.now c.args.x c.args.y) cover c.requires))
+    simp to_z-of_z (rest _ _ _ (texts c.args.number c.args.line.now c.args.x c.args.y) cover c.requires)
 
 pub returns-clause-ok : goal.returns-clause-ok
 unfolding context_picture
@@ -33,5 +33,5 @@ returns-clause-ok c =
     let fx : FitsSigned w64 c.args.x = c.ranges.x in
     let fy : FitsSigned w64 c.args.y = c.ranges.y in
     let cover = simp to_z-of_z at c.cover_row.ensures.new in
-    let drawn = rw (c.as_str.ensures.value, c.in_ok-text.ensures.ok) at (simp to_z-of_z at c.in_ok-draw_line_texts.ensures.ok) in
+    let drawn = simp to_z-of_z at c.in_ok-draw_numbered_texts.ensures.ok in
     step _ _ _ _ (texts c.args.number c.args.line.now c.args.x c.args.y) cover drawn

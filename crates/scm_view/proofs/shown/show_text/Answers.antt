@@ -1,10 +1,28 @@
 use Rattle.std.proofs.Common.{◌∙◌, sym, FitsSigned, w64}
 use Rattle.std.proofs.lemmas.Int.{to_z-of_z}
+use Rattle.scm_cells.specs.Spans.{span_texts}
+use Rattle.scm_render.proofs.DrawLemmas.{line_in_range, text_picture-line}
+use Rattle.scm_view.specs.declared.ids.ComponentId.{ComponentId}
 use Rattle.scm_view.proofs.HiddenLemmas.{counted-shown, counted-hidden}
+use Rattle.scm_view.proofs.CoverLemmas.{narrow, cover-in-range, cover-hidden}
 use Rattle.scm_view.proofs.shown.show_text.Goals as goal
 
-pub cover_texts-requires-clause-hidden : goal.cover_texts-requires-clause-hidden
-cover_texts-requires-clause-hidden c = sym c.is_on_screen.ensures.test ∙ c.if-is_on_screen.false
+pub spans_width-requires : goal.spans_width-requires
+spans_width-requires c = narrow _ _ _ (line_in_range {K = ComponentId} _ _ _ _ (text_picture-line _ _ _ _ c.requires))
+
+pub cover_texts-requires : goal.cover_texts-requires
+cover_texts-requires c =
+    let fx : FitsSigned w64 c.args.x = c.ranges.x in
+    let fy : FitsSigned w64 c.args.y = c.ranges.y in
+    simp to_z-of_z (cover-in-range _ _ _ _ (span_texts c.args.spans.now) c.spans_width.ensures c.requires)
+
+pub returns-else-is_on_screen-clause-ok : goal.returns-else-is_on_screen-clause-ok
+returns-else-is_on_screen-clause-ok c =
+    let fx : FitsSigned w64 c.args.x = c.ranges.x in
+    let fy : FitsSigned w64 c.args.y = c.ranges.y in
+    let test = simp to_z-of_z at c.is_on_screen.ensures.test in
+    let rows = c.is_on_screen.ensures.rows in
+    simp to_z-of_z at c.cover_texts.ensures.new ∙ cover-hidden c.args.viewport.now.canvas c.args.x c.args.y _ (span_texts c.args.spans.now) c.spans_width.ensures rows (sym test ∙ c.if-is_on_screen.false)
 
 pub returns-in_ok-draw_text-clause-counts : goal.returns-in_ok-draw_text-clause-counts
 returns-in_ok-draw_text-clause-counts c =
