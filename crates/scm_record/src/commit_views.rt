@@ -23,7 +23,11 @@ impl<'a> Showing<'a> {
     }
 
     /// What is shown of a commit.
-    fn commit_view(&self, alloc: Global, commit_idx: usize) -> Result<CommitView<'_>, RecordError>
+    pub fn commit_view(
+        &self,
+        alloc: Global,
+        commit_idx: usize,
+    ) -> Result<CommitView<'_>, RecordError>
         ensures ok { IfOk result (λ view. Shows view self.now commit_idx) }
         ensures err { IfErr result (λ e. e ≡ OutOfMemory) }
     {
@@ -52,7 +56,7 @@ impl<'a> Showing<'a> {
     }
 
     /// All that is shown.
-    pub(crate) fn app_view(&self, alloc: Global) -> Result<AppView<'_>, RecordError>
+    pub fn app_view(&self, alloc: Global) -> Result<AppView<'_>, RecordError>
         ensures ok { IfOk result (λ view. ShowsSession view self.now) }
         ensures err { IfErr result (λ e. e ≡ OutOfMemory) }
     {

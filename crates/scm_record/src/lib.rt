@@ -43,3 +43,4 @@ pub use scm_view::{
     QuitDialogButtonId, RowIndex, RowPlace, SectionKey, SectionLineView, SectionLineViewInner,
     SectionSelection, SectionView, SelectionKey, TristateBox, TristateIconStyle,
 };
+pub use views::Showing;

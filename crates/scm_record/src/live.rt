@@ -6,7 +6,7 @@ ghost use Rattle.scm_errors.specs.declared.error.RecordError.TheVariants.{OutOfM
 ghost use Rattle.scm_types.specs.Limits.{is_accepted_state};
 ghost use Rattle.scm_input.specs.declared.inputs.TerminalKind.{TerminalKind};
 ghost use Rattle.scm_input.specs.Script.{Edit, Read};
-ghost use Rattle.scm_record.specs.Session.{IsDrawable, Session, after_frame, listed, message_of, start, without_pending};
+ghost use Rattle.scm_record.specs.Session.{IsDrawable, Session, after_frame, listed, message_of, shown_of, start, without_pending};
 ghost use Rattle.scm_record.specs.Frames.{HasSize, IsShown, columns_of, rows_of, scene_of};
 ghost use Rattle.scm_record.specs.Run.{Within, world_in};
 ghost use Rattle.scm_record.specs.Calls.{AnswerFails, Answers, Call, Fails, HandleFails, Handles, IsRun, Leads, Path, live};
@@ -19,6 +19,7 @@ ghost use Rattle.scm_types.specs.declared.state.RecordState.{RecordState};
 use crate::frame::DrawnFrame;
 use crate::runs::{is_short, no_such_place, too_long};
 use crate::selector::{Flow, Selector};
+use crate::views::Showing;
 use scm_cells::Grid;
 use scm_input::{Event, TerminalKind};
 use scm_types::{RecordError, RecordState};
@@ -208,6 +209,14 @@ impl<'state> LiveSession<'state> {
         ensures { result.now ≡ self.now.session.state }
     {
         self.selector.state()
+    }
+
+    /// What the session shows, as views are made of it.
+    pub fn showing(&self) -> Showing<'_>
+        ensures value { result ≡ shown_of self.now.session }
+        ensures accepted { IsTrue (is_accepted_state result.state) }
+    {
+        self.selector.showing()
     }
 
     /// What the screen shows.

@@ -12,9 +12,9 @@ use scm_view::{
 use std::marker::Model;
 
 /// What a session shows: all on which the screen depends but its size and how far it is scrolled. The
-/// state is within the limits.
+/// state is within the limits. Views of it are made here.
 #[derive(Drop)]
-pub(crate) struct Showing<'a> {
+pub struct Showing<'a> {
     /// The state.
     pub(crate) state: &'a RecordState<'a>,
     /// What is selected.
