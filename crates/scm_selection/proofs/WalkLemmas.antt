@@ -221,6 +221,18 @@ previous-turned ks once key other =
     go None = refl
     go (Some p) = ap (λ r. unwrap_or r key) (last-is p.0)
 
+-- what stands in a list stands in it turned round
+pub among-turned : (ks : List SelectionKey) → Once ks → (key : SelectionKey) → is_some (position (is_key key) (reverse ks)) ≡ is_some (position (is_key key) ks)
+among-turned ks once key =
+    is-placed (is_key key) (reverse ks)
+    ∙ ap is_some (turned-parts ks once key (parted (is_key key) ks) refl)
+    ∙ go (parted (is_key key) ks)
+    ∙ sym (is-placed (is_key key) ks)
+  where
+    go : (r : Option (List SelectionKey × List SelectionKey)) → is_some (turned r) ≡ is_some r
+    go None = refl
+    go (Some p) = refl
+
 -- ---- a step through a list without repeats
 
 module _ (ks : List SelectionKey) (once : Once ks) (key : SelectionKey) where
