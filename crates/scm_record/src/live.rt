@@ -142,6 +142,15 @@ fn settle<'state>(
     }
 }
 
+/// A copy of a text.
+fn copied(alloc: Global, text: &str) -> Result<String, RecordError>
+    ensures ok { IfOk result (λ copy. string_bytes copy ≡ text.now) }
+    ensures err { IfErr result (λ e. e ≡ OutOfMemory) }
+{
+    let copy = String::from_str(alloc, text)?;
+    Ok(copy)
+}
+
 impl<'state> LiveSession<'state> {
     /// A session over the state, drawn on a screen of this size.
     ///
@@ -253,6 +262,19 @@ impl<'state> Editing<'state> {
         ensures { result.now ≡ unwrap_or (message_of self.now.session self.now.commit) [] }
     {
         self.selector.message(self.commit)
+    }
+
+    /// Leaves the message as it stands, and goes on to what follows: what a user does who leaves an
+    /// editor without another message.
+    ///
+    /// It is an answer of the same text, so that it is a step of a run too, and takes memory for that
+    /// text. To end the session in place of this, let go of it.
+    pub fn keep(self) -> Result<Turn<'state>, RecordError>
+        ensures ok { IfOk result (λ turn. Answers self.entry (unwrap_or (message_of self.entry.session self.entry.commit) []) turn) }
+        ensures err { IfErr result (λ e. AnswerFails self.entry (unwrap_or (message_of self.entry.session self.entry.commit) []) e) }
+    {
+        let text = copied(self.selector.allocator(), self.message())?;
+        self.answer(text)
     }
 
     /// Gives the commit the message, and goes on to what follows.

@@ -1,0 +1,8 @@
+use Rattle.std.proofs.lemmas.Result.{err_from_is_err_and}
+use Rattle.scm_record.proofs.LiveLemmas.{fails-memory}
+use Rattle.scm_record.proofs.live.Editing.keep.Goals as goal
+
+pub returns-in_err-text-clause-err : goal.returns-in_err-text-clause-err
+returns-in_err-text-clause-err c =
+    let p = err_from_is_err_and c.from_residual.result c.from_residual.ensures.1 in
+    rw (p.1, p.2) (λ drawn reads edits frames. fails-memory _ c.in_err-text.field-0.0 c.in_err-text.ensures.err)
