@@ -8,6 +8,8 @@ pub mod Shown
 pub mod Pictures
 -- What stands on the screen's rows after drawing.
 pub mod Paints
+-- The titles of headings.
+pub mod Titles
 -- What texts cover where the screen has not their row.
 pub mod Covers
 -- Rows over rows: what stands on consecutive rows, and who owns each of their columns.

@@ -3,7 +3,7 @@
 use crate::heading::draw_heading;
 use crate::ids::ComponentId;
 use crate::shown::begin_row;
-use crate::texts::path_text;
+use crate::title::Title;
 use crate::tristate_box::TristateBox;
 use scm_render::{Component, Viewport};
 use scm_types::{FileKey, RecordError};
@@ -54,14 +54,18 @@ impl<'a> Component for FileViewHeader<'a> {
         y: isize,
     ) -> Result<(), RecordError> {
         begin_row(viewport, y);
-        let title = path_text(alloc, self.old_path, self.path)?;
+        let title = Title::File {
+            old_path: self.old_path,
+            path: self.path,
+        };
         draw_heading(
+            alloc,
             viewport,
             x,
             y,
             &self.toggle_box,
             &self.expand_box,
-            title.as_str(),
+            &title,
         )?;
         Ok(())
     }

@@ -6,49 +6,54 @@ ghost use Rattle.scm_cells.specs.Counts.{added};
 ghost use Rattle.scm_view.specs.Counts.{drawn, on_row};
 ghost use Rattle.scm_errors.specs.declared.error.RecordError.TheVariants.{OutOfMemory};
 ghost use Rattle.scm_view.specs.Pictures.{title_picture, heading_picture};
+ghost use Rattle.scm_view.specs.Titles.{title_text};
 
 use crate::ids::ComponentId;
 use crate::reach::{columns, fold_column};
-use crate::shown::{show_blank, show_box, show_text};
+use crate::shown::{show_blank, show_box, show_title};
+use crate::title::Title;
 use crate::tristate_box::TristateBox;
-use scm_cells::{Mask, Span};
+use scm_cells::Mask;
 use scm_render::Viewport;
 use scm_types::RecordError;
+use std::alloc::Global;
 
 /// Draws what stands before the box of a fold that begins in column `fold_x`: spaces, and over them
 /// the box of a mark and a title.
 fn draw_before_fold(
+    alloc: Global,
     viewport: &mut Viewport<ComponentId>,
     x: isize,
     y: isize,
     width: usize,
     toggle_box: &TristateBox<ComponentId>,
-    title: &str,
+    title: &Title<'_>,
 ) -> Result<(), RecordError>
-    requires { PictureInRange (title_picture toggle_box.now title.now width viewport.old.canvas.sight x y) }
-    ensures ok { OnOk result (viewport.new.canvas ≡ with_picture viewport.old.canvas (title_picture toggle_box.now title.now width viewport.old.canvas.sight x y)) }
+    requires { PictureInRange (title_picture toggle_box.now (title_text title.now) width viewport.old.canvas.sight x y) }
+    ensures ok { OnOk result (viewport.new.canvas ≡ with_picture viewport.old.canvas (title_picture toggle_box.now (title_text title.now) width viewport.old.canvas.sight x y)) }
     ensures counts { OnOk result (viewport.new.counts ≡ added viewport.old.counts (on_row viewport.old.canvas.sight.rect y (drawn 0 3))) }
     ensures rect { viewport.new.canvas.sight.rect ≡ viewport.old.canvas.sight.rect }
     ensures err { IfErr result (λ e. e ≡ OutOfMemory) }
 {
     show_blank(viewport, x, y, width)?;
     show_box(viewport, x, y, toggle_box)?;
-    show_text(viewport, x + 4, y, &[Span(title)])?;
+    show_title(alloc, viewport, x + 4, y, title)?;
     Ok(())
 }
 
 /// Draws a heading: the box of a fold at the end of what the mask lets through, and before it the box
 /// of a mark and a title.
 pub(crate) fn draw_heading(
+    alloc: Global,
     viewport: &mut Viewport<ComponentId>,
     x: isize,
     y: isize,
     toggle_box: &TristateBox<ComponentId>,
     expand_box: &TristateBox<ComponentId>,
-    title: &str,
+    title: &Title<'_>,
 ) -> Result<(), RecordError>
-    requires { PictureInRange (heading_picture (record { toggle = toggle_box.now; fold = expand_box.now; title = title.now }) viewport.old.canvas.sight x y) }
-    ensures ok { OnOk result (viewport.new.canvas ≡ with_picture viewport.old.canvas (heading_picture (record { toggle = toggle_box.now; fold = expand_box.now; title = title.now }) viewport.old.canvas.sight x y)) }
+    requires { PictureInRange (heading_picture (record { toggle = toggle_box.now; fold = expand_box.now; title = title_text title.now }) viewport.old.canvas.sight x y) }
+    ensures ok { OnOk result (viewport.new.canvas ≡ with_picture viewport.old.canvas (heading_picture (record { toggle = toggle_box.now; fold = expand_box.now; title = title_text title.now }) viewport.old.canvas.sight x y)) }
     ensures counts { OnOk result (viewport.new.counts ≡ added viewport.old.counts (on_row viewport.old.canvas.sight.rect y (drawn 0 4))) }
     ensures rect { viewport.new.canvas.sight.rect ≡ viewport.old.canvas.sight.rect }
     ensures err { IfErr result (λ e. e ≡ OutOfMemory) }
@@ -62,7 +67,7 @@ pub(crate) fn draw_heading(
         width: Some(width),
         height: Some(1),
     }));
-    draw_before_fold(viewport, x, y, width, toggle_box, title)?;
+    draw_before_fold(alloc, viewport, x, y, width, toggle_box, title)?;
     viewport.swap_mask(outer);
     Ok(())
 }

@@ -46,6 +46,7 @@ mod section_view;
 mod shown;
 mod spots;
 mod texts;
+mod title;
 mod tops;
 mod tristate_box;
 mod widths;

@@ -20,7 +20,8 @@ use crate::line_rows::LineRows;
 use crate::reach::{cover_rest, highlight};
 use crate::section_line_view::{SectionLineView, SectionLineViewInner};
 use crate::shown::{begin_row, is_seen, rows_above, show_box, show_span, show_text};
-use crate::texts::{binary_text, dots_text, mode_change_text, section_text};
+use crate::texts::{binary_text, dots_text, mode_change_text};
+use crate::title::Title;
 use crate::tops::{RowKinds, SectionTop};
 use crate::tristate_box::{TristateBox, TristateIconStyle};
 use scm_cells::Span;
@@ -298,18 +299,18 @@ impl<'a> SectionView<'a> {
         ensures err { IfErr result (λ e. e ≡ OutOfMemory) }
     {
         begin_row(viewport, y);
-        let title = section_text(
-            alloc,
-            self.editable_section_num,
-            self.total_num_editable_sections,
-        )?;
+        let title = Title::Section {
+            number: self.editable_section_num,
+            total: self.total_num_editable_sections,
+        };
         draw_heading(
+            alloc,
             viewport,
             x,
             y,
             &self.toggle_box,
             &self.expand_box,
-            title.as_str(),
+            &title,
         )?;
         highlight(viewport, y, self.is_selected());
         Ok(())

@@ -13,11 +13,13 @@ ghost use Rattle.scm_view.specs.Buttons.{button_part};
 ghost use Rattle.scm_view.specs.Counts.{on_row};
 ghost use Rattle.scm_view.specs.Paints.{is_seen, rows_above};
 ghost use Rattle.scm_view.specs.Covers.{texts_cover};
+ghost use Rattle.scm_view.specs.Titles.{title_text};
 
 use crate::button::Button;
 use crate::button_row::button_width;
 use crate::ids::ComponentId;
 use crate::reach::{columns, cover_rect};
+use crate::title::Title;
 use crate::tristate_box::TristateBox;
 use scm_cells::{Rect, Span, text_width};
 use scm_render::Viewport;
@@ -139,6 +141,31 @@ pub(crate) fn show_text(
         Ok(())
     } else {
         cover_texts(viewport, x, y, spans_width(spans));
+        Ok(())
+    }
+}
+
+/// Draws a title, and an ellipsis where it goes past the mask.
+pub(crate) fn show_title(
+    alloc: Global,
+    viewport: &mut Viewport<ComponentId>,
+    x: isize,
+    y: isize,
+    title: &Title<'_>,
+) -> Result<(), RecordError>
+    requires { PictureInRange {K = ComponentId} (text_picture viewport.old.canvas.sight x y (title_text title.now ∷ [])) }
+    ensures ok { OnOk result (viewport.new.canvas ≡ with_picture viewport.old.canvas (text_picture viewport.old.canvas.sight x y (title_text title.now ∷ []))) }
+    ensures counts { OnOk result (viewport.new.counts ≡ added viewport.old.counts (on_row viewport.old.canvas.sight.rect y one_call)) }
+    ensures rect { viewport.new.canvas.sight.rect ≡ viewport.old.canvas.sight.rect }
+    ensures err { IfErr result (λ e. e ≡ OutOfMemory) }
+{
+    if is_on_screen(viewport, y) {
+        let text = title.text(alloc)?;
+        show_text(viewport, x, y, &[Span(text.as_str())])?;
+        Ok(())
+    } else {
+        let width = title.width(alloc)?;
+        cover_texts(viewport, x, y, width);
         Ok(())
     }
 }

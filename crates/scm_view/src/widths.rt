@@ -1,21 +1,11 @@
 //! The columns of what rows show, measured without making a text.
-ghost use Rattle.std.specs.Prelude.{◌≡◌, ◌<◌, ◌^◌, length, decimal, false};
-ghost use Rattle.std.specs.Fmt.{digits};
-ghost use Rattle.scm_cells.specs.Cluster.{is_printable};
+ghost use Rattle.std.specs.Prelude.{◌≡◌, ◌<◌, ◌^◌, length, decimal};
 ghost use Rattle.scm_cells.specs.Clusters.{text_width};
 ghost use Rattle.scm_cells.specs.Replaced.{line_pieces};
 ghost use Rattle.scm_render.specs.Drawing.{texts_width};
-ghost use Rattle.scm_view.specs.Texts.{section_text, mode_change_text, number_text};
+ghost use Rattle.scm_view.specs.Texts.{number_text, section_text};
 
 use scm_cells::{replace_control_character, text_width};
-use scm_types::FileMode;
-
-/// Whether each byte is a printable character of ASCII, which takes one column.
-pub(crate) fn is_printable(text: &str) -> bool
-    ensures { result ≡ is_printable text.now }
-{
-    text.as_bytes().iter().all(|&b| 0x20 <= b && b <= 0x7E)
-}
 
 /// How many digits a number has in decimal.
 fn decimal_width(number: usize) -> usize
@@ -26,20 +16,6 @@ fn decimal_width(number: usize) -> usize
     let mut count = 1;
     while 10 <= rest {
         rest /= 10;
-        count += 1;
-    }
-    count
-}
-
-/// How many digits a number has in octal.
-fn octal_width(number: usize) -> usize
-    ensures value { result ≡ length (digits 8 false number) }
-    ensures most { result < 2 ^ 7 }
-{
-    let mut rest = number;
-    let mut count = 1;
-    while 8 <= rest {
-        rest /= 8;
         count += 1;
     }
     count
@@ -57,16 +33,6 @@ pub(crate) fn section_width(number: usize, total: usize) -> usize
     ensures { result ≡ text_width (section_text number total) }
 {
     8 + decimal_width(number) + 1 + decimal_width(total)
-}
-
-/// The columns of what is shown of a change of the file's mode.
-pub(crate) fn mode_change_width(mode: FileMode) -> usize
-    ensures { result ≡ text_width (mode_change_text mode) }
-{
-    match mode {
-        FileMode::Unix(bits) => 17 + octal_width(bits),
-        FileMode::Absent => 12,
-    }
 }
 
 /// The columns of a line's text, as a screen can show it.

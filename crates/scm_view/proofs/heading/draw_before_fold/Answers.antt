@@ -5,6 +5,7 @@ use Rattle.scm_render.specs.Canvas.{Sight}
 use Rattle.scm_render.specs.Drawing.{text_picture}
 use Rattle.scm_render.proofs.PictureLemmas.{PictureInRange-left}
 use Rattle.scm_view.specs.Rows.{IdBox}
+use Rattle.scm_view.specs.Titles.{title_text}
 use Rattle.scm_view.specs.Pictures.{IdPicture, box_part, title_picture}
 use Rattle.scm_render.proofs.StepLemmas.{three, second, third, text-place, InRange-fits}
 use Rattle.scm_view.proofs.CountLemmas.{on_row-three}
@@ -29,7 +30,7 @@ show_box-requires c =
     let fx : FitsSigned w64 c.args.x = c.ranges.x in
     let fy : FitsSigned w64 c.args.y = c.ranges.y in
     let blank = simp to_z-of_z at c.in_ok-show_blank.ensures.ok in
-    simp to_z-of_z (second _ _ _ (box c.args.toggle_box.now c.args.x c.args.y) (text c.args.title.now c.args.x c.args.y) blank c.requires)
+    simp to_z-of_z (second _ _ _ (box c.args.toggle_box.now c.args.x c.args.y) (text (title_text c.args.title.now) c.args.x c.args.y) blank c.requires)
 
 pub overflow_add-x : goal.overflow_add-x
 unfolding title_picture
@@ -38,16 +39,16 @@ overflow_add-x c =
     let fy : FitsSigned w64 c.args.y = c.ranges.y in
     let blank = simp to_z-of_z at c.in_ok-show_blank.ensures.ok in
     let toggle = simp to_z-of_z at c.in_ok-show_box.ensures.ok in
-    simp to_z-of_z (InRange-fits _ (text-place _ _ _ _ (third _ _ _ _ (box c.args.toggle_box.now c.args.x c.args.y) (text c.args.title.now c.args.x c.args.y) blank toggle c.requires)).0)
+    simp to_z-of_z (InRange-fits _ (text-place _ _ _ _ (third _ _ _ _ (box c.args.toggle_box.now c.args.x c.args.y) (text (title_text c.args.title.now) c.args.x c.args.y) blank toggle c.requires)).0)
 
-pub show_text-requires : goal.show_text-requires
+pub show_title-requires : goal.show_title-requires
 unfolding title_picture
-show_text-requires c =
+show_title-requires c =
     let fx : FitsSigned w64 c.args.x = c.ranges.x in
     let fy : FitsSigned w64 c.args.y = c.ranges.y in
     let blank = simp to_z-of_z at c.in_ok-show_blank.ensures.ok in
     let toggle = simp to_z-of_z at c.in_ok-show_box.ensures.ok in
-    let last = third _ _ _ _ (box c.args.toggle_box.now c.args.x c.args.y) (text c.args.title.now c.args.x c.args.y) blank toggle c.requires in
+    let last = third _ _ _ _ (box c.args.toggle_box.now c.args.x c.args.y) (text (title_text c.args.title.now) c.args.x c.args.y) blank toggle c.requires in
     let fits : FitsSigned w64 (c.args.x +ℤ pos 4) = InRange-fits _ (text-place _ _ _ _ last).0 in
     simp to_z-of_z last
 
@@ -58,9 +59,9 @@ returns-clause-ok c =
     let fy : FitsSigned w64 c.args.y = c.ranges.y in
     let blank = simp to_z-of_z at c.in_ok-show_blank.ensures.ok in
     let toggle = simp to_z-of_z at c.in_ok-show_box.ensures.ok in
-    let last = third _ _ _ _ (box c.args.toggle_box.now c.args.x c.args.y) (text c.args.title.now c.args.x c.args.y) blank toggle c.requires in
+    let last = third _ _ _ _ (box c.args.toggle_box.now c.args.x c.args.y) (text (title_text c.args.title.now) c.args.x c.args.y) blank toggle c.requires in
     let fits : FitsSigned w64 (c.args.x +ℤ pos 4) = InRange-fits _ (text-place _ _ _ _ last).0 in
-    three _ _ _ _ _ (box c.args.toggle_box.now c.args.x c.args.y) (text c.args.title.now c.args.x c.args.y) blank toggle (simp to_z-of_z at c.in_ok-show_text.ensures.ok)
+    three _ _ _ _ _ (box c.args.toggle_box.now c.args.x c.args.y) (text (title_text c.args.title.now) c.args.x c.args.y) blank toggle (simp to_z-of_z at c.in_ok-show_title.ensures.ok)
 
 pub returns-clause-counts : goal.returns-clause-counts
 returns-clause-counts c =
@@ -68,5 +69,5 @@ returns-clause-counts c =
     let fy : FitsSigned w64 c.args.y = c.ranges.y in
     let blank = simp to_z-of_z at c.in_ok-show_blank.ensures.counts in
     let toggle = simp to_z-of_z at c.in_ok-show_box.ensures.counts in
-    let title = simp to_z-of_z at c.in_ok-show_text.ensures.counts in
+    let title = simp to_z-of_z at c.in_ok-show_title.ensures.counts in
     on_row-three _ _ _ _ _ _ _ _ _ _ _ c.in_ok-show_blank.ensures.rect c.in_ok-show_box.ensures.rect blank toggle title

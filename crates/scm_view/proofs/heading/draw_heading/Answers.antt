@@ -4,6 +4,7 @@ use Rattle.std.proofs.lemmas.Int.{to_z-of_z}
 use Rattle.scm_render.specs.Canvas.{Sight, under}
 use Rattle.scm_render.proofs.PictureLemmas.{PictureInRange-left, PictureInRange-right}
 use Rattle.scm_view.specs.Rows.{IdBox}
+use Rattle.scm_view.specs.Titles.{title_text}
 use Rattle.scm_view.specs.Pictures.{IdPicture, fold_column, heading_width, heading_mask, title_picture, heading_picture}
 use Rattle.scm_render.proofs.StepLemmas.{step, masked, sight-after, InRange-fits}
 use Rattle.scm_view.proofs.HeadingLemmas.{heading-fold, heading-mask}
@@ -59,8 +60,8 @@ returns-clause-ok c =
     let drawn = simp to_z-of_z at (rw width at c.in_ok-draw_before_fold.ensures.ok) in
     let back = rw c.swap_mask-outer.ensures.old at c.swap_mask.ensures.new in
     let mask = heading_mask s c.args.x c.args.y in
-    step _ _ _ _ (λ t. before c.args.toggle_box.now c.args.title.now (heading_width s c.args.x) c.args.x c.args.y (under mask t)) fold
-    (masked _ _ _ _ mask (before c.args.toggle_box.now c.args.title.now (heading_width s c.args.x) c.args.x c.args.y) set drawn back)
+    step _ _ _ _ (λ t. before c.args.toggle_box.now (title_text c.args.title.now) (heading_width s c.args.x) c.args.x c.args.y (under mask t)) fold
+    (masked _ _ _ _ mask (before c.args.toggle_box.now (title_text c.args.title.now) (heading_width s c.args.x) c.args.x c.args.y) set drawn back)
 
 pub returns-clause-counts : goal.returns-clause-counts
 returns-clause-counts c =

@@ -9,14 +9,14 @@ unfolding header_picture
 draw_heading-requires c =
     let fx : FitsSigned w64 c.args.x = c.ranges.x in
     let fy : FitsSigned w64 c.args.y = c.ranges.y in
-    rw (c.as_str.ensures.value, c.in_ok-title.ensures.ok, c.begin_row.ensures.canvas) (simp to_z-of_z c.requires)
+    rw c.begin_row.ensures.canvas (simp to_z-of_z c.requires)
 
 pub returns-clause-ok : goal.returns-clause-ok
 unfolding header_picture
 returns-clause-ok c =
     let fx : FitsSigned w64 c.args.x = c.ranges.x in
     let fy : FitsSigned w64 c.args.y = c.ranges.y in
-    rw (c.as_str.ensures.value, c.in_ok-title.ensures.ok, c.begin_row.ensures.canvas) at (simp to_z-of_z at c.in_ok-draw_heading.ensures.ok)
+    rw c.begin_row.ensures.canvas at (simp to_z-of_z at c.in_ok-draw_heading.ensures.ok)
 
 pub returns-clause-counts : goal.returns-clause-counts
 returns-clause-counts c =

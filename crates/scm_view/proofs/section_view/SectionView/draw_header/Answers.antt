@@ -17,14 +17,14 @@ unfolding row_picture
 draw_heading-requires c =
     let fx : FitsSigned w64 c.args.x = c.ranges.x in
     let fy : FitsSigned w64 c.args.y = c.ranges.y in
-    rw (c.as_str.ensures.value, c.in_ok-title.ensures.ok, c.begin_row.ensures.canvas) (simp to_z-of_z (PictureInRange-left _ _ c.requires))
+    rw c.begin_row.ensures.canvas (simp to_z-of_z (PictureInRange-left _ _ c.requires))
 
 pub highlight-requires : goal.highlight-requires
 unfolding row_picture
 highlight-requires c =
     let fx : FitsSigned w64 c.args.x = c.ranges.x in
     let fy : FitsSigned w64 c.args.y = c.ranges.y in
-    let heading = rw (c.as_str.ensures.value, c.in_ok-title.ensures.ok, c.begin_row.ensures.canvas) at (simp to_z-of_z at c.in_ok-draw_heading.ensures.ok) in
+    let heading = rw c.begin_row.ensures.canvas at (simp to_z-of_z at c.in_ok-draw_heading.ensures.ok) in
     rw c.is_selected.ensures (simp to_z-of_z (rest _ _ _ (light (is_selected c.args.self.now) c.args.y) heading c.requires))
 
 pub returns-clause-ok : goal.returns-clause-ok
@@ -32,7 +32,7 @@ unfolding row_picture
 returns-clause-ok c =
     let fx : FitsSigned w64 c.args.x = c.ranges.x in
     let fy : FitsSigned w64 c.args.y = c.ranges.y in
-    let heading = rw (c.as_str.ensures.value, c.in_ok-title.ensures.ok, c.begin_row.ensures.canvas) at (simp to_z-of_z at c.in_ok-draw_heading.ensures.ok) in
+    let heading = rw c.begin_row.ensures.canvas at (simp to_z-of_z at c.in_ok-draw_heading.ensures.ok) in
     step _ _ _ _ (light (is_selected c.args.self.now) c.args.y) heading (rw c.is_selected.ensures at (simp to_z-of_z at c.highlight.ensures.new))
 
 pub returns-clause-counts : goal.returns-clause-counts
