@@ -7,87 +7,151 @@
 #include <stdlib.h>
 #include <string.h>
 
-static char *read_all(FILE *in, size_t *length) {
-    size_t room = 65536;
-    char *text = malloc(room);
-    *length = 0;
-    for (size_t got; text && (got = fread(text + *length, 1, room - *length - 1, in)) > 0;) {
-        *length += got;
-        if (room - *length < 2) text = realloc(text, room *= 2);
+enum { MOST_ANSWERS = 1000, BAD_SCRIPT = 3 };
+
+static scm_session session;
+static char *answers[MOST_ANSWERS]; /* the texts of `answer` lines, in order */
+static size_t answer_count;
+static size_t answers_taken;
+
+static void stop(const char *why) {
+    fprintf(stderr, "replay: %s\n", why);
+    exit(BAD_SCRIPT);
+}
+
+static char *more_room(char *text, size_t room) {
+    char *larger = realloc(text, room);
+    if (!larger) {
+        stop("there is no memory");
     }
-    if (text) text[*length] = 0;
+    return larger;
+}
+
+static char *read_all(FILE *in) {
+    size_t room = 1 << 16;
+    size_t length = 0;
+    char *text = more_room(NULL, room);
+    for (size_t got; (got = fread(text + length, 1, room - length - 1, in)) > 0;) {
+        length += got;
+        room *= 2;
+        text = more_room(text, room);
+    }
+    text[length] = 0;
     return text;
 }
 
-static char *text_of(scm_session *session, size_t *length) {
-    char none;
-    *length = scm_text(session, &none, 0);
-    char *text = malloc(*length + 1);
-    if (text) *length = scm_text(session, text, *length), text[*length] = 0;
+static char *session_text(void) {
+    char nothing;
+    size_t length = scm_text(&session, &nothing, 0);
+    char *text = more_room(NULL, length + 1);
+    scm_text(&session, text, length);
+    text[length] = 0;
     return text;
 }
 
-/* the texts of `answer` lines, in order */
-static char *edits[1000];
-static size_t edit_count, edit_next;
-
-/* a JSON string of letters, spaces and \n, as the examples have */
-static char *unquote(const char *json) {
-    char *text = malloc(strlen(json) + 1), *out = text;
+/* The text of a JSON string of plain characters, \n and \", as the examples have. */
+static char *unquoted(const char *json) {
+    char *text = more_room(NULL, strlen(json) + 1);
+    char *end = text;
     for (const char *c = json + 1; *c && *c != '"'; c++) {
-        if (*c == '\\' && c[1] == 'n') *out++ = '\n', c++;
-        else if (*c == '\\') *out++ = *++c;
-        else *out++ = *c;
+        bool is_escaped = *c == '\\' && c[1];
+        c += is_escaped;
+        *end++ = is_escaped && *c == 'n' ? '\n' : *c;
     }
-    *out = 0;
+    *end = 0;
     return text;
+}
+
+static char *next_line(char *line) {
+    char *end = strchr(line, '\n');
+    return end ? end + 1 : NULL;
+}
+
+static void read_answers(char *script) {
+    for (char *line = script; line; line = next_line(line)) {
+        if (strncmp(line, "answer \"", 8) == 0 && answer_count < MOST_ANSWERS) {
+            answers[answer_count++] = unquoted(line + 7);
+        }
+    }
+}
+
+/* Hands in a word, and the messages that the session then asks for, as far as the script has them. */
+static void press(const char *word) {
+    uint32_t code = scm_press(&session, word, strlen(word));
+    if (code != SCM_DONE) {
+        printf("refused: %s %u\n", word, code);
+    }
+    while (scm_stage(&session) == SCM_EDITING && answers_taken < answer_count) {
+        const char *answer = answers[answers_taken++];
+        scm_answer(&session, answer, strlen(answer));
+    }
+}
+
+/* Hands in the words of a batch. A screenshot shows the screen as it was before. */
+static void run_batch(char *words) {
+    static unsigned shots;
+    char *screen = session_text();
+    for (char *word = strtok(words, " "); word && scm_stage(&session) == SCM_WAITING; word = strtok(NULL, " ")) {
+        if (strcmp(word, "shot") == 0) {
+            printf("screen %u\n%s", shots++, screen);
+        } else {
+            press(word);
+        }
+    }
+    free(screen);
+}
+
+static void run(char *script) {
+    for (char *line = script; line && scm_stage(&session) == SCM_WAITING;) {
+        char *next = next_line(line);
+        if (next) {
+            next[-1] = 0;
+        }
+        if (strncmp(line, "batch", 5) == 0) {
+            run_batch(line + 5);
+        }
+        line = next;
+    }
+}
+
+static int report(void) {
+    char *text = session_text();
+    uint32_t stage = scm_stage(&session);
+    if (stage == SCM_ACCEPTED) {
+        fputs(text, stdout);
+    } else if (stage == SCM_ENDED) {
+        printf("fault: %s\n", text);
+    } else if (stage == SCM_EDITING) {
+        puts("fault: No more commit messages available");
+    } else {
+        puts("fault: failed to read user input: no events left");
+    }
+    free(text);
+    return stage == SCM_ACCEPTED ? 0 : 1;
 }
 
 int main(void) {
-    size_t length;
-    char *input = read_all(stdin, &length);
-    if (!input) return 3;
-    unsigned width, height;
-    char *json = strchr(input, '\n'), *script = strstr(input, "\nscript\n");
-    if (!json || !script || sscanf(input, "size %u %u", &width, &height) != 2) return 3;
+    unsigned width;
+    unsigned height;
+    char *input = read_all(stdin);
+    char *json = strchr(input, '\n');
+    char *end = strstr(input, "\nscript\n");
+    if (!json || !end || sscanf(input, "size %u %u", &width, &height) != 2) {
+        stop("this is no script");
+    }
+    char *script = end + strlen("\nscript\n");
     json++;
-    scm_session session = {0};
-    uint32_t code = scm_new(&session, json, (size_t)(script - json), (uint16_t)width, (uint16_t)height);
+    uint32_t code = scm_new(&session, json, (size_t)(end - json), (uint16_t)width, (uint16_t)height);
     if (code != SCM_DONE) {
-        printf("refused: %u\n", code);
-        return free(input), 2;
+        stop("the state is refused");
     }
-    script += 8;
-    for (char *line = script; line; line = strchr(line, '\n'), line = line ? line + 1 : NULL)
-        if (strncmp(line, "answer \"", 8) == 0 && edit_count < 1000) edits[edit_count++] = unquote(line + 7);
-    unsigned shots = 0;
-    char *frame = NULL; /* the screen as the batch began */
-    for (char *line = script, *next; line && scm_stage(&session) == SCM_WAITING; line = next) {
-        next = strchr(line, '\n');
-        if (next) *next++ = 0;
-        if (strncmp(line, "batch", 5) != 0) continue;
-        free(frame);
-        frame = text_of(&session, &length);
-        for (char *word = strtok(line + 5, " "); word && scm_stage(&session) == SCM_WAITING; word = strtok(NULL, " ")) {
-            if (strcmp(word, "shot") == 0) {
-                printf("screen %u\n%s", shots++, frame);
-                continue;
-            }
-            if ((code = scm_press(&session, word, strlen(word))) != SCM_DONE) printf("refused: %s %u\n", word, code);
-            while (scm_stage(&session) == SCM_EDITING && edit_next < edit_count)
-                scm_answer(&session, edits[edit_next], strlen(edits[edit_next])), edit_next++;
-        }
+    read_answers(script);
+    run(script);
+    int status = report();
+    while (answer_count > 0) {
+        free(answers[--answer_count]);
     }
-    char *rest = text_of(&session, &length);
-    int status = 1;
-    switch (scm_stage(&session)) {
-    case SCM_ACCEPTED: printf("%s", rest), status = 0; break;
-    case SCM_ENDED: printf("fault: %s\n", rest); break;
-    case SCM_EDITING: printf("fault: No more commit messages available\n"); break;
-    default: printf("fault: no events left\n"); break;
-    }
-    free(rest), free(frame), free(input);
-    while (edit_count) free(edits[--edit_count]);
+    free(input);
     scm_free(&session);
     return status;
 }
