@@ -11,7 +11,7 @@ use Rattle.scm_cells.specs.declared.rect.Rect.{Rect}
 use Rattle.scm_render.specs.Around.{AllRectsInRange}
 use Rattle.scm_render.specs.Canvas.{Canvas, Sight, with_picture}
 use Rattle.scm_render.specs.Drawing.{reach, has_row, row_rect, texts_width, line_picture, span_picture, text_picture}
-use Rattle.scm_render.specs.Picture.{Put, Box, PictureInRange, nothing, followed_by, covering}
+use Rattle.scm_render.specs.Picture.{PictureInRange, nothing, followed_by, covering}
 use Rattle.scm_render.proofs.CanvasLemmas.{with_picture-twice}
 use Rattle.scm_render.proofs.DrawLemmas.{with_picture-short}
 use Rattle.scm_render.proofs.PictureLemmas.{PictureInRange-left, PictureInRange-right, RectInRange-covering}
