@@ -1,10 +1,16 @@
 //! Which key is a page away, by where the keys were last drawn.
 ghost use Rattle.std.specs.Prelude.{◌≡◌};
 ghost use Rattle.scm_record.specs.Frames.{IsShown, Scene};
+ghost use Rattle.scm_selection.specs.KeySet.{has_key};
+ghost use Rattle.scm_selection.specs.KeyLists.{visible_keys};
+ghost use Rattle.scm_selection.specs.Moves.{keys_behind, next_key};
 ghost use Rattle.scm_record.specs.Pages.{is_far, is_page_away, page_key, towards, walked};
 
 use crate::frame::DrawnFrame;
-use scm_selection::moves::position_of;
+use scm_selection::key_set::KeySet;
+use scm_selection::moves::is_key;
+use scm_selection::steps::{is_among_visible, next_visible, previous_visible};
+use scm_types::File;
 use scm_view::SelectionKey;
 
 /// Which way a page is turned.
@@ -14,16 +20,6 @@ pub(crate) enum Way {
     Up,
     /// Towards its last row.
     Down,
-}
-
-/// Puts the keys in the order in which they come that way.
-pub(crate) fn turn(keys: &mut Vec<SelectionKey>, way: Way)
-    ensures { keys.new.items ≡ towards way keys.old.items }
-{
-    match way {
-        Way::Up => keys.reverse(),
-        Way::Down => {}
-    }
 }
 
 /// Whether a key that begins on row `top`, if it was drawn, is `rows` or more away from a row.
@@ -44,38 +40,59 @@ fn is_page_away(frame: &DrawnFrame, way: Way, row: usize, key: SelectionKey) -> 
     is_far(way, frame.height() / 2, row, frame.top(key))
 }
 
-/// The first of the keys that is a page away from a row, or else the last of them; `key` where
-/// there are none.
+/// The visible key that follows one that way, and that key itself where none does.
+fn next_towards(way: Way, expanded: &KeySet, files: &[File<'_>], key: SelectionKey) -> SelectionKey
+    ensures { result ≡ next_key (towards way (visible_keys (has_key expanded.now) files.now)) key key }
+{
+    match way {
+        Way::Up => previous_visible(expanded, files, key, key),
+        Way::Down => next_visible(expanded, files, key, key),
+    }
+}
+
+/// The first visible key behind one that way that is a page away from a row, or else the last of them;
+/// that key itself where there are none.
 fn walk(
     frame: &DrawnFrame,
     way: Way,
     row: usize,
-    key: SelectionKey,
-    keys: &[SelectionKey],
+    expanded: &KeySet,
+    files: &[File<'_>],
+    from: SelectionKey,
 ) -> SelectionKey
-    ensures { (scene : Scene) → IsShown scene frame.now → result ≡ walked (is_page_away scene way row) key keys.now }
+    ensures { (scene : Scene) → IsShown scene frame.now → result ≡ walked (is_page_away scene way row) from (keys_behind (towards way (visible_keys (has_key expanded.now) files.now)) from) }
 {
-    let mut last = key;
-    for next in keys {
-        last = *next;
-        if is_page_away(frame, way, row, *next) {
-            return last;
+    let mut key = from;
+    'steps: loop {
+        let next = next_towards(way, expanded, files, key);
+        if is_key(key, next) {
+            return key;
         }
+        if is_page_away(frame, way, row, next) {
+            return next;
+        }
+        key = next;
     }
-    last
 }
 
-/// The key a page away from one of the list, and none where that isn't in the list or wasn't drawn.
+/// The visible key a page away from one, and none where that isn't visible or wasn't drawn.
 pub(crate) fn page_key(
     frame: &DrawnFrame,
     way: Way,
-    keys: &[SelectionKey],
+    expanded: &KeySet,
+    files: &[File<'_>],
     key: SelectionKey,
 ) -> SelectionKey
-    ensures { (scene : Scene) → IsShown scene frame.now → result ≡ page_key scene way keys.now key }
+    ensures { (scene : Scene) → IsShown scene frame.now → result ≡ page_key scene way (towards way (visible_keys (has_key expanded.now) files.now)) key }
 {
-    match (frame.top(key), position_of(keys, key)) {
-        (Some(row), Some(index)) => walk(frame, way, row, key, &keys[index + 1..]),
-        (None, _) | (Some(_), None) => SelectionKey::None,
+    match frame.top(key) {
+        None => SelectionKey::None,
+        Some(row) => {
+            if is_among_visible(expanded, files, key) {
+                walk(frame, way, row, expanded, files, key)
+            } else {
+                SelectionKey::None
+            }
+        }
     }
 }

@@ -2,8 +2,8 @@
 
 use super::{Flow, Selector};
 use crate::frame::DrawnFrame;
-use crate::pages::{Way, page_key, turn};
-use scm_selection::key_lists::{first_key, visible_keys};
+use crate::pages::{Way, page_key};
+use scm_selection::key_lists::first_key;
 use scm_selection::steps::{
     first_inside, next_of_kind, next_visible, previous_of_kind, previous_visible,
 };
@@ -20,19 +20,7 @@ impl<'state> Selector<'state> {
     ghost use Rattle.scm_record.specs.Session.{visible, after_next, after_previous, after_next_same_kind, after_previous_same_kind, after_advance, after_inner, after_outer};
     ghost use Rattle.scm_record.specs.Change.{stays};
     ghost use Rattle.scm_record.specs.Dialogs.{dialog_focused_or, unless_asked};
-    ghost use Rattle.scm_record.specs.Pages.{after_page, towards};
-
-    /// The visible keys, in order.
-    fn visible_keys(&self) -> Result<Vec<SelectionKey>, RecordError>
-        ensures ok { IfOk result (λ keys. keys.items ≡ visible self.now) }
-        ensures err { IfErr result (λ e. e ≡ OutOfMemory) }
-    {
-        visible_keys(
-            self.allocator(),
-            &self.expanded,
-            self.state.files.as_slice(),
-        )
-    }
+    ghost use Rattle.scm_record.specs.Pages.{after_page};
 
     /// The visible key after the selection.
     fn next_key(&self) -> SelectionKey
@@ -155,16 +143,6 @@ impl<'state> Selector<'state> {
         Ok(Flow::GoOn)
     }
 
-    /// The visible keys, as they come that way.
-    fn visible_keys_towards(&self, way: Way) -> Result<Vec<SelectionKey>, RecordError>
-        ensures ok { IfOk result (λ keys. keys.items ≡ towards way (visible self.now)) }
-        ensures err { IfErr result (λ e. e ≡ OutOfMemory) }
-    {
-        let mut keys = self.visible_keys()?;
-        turn(&mut keys, way);
-        Ok(keys)
-    }
-
     /// Selects a visible key about half a screen away.
     pub(super) fn focus_page(&mut self, frame: &DrawnFrame, way: Way) -> Result<Flow, RecordError>
         ensures ok { IfOk result (λ flow. (scene : Scene) → IsShown scene frame.now →
@@ -172,8 +150,9 @@ impl<'state> Selector<'state> {
         ensures err { IfErr result (λ e. e ≡ OutOfMemory) }
     {
         if !self.is_asked() {
-            let keys = self.visible_keys_towards(way)?;
-            self.select(page_key(frame, way, &keys, self.selection))?;
+            let files = self.state.files.as_slice();
+            let key = page_key(frame, way, &self.expanded, files, self.selection);
+            self.select(key)?;
         }
         Ok(Flow::GoOn)
     }
