@@ -179,6 +179,7 @@ impl Component for Column {
     ghost key = { λ c. c.id };
 
     ghost use Rattle.std.specs.Prelude.{length};
+
     ghost picture = { λ c s x y. column_picture c.captions.items s x y };
 
     ghost rows = { λ c s x y. 0 };

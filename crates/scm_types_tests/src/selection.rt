@@ -219,7 +219,10 @@ fn keys_among_the_visible_ones(rt: HostRuntime) -> Result<(), RecordError> {
         (line_key(0, 1, 0), false),
         (file_key(1), false),
     ] {
-        assert_eq!(rt; is_among_visible(&expanded, files.as_slice(), key), is_there);
+        assert_eq!(rt;
+            is_among_visible(&expanded, files.as_slice(), key),
+            is_there
+        );
     }
     Ok(())
 }

@@ -491,11 +491,7 @@ fn long_file(alloc: Global, count: usize) -> Result<Vec<File<'static>>, RecordEr
 }
 
 /// How many rows and calls a screen of 24 by 8 takes that shows such a file from its second row on.
-fn counts_of(
-    rt: &impl Abort,
-    alloc: Global,
-    count: usize,
-) -> Result<(usize, usize), RecordError> {
+fn counts_of(rt: &impl Abort, alloc: Global, count: usize) -> Result<(usize, usize), RecordError> {
     let look = Look {
         use_unicode: true,
         selection: SelectionKey::None,
