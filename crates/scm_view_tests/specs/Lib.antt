@@ -1,2 +1,3 @@
 -- Views of few and short texts.
 pub mod Small
+pub mod Here

@@ -295,7 +295,7 @@ fn old_lines(section: &Section<'_>) -> usize {
 }
 
 /// The rows of a screen, without the spaces at their ends.
-fn rows_of(alloc: Global, grid: &Grid) -> Result<String, RecordError> {
+pub(crate) fn rows_of(alloc: Global, grid: &Grid) -> Result<String, RecordError> {
     let mut rows = String::new(alloc);
     let view = grid.view()?;
     for line in view.as_str().lines() {
