@@ -1,9 +1,7 @@
 -- `into_loose` knows the type again to which the pointer points.
-use Rattle.std.proofs.Common.{◌≡◌, List, [], ◌∷◌, ◌++◌, Option, Some, is_some, IsTrue, refl, sym, ap, ◌∙◌, subst}
-use mir.Raw.{raw as bare}
-use mir.Val.{Val, vptr, vstruct, of_list}
-use base.Logic.{SProp, ent, emp, never, id⊢, fst∗}
-use types.Logic.{sem}
+use Rattle.std.proofs.Common.{◌≡◌, List, [], ◌∷◌, Option, Some, is_some, IsTrue, refl, ap, ◌∙◌}
+use mir.Val.{Val}
+use base.Logic.{SProp, emp}
 use base.Fml.{ftrue}
 use prog.Wp.{WpFn}
 use types.Kit.{‵, raw, ◌⊛◌, ◌$◌, ◌∵◌, !, qed, by, move, keep, split, fsplit, fjoin, suffices, use0, rewrite}
@@ -13,9 +11,8 @@ use types.Part.{agg, sub, whole}
 use contract.Monad.{fact, fact_i}
 use contract.Running.{tables}
 use denote.Exit.{yes}
-use denote.RattleType.{RattleType, owns}
-use denote.RawPtr.{Ptr, block_ptr, null_ptr, ptr_val, in_a_block}
-use denote.Param.{layout}
+use denote.RattleType.{owns}
+use denote.RawPtr.{Ptr, block_ptr}
 use denote.Signature.{types_at, plain}
 use denote.Steps.{nothing, heard}
 use denote.Triple.Walked.{Stays, stay_dropped, walk_of}
@@ -25,16 +22,14 @@ use Rattle.std.specs.contracts.alloc.Global.{the_row as Heap}
 use Rattle.std.proofs.alloc.Global.TheLaws.{the_row_laws as heap_laws}
 use Rattle.std.specs.contracts.impls.GlobalAllocator.TheImpl.{ghosts}
 use Rattle.scm_c.specs.contracts.held.Held.{the_row as Value}
-use Rattle.scm_c.proofs.Values.{both, Loose, loose_good, loose_in}
+use Rattle.scm_c.proofs.Beside.{word, word_good, from_word}
+use Rattle.scm_c.proofs.LooseBox.{placed, loose_in}
 use Rattle.scm_c.proofs.Handles.{Handle, held, handle_out}
 use Rattle.scm_c.specs.Ownership.{handle_owns}
 use Rattle.scm_c.specs.declared.held.Held.{Held}
 use Rattle.scm_c.specs.contracts.handle.Handle.into_loose as f
 use Rattle.scm_c.proofs.handle.Handle.into_loose.Statement.{statement}
 use Rattle.scm_c.proofs.handle.Handle.into_loose.Code as code
-
-abbrev L : RattleType
-L = Loose Value Heap heap_laws ghosts
 
 abbrev stayed : Stays f.ended.signature.params f.ended.kept
 stayed = (stay_dropped (plain (λ _. Handle)) yes, tt)
@@ -48,16 +43,16 @@ into_loose_spec 𝓤 𝓛 𝓜 𝓡 wired =
     qed 𝓛 ((‵ ftrue ⊛ ‵ (owns (types_at En.signature.params z.0.0) z.0.3 z.0.4)) ∷ raw (fact 𝓤 Asked) ∷ []) ∵ move ! (1 ∷ []) $ heard ! Asked (λ asked. split ! $ move ! (1 ∷ []) $ fsplit ! $
     let x = (held v.value asked).0 in let there = (held v.value asked).1 in
     handle_out ! v z.0.4.0 (λ h ws fits. rewrite ! 0 (λ (o : Option Held). ‵ (handle_owns Value v.alloc v.at o)) there refl $
-    in_a_block ! v.at (λ p. handle_owns Value a p (Some x)) (fst∗ 𝓤 (never 𝓤) (sem 𝓛 (ghosts.dealloc_token a (bare (layout Value)) null_ptr))) (λ b o e.
-    let w : Val = both (vptr b o) h in let typed = loose_good Value Heap heap_laws ghosts b o h fits in
-    let is : z.0.4.0 ≡ w ∷ [] = ws ∙ ap (λ (p : Ptr). vstruct (of_list (ptr_val p ∷ h ∷ [])) ∷ []) e in
-    suffices ! (Run (w ∷ [])) (subst (λ (us : List Val). ent 𝓤 (Run (w ∷ [])) (Run us)) (sym (λ i. is i ++ [])) (id⊢ 𝓤 (Run (w ∷ [])))) $
+    placed Value Heap heap_laws ghosts ! a v.at x (λ b o e.
+    let w : Val = word (block_ptr b o) h in let typed = word_good Heap heap_laws ghosts b o h fits in
+    let is : z.0.4.0 ≡ w ∷ [] = ws ∙ ap (λ (p : Ptr). word p h ∷ []) e in
+    suffices ! _ (from_word 𝓤 Run z.0.4.0 w is) $
     enter ! 𝓣.C 𝓣.Λ code.function (w ∷ []) Post $ alloc_all ! (λ l. pass_all ! refl (typed, tt) $
     sets ! (of_opd ! (get_in ! (fld ! refl (stop !)) (sub ! 0 refl (whole !)))) refl (tt, tt) $
     sets ! (of_opd ! (get_in ! (fld ! refl (stop !)) (sub ! 1 refl (whole !)))) refl fits $
     sets ! (of_opd ! (get ! refl)) refl (tt, tt) $
     sets ! (agg ! (and_then ! (get ! refl) (and_then ! (get ! refl) (no_more !)))) refl typed $
-    loose_in Value Heap heap_laws ghosts ! b o h a x $
+    loose_in Value Heap heap_laws ghosts ! b o a h x $
     use0 𝓛 (raw (fact 𝓤 (v.value ≡ Some x))) (fact_i 𝓤 (v.value ≡ Some x) (emp 𝓤) there) $ nothing ! $ nothing ! $ fjoin ! $
     returns ! (look_at ! 0 refl) $ free_all ! refl $ keep ! (4 ∷ 0 ∷ 2 ∷ 1 ∷ []) $
     by ! (leaves 𝓛 En stayed c z w (record { at = block_ptr b o; alloc = a; value = x }) (tt, tt) (tt, tt)))))))
