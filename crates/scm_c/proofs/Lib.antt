@@ -6,3 +6,5 @@ pub mod LooseBox
 pub mod Handles
 -- what a call makes of where a session stands
 pub mod StageLemmas
+-- what a call tells of it
+pub mod ToldLemmas

@@ -1,7 +1,8 @@
 //! What is behind a session that a C program keeps.
-ghost use Rattle.std.specs.Prelude.{◌≡◌, ◌<◌, IfErr, IfOk, IsTrue, false, string_bytes};
+ghost use Rattle.std.specs.Prelude.{◌≡◌, ◌<◌, IfErr, IfOk, IfSome, IsTrue, false, string_bytes};
 ghost use Rattle.scm_input.specs.declared.inputs.TerminalKind.TheVariants.{Testing};
 ghost use Rattle.scm_c.specs.Stages.{Begins, Presses, Resizes, Says, code_of, stage_after, stage_resized};
+ghost use Rattle.scm_c.specs.Told.{IsText, number_of_owner, owner_in, waits};
 
 use crate::codes;
 use scm_json::read_state;
@@ -109,6 +110,7 @@ impl Held {
 
     /// Hands in an event, where it waits for one.
     pub(crate) fn press(&mut self, event: Event) -> bool
+        ensures waits { result ≡ waits self.old.stage }
         ensures pressed { IsTrue result → Presses event self.old.stage self.new.stage }
         ensures kept { result ≡ false → self.new ≡ self.old }
     {
@@ -143,6 +145,7 @@ impl Held {
 
     /// Goes on to another screen, where it waits for an event.
     pub(crate) fn resize(&mut self, width: u16, height: u16) -> bool
+        ensures waits { result ≡ waits self.old.stage }
         ensures resized { IsTrue result → Resizes (Testing width height) self.old.stage self.new.stage }
         ensures kept { result ≡ false → self.new ≡ self.old }
     {
@@ -160,7 +163,9 @@ impl Held {
 
     /// What there is to read where it stands: the screen's rows, the message to edit, the accepted state and each file's
     /// two sides, or the words of the error.
-    pub(crate) fn text(&self, alloc: Global) -> Option<String> {
+    pub(crate) fn text(&self, alloc: Global) -> Option<String>
+        ensures { IfSome result (λ text. IsText self.now.stage (string_bytes text)) }
+    {
         match &self.stage {
             Stage::Waiting(session) => session.grid().view().ok(),
             Stage::Editing(editing) => String::from_str(alloc, editing.message()).ok(),
@@ -170,16 +175,20 @@ impl Held {
     }
 
     /// The code of whose a place of the screen is.
-    pub(crate) fn owner(&self, row: u16, column: u16) -> u32 {
+    pub(crate) fn owner(&self, row: u16, column: u16) -> u32
+        ensures { result ≡ owner_in self.now.stage row column }
+    {
         match &self.stage {
             Stage::Waiting(session) => owner_code(session.owner(row as usize, column as usize)),
-            _ => codes::NOBODY,
+            Stage::Editing(_) | Stage::Accepted(_) | Stage::Ended(_) => codes::NOBODY,
         }
     }
 }
 
 /// The code of an owner.
-fn owner_code(owner: Option<ComponentId>) -> u32 {
+fn owner_code(owner: Option<ComponentId>) -> u32
+    ensures { result ≡ number_of_owner owner }
+{
     match owner {
         None => codes::NOBODY,
         Some(id) => match id {

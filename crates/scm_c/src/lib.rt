@@ -1,11 +1,12 @@
 //! A session for C: `scm.h` tells what each function does.
 #![tactic(auto)]
 
-ghost use Rattle.std.specs.Prelude.{◌≡◌, ◌<◌, IfErr, IfOk, IsTrue, None, false, string_bytes};
+ghost use Rattle.std.specs.Prelude.{◌≡◌, ◌<◌, IfErr, IfOk, IsTrue, None, Some, false, length, string_bytes};
 ghost use Rattle.scm_input.specs.declared.events.Event.{Event};
 ghost use Rattle.scm_input.specs.declared.events.Event.TheVariants as events;
 ghost use Rattle.scm_input.specs.declared.inputs.TerminalKind.TheVariants.{Testing};
 ghost use Rattle.scm_c.specs.Stages.{Begins, Behind, IsOpenAt, Presses, Resizes, Says, code_behind};
+ghost use Rattle.scm_c.specs.Told.{Writes, code_of_call, code_of_press, done_code, event_of_bytes, over, owner_behind};
 
 mod codes;
 pub mod handle;
@@ -60,8 +61,9 @@ pub extern "C" fn scm_stage(alloc: Global, session: &mut Session) -> u32
 /// Hands in the event of a script's word.
 #[unsafe(no_mangle)]
 pub extern "C" fn scm_press(alloc: Global, session: &mut Session, word: &[u8]) -> u32
-    // an event leads on as the contract of a live session says, and else all stays
-    ensures pressed { result ≡ 0 → (event : Event) × Behind (Presses event) session.old.handle.value session.new.handle.value }
+    ensures code { result ≡ code_of_press (event_of_bytes word.now) session.old.handle.value }
+    // its event leads on as the contract of a live session says, and else all stays
+    ensures pressed { result ≡ 0 → (event : Event) × (event_of_bytes word.now ≡ Some event) × Behind (Presses event) session.old.handle.value session.new.handle.value }
     ensures kept { 0 < result → session.new.handle.value ≡ session.old.handle.value }
 {
     let Some(event) = event_of(word) else {
@@ -80,6 +82,7 @@ pub extern "C" fn scm_press(alloc: Global, session: &mut Session, word: &[u8]) -
 /// Hands in a click on a row and column of the screen.
 #[unsafe(no_mangle)]
 pub extern "C" fn scm_click(alloc: Global, session: &mut Session, row: u16, column: u16) -> u32
+    ensures code { result ≡ code_of_call session.old.handle.value }
     ensures clicked { result ≡ 0 → Behind (Presses (events.Click row column)) session.old.handle.value session.new.handle.value }
     ensures kept { 0 < result → session.new.handle.value ≡ session.old.handle.value }
 {
@@ -98,7 +101,9 @@ pub extern "C" fn scm_click(alloc: Global, session: &mut Session, row: u16, colu
 }
 
 /// The event of a script's word, if the bytes are one.
-fn event_of(word: &[u8]) -> Option<Event> {
+fn event_of(word: &[u8]) -> Option<Event>
+    ensures { result ≡ event_of_bytes word.now }
+{
     match str::from_utf8(word) {
         Ok(word) => read_event(word),
         Err(_) => None,
@@ -107,6 +112,7 @@ fn event_of(word: &[u8]) -> Option<Event> {
 
 /// The code of a call that is done, or for which a session doesn't wait.
 fn done_or_not_now(is_done: bool) -> u32
+    ensures code { result ≡ done_code is_done }
     ensures done { result ≡ 0 → IsTrue is_done }
     ensures not_now { 0 < result → is_done ≡ false }
 {
@@ -151,6 +157,7 @@ fn message_of(alloc: Global, text: &[u8]) -> Result<String, u32>
 /// Goes on to a screen of another size.
 #[unsafe(no_mangle)]
 pub extern "C" fn scm_resize(alloc: Global, session: &mut Session, width: u16, height: u16) -> u32
+    ensures code { result ≡ code_of_call session.old.handle.value }
     ensures resized { result ≡ 0 → Behind (Resizes (Testing width height)) session.old.handle.value session.new.handle.value }
     ensures kept { 0 < result → session.new.handle.value ≡ session.old.handle.value }
 {
@@ -167,6 +174,7 @@ pub extern "C" fn scm_resize(alloc: Global, session: &mut Session, width: u16, h
 /// Writes what there is to read, as far as it fits, and answers how many bytes it has.
 #[unsafe(no_mangle)]
 pub extern "C" fn scm_text(alloc: Global, session: &mut Session, out: &mut [u8]) -> usize
+    ensures text { Writes session.old.handle.value out.old out.new result }
     ensures kept { session.new.handle.value ≡ session.old.handle.value }
 {
     match take(alloc, session) {
@@ -183,7 +191,10 @@ pub extern "C" fn scm_text(alloc: Global, session: &mut Session, out: &mut [u8])
 }
 
 /// Writes as many of the bytes as fit, and answers how many there are.
-fn write_text(bytes: &[u8], out: &mut [u8]) -> usize {
+fn write_text(bytes: &[u8], out: &mut [u8]) -> usize
+    ensures len { result ≡ length bytes.now }
+    ensures written { out.new ≡ over bytes.now out.old }
+{
     let fits = bytes.len().min(out.len());
     out[..fits].copy_from_slice(&bytes[..fits]);
     bytes.len()
@@ -192,6 +203,7 @@ fn write_text(bytes: &[u8], out: &mut [u8]) -> usize {
 /// Whose a place of the screen is.
 #[unsafe(no_mangle)]
 pub extern "C" fn scm_owner(alloc: Global, session: &mut Session, row: u16, column: u16) -> u32
+    ensures owner { result ≡ owner_behind session.old.handle.value row column }
     ensures kept { session.new.handle.value ≡ session.old.handle.value }
 {
     match take(alloc, session) {
