@@ -1,0 +1,176 @@
+//! How many rows a frame begins, and how many calls draw it.
+use crate::given::{number_of, session_of, state_of};
+use scm_record::{RecordError, TerminalKind};
+use std::alloc::Global;
+use std::process::Abort;
+
+/// A row for each frame that shows one commit: the screen's columns and rows, the state and the events in letters, the rows that are
+/// begun and the calls, and the most that a screen of so many rows may take: a row more than it has, eight calls for each of these,
+/// and forty.
+///
+/// A row of the document counts where the screen has it, from the row that lies under the menu bar on: the header of a file or of
+/// a section takes four calls (the box of the fold, a blank, the box of the mark, the title), a changed line, a mode and bytes two (the
+/// box and the text), a line of context and the dots one, an empty row none. A header that is pinned is one row more. The
+/// menu bar takes five (a blank and four titles), an open menu two for each item.
+const INLINE: &str = "
+# A file of ten lines, and one of ten thousand, scrolled by a row.
+24 8 t lljjjjj => 9 29 of 9 112
+24 8 L lljjjjj => 9 29 of 9 112
+# No files: the words that say so stand in the middle, below the message's three rows, of which one takes three calls.
+10 2 - - => 1 6 of 3 64
+24 8 - - => 1 6 of 9 112
+300 100 - - => 1 6 of 101 848
+24 8 !- - => 4 9 of 9 112
+24 8 !- d => 4 9 of 9 112
+24 8 !- dd => 3 9 of 9 112
+# A folded file, and each menu: two calls for each of its 2, 5, 9 or 6 items.
+80 24 . - => 1 9 of 25 240
+80 24 . A => 1 13 of 25 240
+80 24 . B => 1 19 of 25 240
+80 24 . C => 1 27 of 25 240
+80 24 . D => 1 21 of 25 240
+10 2 . A => 1 13 of 3 64
+10 2 . B => 1 19 of 3 64
+300 100 . C => 1 27 of 101 848
+# Dialogs: three calls for the question whether to quit, two for the help.
+80 24 k q => 1 12 of 25 240
+80 24 k ? => 1 11 of 25 240
+80 24 k q? => 1 14 of 25 240
+80 24 k Dq => 1 24 of 25 240
+80 24 k D? => 1 23 of 25 240
+80 24 !k Cq? => 4 35 of 25 240
+10 2 k q => 1 12 of 3 64
+10 2 k ? => 1 11 of 3 64
+10 2 !k Bq? => 1 20 of 3 64
+300 100 k Cq? => 1 32 of 101 848
+# Two sections with context between them, from each row on that a screen can begin with.
+24 8 x7y l => 7 19 of 9 112
+24 8 x7y ld => 9 24 of 9 112
+24 8 x7y ldd => 9 21 of 9 112
+24 8 x7y lddd => 9 18 of 9 112
+24 8 x7y ldddd => 9 20 of 9 112
+24 8 x7y lddddd => 9 21 of 9 112
+24 8 x7y ldddddd => 8 20 of 9 112
+24 8 x7y lddddddd => 7 19 of 9 112
+24 8 x7y ldddddddd => 6 18 of 9 112
+24 8 x7y lddddddddd => 5 17 of 9 112
+24 8 x7y ldddddddddd => 4 16 of 9 112
+24 8 x7y lddddddddddd => 3 15 of 9 112
+10 2 x7y l => 1 9 of 3 64
+10 2 x7y ldd => 3 15 of 3 64
+10 2 x7y ldddddd => 3 11 of 3 64
+10 3 x7y ldd => 4 16 of 4 72
+80 24 x7y l => 12 28 of 25 240
+300 100 x7y ldd => 12 28 of 101 848
+# Rows of every kind, in two files under a message.
+10 2 !x7y0mb,t F => 2 9 of 3 64
+10 2 !x7y0mb,t Fddddd => 3 11 of 3 64
+24 8 !x7y0mb,t Fp => 9 22 of 9 112
+24 8 !x7y0mb,t Fpp => 9 29 of 9 112
+24 8 !x7y0mb,t Fppp => 5 17 of 9 112
+80 24 !x7y0mb,t F => 23 49 of 25 240
+80 24 !x7y0mb,t Fdddddddddddddd => 18 47 of 25 240
+300 100 !x7y0mb,t F => 30 63 of 101 848
+300 100 !x7y0mb,t FCq? => 30 86 of 101 848
+# The same, all folded.
+24 8 !x7y0mb,t FF => 3 13 of 9 112
+";
+
+/// A row for each frame that shows both commits beside each other: what the second one shows, folded as long as nobody unfolds it,
+/// counts too. Nothing says how much such a frame may take.
+const ADJACENT: &str = "
+41 5 x v => 2 13
+41 5 !x v => 5 16
+41 5 !x lv => 5 18
+41 5 x lvd => 5 23
+41 5 t lvddd => 6 19
+10 2 !x7y0mb,t Fv => 2 9
+41 5 !x7y0mb,t Fvpp => 6 18
+300 100 !x7y0mb,t Fv => 32 71
+80 24 k Bvq? => 2 28
+24 8 - v => 2 7
+24 8 !- v => 5 10
+";
+
+/// How many rows and calls the last frame takes after these events.
+fn counts_of(
+    rt: &impl Abort,
+    alloc: Global,
+    kind: TerminalKind,
+    state: &str,
+    letters: &str,
+) -> Result<(usize, usize), RecordError> {
+    let session = session_of(rt, state_of(alloc, state)?, alloc, kind, letters)?;
+    let grid = session.grid();
+    Ok((grid.rows_drawn(), grid.calls()))
+}
+
+/// Two numbers of a row.
+fn numbers_of(text: &str) -> (usize, usize) {
+    let mut words = text.split_whitespace();
+    (number_of(words.next()), number_of(words.next()))
+}
+
+/// Checks how many rows and calls a frame takes.
+fn check_counts(
+    rt: &impl Abort,
+    alloc: Global,
+    given: &str,
+    wanted: (usize, usize),
+) -> Result<(), RecordError> {
+    let mut words = given.split_whitespace();
+    let width = number_of(words.next());
+    let height = number_of(words.next());
+    let state = words.next().unwrap_or("");
+    let letters = words.next().unwrap_or("");
+    let counts = counts_of(
+        rt,
+        alloc,
+        TerminalKind::Testing { width, height },
+        state,
+        letters,
+    )?;
+    assert_eq!(rt; counts, wanted, "{given}");
+    Ok(())
+}
+
+/// The most rows and calls of a frame of a screen, whose columns and rows stand first.
+fn most_of(given: &str) -> (usize, usize) {
+    let (_, height) = numbers_of(given);
+    let rows = height.min(65_535) + 1;
+    (rows, 8 * rows + 40)
+}
+
+/// Checks a row of the table: what the frame takes is at most what it may.
+fn check_row(rt: &impl Abort, alloc: Global, row: &str) -> Result<(), RecordError> {
+    let (given, wanted) = row.split_once(" => ").unwrap_or((row, ""));
+    let (wanted, most) = wanted.split_once(" of ").unwrap_or((wanted, ""));
+    let wanted = numbers_of(wanted);
+    assert_eq!(rt; numbers_of(most), most_of(given), "{row}");
+    assert!(rt;
+        wanted.0 <= most_of(given).0 && wanted.1 <= most_of(given).1,
+        "{row}"
+    );
+    check_counts(rt, alloc, given, wanted)
+}
+
+#[test]
+fn frames_take_few_rows_and_calls(rt: HostRuntime) -> Result<(), RecordError> {
+    for row in INLINE.lines() {
+        if !row.is_empty() && !row.starts_with('#') {
+            check_row(&rt, rt.alloc(), row)?;
+        }
+    }
+    Ok(())
+}
+
+#[test]
+fn frames_of_both_commits(rt: HostRuntime) -> Result<(), RecordError> {
+    for row in ADJACENT.lines() {
+        if !row.is_empty() {
+            let (given, wanted) = row.split_once(" => ").unwrap_or((row, ""));
+            check_counts(&rt, rt.alloc(), given, numbers_of(wanted))?;
+        }
+    }
+    Ok(())
+}

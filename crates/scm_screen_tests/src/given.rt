@@ -1,0 +1,145 @@
+//! Sessions in few letters: a state, and what a user does.
+use scm_record::{
+    ChangeType, Commit, Event, File, FileMode, Items, LiveSession, RecordError, RecordState,
+    Section, SectionChangedLine, TerminalKind, Text, Turn,
+};
+use scm_state_tests::samples::{
+    ADDED, DEFAULT, REMOVED, binary, changed, commits_of, context, file_of,
+};
+use std::alloc::Global;
+use std::process::Abort;
+
+/// The texts of lines.
+const DIGITS: [&str; 10] = [
+    "0\n", "1\n", "2\n", "3\n", "4\n", "5\n", "6\n", "7\n", "8\n", "9\n",
+];
+
+/// A section of so many unchecked additions.
+fn additions(alloc: Global, count: usize) -> Result<Section<'static>, RecordError> {
+    let mut lines = Items::new(alloc);
+    for index in 0..count {
+        lines.push(SectionChangedLine {
+            is_checked: false,
+            change_type: ChangeType::Added,
+            line: Text::from(DIGITS[index % 10]),
+        })?;
+    }
+    Ok(Section::Changed { lines })
+}
+
+/// The section of a letter: changes of one or more lines, so many lines of context, a mode, bytes.
+fn section_of(alloc: Global, letter: char) -> Result<Section<'static>, RecordError> {
+    match letter {
+        'x' => changed(alloc, &[(false, ADDED, "x\n")]),
+        'y' => changed(alloc, &[(false, REMOVED, "y\n")]),
+        'k' => changed(alloc, &[(true, ADDED, "c\n")]),
+        'h' => changed(alloc, &[(false, REMOVED, "b\n"), (true, ADDED, "c\n")]),
+        't' => additions(alloc, 10),
+        'L' => additions(alloc, 10_000),
+        '1' => context(alloc, &["a\n"]),
+        '3' => context(alloc, &["a\n", "b\n", "c\n"]),
+        '7' => context(alloc, &["a\n", "b\n", "c\n", "d\n", "e\n", "f\n", "g\n"]),
+        'm' => Ok(Section::FileMode {
+            is_checked: false,
+            mode: FileMode::Absent,
+        }),
+        'b' => Ok(binary(false)),
+        _ => context(alloc, &[]),
+    }
+}
+
+/// The file of such sections; a dot stands for none.
+fn file(alloc: Global, letters: &str) -> Result<File<'static>, RecordError> {
+    let mut sections = Vec::new(alloc);
+    for letter in letters.chars() {
+        if letter != '.' {
+            sections.push(section_of(alloc, letter)?)?;
+        }
+    }
+    Ok(file_of(DEFAULT, sections))
+}
+
+/// Files that commas part; a dash stands for none.
+fn files(alloc: Global, words: &str) -> Result<Items<File<'static>>, RecordError> {
+    let mut files = Items::new(alloc);
+    for word in words.split(',') {
+        if word != "-" {
+            files.push(file(alloc, word)?)?;
+        }
+    }
+    Ok(files)
+}
+
+/// The commits, of which the first has a message behind `!`.
+fn commits(alloc: Global, word: &str) -> Result<Items<Commit>, RecordError> {
+    if word.starts_with('!') {
+        commits_of(alloc, "hello")
+    } else {
+        Ok(Items::new(alloc))
+    }
+}
+
+/// The state of such files; behind `!` the first commit has a message.
+pub(crate) fn state_of(alloc: Global, word: &str) -> Result<RecordState<'static>, RecordError> {
+    let files = files(alloc, word.trim_start_matches('!'))?;
+    Ok(RecordState {
+        is_read_only: false,
+        commits: commits(alloc, word)?,
+        files,
+    })
+}
+
+/// The event of a letter; a capital from `A` on opens a menu.
+fn event_of(letter: char) -> Event {
+    match letter {
+        'l' => Event::FocusInner,
+        'h' => Event::FocusOuter { fold_section: true },
+        'j' => Event::FocusNext,
+        'f' => Event::ExpandItem,
+        'F' => Event::ExpandAll,
+        'd' => Event::ScrollDown,
+        'u' => Event::ScrollUp,
+        'p' => Event::PageDown,
+        'q' => Event::QuitCancel,
+        '?' => Event::Help,
+        'v' => Event::ToggleCommitViewMode,
+        'A' => Event::Click { row: 0, column: 1 },
+        'B' => Event::Click { row: 0, column: 8 },
+        'C' => Event::Click { row: 0, column: 15 },
+        'D' => Event::Click { row: 0, column: 24 },
+        _ => Event::None,
+    }
+}
+
+/// The session after an event that does not end it.
+fn after(
+    rt: &impl Abort,
+    session: LiveSession<'static>,
+    event: Event,
+) -> Result<LiveSession<'static>, RecordError> {
+    let Turn::Waiting(next) = session.handle(event)? else {
+        panic!(rt; "the session waits for no event");
+    };
+    Ok(next)
+}
+
+/// The session over a state after the events of these letters.
+pub(crate) fn session_of(
+    rt: &impl Abort,
+    state: RecordState<'static>,
+    alloc: Global,
+    kind: TerminalKind,
+    letters: &str,
+) -> Result<LiveSession<'static>, RecordError> {
+    assert!(rt; state.is_accepted());
+    let mut session = LiveSession::new(alloc, kind, state)?;
+    for letter in letters.chars() {
+        session = after(rt, session, event_of(letter))?;
+    }
+    Ok(session)
+}
+
+/// A number, or 0.
+pub(crate) fn number_of(word: Option<&str>) -> usize {
+    word.unwrap_or("").parse().unwrap_or(0)
+}
