@@ -16,35 +16,11 @@ use Rattle.scm_types.specs.Same.{IsCoherent, is_checked_deletion, is_unchecked_c
 use Rattle.scm_types.specs.declared.keys.SelectionKey.{SelectionKey}
 use Rattle.scm_types.specs.declared.keys.SelectionKey.TheVariants as keys
 use Rattle.scm_types.specs.Edits.{modify}
-use Rattle.scm_selection.specs.Toggle.{with_all_set, after_lines, after_mode, after_section, line_mark, mark_after, with_changed_set, with_deletion_unchecked, with_file_toggled, with_key_toggled, with_line_inverted, with_line_toggled, with_mode_checked, with_section_toggled, with_this_line_toggled, with_this_section_toggled}
-use Rattle.scm_selection.specs.Coherence.{is_deletion, is_new_and_deleted, KeepsCoherent}
-
--- tests of one item and of the rest
-or_from : (a b c d : Bool) → (IsTrue a → IsTrue c) → (IsTrue b → IsTrue d) → IsTrue (a || b) → IsTrue (c || d)
-or_from true b c d f g h = rw (f refl) refl
-or_from false b true d f g h = refl
-or_from false b false d f g h = g h
-
-and_from : (a b c d : Bool) → (IsTrue a → IsTrue c) → (IsTrue b → IsTrue d) → IsTrue (a && b) → IsTrue (c && d)
-and_from true b c d f g h = rw (f refl) (g h)
-and_from false b c d f g h = cc
-
--- tests of a list in which each element is changed
-any_map : {A : Type 0} (p q : A → Bool) (f : A → A) → ((x : A) → IsTrue (p (f x)) → IsTrue (q x)) → (xs : List A) → IsTrue (list_any p (map f xs)) → IsTrue (list_any q xs)
-any_map p q f h [] t = t
-any_map p q f h (x ∷ xs) t = or_from (p (f x)) (list_any p (map f xs)) (q x) (list_any q xs) (h x) (any_map p q f h xs) t
-
-all_map : {A : Type 0} (p q : A → Bool) (f : A → A) → ((x : A) → IsTrue (q x) → IsTrue (p (f x))) → (xs : List A) → IsTrue (list_all q xs) → IsTrue (list_all p (map f xs))
-all_map p q f h [] t = t
-all_map p q f h (x ∷ xs) t = and_from (q x) (list_all q xs) (p (f x)) (list_all p (map f xs)) (h x) (all_map p q f h xs) t
-
-none_map : {A : Type 0} (p : A → Bool) (f : A → A) → ((x : A) → p (f x) ≡ false) → (xs : List A) → list_any p (map f xs) ≡ false
-none_map p f h [] = refl
-none_map p f h (x ∷ xs) = rw (h x) (none_map p f h xs)
-
-each_map : {A : Type 0} (p : A → Bool) (f : A → A) → ((x : A) → IsTrue (p (f x))) → (xs : List A) → IsTrue (list_all p (map f xs))
-each_map p f h [] = refl
-each_map p f h (x ∷ xs) = rw (h x) (each_map p f h xs)
+use Rattle.scm_selection.specs.Toggle.{with_all_inverted, with_file_inverted, with_all_set, after_lines, after_mode, after_section, line_mark, mark_after, with_changed_set, with_file_toggled, with_key_toggled, with_line_inverted, with_line_toggled, with_section_toggled, with_this_line_toggled, with_this_section_toggled}
+use Rattle.scm_types.specs.Repair.{is_deletion, is_new_and_deleted, repaired, with_deletion_unchecked, with_mode_checked}
+use Rattle.scm_types.proofs.FitLemmas.{or_from, and_from, any_map, all_map, none_map, each_map, every_line, every_section, is_on, Fits, FitsFile, fits_from, coherent_from, deletion_gone, creation_checked, deletion_before}
+use Rattle.scm_types.proofs.RepairLemmas.{repaired_fits}
+use Rattle.scm_selection.specs.Coherence.{KeepsCoherent}
 
 -- tests of a list in which one element is changed
 any_modify : {A : Type 0} (p : A → Bool) (f : A → A) (xs : List A) (i : ℕ) (x : A) → slice_get xs i ≡ Some x → (IsTrue (p (f x)) → IsTrue (p x)) → IsTrue (list_any p (modify f xs i)) → IsTrue (list_any p xs)
@@ -67,37 +43,6 @@ any_at : {A : Type 0} (p : A → Bool) (xs : List A) (i : ℕ) (x : A) → slice
 any_at p [] i x e h = cc
 any_at p (y ∷ ys) zero x e h = let same : y ≡ x = cc in rw (same, h) refl
 any_at p (y ∷ ys) (suc i) x e h = or_from false (list_any p ys) (p y) (list_any p ys) (λ r. cc) (λ r. r) (any_at p ys i x e h)
-
--- every line of every section
-abbrev pub every_line : (Bool → Bool) → Section → Bool
-every_line test s = list_all test (line_marks s)
-
-every_section : (test : Bool → Bool) (ss : List Section) → list_all test (flat_map line_marks ss) ≡ list_all (every_line test) ss
-every_section test [] = refl
-every_section test (s ∷ ss) = list_all-append test (line_marks s) (flat_map line_marks ss) ∙ ap (λ b. every_line test s && b) (every_section test ss)
-
-abbrev pub is_on : Bool → Bool
-is_on b = b
-
--- coherence, section by section
-pub record Fits (mode : FileMode) (ss : List Section) : Type 0 where
-  pub on : IsTrue (list_any is_checked_deletion ss) → IsTrue (list_all (every_line is_on) ss)
-  pub off : IsTrue (is_absent mode) → IsTrue (list_any is_unchecked_creation ss) → IsTrue (list_all (every_line not) ss)
-
-abbrev pub FitsFile : File → Type 0
-FitsFile file = Fits file.file_mode file.sections
-
-pub fits_from : (file : File) → IsCoherent file → FitsFile file
-fits_from file h = record {
-  on = λ t. rw (← every_section is_on file.sections) (h.deletion t);
-  off = λ a t. rw (← every_section not file.sections) (h.creation a t);
-}
-
-pub coherent_from : (file : File) → FitsFile file → IsCoherent file
-coherent_from file h = record {
-  deletion = λ t. rw (every_section is_on file.sections) (h.on t);
-  creation = λ a t. rw (every_section not file.sections) (h.off a t);
-}
 
 -- what each effect makes of a section
 lines_set : (b : Bool) (test : Bool → Bool) → IsTrue (test b) → (lines : List SectionChangedLine) → IsTrue (list_all test (map (λ (l : SectionChangedLine). l.is_checked) (map (line_with_mark (λ _. b)) lines)))
@@ -128,14 +73,6 @@ no_unchecked_creation (sections.Changed lines) = refl
 no_unchecked_creation (sections.FileMode c m) = refl
 no_unchecked_creation (sections.Binary c old new) = refl
 
-deletion_gone : (s : Section) → is_checked_deletion (with_deletion_unchecked s) ≡ false
-deletion_gone (sections.Unchanged lines) = refl
-deletion_gone (sections.Changed lines) = refl
-deletion_gone (sections.FileMode true (modes.Unix bits)) = refl
-deletion_gone (sections.FileMode false (modes.Unix bits)) = refl
-deletion_gone (sections.FileMode c modes.Absent) = refl
-deletion_gone (sections.Binary c old new) = refl
-
 creation_before : (s : Section) → IsTrue (is_unchecked_creation (with_deletion_unchecked s)) → IsTrue (is_unchecked_creation s)
 creation_before (sections.Unchanged lines) h = h
 creation_before (sections.Changed lines) h = h
@@ -148,18 +85,6 @@ lines_stay test (sections.Unchanged lines) h = h
 lines_stay test (sections.Changed lines) h = h
 lines_stay test (sections.FileMode c m) h = h
 lines_stay test (sections.Binary c old new) h = h
-
-creation_checked : (s : Section) → is_unchecked_creation (with_mode_checked s) ≡ false
-creation_checked (sections.Unchanged lines) = refl
-creation_checked (sections.Changed lines) = refl
-creation_checked (sections.FileMode c m) = refl
-creation_checked (sections.Binary c old new) = refl
-
-deletion_before : (s : Section) → IsTrue (is_checked_deletion (with_mode_checked s)) → IsTrue (is_deletion s)
-deletion_before (sections.Unchanged lines) h = h
-deletion_before (sections.Changed lines) h = h
-deletion_before (sections.FileMode c m) h = h
-deletion_before (sections.Binary c old new) h = h
 
 -- a whole file is set
 set_fits : (mode : FileMode) (b : Bool) (ss : List Section) → Fits mode (map (section_with_marks (λ _. b)) ss)
@@ -312,3 +237,21 @@ marked_keeps_coherent checked files i before after e d pure h =
 
 pub all_set_keeps_coherent : (files : List File) → KeepsCoherent files (with_all_set files)
 all_set_keeps_coherent files = marked_keeps_coherent _ files
+
+-- marks leave it whether a file is deleted
+marks_keep-deletion : (f : Bool → Bool) (s : Section) → is_deletion (section_with_marks f s) ≡ is_deletion s
+marks_keep-deletion f (sections.Unchanged lines) = refl
+marks_keep-deletion f (sections.Changed lines) = refl
+marks_keep-deletion f (sections.FileMode c m) = refl
+marks_keep-deletion f (sections.Binary c old new) = refl
+
+marks_keep-deletions : (f : Bool → Bool) (ss : List Section) → list_any is_deletion (map (section_with_marks f) ss) ≡ list_any is_deletion ss
+marks_keep-deletions f [] = refl
+marks_keep-deletions f (s ∷ ss) = rw (marks_keep-deletion f s, marks_keep-deletions f ss) refl
+
+pub all_inverted_keeps_coherent : (files : List File) → KeepsCoherent files (with_all_inverted files)
+all_inverted_keeps_coherent files i before after e d pure h =
+    let made : option_map with_file_inverted (Some before) ≡ Some after = sym (ap (option_map with_file_inverted) e) ∙ sym (slice_get-map with_file_inverted files i) ∙ d in
+    let same : with_file_inverted before ≡ after = cc in
+    let still : is_new_and_deleted (file_with_marks not before) ≡ false = ap (λ b. is_absent before.file_mode && b) (marks_keep-deletions not before.sections) ∙ pure in
+    rw (← same) (coherent_from (with_file_inverted before) (repaired_fits (file_with_marks not before) still))

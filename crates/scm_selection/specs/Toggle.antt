@@ -11,6 +11,7 @@ use Rattle.scm_types.specs.declared.tristate.Tristate.TheVariants as tristates
 use Rattle.scm_types.specs.Marks.{file_marks, section_marks, tristate_of, line_with_mark, section_with_marks, file_with_marks}
 use Rattle.scm_types.specs.Edits.{modify}
 use Rattle.scm_types.specs.Mode.{is_absent}
+use Rattle.scm_types.specs.Repair.{repaired, with_deletion_unchecked, with_mode_checked}
 use Rattle.scm_types.specs.declared.keys.SelectionKey.{SelectionKey}
 use Rattle.scm_types.specs.declared.keys.SelectionKey.TheVariants as keys
 
@@ -26,21 +27,6 @@ with_changed_set checked (sections.Unchanged lines) = sections.Unchanged lines
 with_changed_set checked (sections.Changed lines) = section_with_marks (λ _. checked) (sections.Changed lines)
 with_changed_set checked (sections.FileMode is_checked mode) = sections.FileMode is_checked mode
 with_changed_set checked (sections.Binary is_checked old new) = sections.Binary is_checked old new
-
--- the section, unchecked if it is a deletion of the file
-abbrev pub with_deletion_unchecked : Section → Section
-with_deletion_unchecked (sections.Unchanged lines) = sections.Unchanged lines
-with_deletion_unchecked (sections.Changed lines) = sections.Changed lines
-with_deletion_unchecked (sections.FileMode is_checked mode) =
-    sections.FileMode (if is_absent mode then false else is_checked) mode
-with_deletion_unchecked (sections.Binary is_checked old new) = sections.Binary is_checked old new
-
--- the section, checked if it changes the mode
-abbrev pub with_mode_checked : Section → Section
-with_mode_checked (sections.Unchanged lines) = sections.Unchanged lines
-with_mode_checked (sections.Changed lines) = sections.Changed lines
-with_mode_checked (sections.FileMode is_checked mode) = sections.FileMode true mode
-with_mode_checked (sections.Binary is_checked old new) = sections.Binary is_checked old new
 
 -- what follows from setting changed lines: unchecked ones leave no deletion, checked ones in a new file create it
 abbrev pub after_lines : FileMode → Bool → List Section → List Section
@@ -111,9 +97,12 @@ with_key_toggled (keys.File key) files = modify with_file_toggled files key.file
 with_key_toggled (keys.Section key) files = modify (with_section_toggled key.section_idx) files key.file_idx
 with_key_toggled (keys.Line key) files = modify (with_line_toggled key.section_idx key.line_idx) files key.file_idx
 
--- each mark of each file is inverted
+-- each mark of the file is inverted, and then the file is repaired
+abbrev pub with_file_inverted : File → File
+with_file_inverted file = repaired (file_with_marks not file)
+
 abbrev pub with_all_inverted : List File → List File
-with_all_inverted files = map (file_with_marks not) files
+with_all_inverted files = map with_file_inverted files
 
 abbrev pub is_checked_by : Tristate → Bool
 is_checked_by tristates.False = false

@@ -4,8 +4,9 @@ ghost use Rattle.std.specs.List.{list_all};
 ghost use Rattle.scm_types.specs.Marks.{file_with_marks, line_with_mark, section_with_marks};
 ghost use Rattle.scm_selection.specs.Coherence.{KeepsCoherent};
 ghost use Rattle.scm_types.specs.Edits.{modify};
-ghost use Rattle.scm_selection.specs.Toggle.{after_lines, after_mode, after_section, is_all_checked, is_checked_by, is_checked_file, line_mark, mark_after, with_all_inverted, with_all_set, with_changed_set, with_deletion_unchecked, with_file_toggled, with_key_toggled, with_line_inverted, with_line_toggled, with_mode_checked, with_section_toggled};
+ghost use Rattle.scm_selection.specs.Toggle.{after_lines, after_mode, after_section, is_all_checked, is_checked_by, is_checked_file, line_mark, mark_after, with_all_inverted, with_all_set, with_changed_set, with_file_inverted, with_file_toggled, with_key_toggled, with_line_inverted, with_line_toggled, with_section_toggled};
 
+use scm_types::repair::{check_modes, uncheck_deletions};
 use scm_types::{File, FileMode, Section, SectionChangedLine, SelectionKey, Tristate};
 
 /// The mark that a toggle sets.
@@ -28,32 +29,6 @@ fn set_changed(section: &mut Section<'_>, checked: bool)
     }
 }
 
-/// Unchecks the section, if it is a deletion of the file.
-fn uncheck_deletion(section: &mut Section<'_>)
-    ensures { section.new ≡ with_deletion_unchecked section.old }
-{
-    match section {
-        Section::FileMode { is_checked, mode } => {
-            if mode.is_absent() {
-                *is_checked = false;
-            }
-        }
-        Section::Unchanged { .. } | Section::Changed { .. } | Section::Binary { .. } => {}
-    }
-}
-
-/// Checks the section, if it changes the mode.
-fn check_mode(section: &mut Section<'_>)
-    ensures { section.new ≡ with_mode_checked section.old }
-{
-    match section {
-        Section::FileMode { is_checked, .. } => {
-            *is_checked = true;
-        }
-        Section::Unchanged { .. } | Section::Changed { .. } | Section::Binary { .. } => {}
-    }
-}
-
 /// Checks every changed line.
 fn check_all_changed(sections: &mut [Section<'_>])
     ensures { sections.new ≡ map (with_changed_set true) sections.old }
@@ -69,24 +44,6 @@ fn uncheck_all(sections: &mut [Section<'_>])
 {
     for section in sections.iter_mut() {
         section.set_checked(false);
-    }
-}
-
-/// Unchecks every deletion of the file.
-fn uncheck_deletions(sections: &mut [Section<'_>])
-    ensures { sections.new ≡ map with_deletion_unchecked sections.old }
-{
-    for section in sections.iter_mut() {
-        uncheck_deletion(section);
-    }
-}
-
-/// Checks every change of the mode.
-fn check_modes(sections: &mut [Section<'_>])
-    ensures { sections.new ≡ map with_mode_checked sections.old }
-{
-    for section in sections.iter_mut() {
-        check_mode(section);
     }
 }
 
@@ -269,12 +226,20 @@ pub fn toggle_key(files: &mut [File<'_>], key: SelectionKey)
     }
 }
 
-/// Inverts every mark. It mends nothing: a deletion may come to stand beside unchecked lines.
+/// Inverts every mark of a file, and repairs it.
+fn invert(file: &mut File<'_>)
+    ensures { file.new ≡ with_file_inverted file.old }
+{
+    file.toggle_all();
+    file.repair();
+}
+
+/// Inverts every mark, and repairs each file.
 pub fn invert_all(files: &mut [File<'_>])
     ensures { files.new ≡ with_all_inverted files.old }
 {
     for file in files.iter_mut() {
-        file.toggle_all();
+        invert(file);
     }
 }
 
@@ -323,9 +288,10 @@ pub fn set_all(files: &mut [File<'_>])
     mark_all(files, checked);
 }
 
-/// A toggle of any key, and one of everything to the same mark, keep each file coherent that was
-/// so, unless the file is new and is also deleted.
+/// A toggle of any key, one of everything to the same mark, and the inversion of everything keep each
+/// file coherent that was so, unless the file is new and is also deleted.
 pub fn toggles_keep_coherence(_files: &[File<'_>], _key: SelectionKey)
     ensures key { KeepsCoherent _files.now (with_key_toggled _key _files.now) }
     ensures all { KeepsCoherent _files.now (with_all_set _files.now) }
+    ensures inverted { KeepsCoherent _files.now (with_all_inverted _files.now) }
 {}

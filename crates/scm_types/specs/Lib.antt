@@ -12,6 +12,8 @@ pub mod Laws
 pub mod Limits
 -- states that differ in marks and messages alone, and files whose marks fit each other
 pub mod Same
+-- what a repair makes of a file, so that its marks fit each other
+pub mod Repair
 -- a change of one element of a list
 pub mod Edits
 -- what a list ends as, once a borrow of its elements is over

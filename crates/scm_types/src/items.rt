@@ -1,5 +1,5 @@
 //! The lists of a state.
-ghost use Rattle.std.specs.Prelude.{◌≡◌, ◌<◌, ◌↔◌, ◌==◌, ◌++◌, ◌∷◌, ◌^◌, [], List, length, IfErr, IfSome, IsSome, is_ok, if◌then◌else◌, slice_get, slice_index_or};
+ghost use Rattle.std.specs.Prelude.{◌≡◌, ◌<◌, ◌↔◌, ◌==◌, ◌++◌, ◌-◌, ◌∷◌, ◌^◌, [], List, length, IfErr, IfOk, IfSome, IsSome, is_ok, if◌then◌else◌, slice_get, slice_index_or};
 ghost use Rattle.std.specs.Option.{option_copied, option_to_list};
 ghost use Rattle.std.specs.Cmp.Lexicographic.{pointwise, lists_per, lists_equiv};
 ghost use Rattle.std.specs.Borrow.{sem};
@@ -40,6 +40,14 @@ impl<T> Items<T> {
         Items {
             inner: Vec::new(alloc),
         }
+    }
+
+    /// A list without elements, with room for so many.
+    pub fn with_capacity(alloc: Global, capacity: usize) -> Result<Self, AllocError>
+        ensures { IfOk result (λ items. items ≡ []) }
+    {
+        let inner = Vec::with_capacity(alloc, capacity)?;
+        Ok(Items { inner })
     }
 
     /// How many elements there are.
@@ -85,6 +93,13 @@ impl<T> Items<T> {
         ensures value { IfSome result (λ x. x.now ≡ slice_index_or self.old index x.now) }
     {
         self.inner.get_mut(index)
+    }
+
+    /// The last element, if there is one.
+    pub fn last(&self) -> Option<&T>
+        ensures { option_copied result ≡ slice_get self.now (length self.now - 1) }
+    {
+        self.as_slice().last()
     }
 
     /// Adds an element at the end. Without memory for it the list stays as it was, and the error
@@ -217,6 +232,15 @@ impl<T: Drop> FromIterator<T> for Items<T> {
     ) -> Result<Items<T>, AllocError> {
         let list = Vec::from_iter(alloc, iter)?;
         Ok(Items::from(list))
+    }
+}
+
+/// Adds elements at the end. Without memory for one, those that came before it are added.
+impl<T: Drop> Extend<T> for Items<T> {
+    ghost extend_gives = { λ old xs new. new ≡ old ++ xs };
+
+    fn extend<U: IntoIterator<Item = T>>(&mut self, iter: U) -> Result<(), AllocError> {
+        self.inner.extend(iter)
     }
 }
 

@@ -10,9 +10,6 @@ use crate::section::Section;
 use crate::state::Commit;
 use crate::text::{OwnedText, Text};
 
-/// How many files, sections and lines a state may have.
-pub(crate) const MAX_ITEMS: usize = 1_000_000;
-
 /// How many bytes a text may have.
 const MAX_TEXT: usize = 1_000_000;
 

@@ -4,7 +4,7 @@ ghost use Rattle.scm_types.specs.Limits.{is_accepted_state};
 
 use crate::file::File;
 use crate::items::Items;
-use crate::limits::{MAX_ITEMS, fits, has_short_messages, has_short_texts_in_files};
+use crate::limits::{fits, has_short_messages, has_short_texts_in_files};
 use crate::text::OwnedText;
 use serde::{Deserialize, Serialize};
 use std::alloc::Global;
@@ -30,6 +30,12 @@ pub struct Commit {
 }
 
 impl<'a> RecordState<'a> {
+    /// How many files, sections and lines a state may have together.
+    pub const MAX_ITEMS: usize = 16_000_000;
+
+    /// How many rows of the document may lie above the screen.
+    pub const MAX_SCROLL: usize = 2 * Self::MAX_ITEMS;
+
     /// A state that is not read-only, without commits and files. It takes no memory.
     pub fn empty(alloc: Global) -> RecordState<'a>
         ensures { result ≡ record { is_read_only = false; commits = []; files = [] } }
@@ -41,17 +47,18 @@ impl<'a> RecordState<'a> {
         }
     }
 
-    /// The state is within the limits: at most two commits; at most 1,000,000 files, sections and
-    /// lines together; and at most 1,000,000 bytes in each message, path, old path, line and
-    /// description.
+    /// The state is within the limits: at most two commits; at most [`RecordState::MAX_ITEMS`]
+    /// files, sections and lines together; and at most 1,000,000 bytes in each message, path, old
+    /// path, line and description.
     ///
     /// Its time grows with the number of files, sections and lines alone, and it takes no memory.
+    #[tactic(auto, unfolding(crate::specs::Limits::max_items))]
     pub fn is_accepted(&self) -> bool
         ensures { result ≡ is_accepted_state self.now }
     {
         self.commits.len() <= 2
             && has_short_messages(self.commits.as_slice())
-            && fits(MAX_ITEMS, self.files.as_slice())
+            && fits(Self::MAX_ITEMS, self.files.as_slice())
             && has_short_texts_in_files(self.files.as_slice())
     }
 }

@@ -5,6 +5,7 @@ use scm_state_tests::samples::{
 };
 use scm_types::consts::{DUMP_UI_STATE_FILENAME, ENV_VAR_DEBUG_UI, ENV_VAR_DUMP_UI_STATE};
 use scm_types::helpers::make_binary_description;
+use scm_types::repair::{check_modes, uncheck_deletions};
 use scm_types::{
     ChangeType, Commit, File, FileMode, IsizeExt, Items, OwnedText, RecordError, RecordState,
     Section, SectionChangedLine, SelectedChanges, SelectedContents, Text, Tristate, UsizeExt, laws,
@@ -215,13 +216,37 @@ fn files_of_any_size_are_copied_and_split(rt: HostRuntime) -> Result<(), RecordE
     check_size(&rt, alloc, texts.as_slice(), lines.as_slice(), 40_000)
 }
 
+/// The sides of a toggled file are those of the file in changed places.
+fn check_places(
+    rt: &impl Abort,
+    alloc: Global,
+    file: &File<'_>,
+    toggled: &File<'_>,
+) -> Result<(), RecordError> {
+    let (selected, unselected) = file.get_selected_contents(alloc)?;
+    let (first, second) = toggled.get_selected_contents(alloc)?;
+    assert!(rt; first.contents == unselected.contents);
+    assert!(rt; second.contents == selected.contents);
+    Ok(())
+}
+
+/// Toggles a file, and once more.
+fn check_toggles(rt: &impl Abort, alloc: Global, file: &File<'_>) -> Result<(), RecordError> {
+    let mut toggled = file.try_clone(alloc)?;
+    toggled.toggle_all();
+    check_places(rt, alloc, file, &toggled)?;
+    toggled.toggle_all();
+    assert!(rt; toggled == *file);
+    Ok(())
+}
+
 #[test]
-fn laws_can_be_called(rt: HostRuntime) -> Result<(), RecordError> {
+fn laws_of_toggles_hold(rt: HostRuntime) -> Result<(), RecordError> {
     let file = mixed_file(rt.alloc())?;
     laws::toggle_twice(&file);
     laws::toggle_swaps(&file);
     laws::split_keeps_lines(&file);
-    Ok(())
+    check_toggles(&rt, rt.alloc(), &file)
 }
 
 #[test]
@@ -344,6 +369,42 @@ fn marks_are_counted_and_written(rt: HostRuntime) -> Result<(), RecordError> {
     for section in file.sections.iter_mut() {
         check_marks(&rt, section);
     }
+    Ok(())
+}
+
+/// A file with a removed line, unchecked, and its deletion, checked or not.
+fn half_removed(alloc: Global, is_checked: bool) -> Result<File<'static>, RecordError> {
+    let lines = changed(alloc, &[(false, REMOVED, "x\n")])?;
+    let deletion = Section::FileMode {
+        is_checked,
+        mode: FileMode::Absent,
+    };
+    Ok(file_of(DEFAULT, vec![in alloc; lines, deletion]?))
+}
+
+#[test]
+fn marks_are_made_to_fit(rt: HostRuntime) -> Result<(), RecordError> {
+    let alloc = rt.alloc();
+    for (mut file, wanted) in [
+        (half_removed(alloc, true)?, half_removed(alloc, false)?),
+        (half_removed(alloc, false)?, half_removed(alloc, false)?),
+        (
+            new_file(alloc, &CHECKED, false)?,
+            new_file(alloc, &CHECKED, true)?,
+        ),
+        (
+            new_file(alloc, &UNCHECKED, true)?,
+            new_file(alloc, &UNCHECKED, true)?,
+        ),
+    ] {
+        file.repair();
+        assert!(rt; file == wanted);
+    }
+    let mut file = half_removed(alloc, true)?;
+    uncheck_deletions(file.sections.as_mut_slice());
+    assert!(rt; file == half_removed(alloc, false)?);
+    check_modes(file.sections.as_mut_slice());
+    assert!(rt; file == half_removed(alloc, true)?);
     Ok(())
 }
 
@@ -534,6 +595,27 @@ fn lists_are_collected_and_gone_through(rt: HostRuntime) -> Result<(), RecordErr
     for expected in [Some(4), Some(2), None] {
         assert_eq!(rt; rest.pop(), expected);
     }
+    Ok(())
+}
+
+#[test]
+fn lists_are_made_with_room_and_extended(rt: HostRuntime) -> Result<(), RecordError> {
+    let mut items = Items::with_capacity(rt.alloc(), 4)?;
+    assert_eq!(rt; items.last().copied(), None);
+    items.extend([3_u8, 5, 8])?;
+    assert!(rt; items.as_slice() == [3, 5, 8].as_slice());
+    assert_eq!(rt; items.last().copied(), Some(8));
+    Ok(())
+}
+
+#[test]
+fn a_script_that_ends_is_told_by_its_kind(rt: HostRuntime) -> Result<(), RecordError> {
+    let alloc = rt.alloc();
+    for (text, is_end) in [("no events left", true), ("gone", false)] {
+        let error = RecordError::ReadInput(String::from_str(alloc, text)?);
+        assert_eq!(rt; error.is_no_events_left(), is_end);
+    }
+    assert!(rt; !RecordError::Cancelled.is_no_events_left());
     Ok(())
 }
 

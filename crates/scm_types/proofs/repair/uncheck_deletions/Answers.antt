@@ -1,7 +1,7 @@
 use Rattle.std.proofs.Common.{arith}
 use Rattle.std.proofs.lemmas.List.Edits.{map_over_more}
-use Rattle.scm_selection.specs.Toggle.{with_deletion_unchecked}
-use Rattle.scm_selection.proofs.toggles.uncheck_deletions.Goals as goal
+use Rattle.scm_types.specs.Repair.{with_deletion_unchecked}
+use Rattle.scm_types.proofs.repair.uncheck_deletions.Goals as goal
 
 pub loop-section-preserved : goal.loop-section-preserved
 loop-section-preserved c =

@@ -1,6 +1,6 @@
 use Rattle.std.proofs.Common.{◌≡◌, ◌++◌, map, take, drop}
-use Rattle.scm_selection.specs.Toggle.{with_deletion_unchecked}
-use Rattle.scm_selection.proofs.toggles.uncheck_deletions.Given as goal
+use Rattle.scm_types.specs.Repair.{with_deletion_unchecked}
+use Rattle.scm_types.proofs.repair.uncheck_deletions.Given as goal
 
 -- the sections so far are set
 abbrev pub invariant-loop-section : goal.invariant-loop-section

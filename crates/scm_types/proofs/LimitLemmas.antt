@@ -1,0 +1,21 @@
+-- The limits of the code are those of the definitions, and leave room.
+use Rattle.std.proofs.Common.{◌≡◌, ◌≤◌, ◌^◌, refl, arith}
+use Rattle.scm_types.specs.declared.state.TheConstants.RecordState.{MAX_ITEMS, MAX_SCROLL}
+use Rattle.scm_types.specs.Limits.{max_items, max_scroll}
+
+pub items_limit : MAX_ITEMS ≡ max_items
+unfolding max_items
+items_limit = refl
+
+pub scroll_limit : MAX_SCROLL ≡ max_scroll
+unfolding max_items max_scroll
+scroll_limit = refl
+
+-- sums of many such numbers are far from the ends of an integer: what compares with these bounds doesn't open the definitions
+pub items_room : max_items ≤ 2 ^ 40
+unfolding max_items
+items_room = omega arith
+
+pub scroll_room : max_scroll ≤ 2 ^ 41
+unfolding max_items max_scroll
+scroll_room = omega arith

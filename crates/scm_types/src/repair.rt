@@ -1,0 +1,134 @@
+//! The repair of a file's marks: what was checked and unchecked without regard to the rest of the
+//! file is made to fit again.
+ghost use Rattle.std.specs.Prelude.{◌≡◌, map, not};
+ghost use Rattle.std.specs.List.{list_any};
+ghost use Rattle.scm_types.specs.Repair.{repaired, some_line, with_creation, with_deletion_unchecked, with_mode_checked, without_deletion};
+ghost use Rattle.scm_types.specs.Same.{line_marks};
+
+use crate::file::File;
+use crate::file_mode::FileMode;
+use crate::line::SectionChangedLine;
+use crate::section::Section;
+
+/// Some of these lines is unchecked.
+fn is_some_unchecked(lines: &[SectionChangedLine<'_>]) -> bool
+    ensures { result ≡ list_any (λ line. not line.is_checked) lines.now }
+{
+    lines.iter().any(|line| !line.is_checked)
+}
+
+/// Some of these lines is checked.
+fn is_some_checked(lines: &[SectionChangedLine<'_>]) -> bool
+    ensures { result ≡ list_any (λ line. line.is_checked) lines.now }
+{
+    lines.iter().any(|line| line.is_checked)
+}
+
+/// Some changed line of the section is unchecked.
+fn has_unchecked_line(section: &Section<'_>) -> bool
+    ensures { result ≡ list_any not (line_marks section.now) }
+{
+    match section {
+        Section::Changed { lines } => is_some_unchecked(lines.as_slice()),
+        Section::Unchanged { .. } | Section::FileMode { .. } | Section::Binary { .. } => false,
+    }
+}
+
+/// Some changed line of the section is checked.
+fn has_checked_line(section: &Section<'_>) -> bool
+    ensures { result ≡ list_any (λ b. b) (line_marks section.now) }
+{
+    match section {
+        Section::Changed { lines } => is_some_checked(lines.as_slice()),
+        Section::Unchanged { .. } | Section::FileMode { .. } | Section::Binary { .. } => false,
+    }
+}
+
+/// Some changed line is unchecked.
+fn is_some_line_unchecked(sections: &[Section<'_>]) -> bool
+    ensures { result ≡ some_line not sections.now }
+{
+    sections.iter().any(|section| has_unchecked_line(section))
+}
+
+/// Some changed line is checked.
+fn is_some_line_checked(sections: &[Section<'_>]) -> bool
+    ensures { result ≡ some_line (λ b. b) sections.now }
+{
+    sections.iter().any(|section| has_checked_line(section))
+}
+
+/// Unchecks the section, if it is a deletion of the file.
+fn uncheck_deletion(section: &mut Section<'_>)
+    ensures { section.new ≡ with_deletion_unchecked section.old }
+{
+    match section {
+        Section::FileMode { is_checked, mode } => {
+            if mode.is_absent() {
+                *is_checked = false;
+            }
+        }
+        Section::Unchanged { .. } | Section::Changed { .. } | Section::Binary { .. } => {}
+    }
+}
+
+/// Checks the section, if it changes the mode.
+fn check_mode(section: &mut Section<'_>)
+    ensures { section.new ≡ with_mode_checked section.old }
+{
+    match section {
+        Section::FileMode { is_checked, .. } => {
+            *is_checked = true;
+        }
+        Section::Unchanged { .. } | Section::Changed { .. } | Section::Binary { .. } => {}
+    }
+}
+
+/// Unchecks every deletion of the file.
+pub fn uncheck_deletions(sections: &mut [Section<'_>])
+    ensures { sections.new ≡ map with_deletion_unchecked sections.old }
+{
+    for section in sections.iter_mut() {
+        uncheck_deletion(section);
+    }
+}
+
+/// Checks every change of the mode.
+pub fn check_modes(sections: &mut [Section<'_>])
+    ensures { sections.new ≡ map with_mode_checked sections.old }
+{
+    for section in sections.iter_mut() {
+        check_mode(section);
+    }
+}
+
+/// Unchecks every deletion, where some changed line is unchecked.
+fn mend_deletions(sections: &mut [Section<'_>])
+    ensures { sections.new ≡ without_deletion sections.old }
+{
+    if is_some_line_unchecked(sections) {
+        uncheck_deletions(sections);
+    }
+}
+
+/// Checks every change of the mode, where a file of this mode is new and some changed line is checked.
+fn mend_creation(mode: FileMode, sections: &mut [Section<'_>])
+    ensures { sections.new ≡ with_creation mode sections.old }
+{
+    let is_made = mode.is_absent() & is_some_line_checked(sections);
+    if is_made {
+        check_modes(sections);
+    }
+}
+
+impl<'a> File<'a> {
+    /// Makes the marks fit each other. First, where some changed line is unchecked, each change of
+    /// the mode to [`FileMode::Absent`] is unchecked; then, where the file's own mode is that and
+    /// some changed line is checked, each change of the mode is checked. All else stays.
+    pub fn repair(&mut self)
+        ensures { self.new ≡ repaired self.old }
+    {
+        mend_deletions(self.sections.as_mut_slice());
+        mend_creation(self.file_mode, self.sections.as_mut_slice());
+    }
+}
