@@ -1,5 +1,7 @@
 -- A text of printable ASCII is its own list of clusters: each byte is one, of one column.
-use Rattle.std.proofs.Common.{◌≡◌, ℕ, ◌<◌, Bool, true, false, not, ◌||◌, ◌==◌, List, [], ◌∷◌, ◌++◌, length, map, refl, sym, ap, ap₂, ◌∙◌, arith, Some, sum_by, encode_utf8, encode_utf8_all, take, drop}
+use Rattle.std.proofs.Common.{◌≡◌, ℕ, suc, ◌+◌, ◌<◌, Bool, true, false, not, ◌||◌, ◌==◌, List, [], ◌∷◌, ◌++◌, length, map, refl, sym, ap, ap₂, ◌∙◌, arith, Some, sum_by, encode_utf8, encode_utf8_all, take, take_all, drop, ◌≤◌}
+use Rattle.std.specs.Prelude.{nat_lt, position, unwrap_or}
+use Rattle.std.specs.List.{position_or_len}
 use Rattle.std.specs.Int.{is_in_range}
 use Rattle.std.specs.Str.{chars, IsAscii}
 use Rattle.std.proofs.lemmas.Bool.{and_parts}
@@ -17,7 +19,7 @@ use Rattle.unicode_segmentation.specs.Segments.{cut, segments}
 use Rattle.unicode_segmentation.proofs.GraphemeLemmas.{is_grapheme_break-others}
 use Rattle.unicode_width.specs.Width.{str_width}
 use Rattle.unicode_width.proofs.Rules.{str_width-printable}
-use Rattle.scm_cells.specs.Cluster.{Cluster, is_printable, bytes_as_clusters}
+use Rattle.scm_cells.specs.Cluster.{Cluster, is_printable, is_unprintable, bytes_as_clusters}
 use Rattle.scm_cells.specs.Clusters.{clusters, kept, kept_width, has_control, with_width, text_width}
 
 -- ---- a printable character
@@ -103,3 +105,38 @@ pub bytes_as_clusters-more : (text front back : List ℕ) → 0 < length text �
 unfolding bytes_as_clusters
 bytes_as_clusters-more [] front back some f g = absurd (omega arith)
 bytes_as_clusters-more (b ∷ bs) front back some f g = ap₂ (λ t u. (t, 1) ∷ bytes_as_clusters u) (sym f) (sym g)
+
+-- ---- the bytes before the first that is not printable
+
+printable-byte : (b : ℕ) → is_unprintable b ≡ false → is_printable_char b ≡ true
+printable-byte b h = grind (arith, nat_tests)
+
+printable-more : (b : ℕ) (bs : List ℕ) → is_printable_char b ≡ true → is_printable bs ≡ true → is_printable (b ∷ bs) ≡ true
+printable-more b bs h g = rw h g
+
+one_more : (n : ℕ) → 1 + n ≡ suc n
+one_more n = omega arith
+
+printable-passed : (text : List ℕ) → is_printable (take (position_or_len is_unprintable text) text) ≡ true
+printable-passed [] = refl
+printable-passed (b ∷ bs) = by_test (is_unprintable b) refl (printable-passed bs)
+  where
+    by_test : (t : Bool) → is_unprintable b ≡ t → is_printable (take (position_or_len is_unprintable bs) bs) ≡ true → is_printable (take (position_or_len is_unprintable (b ∷ bs)) (b ∷ bs)) ≡ true
+    by_test true e more = rw e refl
+    by_test false e more = rw (e, one_more (position_or_len is_unprintable bs)) (printable-more b (take (position_or_len is_unprintable bs) bs) (printable-byte b e) more)
+
+pub printable-front : (text : List ℕ) → is_printable (take (unwrap_or (position is_unprintable text) (length text)) text) ≡ true
+printable-front text = by_test (nat_lt (position_or_len is_unprintable text) (length text)) refl
+  where
+    by_test : (t : Bool) → nat_lt (position_or_len is_unprintable text) (length text) ≡ t → is_printable (take (unwrap_or (position is_unprintable text) (length text)) text) ≡ true
+    by_test true e = rw e (printable-passed text)
+    by_test false e =
+        let all : length text ≤ position_or_len is_unprintable text = grind (arith, nat_tests) in
+        rw (e, take_all (length text) text (omega arith)) (rw (take_all (position_or_len is_unprintable text) text all) at (printable-passed text))
+
+pub count-le : (text : List ℕ) → unwrap_or (position is_unprintable text) (length text) ≤ length text
+count-le text = by_test (nat_lt (position_or_len is_unprintable text) (length text)) refl
+  where
+    by_test : (t : Bool) → nat_lt (position_or_len is_unprintable text) (length text) ≡ t → unwrap_or (position is_unprintable text) (length text) ≤ length text
+    by_test true e = let before : position_or_len is_unprintable text < length text = grind (arith, nat_tests) in rw e (omega (arith, before))
+    by_test false e = rw e (omega arith)

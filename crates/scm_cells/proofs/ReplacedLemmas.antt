@@ -1,13 +1,18 @@
-use Rattle.std.proofs.Common.{◌*◌, ◌≤◌, Bool, true, false, sum_by, ◌≡◌, ℕ, ◌+◌, List, [], ◌∷◌, ◌++◌, length, encode_utf8, Option, Some, None, refl, sym, ap, ◌∙◌, arith, append_assoc, append-nil, length-append, take, take_at, subst, slice_range, ◌-◌}
-use Rattle.std.specs.Prelude.{if◌then◌else◌, nat_lt, ◌==◌, unwrap_or}
+use Rattle.std.proofs.Common.{◌*◌, ◌≤◌, Bool, true, false, sum_by, ◌≡◌, ℕ, ◌+◌, List, [], ◌∷◌, ◌++◌, length, encode_utf8, Option, Some, None, refl, sym, ap, ◌∙◌, ◌<◌, arith, append_assoc, append-nil, length-append, length-take-le, take, take_at, take-append-drop, drop, subst, slice_range, ◌-◌}
+use Rattle.std.specs.Prelude.{if◌then◌else◌, nat_lt, ◌==◌, position, unwrap_or}
+use Rattle.std.specs.List.{list_all}
 use Rattle.std.specs.Str.{chars, IsUtf8, IsCharBoundary, all_scalars}
+use Rattle.std.proofs.lemmas.Bool.{and_parts}
 use Rattle.std.proofs.lemmas.Bool.Decides.{nat_tests}
 use Rattle.std.proofs.lemmas.List.Sums.{sum_by-cons}
 use Rattle.unicode_segmentation.proofs.Computing.{unicode_segmentation}
 use Rattle.unicode_width.proofs.Computing.{unicode_width}
+use Rattle.unicode_width.proofs.Rules.{is_simple, width_or_zero, str_width-simple, str_width-printable}
 use Rattle.unicode_width.specs.Width.{char_width}
 use Rattle.std.proofs.lemmas.List.{nil_from_length}
 use Rattle.std.proofs.lemmas.Str.{chars_past_char, chars-nil, IsUtf8-past_char, length-encode, len_utf8_bounds, IsCharBoundary-at_seam}
+use Rattle.scm_cells.specs.Cluster.{is_printable, is_unprintable}
+use Rattle.scm_cells.proofs.PrintableLemmas.{is_printable_char, printable-encodes, printable-front, count-le}
 use Rattle.scm_cells.specs.Clusters.{text_width, clusters, kept, with_width, kept_width, has_control}
 use Rattle.scm_cells.proofs.BoundLemmas.{size, size-some, sizes-le, encode-size, text_width-le, text_width-utf8}
 use Rattle.scm_cells.specs.Replaced.{replacement, pieces_from, line_pieces, last_piece}
@@ -24,7 +29,7 @@ pub record HasRead (line : List ℕ) (n : ℕ) (rest : List ℕ) : Type 0 where
 pub replacement-at : (c n : ℕ) (r : Option (List ℕ)) → c ≡ n → r ≡ replacement n → r ≡ replacement c
 replacement-at c n r e at = at ∙ ap replacement (sym e)
 
-pub HasRead-none : (line rest : List ℕ) → IsUtf8 line → rest ≡ line → HasRead line 0 rest
+HasRead-none : (line rest : List ℕ) → IsUtf8 line → rest ≡ line → HasRead line 0 rest
 unfolding line_pieces
 HasRead-none line rest u e =
     record { read = []; size = refl; utf8 = subst IsUtf8 (sym e) u; parts = sym e; pieces = ap (λ t. pieces_from [] (chars t)) (sym e) }
@@ -45,6 +50,36 @@ HasRead-more line rest next n m c h first size e = record {
   parts = h.parts ∙ ap (λ t. h.read ++ t) first ∙ sym (append_assoc h.read (encode_utf8 c) next);
   pieces = h.pieces ∙ ap (pieces_from h.read) (chars_past_char rest next c h.utf8 first) ∙ pieces_from-stays h.read c (chars next) e;
 }
+
+-- ---- printable ASCII stays
+
+width-printable : (c : ℕ) → is_printable_char c ≡ true → unwrap_or (char_width false c) 0 ≡ 1
+width-printable c h =
+    let one : is_printable (c ∷ []) ≡ true = rw h refl in
+    let simple : list_all is_simple (c ∷ []) ≡ true = rw h refl in
+    let sum = sum_by-cons (width_or_zero false) c [] in
+    omega (arith, sum, str_width-simple false (c ∷ []) simple, str_width-printable false (c ∷ []) one)
+
+printable-stays : (c : ℕ) → is_printable_char c ≡ true → replacement c ≡ None
+unfolding replacement
+printable-stays c h = let one = width-printable c h in grind (arith, nat_tests)
+
+pub replacement-printable : (c : ℕ) → 0x20 ≤ c → c < 0x7F → None ≡ replacement c
+replacement-printable c low high = sym (printable-stays c (grind (arith, nat_tests)))
+
+HasRead-printable : (line p rest : List ℕ) (n m : ℕ) → HasRead line n (p ++ rest) → is_printable p ≡ true → m ≡ n + length p → HasRead line m rest
+HasRead-printable line [] rest n m h g e = let same : n ≡ m = omega arith in subst (λ k. HasRead line k rest) same h
+HasRead-printable line (c ∷ cs) rest n m h g e =
+    let parts = and_parts (is_printable_char c) (is_printable cs) g in
+    let one = printable-encodes c parts.0 in
+    HasRead-printable line cs rest (n + 1) m (HasRead-more line (c ∷ (cs ++ rest)) (cs ++ rest) n (n + 1) c h (ap (λ t. t ++ (cs ++ rest)) (sym one)) (omega (arith, ap length one)) (printable-stays c parts.0)) parts.1 (omega arith)
+
+-- the printable bytes before the first other one were read
+pub HasRead-front : (line rest : List ℕ) (n : ℕ) → IsUtf8 line → n ≡ unwrap_or (position is_unprintable line) (length line) → rest ≡ drop n line → HasRead line n rest
+HasRead-front line rest n u count e =
+    let le : n ≤ length line = subst (λ k. k ≤ length line) (sym count) (count-le line) in
+    let printable : is_printable (take n line) ≡ true = subst (λ k. is_printable (take k line) ≡ true) (sym count) (printable-front line) in
+    HasRead-printable line (take n line) rest 0 n (HasRead-none line (take n line ++ rest) u (ap (λ t. take n line ++ t) e ∙ take-append-drop n line)) printable (omega (arith, length-take-le n line le))
 
 -- a replaced character after so many bytes of the line
 pub pieces-cut : (line rest next r front : List ℕ) (n c : ℕ) → HasRead line n rest → rest ≡ encode_utf8 c ++ next → replacement c ≡ Some r → front ≡ slice_range line 0 n

@@ -18,7 +18,7 @@ use Rattle.scm_cells.proofs.PutLemmas.{length-later, length-cells}
 use Rattle.scm_cells.proofs.SpaceLemmas.{space, cells-space}
 use Rattle.scm_cells.proofs.WrittenLemmas.{AllKept, AllKept-clusters, by_stop, written-none, written-cons, written-stop}
 
-abbrev HasColumn : Cluster → Type 0
+abbrev pub HasColumn : Cluster → Type 0
 HasColumn c = 0 < c.1
 
 -- ---- rows of whole symbols
@@ -59,7 +59,7 @@ before-later w o (suc k) ys e =
     let fits : nat_le (w - o) (length (later_cells w (o + 1) k ++ ys) + 1) ≡ true = grind (arith, nat_tests, length-append (later_cells w (o + 1) k) ys, length-later w (o + 1) k) in
     rw fits (ap (λ t. record { symbol = []; width = w; offset = o } ∷ t) (before-later w (o + 1) k ys (omega arith)))
 
-before-cells : (c : Cluster) (ys : List Cell) → 0 < c.1 → whole_before (cells_of c ++ ys) ≡ cells_of c ++ whole_before ys
+pub before-cells : (c : Cluster) (ys : List Cell) → 0 < c.1 → whole_before (cells_of c ++ ys) ≡ cells_of c ++ whole_before ys
 unfolding cells_of whole_before
 before-cells c ys h =
     let fits : nat_le (c.1 - 0) (length (later_cells c.1 1 (c.1 - 1) ++ ys) + 1) ≡ true = grind (arith, nat_tests, length-append (later_cells c.1 1 (c.1 - 1)) ys, length-later c.1 1 (c.1 - 1)) in
@@ -82,12 +82,12 @@ before-cells_cut c (suc n) h =
     let past : nat_le (c.1 - 0) (length (take n (later_cells c.1 1 (c.1 - 1))) + 1) ≡ false = grind (arith, nat_tests) in
     rw past (ap (λ t. blank ∷ t) (before-later_cut c.1 1 (c.1 - 1) n (omega arith) (omega arith)))
 
-take-past : (n : ℕ) (xs ys : List Cell) → length xs ≤ n → take n (xs ++ ys) ≡ xs ++ take (n - length xs) ys
+pub take-past : (n : ℕ) (xs ys : List Cell) → length xs ≤ n → take n (xs ++ ys) ≡ xs ++ take (n - length xs) ys
 take-past n [] ys h = let e : n - 0 ≡ n = omega arith in rw e refl
 take-past zero (x ∷ xs) ys h = absurd (omega arith)
 take-past (suc n) (x ∷ xs) ys h = let e : suc n - suc (length xs) ≡ n - length xs = omega arith in rw e (ap (λ t. x ∷ t) (take-past n xs ys (omega arith)))
 
-drop-past : (n : ℕ) (xs ys : List Cell) → length xs ≤ n → drop n (xs ++ ys) ≡ drop (n - length xs) ys
+pub drop-past : (n : ℕ) (xs ys : List Cell) → length xs ≤ n → drop n (xs ++ ys) ≡ drop (n - length xs) ys
 drop-past n [] ys h = let e : n - 0 ≡ n = omega arith in rw e refl
 drop-past zero (x ∷ xs) ys h = absurd (omega arith)
 drop-past (suc n) (x ∷ xs) ys h = let e : suc n - suc (length xs) ≡ n - length xs = omega arith in rw e (drop-past n xs ys (omega arith))
@@ -136,7 +136,7 @@ after-none : (i : ℕ) → whole_after i [] ≡ []
 unfolding whole_after
 after-none i = refl
 
-after-all : (i : ℕ) (cs : List Cluster) → All HasColumn cs → whole_after i (flat_map cells_of cs) ≡ flat_map cells_of cs
+pub after-all : (i : ℕ) (cs : List Cluster) → All HasColumn cs → whole_after i (flat_map cells_of cs) ≡ flat_map cells_of cs
 after-all i [] all = after-none i
 after-all i (c ∷ cs) all =
     after-cells i c (flat_map cells_of cs) (All-head HasColumn c cs all) ∙ ap (λ t. cells_of c ++ t) (after-all (i + c.1) cs (All-tail HasColumn c cs all))

@@ -1,5 +1,5 @@
 -- A cluster, and texts of which each byte is one.
-use Rattle.std.specs.Prelude.{ℕ, ◌*◌, ◌≤◌, length, List, [], ◌∷◌, Bool, map}
+use Rattle.std.specs.Prelude.{ℕ, ◌*◌, ◌≤◌, length, List, [], ◌∷◌, Bool, ◌||◌, nat_lt, map}
 use Rattle.std.specs.Int.{is_in_range}
 use Rattle.std.specs.List.{list_all}
 use denote.Ref.{Bor}
@@ -19,6 +19,10 @@ IsNarrow c = c.1 ≤ 2 * length c.0
 -- whether each byte is a printable character of ASCII, from a space to a tilde
 abbrev pub is_printable : List ℕ → Bool
 is_printable text = list_all (is_in_range 0x20 0x7E) text
+
+-- whether a byte is not one of them
+abbrev pub is_unprintable : ℕ → Bool
+is_unprintable b = nat_lt b 0x20 || nat_lt 0x7E b
 
 -- bytes as clusters of one column each
 unfoldable pub bytes_as_clusters : List ℕ → List Cluster

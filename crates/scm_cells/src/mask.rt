@@ -61,7 +61,8 @@ impl Mask {
         }
     }
 
-    /// The cells of the rectangle that the mask lets through.
+    /// The part of the rectangle that the mask lets through, where both are in range: a cell is in it
+    /// exactly if it is in the rectangle and the mask lets it through.
     pub fn apply(self, rect: Rect) -> Rect
         requires mask { MaskInRange self }
         requires rect { RectInRange rect }

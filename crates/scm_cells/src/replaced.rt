@@ -5,6 +5,7 @@ ghost use Rattle.scm_cells.specs.Replaced.{replacement, line_pieces, last_piece}
 ghost use Rattle.scm_cells.specs.Spans.{span_texts};
 ghost use Rattle.scm_errors.specs.declared.error.RecordError.TheVariants.{OutOfMemory};
 
+use crate::printable::count_printable;
 use crate::text::Span;
 use scm_errors::RecordError;
 use unicode_width::UnicodeWidthChar;
@@ -65,6 +66,8 @@ pub fn replace_control_character(character: char) -> Option<&'static str>
         Some("⏎")
     } else if code < 0x20 {
         Some(picture(code))
+    } else if code < 0x7F {
+        None
     } else if code == 0x7F {
         Some("␡")
     } else if character.width().unwrap_or(0) == 0 {
@@ -74,14 +77,15 @@ pub fn replace_control_character(character: char) -> Option<&'static str>
     }
 }
 
-/// The text before the first replaced character, what stands for it, and the text after it.
+/// The text before the first replaced character, what stands for it, and the text after it. Printable
+/// ASCII, of which nothing is replaced, is passed byte by byte.
 fn cut_at_replaced(line: &str) -> Option<(&str, &'static str, &str)>
     ensures none { IfNone result (line_pieces line.now ≡ last_piece line.now) }
     ensures some { IfSome result (λ cut. line_pieces line.now ≡ cut.0.now ∷ (cut.1.now ∷ line_pieces cut.2.now)) }
     ensures shorter { IfSome result (λ cut. length cut.2.now < length line.now) }
 {
-    let mut rest = line.chars();
-    let mut read = 0;
+    let mut read = count_printable(line);
+    let mut rest = line[read..].chars();
     'characters: while let Some(character) = rest.next() {
         if let Some(replacement) = replace_control_character(character) {
             return Some((&line[..read], replacement, rest.as_str()));

@@ -1,10 +1,10 @@
 //! A row of the grid: what a text put on it makes of its columns.
-ghost use Rattle.std.specs.Prelude.{◌≡◌, ◌+◌, ◌-◌, ◌^◌, ◌<◌, ◌≤◌, ◌++◌, pos, IfOk, OnOk, OnErr, length, map, take, slice_range, replicate, min, option_map, string_bytes};
+ghost use Rattle.std.specs.Prelude.{◌≡◌, IsTrue, is_some, ◌+◌, ◌-◌, ◌^◌, ◌<◌, ◌≤◌, ◌++◌, pos, IfOk, OnOk, OnErr, length, map, take, slice_range, replicate, min, option_map, string_bytes};
 ghost use Rattle.std.specs.Int.{int_max};
 ghost use Rattle.scm_cells.specs.Rect.{or_zero};
 ghost use Rattle.scm_cells.specs.Cell.{blank, shown, laid};
 ghost use Rattle.scm_cells.specs.Clusters.{text_width};
-ghost use Rattle.scm_cells.specs.Row.{cells_of, later_cells, whole_before, whole_after, overlay, put, row_text};
+ghost use Rattle.scm_cells.specs.Row.{IsWhole, cells_of, later_cells, whole_before, whole_after, overlay, put, row_text};
 ghost use Rattle.scm_cells.specs.Ruled.{cut_left};
 ghost use Rattle.scm_cells.specs.Symbols.{symbol_in};
 ghost use Rattle.scm_cells.specs.Laying.{fit, columns_of, IsPassed, IsBegun};
@@ -34,10 +34,14 @@ pub(crate) fn clear_row(columns: &mut [Column])
     }
 }
 
-/// Blanks the symbols that went on past the end.
-fn mend_before(columns: &mut [Column])
+/// Blanks the symbols that went on past the end, unless it is known that none did.
+fn mend_before(columns: &mut [Column], is_whole: bool)
+    requires { IsTrue is_whole → whole_before (map shown columns.old) ≡ map shown columns.old }
     ensures { map shown columns.new ≡ whole_before (map shown columns.old) }
 {
+    if is_whole {
+        return;
+    }
     let mut left = columns.len();
     for column in columns.iter_mut() {
         if column.columns_left() > left {
@@ -47,10 +51,14 @@ fn mend_before(columns: &mut [Column])
     }
 }
 
-/// Blanks what is left of the symbols that began before the first column.
-fn mend_after(columns: &mut [Column])
+/// Blanks what is left of the symbols that began before the first column, unless it is known that none did.
+fn mend_after(columns: &mut [Column], is_whole: bool)
+    requires { IsTrue is_whole → whole_after 0 (map shown columns.old) ≡ map shown columns.old }
     ensures { map shown columns.new ≡ whole_after 0 (map shown columns.old) }
 {
+    if is_whole {
+        return;
+    }
     let mut index = 0;
     for column in columns.iter_mut() {
         if column.offset() > index {
@@ -221,18 +229,29 @@ fn begin(clusters: &mut Cut<'_>, column: isize, low: usize) -> Start
     }
 }
 
-/// Shows what was laid on some columns, over what stood there.
+/// Whether a symbol begins at the column.
+fn is_start(columns: &[Column], column: usize) -> bool
+    ensures { result ≡ is_some (symbol_in (map shown columns.now) column) }
+{
+    symbol_in(columns, column).is_some()
+}
+
+/// Shows what was laid on some columns, over what stood there. Where a symbol begins, none goes on from
+/// before, so the columns beside are looked at one by one only where a symbol is covered in part.
 fn show_between(columns: &mut [Column], from: usize, end: usize)
     requires from { from ≤ end }
     requires end { end ≤ length columns.old }
+    requires whole { IsWhole (map shown columns.old) }
     ensures { map shown columns.new ≡ overlay (map shown columns.old) from (map laid (slice_range columns.old from end)) }
 {
     if from < end {
+        let is_from_start = is_start(columns, from);
+        let is_end_start = is_start(columns, end);
         let (front, rest) = columns.split_at_mut(from);
         let (middle, back) = rest.split_at_mut(end - from);
-        mend_before(front);
+        mend_before(front, is_from_start);
         show_all(middle);
-        mend_after(back);
+        mend_after(back, is_end_start);
     }
 }
 
@@ -257,7 +276,8 @@ pub(crate) fn put_row<'a>(
     low: usize,
     high: usize,
 ) -> Result<(Cut<'a>, usize), AllocError>
-    requires { high ≤ length columns.old }
+    requires high { high ≤ length columns.old }
+    requires whole { IsWhole (map shown columns.old) }
     ensures ok { OnOk result (map shown columns.new ≡ put (map shown columns.old) column text.now low high) }
     ensures err { OnErr result (map shown columns.new ≡ map shown columns.old) }
     ensures taken { IfOk result (λ r. text_width text.now ≡ r.1 + columns_of (cut_left r.0)) }

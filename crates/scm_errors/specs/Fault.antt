@@ -1,5 +1,5 @@
 -- The faults with which a selection ends, by their texts.
-use Rattle.std.specs.Prelude.{ℕ, List, Option, Some, None, string_bytes}
+use Rattle.std.specs.Prelude.{ℕ, List, Bool, false, Option, Some, None, string_bytes, bytes_eq, codes}
 use Rattle.scm_errors.specs.declared.error.RecordError.{RecordError}
 use Rattle.scm_errors.specs.declared.error.RecordError.TheVariants as errors
 
@@ -26,3 +26,16 @@ fault_of (errors.WriteFile text) = Some (WriteFile (string_bytes text))
 fault_of (errors.Other text) = Some (Other (string_bytes text))
 fault_of (errors.Bug text) = Some (Bug (string_bytes text))
 fault_of errors.OutOfMemory = None
+
+-- a read was due, and no event was left
+abbrev pub is_no_events_left : RecordError → Bool
+is_no_events_left (errors.ReadInput text) = bytes_eq (string_bytes text) (codes "no events left")
+is_no_events_left errors.Cancelled = false
+is_no_events_left (errors.SetUpTerminal text) = false
+is_no_events_left (errors.CleanUpTerminal text) = false
+is_no_events_left (errors.RenderFrame text) = false
+is_no_events_left (errors.SerializeJson text) = false
+is_no_events_left (errors.WriteFile text) = false
+is_no_events_left (errors.Other text) = false
+is_no_events_left (errors.Bug text) = false
+is_no_events_left errors.OutOfMemory = false

@@ -1,6 +1,7 @@
 //! Why a selection ends without a state.
 ghost use Rattle.std.specs.Prelude.{◌≡◌};
 ghost use Rattle.scm_errors.specs.declared.error.RecordError.TheVariants.{OutOfMemory};
+ghost use Rattle.scm_errors.specs.Fault.{is_no_events_left};
 
 use std::alloc::{AllocError, AllocFailed};
 use thiserror::Error;
@@ -47,6 +48,19 @@ pub enum RecordError {
     /// A request for memory was refused.
     #[error("out of memory")]
     OutOfMemory,
+}
+
+impl RecordError {
+    /// A read was due, and no event was left: how a run ends whose script neither accepts nor gives
+    /// up.
+    pub fn is_no_events_left(&self) -> bool
+        ensures { result ≡ is_no_events_left self.now }
+    {
+        match self {
+            RecordError::ReadInput(text) => text.as_str() == "no events left",
+            _ => false,
+        }
+    }
 }
 
 impl From<AllocError> for RecordError {

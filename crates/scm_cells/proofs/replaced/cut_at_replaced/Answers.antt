@@ -1,9 +1,12 @@
-use Rattle.std.proofs.Common.{◌∙◌, ◌+◌, ◌++◌, encode_utf8, sym, ap}
-use Rattle.scm_cells.proofs.ReplacedLemmas.{HasRead-none, HasRead-more, HasRead-boundary, pieces-cut, pieces-end}
+use Rattle.std.proofs.Common.{refl, drop, ◌∙◌, ◌+◌, ◌++◌, encode_utf8, sym, ap}
+use Rattle.scm_cells.proofs.ReplacedLemmas.{HasRead-front, HasRead-more, HasRead-boundary, pieces-cut, pieces-end}
 use Rattle.scm_cells.proofs.replaced.cut_at_replaced.Goals as goal
 
 pub characters-init : goal.characters-init
-characters-init c = HasRead-none _ _ c.utf8.line c.chars-rest.ensures.rest
+characters-init c = HasRead-front _ _ _ c.utf8.line c.count_printable-read.ensures (c.chars-rest.ensures.rest ∙ c.range_from.ensures.value)
+
+pub range_from-requires : goal.range_from-requires
+range_from-requires c = λ some. HasRead-boundary _ (drop c.count_printable-read.result c.args.line.now) _ (HasRead-front _ _ _ c.utf8.line c.count_printable-read.ensures refl)
 
 pub range-requires-clause-end_boundary : goal.range-requires-clause-end_boundary
 range-requires-clause-end_boundary c = HasRead-boundary _ _ _ c.characters.invariant

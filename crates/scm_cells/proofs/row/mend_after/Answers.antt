@@ -1,4 +1,4 @@
-use Rattle.std.proofs.Common.{arith, ◌∙◌, ap, map, get_or}
+use Rattle.std.proofs.Common.{arith, sym, ◌∙◌, ap, map, get_or}
 use Rattle.scm_cells.specs.Cell.{shown}
 use Rattle.scm_cells.proofs.MapFrom.{so_far-more, so_far-all}
 use Rattle.scm_cells.proofs.RowLemmas.{kept_after, shown-kept_after, after-cut, after-whole}
@@ -20,3 +20,6 @@ loop-column-preserved c =
 
 pub returns : goal.returns
 returns c = ap (map shown) (c.loop-column.invariant.columns ∙ so_far-all kept_after c.args.columns.now c.loop-column.column-index (omega arith)) ∙ shown-kept_after 0 _
+
+pub returns-then-is_whole : goal.returns-then-is_whole
+returns-then-is_whole c = sym (c.requires c.if-is_whole.true)

@@ -1,4 +1,4 @@
-use Rattle.std.proofs.Common.{arith, ◌∙◌, ap, ◌-◌, ◌≡◌, length, map, get_or}
+use Rattle.std.proofs.Common.{arith, sym, ◌∙◌, ap, ◌-◌, ◌≡◌, length, map, get_or}
 use Rattle.scm_cells.specs.Cell.{shown}
 use Rattle.scm_cells.proofs.MapFrom.{so_far-more, so_far-all}
 use Rattle.scm_cells.proofs.RowLemmas.{kept_before, shown-kept_before, before-cut, before-whole}
@@ -24,3 +24,6 @@ pub returns : goal.returns
 returns c =
     ap (map shown) (c.loop-column.invariant.columns ∙ so_far-all (kept_before (length c.args.columns.now)) c.args.columns.now c.loop-column.column-index (omega arith))
     ∙ shown-kept_before _ _ (omega arith)
+
+pub returns-then-is_whole : goal.returns-then-is_whole
+returns-then-is_whole c = sym (c.requires c.if-is_whole.true)

@@ -1,6 +1,6 @@
-use Rattle.std.proofs.Common.{◌≡◌, ◌∙◌, ◌-◌, length, take, drop, length-take, length-drop, arith, ap, sym, refl, rules, FitsSigned, w64}
+use Rattle.std.proofs.Common.{◌≡◌, ◌∙◌, ◌-◌, length, take, drop, length-take, length-drop, arith, ap, sym, subst, refl, rules, FitsSigned, w64}
 use Rattle.std.proofs.lemmas.Int.{to_z-of_z}
-use Rattle.scm_cells.specs.Row.{written}
+use Rattle.scm_cells.specs.Row.{IsWhole, written}
 use Rattle.scm_cells.proofs.BoundLemmas.{text_width-utf8}
 use Rattle.scm_cells.proofs.WrittenLemmas.{AllKept-cut, columns_of-text, on_err, put-none, put-some, shown-put_mid, written-closed, written-past}
 use Rattle.scm_cells.proofs.row.put_row.Goals as goal
@@ -10,6 +10,9 @@ begin-start-requires-clause-few c = omega (arith, columns_of-text _ _ c.new-clus
 
 pub lay-requires : goal.lay-requires
 lay-requires c = omega (arith, columns_of-text _ _ c.new-clusters.ensures, text_width-utf8 _ c.utf8.text, c.begin-start.ensures.taken)
+
+pub show_between-requires-clause-whole : goal.show_between-requires-clause-whole
+show_between-requires-clause-whole c = subst IsWhole (sym (shown-put_mid _ _ _ _ c.lay.ensures.shown)) c.requires.whole
 
 pub overflow_add-result : goal.overflow_add-result
 overflow_add-result c = omega (arith, columns_of-text _ _ c.new-clusters.ensures, text_width-utf8 _ c.utf8.text, c.begin-start.ensures.taken, c.in_ok-laid.ensures.taken)
@@ -44,5 +47,5 @@ returns-clause-ok c =
     let start = c.begin-start.result.from in
     let size : length (take (c.args.high - start) (drop start c.args.columns.now)) ≡ c.args.high - start = simp (length-take, length-drop) (omega arith) in
     put-some c.args.columns.now _ c.show_between.new.columns c.args.column c.args.text.now c.args.low c.args.high c.begin-start.result.from c.begin-start.result.blanks c.in_ok-laid.laid.end c.lay.new.columns
-    _ _ from c.new-clusters.ensures begun (omega arith) (omega arith) c.requires refl
+    _ _ from c.new-clusters.ensures begun (omega arith) (omega arith) c.requires.high refl
     (c.lay.auto.columns ∙ size) (rw size at c.in_ok-laid.ensures.within) c.lay.ensures.shown (rw size at c.in_ok-laid.ensures.laid) c.show_between.ensures

@@ -10,14 +10,21 @@ use Rattle.scm_cells.proofs.WholeLemmas.{IsWhole-put}
 use Rattle.scm_cells.proofs.WrittenLemmas.{on_err}
 use Rattle.scm_cells.proofs.grid.Grid.put_text.Goals as goal
 
-pub put_row-requires : goal.put_row-requires
-put_row-requires c =
+pub put_row-requires-clause-high : goal.put_row-requires-clause-high
+put_row-requires-clause-high c =
     let rows = c.self.inside.rows.items in
     let same = ap (λ (s : Screen). length s.rows) c.self.view_is in
     let wide = ap (λ (s : Screen). s.width) c.self.view_is in
     let inside : c.args.row < length rows = omega (arith, length-map rows row_of, same) in
     let size = length-read rows c.args.row c.self.inside.width c.index_mut-columns.result.now c.as_mut_slice.result.now inside c.index_mut-columns.ensures.value c.as_mut_slice.ensures.value c.self.invariant in
     omega (arith, wide, size, c.requires.high)
+
+pub put_row-requires-clause-whole : goal.put_row-requires-clause-whole
+put_row-requires-clause-whole c =
+    let rows = c.self.inside.rows.items in
+    let same = ap (λ (s : Screen). length s.rows) c.self.view_is in
+    let inside : c.args.row < length rows = omega (arith, length-map rows row_of, same) in
+    whole-read rows c.args.row c.self.inside.width c.index_mut-columns.result.now c.as_mut_slice.result.now inside c.index_mut-columns.ensures.value c.as_mut_slice.ensures.value c.self.invariant
 
 pub invariant_of-self : goal.invariant_of-self
 invariant_of-self c =
