@@ -1,4 +1,4 @@
--- What an input answers: a script of reads and edits.
+-- What an input answers: a script of reads and replies.
 use Rattle.std.specs.Prelude.{◌≡◌, ℕ, List, [], ◌∷◌, Result, Ok, Err, Option, Some, None, option_map, String, string_bytes, Vec, codes}
 use Rattle.std.specs.declared.alloc.Global.{Global}
 use Rattle.scm_errors.specs.declared.error.RecordError.{RecordError}
@@ -14,6 +14,14 @@ pub data Read : Type 0 where
 pub data Edit : Type 0 where
   Answer : List ℕ → Edit
   BrokenEdit : Fault → Edit
+
+-- what the user makes of the message that he is asked with
+abbrev pub Reply : Type 0
+Reply = List ℕ → Edit
+
+-- the same of every message
+abbrev pub always : Edit → Reply
+always edit = λ message. edit
 
 -- what a read answered, none where memory was refused
 abbrev pub read_of : Result (Vec Event Global) RecordError → Option Read
@@ -43,3 +51,9 @@ no_events_left = ReadInput (codes "no events left")
 
 abbrev pub no_more : Edit
 no_more = BrokenEdit (Other (codes "No more commit messages available"))
+
+-- an edit of a message takes the first reply, and is what that makes of it; past the replies it is a fault, and refused memory leaves them
+abbrev pub Replies : List ℕ → Option Edit → List Reply → List Reply → Type 0
+Replies message None old new = new ≡ old
+Replies message (Some edit) [] new = (edit ≡ no_more) × (new ≡ [])
+Replies message (Some edit) (reply ∷ rest) new = (edit ≡ reply message) × (new ≡ rest)

@@ -1,7 +1,7 @@
 -- What an input of batches, answers and faults reads and edits.
 use Rattle.std.specs.Prelude.{List, map, string_bytes}
 use Rattle.scm_errors.specs.Fault.{Other, ReadInput}
-use Rattle.scm_input.specs.Script.{Read, Batch, BrokenRead, Edit, Answer, BrokenEdit}
+use Rattle.scm_input.specs.Script.{Read, Batch, BrokenRead, Edit, Answer, BrokenEdit, Reply, always}
 use Rattle.scm_input.specs.declared.scripts.ScriptRead.{ScriptRead}
 use Rattle.scm_input.specs.declared.scripts.ScriptRead.TheVariants as script_reads
 use Rattle.scm_input.specs.declared.scripts.ScriptEdit.{ScriptEdit}
@@ -18,5 +18,6 @@ abbrev pub edit_in : ScriptEdit → Edit
 edit_in (script_edits.Answer text) = Answer (string_bytes text)
 edit_in (script_edits.Fault text) = BrokenEdit (Other (string_bytes text))
 
-abbrev pub edits_in : List ScriptEdit → List Edit
-edits_in = map edit_in
+-- whatever the messages are
+abbrev pub edits_in : List ScriptEdit → List Reply
+edits_in = map (λ edit. always (edit_in edit))

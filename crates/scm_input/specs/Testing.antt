@@ -1,7 +1,7 @@
 -- The script of an input of single events and messages.
 use Rattle.std.specs.Prelude.{ℕ, List, [], ◌∷◌, map, String, string_bytes}
 use Rattle.std.specs.declared.alloc.Global.{Global}
-use Rattle.scm_input.specs.Script.{Read, Batch, Edit, Answer}
+use Rattle.scm_input.specs.Script.{Read, Batch, Answer, Reply, always}
 use Rattle.scm_input.specs.declared.events.Event.{Event}
 use Rattle.scm_input.specs.declared.events.Event.TheVariants as events
 use Rattle.scm_input.specs.declared.inputs.TerminalKind.{TerminalKind}
@@ -14,8 +14,9 @@ kind_of width height = Testing width height
 abbrev pub single_events : List Event → List Read
 single_events = map (λ event. Batch (event ∷ []))
 
-abbrev pub answers : List (String Global) → List Edit
-answers = map (λ text. Answer (string_bytes text))
+-- each text is an answer, whatever the message is
+abbrev pub answers : List (String Global) → List Reply
+answers = map (λ text. always (Answer (string_bytes text)))
 
 -- the batch of the first event, of `None` where there is none
 abbrev pub first_batch : List Event → List Event

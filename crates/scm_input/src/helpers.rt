@@ -48,7 +48,7 @@ impl TestingInput {
 impl RecordInput for TestingInput {
     ghost use Rattle.std.specs.Prelude.{◌≡◌, ◌<◌, List, IfErr, IfOk, OnErr, drop, length, map, IsOk};
     ghost use Rattle.scm_errors.specs.declared.error.RecordError.TheVariants.{OutOfMemory};
-    ghost use Rattle.scm_input.specs.Script.{Read, Edit, Takes, TakesOr, no_more, read_of, edit_of};
+    ghost use Rattle.scm_input.specs.Script.{Read, Reply, Replies, Takes, read_of, edit_of};
     ghost use Rattle.scm_input.specs.Testing.{kind_of, single_events, answers, first_batch};
 
     ghost kind = { λ i. kind_of i.width i.height };
@@ -84,8 +84,8 @@ impl RecordInput for TestingInput {
     }
 
     /// The next message, or the fault `No more commit messages available` past the last.
-    fn edit_commit_message(&mut self, _message: &str) -> Result<String, RecordError>
-        ensures edit { TakesOr no_more (edit_of result)
+    fn edit_commit_message(&mut self, message: &str) -> Result<String, RecordError>
+        ensures edit { Replies message.now (edit_of result)
             (answers self.old.commit_messages.items) (answers self.new.commit_messages.items) }
         ensures reads { single_events self.new.events.items ≡ single_events self.old.events.items }
         ensures kind { kind_of self.new.width self.new.height ≡ kind_of self.old.width self.old.height }

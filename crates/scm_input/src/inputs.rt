@@ -1,6 +1,6 @@
 //! What a recorder reads from.
 ghost use Rattle.std.specs.Prelude.{◌≡◌, List, length};
-ghost use Rattle.scm_input.specs.Script.{Read, Edit, Takes, TakesOr, no_more, read_of, edit_of};
+ghost use Rattle.scm_input.specs.Script.{Read, Reply, Replies, Takes, read_of, edit_of};
 ghost use Rattle.scm_input.specs.declared.inputs.TerminalKind.{TerminalKind};
 
 use crate::events::Event;
@@ -20,9 +20,10 @@ pub enum TerminalKind {
 
 /// Where a recorder's events and edited messages come from.
 ///
-/// An input has a script, and keeps to it: each read gives and removes the first of its reads,
-/// and each edit the first of its edits. No fault in a script is `OutOfMemory`: a call for which
-/// memory is refused answers that, and leaves the script as it was.
+/// An input has a script, and keeps to it: each read gives and removes the first of its reads, and
+/// each edit removes the first of its edits, and gives what that makes of the message that the
+/// user is asked with. No fault in a script is `OutOfMemory`: a call for which memory is refused
+/// answers that, and leaves the script as it was.
 pub trait RecordInput {
     /// The screen that it answers, always the same.
     ghost kind: { Self → TerminalKind };
@@ -30,8 +31,8 @@ pub trait RecordInput {
     /// The reads that are left.
     ghost reads: { Self → List Read };
 
-    /// The edits that are left.
-    ghost edits: { Self → List Edit };
+    /// The edits that are left: what the user makes of a message, whichever it is.
+    ghost edits: { Self → List Reply };
 
     /// The screen to draw to.
     fn terminal_kind(&self) -> TerminalKind
@@ -49,7 +50,7 @@ pub trait RecordInput {
 
     /// What the user makes of a commit's message, or the fault that stands in its place.
     fn edit_commit_message(&mut self, message: &str) -> Result<String, RecordError>
-        ensures edit { TakesOr no_more (edit_of result) (edits self.old) (edits self.new) }
+        ensures edit { Replies message.now (edit_of result) (edits self.old) (edits self.new) }
         ensures reads { reads self.new ≡ reads self.old }
         ensures kind { kind self.new ≡ kind self.old };
 }

@@ -72,7 +72,7 @@ impl ScriptInput {
 
 impl RecordInput for ScriptInput {
     ghost use Rattle.std.specs.Prelude.{◌≡◌, List, IfErr, IfOk};
-    ghost use Rattle.scm_input.specs.Script.{Read, Edit, BrokenRead, TakesOr, no_events_left, no_more, read_of, edit_of};
+    ghost use Rattle.scm_input.specs.Script.{Read, Reply, BrokenRead, Replies, TakesOr, no_events_left, read_of, edit_of};
     ghost use Rattle.scm_input.specs.Testing.{kind_of};
     ghost use Rattle.scm_input.specs.Scripted.{edits_in, reads_in};
 
@@ -108,8 +108,8 @@ impl RecordInput for ScriptInput {
     }
 
     /// The next answer, or its fault; past the last the fault `No more commit messages available`.
-    fn edit_commit_message(&mut self, _message: &str) -> Result<String, RecordError>
-        ensures edit { TakesOr no_more (edit_of result)
+    fn edit_commit_message(&mut self, message: &str) -> Result<String, RecordError>
+        ensures edit { Replies message.now (edit_of result)
             (edits_in self.old.edits.items) (edits_in self.new.edits.items) }
         ensures reads { reads_in self.new.reads.items ≡ reads_in self.old.reads.items }
         ensures kind { kind_of self.new.width self.new.height ≡ kind_of self.old.width self.old.height }

@@ -10,17 +10,16 @@ use Rattle.scm_types.specs.declared.file.File.{File}
 use Rattle.scm_types.specs.declared.state.Commit.{Commit}
 use Rattle.scm_types.specs.declared.state.RecordState.{RecordState}
 use Rattle.scm_types.specs.Edits.{modify}
-use Rattle.scm_types.specs.Limits.{max_items, section_size, file_size, is_short_text, is_short_option, has_short_texts, has_short_texts_in_file, is_accepted_state}
+use Rattle.scm_types.specs.Limits.{max_items, section_size, file_size, is_short_text, is_short_option, has_short_texts, has_short_texts_in_file, is_accepted_state, max_scroll}
 use Rattle.scm_types.specs.Marks.{line_with_mark, section_with_marks, file_with_marks}
 use Rattle.scm_types.proofs.EditLemmas.{length-modify}
 use Rattle.scm_input.specs.declared.events.Event.{Event}
 use Rattle.scm_record.specs.declared.selector.Flow.{Flow}
-use Rattle.scm_selection.specs.Toggle.{with_key_toggled, with_all_set}
+use Rattle.scm_selection.specs.Toggle.{with_key_toggled, with_all_inverted, with_all_set}
 use Rattle.scm_record.specs.Session.{Session, IsDrawable, with_message, commit_saying}
 use Rattle.scm_record.specs.Frames.{Scene}
-use Rattle.scm_record.specs.Uses.{max_scroll}
 use Rattle.scm_record.specs.Step.{change}
-use Rattle.scm_record.proofs.KeepingLemmas.{toggle-hidden, marked-hidden}
+use Rattle.scm_record.proofs.KeepingLemmas.{toggle-hidden, marked-hidden, inverted-hidden}
 use Rattle.scm_record.proofs.StepLemmas as steps
 use Rattle.scm_record.proofs.StepLemmas.{Marks, toggled, inverted, all_set, Scrolls, unscrolled, scrolled, leads}
 
@@ -105,11 +104,11 @@ accepted-changed : (read_only : Bool) (s : Session) (f : List File → List File
 accepted-changed true s f e h = h
 accepted-changed false s f e h = accepted-marked s.state (f s.state.files) e h
 
-marks-accepted : (event : Event) (s : Session) (state : RecordState) (flow : Flow) → Marks event s state flow → IsTrue (is_accepted_state s.state) → IsTrue (is_accepted_state state)
-marks-accepted event s _ _ (steps.unmarked allowed) h = h
-marks-accepted event s _ _ toggled h = accepted-changed s.state.is_read_only s (with_key_toggled s.selection) (toggle-hidden s.selection s.state.files) h
-marks-accepted event s _ _ (inverted is) h = accepted-changed s.state.is_read_only s (map (file_with_marks not)) (marked-hidden not s.state.files) h
-marks-accepted event s _ _ all_set h = accepted-changed s.state.is_read_only s with_all_set (marked-hidden _ s.state.files) h
+marks-accepted : (s : Session) (state : RecordState) (flow : Flow) → Marks s state flow → IsTrue (is_accepted_state s.state) → IsTrue (is_accepted_state state)
+marks-accepted s _ _ (steps.unmarked allowed) h = h
+marks-accepted s _ _ toggled h = accepted-changed s.state.is_read_only s (with_key_toggled s.selection) (toggle-hidden s.selection s.state.files) h
+marks-accepted s _ _ inverted h = accepted-changed s.state.is_read_only s with_all_inverted (inverted-hidden s.state.files) h
+marks-accepted s _ _ all_set h = accepted-changed s.state.is_read_only s with_all_set (marked-hidden _ s.state.files) h
 
 scrolls-low : (old new : ℕ) → Scrolls old new → old ≤ max_scroll → new ≤ max_scroll
 scrolls-low old _ unscrolled h = h
@@ -121,7 +120,7 @@ change-keeps-drawable scene s event h =
     let c = change scene s event in
     let it = leads scene s event in
     record {
-      accepted = marks-accepted event s c.session.state c.flow it.marks h.accepted;
+      accepted = marks-accepted s c.session.state c.flow it.marks h.accepted;
       scroll = scrolls-low s.scroll c.session.scroll it.scrolls h.scroll;
     }
 

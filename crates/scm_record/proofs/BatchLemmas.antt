@@ -8,8 +8,8 @@ use Rattle.scm_input.specs.declared.events.Event.{Event}
 use Rattle.scm_input.specs.declared.events.Event.TheVariants as events
 use Rattle.scm_record.specs.declared.selector.Flow.{Flow}
 use Rattle.scm_record.specs.declared.selector.Flow.TheVariants as flows
-use Rattle.scm_input.specs.Script.{Read, Batch, BrokenRead, Edit, Answer, BrokenEdit, no_more}
-use Rattle.scm_record.specs.Session.{Session, shown_of, with_help, with_message}
+use Rattle.scm_input.specs.Script.{Read, Batch, BrokenRead, Edit, Answer, BrokenEdit, Reply, no_more}
+use Rattle.scm_record.specs.Session.{Session, shown_of, with_help, message_text, with_message}
 use Rattle.scm_record.specs.Frames.{Scene, scene_of}
 use Rattle.scm_record.specs.Uses.{shot_of}
 use Rattle.scm_record.specs.Change.{stays, accepts}
@@ -147,9 +147,9 @@ answered-cleared : (w : World) (commit : ℕ) (edit : Edit) → (world_of (answe
 answered-cleared w commit (Answer text) = either-cleared (is_short_text text) (with_session w (with_message w.session commit text)) w too_long w.session.cleared refl refl
 answered-cleared w commit (BrokenEdit fault) = refl
 
-edited-cleared : (w : World) (commit : ℕ) (edits : List Edit) → (world_of (edited w commit edits)).session.cleared ≡ w.session.cleared
+edited-cleared : (w : World) (commit : ℕ) (edits : List Reply) → (world_of (edited w commit edits)).session.cleared ≡ w.session.cleared
 edited-cleared w commit [] = answered-cleared (with_edits w []) commit no_more
-edited-cleared w commit (edit ∷ edits) = answered-cleared (with_edits w edits) commit edit
+edited-cleared w commit (reply ∷ edits) = answered-cleared (with_edits w edits) commit (reply (message_text w.session commit))
 
 outcome-cleared : (scene : Scene) (w : World) (flow : Flow) → (world_of (outcome_by scene w flow)).session.cleared ≡ w.session.cleared
 outcome-cleared scene w flows.GoOn = refl

@@ -8,9 +8,9 @@ use Rattle.scm_input.specs.declared.events.Event.{Event}
 use Rattle.scm_input.specs.declared.events.Event.TheVariants as events
 use Rattle.scm_record.specs.declared.selector.Flow.{Flow}
 use Rattle.scm_record.specs.declared.selector.Flow.TheVariants as flows
-use Rattle.scm_input.specs.Script.{Read, Batch, BrokenRead, Edit, Answer, BrokenEdit, no_more}
+use Rattle.scm_input.specs.Script.{Read, Batch, BrokenRead, Edit, Answer, BrokenEdit, Reply, no_more}
 use Rattle.scm_input.specs.Store.{count_up, counted}
-use Rattle.scm_record.specs.Session.{Session, with_message}
+use Rattle.scm_record.specs.Session.{Session, message_text, with_message}
 use Rattle.scm_record.specs.Frames.{Scene, scene_of}
 use Rattle.scm_record.specs.Uses.{shot_of}
 use Rattle.scm_record.specs.Step.{change}
@@ -38,9 +38,9 @@ module _ (b r : ℕ) (drawn : Session) (rest : List Event) (left : rank_of rest 
   answered-fits w commit (Answer text) fits h = short-fits (is_short_text text) w (with_session w (with_message w.session commit text)) fits h refl refl refl
   answered-fits w commit (BrokenEdit fault) fits h = omega arith
 
-  edited-fits : (w : World) (commit : ℕ) (edits : List Edit) → w.frames + 3 * length w.reads + r ≤ b → rank_of w.session.pending ≤ r → Fits b (resume drawn rest (edited w commit edits))
+  edited-fits : (w : World) (commit : ℕ) (edits : List Reply) → w.frames + 3 * length w.reads + r ≤ b → rank_of w.session.pending ≤ r → Fits b (resume drawn rest (edited w commit edits))
   edited-fits w commit [] fits h = answered-fits (with_edits w []) commit no_more fits h
-  edited-fits w commit (edit ∷ edits) fits h = answered-fits (with_edits w edits) commit edit fits h
+  edited-fits w commit (reply ∷ edits) fits h = answered-fits (with_edits w edits) commit (reply (message_text w.session commit)) fits h
 
 module _ (b r : ℕ) (drawn : Session) (rest : List Event) (left : rank_of rest ≤ r + 1) where
   kept-fits : (has : Bool) (w v : World) → w.frames + 3 * length w.reads + r ≤ b → rank_of w.session.pending ≤ r → v.frames ≡ w.frames → v.reads ≡ w.reads → v.session.pending ≡ w.session.pending → Fits b (resume drawn rest (cond has (Goes v) (Breaks no_such_place w)))

@@ -5,8 +5,8 @@ use Rattle.scm_types.specs.Limits.{is_short_text}
 use Rattle.scm_input.specs.declared.events.Event.{Event}
 use Rattle.scm_record.specs.declared.selector.Flow.{Flow}
 use Rattle.scm_record.specs.declared.selector.Flow.TheVariants as flows
-use Rattle.scm_input.specs.Script.{Read, Batch, BrokenRead, Edit, Answer, BrokenEdit, no_more}
-use Rattle.scm_record.specs.Session.{Session, IsDrawable, with_message}
+use Rattle.scm_input.specs.Script.{Read, Batch, BrokenRead, Edit, Answer, BrokenEdit, Reply, no_more}
+use Rattle.scm_record.specs.Session.{Session, IsDrawable, message_text, with_message}
 use Rattle.scm_record.specs.Frames.{Scene, scene_of}
 use Rattle.scm_record.specs.Uses.{shot_of}
 use Rattle.scm_record.specs.Step.{change}
@@ -25,9 +25,9 @@ module _ (drawn : Session) (rest : List Event) where
   answered-drawable w commit (Answer text) h = short-drawable (is_short_text text) w commit text refl h
   answered-drawable w commit (BrokenEdit fault) h = h
 
-  edited-drawable : (w : World) (commit : ℕ) (edits : List Edit) → IsDrawable w.session → IsDrawableAt (resume drawn rest (edited w commit edits))
+  edited-drawable : (w : World) (commit : ℕ) (edits : List Reply) → IsDrawable w.session → IsDrawableAt (resume drawn rest (edited w commit edits))
   edited-drawable w commit [] h = answered-drawable (with_edits w []) commit no_more h
-  edited-drawable w commit (edit ∷ edits) h = answered-drawable (with_edits w edits) commit edit h
+  edited-drawable w commit (reply ∷ edits) h = answered-drawable (with_edits w edits) commit (reply (message_text w.session commit)) h
 
   shot-drawable : (b : Bool) (w : World) (place : ℕ) (text : List ℕ) → IsDrawable w.session → IsDrawableAt (resume drawn rest (cond b (Goes (with_text w place text)) (Breaks no_such_place w)))
   shot-drawable true w place text h = h

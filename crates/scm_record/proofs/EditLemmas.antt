@@ -9,7 +9,7 @@ use Rattle.scm_errors.specs.Fault.{Fault, fault_of}
 use Rattle.scm_input.specs.declared.events.Event.{Event}
 use Rattle.scm_record.specs.declared.selector.Flow.{Flow}
 use Rattle.scm_record.specs.declared.selector.Flow.TheVariants as flows
-use Rattle.scm_input.specs.Script.{Read, Batch, BrokenRead, Edit}
+use Rattle.scm_input.specs.Script.{Read, Batch, BrokenRead, Reply}
 use Rattle.scm_selection.specs.Toggle.{with_key_toggled, with_all_inverted, with_all_set}
 use Rattle.scm_record.specs.Session.{Session, message_of}
 use Rattle.scm_record.specs.Frames.{Scene, scene_of}
@@ -24,14 +24,14 @@ commits-same true s f = refl
 commits-same false s f = refl
 
 -- an event changes no commit
-marks-commits : (event : Event) (s : Session) (state : RecordState) (flow : Flow) → Marks event s state flow → state.commits ≡ s.state.commits
-marks-commits event s _ _ (steps.unmarked allowed) = refl
-marks-commits event s _ _ toggled = commits-same s.state.is_read_only s (with_key_toggled s.selection)
-marks-commits event s _ _ (inverted e) = commits-same s.state.is_read_only s with_all_inverted
-marks-commits event s _ _ all_set = commits-same s.state.is_read_only s with_all_set
+marks-commits : (s : Session) (state : RecordState) (flow : Flow) → Marks s state flow → state.commits ≡ s.state.commits
+marks-commits s _ _ (steps.unmarked allowed) = refl
+marks-commits s _ _ toggled = commits-same s.state.is_read_only s (with_key_toggled s.selection)
+marks-commits s _ _ inverted = commits-same s.state.is_read_only s with_all_inverted
+marks-commits s _ _ all_set = commits-same s.state.is_read_only s with_all_set
 
 -- the edits are left as they were, and there is still no message
-record IsUnedited (edits : List Edit) (w : World) : Type 0 where
+record IsUnedited (edits : List Reply) (w : World) : Type 0 where
   messages : (commit : ℕ) → message_of w.session commit ≡ None
   left : w.edits ≡ edits
 
@@ -40,7 +40,7 @@ no-message : {A : Type 0} (message : Option A) → message ≡ None → is_some 
 no-message None e h = cc
 no-message (Some text) e h = cc
 
-module _ (edits : List Edit) where
+module _ (edits : List Reply) where
   shot-unedited : (drawn : Session) (rest : List Event) (b : Bool) (w v : World) → IsUnedited edits w → IsUnedited edits v → IsUnedited edits (world_at (resume drawn rest (cond b (Goes v) (Breaks no_such_place w))))
   shot-unedited drawn rest true w v h k = k
   shot-unedited drawn rest false w v h k = h
@@ -69,8 +69,8 @@ module _ (edits : List Edit) where
       let scene = scene_of w.kind drawn in
       let c = change scene w.session event in
       let marks = (leads scene w.session event).marks in
-      let same = marks-commits event w.session c.session.state c.flow marks in
-      outcome-unedited scene drawn rest (with_session w c.session) c.flow (steps.marks-allow event w.session c.session c.session.state c.flow marks refl)
+      let same = marks-commits w.session c.session.state c.flow marks in
+      outcome-unedited scene drawn rest (with_session w c.session) c.flow (steps.marks-allow w.session c.session c.session.state c.flow marks refl)
       (record { messages = λ commit. ap (λ (cs : List Commit). message_at cs commit) same ∙ h.messages commit; left = h.left })
   after-unedited (Accepted w) h = h
   after-unedited (Failed fault w) h = h

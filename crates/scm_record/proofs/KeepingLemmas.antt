@@ -1,5 +1,5 @@
 -- A run changes marks alone.
-use Rattle.std.proofs.Common.{◌≡◌, ℕ, zero, suc, ◌≤◌, Bool, true, false, not, List, [], ◌∷◌, map, length, slice_get, Option, Some, None, cond, sym, ap, ◌∙◌, refl, subst, arith}
+use Rattle.std.proofs.Common.{◌≡◌, ℕ, zero, suc, ◌≤◌, Bool, true, false, not, List, [], ◌∷◌, ◌&&◌, map, length, slice_get, Option, Some, None, cond, sym, ap, ◌∙◌, refl, subst, arith}
 use Rattle.std.specs.Prelude.{IsTrue, is_some, nat_lt, option_and_then}
 use Rattle.std.proofs.lemmas.Bool.{and_parts, leb-true}
 use Rattle.scm_types.specs.declared.file_mode.FileMode.{FileMode}
@@ -20,9 +20,10 @@ use Rattle.scm_types.proofs.EditLemmas.{map-modify-same}
 use Rattle.scm_input.specs.declared.events.Event.{Event}
 use Rattle.scm_record.specs.declared.selector.Flow.{Flow}
 use Rattle.scm_record.specs.declared.selector.Flow.TheVariants as flows
-use Rattle.scm_selection.specs.Toggle.{mark_after, with_changed_set, with_deletion_unchecked, with_mode_checked, after_lines, after_mode, after_section, with_file_toggled, with_section_set, with_this_section_toggled, with_section_toggled, with_line_inverted, line_mark, with_this_line_toggled, with_line_toggled, with_key_toggled, with_all_inverted, with_all_set}
-use Rattle.scm_input.specs.Script.{Read, Batch, BrokenRead, Edit, Answer, BrokenEdit, no_more}
-use Rattle.scm_record.specs.Session.{Session, start, padded, padded_state, with_files_changed, with_message, message_of, commit_saying}
+use Rattle.scm_types.specs.Repair.{with_deletion_unchecked, with_mode_checked, some_line, without_deletion, with_creation, repaired}
+use Rattle.scm_selection.specs.Toggle.{mark_after, with_changed_set, after_lines, after_mode, after_section, with_file_toggled, with_section_set, with_this_section_toggled, with_section_toggled, with_line_inverted, line_mark, with_this_line_toggled, with_line_toggled, with_key_toggled, with_all_inverted, with_all_set}
+use Rattle.scm_input.specs.Script.{Read, Batch, BrokenRead, Edit, Answer, BrokenEdit, Reply, no_more}
+use Rattle.scm_record.specs.Session.{Session, start, padded, padded_state, with_files_changed, message_text, with_message, message_of, commit_saying}
 use Rattle.scm_record.specs.Frames.{Scene, scene_of}
 use Rattle.scm_record.specs.Uses.{shot_of}
 use Rattle.scm_record.specs.Step.{change}
@@ -146,6 +147,25 @@ marked-hidden f files = map-hidden bare_file (file_with_marks f) (λ file. ap (�
 all_set-hidden : (files : List File) → map bare_file (with_all_set files) ≡ map bare_file files
 all_set-hidden files = marked-hidden _ files
 
+without_deletion-hidden : (list : List Section) → bare (without_deletion list) ≡ bare list
+without_deletion-hidden list =
+    cond-hidden bare (some_line not list) (map with_deletion_unchecked list) list list (map-hidden bare_section with_deletion_unchecked deletion-hidden list) refl
+
+with_creation-hidden : (mode : FileMode) (list : List Section) → bare (with_creation mode list) ≡ bare list
+with_creation-hidden mode list =
+    cond-hidden bare (is_absent mode && some_line (λ b. b) list) (map with_mode_checked list) list list (map-hidden bare_section with_mode_checked mode-hidden list) refl
+
+-- a repair changes marks alone
+repaired-hidden : (file : File) → bare_file (repaired file) ≡ bare_file file
+repaired-hidden file =
+    ap (λ (list : List Section). record file { sections = list })
+    (with_creation-hidden file.file_mode (without_deletion file.sections) ∙ without_deletion-hidden file.sections)
+
+pub inverted-hidden : (files : List File) → map bare_file (with_all_inverted files) ≡ map bare_file files
+inverted-hidden files =
+    map-hidden bare_file (λ file. repaired (file_with_marks not file))
+    (λ file. repaired-hidden (file_with_marks not file) ∙ ap (λ (list : List Section). record file { sections = list }) (map-hidden bare_section (section_with_marks not) (marks-hidden not) file.sections)) files
+
 -- a state is the padded given one but for marks, and whole where it is read-only
 record Kept (given state : RecordState) : Type 0 where
   same : unmarked (padded_state given) ≡ unmarked state
@@ -186,11 +206,11 @@ message-kept given s commit text h k = record {
 }
 
 -- what an event makes of a session keeps it
-marks-kept : (given : RecordState) (event : Event) (s : Session) (state : RecordState) (flow : Flow) → Marks event s state flow → Kept given s.state → Kept given state
-marks-kept given event s _ _ (steps.unmarked allowed) h = h
-marks-kept given event s _ _ toggled h = files_changed-kept given s (with_key_toggled s.selection) (toggle-hidden s.selection) h
-marks-kept given event s _ _ (inverted e) h = files_changed-kept given s with_all_inverted (marked-hidden not) h
-marks-kept given event s _ _ all_set h = files_changed-kept given s with_all_set all_set-hidden h
+marks-kept : (given : RecordState) (s : Session) (state : RecordState) (flow : Flow) → Marks s state flow → Kept given s.state → Kept given state
+marks-kept given s _ _ (steps.unmarked allowed) h = h
+marks-kept given s _ _ toggled h = files_changed-kept given s (with_key_toggled s.selection) (toggle-hidden s.selection) h
+marks-kept given s _ _ inverted h = files_changed-kept given s with_all_inverted inverted-hidden h
+marks-kept given s _ _ all_set h = files_changed-kept given s with_all_set all_set-hidden h
 
 abbrev KeptAt : RecordState → Point → Type 0
 KeptAt given p = Kept given (world_at p).session.state
@@ -203,9 +223,9 @@ answered-kept : (given : RecordState) (drawn : Session) (rest : List Event) (w :
 answered-kept given drawn rest w commit (Answer text) h k = short-kept given drawn rest (is_short_text text) w (with_session w (with_message w.session commit text)) (message-kept given w.session commit text h k) h
 answered-kept given drawn rest w commit (BrokenEdit fault) h k = h
 
-edited-kept : (given : RecordState) (drawn : Session) (rest : List Event) (w : World) (commit : ℕ) (edits : List Edit) → Kept given w.session.state → is_some (message_of w.session commit) ≡ true → KeptAt given (resume drawn rest (edited w commit edits))
+edited-kept : (given : RecordState) (drawn : Session) (rest : List Event) (w : World) (commit : ℕ) (edits : List Reply) → Kept given w.session.state → is_some (message_of w.session commit) ≡ true → KeptAt given (resume drawn rest (edited w commit edits))
 edited-kept given drawn rest w commit [] h k = answered-kept given drawn rest (with_edits w []) commit no_more h k
-edited-kept given drawn rest w commit (edit ∷ edits) h k = answered-kept given drawn rest (with_edits w edits) commit edit h k
+edited-kept given drawn rest w commit (reply ∷ edits) h k = answered-kept given drawn rest (with_edits w edits) commit (reply (message_text w.session commit)) h k
 
 shot-kept : (given : RecordState) (drawn : Session) (rest : List Event) (b : Bool) (w v : World) → v.session ≡ w.session → Kept given w.session.state → KeptAt given (resume drawn rest (cond b (Goes v) (Breaks no_such_place w)))
 shot-kept given drawn rest true w v e h = rw e h
@@ -235,7 +255,7 @@ after-kept given (Within drawn w (event ∷ rest)) h =
     let scene = scene_of w.kind drawn in
     let c = change scene w.session event in
     let marks = (leads scene w.session event).marks in
-    outcome-kept given scene drawn rest (with_session w c.session) c.flow (marks-allow event w.session c.session c.session.state c.flow marks refl) (marks-kept given event w.session c.session.state c.flow marks h)
+    outcome-kept given scene drawn rest (with_session w c.session) c.flow (marks-allow w.session c.session c.session.state c.flow marks refl) (marks-kept given w.session c.session.state c.flow marks h)
 after-kept given (Accepted w) h = h
 after-kept given (Failed fault w) h = h
 

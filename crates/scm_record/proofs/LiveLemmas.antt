@@ -1,6 +1,7 @@
 -- A live session goes by the steps of a run.
-use Rattle.std.proofs.Common.{◌≡◌, ℕ, ◌+◌, ◌<◌, ◌≤◌, Bool, true, false, IsTrue, cond, List, [], ◌∷◌, ◌++◌, length, sym, ap, ◌∙◌, refl, subst, arith}
-use Rattle.std.specs.Prelude.{nat_lt}
+use Rattle.std.proofs.Common.{◌≡◌, ℕ, ◌+◌, ◌<◌, ◌≤◌, Bool, true, false, IsTrue, cond, List, [], ◌∷◌, ◌++◌, length, Option, Some, None, sym, ap, ◌∙◌, refl, subst, arith}
+use Rattle.std.specs.Prelude.{nat_lt, is_some}
+use Rattle.std.specs.Option.{unwrap_or}
 use Rattle.std.proofs.lemmas.Bool.{le-ltb}
 use Rattle.scm_errors.specs.declared.error.RecordError.{RecordError}
 use Rattle.scm_errors.specs.declared.error.RecordError.TheVariants.{OutOfMemory, Cancelled as cancelled}
@@ -8,27 +9,27 @@ use Rattle.scm_errors.specs.Fault.{Cancelled, fault_of}
 use Rattle.scm_types.specs.declared.state.RecordState.{RecordState}
 use Rattle.scm_input.specs.declared.events.Event.{Event}
 use Rattle.scm_input.specs.declared.inputs.TerminalKind.{TerminalKind}
-use Rattle.scm_input.specs.Script.{Read, Batch, Edit, Answer}
+use Rattle.scm_input.specs.Script.{Read, Batch, Reply}
 use Rattle.scm_record.specs.declared.selector.Flow.{Flow}
 use Rattle.scm_record.specs.declared.selector.Flow.TheVariants as flows
-use Rattle.scm_record.specs.Session.{Session, IsDrawable, after_frame, start, with_message, without_pending}
+use Rattle.scm_record.specs.Session.{Session, IsDrawable, after_frame, message_of, message_text, start, with_message, without_pending}
 use Rattle.scm_record.specs.declared.frame.DrawnFrame.{DrawnFrame}
 use Rattle.scm_record.specs.Frames.{Frame, HasSize, IsShown, Scene, columns_of, rows_of, scene_of}
-use Rattle.scm_record.specs.Uses.{hit, max_scroll, shot_of}
+use Rattle.scm_record.specs.Uses.{hit, shot_of}
 use Rattle.scm_record.specs.Step.{Change, change}
 use Rattle.scm_record.specs.Run.{Setting, world_in, with_session, Outcome, Goes, Breaks, Point, Before, Drawn, Within, Accepted, no_such_place, too_long, kept_at, edited, outcome_by, resume, batch, Reaches, here, on, world_at}
 use Rattle.scm_record.specs.Turn.{IsFault}
 use Rattle.scm_record.specs.Live.{Live, Asking}
 use Rattle.scm_record.specs.declared.live.Turn.{Turn}
 use Rattle.scm_record.specs.declared.live.Turn.TheVariants.{Waiting, Editing, Accepted as Done}
-use Rattle.scm_record.specs.Calls.{live, waits, asks, Leads, Fails, Handles, Answers, Call, Path, still, press, say, reads_of, edits_of, beginning, IsRight, IsRun}
+use Rattle.scm_record.specs.Calls.{live, answering, waits, asks, Leads, Fails, Handles, Answers, Call, Path, still, press, say, reads_of, edits_of, beginning, IsRight, IsRun}
 use Rattle.scm_record.specs.Headline.{ConfirmsQuit, IsInline, owner_at, window_of}
 use Rattle.scm_record.proofs.ShotLemmas.{frame-plain, hit-on_screen}
 use Rattle.scm_record.proofs.QuitLemmas.{accepted-confirmed}
 use Rattle.scm_record.proofs.KeepingLemmas.{kept-reached}
-use Rattle.scm_types.specs.Limits.{is_accepted_state, is_short_text}
+use Rattle.scm_types.specs.Limits.{is_accepted_state, is_short_text, max_scroll}
 use Rattle.scm_record.proofs.Budget.{rank}
-use Rattle.scm_record.proofs.StepLemmas.{Pushes, nothing, pushed, leads}
+use Rattle.scm_record.proofs.StepLemmas.{Allows, marks-allow, Pushes, nothing, pushed, leads}
 use Rattle.scm_record.proofs.RunLemmas.{reaches-trans, step-of, stops-fault, stops-memory, stops-after}
 use Rattle.scm_record.proofs.AcceptedLemmas.{change-keeps-drawable}
 
@@ -48,6 +49,18 @@ changed-few scene s t event flow is e = subst (λ (c : Change). length c.session
 
 pub changed-drawable : (scene : Scene) (s t : Session) (event : Event) (flow : Flow) → change scene s event ≡ record { session = t; flow = flow } → IsDrawable s → IsDrawable t
 changed-drawable scene s t event flow is h = subst (λ (c : Change). IsDrawable c.session) is (change-keeps-drawable scene s event h)
+
+said-by : (message : Option (List ℕ)) → is_some message ≡ true → message ≡ Some (unwrap_or message [])
+said-by None e = cc
+said-by (Some text) e = refl
+
+-- the commit whose message is to be edited has one
+pub changed-said : (scene : Scene) (s t : Session) (event : Event) (flow : Flow) → change scene s event ≡ record { session = t; flow = flow } → (commit : ℕ) → flow ≡ flows.Edit commit → message_of t commit ≡ Some (message_text t commit)
+changed-said scene s t event flow is commit e =
+    let c = change scene s event in
+    let allowed = marks-allow s c.session c.session.state c.flow (leads scene s event).marks refl in
+    let allows = subst (λ (c : Change). Allows c.session c.flow) is allowed in
+    said-by (message_of t commit) (subst (λ (f : Flow). Allows t f) e allows)
 
 abbrev first-of : (d : Event) → List Event → Event
 first-of d [] = d
@@ -78,7 +91,7 @@ no-place place = le-ltb place 0 (omega arith)
 -- ---- paths
 
 -- what leads later leads
-pub leads-after : (p q : Point) (kind : TerminalKind) (reads : List Read) (edits : List Edit) (turn : Turn) → Reaches p q → Leads q kind reads edits turn → Leads p kind reads edits turn
+pub leads-after : (p q : Point) (kind : TerminalKind) (reads : List Read) (edits : List Reply) (turn : Turn) → Reaches p q → Leads q kind reads edits turn → Leads p kind reads edits turn
 leads-after p q kind reads edits (Waiting l) r h = (h.0, h.1, reaches-trans r h.2)
 leads-after p q kind reads edits (Editing a) r h = (h.0, h.1, h.2, reaches-trans r h.3)
 leads-after p q kind reads edits (Done state) r h = (h.0, h.1, h.2, reaches-trans r h.3)
@@ -133,7 +146,7 @@ pub calm-session : (t u : Session) → [] ≡ t.pending → u ≡ without_pendin
 calm-session t u e f = ap (λ (list : List Event). record t { cleared = false; pending = list }) (sym e) ∙ sym f
 
 -- a frame with nothing pending: the session waits
-pub comes-to-wait : (p : Point) (kind : TerminalKind) (reads : List Read) (edits : List Edit) (t u : Session) (frames : ℕ)
+pub comes-to-wait : (p : Point) (kind : TerminalKind) (reads : List Read) (edits : List Reply) (t u : Session) (frames : ℕ)
     → [] ≡ t.pending → u ≡ without_pending (after_frame t) → Reaches p (Drawn (world_in (live kind reads edits) (after_frame t) frames)) → Leads p kind reads edits (Waiting (record { session = u; kind = kind }))
 comes-to-wait p kind reads edits t u frames e f r =
     (frames, refl, subst (λ (x : Session). Reaches p (Drawn (world_in (live kind reads edits) x frames))) (calm-session t u e f) r)
@@ -149,15 +162,15 @@ comes-to-handle p a t u frames next e f r =
 -- ---- calls
 
 -- an event that is handed in is read
-pub reads-event : (l : Live) (event : Event) (reads : List Read) (edits : List Edit) (frames : ℕ) → l.session.pending ≡ []
+pub reads-event : (l : Live) (event : Event) (reads : List Read) (edits : List Reply) (frames : ℕ) → l.session.pending ≡ []
     → Reaches (waits l (Batch (event ∷ []) ∷ reads) edits frames) (Within l.session (world_in (live l.kind reads edits) l.session frames) (event ∷ []))
 reads-event l event reads edits frames e =
     let p = waits l (Batch (event ∷ []) ∷ reads) edits frames in
     subst (λ (list : List Event). Reaches p (batch (world_in (live l.kind (Batch (event ∷ []) ∷ reads) edits) l.session frames) list)) e (on here)
 
-module _ (a : Asking) (text : List ℕ) (drawn : Session) (reads : List Read) (edits : List Edit) (frames : ℕ) where
+module _ (a : Asking) (text : List ℕ) (drawn : Session) (reads : List Read) (edits : List Reply) (frames : ℕ) where
   abbrev Asked : Point
-  Asked = asks drawn a reads (Answer text ∷ edits) frames
+  Asked = asks drawn a reads (answering text ∷ edits) frames
 
   abbrev said : Session
   said = with_message a.session a.commit text
@@ -183,19 +196,19 @@ module _ (a : Asking) (text : List ℕ) (drawn : Session) (reads : List Read) (e
 -- ---- any calls
 
 -- from a turn that the steps lead to they lead to the next one
-handles-on : (p : Point) (kind : TerminalKind) (l : Live) (event : Event) (turn : Turn) (reads : List Read) (edits : List Edit)
+handles-on : (p : Point) (kind : TerminalKind) (l : Live) (event : Event) (turn : Turn) (reads : List Read) (edits : List Reply)
     → Handles l event turn → Leads p kind (Batch (event ∷ []) ∷ reads) edits (Waiting l) → Leads p kind reads edits turn
 handles-on p kind l event turn reads edits g h =
     let q = waits l (Batch (event ∷ []) ∷ reads) edits h.0 in
     leads-after p q kind reads edits turn h.2 (subst (λ (k : TerminalKind). Leads q k reads edits turn) h.1 (g reads edits h.0))
 
-answers-on : (p : Point) (kind : TerminalKind) (a : Asking) (text : List ℕ) (turn : Turn) (reads : List Read) (edits : List Edit)
-    → Answers a text turn → Leads p kind reads (Answer text ∷ edits) (Editing a) → Leads p kind reads edits turn
+answers-on : (p : Point) (kind : TerminalKind) (a : Asking) (text : List ℕ) (turn : Turn) (reads : List Read) (edits : List Reply)
+    → Answers a text turn → Leads p kind reads (answering text ∷ edits) (Editing a) → Leads p kind reads edits turn
 answers-on p kind a text turn reads edits g h =
-    let q = asks h.0 a reads (Answer text ∷ edits) h.1 in
+    let q = asks h.0 a reads (answering text ∷ edits) h.1 in
     leads-after p q kind reads edits turn h.3 (subst (λ (k : TerminalKind). Leads q k reads edits turn) h.2 (g h.0 reads edits h.1))
 
-path-leads : (reads : List Read) (edits : List Edit) (p : Point) (kind : TerminalKind) {turn last : Turn} {calls : List Call}
+path-leads : (reads : List Read) (edits : List Reply) (p : Point) (kind : TerminalKind) {turn last : Turn} {calls : List Call}
     → Path turn calls last → Leads p kind (reads_of calls ++ reads) (edits_of calls ++ edits) turn → Leads p kind reads edits last
 path-leads reads edits p kind still h = h
 path-leads reads edits p kind (press {l = l} {event = event} {turn = turn} {calls = calls} g path) h =
@@ -212,7 +225,7 @@ is-right given kind calls (Done state) accepted h =
 
 pub sessions-are-runs : (given : RecordState) (kind : TerminalKind) (calls : List Call) (turn : Turn) → IsTrue (is_accepted_state given) → Path (Waiting (record { session = start given; kind = kind })) calls turn → IsRun given kind calls turn
 sessions-are-runs given kind calls turn accepted path =
-    let leads : (reads : List Read) (edits : List Edit) → Leads (beginning given kind calls reads edits) kind reads edits turn = λ reads edits. path-leads reads edits (beginning given kind calls reads edits) kind path (1, refl, on here) in
+    let leads : (reads : List Read) (edits : List Reply) → Leads (beginning given kind calls reads edits) kind reads edits turn = λ reads edits. path-leads reads edits (beginning given kind calls reads edits) kind path (1, refl, on here) in
     record { leads = leads; right = is-right given kind calls turn accepted (leads [] []) }
 
 -- ---- what is seen

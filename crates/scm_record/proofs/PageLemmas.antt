@@ -1,6 +1,6 @@
 -- Walks over the visible keys, either way.
-use Rattle.std.proofs.Common.{◌≡◌, ℕ, ◌+◌, ◌<◌, ◌∙◌, ap, sym, refl, Bool, true, false, cond, List, [], ◌∷◌, length, drop, arith, Option, Some, None}
-use Rattle.std.specs.Prelude.{is_some, position, reverse}
+use Rattle.std.proofs.Common.{◌≡◌, ℕ, ◌<◌, ◌∙◌, ap, sym, refl, Bool, true, false, cond, List, [], ◌∷◌, length, arith, Option, Some, None}
+use Rattle.std.specs.Prelude.{is_some, position}
 use Rattle.scm_types.specs.declared.keys.SelectionKey.{SelectionKey}
 use Rattle.scm_types.specs.declared.keys.SelectionKey.TheVariants as keys
 use Rattle.scm_selection.specs.KeySet.{is_key}

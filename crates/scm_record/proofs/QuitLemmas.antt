@@ -10,8 +10,8 @@ use Rattle.scm_input.specs.declared.events.Event.{Event}
 use Rattle.scm_input.specs.declared.events.Event.TheVariants as events
 use Rattle.scm_record.specs.declared.selector.Flow.{Flow}
 use Rattle.scm_record.specs.declared.selector.Flow.TheVariants as flows
-use Rattle.scm_input.specs.Script.{Read, Batch, BrokenRead, Edit, Answer, BrokenEdit, no_more}
-use Rattle.scm_record.specs.Session.{Session, with_help, with_message}
+use Rattle.scm_input.specs.Script.{Read, Batch, BrokenRead, Edit, Answer, BrokenEdit, Reply, no_more}
+use Rattle.scm_record.specs.Session.{Session, with_help, message_text, with_message}
 use Rattle.scm_record.specs.Frames.{Scene, scene_of}
 use Rattle.scm_record.specs.Uses.{shot_of}
 use Rattle.scm_record.specs.Change.{stays, accepts}
@@ -50,9 +50,9 @@ module _ (p : Point) where
     answered-confirmed w commit (Answer text) = either-confirmed (is_short_text text) (with_session w (with_message w.session commit text)) w too_long
     answered-confirmed w commit (BrokenEdit fault) = tt
 
-    edited-confirmed : (w : World) (commit : ℕ) (edits : List Edit) → IsConfirmed p (resume drawn left (edited w commit edits))
+    edited-confirmed : (w : World) (commit : ℕ) (edits : List Reply) → IsConfirmed p (resume drawn left (edited w commit edits))
     edited-confirmed w commit [] = answered-confirmed (with_edits w []) commit no_more
-    edited-confirmed w commit (edit ∷ edits) = answered-confirmed (with_edits w edits) commit edit
+    edited-confirmed w commit (reply ∷ edits) = answered-confirmed (with_edits w edits) commit (reply (message_text w.session commit))
 
     -- what isn't accepted needs no quit
     calm-confirmed : (scene : Scene) (w : World) (flow : Flow) → is_calm flow ≡ true → IsConfirmed p (resume drawn left (outcome_by scene w flow))

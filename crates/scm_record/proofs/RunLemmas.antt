@@ -14,8 +14,8 @@ use Rattle.scm_record.specs.Step.{Change, change}
 use Rattle.scm_record.specs.Frames.{Scene, scene_of}
 use Rattle.scm_input.specs.Store.{Store, with_frame}
 use Rattle.scm_errors.specs.declared.error.RecordError.TheVariants.{OutOfMemory}
-use Rattle.scm_record.specs.Session.{Session, after_frame, with_message}
-use Rattle.scm_input.specs.Script.{Read, Edit, Answer, BrokenEdit, TakesOr, no_more}
+use Rattle.scm_record.specs.Session.{Session, after_frame, message_text, with_message}
+use Rattle.scm_input.specs.Script.{Read, Edit, Answer, BrokenEdit, Reply, Replies}
 use Rattle.scm_record.specs.Run.{Setting, setting, World, world_in, with_session, with_edits, with_text, with_frame_drawn, Outcome, Goes, Breaks, Point, Before, Drawn, Within, Failed, no_such_place, too_long, kept_at, answered, edited, outcome_by, changed, step_in, step, resume, after, batch, Reaches, here, on, world_at, Shows, Stops}
 use Rattle.scm_record.specs.Turn.{outcome_of, point_of, BatchStops, Ceases, Handles, IsFault, Refuses, faulty, out_of_memory, TurnStops}
 
@@ -102,22 +102,22 @@ step-of scene a s s' frames event flow known e k =
     ap (λ (c : Change). changed scene (world_in a s frames) c) e ∙ ap (λ (f : Flow). outcome_by scene (world_in a s' frames) f) k
 
 -- an edit takes the first of the edits
-pub edited-takes : (w : World) (commit : ℕ) (answer : Edit) (old new : List Edit) → TakesOr no_more (Some answer) old new → edited w commit old ≡ answered (with_edits w new) commit answer
+pub edited-takes : (w : World) (commit : ℕ) (answer : Edit) (old new : List Reply) → Replies (message_text w.session commit) (Some answer) old new → edited w commit old ≡ answered (with_edits w new) commit answer
 edited-takes w commit answer [] new h = rw (h.0, h.1) refl
 edited-takes w commit answer (first ∷ rest) new h = rw (h.0, h.1) refl
 
-edit-refuses-by : (error : RecordError) (f : Option Fault) (w : World) (commit : ℕ) (new : List Edit) → fault_of error ≡ f → TakesOr no_more (option_map BrokenEdit f) w.edits new → Refuses error w (edited w commit w.edits) (with_edits w new)
+edit-refuses-by : (error : RecordError) (f : Option Fault) (w : World) (commit : ℕ) (new : List Reply) → fault_of error ≡ f → Replies (message_text w.session commit) (option_map BrokenEdit f) w.edits new → Refuses error w (edited w commit w.edits) (with_edits w new)
 edit-refuses-by error None w commit new e h = out_of_memory e (record { reads = refl; edits = h; texts = refl; frames = refl })
 edit-refuses-by error (Some fault) w commit new e h =
     faulty fault (edited-takes w commit (BrokenEdit fault) w.edits new h) (subst (λ (f : Option Fault). MatchOption f (Unit {0}) (λ x. x ≡ fault)) (sym e) refl)
 
-module _ (error : RecordError) (a : Setting) (s : Session) (frames : ℕ) (commit : ℕ) (kind : TerminalKind) (reads : List Read) (edits : List Edit) (same_kind : kind ≡ a.kind) (same_reads : reads ≡ a.reads) where
+module _ (error : RecordError) (a : Setting) (s : Session) (frames : ℕ) (commit : ℕ) (kind : TerminalKind) (reads : List Read) (edits : List Reply) (same_kind : kind ≡ a.kind) (same_reads : reads ≡ a.reads) where
   -- a fault in place of an edit
-  pub edit-refuses : TakesOr no_more (option_map BrokenEdit (fault_of error)) a.edits edits → Refuses error (world_in a s frames) (edited (world_in a s frames) commit a.edits) (world_in (setting kind reads edits a.store) s frames)
+  pub edit-refuses : Replies (message_text s commit) (option_map BrokenEdit (fault_of error)) a.edits edits → Refuses error (world_in a s frames) (edited (world_in a s frames) commit a.edits) (world_in (setting kind reads edits a.store) s frames)
   edit-refuses h = rw (same_kind, same_reads) (edit-refuses-by error (fault_of error) (world_in a s frames) commit edits refl h)
 
   -- an answer that is too long
-  pub edit-too_long : (text : List ℕ) → TakesOr no_more (Some (Answer text)) a.edits edits → is_short_text text ≡ false → IsFault too_long error → Refuses error (world_in a s frames) (edited (world_in a s frames) commit a.edits) (world_in (setting kind reads edits a.store) s frames)
+  pub edit-too_long : (text : List ℕ) → Replies (message_text s commit) (Some (Answer text)) a.edits edits → is_short_text text ≡ false → IsFault too_long error → Refuses error (world_in a s frames) (edited (world_in a s frames) commit a.edits) (world_in (setting kind reads edits a.store) s frames)
   edit-too_long text h long f =
       let v = with_edits (world_in a s frames) edits in
       let long-outcome = ap (λ (b : Bool). cond b (Goes (with_session v (with_message s commit text))) (Breaks too_long v)) long in
@@ -134,7 +134,7 @@ shoot-refuses error w place text lacks f =
 pub shown-as : (IsSeen : Scene → Type 0) (kind kind' : TerminalKind) (drawn : Session) → kind ≡ kind' → IsSeen (scene_of kind drawn) → IsSeen (scene_of kind' drawn)
 shown-as IsSeen kind kind' drawn e h = subst (λ (k : TerminalKind). IsSeen (scene_of k drawn)) e h
 
-module _ (a : Setting) (s0 s s1 : Session) (frames : ℕ) (kind : TerminalKind) (reads : List Read) (edits : List Edit) (store : Store) (events : List Event) (is_drawn : s ≡ after_frame s0) (is_counted : store ≡ with_frame a.store) (same_kind : kind ≡ a.kind) (begins : batch (world_in a s (frames + 1)) s.pending ≡ Within s (world_in (setting a.kind reads edits a.store) s1 (frames + 1)) events) where
+module _ (a : Setting) (s0 s s1 : Session) (frames : ℕ) (kind : TerminalKind) (reads : List Read) (edits : List Reply) (store : Store) (events : List Event) (is_drawn : s ≡ after_frame s0) (is_counted : store ≡ with_frame a.store) (same_kind : kind ≡ a.kind) (begins : batch (world_in a s (frames + 1)) s.pending ≡ Within s (world_in (setting a.kind reads edits a.store) s1 (frames + 1)) events) where
   -- a frame is drawn, and a batch begins
   pub turn-begins : Reaches (Before (world_in a s0 frames)) (Within s (world_in (setting kind reads edits store) s1 (frames + 1)) events)
   turn-begins =
@@ -181,7 +181,7 @@ drawn-turn error s t a b store e k h = record {
 
 module _ (a : Setting) (s0 s : Session) (frames : ℕ) (store : Store) (is_drawn : s ≡ after_frame s0) (is_counted : store ≡ with_frame a.store) where
   -- no batch comes
-  pub no_batch-stops : (error : RecordError) (kind : TerminalKind) (reads : List Read) (edits : List Edit) (t : Session) → kind ≡ a.kind
+  pub no_batch-stops : (error : RecordError) (kind : TerminalKind) (reads : List Read) (edits : List Reply) (t : Session) → kind ≡ a.kind
       → BatchStops error (batch (world_in a s (frames + 1)) s.pending) (world_in a s (frames + 1)) (world_in (setting a.kind reads edits a.store) t (frames + 1))
       → Stops error (Before (world_in a s0 frames)) (world_in (setting kind reads edits store) t (frames + 1))
   no_batch-stops error kind reads edits t same_kind h =

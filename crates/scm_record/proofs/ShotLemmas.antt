@@ -5,7 +5,7 @@ use Rattle.std.proofs.lemmas.Bool.{lt-ltb, le-leb}
 use Rattle.scm_errors.specs.declared.error.RecordError.{RecordError}
 use Rattle.scm_errors.specs.Fault.{Fault, fault_of}
 use Rattle.scm_types.specs.Edits.{modify}
-use Rattle.scm_types.specs.Limits.{is_short_text}
+use Rattle.scm_types.specs.Limits.{is_short_text, max_scroll}
 use Rattle.scm_cells.specs.Screen.{view_of}
 use Rattle.scm_render.specs.Canvas.{Row}
 use Rattle.scm_view.specs.declared.ids.ComponentId.{ComponentId}
@@ -15,10 +15,10 @@ use Rattle.scm_input.specs.declared.events.TestingScreenshot.{TestingScreenshot}
 use Rattle.scm_input.specs.declared.inputs.TerminalKind.{TerminalKind}
 use Rattle.scm_record.specs.declared.selector.Flow.{Flow}
 use Rattle.scm_record.specs.declared.selector.Flow.TheVariants as flows
-use Rattle.scm_input.specs.Script.{Read, Batch, BrokenRead, Edit, Answer, BrokenEdit, no_more}
-use Rattle.scm_record.specs.Session.{Session, IsDrawable, shown_of, with_help, with_message}
+use Rattle.scm_input.specs.Script.{Read, Batch, BrokenRead, Edit, Answer, BrokenEdit, Reply, no_more}
+use Rattle.scm_record.specs.Session.{Session, IsDrawable, shown_of, with_help, message_text, with_message}
 use Rattle.scm_record.specs.Frames.{Frame, Scene, columns_of, rows_of, frame_of_document, scene_of}
-use Rattle.scm_record.specs.Uses.{hit, max_scroll, shot_of}
+use Rattle.scm_record.specs.Uses.{hit, shot_of}
 use Rattle.scm_record.specs.Clicks.{clicked}
 use Rattle.scm_record.specs.Change.{stays, accepts}
 use Rattle.scm_record.specs.Step.{change}
@@ -100,6 +100,7 @@ module _ (w0 : World) where
         shot = shot;
         taken = h;
         at_place = k.0;
+        of_scene = sym (some-same _ text k.1);
         inline = λ plain. sym (some-same _ text k.1) ∙ inline-text w0 h plain;
       })
     ]
@@ -116,9 +117,9 @@ answered-texts : (drawn : Session) (left : List Event) (w : World) (commit : ℕ
 answered-texts drawn left w commit (Answer text) = short-texts drawn left (is_short_text text) (with_session w (with_message w.session commit text)) w w.texts refl refl
 answered-texts drawn left w commit (BrokenEdit fault) = refl
 
-edited-texts : (drawn : Session) (left : List Event) (w : World) (commit : ℕ) (edits : List Edit) → (world_at (resume drawn left (edited w commit edits))).texts ≡ w.texts
+edited-texts : (drawn : Session) (left : List Event) (w : World) (commit : ℕ) (edits : List Reply) → (world_at (resume drawn left (edited w commit edits))).texts ≡ w.texts
 edited-texts drawn left w commit [] = answered-texts drawn left (with_edits w []) commit no_more
-edited-texts drawn left w commit (edit ∷ edits) = answered-texts drawn left (with_edits w edits) commit edit
+edited-texts drawn left w commit (reply ∷ edits) = answered-texts drawn left (with_edits w edits) commit (reply (message_text w.session commit))
 
 calm-texts : (drawn : Session) (left : List Event) (scene : Scene) (w : World) (flow : Flow) → is_calm flow ≡ true → (world_at (resume drawn left (outcome_by scene w flow))).texts ≡ w.texts
 calm-texts drawn left scene w flows.GoOn e = refl

@@ -7,16 +7,16 @@ use Rattle.scm_types.specs.Limits.{is_short_text}
 use Rattle.scm_input.specs.declared.events.Event.{Event}
 use Rattle.scm_record.specs.declared.selector.Flow.{Flow}
 use Rattle.scm_record.specs.declared.selector.Flow.TheVariants as flows
-use Rattle.scm_input.specs.Script.{Edit, Answer, BrokenEdit, no_more}
-use Rattle.scm_selection.specs.Toggle.{with_key_toggled, with_all_set}
-use Rattle.scm_record.specs.Session.{Session, with_message}
+use Rattle.scm_input.specs.Script.{Edit, Answer, BrokenEdit, Reply, no_more}
+use Rattle.scm_selection.specs.Toggle.{with_key_toggled, with_all_inverted, with_all_set}
+use Rattle.scm_record.specs.Session.{Session, message_text, with_message}
 use Rattle.scm_record.specs.Frames.{Scene, scene_of}
 use Rattle.scm_record.specs.Uses.{shot_of}
 use Rattle.scm_record.specs.Step.{change}
 use Rattle.scm_record.specs.Run.{World, with_session, with_edits, with_text, Goes, Breaks, no_such_place, too_long, answered, edited, outcome_by}
 use Rattle.scm_selection.specs.Coherence.{KeepsCoherent}
-use Rattle.scm_record.specs.StepCoherence.{OutcomeKeepsCoherent, StepKeepsCoherent, is_toggle_all}
-use Rattle.scm_selection.proofs.CoherenceLemmas.{keeps_coherent-same, toggle_keeps_coherent, all_set_keeps_coherent}
+use Rattle.scm_record.specs.StepCoherence.{OutcomeKeepsCoherent, StepKeepsCoherent}
+use Rattle.scm_selection.proofs.CoherenceLemmas.{keeps_coherent-same, toggle_keeps_coherent, all_set_keeps_coherent, all_inverted_keeps_coherent}
 use Rattle.scm_record.proofs.StepLemmas.{Marks, unmarked, toggled, inverted, all_set, leads}
 
 -- marks that change unless the state is read-only
@@ -24,11 +24,11 @@ changed-keeps : (read_only : Bool) (s : Session) (f : List File → List File) �
 changed-keeps true s f h = keeps_coherent-same s.state.files
 changed-keeps false s f h = h
 
-marks-keep : (event : Event) (s : Session) (state : RecordState) (flow : Flow) → is_toggle_all event ≡ false → Marks event s state flow → KeepsCoherent s.state.files state.files
-marks-keep event s _ _ e (unmarked allowed) = keeps_coherent-same s.state.files
-marks-keep event s _ _ e toggled = changed-keeps s.state.is_read_only s (with_key_toggled s.selection) (toggle_keeps_coherent s.state.files s.selection)
-marks-keep event s _ _ e (inverted is) = cc
-marks-keep event s _ _ e all_set = changed-keeps s.state.is_read_only s with_all_set (all_set_keeps_coherent s.state.files)
+marks-keep : (s : Session) (state : RecordState) (flow : Flow) → Marks s state flow → KeepsCoherent s.state.files state.files
+marks-keep s _ _ (unmarked allowed) = keeps_coherent-same s.state.files
+marks-keep s _ _ toggled = changed-keeps s.state.is_read_only s (with_key_toggled s.selection) (toggle_keeps_coherent s.state.files s.selection)
+marks-keep s _ _ inverted = changed-keeps s.state.is_read_only s with_all_inverted (all_inverted_keeps_coherent s.state.files)
+marks-keep s _ _ all_set = changed-keeps s.state.is_read_only s with_all_set (all_set_keeps_coherent s.state.files)
 
 module _ (w : World) where
   short-keeps : (b : Bool) (v u : World) → KeepsCoherent w.session.state.files v.session.state.files → OutcomeKeepsCoherent w (cond b (Goes v) (Breaks too_long u))
@@ -39,9 +39,9 @@ module _ (w : World) where
   answered-keeps v commit (Answer text) h = short-keeps (is_short_text text) (with_session v (with_message v.session commit text)) v h
   answered-keeps v commit (BrokenEdit fault) h = tt
 
-  edited-keeps : (v : World) (commit : ℕ) (edits : List Edit) → KeepsCoherent w.session.state.files v.session.state.files → OutcomeKeepsCoherent w (edited v commit edits)
+  edited-keeps : (v : World) (commit : ℕ) (edits : List Reply) → KeepsCoherent w.session.state.files v.session.state.files → OutcomeKeepsCoherent w (edited v commit edits)
   edited-keeps v commit [] h = answered-keeps (with_edits v []) commit no_more h
-  edited-keeps v commit (edit ∷ edits) h = answered-keeps (with_edits v edits) commit edit h
+  edited-keeps v commit (reply ∷ edits) h = answered-keeps (with_edits v edits) commit (reply (message_text v.session commit)) h
 
   shot-keeps : (b : Bool) (v u : World) → KeepsCoherent w.session.state.files v.session.state.files → OutcomeKeepsCoherent w (cond b (Goes v) (Breaks no_such_place u))
   shot-keeps true v u h = h
@@ -54,8 +54,8 @@ module _ (w : World) where
   outcome-keeps scene v (flows.Edit commit) h = edited-keeps v commit v.edits h
   outcome-keeps scene v (flows.Shoot place) h = shot-keeps (nat_lt place (length v.texts)) (with_text v place (shot_of scene v.session.cleared)) v h
 
-pub step_keeps_coherent : (drawn : Session) (w : World) (event : Event) → is_toggle_all event ≡ false → StepKeepsCoherent drawn w event
-step_keeps_coherent drawn w event e =
+pub step_keeps_coherent : (drawn : Session) (w : World) (event : Event) → StepKeepsCoherent drawn w event
+step_keeps_coherent drawn w event =
     let scene = scene_of w.kind drawn in
     let c = change scene w.session event in
-    outcome-keeps w scene (with_session w c.session) c.flow (marks-keep event w.session c.session.state c.flow e (leads scene w.session event).marks)
+    outcome-keeps w scene (with_session w c.session) c.flow (marks-keep w.session c.session.state c.flow (leads scene w.session event).marks)

@@ -1,6 +1,7 @@
 -- What an event does to the state of a session, and what it leaves pending.
 use Rattle.std.proofs.Common.{◌≡◌, ℕ, ◌+◌, ◌-◌, ◌≤◌, min, Bool, true, false, List, [], ◌∷◌, ◌++◌, Option, Some, None, cond, ap, sym, ◌∙◌, refl, arith}
 use Rattle.std.specs.Prelude.{is_some, option_and_then, option_map, slice_get}
+use Rattle.scm_types.specs.Limits.{max_scroll}
 use Rattle.scm_types.specs.declared.file.File.{File}
 use Rattle.scm_types.specs.declared.state.Commit.{Commit}
 use Rattle.scm_types.specs.declared.state.RecordState.{RecordState}
@@ -22,13 +23,12 @@ use Rattle.scm_selection.specs.Counts.{message_count, changed_count}
 use Rattle.scm_record.specs.Session.{Session, with_pushed, with_dialog, with_help, at_key, after_item, after_select, after_fold, after_next, after_previous, after_next_same_kind, after_previous_same_kind, after_advance, after_inner, after_outer, outside_of, after_expand, after_expand_all, with_files_changed, after_toggle, after_toggle_all, after_toggle_all_uniform, message_of}
 use Rattle.scm_selection.specs.Toggle.{with_key_toggled}
 use Rattle.scm_record.specs.Frames.{Scene}
-use Rattle.scm_record.specs.Uses.{max_scroll, hit}
+use Rattle.scm_record.specs.Uses.{hit}
 use Rattle.scm_record.specs.Change.{Change, stays, accepts, cancels}
 use Rattle.scm_record.specs.Dialogs.{pressed, focused, button_of, opened, asked, unless_asked, help_closed_or, dialog_closed_or, dialog_pressed_or}
 use Rattle.scm_record.specs.Pages.{after_scroll, after_page}
 use Rattle.scm_record.specs.Clicks.{edit_of, edit_of_message, item_event, clicked_on, clicked}
 use Rattle.scm_record.specs.Step.{change}
-use Rattle.scm_record.specs.StepCoherence.{is_toggle_all}
 use Rattle.scm_record.proofs.Budget.{rank}
 use Rattle.scm_record.proofs.MenuLemmas.{IsLow, item-low}
 
@@ -44,12 +44,12 @@ Allows s flows.Cancel = Unit {0}
 Allows s (flows.Edit commit) = is_some (message_of s commit) ≡ true
 Allows s (flows.Shoot place) = Unit {0}
 
--- the state is left as it was, toggled, or set to one mark; `ToggleAll` alone inverts it
-pub data Marks (event : Event) (s : Session) : RecordState → Flow → Type 0 where
-  unmarked : {flow : Flow} → Allows s flow → Marks event s s.state flow
-  toggled : Marks event s (after_toggle s).state flows.GoOn
-  inverted : is_toggle_all event ≡ true → Marks event s (after_toggle_all s).state flows.GoOn
-  all_set : Marks event s (after_toggle_all_uniform s).state flows.GoOn
+-- the state is left as it was, toggled, inverted and repaired, or set to one mark
+pub data Marks (s : Session) : RecordState → Flow → Type 0 where
+  unmarked : {flow : Flow} → Allows s flow → Marks s s.state flow
+  toggled : Marks s (after_toggle s).state flows.GoOn
+  inverted : Marks s (after_toggle_all s).state flows.GoOn
+  all_set : Marks s (after_toggle_all_uniform s).state flows.GoOn
 
 -- at most one event is pushed, which ranks below
 pub data Pushes (event : Event) (old : List Event) : List Event → Type 0 where
@@ -62,7 +62,7 @@ pub data Scrolls (old : ℕ) : ℕ → Type 0 where
   scrolled : {new : ℕ} → new ≤ max_scroll → Scrolls old new
 
 pub record Leads (event : Event) (s : Session) (c : Change) : Type 0 where
-  pub marks : Marks event s c.session.state c.flow
+  pub marks : Marks s c.session.state c.flow
   pub pushes : Pushes event s.pending c.session.pending
   pub scrolls : Scrolls s.scroll c.session.scroll
 
@@ -216,7 +216,7 @@ leads scene s events.FocusPrevPage = unless _ s (stays (after_page scene Up s)) 
 leads scene s events.FocusNext = unless _ s (stays (after_next s)) (selects _ s (omega arith) _)
 leads scene s events.FocusNextSameKind = unless _ s (stays (after_next_same_kind s)) (selects _ s (omega arith) _)
 leads scene s events.FocusNextPage = unless _ s (stays (after_page scene Down s)) (selects _ s (omega arith) _)
-leads scene s events.ToggleAll = unless _ s (stays (after_toggle_all s)) (record { marks = inverted refl; pushes = rw (files_change events.ToggleAll s _) nothing; scrolls = rw (files_scroll events.ToggleAll s _) unscrolled })
+leads scene s events.ToggleAll = unless _ s (stays (after_toggle_all s)) (record { marks = inverted; pushes = rw (files_change events.ToggleAll s _) nothing; scrolls = rw (files_scroll events.ToggleAll s _) unscrolled })
 leads scene s events.ToggleAllUniform = unless _ s (stays (after_toggle_all_uniform s)) (record { marks = all_set; pushes = rw (files_change events.ToggleAllUniform s _) nothing; scrolls = rw (files_scroll events.ToggleAllUniform s _) unscrolled })
 leads scene s events.ExpandItem = unless _ s (stays (after_expand s)) (record { marks = unmarked tt; pushes = pushed events.EnsureSelectionInViewport (omega arith); scrolls = unscrolled })
 leads scene s events.ExpandAll = unless _ s (stays (after_expand_all s)) (flips_all _ s (omega arith) (same_set s.expanded (key_set (all_keys s.state.files))))
@@ -230,8 +230,8 @@ allows-same s t (flows.Edit commit) e h = ap (λ (state : RecordState). is_some 
 allows-same s t (flows.Shoot place) e h = tt
 
 -- what an event asks for is allowed in the session after it
-pub marks-allow : (event : Event) (s t : Session) (state : RecordState) (flow : Flow) → Marks event s state flow → state ≡ t.state → Allows t flow
-marks-allow event s t _ flow (unmarked allowed) e = allows-same s t flow e allowed
-marks-allow event s t _ _ toggled e = tt
-marks-allow event s t _ _ (inverted is) e = tt
-marks-allow event s t _ _ all_set e = tt
+pub marks-allow : (s t : Session) (state : RecordState) (flow : Flow) → Marks s state flow → state ≡ t.state → Allows t flow
+marks-allow s t _ flow (unmarked allowed) e = allows-same s t flow e allowed
+marks-allow s t _ _ toggled e = tt
+marks-allow s t _ _ inverted e = tt
+marks-allow s t _ _ all_set e = tt

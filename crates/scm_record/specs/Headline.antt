@@ -20,6 +20,7 @@ use Rattle.scm_input.specs.declared.inputs.TerminalKind.{TerminalKind}
 use Rattle.scm_input.specs.Store.{Store}
 use Rattle.scm_record.specs.Session.{Session, shown_of, start}
 use Rattle.scm_record.specs.Frames.{columns_of, rows_of, scene_of}
+use Rattle.scm_record.specs.Uses.{shot_of}
 use Rattle.scm_record.specs.Clicks.{clicked}
 use Rattle.scm_record.specs.Run.{Setting, World, world_in, Goes, kept_at, changed, step, batch, Point, Before, Drawn, Within, Reaches}
 use Rattle.scm_record.specs.Keeping.{IsKept}
@@ -81,7 +82,7 @@ ShotsAreWindows p =
     → step drawn w (events.TakeScreenshot shot)
     ≡ kept_at w shot.place (shot_text w.kind drawn done)
 
--- a text was kept at a place by a screenshot of a run from p: where that was inline it is the window, or blank
+-- a text was kept at a place by a screenshot of a run from p: it is the screen drawn last, or a blank one; inline it is the window, or blank
 pub record IsShot (p : Point) (place : ℕ) (text : List ℕ) : Type 0 where
   pub drawn : Session
   pub world : World
@@ -90,6 +91,7 @@ pub record IsShot (p : Point) (place : ℕ) (text : List ℕ) : Type 0 where
   pub shot : TestingScreenshot
   pub taken : Handling p drawn world done (events.TakeScreenshot shot ∷ left)
   pub at_place : shot.place ≡ place
+  pub of_scene : text ≡ shot_of (scene_of world.kind drawn) world.session.cleared
   pub inline : IsInline world.kind drawn → text ≡ shot_text world.kind drawn done
 
 -- each text of the store is one that it had, or that of a screenshot

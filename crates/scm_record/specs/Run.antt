@@ -8,9 +8,9 @@ use Rattle.scm_input.specs.declared.events.Event.{Event}
 use Rattle.scm_input.specs.declared.inputs.TerminalKind.{TerminalKind}
 use Rattle.scm_record.specs.declared.selector.Flow.{Flow}
 use Rattle.scm_record.specs.declared.selector.Flow.TheVariants as flows
-use Rattle.scm_input.specs.Script.{Read, Batch, BrokenRead, Edit, Answer, BrokenEdit, no_events_left, no_more}
+use Rattle.scm_input.specs.Script.{Read, Batch, BrokenRead, Edit, Answer, BrokenEdit, Reply, no_events_left, no_more}
 use Rattle.scm_input.specs.Store.{Store}
-use Rattle.scm_record.specs.Session.{Session, after_frame, with_message, without_pending}
+use Rattle.scm_record.specs.Session.{Session, after_frame, message_text, with_message, without_pending}
 use Rattle.scm_record.specs.Frames.{Scene, scene_of}
 use Rattle.scm_record.specs.Uses.{shot_of}
 use Rattle.scm_record.specs.Step.{Change, change}
@@ -19,10 +19,10 @@ use Rattle.scm_record.specs.Step.{Change, change}
 pub record Setting : Type 0 where
   pub kind : TerminalKind
   pub reads : List Read
-  pub edits : List Edit
+  pub edits : List Reply
   pub store : Store
 
-abbrev pub setting : TerminalKind → List Read → List Edit → Store → Setting
+abbrev pub setting : TerminalKind → List Read → List Reply → Store → Setting
 setting kind reads edits store = record { kind = kind; reads = reads; edits = edits; store = store }
 
 -- a session, the screen, what is left of its script, the texts of the store, and how many frames were drawn
@@ -30,7 +30,7 @@ pub record World : Type 0 where
   pub session : Session
   pub kind : TerminalKind
   pub reads : List Read
-  pub edits : List Edit
+  pub edits : List Reply
   pub texts : List (Option (List ℕ))
   pub frames : ℕ
 
@@ -45,7 +45,7 @@ with_session w s = record w { session = s }
 abbrev pub with_reads : World → List Read → World
 with_reads w reads = record w { reads = reads }
 
-abbrev pub with_edits : World → List Edit → World
+abbrev pub with_edits : World → List Reply → World
 with_edits w edits = record w { edits = edits }
 
 abbrev pub with_text : World → ℕ → List ℕ → World
@@ -85,10 +85,10 @@ answered w commit (Answer text) =
     if is_short_text text then Goes (with_session w (with_message w.session commit text)) else Breaks too_long w
 answered w commit (BrokenEdit fault) = Breaks fault w
 
--- the first of the edits that are left
-abbrev pub edited : World → ℕ → List Edit → Outcome
+-- the message of the commit goes to the first of the edits that are left
+abbrev pub edited : World → ℕ → List Reply → Outcome
 edited w commit [] = answered (with_edits w []) commit no_more
-edited w commit (edit ∷ edits) = answered (with_edits w edits) commit edit
+edited w commit (reply ∷ edits) = answered (with_edits w edits) commit (reply (message_text w.session commit))
 
 -- what follows in a world whose session the event has changed: a screenshot is of the scene, or blank once the screen was cleared
 abbrev pub outcome_by : Scene → World → Flow → Outcome

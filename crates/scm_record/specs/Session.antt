@@ -1,11 +1,12 @@
 -- A session, as values: the state, what the user has selected, unfolded and opened, how far the screen is scrolled, whether it
 -- was cleared since the last frame, and what is pending. And what becomes of it by each thing that a user does to the document.
 use Rattle.std.specs.Prelude.{ℕ, ◌==◌, ◌≤◌, IsTrue, Bool, true, false, ◌&&◌, List, [], ◌∷◌, ◌++◌, filter, Option, Some, None, option_and_then, slice_get, if◌then◌else◌}
+use Rattle.std.specs.Option.{unwrap_or}
 use Rattle.scm_types.specs.declared.state.Commit.{Commit}
 use Rattle.scm_types.specs.declared.file.File.{File}
 use Rattle.scm_types.specs.declared.state.RecordState.{RecordState}
 use Rattle.scm_types.specs.Edits.{modify}
-use Rattle.scm_types.specs.Limits.{is_accepted_state}
+use Rattle.scm_types.specs.Limits.{is_accepted_state, max_scroll}
 use Rattle.scm_types.specs.declared.keys.SelectionKey.{SelectionKey}
 use Rattle.scm_types.specs.declared.keys.SelectionKey.TheVariants as keys
 use Rattle.scm_view.specs.declared.quit_dialog.QuitDialog.{QuitDialog}
@@ -47,7 +48,7 @@ shown_of s = record {
 -- a session that can be drawn: its state is within the limits, and the screen is not scrolled too far
 pub record IsDrawable (s : Session) : Type 0 where
   pub accepted : IsTrue (is_accepted_state s.state)
-  pub scroll : s.scroll ≤ 2000000
+  pub scroll : s.scroll ≤ max_scroll
 
 -- ---- the beginning
 
@@ -241,6 +242,10 @@ after_toggle_all_uniform s = with_files_changed with_all_set s
 -- the message of a commit, if there is one
 abbrev pub message_of : Session → ℕ → Option (List ℕ)
 message_of s i = option_and_then (λ (c : Commit). c.message) (slice_get s.state.commits i)
+
+-- its text, empty where there is none
+abbrev pub message_text : Session → ℕ → List ℕ
+message_text s i = unwrap_or (message_of s i) []
 
 abbrev pub commit_saying : List ℕ → Commit → Commit
 commit_saying text c = record c { message = Some text }

@@ -1,5 +1,6 @@
 -- What the steps ask of the frame last drawn: a screenshot, what a click hits, how far scrolling goes, where a key stands.
 use Rattle.std.specs.Prelude.{ℕ, ◌+◌, ◌-◌, ◌&&◌, ◌||◌, min, nat_le, nat_lt, Bool, List, replicate, Option, Some, None, option_map, if◌then◌else◌}
+use Rattle.scm_types.specs.Limits.{max_scroll}
 use Rattle.scm_cells.specs.Screen.{view_of}
 use Rattle.scm_view.specs.Blanks.{blank_row}
 use Rattle.scm_types.specs.declared.keys.SelectionKey.{SelectionKey}
@@ -11,10 +12,6 @@ use Rattle.scm_record.specs.Frames.{Scene}
 abbrev pub shot_of : Scene → Bool → List ℕ
 shot_of scene cleared =
     view_of (if cleared then replicate scene.height (blank_row scene.width) else scene.frame.rows)
-
--- the greatest scroll
-abbrev pub max_scroll : ℕ
-max_scroll = 2000000
 
 -- what a click hits, where the scroll is now s: nothing off the screen, and nothing past the greatest scroll
 abbrev pub hit : Scene → ℕ → ℕ → ℕ → Option ComponentId

@@ -2,19 +2,19 @@
 ghost use Rattle.std.specs.Prelude.{◌≡◌, ℕ, ◌<◌, ◌≤◌, ◌+◌, ◌^◌, IfErr, IfOk, IsTrue, OnOk, length, string_bytes};
 ghost use Rattle.scm_render.specs.Picture.{PictureInRange, part};
 ghost use Rattle.scm_errors.specs.declared.error.RecordError.TheVariants.{OutOfMemory};
-ghost use Rattle.scm_types.specs.Limits.{is_accepted_state};
+ghost use Rattle.scm_types.specs.Limits.{is_accepted_state, max_scroll};
 ghost use Rattle.scm_view.specs.declared.ids.ComponentId.TheVariants as ids;
 ghost use Rattle.scm_view.specs.Shown.{Shown};
 ghost use Rattle.scm_view.specs.Window.{IsPlain, ShowsInline, rows_of_box, window};
 ghost use Rattle.scm_record.specs.Frames.{HasSize, IsMapOf, IsShown, KnowsPlaces, Scene, frame_of_document, frame_of_view, is_plain, picture_of, scene_of};
 ghost use Rattle.scm_record.specs.Session.{Session, shown_of};
-ghost use Rattle.scm_record.specs.Uses.{ensured, held, hit, max_scroll, rows_above, scrolled_to, shot_of, top_in};
+ghost use Rattle.scm_record.specs.Uses.{ensured, held, hit, rows_above, scrolled_to, shot_of, top_in};
 
 use crate::views::Showing;
 use scm_cells::{Grid, Rect};
 use scm_input::TerminalKind;
 use scm_render::{DrawnRects, Viewport, find_target};
-use scm_types::RecordError;
+use scm_types::{RecordError, RecordState};
 use scm_view::{AppView, CommitViewMode, ComponentId, FrameIndex, SelectionKey, laws};
 use std::alloc::Global;
 
@@ -40,6 +40,7 @@ pub(crate) struct DrawnFrame {
 
 /// Draws a view on a cleared grid, whose first row shows this row of the document, and gives where each
 /// component was drawn. Where memory is refused the grid keeps its size.
+#[tactic(auto, using(scm_types::proofs::LimitLemmas::scroll_room))]
 fn render(
     alloc: Global,
     grid: &mut Grid,
@@ -234,10 +235,14 @@ impl DrawnFrame {
     }
 
     /// What a click on a row and column of the screen hits, where the screen is scrolled so far.
+    #[tactic(auto, unfolding(scm_types::specs::Limits::max_items, scm_types::specs::Limits::max_scroll))]
     pub(crate) fn hit(&self, scroll: usize, row: usize, column: usize) -> Option<ComponentId>
         ensures { (scene : Scene) → IsShown scene self.now → result ≡ hit scene scroll row column }
     {
-        if column < self.grid.width() && row < self.grid.height() && scroll <= 2_000_000 {
+        if column < self.grid.width()
+            && row < self.grid.height()
+            && scroll <= RecordState::MAX_SCROLL
+        {
             self.owner(scroll + row, column)
         } else {
             None
@@ -245,21 +250,25 @@ impl DrawnFrame {
     }
 
     /// A scroll as the frame holds it.
+    #[tactic(auto, unfolding(scm_types::specs::Limits::max_items, scm_types::specs::Limits::max_scroll))]
     pub(crate) fn held(&self, scroll: usize) -> usize
         ensures { (scene : Scene) → IsShown scene self.now → result ≡ held scene scroll }
     {
-        scroll.min(self.extent().saturating_sub(1).min(2_000_000))
+        scroll.min(self.extent().saturating_sub(1).min(RecordState::MAX_SCROLL))
     }
 
     /// The scroll that brings a key onto the screen.
+    #[tactic(auto, unfolding(scm_types::specs::Limits::max_items, scm_types::specs::Limits::max_scroll))]
     pub(crate) fn scroll_to(&self, scroll: usize, key: SelectionKey) -> usize
         ensures { (scene : Scene) → IsShown scene self.now → result ≡ ensured scene scroll key }
     {
         match self.span(key) {
             Some((top, rows)) => {
-                scrolled_to(self.grid.height(), scroll, rows_above(key), top, rows).min(2_000_000)
+                scrolled_to(self.grid.height(), scroll, rows_above(key), top, rows).min(
+                    RecordState::MAX_SCROLL,
+                )
             }
-            None => scroll.min(2_000_000),
+            None => scroll.min(RecordState::MAX_SCROLL),
         }
     }
 

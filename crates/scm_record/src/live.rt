@@ -1,12 +1,11 @@
 //! A session that a program drives: it hands in one event after the other, and looks at the
 //! screen after each.
-ghost use Rattle.std.specs.Prelude.{◌≡◌, ℕ, ◌+◌, ◌<◌, ◌≤◌, List, [], ◌∷◌, IfErr, IfOk, IsTrue, OnOk, length, string_bytes};
-ghost use Rattle.std.specs.Option.{unwrap_or};
+ghost use Rattle.std.specs.Prelude.{◌≡◌, ℕ, ◌+◌, ◌<◌, ◌≤◌, List, [], ◌∷◌, IfErr, IfOk, IsTrue, OnOk, Some, length, string_bytes};
 ghost use Rattle.scm_errors.specs.declared.error.RecordError.TheVariants.{OutOfMemory};
 ghost use Rattle.scm_types.specs.Limits.{is_accepted_state};
 ghost use Rattle.scm_input.specs.declared.inputs.TerminalKind.{TerminalKind};
-ghost use Rattle.scm_input.specs.Script.{Edit, Read};
-ghost use Rattle.scm_record.specs.Session.{IsDrawable, Session, after_frame, listed, message_of, shown_of, start, without_pending};
+ghost use Rattle.scm_input.specs.Script.{Read, Reply};
+ghost use Rattle.scm_record.specs.Session.{IsDrawable, Session, after_frame, listed, message_of, message_text, shown_of, start, without_pending};
 ghost use Rattle.scm_record.specs.Frames.{HasSize, IsShown, columns_of, rows_of, scene_of};
 ghost use Rattle.scm_record.specs.Run.{Within, world_in};
 ghost use Rattle.scm_record.specs.Calls.{AnswerFails, Answers, Call, Fails, HandleFails, Handles, IsRun, Leads, Path, live};
@@ -72,7 +71,7 @@ impl<'state> Model for Editing<'state> {
 
     ghost view = { λ l. record { session = l.selector; kind = l.kind; commit = l.commit } };
 
-    ghost invariant = { λ l. IsEditing l.kind l.selector l.frame };
+    ghost invariant = { λ l. IsEditing l.kind l.selector l.frame l.commit };
 }
 
 /// What follows a call.
@@ -114,9 +113,9 @@ fn settle<'state>(
     requires drawable { IsDrawable selector }
     requires calm { selector.pending ≡ [] }
     requires shown { (drawn : Session) × IsShown (scene_of kind drawn) frame }
-    ensures ok { IfOk result (λ turn. (drawn : Session) (reads : List Read) (edits : List Edit) (frames : ℕ) → IsShown (scene_of kind drawn) frame
+    ensures ok { IfOk result (λ turn. (drawn : Session) (reads : List Read) (edits : List Reply) (frames : ℕ) → IsShown (scene_of kind drawn) frame
         → Leads (Within drawn (world_in (live kind reads edits) selector.entry frames) (event ∷ [])) kind reads edits turn) }
-    ensures err { IfErr result (λ e. (drawn : Session) (reads : List Read) (edits : List Edit) (frames : ℕ) → IsShown (scene_of kind drawn) frame
+    ensures err { IfErr result (λ e. (drawn : Session) (reads : List Read) (edits : List Reply) (frames : ℕ) → IsShown (scene_of kind drawn) frame
         → Fails (Within drawn (world_in (live kind reads edits) selector.entry frames) (event ∷ [])) e) }
 {
     let mut selector = selector;
@@ -257,9 +256,10 @@ impl<'state> Editing<'state> {
         self.commit
     }
 
-    /// Its message, empty where there is none.
+    /// Its message: a session asks for no other.
     pub fn message(&self) -> &str
-        ensures { result.now ≡ unwrap_or (message_of self.now.session self.now.commit) [] }
+        ensures text { result.now ≡ message_text self.now.session self.now.commit }
+        ensures said { message_of self.now.session self.now.commit ≡ Some result.now }
     {
         self.selector.message(self.commit)
     }
@@ -270,8 +270,8 @@ impl<'state> Editing<'state> {
     /// It is an answer of the same text, so that it is a step of a run too, and takes memory for that
     /// text. To end the session in place of this, let go of it.
     pub fn keep(self) -> Result<Turn<'state>, RecordError>
-        ensures ok { IfOk result (λ turn. Answers self.entry (unwrap_or (message_of self.entry.session self.entry.commit) []) turn) }
-        ensures err { IfErr result (λ e. AnswerFails self.entry (unwrap_or (message_of self.entry.session self.entry.commit) []) e) }
+        ensures ok { IfOk result (λ turn. Answers self.entry (message_text self.entry.session self.entry.commit) turn) }
+        ensures err { IfErr result (λ e. AnswerFails self.entry (message_text self.entry.session self.entry.commit) e) }
     {
         let text = copied(self.selector.allocator(), self.message())?;
         self.answer(text)

@@ -5,9 +5,9 @@ ghost use Rattle.scm_types.specs.declared.state.RecordState.{RecordState};
 ghost use Rattle.scm_types.specs.Limits.{is_accepted_state, is_short_text};
 ghost use Rattle.scm_input.specs.declared.events.Event.{Event};
 ghost use Rattle.scm_input.specs.declared.inputs.TerminalKind.{TerminalKind};
-ghost use Rattle.scm_input.specs.Script.{TakesOr, edit_of, no_more};
+ghost use Rattle.scm_input.specs.Script.{Replies, edit_of};
 ghost use Rattle.scm_input.specs.Store.{Store, count_up, with_frame};
-ghost use Rattle.scm_record.specs.Session.{IsDrawable, Session, after_frame, message_of, start};
+ghost use Rattle.scm_record.specs.Session.{IsDrawable, Session, after_frame, message_of, message_text, start};
 ghost use Rattle.scm_record.specs.Frames.{HasSize, IsShown, Scene, scene_of};
 ghost use Rattle.scm_record.specs.Uses.{shot_of};
 ghost use Rattle.scm_record.specs.Run.{Before, Within, Goes, World, batch, edited, kept_at, no_such_place, setting, too_long, world_in, HasOneEnd, Reaches, Stops};
@@ -15,7 +15,7 @@ ghost use Rattle.scm_record.specs.Turn.{BatchStops, Ceases, Follows, Handles, Is
 ghost use Rattle.scm_record.specs.Ending.{EndsWith, FailsWith};
 ghost use Rattle.scm_record.specs.Keeping.{IsKept};
 ghost use Rattle.scm_record.specs.Headline.{Headline};
-ghost use Rattle.scm_record.specs.StepCoherence.{StepKeepsCoherent, is_toggle_all};
+ghost use Rattle.scm_record.specs.StepCoherence.{StepKeepsCoherent};
 
 use crate::frame::DrawnFrame;
 use crate::recording::Recorder;
@@ -66,7 +66,7 @@ fn ask(
     input: &mut dyn RecordInput,
     commit: usize,
 ) -> Result<String, RecordError>
-    ensures edit { TakesOr no_more (edit_of result) (edits input.old) (edits input.new) }
+    ensures edit { Replies (message_text selector.now commit) (edit_of result) (edits input.old) (edits input.new) }
     ensures reads { reads input.new ≡ reads input.old }
     ensures kind { kind input.new ≡ kind input.old }
 {
@@ -306,9 +306,8 @@ impl<'state> Recorder<'state> {
             IsTrue (is_accepted_state given) → self.entry ≡ start given → IsKept given state) }
         // without a message to edit no edit is taken
         ensures unedited { ((commit : ℕ) → message_of self.entry commit ≡ None) → edits input.new ≡ edits input.old }
-        // what each event but `ToggleAll` keeps
-        ensures coherent { (drawn : Session) (w : World) (event : Event) → is_toggle_all event ≡ false →
-            StepKeepsCoherent drawn w event }
+        // what every event keeps
+        ensures coherent { (drawn : Session) (w : World) (event : Event) → StepKeepsCoherent drawn w event }
         // what the screens show, what clicks act on, and when a run is accepted
         ensures headline { Headline self.entry
             (setting (kind input.old) (reads input.old) (edits input.old) screens.old)

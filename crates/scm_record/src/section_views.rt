@@ -137,6 +137,7 @@ fn section_view<'a>(
 }
 
 /// What is shown of the sections of a file, which have together no more lines than a state may have.
+#[tactic(auto, using(scm_types::proofs::LimitLemmas::items_room))]
 pub(crate) fn section_views<'a>(
     showing: &Showing<'_>,
     alloc: Global,

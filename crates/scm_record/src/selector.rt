@@ -74,12 +74,11 @@ impl<'state> Model for Selector<'state> {
 }
 
 impl<'state> Selector<'state> {
-    ghost use Rattle.std.specs.Prelude.{◌≡◌, ◌↔◌, ◌<◌, ◌≤◌, [], IfErr, IfOk, IsTrue, OnOk, length, string_bytes};
-    ghost use Rattle.std.specs.Option.{unwrap_or};
+    ghost use Rattle.std.specs.Prelude.{◌≡◌, ◌↔◌, ◌<◌, ◌≤◌, IfErr, IfOk, IsTrue, OnOk, length, string_bytes};
     ghost use Rattle.scm_errors.specs.declared.error.RecordError.TheVariants.{OutOfMemory};
     ghost use Rattle.scm_types.specs.Limits.{is_accepted_state};
     ghost use Rattle.scm_record.specs.Frames.{IsShown, Scene};
-    ghost use Rattle.scm_record.specs.Session.{after_frame, after_select, at_key, listed, message_of, shown_of, start, with_ensure, with_message, with_pushed, without_pending};
+    ghost use Rattle.scm_record.specs.Session.{after_frame, after_select, at_key, listed, message_text, shown_of, start, with_ensure, with_message, with_pushed, without_pending};
     ghost use Rattle.scm_record.specs.Step.{change};
 
     /// A session over the state, to which commits without a message are added up to two.
@@ -241,7 +240,7 @@ impl<'state> Selector<'state> {
 
     /// The message of a commit, empty where there is none.
     pub(crate) fn message(&self, commit: usize) -> &str
-        ensures { result.now ≡ unwrap_or (message_of self.now commit) [] }
+        ensures { result.now ≡ message_text self.now commit }
     {
         match self.state.commits.as_slice().get(commit) {
             Some(

@@ -34,8 +34,8 @@ pub trait Component: Sized {
     fn id(&self) -> Self::Id
         ensures { result ≡ key self.now };
 
-    /// Draws the component with its corner at a column and a row of the document. Where
-    /// memory is refused the frame is to be given up; the viewport's rectangle is as before.
+    /// Draws the component with its corner at a column and a row of the document. Refused with
+    /// `OutOfMemory` alone; the frame is then to be given up, and the viewport's rectangle is as before.
     fn draw(
         &self,
         alloc: Global,

@@ -82,8 +82,9 @@ fn id_of<K: Copy + Drop>(found: Option<(K, DrawnRect)>) -> Option<K>
     }
 }
 
-/// What a click on the point in row `y` and column `x` hits: of the clickable boxes that hold it, the
-/// latest.
+/// What a click on the point in row `y` and column `x` hits, for ids that `==` tells apart: the id of a
+/// clickable box of the map that holds the point, where none of those boxes is later, and `None` only
+/// where there is none. In a map of all boxes of a drawing no two have one time.
 pub fn find_target<K: Copy + Eq + Hash + Drop + Clickable>(
     boxes: &DrawnRects<K>,
     y: isize,

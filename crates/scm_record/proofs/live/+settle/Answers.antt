@@ -3,10 +3,10 @@ use Rattle.std.proofs.lemmas.Result.{err_from_is_err_and, IfOk-weaker, IfErr-wea
 use Rattle.scm_record.specs.Session.{Session, after_frame, listed}
 use Rattle.scm_record.specs.Frames.{IsShown, scene_of}
 use Rattle.scm_record.specs.Run.{world_in, Within, Reaches}
-use Rattle.scm_input.specs.Script.{Read, Edit}
+use Rattle.scm_input.specs.Script.{Read, Reply}
 use Rattle.scm_record.specs.Calls.{live}
 use Rattle.scm_record.proofs.Budget.{rank}
-use Rattle.scm_record.proofs.LiveLemmas.{changed-few, changed-drawable, changed-falls, drawn-drawable, leads-after, fails-after, fails-memory, goes, ends, edits, gives-up, lacks-place, calm-session, comes-to-wait, comes-to-handle, shown-sized}
+use Rattle.scm_record.proofs.LiveLemmas.{changed-few, changed-said, changed-drawable, changed-falls, drawn-drawable, leads-after, fails-after, fails-memory, goes, ends, edits, gives-up, lacks-place, calm-session, comes-to-wait, comes-to-handle, shown-sized}
 use Rattle.scm_record.proofs.live.+settle.Goals as goal
 
 pub returns-in_err-change-clause-err : goal.returns-in_err-change-clause-err
@@ -62,7 +62,7 @@ settle-requires t c =
 now-shown : (t : ℕ) (c : goal.After-settle t) → IsShown (scene_of c.args.kind (after_frame c.change.new.self)) c.advance.new.frame
 now-shown t c = c.in_ok-advance-in-GoOn.ensures.shown c.args.kind (shown-sized c.args.kind c.requires.shown.0 c.args.frame c.requires.shown.1)
 
-path : (t : ℕ) (c : goal.After-settle t) (drawn : Session) (reads : List Read) (edits : List Edit) (frames : ℕ) → IsShown (scene_of c.args.kind drawn) c.args.frame
+path : (t : ℕ) (c : goal.After-settle t) (drawn : Session) (reads : List Read) (edits : List Reply) (frames : ℕ) → IsShown (scene_of c.args.kind drawn) c.args.frame
     → Reaches (Within drawn (world_in (live c.args.kind reads edits) c.args.selector frames) (c.args.event ∷ [])) (Within (after_frame c.change.new.self) (world_in (live c.args.kind reads edits) c.advance.new.selector (frames + 1)) (c.in-Some.next ∷ []))
 path t c drawn reads edits frames h =
     let some : c.in-Some.next ∷ [] ≡ c.change.new.self.pending = ap listed (sym c.in-Some.is) ∙ c.in_ok-advance-in-GoOn.ensures.taken in
@@ -104,6 +104,7 @@ invariant_of-result-in-Edit t c =
         few = changed-few (scene_of c.args.kind c.requires.shown.0) c.args.selector c.change.new.self c.args.event c.in_ok-change.field-0 is c.requires.calm;
       };
       sized = shown-sized c.args.kind c.requires.shown.0 c.args.frame c.requires.shown.1;
+      said = changed-said (scene_of c.args.kind c.requires.shown.0) c.args.selector c.change.new.self c.args.event c.in_ok-change.field-0 is c.in-Edit.commit c.in-Edit.is;
     }
 
 pub returns-in-Edit-clause-ok : goal.returns-in-Edit-clause-ok

@@ -1,10 +1,9 @@
-use Rattle.std.proofs.Common.{◌≡◌, ◌∙◌, ap, sym, refl, true, false, Some}
+use Rattle.std.proofs.Common.{◌≡◌, ◌∙◌, ap, sym, refl, true, false}
 use Rattle.std.specs.Prelude.{is_some, position}
 use Rattle.scm_selection.specs.KeySet.{has_key, is_key}
 use Rattle.scm_selection.specs.KeyLists.{is_visible, visible_keys}
 use Rattle.scm_selection.proofs.WalkLemmas.{Once, once-kept}
 use Rattle.scm_record.specs.Pages.{page_from, towards}
-use Rattle.scm_record.specs.Uses.{top_in}
 use Rattle.scm_record.proofs.PageLemmas.{among-towards, page-there, page-away}
 use Rattle.scm_record.proofs.pages.page_key.Goals as goal
 

@@ -1,4 +1,5 @@
 use Rattle.std.proofs.Common.{◌≡◌, ◌∙◌, ◌+◌, ◌++◌, ◌∷◌, drop, append-nil, ap, sym, arith}
+use Rattle.scm_types.proofs.LimitLemmas.{items_room}
 use Rattle.scm_types.specs.Marks.{is_editable_section}
 use Rattle.scm_types.specs.declared.keys.SectionKey.{SectionKey}
 use Rattle.scm_types.specs.Keys.{section_key_of}
@@ -6,6 +7,12 @@ use Rattle.scm_view.specs.Shown.{Totals, section_view_of, section_views_of, tota
 use Rattle.scm_record.specs.Views.{lent_section, lent_sections}
 use Rattle.scm_record.proofs.ViewLemmas.{pushed, at_most_one_more, section_views-more, section_views-end, old_lines-more}
 use Rattle.scm_record.proofs.section_views.section_views.Goals as goal
+
+pub with-before-requires-clause-lines : goal.with-before-requires-clause-lines
+with-before-requires-clause-lines c =
+    let sections = c.args.sections.now in
+    let lines = rw (sym c.index-sections-index.is) at (old_lines-more c.loop-index.index sections c.index-sections-index.result c.loop-index-test.true) in
+    omega (arith, items_room)
 
 pub loop-index-preserved : goal.loop-index-preserved
 loop-index-preserved c =

@@ -1,4 +1,5 @@
 use Rattle.std.proofs.Common.{ℕ, ◌≤◌, sym, ap, ◌∙◌, subst}
+use Rattle.scm_types.specs.Limits.{max_scroll}
 use Rattle.scm_record.specs.Live.{Live}
 use Rattle.scm_record.specs.Frames.{scene_of}
 use Rattle.scm_record.specs.Uses.{hit}
@@ -14,4 +15,4 @@ pub returns-clause-owner : goal.returns-clause-owner
 returns-clause-owner c = λ inline is_row is_column.
     returns-clause-hit c
     ∙ inline-owner c.args.self.now.kind c.args.self.now.session c.args.row c.args.column inline
-    (subst (λ (l : Live). l.session.scroll ≤ 2000000) c.self.view_is c.self.invariant.calm.drawable.scroll) is_row is_column
+    (subst (λ (l : Live). l.session.scroll ≤ max_scroll) c.self.view_is c.self.invariant.calm.drawable.scroll) is_row is_column

@@ -1,4 +1,3 @@
-use Rattle.std.proofs.Common.{◌≡◌, sym, ◌∙◌, ap}
 use Rattle.scm_record.proofs.selector.Selector.previous_key.Goals as goal
 
 pub returns : goal.returns

@@ -1,0 +1,23 @@
+use Rattle.std.proofs.Common.{◌≡◌, ◌∙◌, ℕ, ◌+◌, ◌-◌, ap, sym, arith}
+use Rattle.std.specs.Prelude.{min}
+use Rattle.scm_types.proofs.LimitLemmas.{scroll_room}
+use Rattle.scm_types.specs.Limits.{max_scroll}
+use Rattle.scm_record.specs.Change.{stays}
+use Rattle.scm_record.specs.Dialogs.{unless_asked}
+use Rattle.scm_record.specs.Session.{Session, with_scroll}
+use Rattle.scm_record.specs.Uses.{held}
+use Rattle.scm_record.proofs.selector.Selector.scroll_down.Goals as goal
+
+-- a row past the greatest number is held where any row past the greatest scroll is
+capped : (n e : ℕ) → min n (min max_scroll e) ≡ min (min n 18446744073709551615) (min max_scroll e)
+capped n e = omega (arith, scroll_room)
+
+pub returns : goal.returns
+returns c scene shown =
+    let s = c.args.self.now in
+    let at : c.scroll_to.inside.scroll ≡ s.scroll = ap (λ (t : Session). t.scroll) c.scroll_to.view_is in
+    let row : c.saturating_add.result ≡ min (s.scroll + c.args.rows) 18446744073709551615 =
+    c.saturating_add.ensures ∙ ap (λ n. min (n + c.args.rows) 18446744073709551615) at in
+    let same : held scene (s.scroll + c.args.rows) ≡ held scene c.saturating_add.result =
+    capped (s.scroll + c.args.rows) (scene.frame.extent - 1) ∙ sym (ap (held scene) row) in
+    ap (λ n. unless_asked s (stays (with_scroll s n))) same ∙ c.scroll_to-2.ensures scene shown
