@@ -14,3 +14,5 @@ pub mod Windows
 pub mod Screens
 -- what events make of small sessions
 pub mod Steps
+-- the largest states that are accepted
+pub mod Limits

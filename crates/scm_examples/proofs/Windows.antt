@@ -1,7 +1,7 @@
 -- Whole screens computed from the definitions: what they show, who owns some of their points, where keys stand, and how many rows
 -- all of it spans.
 use Rattle.std.proofs.Common.{◌≡◌, ℕ, refl, [], ◌∷◌}
-use Rattle.std.specs.Prelude.{codes, Some, None, Option, List, ◌++◌, true, false, replicate}
+use Rattle.std.specs.Prelude.{codes, encode_utf8_all, Some, None, Option, List, ◌++◌, true, false, replicate}
 use Rattle.std.specs.Str.{trim_start, trim_end}
 use Rattle.scm_types.specs.declared.file.File.{File}
 use Rattle.scm_types.specs.declared.line.ChangeType.{ChangeType}
@@ -15,6 +15,8 @@ use Rattle.scm_view.specs.declared.quit_dialog.QuitDialogButtonId.TheVariants.{Q
 use Rattle.scm_view.specs.declared.ids.ComponentId.TheVariants as ids
 use Rattle.scm_view.specs.declared.commit_view.CommitViewMode.TheVariants as mode
 use Rattle.scm_view.specs.Shown.{Shown}
+use Rattle.scm_record.specs.Frames.{Scene, frame_of_document}
+use Rattle.scm_record.specs.Uses.{shot_of}
 use Rattle.scm_view.specs.Texts.{message_text}
 use Rattle.scm_view.specs.Window.{layers, rows_from, owner, span, extent}
 use Rattle.scm_examples.proofs.Computing.{documents, owners, screens, blanks, quoted, shot, file_key, section_key, line_key, file_of, item}
@@ -56,17 +58,40 @@ three_sections =
 abbrev with_message : Shown
 with_message = session (Some (codes "hello")) (file_of (codes "f") [] ∷ []) file_key []
 
+-- a screen on which the folded file was drawn last
+abbrev drawn : Scene
+drawn = record { width = 20; height = 5; frame = frame_of_document 20 5 0 folded; open_menu = None }
+
 abbrev asked : Shown
 asked = record (session None (file_of (codes "f") [] ∷ []) file_key []) { quit_dialog = Some (record { num_commit_messages = 0; num_changed_files = 1; focused_button = Quit }) }
 
 abbrev no_files : Shown
 no_files = session None [] keys.None []
 
+-- a path of wide symbols
+abbrev wide_path : Shown
+wide_path = session None (file_of (encode_utf8_all (codes "日本語")) [] ∷ []) file_key []
+
 -- ---- what screens show
 
 folded_shot : shot 20 5 0 folded ≡ quoted (codes "[File] [Edit] [Selec") ++ (quoted (codes "( ) foo/bar      (+)") ++ (quoted (blanks 20) ++ (quoted (blanks 20) ++ quoted (blanks 20))))
 unfolding screens
 folded_shot = refl
+
+-- once the screen was cleared it is blank until the next frame
+redraw_shots :
+    (shot_of drawn true ≡ quoted (blanks 20) ++ (quoted (blanks 20) ++ (quoted (blanks 20) ++ (quoted (blanks 20) ++ quoted (blanks 20)))))
+    × (shot_of drawn false ≡ shot 20 5 0 folded)
+unfolding screens
+redraw_shots = (refl, refl)
+
+-- a path is cut with an ellipsis, and a symbol is never cut in half
+wide_path_shots :
+    (shot 13 2 0 wide_path ≡ quoted (codes "[File] [Edit]") ++ quoted (codes "( ) 日本語(+)"))
+    × (shot 12 2 0 wide_path ≡ quoted (codes "[File] [Edit") ++ quoted (codes "( ) 日本…(+)"))
+    × (shot 11 2 0 wide_path ≡ quoted (codes "[File] [Edi") ++ quoted (codes "( ) 日 …(+)"))
+unfolding screens
+wide_path_shots = (refl, refl, refl)
 
 two_changes_shot : shot 24 8 0 two_changes
     ≡ quoted (codes "[File] [Edit] [Select] [") ++ (quoted (codes "[◐] f                [-]") ++ (quoted (codes "        1 a⏎            ") ++ (quoted (codes "  (◐) Section 1/1    (-)") ++ (quoted (codes "    [ ] - b⏎            ") ++ (quoted (codes "    [●] + c⏎            ") ++ (quoted (blanks 24) ++ quoted (blanks 24)))))))

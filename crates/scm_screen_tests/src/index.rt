@@ -2,7 +2,7 @@
 use crate::given::{number_of, session_of, state_of};
 use scm_record::{
     CommitViewMode, ComponentId, FileKey, LineKey, LiveSession, QuitDialogButtonId, RecordError,
-    RowIndex, RowPlace, SectionKey, SelectionKey, TerminalKind,
+    RecordState, RowIndex, RowPlace, SectionKey, SelectionKey, TerminalKind,
 };
 use scm_view::FrameIndex;
 use std::alloc::{AllocError, Global};
@@ -256,6 +256,7 @@ const OWNERS: &str = "
 ";
 
 /// The index of the frame that shows a session, with one commit, on so many columns and rows from this row on.
+#[tactic(auto, unfolding(scm_types::specs::Limits::max_items, scm_types::specs::Limits::max_scroll))]
 fn frame_index(
     rt: &impl Abort,
     alloc: Global,
@@ -266,7 +267,7 @@ fn frame_index(
     let (width, height) = size;
     assert!(rt; 10 <= width);
     assert!(rt; 2 <= height);
-    assert!(rt; scroll <= 2_000_000);
+    assert!(rt; scroll <= RecordState::MAX_SCROLL);
     let showing = session.showing();
     let view = showing.app_view(alloc)?;
     assert!(rt; matches!(&view.commit_view_mode, CommitViewMode::Inline));

@@ -8,4 +8,6 @@ mod given;
 #[cfg(test)]
 mod index;
 #[cfg(test)]
+mod owners;
+#[cfg(test)]
 mod painted;

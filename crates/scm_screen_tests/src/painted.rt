@@ -1,6 +1,9 @@
 //! What is painted of a frame is what its components draw, with as many rows and calls, from whatever row on.
 use crate::given::{number_of, session_of, state_of};
-use scm_record::{CommitViewMode, Grid, LiveSession, RecordError, TerminalKind, Viewport};
+use scm_record::{
+    CommitViewMode, ComponentId, DrawnRects, Grid, LiveSession, RecordError, RecordState,
+    TerminalKind, Viewport,
+};
 use scm_view::laws;
 use std::alloc::Global;
 use std::process::Abort;
@@ -16,6 +19,7 @@ const SESSIONS: &str = "
 ";
 
 /// Paints what a session shows of one commit.
+#[tactic(auto, unfolding(scm_types::specs::Limits::max_items, scm_types::specs::Limits::max_scroll))]
 fn paint(
     rt: &impl Abort,
     alloc: Global,
@@ -25,30 +29,30 @@ fn paint(
 ) -> Result<(), RecordError> {
     assert!(rt; 10 <= grid.width());
     assert!(rt; 2 <= grid.height());
-    assert!(rt; scroll <= 2_000_000);
+    assert!(rt; scroll <= RecordState::MAX_SCROLL);
     let showing = session.showing();
     let view = showing.app_view(alloc)?;
     assert!(rt; matches!(&view.commit_view_mode, CommitViewMode::Inline));
     view.paint(alloc, grid, scroll)
 }
 
-/// Draws what a session shows by its components, on a cleared grid.
-fn draw(
+/// Draws what a session shows by its components, on a cleared grid, and answers their boxes.
+#[tactic(auto, unfolding(scm_types::specs::Limits::max_items, scm_types::specs::Limits::max_scroll))]
+pub(crate) fn draw(
     rt: &impl Abort,
     alloc: Global,
     session: &LiveSession<'_>,
     grid: &mut Grid,
     scroll: usize,
-) -> Result<(), RecordError> {
-    assert!(rt; scroll <= 2_000_000);
+) -> Result<DrawnRects<ComponentId>, RecordError> {
+    assert!(rt; scroll <= RecordState::MAX_SCROLL);
     let showing = session.showing();
     let view = showing.app_view(alloc)?;
     laws::apps_are_in_range();
     assert!(rt; grid.width() <= 65_535);
     assert!(rt; grid.height() <= 65_535);
     grid.clear();
-    let _ = Viewport::render_top_level(alloc, grid, 0, scroll as isize, &view)?;
-    Ok(())
+    Viewport::render_top_level(alloc, grid, 0, scroll as isize, &view)
 }
 
 /// Checks that two grids show the same, and that as much was drawn.
@@ -74,7 +78,7 @@ fn check_session(
     let mut drawn = Grid::new(alloc, size.0, size.1)?;
     for scroll in 0..count {
         paint(rt, alloc, session, &mut painted, scroll)?;
-        draw(rt, alloc, session, &mut drawn, scroll)?;
+        let _ = draw(rt, alloc, session, &mut drawn, scroll)?;
         check_alike(rt, &painted, &drawn)?;
     }
     Ok(())

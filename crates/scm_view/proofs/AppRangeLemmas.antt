@@ -1,9 +1,10 @@
 -- All that the selector draws of a session is in range.
-use Rattle.std.proofs.Common.{◌≡◌, ℕ, zero, suc, ◌-◌, ◌*◌, ◌/◌, ◌≤◌, ℤ, pos, ◌+ℤ◌, ◌≤ℤ◌, Bool, true, false, List, [], ◌∷◌, length, take, refl, arith}
+use Rattle.std.proofs.Common.{◌≡◌, ℕ, zero, suc, ◌-◌, ◌*◌, ◌/◌, ◌≤◌, ℤ, pos, ◌+ℤ◌, ◌≤ℤ◌, Bool, true, false, List, [], ◌∷◌, length, take, refl, arith, ◌+◌, ◌^◌}
 use Rattle.std.specs.Prelude.{min, Option, Some, None}
 use Rattle.std.specs.Int.{int_min, int_max}
 use Rattle.std.proofs.lemmas.List.{length-take}
-use Rattle.scm_types.specs.Limits.{is_accepted_state}
+use Rattle.scm_types.proofs.LimitLemmas.{scroll_room}
+use Rattle.scm_types.specs.Limits.{is_accepted_state, max_scroll}
 use Rattle.scm_cells.proofs.RectLemmas.{places}
 use Rattle.scm_render.specs.Picture.{PictureInRange, box_rect, part}
 use Rattle.scm_render.specs.Canvas.{under}
@@ -23,7 +24,7 @@ use Rattle.scm_view.specs.Screens.{sight}
 use Rattle.scm_view.specs.Overlays.{quit_picture, help_picture}
 use Rattle.scm_view.specs.AppView.{views_shown, view_width, shown_views, view_mask, view_picture, next_view, views_picture, has_help, app_picture, ShowInOrder, ShowsSession}
 use Rattle.scm_view.proofs.LimitLemmas.{commits-in-range}
-use Rattle.scm_view.proofs.RangeLemmas.{bar-range, dialog-range}
+use Rattle.scm_view.proofs.RangeLemmas.{screen-here, bar-range, dialog-here}
 use Rattle.scm_view.proofs.FixedLemmas.{short_bar, short_quit, short_help}
 use Rattle.scm_view.proofs.AppLemmas.{apply-columns}
 
@@ -32,7 +33,7 @@ use Rattle.scm_view.proofs.AppLemmas.{apply-columns}
 held-close : (x : ℤ) (w : ℕ) → w ≤ 65535 → IsClose (int_min (int_max x (pos 0)) (pos 0 +ℤ pos w))
 held-close x w h = record { low = omega (arith, places, h); high = omega (arith, places, h) }
 
-close-sight : (w h s n : ℕ) (x : ℤ) → w ≤ 65535 → s ≤ 2000000 → SightIsClose (under (view_mask (sight w h s) x n) (sight w h s))
+close-sight : (w h s n : ℕ) (x : ℤ) → w ≤ 65535 → s ≤ max_scroll → SightIsClose (under (view_mask (sight w h s) x n) (sight w h s))
 close-sight w h s n x pw ps = record {
   x = record { low = omega (arith, places); high = omega (arith, places) };
   end_x = record { low = omega (arith, places); high = omega (arith, places, pw) };
@@ -40,7 +41,7 @@ close-sight w h s n x pw ps = record {
   mask_y = record { low = omega (arith, places); high = omega (arith, places, ps) };
 }
 
-close-column : (x : ℤ) (l : ℕ) → pos 0 ≤ℤ x → (x +ℤ pos (65536 * suc l)) ≤ℤ pos 10000000 → IsClose x
+close-column : (x : ℤ) (l : ℕ) → pos 0 ≤ℤ x → (x +ℤ pos (65536 * suc l)) ≤ℤ pos (max_scroll + 2 ^ 17) → IsClose x
 close-column x l p q = record { low = p; high = omega (arith, places, q) }
 
 close-row : IsClose (pos 1)
@@ -49,11 +50,11 @@ close-row = record { low = omega (arith, places); high = omega (arith, places) }
 step-low : (x : ℤ) (k : ℕ) → pos 0 ≤ℤ x → pos 0 ≤ℤ ((x +ℤ pos k) +ℤ pos 1)
 step-low x k p = omega (arith, places, p)
 
-step-high : (x : ℤ) (k n c m l : ℕ) → k ≤ min (n - c) m → n ≤ 65535 → (x +ℤ pos (65536 * suc l)) ≤ℤ pos 10000000 → (((x +ℤ pos k) +ℤ pos 1) +ℤ pos (65536 * l)) ≤ℤ pos 10000000
+step-high : (x : ℤ) (k n c m l : ℕ) → k ≤ min (n - c) m → n ≤ 65535 → (x +ℤ pos (65536 * suc l)) ≤ℤ pos (max_scroll + 2 ^ 17) → (((x +ℤ pos k) +ℤ pos 1) +ℤ pos (65536 * l)) ≤ℤ pos (max_scroll + 2 ^ 17)
 step-high x k n c m l p q r = omega (arith, places, p, q, r)
 
-views-in : (shown : Shown) (vs : List CommitView) (commit n w h s : ℕ) (x : ℤ) → is_accepted_state shown.state ≡ true → ShowInOrder vs shown commit → w ≤ 65535 → s ≤ 2000000 → n ≤ 65535
-    → pos 0 ≤ℤ x → (x +ℤ pos (65536 * length vs)) ≤ℤ pos 10000000 → PictureInRange (views_picture vs n (sight w h s) x)
+views-in : (shown : Shown) (vs : List CommitView) (commit n w h s : ℕ) (x : ℤ) → is_accepted_state shown.state ≡ true → ShowInOrder vs shown commit → w ≤ 65535 → s ≤ max_scroll → n ≤ 65535
+    → pos 0 ≤ℤ x → (x +ℤ pos (65536 * length vs)) ≤ℤ pos (max_scroll + 2 ^ 17) → PictureInRange (views_picture vs n (sight w h s) x)
 unfolding views_picture
 views-in shown [] commit n w h s x a shows pw ps pn low high = PictureInRange-nothing
 views-in shown (v ∷ vs) commit n w h s x a shows pw ps pn low high =
@@ -79,32 +80,32 @@ narrow-view Adjacent w h = at-most ((w - 1) / 2)
     at-most : (n : ℕ) → min 120 n ≤ 65535
     at-most n = omega arith
 
-first-columns : (l : ℕ) → l ≤ 2 → (pos 0 +ℤ pos (65536 * l)) ≤ℤ pos 10000000
+first-columns : (l : ℕ) → l ≤ 2 → (pos 0 +ℤ pos (65536 * l)) ≤ℤ pos (max_scroll + 2 ^ 17)
 first-columns l h = omega (arith, places, h)
 
 -- ---- what lies over them
 
-bar-in : (w h s : ℕ) (b : MenuBar) (menu : Option ℕ) → b ≡ menus_with menu → w ≤ 65535 → s ≤ 2000000 → PictureInRange (menu_bar_picture b (sight w h s) (pos 0) (pos s))
-bar-in w h s b menu e pw ps = bar-range w h s b (omega (arith, pw)) (omega (arith, ps)) (rw e (short_bar menu))
+bar-in : (w h s : ℕ) (b : MenuBar) (menu : Option ℕ) → b ≡ menus_with menu → w ≤ 65535 → h ≤ 65535 → s ≤ max_scroll → PictureInRange (menu_bar_picture b (sight w h s) (pos 0) (pos s))
+bar-in w h s b menu e pw ph ps = bar-range w h s b (omega (arith, pw)) (omega (arith, ph)) (omega (arith, ps, scroll_room)) (rw e (short_bar menu))
 
-quit-in : (w h s : ℕ) (q : Option QuitDialog) → w ≤ 65535 → h ≤ 65535 → s ≤ 2000000 → PictureInRange (quit_picture q (sight w h s))
+quit-in : (w h s : ℕ) (q : Option QuitDialog) → w ≤ 65535 → h ≤ 65535 → s ≤ max_scroll → PictureInRange (quit_picture q (sight w h s))
 unfolding named_dialog_picture
 quit-in w h s None pw ph ps = PictureInRange-nothing
 quit-in w h s (Some q) pw ph ps =
-    PictureInRange-as_part ids.QuitDialog _ (PictureInRange-as_part ids.QuitDialog _ (dialog-range w h s (quit_dialog q) (omega (arith, pw)) (omega (arith, ph)) (omega (arith, ps)) (omega (arith, short_quit q))))
+    PictureInRange-as_part ids.QuitDialog _ (PictureInRange-as_part ids.QuitDialog _ (dialog-here (quit_dialog q) (sight w h s) (screen-here w h s (omega (arith, pw)) (omega (arith, ph)) (omega (arith, ps, scroll_room))) (omega (arith, short_quit q))))
 
-help-in : (w h s : ℕ) (is_shown : Bool) → w ≤ 65535 → h ≤ 65535 → s ≤ 2000000 → PictureInRange (help_picture is_shown (sight w h s))
+help-in : (w h s : ℕ) (is_shown : Bool) → w ≤ 65535 → h ≤ 65535 → s ≤ max_scroll → PictureInRange (help_picture is_shown (sight w h s))
 unfolding named_dialog_picture
 help-in w h s false pw ph ps = PictureInRange-nothing
 help-in w h s true pw ph ps =
-    PictureInRange-as_part ids.HelpDialog _ (PictureInRange-as_part ids.HelpDialog _ (dialog-range w h s help_dialog (omega (arith, pw)) (omega (arith, ph)) (omega (arith, ps)) (omega (arith, short_help))))
+    PictureInRange-as_part ids.HelpDialog _ (PictureInRange-as_part ids.HelpDialog _ (dialog-here help_dialog (sight w h s) (screen-here w h s (omega (arith, pw)) (omega (arith, ph)) (omega (arith, ps, scroll_room))) (omega (arith, short_help))))
 
-pub apps-in-range : (shown : Shown) (a : AppView) (w h s : ℕ) (y : ℤ) → is_accepted_state shown.state ≡ true → ShowsSession a shown → w ≤ 65535 → h ≤ 65535 → s ≤ 2000000
+pub apps-in-range : (shown : Shown) (a : AppView) (w h s : ℕ) (y : ℤ) → is_accepted_state shown.state ≡ true → ShowsSession a shown → w ≤ 65535 → h ≤ 65535 → s ≤ max_scroll
     → PictureInRange (part ids.App (app_picture a (sight w h s) (pos 0) y))
 unfolding app_picture
 apps-in-range shown a w h s y accepted shows pw ph ps =
     PictureInRange-as_part ids.App _ (PictureInRange-followed _ _
     (views-in shown (shown_views a) 0 (view_width a.commit_view_mode w) w h s (pos 0) accepted (show-first (views_shown a.commit_view_mode) shown a.commit_views 0 shows.views) pw ps (narrow-view a.commit_view_mode w pw)
     (omega (arith, places)) (first-columns (length (shown_views a)) (few-views a.commit_view_mode a.commit_views)))
-    (PictureInRange-followed _ _ (PictureInRange-as_part ids.MenuBar _ (bar-in w h s a.menu_bar shown.open_menu shows.menu_bar pw ps))
+    (PictureInRange-followed _ _ (PictureInRange-as_part ids.MenuBar _ (bar-in w h s a.menu_bar shown.open_menu shows.menu_bar pw ph ps))
     (PictureInRange-followed _ _ (quit-in w h s a.quit_dialog pw ph ps) (help-in w h s (has_help a.help_dialog) pw ph ps))))

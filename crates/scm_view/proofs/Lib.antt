@@ -35,6 +35,7 @@ pub mod OverlayLemmas
 pub mod DocumentLemmas
 pub mod AppLemmas
 pub mod AppRangeLemmas
+pub mod ComponentRangeLemmas
 pub mod AppShapeLemmas
 pub mod BoxLemmas
 pub mod OwnerLemmas

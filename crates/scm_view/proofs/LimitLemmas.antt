@@ -1,5 +1,5 @@
 -- From the limits of an accepted state: how many rows its document has, and that each text of it is narrow.
-use Rattle.std.proofs.Common.{◌≡◌, ℕ, zero, suc, ◌+◌, ◌-◌, ◌*◌, ◌/◌, ◌%◌, ◌≤◌, ◌^◌, Bool, true, false, cond, ◌==◌, ℤ, List, [], ◌∷◌, ◌++◌, length, length-append, take, drop, map, refl, ap, arith}
+use Rattle.std.proofs.Common.{◌≡◌, ℕ, zero, suc, ◌+◌, ◌-◌, ◌*◌, ◌/◌, ◌%◌, ◌≤◌, ◌^◌, Bool, true, false, cond, ◌==◌, ℤ, pos, List, [], ◌∷◌, ◌++◌, length, length-append, take, drop, map, refl, ap, arith}
 use Rattle.std.specs.Prelude.{◌&&◌, if◌then◌else◌, nat_le, sum_by, Option, Some, None, codes, encode_utf8_all, decimal, option_map}
 use Rattle.std.specs.Char.{encode_utf8, is_whitespace}
 use Rattle.std.specs.Fmt.{digits, digits_onto, digit_glyph}
@@ -8,6 +8,7 @@ use Rattle.std.specs.Str.{trim, trim_start, trim_end, chars, chars_after, skip_l
 use Rattle.std.proofs.lemmas.List.Sums.{sum_by-cons}
 use Rattle.std.proofs.lemmas.List.{length-take}
 use Rattle.std.proofs.lemmas.Str.{length-encode, len_utf8_bounds}
+use Rattle.scm_types.proofs.LimitLemmas.{items_room, scroll_room}
 use Rattle.scm_types.specs.declared.file.File.{File}
 use Rattle.scm_types.specs.declared.line.SectionChangedLine.{SectionChangedLine}
 use Rattle.scm_types.specs.declared.line.ChangeType.{ChangeType}
@@ -20,10 +21,11 @@ use Rattle.scm_types.specs.declared.tristate.Tristate.{Tristate}
 use Rattle.scm_types.specs.declared.tristate.Tristate.TheVariants as tristate
 use Rattle.scm_types.specs.Marks.{is_editable_section}
 use Rattle.scm_types.specs.declared.file_mode.FileMode.{FileMode as AnyMode}
-use Rattle.scm_types.specs.Limits.{is_short_text, is_short_option, has_short_texts, has_short_texts_in_file, is_accepted_state, section_size, file_size, state_size}
+use Rattle.scm_types.specs.Limits.{is_short_text, is_short_option, has_short_texts, has_short_texts_in_file, is_accepted_state, section_size, file_size, state_size, max_items, max_text}
 use Rattle.scm_cells.specs.Clusters.{text_width}
 use Rattle.scm_cells.specs.Replaced.{line_pieces}
 use Rattle.scm_cells.proofs.BoundLemmas.{text_width-le}
+use Rattle.scm_cells.proofs.RectLemmas.{places}
 use Rattle.scm_cells.proofs.ReplacedLemmas.{text_width-line_pieces}
 use Rattle.scm_render.specs.Picture.{PictureInRange}
 use Rattle.scm_render.specs.Canvas.{Sight}
@@ -40,17 +42,18 @@ use Rattle.scm_view.specs.Pictures.{commit_picture}
 use Rattle.scm_types.specs.Keys.{section_key_of}
 use Rattle.scm_view.specs.Shown.{Shown, Shows, lent, Totals, totals_of, section_view_of, section_views_of, file_view_of, file_views_of, commit_at, commit_view_of, old_lines}
 use Rattle.scm_view.specs.Close.{IsClose, SightIsClose}
+use Rattle.scm_view.specs.Here.{IsHere, SightIsHere}
 use Rattle.scm_view.proofs.Near.{IsNarrow, IsNarrowBox, IsNarrowHeading, AreNarrow, AreNarrowSections, IsNarrowFile, AreNarrowFiles, IsNarrowMessage}
 use Rattle.scm_view.proofs.SectionsLemmas.{at_most, height-of, length-sections}
 use Rattle.scm_view.proofs.NearLemmas.{document-near}
 
 -- ---- tests that pass
 
-first_true : (a b : Bool) → (a && b) ≡ true → a ≡ true
+pub first_true : (a b : Bool) → (a && b) ≡ true → a ≡ true
 first_true true b h = refl
 first_true false b h = absurd (cc h)
 
-second_true : (a b : Bool) → (a && b) ≡ true → b ≡ true
+pub second_true : (a b : Bool) → (a && b) ≡ true → b ≡ true
 second_true true b h = h
 second_true false b h = absurd (cc h)
 
@@ -155,7 +158,7 @@ length-bracketed true focused t = omega (arith, length-append t (codes ">"))
 length-bracketed false true t = omega (arith, length-append t (codes ")"))
 length-bracketed false false t = omega (arith, length-append t (codes "]"))
 
-box-narrow : (b : IdBox) → IsNarrowBox b
+pub box-narrow : (b : IdBox) → IsNarrowBox b
 box-narrow b =
     let icon = icon_text b.use_unicode b.icon_style b.tristate in
     narrow (box_text b) (omega (arith, length-bracketed b.is_read_only b.is_focused icon, length-icon b.use_unicode b.icon_style b.tristate))
@@ -168,8 +171,8 @@ mode-narrow : (m : AnyMode) → IsNarrow (mode_change_text m ∷ [])
 mode-narrow (mode.Unix bits) = narrow-one (mode_change_text (mode.Unix bits)) (omega (arith, length-append (codes "File mode set to ") (digits 8 false bits), length-digits 8 false bits))
 mode-narrow mode.Absent = narrow-one (mode_change_text mode.Absent) (omega arith)
 
-short : (t : List ℕ) → is_short_text t ≡ true → length t ≤ 1000000
-short t h = within (length t) 1000000 h
+pub short : (t : List ℕ) → is_short_text t ≡ true → length t ≤ max_text
+short t h = within (length t) max_text h
 
 binary-narrow : (old new : Option (List ℕ)) → is_short_option old ≡ true → is_short_option new ≡ true → IsNarrow (binary_text old new ∷ [])
 binary-narrow (Some old) (Some new) p q =
@@ -181,21 +184,21 @@ binary-narrow None (Some new) p q =
     narrow-one (codes "(binary contents: " ++ (new ++ codes ")")) (omega (arith, length-append (codes "(binary contents: ") (new ++ codes ")"), length-append new (codes ")"), short new q))
 binary-narrow None None p q = narrow-one (codes "(binary contents )") (omega arith)
 
-path-narrow : (old : Option (List ℕ)) (path : List ℕ) → is_short_option old ≡ true → is_short_text path ≡ true → IsNarrow (path_text old path ∷ [])
+pub path-narrow : (old : Option (List ℕ)) (path : List ℕ) → is_short_option old ≡ true → is_short_text path ≡ true → IsNarrow (path_text old path ∷ [])
 path-narrow None path p q = narrow-one path (omega (arith, short path q))
 path-narrow (Some old) path p q =
     narrow-one (old ++ (codes " => " ++ path)) (omega (arith, length-append old (codes " => " ++ path), short old p, short path q))
 
-line-narrow : (front line : List ℕ) → length front ≤ 200 → is_short_text line ≡ true → IsNarrow (line_texts front line)
+pub line-narrow : (front line : List ℕ) → length front ≤ 200 → is_short_text line ≡ true → IsNarrow (line_texts front line)
 unfolding texts_width
 line-narrow front line h p =
     omega (arith, sum_by-cons text_width front (line_pieces line), text_width-le front, text_width-line_pieces line, short line p)
 
-length-sign : (c : ChangeType) → length (sign_text c) ≤ 200
+pub length-sign : (c : ChangeType) → length (sign_text c) ≤ 200
 length-sign Added = omega arith
 length-sign Removed = omega arith
 
-length-number : (n : ℕ) → length (number_text n) ≤ 200
+pub length-number : (n : ℕ) → length (number_text n) ≤ 200
 length-number n =
     omega (arith, length-append (repeat (5 - length (decimal n)) (codes " ")) (decimal n ++ codes " "), length-spaces (5 - length (decimal n)), length-append (decimal n) (codes " "), length-digits 10 false n)
 
@@ -204,14 +207,14 @@ unfolding encode_utf8
 dots-narrow true = narrow (dots_text true) (omega arith)
 dots-narrow false = narrow (dots_text false) (omega arith)
 
-message-narrow : (m : Option (List ℕ)) → is_short_option m ≡ true → IsNarrowMessage m
+pub message-narrow : (m : Option (List ℕ)) → is_short_option m ≡ true → IsNarrowMessage m
 unfolding message_text
 message-narrow None h = tt
 message-narrow (Some m) h =
     let line = before_first (λ b. b == 10) m in
     go (length (trim line) == 0) (omega (arith, length-trim line, length-before (λ b. b == 10) m, short m h))
   where
-    go : (b : Bool) → length (trim (before_first (λ b. b == 10) m)) ≤ 16000000 → IsNarrow ((if b then codes "(no message)" else trim (before_first (λ b. b == 10) m)) ∷ [])
+    go : (b : Bool) → length (trim (before_first (λ b. b == 10) m)) ≤ 16 * max_text → IsNarrow ((if b then codes "(no message)" else trim (before_first (λ b. b == 10) m)) ∷ [])
     go true k = narrow-one (codes "(no message)") (omega arith)
     go false k = narrow-one (trim (before_first (λ b. b == 10) m)) (omega (arith, k))
 
@@ -259,7 +262,7 @@ some-narrow : (b : Bool) (rs : List DocRow) → AreNarrow rs → AreNarrow (if b
 some-narrow true rs h = h
 some-narrow false rs h = tt
 
-heading-narrow : (h : Heading) → IsNarrow (h.title ∷ []) → IsNarrowHeading h
+pub heading-narrow : (h : Heading) → IsNarrow (h.title ∷ []) → IsNarrowHeading h
 heading-narrow h w = record { toggle = box-narrow h.toggle; fold = box-narrow h.fold; title = w }
 
 pub rows-narrow : (v : SectionView) (section : Section) → has_short_texts section ≡ true → AreNarrow (rows_of v section)
@@ -271,11 +274,11 @@ rows-narrow v (Binary checked old new) h = ((box-narrow (section_box v checked),
 
 -- ---- narrow sections and files
 
-sections-append : (ps qs : List ShownSection) → AreNarrowSections ps → AreNarrowSections qs → AreNarrowSections (ps ++ qs)
+pub sections-append : (ps qs : List ShownSection) → AreNarrowSections ps → AreNarrowSections qs → AreNarrowSections (ps ++ qs)
 sections-append [] qs p q = q
 sections-append (a ∷ ps) qs p q = (p.0, sections-append ps qs p.1 q)
 
-shown-narrow : (b : Bool) (v : SectionView) → has_short_texts v.section.now ≡ true → AreNarrowSections (shown_section b v)
+pub shown-narrow : (b : Bool) (v : SectionView) → has_short_texts v.section.now ≡ true → AreNarrowSections (shown_section b v)
 unfolding section_rows
 shown-narrow true v h = (rows-narrow v v.section.now h, tt)
 shown-narrow false v h = tt
@@ -289,7 +292,7 @@ sections-narrow s totals k before i editable line (section ∷ more) h =
     sections-append (shown_section _ v) _ (shown-narrow _ v (first_true (has_short_texts section) (list_all has_short_texts more) h))
     (sections-narrow s totals k (is_open v) (suc i) _ _ more (second_true (has_short_texts section) (list_all has_short_texts more) h))
 
-shown_if-narrow : (b : Bool) (ps : List ShownSection) → AreNarrowSections ps → AreNarrowSections (if b then ps else [])
+pub shown_if-narrow : (b : Bool) (ps : List ShownSection) → AreNarrowSections ps → AreNarrowSections (if b then ps else [])
 shown_if-narrow true ps h = h
 shown_if-narrow false ps h = tt
 
@@ -337,7 +340,7 @@ rows-few v (Changed ls) = go (is_fold_open v.expand_box)
 rows-few v (FileMode checked m) = omega arith
 rows-few v (Binary checked old new) = omega arith
 
-shown-few : (b : Bool) (v : SectionView) → length (sections_rows (shown_section b v)) ≤ 2 * section_size v.section.now + 1
+pub shown-few : (b : Bool) (v : SectionView) → length (sections_rows (shown_section b v)) ≤ 2 * section_size v.section.now + 1
 unfolding sections_rows section_rows
 shown-few true v = omega (arith, length-append (rows_of v v.section.now) [], height-of v v.section.now, rows-few v v.section.now)
 shown-few false v = omega arith
@@ -382,6 +385,13 @@ short-commit n [] h = refl
 short-commit zero (c ∷ cs) h = first_true (is_short_option c.message) (list_all (λ (c : Commit). is_short_option c.message) cs) h
 short-commit (suc n) (c ∷ cs) h = short-commit n cs (second_true (is_short_option c.message) (list_all (λ (c : Commit). is_short_option c.message) cs) h)
 
+-- close places are here
+close-here : (z : ℤ) → IsClose z → IsHere z
+close-here z c = record { low = omega (arith, places, c.low); high = omega (arith, places, c.high, scroll_room) }
+
+sight-here : (s : Sight) → SightIsClose s → SightIsHere s
+sight-here s c = record { x = close-here _ c.x; end_x = close-here _ c.end_x; mask_x = close-here _ c.mask_x; mask_y = close-here _ c.mask_y }
+
 pub commits-in-range : (shown : Shown) (commit : ℕ) (v : CommitView) (s : Sight) (x y : ℤ) → is_accepted_state shown.state ≡ true → Shows v shown commit
     → SightIsClose s → IsClose x → IsClose y → PictureInRange (commit_picture v s x y)
 unfolding commit_picture
@@ -389,32 +399,32 @@ commits-in-range shown commit v s x y a e c p q =
     let cs = shown.state.commits in
     let fs = shown.state.files in
     let messages = list_all (λ (c : Commit). is_short_option c.message) cs in
-    let size = nat_le (state_size shown.state) 1000000 in
+    let size = nat_le (state_size shown.state) max_items in
     let texts = list_all has_short_texts_in_file fs in
     let two = nat_le (length cs) 2 in
     let first = first_true ((two && messages) && size) texts a in
-    let few : state_size shown.state ≤ 1000000 = within (state_size shown.state) 1000000 (second_true (two && messages) size first) in
-    rw e (document-near (document_of (commit_view_of shown commit)) s x y c p q (omega (arith, files-few shown commit 0 fs, few))
+    let few : state_size shown.state ≤ max_items = within (state_size shown.state) max_items (second_true (two && messages) size first) in
+    rw e (document-near (document_of (commit_view_of shown commit)) s x y (sight-here s c) (close-here x p) (close-here y q) (omega (arith, files-few shown commit 0 fs, few, items_room))
     (record { message = message-narrow _ (short-commit commit cs (second_true two messages (first_true (two && messages) size first))); files = files-narrow shown commit 0 fs (second_true ((two && messages) && size) texts a) }))
 
 -- an accepted state has few rows
-pub few-rows : (shown : Shown) (commit : ℕ) (v : CommitView) → is_accepted_state shown.state ≡ true → Shows v shown commit → length (files_rows (map shown_file v.file_views)) ≤ 3000000
+pub few-rows : (shown : Shown) (commit : ℕ) (v : CommitView) → is_accepted_state shown.state ≡ true → Shows v shown commit → length (files_rows (map shown_file v.file_views)) ≤ 2 ^ 42
 few-rows shown commit v a e =
     let cs = shown.state.commits in
     let fs = shown.state.files in
     let messages = list_all (λ (c : Commit). is_short_option c.message) cs in
-    let size = nat_le (state_size shown.state) 1000000 in
+    let size = nat_le (state_size shown.state) max_items in
     let texts = list_all has_short_texts_in_file fs in
     let two = nat_le (length cs) 2 in
     let first = first_true ((two && messages) && size) texts a in
-    let few : state_size shown.state ≤ 1000000 = within (state_size shown.state) 1000000 (second_true (two && messages) size first) in
+    let few : state_size shown.state ≤ max_items = within (state_size shown.state) max_items (second_true (two && messages) size first) in
     let same = ap (λ (d : Document). length (files_rows d.files)) e in
-    omega (arith, same, files-few shown commit 0 fs, few)
+    omega (arith, same, files-few shown commit 0 fs, few, items_room)
 
 pub message-most : (m : Option (List ℕ)) → message_height m ≤ 3
 message-most None = omega arith
 message-most (Some text) = omega arith
 
 -- and a document of an accepted session too
-pub session-few : (shown : Shown) (commit : ℕ) (v : CommitView) → is_accepted_state shown.state ≡ true → Shows v shown commit → length (files_rows (document_of v).files) ≤ 4000000
+pub session-few : (shown : Shown) (commit : ℕ) (v : CommitView) → is_accepted_state shown.state ≡ true → Shows v shown commit → length (files_rows (document_of v).files) ≤ 2 ^ 43
 session-few shown commit v a e = omega (arith, few-rows shown commit v a e)

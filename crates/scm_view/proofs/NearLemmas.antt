@@ -3,6 +3,7 @@ use Rattle.std.proofs.Common.{◌≡◌, ℕ, ◌+◌, ◌≤◌, ◌^◌, Bool,
 use Rattle.std.specs.Int.{int_min, int_max}
 use Rattle.std.specs.Prelude.{int_lt, min, ◌==◌, Option, Some, None}
 use Rattle.std.specs.Char.{encode_utf8}
+use Rattle.scm_types.proofs.LimitLemmas.{scroll_room}
 use Rattle.scm_cells.proofs.BoundLemmas.{text_width-le}
 use Rattle.scm_render.specs.Centring.{centred, centred_gap}
 use Rattle.scm_cells.specs.Clusters.{text_width}
@@ -14,7 +15,7 @@ use Rattle.scm_render.specs.Picture.{PictureInRange}
 use Rattle.scm_render.specs.Canvas.{Sight, under}
 use Rattle.scm_render.specs.Drawing.{row_rect, reach, texts_width, span_picture, line_picture, text_picture, blank_picture}
 use Rattle.scm_render.proofs.PictureLemmas.{PictureInRange-as_part, PictureInRange-followed, PictureInRange-if, PictureInRange-nothing, PictureInRange-covering}
-use Rattle.scm_view.specs.Close.{IsClose, SightIsClose}
+use Rattle.scm_view.specs.Here.{IsHere, SightIsHere}
 use Rattle.scm_view.proofs.Near.{IsNear, SightIsNear, IsNarrow, IsNarrowBox, IsNarrowHeading, IsNarrowRow, AreNarrow, AreNarrowSections, IsNarrowFile, AreNarrowFiles, IsNarrowMessage, IsNarrowDocument}
 use Rattle.scm_view.specs.Texts.{box_text, button_text, divider_text, message_text, no_files_text}
 use Rattle.scm_view.specs.Rows.{IdBox, Heading, DocRow, HeaderRow, SectionRow, LineRow, MarkRow, ContextRow, DotsRow, BlankRow, ShownSection, ShownFile, Document, sections_rows, file_rows, message_height}
@@ -255,29 +256,29 @@ no_files-near s x y n p q p2 q2 =
     below : (z : ℤ) (g : ℕ) → IsNear (z +ℤ pos 65535) → g ≤ 65535 → (z +ℤ (pos 0 +ℤ pos g)) ≤ℤ pos (2 ^ 60 + 100)
     below z g n h = omega (arith, places)
 
--- close places are near, and so is what is not far from them
-close-near : (z : ℤ) (n : ℕ) → IsClose z → n ≤ 2 ^ 59 → IsNear (z +ℤ pos n)
-close-near z n c h = record { low = omega (arith, places); high = omega (arith, places) }
+-- places that are here are near, and so is what is not far from them
+here-near : (z : ℤ) (n : ℕ) → IsHere z → n ≤ 2 ^ 59 → IsNear (z +ℤ pos n)
+here-near z n c h = record { low = omega (arith, places); high = omega (arith, places) }
 
-still-near : (z : ℤ) → IsClose z → IsNear z
+still-near : (z : ℤ) → IsHere z → IsNear z
 still-near z c = record { low = omega (arith, places); high = omega (arith, places) }
 
-then-near : (z : ℤ) (n m : ℕ) → IsClose z → n ≤ 3 → m ≤ 2 ^ 59 → IsNear ((z +ℤ pos n) +ℤ pos m)
+then-near : (z : ℤ) (n m : ℕ) → IsHere z → n ≤ 3 → m ≤ 2 ^ 59 → IsNear ((z +ℤ pos n) +ℤ pos m)
 then-near z n m c h k = record { low = omega (arith, places); high = omega (arith, places) }
 
 height-small : (m : Option (List ℕ)) → message_height m ≤ 3
 height-small None = omega arith
 height-small (Some m) = omega arith
 
-pub document-near : (d : Document) (s : Sight) (x y : ℤ) → SightIsClose s → IsClose x → IsClose y → length (files_rows d.files) ≤ 2 ^ 59 → IsNarrowDocument d → PictureInRange (document_picture d s x y)
+pub document-near : (d : Document) (s : Sight) (x y : ℤ) → SightIsHere s → IsHere x → IsHere y → length (files_rows d.files) ≤ 2 ^ 59 → IsNarrowDocument d → PictureInRange (document_picture d s x y)
 unfolding document_picture
 document-near d s x y c p q h w =
     let n : SightIsNear s = record { x = still-near _ c.x; end_x = still-near _ c.end_x; mask_x = still-near _ c.mask_x } in
     let px = still-near x p in
     let py = still-near y q in
     let three = height-small d.message in
-    PictureInRange-followed _ _ (PictureInRange-as_part _ _ (message-near d.commit d.message s x y n px py (close-near y 1 q (omega arith)) w.message))
+    PictureInRange-followed _ _ (PictureInRange-as_part _ _ (message-near d.commit d.message s x y n px py (here-near y 1 q (omega arith)) w.message))
     (PictureInRange-if (length d.files == 0) _ _
-    (no_files-near s x y n px py (close-near x 65535 p (omega arith)) (close-near y 65535 q (omega arith)))
-    (files-near d.files s x (y +ℤ pos (message_height d.message)) n (still-near _ c.mask_y) px (close-near x 2 p (omega arith)) (close-near y (message_height d.message) q (omega arith))
+    (no_files-near s x y n px py (here-near x 65535 p (omega arith)) (here-near y 65535 q (omega arith)))
+    (files-near d.files s x (y +ℤ pos (message_height d.message)) n (still-near _ c.mask_y) px (here-near x 2 p (omega arith)) (here-near y (message_height d.message) q (omega arith))
     (then-near y (message_height d.message) (length (files_rows d.files)) q three h) w.files))

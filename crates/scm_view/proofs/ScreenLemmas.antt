@@ -2,6 +2,8 @@
 use Rattle.std.proofs.Common.{◌≡◌, ℕ, ◌≤◌, List, replicate, ap, arith}
 use Rattle.std.proofs.lemmas.List.{length-replicate}
 use Rattle.std.specs.Prelude.{ℤ, pos, None}
+use Rattle.scm_types.proofs.LimitLemmas.{scroll_room}
+use Rattle.scm_types.specs.Limits.{max_scroll}
 use Rattle.scm_cells.specs.Rect.{RectInRange}
 use Rattle.scm_cells.specs.Screen.{Screen, blank_screen}
 use Rattle.scm_cells.proofs.RectLemmas.{places}
@@ -13,12 +15,12 @@ use Rattle.scm_view.specs.Blanks.{blank_row}
 use Rattle.scm_view.specs.Screens.{screen, sight}
 
 -- a screen that isn't scrolled too far is in range
-pub screen-in_range : (w h s : ℕ) → w ≤ 65535 → h ≤ 65535 → s ≤ 2000000 → RectInRange (screen w h s)
+pub screen-in_range : (w h s : ℕ) → w ≤ 65535 → h ≤ 65535 → s ≤ max_scroll → RectInRange (screen w h s)
 screen-in_range w h s p q r = record {
-  x = record { low = omega (arith, places); high = omega (arith, places) };
-  end_x = record { low = omega (arith, places); high = omega (arith, places) };
-  y = record { low = omega (arith, places); high = omega (arith, places) };
-  end_y = record { low = omega (arith, places); high = omega (arith, places) };
+  x = record { low = omega (arith, places, scroll_room); high = omega (arith, places, scroll_room) };
+  end_x = record { low = omega (arith, places, scroll_room); high = omega (arith, places, scroll_room) };
+  y = record { low = omega (arith, places, scroll_room); high = omega (arith, places, scroll_room) };
+  end_y = record { low = omega (arith, places, scroll_room); high = omega (arith, places, scroll_room) };
 }
 
 -- a cleared grid is the screen

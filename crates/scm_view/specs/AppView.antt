@@ -1,7 +1,7 @@
 -- All that the selector shows: the documents of commits, the menu bar, and the dialogs that are open.
 use Rattle.std.specs.Prelude.{◌≡◌, ℕ, suc, ◌-◌, ◌/◌, ◌≤◌, min, ℤ, pos, ◌+ℤ◌, ◌-ℤ◌, List, [], ◌∷◌, length, take, Bool, true, false, Option, Some, None}
 use Rattle.std.specs.Int.{int_min, int_max}
-use Rattle.scm_types.specs.Limits.{is_accepted_state}
+use Rattle.scm_types.specs.Limits.{is_accepted_state, max_scroll}
 use Rattle.scm_cells.specs.Rect.{or_zero, end_x_of}
 use Rattle.scm_cells.specs.Mask.{apply_of}
 use Rattle.scm_cells.specs.declared.rect.Rect.{Rect}
@@ -124,4 +124,4 @@ AppsAreDrawnAlike = (shown : Shown) (a : AppView) (s : Sight) (x y : ℤ) → Sh
 abbrev pub AppsAreInRange : Type 0
 AppsAreInRange =
     (shown : Shown) (a : AppView) (w h s : ℕ) (y : ℤ) → is_accepted_state shown.state ≡ true → ShowsSession a shown
-    → w ≤ 65535 → h ≤ 65535 → s ≤ 2000000 → PictureInRange (part ids.App (app_picture a (sight w h s) (pos 0) y))
+    → w ≤ 65535 → h ≤ 65535 → s ≤ max_scroll → PictureInRange (part ids.App (app_picture a (sight w h s) (pos 0) y))

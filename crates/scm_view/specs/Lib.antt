@@ -24,6 +24,10 @@ pub mod Places
 pub mod FilesRows
 -- Places that are close to the document's corner.
 pub mod Close
+-- Places that are not far from the document's corner.
+pub mod Here
+-- What each component draws alone is in range.
+pub mod ComponentRanges
 -- Whose ids the rows of a document have.
 pub mod Owners
 -- What follows from the definitions.
@@ -40,6 +44,8 @@ pub mod Tables
 pub mod Screens
 -- Which components a click acts on.
 pub mod Clicks
+-- The test of ids.
+pub mod SameIds
 -- What lies over the document: the menu bar, the quit dialog and the help.
 pub mod Overlays
 -- All that the selector shows.

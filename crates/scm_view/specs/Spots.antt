@@ -2,6 +2,7 @@
 -- 65,536 columns left of the screen, since a dialog's buttons may begin left of it.
 use Rattle.std.specs.Prelude.{ℕ, suc, ◌+◌, ◌-◌, ◌≤◌, min, List, [], ◌∷◌, ◌++◌, length, if◌then◌else◌, Option, Some, None}
 use Rattle.std.specs.Prelude.{Bool, true, false}
+use Rattle.scm_types.specs.Limits.{max_text}
 use Rattle.scm_types.specs.declared.keys.FileKey.{FileKey}
 use Rattle.scm_types.specs.declared.keys.SelectionKey.TheVariants as selection
 use Rattle.scm_render.specs.Centring.{centred_gap, centred_size}
@@ -63,10 +64,10 @@ abbrev pub open_height : Option (ℕ × Menu) → ℕ
 open_height None = 0
 open_height (Some m) = length m.1.items
 
--- an open menu of few columns and rows
+-- an open menu of no more columns, and no more rows, than a text within its limit has bytes
 abbrev pub IsShortMenu : Option (ℕ × Menu) → Type 0
 IsShortMenu None = Unit {0}
-IsShortMenu (Some m) = (m.0 + widest_item m.1.items ≤ 100000000) × (length m.1.items ≤ 100000000)
+IsShortMenu (Some m) = (m.0 + widest_item m.1.items ≤ max_text) × (length m.1.items ≤ max_text)
 
 -- the menu bar with its open menu
 abbrev pub bar_spots : ℕ → ℕ → MenuBar → List Spot

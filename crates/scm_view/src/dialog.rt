@@ -1,5 +1,6 @@
 //! Dialogs.
 ghost use Rattle.std.specs.Prelude.{◌≡◌, ◌<◌, ◌≤◌, ◌+◌, ◌^◌, min, ◌++◌, OnOk, IfOk, IfErr};
+ghost use Rattle.scm_types.specs.Limits.{max_scroll};
 ghost use Rattle.scm_errors.specs.declared.error.RecordError.TheVariants.{OutOfMemory};
 ghost use Rattle.scm_view.specs.Dialogs.{shown_dialog as as_shown};
 ghost use Rattle.scm_view.specs.Spots.{dialog_run, dialog_spots};
@@ -100,11 +101,12 @@ fn bordered(size: usize) -> usize
 
 /// Where a dialog with these lines stands, in the middle of a screen of so many columns and rows, whose
 /// first row shows this row of the document.
+#[tactic(auto, using(scm_types::proofs::LimitLemmas::scroll_room))]
 fn place_of(width: u16, height: u16, row: usize, lines: &[&str]) -> Standing
-    requires { row ≤ 100000000 }
+    requires { row ≤ max_scroll }
     ensures place { result ≡ standing_of width height row (body_texts lines.now) }
     ensures right { result.left + result.width ≤ 2 ^ 17 }
-    ensures below { result.top + result.height ≤ 2 ^ 30 }
+    ensures below { result.top + result.height ≤ 2 ^ 42 }
 {
     let (columns, left) = middle(usize::from(width), bordered(widest_line(lines)), 60);
     let (rows, top) = middle(usize::from(height), bordered(lines.len()), 20);
@@ -119,6 +121,7 @@ fn place_of(width: u16, height: u16, row: usize, lines: &[&str]) -> Standing
 impl<'a> Dialog<'a, ComponentId> {
     /// Adds the spots of the dialog, on a screen of so many columns and rows, whose first row shows this
     /// row of the document, and gives its first row and the row below its last.
+    #[tactic(auto, using(scm_types::proofs::LimitLemmas::scroll_room))]
     pub(crate) fn push_spots(
         &self,
         alloc: Global,
@@ -127,7 +130,7 @@ impl<'a> Dialog<'a, ComponentId> {
         height: u16,
         row: usize,
     ) -> Result<(usize, usize), RecordError>
-        requires { row ≤ 100000000 }
+        requires { row ≤ max_scroll }
         ensures rows { IfOk result (λ r. r ≡ dialog_run width height row (as_shown self.now)) }
         ensures ok { OnOk result (spots.new.items ≡ spots.old.items ++ dialog_spots width height row (as_shown self.now)) }
         ensures err { IfErr result (λ e. e ≡ OutOfMemory) }

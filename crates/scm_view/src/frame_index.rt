@@ -1,5 +1,6 @@
 //! The index of a frame that is shown inline.
 ghost use Rattle.std.specs.Prelude.{◌≡◌, ◌<◌, ◌≤◌, ◌^◌, ◌++◌, ℕ, nat_lt, if◌then◌else◌, None, Some, option_map, IfOk, IfErr, OnOk};
+ghost use Rattle.scm_types.specs.Limits.{max_scroll};
 ghost use Rattle.scm_errors.specs.declared.error.RecordError.TheVariants.{OutOfMemory};
 ghost use Rattle.scm_view.specs.Shown.{Shown};
 ghost use Rattle.scm_view.specs.Window.{IsPlain, ShowsInline, extent, owner, span};
@@ -83,7 +84,7 @@ fn push_quit(
     row: usize,
     dialog: &Option<QuitDialog>,
 ) -> Result<Option<(usize, usize)>, RecordError>
-    requires { row ≤ 100000000 }
+    requires { row ≤ max_scroll }
     ensures rows { IfOk result (λ r. r ≡ option_map (λ q. dialog_run width height row (quit_dialog q)) dialog.now) }
     ensures ok { OnOk result (spots.new.items ≡ spots.old.items ++ quit_spots width height row dialog.now) }
     ensures err { IfErr result (λ e. e ≡ OutOfMemory) }
@@ -103,7 +104,7 @@ fn push_help(
     row: usize,
     dialog: &Option<HelpDialog>,
 ) -> Result<Option<(usize, usize)>, RecordError>
-    requires { row ≤ 100000000 }
+    requires { row ≤ max_scroll }
     ensures rows { IfOk result (λ r. r ≡ (if has_help dialog.now then Some (dialog_run width height row help_dialog) else None)) }
     ensures ok { OnOk result (spots.new.items ≡ spots.old.items ++ help_spots width height row (has_help dialog.now)) }
     ensures err { IfErr result (λ e. e ≡ OutOfMemory) }
@@ -117,6 +118,7 @@ fn push_help(
 impl FrameIndex {
     /// The index of what a view shows on a screen of so many columns and rows, whose first row shows
     /// this row of the document.
+    #[tactic(auto, using(scm_types::proofs::LimitLemmas::scroll_room))]
     pub fn new(
         alloc: Global,
         view: &AppView<'_>,
@@ -125,7 +127,7 @@ impl FrameIndex {
         scroll: usize,
     ) -> Result<FrameIndex, RecordError>
         requires shows { ShowsInline view.now width height }
-        requires scroll { scroll ≤ 2000000 }
+        requires scroll { scroll ≤ max_scroll }
         ensures ok { IfOk result (λ index. (shown : Shown) → IsPlain view.now shown width height → IsIndexOf width height scroll shown index) }
         ensures err { IfErr result (λ e. e ≡ OutOfMemory) }
     {

@@ -1,5 +1,6 @@
 //! The dialog with the keyboard shortcuts.
 ghost use Rattle.std.specs.Prelude.{◌≡◌, ◌≤◌, ◌++◌, OnOk, IfOk, IfErr};
+ghost use Rattle.scm_types.specs.Limits.{max_scroll};
 ghost use Rattle.scm_errors.specs.declared.error.RecordError.TheVariants.{OutOfMemory};
 ghost use Rattle.scm_render.specs.Drawing.{body_texts};
 ghost use Rattle.scm_view.specs.Tables.{help_lines, close_button, help_dialog as shown_help};
@@ -59,6 +60,7 @@ fn close_button() -> Button<'static, ComponentId>
 impl HelpDialog {
     /// Adds the spots of the dialog, on a screen of so many columns and rows, whose first row shows this
     /// row of the document, and gives its first row and the row below its last.
+    #[tactic(auto, using(scm_types::proofs::LimitLemmas::scroll_room))]
     pub(crate) fn push_spots(
         &self,
         alloc: Global,
@@ -67,7 +69,7 @@ impl HelpDialog {
         height: u16,
         row: usize,
     ) -> Result<(usize, usize), RecordError>
-        requires { row ≤ 100000000 }
+        requires { row ≤ max_scroll }
         ensures rows { IfOk result (λ r. r ≡ dialog_run width height row shown_help) }
         ensures ok { OnOk result (spots.new.items ≡ spots.old.items ++ dialog_spots width height row shown_help) }
         ensures err { IfErr result (λ e. e ≡ OutOfMemory) }

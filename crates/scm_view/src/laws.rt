@@ -1,6 +1,8 @@
 //! Laws of the view: what follows from its definitions for each session that is drawn.
 ghost use Rattle.scm_view.specs.AppView.{AppsAreInRange, AppsAreDrawnAlike};
+ghost use Rattle.scm_view.specs.ComponentRanges.{ComponentsAreInRange};
 ghost use Rattle.scm_view.specs.Laws.{CommitsAreInRange, DocumentsArePainted, SectionsOwnTheirColumns};
+ghost use Rattle.scm_view.specs.SameIds.{IdsAreToldApart};
 ghost use Rattle.scm_view.specs.Window.{
   AppsHaveExtents,
   AppsShowWindows,
@@ -10,7 +12,7 @@ ghost use Rattle.scm_view.specs.Window.{
 };
 
 /// All that is drawn of a commit is in range, for each view that shows a session with an accepted
-/// state, on a screen of at most 65,535 columns and rows that lies at most 2,000,000 rows down.
+/// state, on a screen of at most 65,535 columns and rows that lies at most `RecordState::MAX_SCROLL` rows down.
 pub fn commits_are_in_range()
     ensures { CommitsAreInRange }
 {}
@@ -28,9 +30,22 @@ pub fn sections_own_their_columns()
 {}
 
 /// All that the selector draws is in range, for each `AppView` that shows a session with an accepted
-/// state, on a screen of at most 65,535 columns and rows that lies at most 2,000,000 rows down.
+/// state, on a screen of at most 65,535 columns and rows that lies at most `RecordState::MAX_SCROLL` rows down.
 pub fn apps_are_in_range()
     ensures { AppsAreInRange }
+{}
+
+/// What each component draws alone is in range: at most 2^50 columns and rows from the document's
+/// corner, on the screen or off it and under any mask, with texts within the limit of a state's. This
+/// is the condition of its `draw`, whoever calls it.
+pub fn components_are_in_range()
+    ensures { ComponentsAreInRange }
+{}
+
+/// `==` tells ids apart: of two ids it says `true` just if they are the same. So laws on boxes hold of
+/// the map that `render_top_level` answers.
+pub fn ids_are_told_apart()
+    ensures { IdsAreToldApart }
 {}
 
 /// What is drawn depends on the session alone: each `AppView` that shows it is drawn as the view that

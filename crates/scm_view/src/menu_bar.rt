@@ -1,5 +1,6 @@
 //! The bar of menus on the screen's first row.
 ghost use Rattle.std.specs.Prelude.{◌≡◌, ◌+◌, ◌<◌, ◌≤◌, ◌^◌, ◌++◌, Some, pos, ◌+ℤ◌, length, OnOk, IfOk, IfErr};
+ghost use Rattle.scm_types.specs.Limits.{max_text};
 ghost use Rattle.scm_cells.specs.Rect.{InRange};
 ghost use Rattle.scm_render.specs.Picture.{PictureInRange};
 ghost use Rattle.scm_render.specs.Canvas.{with_picture};
@@ -192,7 +193,7 @@ impl<'a> MenuBar<'a> {
     ) -> Result<usize, RecordError>
         requires width { width < 2 ^ 16 }
         requires row { row < 2 ^ 60 }
-        requires headers { headers_width self.now.menus ≤ 100000000 }
+        requires headers { headers_width self.now.menus ≤ max_text }
         requires items { IsShortMenu (opened 0 self.now.menus self.now.expanded_menu_idx) }
         ensures end { IfOk result (λ end. end ≡ row + 1 + open_height (opened 0 self.now.menus self.now.expanded_menu_idx)) }
         ensures ok { OnOk result (spots.new.items ≡ spots.old.items ++ bar_spots width row self.now) }

@@ -1,5 +1,6 @@
 //! The dialog that asks whether to quit.
 ghost use Rattle.std.specs.Prelude.{◌≡◌, codes, IfOk, IfErr, string_bytes, ◌≤◌, ◌++◌, OnOk};
+ghost use Rattle.scm_types.specs.Limits.{max_scroll};
 ghost use Rattle.scm_errors.specs.declared.error.RecordError.TheVariants.{OutOfMemory};
 ghost use Rattle.scm_view.specs.Tables.{counted, changes_text, quit_text, is_quit, is_go_back, quit_button, go_back_button, quit_dialog as shown_quit};
 ghost use Rattle.scm_view.specs.Spots.{dialog_run, dialog_spots};
@@ -119,6 +120,7 @@ impl QuitDialog {
 impl QuitDialog {
     /// Adds the spots of the dialog, on a screen of so many columns and rows, whose first row shows this
     /// row of the document, and gives its first row and the row below its last.
+    #[tactic(auto, using(scm_types::proofs::LimitLemmas::scroll_room))]
     pub(crate) fn push_spots(
         &self,
         alloc: Global,
@@ -127,7 +129,7 @@ impl QuitDialog {
         height: u16,
         row: usize,
     ) -> Result<(usize, usize), RecordError>
-        requires { row ≤ 100000000 }
+        requires { row ≤ max_scroll }
         ensures rows { IfOk result (λ r. r ≡ dialog_run width height row (shown_quit self.now)) }
         ensures ok { OnOk result (spots.new.items ≡ spots.old.items ++ dialog_spots width height row (shown_quit self.now)) }
         ensures err { IfErr result (λ e. e ≡ OutOfMemory) }

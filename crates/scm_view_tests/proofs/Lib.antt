@@ -1,2 +1,2 @@
 pub mod ViewLemmas
-pub mod AloneLemmas
+pub mod CornerLemmas

@@ -1,3 +1,3 @@
 -- Views of few and short texts.
 pub mod Small
-pub mod Here
+pub mod Corner

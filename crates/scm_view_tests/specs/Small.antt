@@ -1,11 +1,10 @@
--- Views of few and short texts, whose pictures are in range where tests draw them.
+-- Views of few and short texts, as the tests draw them.
 use Rattle.std.specs.Prelude.{◌≡◌, ◌≤◌, true, List, [], ◌∷◌, length, None}
-use Rattle.scm_types.specs.Limits.{has_short_texts, section_size}
+use Rattle.scm_types.specs.Limits.{has_short_texts, is_short_option, is_short_text, section_size}
 use Rattle.scm_view.specs.declared.section_view.SectionView.{SectionView}
 use Rattle.scm_view.specs.declared.file_view.FileView.{FileView}
 use Rattle.scm_view.specs.declared.commit_view.CommitView.{CommitView}
 use Rattle.scm_view.specs.Rows.{lent_text}
-use Rattle.scm_view.specs.Texts.{path_text}
 
 pub record IsSmallSection (v : SectionView) : Type 0 where
   pub texts : has_short_texts v.section.now ≡ true
@@ -16,7 +15,8 @@ AreSmallSections [] = Unit {0}
 AreSmallSections (v ∷ vs) = IsSmallSection v × AreSmallSections vs
 
 pub record IsSmallFile (v : FileView) : Type 0 where
-  pub path : length (path_text (lent_text v.old_path) v.path.now) ≤ 1000
+  pub old_path : is_short_option (lent_text v.old_path) ≡ true
+  pub path : is_short_text v.path.now ≡ true
   pub sections : AreSmallSections v.section_views
   pub count : length v.section_views ≤ 1000
 

@@ -1,13 +1,18 @@
 //! Components that stand alone: on the screen, off it and under a mask, and how much each draws.
-ghost use Rattle.scm_view_tests.specs.Here.{IsHere, SightIsHere};
+ghost use Rattle.std.specs.Prelude.{◌≡◌};
+ghost use Rattle.std.specs.List.{list_all};
+ghost use Rattle.scm_types.specs.Limits.{is_short_option};
+ghost use Rattle.scm_view.specs.ComponentRanges.{are_short_buttons, is_short_button, is_short_item, is_short_menu};
+ghost use Rattle.scm_view_tests.specs.Corner.{IsAtCorner, SightIsAtCorner};
 
 use crate::views::rows_of;
 use scm_cells::{Grid, Mask, Rect};
 use scm_render::Viewport;
-use scm_types::{ChangeType, RecordError, Text, Tristate};
+use scm_types::{ChangeType, Commit, Items, OwnedText, RecordError, Text, Tristate};
 use scm_view::{
-    Button, ComponentId, LineKey, SectionLineView, SectionLineViewInner, SelectionKey, TristateBox,
-    TristateIconStyle,
+    Button, CommitMessageView, ComponentId, Dialog, HelpDialog, LineKey, Menu, MenuBar, MenuItem,
+    QuitDialog, QuitDialogButtonId, SectionLineView, SectionLineViewInner, SelectionKey,
+    TristateBox, TristateIconStyle, laws,
 };
 use std::alloc::Global;
 use std::process::Abort;
@@ -45,7 +50,7 @@ fn viewport_under(
 
 /// Checks that a place is near the document's corner: at most 1000 columns or rows away.
 fn check_near(rt: &impl Abort, place: isize)
-    ensures { IsHere place }
+    ensures { IsAtCorner place }
 {
     assert!(rt; -1000 <= place);
     assert!(rt; place <= 1000);
@@ -53,13 +58,16 @@ fn check_near(rt: &impl Abort, place: isize)
 
 /// Checks that what the viewport shows is near the document's corner, and its mask too.
 fn check_sight(rt: &impl Abort, viewport: &Viewport<ComponentId>)
-    ensures { SightIsHere viewport.now.canvas.sight }
+    ensures { SightIsAtCorner viewport.now.canvas.sight }
 {
     let shown = viewport.rect();
     let mask = viewport.mask();
     check_near(rt, shown.x);
     check_near(rt, shown.end_x());
+    check_near(rt, shown.y);
+    check_near(rt, shown.end_y());
     check_near(rt, mask.x);
+    check_near(rt, mask.y);
 }
 
 /// Checks what stands on the rows of the viewport's screen, and how many rows and calls were counted.
@@ -88,7 +96,8 @@ fn draw_button(
 ) -> Result<(), RecordError> {
     check_near(rt, x);
     check_near(rt, y);
-    assert!(rt; button.label.len() <= 100);
+    assert!(rt; button.label.len() <= 1_000_000);
+    laws::components_are_in_range();
     let _ = viewport.draw_component(x, y, button)?;
     Ok(())
 }
@@ -166,7 +175,8 @@ fn draw_line(
     check_sight(rt, viewport);
     check_near(rt, x);
     check_near(rt, y);
-    assert!(rt; line.len() <= 1000);
+    assert!(rt; line.len() <= 1_000_000);
+    laws::components_are_in_range();
     let _ = viewport.draw_component(x, y, &view)?;
     Ok(())
 }
@@ -200,6 +210,389 @@ fn lines_are_drawn_alone(rt: HostRuntime) -> Result<(), RecordError> {
         ((0, 20, 2, -1), Removed, "\n\n\n", (0, 0)),
     ] {
         check_line(&rt, rt.alloc(), place, change_type, rows, counts)?;
+    }
+    Ok(())
+}
+
+// ---- menus
+
+/// The labels are within the limit of a state's texts.
+fn has_short_items(items: &[MenuItem<'_>]) -> bool
+    ensures { result ≡ list_all is_short_item items.now }
+{
+    items.iter().all(|item| item.label.len() <= 1_000_000)
+}
+
+/// The labels of a menu are short, and its items few.
+fn is_short_menu(menu: &Menu<'_>) -> bool
+    ensures { result ≡ is_short_menu menu.now }
+{
+    menu.label.len() <= 1_000_000
+        && (menu.items.len() <= 1000 && has_short_items(menu.items.as_slice()))
+}
+
+/// The menus are short.
+fn has_short_menus(menus: &[Menu<'_>]) -> bool
+    ensures { result ≡ list_all is_short_menu menus.now }
+{
+    menus.iter().all(|menu| is_short_menu(menu))
+}
+
+/// A menu of these items.
+fn menu_of(
+    alloc: Global,
+    label: &'static str,
+    items: &[&'static str],
+) -> Result<Menu<'static>, RecordError> {
+    let mut menu = Menu {
+        label: Text::from(label),
+        items: Items::new(alloc),
+    };
+    for item in items {
+        menu.items.push(MenuItem {
+            label: Text::from(*item),
+        })?;
+    }
+    Ok(menu)
+}
+
+/// Draws a menu of short labels.
+fn draw_menu(
+    rt: &impl Abort,
+    viewport: &mut Viewport<ComponentId>,
+    x: isize,
+    y: isize,
+    menu: &Menu<'_>,
+) -> Result<(), RecordError> {
+    check_near(rt, x);
+    check_near(rt, y);
+    assert!(rt; is_short_menu(menu));
+    laws::components_are_in_range();
+    let _ = viewport.draw_component(x, y, menu)?;
+    Ok(())
+}
+
+/// Checks what the items of a menu draw.
+fn check_menu(
+    rt: &impl Abort,
+    alloc: Global,
+    place: Place,
+    rows: &str,
+    counts: (usize, usize),
+) -> Result<(), RecordError> {
+    let (left, width, x, y) = place;
+    let menu = menu_of(alloc, "M", &["a", "long"])?;
+    let mut viewport = viewport_under(rt, alloc, left, width)?;
+    draw_menu(rt, &mut viewport, x, y, &menu)?;
+    check_drawing(rt, alloc, viewport, rows, counts)
+}
+
+#[test]
+fn menus_are_drawn_alone(rt: HostRuntime) -> Result<(), RecordError> {
+    // two calls for each item, which are made off the screen too; items are no rows of the document
+    for (place, rows, counts) in [
+        ((0, 20, 3, 0), "   [a]\n   [long]\n\n", (0, 4)),
+        ((0, 20, -2, 2), "\n\n]\n", (0, 4)),
+        ((0, 20, 17, -1), "                 [lo\n\n\n", (0, 4)),
+        ((4, 2, 3, 1), "\n    a]\n    lo\n", (0, 4)),
+        ((0, 20, 3, 3), "\n\n\n", (0, 4)),
+        ((0, 20, 20, 0), "\n\n\n", (0, 4)),
+    ] {
+        check_menu(&rt, rt.alloc(), place, rows, counts)?;
+    }
+    Ok(())
+}
+
+/// A bar of two menus, of which one may be open.
+fn bar_of(
+    alloc: Global,
+    expanded_menu_idx: Option<usize>,
+) -> Result<MenuBar<'static>, RecordError> {
+    let mut menus = Items::new(alloc);
+    menus.push(menu_of(alloc, "File", &["a"])?)?;
+    menus.push(menu_of(alloc, "Edit", &["long"])?)?;
+    Ok(MenuBar {
+        menus,
+        expanded_menu_idx,
+    })
+}
+
+/// Draws a bar of short menus.
+fn draw_bar(
+    rt: &impl Abort,
+    viewport: &mut Viewport<ComponentId>,
+    x: isize,
+    y: isize,
+    bar: &MenuBar<'_>,
+) -> Result<(), RecordError> {
+    check_sight(rt, viewport);
+    check_near(rt, x);
+    check_near(rt, y);
+    assert!(rt; bar.menus.len() <= 1000);
+    assert!(rt; has_short_menus(bar.menus.as_slice()));
+    laws::components_are_in_range();
+    let _ = viewport.draw_component(x, y, bar)?;
+    Ok(())
+}
+
+/// Checks what a bar of two menus draws.
+fn check_bar(
+    rt: &impl Abort,
+    alloc: Global,
+    place: Place,
+    open: Option<usize>,
+    rows: &str,
+    counts: (usize, usize),
+) -> Result<(), RecordError> {
+    let (left, width, x, y) = place;
+    let bar = bar_of(alloc, open)?;
+    let mut viewport = viewport_under(rt, alloc, left, width)?;
+    draw_bar(rt, &mut viewport, x, y, &bar)?;
+    check_drawing(rt, alloc, viewport, rows, counts)
+}
+
+#[test]
+fn menu_bars_are_drawn_alone(rt: HostRuntime) -> Result<(), RecordError> {
+    // a blank, a call for each title, and two for each item of the open menu
+    for (place, open, rows, counts) in [
+        ((0, 20, 0, 0), None, "[File] [Edit]\n\n\n", (0, 3)),
+        (
+            (0, 20, 0, 0),
+            Some(1),
+            "[File] [Edit]\n       [long]\n\n",
+            (0, 5),
+        ),
+        (
+            (0, 20, -3, 1),
+            Some(1),
+            "\nle] [Edit]\n    [long]\n",
+            (0, 5),
+        ),
+        ((4, 2, 0, 0), Some(1), "    e]\n\n\n", (0, 5)),
+        ((0, 20, 0, 3), Some(0), "\n\n\n", (0, 5)),
+        ((0, 20, 0, 0), Some(2), "[File] [Edit]\n\n\n", (0, 3)),
+    ] {
+        check_bar(&rt, rt.alloc(), place, open, rows, counts)?;
+    }
+    Ok(())
+}
+
+// ---- dialogs
+
+/// The labels are within the limit of a state's texts.
+fn has_short_labels(buttons: &[Button<'_, ComponentId>]) -> bool
+    ensures { result ≡ list_all is_short_button buttons.now }
+{
+    buttons.iter().all(|button| button.label.len() <= 1_000_000)
+}
+
+/// The buttons are few, and their labels short.
+fn are_short_buttons(buttons: &[Button<'_, ComponentId>]) -> bool
+    ensures { result ≡ are_short_buttons buttons.now }
+{
+    buttons.len() <= 1000 && has_short_labels(buttons)
+}
+
+/// Draws a dialog of short labels.
+fn draw_dialog(
+    rt: &impl Abort,
+    viewport: &mut Viewport<ComponentId>,
+    dialog: &Dialog<'_, ComponentId>,
+) -> Result<(), RecordError> {
+    check_sight(rt, viewport);
+    assert!(rt; are_short_buttons(dialog.buttons));
+    laws::components_are_in_range();
+    let _ = viewport.draw_component(0, 0, dialog)?;
+    Ok(())
+}
+
+/// Draws the question whether to quit, of a session without changes.
+fn draw_quit(
+    rt: &impl Abort,
+    viewport: &mut Viewport<ComponentId>,
+    dialog: &QuitDialog,
+) -> Result<(), RecordError> {
+    check_sight(rt, viewport);
+    laws::components_are_in_range();
+    let _ = viewport.draw_component(0, 0, dialog)?;
+    Ok(())
+}
+
+/// Draws the help.
+fn draw_help(
+    rt: &impl Abort,
+    viewport: &mut Viewport<ComponentId>,
+    dialog: &HelpDialog,
+) -> Result<(), RecordError> {
+    check_sight(rt, viewport);
+    laws::components_are_in_range();
+    let _ = viewport.draw_component(0, 0, dialog)?;
+    Ok(())
+}
+
+/// A dialog that a test draws.
+#[derive(Clone, Copy)]
+enum Asked {
+    /// A body of one line, and one button.
+    Line,
+    /// Whether to quit.
+    Quit,
+    /// The keys.
+    Help,
+}
+
+/// Draws that dialog.
+fn draw_asked(
+    rt: &impl Abort,
+    viewport: &mut Viewport<ComponentId>,
+    asked: Asked,
+) -> Result<(), RecordError> {
+    match asked {
+        Asked::Line => {
+            let button = Button {
+                id: ComponentId::MenuBar,
+                label: Text::from("Ok"),
+                is_focused: false,
+            };
+            let dialog = Dialog {
+                id: ComponentId::App,
+                title: Text::from("T"),
+                body: &["hi"],
+                buttons: &[button],
+            };
+            draw_dialog(rt, viewport, &dialog)
+        }
+        Asked::Quit => {
+            let dialog = QuitDialog {
+                num_commit_messages: 0,
+                num_changed_files: 0,
+                focused_button: QuitDialogButtonId::Quit,
+            };
+            draw_quit(rt, viewport, &dialog)
+        }
+        Asked::Help => draw_help(rt, viewport, &HelpDialog()),
+    }
+}
+
+/// Checks what a dialog draws under a mask of so many columns from one on.
+fn check_dialog(
+    rt: &impl Abort,
+    alloc: Global,
+    mask: (isize, usize),
+    asked: Asked,
+    rows: &str,
+    counts: (usize, usize),
+) -> Result<(), RecordError> {
+    let mut viewport = viewport_under(rt, alloc, mask.0, mask.1)?;
+    draw_asked(rt, &mut viewport, asked)?;
+    check_drawing(rt, alloc, viewport, rows, counts)
+}
+
+#[test]
+fn dialogs_are_drawn_alone(rt: HostRuntime) -> Result<(), RecordError> {
+    // a frame and a call for each button, whatever the mask lets through; a dialog stands in the middle of the screen
+    for (mask, asked, rows, counts) in [
+        (
+            (0, 20),
+            Asked::Line,
+            "    ┌T─────────┐\n    │hi        │\n    └──────[Ok]┘\n",
+            (0, 2),
+        ),
+        (
+            (6, 4),
+            Asked::Line,
+            "      ────\n      i\n      ────\n",
+            (0, 2),
+        ),
+        (
+            (0, 20),
+            Asked::Quit,
+            "┌Quit──────────────┐\n│Are you sure you w│\n└──[Go Back]─(Quit)┘\n",
+            (0, 3),
+        ),
+        (
+            (10, 5),
+            Asked::Quit,
+            "          ─────\n          ure y\n          k]─(Q\n",
+            (0, 3),
+        ),
+        ((20, 9), Asked::Quit, "\n\n\n", (0, 3)),
+        (
+            (0, 20),
+            Asked::Help,
+            "┌Help──────────────┐\n│You can click the │\n└───────────(Close)┘\n",
+            (0, 2),
+        ),
+        ((0, 0), Asked::Help, "\n\n\n", (0, 2)),
+    ] {
+        check_dialog(&rt, rt.alloc(), mask, asked, rows, counts)?;
+    }
+    Ok(())
+}
+
+// ---- messages
+
+/// Draws the message of a commit.
+fn draw_message(
+    rt: &impl Abort,
+    viewport: &mut Viewport<ComponentId>,
+    x: isize,
+    y: isize,
+    view: &CommitMessageView<'_>,
+) -> Result<(), RecordError> {
+    check_sight(rt, viewport);
+    check_near(rt, x);
+    check_near(rt, y);
+    assert!(rt; has_short_message(&view.commit.message));
+    laws::components_are_in_range();
+    let _ = viewport.draw_component(x, y, view)?;
+    Ok(())
+}
+
+/// The message is within the limit of a state's texts.
+fn has_short_message(message: &Option<OwnedText>) -> bool
+    ensures { result ≡ is_short_option message.now }
+{
+    match message {
+        Some(text) => text.len() <= 1_000_000,
+        None => true,
+    }
+}
+
+/// Checks what a message of one line draws.
+fn check_message(
+    rt: &impl Abort,
+    alloc: Global,
+    place: Place,
+    rows: &str,
+    counts: (usize, usize),
+) -> Result<(), RecordError> {
+    let (left, width, x, y) = place;
+    let commit = Commit {
+        message: Some(OwnedText::from(String::from_str(alloc, "hi\nmore")?)),
+    };
+    let view = CommitMessageView {
+        commit_idx: 0,
+        commit: &commit,
+    };
+    let mut viewport = viewport_under(rt, alloc, left, width)?;
+    draw_message(rt, &mut viewport, x, y, &view)?;
+    check_drawing(rt, alloc, viewport, rows, counts)
+}
+
+#[test]
+fn messages_are_drawn_alone(rt: HostRuntime) -> Result<(), RecordError> {
+    // three rows where the screen has them, and three calls for the middle one
+    for (place, rows, counts) in [
+        ((0, 20, 0, 0), "\n[Edit message]  •  …\n\n", (3, 3)),
+        ((0, 20, -10, 0), "\nage]  •  hi\n\n", (3, 3)),
+        ((4, 8, 0, 0), "\n    t messa…\n\n", (3, 3)),
+        ((0, 20, -10, -1), "age]  •  hi\n\n\n", (2, 3)),
+        ((0, 20, 0, 1), "\n\n[Edit message]  •  …\n", (2, 3)),
+        ((0, 20, 0, 2), "\n\n\n", (1, 0)),
+        ((0, 20, 0, 3), "\n\n\n", (0, 0)),
+    ] {
+        check_message(&rt, rt.alloc(), place, rows, counts)?;
     }
     Ok(())
 }

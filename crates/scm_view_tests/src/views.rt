@@ -1,9 +1,8 @@
 //! The parts of a document, each drawn alone.
-ghost use Rattle.std.specs.Prelude.{◌≡◌, ◌≤◌, IsTrue, length, true};
+ghost use Rattle.std.specs.Prelude.{◌≡◌, IsTrue, true};
 ghost use Rattle.std.specs.List.{list_all};
-ghost use Rattle.scm_types.specs.Limits.{has_short_texts, is_short_text, section_size};
+ghost use Rattle.scm_types.specs.Limits.{has_short_texts, is_short_option, is_short_text, section_size};
 ghost use Rattle.scm_view.specs.Rows.{lent_text};
-ghost use Rattle.scm_view.specs.Texts.{path_text};
 ghost use Rattle.scm_view_tests.specs.Small.{AreSmallFiles, AreSmallSections, IsSmallCommit, IsSmallFile, IsSmallSection};
 
 use scm_cells::Grid;
@@ -14,19 +13,20 @@ use scm_types::{
 };
 use scm_view::{
     CommitMessageView, CommitView, ComponentId, FileKey, FileView, FileViewHeader, SectionKey,
-    SectionSelection, SectionView, SelectionKey, TristateBox, TristateIconStyle,
+    SectionSelection, SectionView, SelectionKey, TristateBox, TristateIconStyle, laws,
 };
 use std::alloc::{AllocError, Global};
 use std::process::Abort;
 
 // ---- what is drawn is in range
 
-/// The path of a file that has no other one is short: at most 1000 bytes.
+/// The path of a file that has no other one is within the limit of a state.
 fn has_short_path(old_path: Option<&str>, path: &str) -> bool
-    ensures { IsTrue result → length (path_text (lent_text old_path.entry) path.now) ≤ 1000 }
+    ensures old_path { IsTrue result → is_short_option (lent_text old_path.entry) ≡ true }
+    ensures path { IsTrue result → is_short_text path.now ≡ true }
 {
     match old_path {
-        None => path.len() <= 1000,
+        None => path.len() <= 1_000_000,
         Some(_) => false,
     }
 }
@@ -123,6 +123,7 @@ fn draw_commit(
     assert!(rt; y <= 100);
     assert!(rt; grid.width() <= 100);
     assert!(rt; grid.height() <= 100);
+    laws::components_are_in_range();
     Viewport::render_top_level(alloc, grid, 0, y as isize, view)
 }
 
@@ -136,6 +137,7 @@ fn draw_section(
     check_section(rt, view);
     assert!(rt; grid.width() <= 100);
     assert!(rt; grid.height() <= 100);
+    laws::components_are_in_range();
     Viewport::render_top_level(alloc, grid, 0, 0, view)
 }
 
@@ -149,6 +151,7 @@ fn draw_header(
     assert!(rt; has_short_path(view.old_path, view.path));
     assert!(rt; grid.width() <= 100);
     assert!(rt; grid.height() <= 100);
+    laws::components_are_in_range();
     Viewport::render_top_level(alloc, grid, 0, 0, view)
 }
 
@@ -161,6 +164,7 @@ fn draw_box(
 ) -> Result<DrawnRects<ComponentId>, RecordError> {
     assert!(rt; grid.width() <= 100);
     assert!(rt; grid.height() <= 100);
+    laws::components_are_in_range();
     Viewport::render_top_level(alloc, grid, 0, 0, view)
 }
 

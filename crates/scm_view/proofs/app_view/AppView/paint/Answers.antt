@@ -1,6 +1,7 @@
 use Rattle.std.proofs.Common.{◌≡◌, ◌∙◌, pos, ap, arith, length, replicate, w64, to_z}
 use Rattle.std.proofs.lemmas.Int.{to_z_pos}
 use Rattle.std.proofs.lemmas.List.{length-replicate}
+use Rattle.scm_types.proofs.LimitLemmas.{scroll_room}
 use Rattle.scm_cells.specs.Counts.{no_counts}
 use Rattle.scm_cells.specs.Screen.{Screen}
 use Rattle.scm_render.specs.Canvas.{Canvas}
@@ -17,7 +18,7 @@ pub paint_inline-outcome-requires-clause-picture : goal.paint_inline-outcome-req
 paint_inline-outcome-requires-clause-picture c =
     let w = c.args.grid.now.width in
     let h = length c.args.grid.now.rows in
-    let y : to_z w64 c.args.scroll ≡ pos c.args.scroll = to_z_pos w64 c.args.scroll (omega (arith, c.requires.scroll)) in
+    let y : to_z w64 c.args.scroll ≡ pos c.args.scroll = to_z_pos w64 c.args.scroll (omega (arith, c.requires.scroll, scroll_room)) in
     let wide : c.width.result ≡ w = c.width.ensures.value ∙ ap (λ (g : Screen). g.width) c.clear.ensures in
     let tall : c.height.result ≡ h = c.height.ensures.value ∙ ap (λ (g : Screen). length g.rows) c.clear.ensures ∙ length-replicate h (blank_row w) in
     let whole = c.replace.ensures.value ∙ c.clear.ensures in
@@ -30,7 +31,7 @@ pub returns-clause-ok : goal.returns-clause-ok
 returns-clause-ok c =
     let w = c.args.grid.now.width in
     let h = length c.args.grid.now.rows in
-    let y : to_z w64 c.args.scroll ≡ pos c.args.scroll = to_z_pos w64 c.args.scroll (omega (arith, c.requires.scroll)) in
+    let y : to_z w64 c.args.scroll ≡ pos c.args.scroll = to_z_pos w64 c.args.scroll (omega (arith, c.requires.scroll, scroll_room)) in
     let wide : c.width.result ≡ w = c.width.ensures.value ∙ ap (λ (g : Screen). g.width) c.clear.ensures in
     let tall : c.height.result ≡ h = c.height.ensures.value ∙ ap (λ (g : Screen). length g.rows) c.clear.ensures ∙ length-replicate h (blank_row w) in
     let whole = c.replace.ensures.value ∙ c.clear.ensures in
@@ -44,7 +45,7 @@ pub returns-clause-few : goal.returns-clause-few
 returns-clause-few c =
     let w = c.args.grid.now.width in
     let h = length c.args.grid.now.rows in
-    let y : to_z w64 c.args.scroll ≡ pos c.args.scroll = to_z_pos w64 c.args.scroll (omega (arith, c.requires.scroll)) in
+    let y : to_z w64 c.args.scroll ≡ pos c.args.scroll = to_z_pos w64 c.args.scroll (omega (arith, c.requires.scroll, scroll_room)) in
     let wide : c.width.result ≡ w = c.width.ensures.value ∙ ap (λ (g : Screen). g.width) c.clear.ensures in
     let tall : c.height.result ≡ h = c.height.ensures.value ∙ ap (λ (g : Screen). length g.rows) c.clear.ensures ∙ length-replicate h (blank_row w) in
     let whole = c.replace.ensures.value ∙ c.clear.ensures in

@@ -1,4 +1,5 @@
 use Rattle.std.proofs.Common.{◌∙◌, ◌≤◌, ◌+◌, ap, ap₂, sym, get_or, subst, List}
+use Rattle.scm_types.specs.Limits.{max_text}
 use Rattle.scm_view.specs.declared.commit_view.CommitView.{CommitView}
 use Rattle.scm_view.specs.declared.menu_bar.MenuBar.{MenuBar}
 use Rattle.scm_view.specs.declared.tops.FileTop.{FileTop}
@@ -21,7 +22,7 @@ push_tops-requires c =
 pub push_spots-requires-2-clause-headers : goal.push_spots-requires-2-clause-headers
 push_spots-requires-2-clause-headers c =
     let plain = c.requires.shows.2 in
-    subst (λ (b : MenuBar). headers_width b.menus ≤ 100000000) (sym plain.shows.menu_bar) (short_bar c.requires.shows.0.open_menu).0
+    subst (λ (b : MenuBar). headers_width b.menus ≤ max_text) (sym plain.shows.menu_bar) (short_bar c.requires.shows.0.open_menu).0
 
 pub push_spots-requires-2-clause-items : goal.push_spots-requires-2-clause-items
 push_spots-requires-2-clause-items c =

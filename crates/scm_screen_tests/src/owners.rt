@@ -1,0 +1,77 @@
+//! A view that is drawn without a recorder: whose each of its places is.
+use crate::given::{session_of, state_of};
+use crate::painted::draw;
+use scm_record::{
+    ComponentId, DrawnRects, FileKey, Grid, LineKey, RecordError, SectionKey, SelectionKey,
+    TerminalKind, find_target,
+};
+use scm_view::laws;
+use std::process::Abort;
+
+/// The file.
+const FILE: FileKey = FileKey {
+    commit_idx: 0,
+    file_idx: 0,
+};
+
+/// Its section of changed lines.
+const SECTION: SelectionKey = SelectionKey::Section(SectionKey {
+    commit_idx: 0,
+    file_idx: 0,
+    section_idx: 1,
+});
+
+/// The first line of that section.
+const LINE: SelectionKey = SelectionKey::Line(LineKey {
+    commit_idx: 0,
+    file_idx: 0,
+    section_idx: 1,
+    line_idx: 0,
+});
+
+/// A row of the document and a column, and whose they are. The screen shows the document from row 1 on: there lies the menu bar, and below it the
+/// header of the file is pinned.
+const OWNERS: [(isize, isize, Option<ComponentId>); 12] = [
+    (0, 0, None),
+    (1, 0, Some(ComponentId::Menu(0))),
+    (1, 6, Some(ComponentId::MenuBar)),
+    (2, 1, Some(ComponentId::ToggleBox(SelectionKey::File(FILE)))),
+    (2, 10, Some(ComponentId::FileViewHeader(FILE))),
+    (
+        2,
+        22,
+        Some(ComponentId::ExpandBox(SelectionKey::File(FILE))),
+    ),
+    (3, 3, Some(ComponentId::ToggleBox(SECTION))),
+    (3, 10, Some(ComponentId::SelectableItem(SECTION))),
+    (3, 22, Some(ComponentId::ExpandBox(SECTION))),
+    (4, 5, Some(ComponentId::ToggleBox(LINE))),
+    (4, 10, Some(ComponentId::SelectableItem(LINE))),
+    (6, 10, None),
+];
+
+/// Checks whose each place is, among these boxes.
+fn check_owners(rt: &impl Abort, boxes: &DrawnRects<ComponentId>) {
+    laws::ids_are_told_apart();
+    for (row, column, owner) in OWNERS {
+        assert_eq!(rt;
+            find_target(boxes, row, column),
+            owner,
+            "row {row}, column {column}"
+        );
+    }
+}
+
+#[test]
+fn places_have_owners(rt: HostRuntime) -> Result<(), RecordError> {
+    let alloc = rt.alloc();
+    let kind = TerminalKind::Testing {
+        width: 24,
+        height: 8,
+    };
+    let session = session_of(&rt, state_of(alloc, "1h")?, alloc, kind, "l")?;
+    let mut grid = Grid::new(alloc, 24, 8)?;
+    let boxes = draw(&rt, alloc, &session, &mut grid, 1)?;
+    check_owners(&rt, &boxes);
+    Ok(())
+}

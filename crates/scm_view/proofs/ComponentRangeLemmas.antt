@@ -1,0 +1,260 @@
+-- What each component draws alone is in range.
+use Rattle.std.proofs.Common.{◌≡◌, ℕ, zero, suc, ◌+◌, ◌*◌, ◌≤◌, ◌^◌, ℤ, pos, neg_ℤ, ◌+ℤ◌, ◌≤ℤ◌, Bool, true, false, List, [], ◌∷◌, ◌++◌, length, length-append, map, refl, arith}
+use Rattle.std.specs.Prelude.{◌&&◌, if◌then◌else◌, nat_le, sum_by, codes, Option, Some, None}
+use Rattle.std.specs.List.{list_all}
+use Rattle.std.proofs.lemmas.List.Sums.{sum_by-cons}
+use Rattle.scm_types.specs.Limits.{is_short_text, is_short_option, has_short_texts, section_size}
+use Rattle.scm_cells.specs.Clusters.{text_width}
+use Rattle.scm_cells.proofs.BoundLemmas.{text_width-le}
+use Rattle.scm_cells.proofs.RectLemmas.{places}
+use Rattle.scm_render.specs.Canvas.{Sight}
+use Rattle.scm_render.specs.Picture.{PictureInRange}
+use Rattle.scm_render.specs.Drawing.{span_picture}
+use Rattle.scm_render.proofs.PictureLemmas.{PictureInRange-as_part}
+use Rattle.scm_view.specs.declared.ids.ComponentId.{ComponentId}
+use Rattle.scm_view.specs.declared.ids.ComponentId.TheVariants as ids
+use Rattle.scm_view.specs.declared.button.Button.{Button}
+use Rattle.scm_view.specs.declared.menu.MenuItem.{MenuItem}
+use Rattle.scm_view.specs.declared.menu.Menu.{Menu}
+use Rattle.scm_view.specs.declared.menu_bar.MenuBar.{MenuBar}
+use Rattle.scm_view.specs.declared.dialog.Dialog.{Dialog}
+use Rattle.scm_view.specs.declared.quit_dialog.QuitDialog.{QuitDialog}
+use Rattle.scm_view.specs.declared.file_view_header.FileViewHeader.{FileViewHeader}
+use Rattle.scm_view.specs.declared.section_line_view.SectionLineViewInner.{SectionLineViewInner}
+use Rattle.scm_view.specs.declared.section_line_view.SectionLineViewInner.TheVariants as inner
+use Rattle.scm_view.specs.declared.section_view.SectionView.{SectionView}
+use Rattle.scm_view.specs.declared.file_view.FileView.{FileView}
+use Rattle.scm_view.specs.declared.commit_view.CommitView.{CommitView}
+use Rattle.scm_view.specs.Texts.{box_text, button_text, number_text, sign_text}
+use Rattle.scm_view.specs.Rows.{IdBox, ShownSection, line_texts, lent_text, header_heading, rows_of, section_rows, is_shown, is_open, is_first_open, is_fold_open, shown_section, shown_sections, sections_rows, shown_file, file_rows, document_of}
+use Rattle.scm_view.specs.FilesRows.{files_rows}
+use Rattle.scm_view.specs.Pictures.{box_picture, button_picture, header_picture, inner_picture, line_picture, section_picture, file_picture, message_picture, commit_message_picture, commit_picture}
+use Rattle.scm_view.specs.Buttons.{button_width}
+use Rattle.scm_view.specs.Menus.{header_button, item_button, header_step, headers_width, widest_item, opened, menu_picture, menu_bar_picture}
+use Rattle.scm_view.specs.Dialogs.{shown_dialog}
+use Rattle.scm_view.specs.Tables.{quit_dialog, help_dialog, named_dialog_picture}
+use Rattle.scm_view.specs.Here.{IsHere, RectIsHere, SightIsHere}
+use Rattle.scm_view.specs.ComponentRanges.{text_of_line, IsShortSection, IsShortFile, AreShortFiles, IsShortCommit, is_short_item, is_short_menu, is_short_bar, is_short_button, are_short_buttons, ComponentsAreInRange}
+use Rattle.scm_view.proofs.Near.{IsNear, SightIsNear, AreNarrowSections, IsNarrowFile, AreNarrowFiles}
+use Rattle.scm_view.proofs.Ranges.{button_columns}
+use Rattle.scm_view.proofs.NearLemmas.{heading-in, changed-in, context-in, rows-near, file-near, message-near, document-near}
+use Rattle.scm_view.proofs.LimitLemmas.{first_true, second_true, short, box-narrow, line-narrow, length-sign, length-number, path-narrow, heading-narrow, message-narrow, rows-narrow, sections-append, shown-narrow, shown_if-narrow, shown-few}
+use Rattle.scm_view.proofs.SectionsLemmas.{length-sections}
+use Rattle.scm_view.proofs.RangeLemmas.{IsFewItems, menu-here, bar-here, dialog-here}
+use Rattle.scm_view.proofs.FixedLemmas.{short_quit, short_help}
+
+-- ---- places
+
+near : (z : ℤ) → IsHere z → IsNear z
+near z h = record { low = omega (arith, places, h.low); high = omega (arith, places, h.high) }
+
+near-after : (z : ℤ) (n : ℕ) → IsHere z → n ≤ 2 ^ 50 → IsNear (z +ℤ pos n)
+near-after z n h k = record { low = omega (arith, places, h.low); high = omega (arith, places, h.high, k) }
+
+sight-near : (s : Sight) → SightIsHere s → SightIsNear s
+sight-near s h = record { x = near _ h.x; end_x = near _ h.end_x; mask_x = near _ h.mask_x }
+
+-- ---- boxes and buttons
+
+span-here : (t : List ℕ) (s : Sight) (x y : ℤ) → IsHere x → IsHere y → text_width t ≤ 2 ^ 60 → PictureInRange {K = ComponentId} (span_picture s x y t)
+unfolding span_picture
+span-here t s x y p q w = record {
+  areas = (
+    record {
+      x = record { low = omega (arith, places, p.low); high = omega (arith, places, p.high) };
+      end_x = record { low = omega (arith, places, p.low); high = omega (arith, places, p.high, w) };
+      y = record { low = omega (arith, places, q.low); high = omega (arith, places, q.high) };
+      end_y = record { low = omega (arith, places, q.low); high = omega (arith, places, q.high) };
+    },
+    tt,
+  );
+}
+
+box-here : (b : IdBox) (s : Sight) (x y : ℤ) → IsHere x → IsHere y → PictureInRange (box_picture b s x y)
+unfolding box_picture
+box-here b s x y p q = span-here (box_text b) s x y p q (box-narrow b)
+
+length-button : (b : Button ComponentId) → length (button_text b) ≤ length b.label + 2
+length-button b = go b.is_focused
+  where
+    go : (focused : Bool) → length (if focused then codes "(" ++ (b.label ++ codes ")") else codes "[" ++ (b.label ++ codes "]")) ≤ length b.label + 2
+    go true = omega (arith, length-append b.label (codes ")"))
+    go false = omega (arith, length-append b.label (codes "]"))
+
+button-wide : (b : Button ComponentId) → is_short_text b.label ≡ true → button_width b ≤ 5000000
+unfolding button_width
+button-wide b h = omega (arith, text_width-le (button_text b), length-button b, short b.label h)
+
+button-here : (b : Button ComponentId) (s : Sight) (x y : ℤ) → IsHere x → IsHere y → is_short_button b ≡ true → PictureInRange (button_picture b s x y)
+unfolding button_picture button_width
+button-here b s x y p q h = let w : button_width b ≤ 5000000 = button-wide b h in span-here (button_text b) s x y p q (omega (arith, w))
+
+-- ---- headers and lines
+
+header-here : (v : FileViewHeader) (s : Sight) (x y : ℤ) → SightIsHere s → IsHere x → IsHere y → is_short_option (lent_text v.old_path) ≡ true → is_short_text v.path.now ≡ true
+    → PictureInRange (header_picture v s x y)
+unfolding header_picture
+header-here v s x y n p q h k =
+    heading-in (header_heading v) s x y (sight-near s n) (near x p) (near y q) (heading-narrow (header_heading v) (path-narrow (lent_text v.old_path) v.path.now h k))
+
+inner-here : (i : SectionLineViewInner) (s : Sight) (x y : ℤ) → SightIsHere s → IsHere x → IsHere y → is_short_text (text_of_line i) ≡ true → PictureInRange (inner_picture i s x y)
+inner-here (inner.Unchanged line number) s x y n p q h =
+    context-in (line_texts (number_text number) line.now) s x y (sight-near s n) (omega (arith, places, p.low)) (omega (arith, places, p.high)) (near y q) (line-narrow (number_text number) line.now (length-number number) h)
+inner-here (inner.Changed box change line) s x y n p q h =
+    changed-in box (line_texts (sign_text change) line.now) s x y (sight-near s n) (omega (arith, places, p.low)) (omega (arith, places, p.high)) (near y q) (box-narrow box)
+    (line-narrow (sign_text change) line.now (length-sign change) h)
+
+-- ---- sections and files
+
+section-here : (v : SectionView) (s : Sight) (x y : ℤ) → SightIsHere s → IsHere x → IsHere y → IsShortSection v → PictureInRange (section_picture v s x y)
+unfolding section_picture section_rows sections_rows
+section-here v s x y n p q h =
+    let rows : length (rows_of v v.section.now ++ []) ≤ 2 * section_size v.section.now + 1 = shown-few true v in
+    rows-near (rows_of v v.section.now) s x y (sight-near s n) (near x p) (near y q) (near-after y _ q (omega (arith, rows, length-append (rows_of v v.section.now) [], h.lines))) (rows-narrow v v.section.now h.texts)
+
+abbrev texts_of : SectionView → Bool
+texts_of w = has_short_texts w.section.now
+
+abbrev size_of : SectionView → ℕ
+size_of w = section_size w.section.now
+
+sections-narrow : (before : Bool) (vs : List SectionView) → list_all texts_of vs ≡ true → AreNarrowSections (shown_sections before vs)
+unfolding shown_sections
+sections-narrow before [] h = tt
+sections-narrow before (v ∷ vs) h =
+    sections-append (shown_section _ v) _ (shown-narrow _ v (first_true (texts_of v) (list_all texts_of vs) h)) (sections-narrow (is_open v) vs (second_true (texts_of v) (list_all texts_of vs) h))
+
+sections-few : (before : Bool) (vs : List SectionView) → length (sections_rows (shown_sections before vs)) ≤ 2 * sum_by size_of vs + length vs
+unfolding shown_sections sections_rows
+sections-few before [] = omega arith
+sections-few before (v ∷ vs) =
+    let b = is_shown before v (is_first_open vs) in
+    omega (arith, length-sections (shown_section b v) (shown_sections (is_open v) vs), shown-few b v, sections-few (is_open v) vs, sum_by-cons size_of v vs)
+
+file-few : (v : FileView) → IsShortFile v → length (file_rows (shown_file v)) ≤ 2 ^ 42
+unfolding file_rows shown_file sections_rows
+file-few v h = go (is_fold_open v.expand_box) (sections-few false v.section_views) h.lines
+  where
+    go : (b : Bool) → length (sections_rows (shown_sections false v.section_views)) ≤ 2 * sum_by size_of v.section_views + length v.section_views → length v.section_views + sum_by size_of v.section_views ≤ 2 ^ 40
+        → suc (length (sections_rows (if b then shown_sections false v.section_views else []))) ≤ 2 ^ 42
+    go true k l = omega (arith, k, l)
+    go false k l = omega arith
+
+file-narrow : (v : FileView) → IsShortFile v → IsNarrowFile (shown_file v)
+unfolding shown_file
+file-narrow v h = record {
+  heading = heading-narrow (shown_file v).heading (path-narrow (lent_text v.old_path) v.path.now h.old_path h.path);
+  sections = shown_if-narrow (is_fold_open v.expand_box) (shown_sections false v.section_views) (sections-narrow false v.section_views h.texts);
+}
+
+file-here : (v : FileView) (s : Sight) (x y : ℤ) → SightIsHere s → IsHere x → IsHere y → IsShortFile v → PictureInRange (file_picture v s x y)
+unfolding file_picture
+file-here v s x y n p q h =
+    let narrow = file-narrow v h in
+    file-near (shown_file v) s x y (sight-near s n) (near x p) (near-after x 2 p (omega arith)) (near y q) (near-after y _ q (omega (arith, file-few v h))) narrow.heading narrow.sections
+
+-- ---- commits
+
+message-here : (commit : ℕ) (m : Option (List ℕ)) (s : Sight) (x y : ℤ) → SightIsHere s → IsHere x → IsHere y → is_short_option m ≡ true → PictureInRange (message_picture commit m s x y)
+message-here commit m s x y n p q h = message-near commit m s x y (sight-near s n) (near x p) (near y q) (near-after y 1 q (omega arith)) (message-narrow m h)
+
+files-narrow : (vs : List FileView) → AreShortFiles vs → AreNarrowFiles (map shown_file vs)
+files-narrow [] h = tt
+files-narrow (v ∷ vs) h = (file-narrow v h.0, files-narrow vs h.1)
+
+files-few : (vs : List FileView) → AreShortFiles vs → length (files_rows (map shown_file vs)) ≤ 4398046511104 * length vs
+unfolding files_rows
+files-few [] h = omega arith
+files-few (v ∷ vs) h = omega (arith, length-append (file_rows (shown_file v)) (files_rows (map shown_file vs)), file-few v h.0, files-few vs h.1)
+
+commit-here : (v : CommitView) (s : Sight) (x y : ℤ) → SightIsHere s → IsHere x → IsHere y → IsShortCommit v → PictureInRange (commit_picture v s x y)
+unfolding commit_picture
+commit-here v s x y n p q h =
+    document-near (document_of v) s x y n p q (omega (arith, files-few v.file_views h.files, h.count))
+    (record { message = message-narrow v.commit_message_view.commit.now.message h.message; files = files-narrow v.file_views h.files })
+
+-- ---- menus
+
+few : (n : ℕ) → nat_le n 1000 ≡ true → n ≤ 1000
+few n h = grind (arith, h)
+
+items-wide : (ts : List MenuItem) → list_all is_short_item ts ≡ true → widest_item ts ≤ 5000000
+unfolding widest_item
+items-wide [] h = omega arith
+items-wide (t ∷ ts) h =
+    omega (arith, button-wide (item_button 0 t) (first_true (is_short_item t) (list_all is_short_item ts) h), items-wide ts (second_true (is_short_item t) (list_all is_short_item ts) h))
+
+menu-items : (m : Menu) → is_short_menu m ≡ true → (widest_item m.items ≤ 5000000) × (length m.items ≤ 1000)
+menu-items m h =
+    let rest = second_true (is_short_text m.label) (nat_le (length m.items) 1000 && list_all is_short_item m.items) h in
+    (items-wide m.items (second_true (nat_le (length m.items) 1000) (list_all is_short_item m.items) rest), few (length m.items) (first_true (nat_le (length m.items) 1000) (list_all is_short_item m.items) rest))
+
+menu-in : (m : Menu) (s : Sight) (x y : ℤ) → IsHere x → IsHere y → is_short_menu m ≡ true → PictureInRange (menu_picture m.items s x y)
+menu-in m s x y p q h =
+    let items = menu-items m h in
+    menu-here s x y m.items p.low (omega (arith, places, p.high)) q.low (omega (arith, places, q.high)) (omega (arith, items.0)) (omega (arith, items.1))
+
+header-wide : (m : Menu) → is_short_menu m ≡ true → header_step m ≤ 5000001
+header-wide m h = omega (arith, button-wide (header_button 0 m) (first_true (is_short_text m.label) (nat_le (length m.items) 1000 && list_all is_short_item m.items) h))
+
+headers-wide : (ms : List Menu) → list_all is_short_menu ms ≡ true → headers_width ms ≤ 5000001 * length ms
+unfolding headers_width
+headers-wide [] h = omega arith
+headers-wide (m ∷ ms) h =
+    omega (arith, header-wide m (first_true (is_short_menu m) (list_all is_short_menu ms) h), headers-wide ms (second_true (is_short_menu m) (list_all is_short_menu ms) h))
+
+opened-few : (c : ℕ) (ms : List Menu) (k : Option ℕ) → list_all is_short_menu ms ≡ true → c + headers_width ms ≤ 2 ^ 50 → IsFewItems (opened c ms k)
+unfolding opened headers_width
+opened-few c ms None h w = tt
+opened-few c [] (Some k) h w = tt
+opened-few c (m ∷ ms) (Some zero) h w =
+    let items = menu-items m (first_true (is_short_menu m) (list_all is_short_menu ms) h) in
+    (omega (arith, w), (omega (arith, items.0), omega (arith, items.1)))
+opened-few c (m ∷ ms) (Some (suc k)) h w = opened-few (c + header_step m) ms (Some k) (second_true (is_short_menu m) (list_all is_short_menu ms) h) (omega (arith, w))
+
+bar-in : (b : MenuBar) (s : Sight) (x y : ℤ) → RectIsHere s.rect → IsHere x → IsHere y → is_short_bar b ≡ true → PictureInRange (menu_bar_picture b s x y)
+bar-in b s x y r p q h =
+    let menus = second_true (nat_le (length b.menus) 1000) (list_all is_short_menu b.menus) h in
+    let count = few (length b.menus) (first_true (nat_le (length b.menus) 1000) (list_all is_short_menu b.menus) h) in
+    let wide = headers-wide b.menus menus in
+    bar-here b s x y r p q (omega (arith, wide, count)) (opened-few 0 b.menus b.expanded_menu_idx menus (omega (arith, wide, count)))
+
+-- ---- dialogs
+
+columns-few : (bs : List (Button ComponentId)) → list_all is_short_button bs ≡ true → button_columns bs ≤ 5000001 * length bs
+unfolding button_columns
+columns-few [] h = omega arith
+columns-few (b ∷ bs) h =
+    omega (arith, button-wide b (first_true (is_short_button b) (list_all is_short_button bs) h), columns-few bs (second_true (is_short_button b) (list_all is_short_button bs) h))
+
+buttons-few : (bs : List (Button ComponentId)) → are_short_buttons bs ≡ true → button_columns bs ≤ 2 ^ 50
+buttons-few bs h =
+    omega (arith, columns-few bs (second_true (nat_le (length bs) 1000) (list_all is_short_button bs) h), few (length bs) (first_true (nat_le (length bs) 1000) (list_all is_short_button bs) h))
+
+quit-here : (q : QuitDialog) (s : Sight) → RectIsHere s.rect → PictureInRange (named_dialog_picture (quit_dialog q) s)
+unfolding named_dialog_picture
+quit-here q s r = PictureInRange-as_part ids.QuitDialog _ (dialog-here (quit_dialog q) s r (omega (arith, short_quit q)))
+
+help-here : (s : Sight) → RectIsHere s.rect → PictureInRange (named_dialog_picture help_dialog s)
+unfolding named_dialog_picture
+help-here s r = PictureInRange-as_part ids.HelpDialog _ (dialog-here help_dialog s r (omega (arith, short_help)))
+
+-- ---- all of them
+
+pub components-in : ComponentsAreInRange
+unfolding line_picture commit_message_picture
+components-in = record {
+  boxes = box-here;
+  buttons = button-here;
+  headers = header-here;
+  lines = λ v. inner-here v.inner;
+  sections = section-here;
+  files = file-here;
+  messages = λ v. message-here v.commit_idx v.commit.now.message;
+  commits = commit-here;
+  menus = menu-in;
+  bars = bar-in;
+  dialogs = λ d s r h. dialog-here (shown_dialog d) s r (buttons-few d.buttons.now h);
+  quit_dialogs = quit-here;
+  help_dialogs = help-here;
+}
