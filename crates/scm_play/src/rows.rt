@@ -31,6 +31,11 @@ NAMED {"is_read_only":false,"commits":[{"message":null},{"message":null}],"files
 SAID {"is_read_only":false,"commits":[{"message":?},{"message":?}],"files":[{"old_path":null,"path":"f","file_mode":{"Unix":33188},"sections":[]}]}
 PAIR {"is_read_only":false,"commits":[{"message":null},{"message":null}],"files":[{"old_path":null,"path":"f","file_mode":{"Unix":33188},"sections":[?]},{"old_path":null,"path":"g","file_mode":{"Unix":33188},"sections":[?]}]}
 BESIDES {"is_read_only":false,"commits":[{"message":null},{"message":null}],"files":[{"old_path":null,"path":"a/long/path/of/a/file","file_mode":{"Unix":33188},"sections":[]},{"old_path":null,"path":"g","file_mode":{"Unix":33188},"sections":[?]}]}
+CUT {"is_read_only":false,"commits":[{"message":null},{"message":null}],"files":[{"old_path":null,"path":"r","file_mode":{"Unix":33188},"sections":[{"Changed":{"lines":[{"is_checked":?,"change_type":"Removed","line":"x\n"},{"is_checked":?,"change_type":"Removed","line":"y\n"}]}},{"FileMode":{"is_checked":?,"mode":"Absent"}}]}]}
+MADE {"is_read_only":false,"commits":[{"message":null},{"message":null}],"files":[{"old_path":null,"path":"n","file_mode":"Absent","sections":[{"Changed":{"lines":[{"is_checked":?,"change_type":"Added","line":"n\n"},{"is_checked":?,"change_type":"Added","line":"m\n"}]}},{"FileMode":{"is_checked":?,"mode":{"Unix":33188}}}]}]}
+UNMADE {"is_read_only":false,"commits":[{"message":null},{"message":null}],"files":[{"old_path":null,"path":"u","file_mode":"Absent","sections":[{"Changed":{"lines":[{"is_checked":?,"change_type":"Added","line":"a\n"},{"is_checked":?,"change_type":"Added","line":"b\n"}]}},{"FileMode":{"is_checked":?,"mode":"Absent"}}]}]}
+BARE {"is_read_only":false,"commits":[{"message":null},{"message":null}],"files":[{"old_path":null,"path":"p","file_mode":{"Unix":33188},"sections":[]},{"old_path":null,"path":"q","file_mode":{"Unix":33188},"sections":[{"Changed":{"lines":[{"is_checked":?,"change_type":"Added","line":"x\n"}]}}]}]}
+TWO {"is_read_only":false,"commits":[{"message":null},{"message":null}],"files":[{"old_path":null,"path":"p","file_mode":{"Unix":33188},"sections":[{"Changed":{"lines":[{"is_checked":?,"change_type":"Added","line":"x\n"},{"is_checked":?,"change_type":"Added","line":"y\n"}]}}]}]}
 VOID {"is_read_only":false,"commits":[{"message":null},{"message":null}],"files":[{"old_path":null,"path":"e","file_mode":"Absent","sections":[{"Changed":{"lines":[]}},{"FileMode":{"is_checked":?,"mode":{"Unix":33188}}}]}]}
 X {"Changed":{"lines":[{"is_checked":false,"change_type":"Added","line":"x\n"}]}}
 Y {"Changed":{"lines":[{"is_checked":false,"change_type":"Removed","line":"y\n"}]}}
@@ -126,6 +131,8 @@ size 1 1 | {"is_read_only":false,"commits":{},"files":[]} | script => 2 | bad st
 «TWICE true» c => 0 | accepted | «PADDED»
 «TWICE [[[[[[[[[[[[[[[[[[[[[[[[[[[[[[[[[[[[[[[[[[[[[[[[[[[[[[[[[[[[[[[[[[[[[[[[[[[[[[[[[[[[[[[[[[[[[[[[[[[[[[[[[[[[[[[[[[[[[[[[[[[[[[]]]]]]]]]]]]]]]]]]]]]]]]]]]]]]]]]]]]]]]]]]]]]]]]]]]]]]]]]]]]]]]]]]]]]]]]]]]]]]]]]]]]]]]]]]]]]]]]]]]]]]]]]]]]]]]]]]]]]]]]]]]]]]» c => 0 | accepted | «PADDED»
 «TWICE [[[[[[[[[[[[[[[[[[[[[[[[[[[[[[[[[[[[[[[[[[[[[[[[[[[[[[[[[[[[[[[[[[[[[[[[[[[[[[[[[[[[[[[[[[[[[[[[[[[[[[[[[[[[[[[[[[[[[[[[[[[[[[[]]]]]]]]]]]]]]]]]]]]]]]]]]]]]]]]]]]]]]]]]]]]]]]]]]]]]]]]]]]]]]]]]]]]]]]]]]]]]]]]]]]]]]]]]]]]]]]]]]]]]]]]]]]]]]]]]]]]]]]]]]]]]]]» c => 2 | bad state
+size 1 1 | {"is_read_only":false,"commits":[],"files":[[[[[[[[[[[[[[[[[[[[[[[[[[[[[[[[[[[[[[[[[[[[[[[[[[[[[[[[[[[[[[[[[[[[[[[[[[[[[[[[[[[[[[[[[[[[[[[[[[[[[[[[[[[[[[[[[[[[[[[[[[[[[[[[[[[[[[[[[[[[[[[[[[[[[[[[[[[[[[[[[[[[[[[[[[[[[[[[[[[[[[[[[[[[[[[[[[[[[[[[]]]]]]]]]]]]]]]]]]]]]]]]]]]]]]]]]]]]]]]]]]]]]]]]]]]]]]]]]]]]]]]]]]]]]]]]]]]]]]]]]]]]]]]]]]]]]]]]]]]]]]]]]]]]]]]]]]]]]]]]]]]]]]]]]]]]]]]]]]]]]]]]]]]]]]]]]]]]]]]]]]]]]]]]]]]]]]]]]]]]]]]]]]]]]]]]]]]]]]]]} | script => 2 | bad state
+size 1 1 | {"is_read_only":false,"comm | script => 2 | bad state
 
 # What is printed of a state is what was read: each kind of section, and both commits' messages.
 «FILE {"Unchanged":{"lines":["a\n","\u0001\"\\"]}}» c => 0 | accepted | «FILE {"Unchanged":{"lines":["a\n","\u0001\"\\"]}}» | file 0 | selected 1777777777777777777777 text "a\n\u0001\"\\" | unselected 1777777777777777777777 text "a\n\u0001\"\\"
@@ -277,12 +284,14 @@ size 80 24 | {"is_read_only":false,"commits":[{"message":"m"}],"files":[]} | scr
 «NEW 0 0 0» l l enter c => 0 | accepted | «NEW 1 1 0»…
 «NOTHING» enter c => 0 | accepted | «PADDED»
 
-# Every mark inverted, with no effects; all checked, or all unchecked where every file is checked.
+# Every mark inverted, and each file repaired; all checked, or all unchecked where every file is checked.
 «TREE 0 1 0 1 0» a c => 0 | accepted | «TREE 0 0 1 0 1»…
 «TREE 1 1 0 1 0» a c => 0 | accepted | «TREE 1 1 0 1 0»…
 «TREE 0 1 0 1 0» a a c => 0 | accepted | «TREE 0 1 0 1 0»…
-«NEW 1 1 0» a c => 0 | accepted | «NEW 0 0 1»…
-«BYTES 1 0 0 1» a c => 0 | accepted | «BYTES 0 1 1 0»…
+«NEW 1 1 0» a c => 0 | accepted | «NEW 1 0 1»…
+«NEW 1 0 1» a a c => 0 | accepted | «NEW 1 0 1»…
+«GONE 0 1 1» a c => 0 | accepted | «GONE 0 0 0»…
+«BYTES 1 0 0 1» a c => 0 | accepted | «BYTES 0 1 1 1»…
 «TREE 0 1 0 1 0» shift-A c => 0 | accepted | «TREE 0 1 1 1 1»…
 «TREE 0 1 0 1 0» shift-A shift-A c => 0 | accepted | «TREE 0 0 0 0 0»…
 «TREE 1 1 0 1 0» shift-A c => 0 | accepted | «TREE 1 1 0 1 0»…
@@ -290,6 +299,14 @@ size 80 24 | {"is_read_only":false,"commits":[{"message":"m"}],"files":[]} | scr
 «SECOND 1 1 1» shift-A shift-A c => 0 | accepted | «SECOND 1 1 1»…
 «BYTES 1 1 1 1» shift-A c => 0 | accepted | «BYTES 0 0 0 0»…
 «NOTHING» a shift-A c => 0 | accepted | «PADDED»
+
+# An inversion unchecks a deletion beside an unchecked line, and checks the creation of a new file with a checked line: by its key, and in the Edit menu.
+«CUT 1 0 0» a c => 0 | accepted | «CUT 0 1 0» | file 0 | selected 100644 text "x\n" | unselected <absent> text "y\n"
+«MADE 1 0 1» a c => 0 | accepted | «MADE 0 1 1» | file 0 | selected 100644 text "m\n" | unselected <absent> text "n\n"
+«UNMADE 1 0 1» a c => 0 | accepted | «UNMADE 0 1 1» | file 0 | selected <absent> text "b\n" | unselected <absent> text "a\n"
+«CUT 1 0 0» click:0:7 click:4:8 c => 0 | accepted | «CUT 0 1 0» | file 0 | selected 100644 text "x\n" | unselected <absent> text "y\n"
+«MADE 1 0 1» click:0:7 click:4:8 c => 0 | accepted | «MADE 0 1 1» | file 0 | selected 100644 text "m\n" | unselected <absent> text "n\n"
+«UNMADE 1 0 1» click:0:7 click:4:8 c => 0 | accepted | «UNMADE 0 1 1» | file 0 | selected <absent> text "b\n" | unselected <absent> text "a\n"
 
 # Folds of a file, of a section, of a line (nothing), and of all.
 «TREE 0 0 0 0 0» f j space c => 0 | accepted | «TREE 0 1 1 0 0»…
@@ -425,6 +442,7 @@ size 80 24 | «NOTHING» | script | BATCH q => 2 | bad input: line 4
 size 80 24 | «NOTHING» | script | batchq => 2 | bad input: line 4
 size 80 24 | «NOTHING» | script | shot => 2 | bad input: line 4
 size 80 24 | «NOTHING» | script | Answer "a" => 2 | bad input: line 4
+size 80 24 | «NOTHING» | script | answer x => 2 | bad input: line 4
 size 80 24 | «NOTHING» | script | answer "a" b => 2 | bad input: line 4
 size 80 24 | «NOTHING» | script | answer 'a' => 2 | bad input: line 4
 size 80 24 | «NOTHING» | script | fault␉read x => 2 | bad input: line 4
@@ -881,6 +899,98 @@ size 80 24 | { |   "is_read_only": false, |   "commits": [], |   "files": [ |   
 | screen 0
 | "[File] [Edit] [Select] [
 | accepted…
+
+# A file without sections before one of a line, and a file of two lines: what is inverted, folded and moved to.
+«BARE 1» shift-A shift-A c => 0 | accepted | «BARE 1»…
+«TWO 0 0» l l shift-F shift-F space c => 0 | accepted | «TWO 1 1»…
+«TWO 0 0» l l shift-F space c => 0 | accepted | «TWO 1 0»…
+«TWO 0 0» l l enter space c => 0 | accepted | «TWO 1 1»…
+«BARE 0» l shot space c => 0
+| screen 0
+| "[File] [Edit] [Select] [View]
+| "[ ] p                                                                        [+]
+| "[ ] q                                                                        [-]
+| "  ( ) Section 1/1                                                            (-)
+| "    [ ] + x⏎
+| accepted
+| «BARE 1»…
+
+# On a large screen: a folded file is scrolled over and back, a menu is opened and left or chosen from, and a click below the screen hits nothing.
+«OF1 X» ctrl-down shot ctrl-down shot ctrl-down shot c => 0
+| screen 0
+| "[File] [Edit] [Select] [View]
+| screen 1
+| "[File] [Edit] [Select] [View]
+| "( ) f                                                                        (+)
+| screen 2
+| "[File] [Edit] [Select] [View]
+| accepted
+| «OF1 X»…
+«PLAIN» click:0:1 shot click:1:30 shot c => 0
+| screen 0
+| "[File] [Edit] [Select] [View]
+| "[Confirm (c)]                                                                (+)
+| "[Quit (q)]
+| screen 1
+| "[File] [Edit] [Select] [View]
+| "( ) foo/bar                                                                  (+)
+| accepted
+| «PLAIN»…
+«PLAIN» click:0:1 click:2:3 c => 1 | fault: cancelled by user
+«PLAIN» shot click:24:0 shot c => 0
+| screen 0
+| "[File] [Edit] [Select] [View]
+| "( ) foo/bar                                                                  (+)
+| screen 1
+| "[File] [Edit] [Select] [View]
+| "( ) foo/bar                                                                  (+)
+| accepted
+| «PLAIN»…
+
+# A line of context is selected by a click and toggles nothing, and the next key from there is the file; a menu's item moves to the next key.
+24 14 «OF3 X C7 Y» l click:4:0 enter shot j shot c => 0
+| screen 0
+| "[File] [Edit] [Select] [
+| "[ ] f                [-]
+| "  [ ] Section 1/2    [-]
+| "    [ ] + x⏎
+| "        1 a⏎
+| "        2 b⏎
+| "        3 c⏎
+| "        ⋮
+| "        5 e⏎
+| "        6 f⏎
+| "        7 g⏎
+| "  [ ] Section 2/2    [-]
+| "    [ ] - y⏎
+| screen 1
+| "[File] [Edit] [Select] [
+| "( ) f                (-)
+| "  [ ] Section 1/2    [-]
+| "    [ ] + x⏎
+| "        1 a⏎
+| "        2 b⏎
+| "        3 c⏎
+| "        ⋮
+| "        5 e⏎
+| "        6 f⏎
+| "        7 g⏎
+| "  [ ] Section 2/2    [-]
+| "    [ ] - y⏎
+| accepted
+| «OF3 X C7 Y»…
+24 8 «OF1 TEN» l click:0:15 click:2:15 shot c => 0
+| screen 0
+| "[File] [Edit] [Select] [
+| "[ ] f                [-]
+| "  [ ] Section 1/1    [-]
+| "    ( ) + 0⏎
+| "    [ ] + 1⏎
+| "    [ ] + 2⏎
+| "    [ ] + 3⏎
+| "    [ ] + 4⏎
+| accepted
+| «OF1 TEN»…
 
 # After Redraw the screen is blank until the next frame.
 20 5 «PLAIN» redraw,shot shot c => 0

@@ -348,3 +348,112 @@ fn long_inputs_are_named(rt: HostRuntime) -> Result<(), Fail> {
     }
     Ok(())
 }
+
+/// A text of three parts, the second of which stands so many times.
+#[derive(Clone, Copy)]
+struct Long {
+    begin: &'static str,
+    middle: &'static str,
+    times: usize,
+    end: &'static str,
+}
+
+impl Long {
+    /// The whole text.
+    fn text(self, alloc: Global) -> Result<String, AllocError> {
+        let mut text = String::from_str(alloc, self.begin)?;
+        for _ in 0..self.times {
+            text.push_str(self.middle)?;
+        }
+        text.push_str(self.end)?;
+        Ok(text)
+    }
+}
+
+/// A reader that gives such a text, a part at a read, and makes it as it goes.
+#[derive(Drop)]
+struct LongReader {
+    part: &'static [u8],
+    rest: Long,
+}
+
+impl LongReader {
+    fn new(text: Long) -> LongReader {
+        LongReader {
+            part: text.begin.as_bytes(),
+            rest: text,
+        }
+    }
+
+    /// Goes on to the next part, where one was given whole.
+    fn advance(&mut self) {
+        if self.rest.times > 0 {
+            self.rest.times -= 1;
+            self.part = self.rest.middle.as_bytes();
+        } else {
+            self.part = self.rest.end.as_bytes();
+            self.rest.end = "";
+        }
+    }
+}
+
+impl Read for LongReader {
+    fn read(&mut self, buf: &mut [u8]) -> io::Result<usize> {
+        if self.part.is_empty() {
+            self.advance();
+        }
+        let length = self.part.len().min(buf.len());
+        buf[..length].copy_from_slice(&self.part[..length]);
+        self.part = &self.part[length..];
+        Ok(length)
+    }
+}
+
+/// Plays a long input, whose output begins so.
+fn check_long(rt: &impl Abort, alloc: Global, input: Long, output: &str) -> Result<(), Fail> {
+    let mut written = Vec::new(alloc);
+    let status = play(alloc, LongReader::new(input), &mut written);
+    assert_eq!(rt; status, 0);
+    assert!(rt; String::from_utf8(written)?.as_str().starts_with(output));
+    Ok(())
+}
+
+/// A script that accepts a state of one file with 999,999 changed lines: 1,000,001 files, sections and lines.
+const MANY_LINES: Long = Long {
+    begin: "size 80 24\n{\"is_read_only\":false,\"commits\":[],\"files\":[{\"old_path\":null,\"path\":\"f\",\"file_mode\":{\"Unix\":33188},\"sections\":[{\"Changed\":{\"lines\":[",
+    middle: "{\"is_checked\":false,\"change_type\":\"Added\",\"line\":\"\"},",
+    times: 999_998,
+    end: "{\"is_checked\":false,\"change_type\":\"Added\",\"line\":\"\"}]}}]}]}\nscript\nbatch c\n",
+};
+
+/// What is written of it: the same state, with two commits.
+const MANY_LINES_ACCEPTED: Long = Long {
+    begin: "accepted\n{\"is_read_only\":false,\"commits\":[{\"message\":null},{\"message\":null}],\"files\":[{\"old_path\":null,\"path\":\"f\",\"file_mode\":{\"Unix\":33188},\"sections\":[{\"Changed\":{\"lines\":[",
+    middle: "{\"is_checked\":false,\"change_type\":\"Added\",\"line\":\"\"},",
+    times: 999_998,
+    end: "{\"is_checked\":false,\"change_type\":\"Added\",\"line\":\"\"}]}}]}]}\nfile 0\n",
+};
+
+#[test]
+fn states_of_many_lines_are_accepted(rt: HostRuntime) -> Result<(), Fail> {
+    let output = MANY_LINES_ACCEPTED.text(rt.alloc())?;
+    check_long(&rt, rt.alloc(), MANY_LINES, output.as_str())
+}
+
+/// A script that shows the last of 100,000 lines of context, before a changed one.
+const MUCH_CONTEXT: Long = Long {
+    begin: "size 24 7\n{\"is_read_only\":false,\"commits\":[],\"files\":[{\"old_path\":null,\"path\":\"f\",\"file_mode\":{\"Unix\":33188},\"sections\":[{\"Unchanged\":{\"lines\":[",
+    middle: "\"x\\n\",",
+    times: 99_999,
+    end: "\"x\\n\"]}},{\"Changed\":{\"lines\":[{\"is_checked\":false,\"change_type\":\"Added\",\"line\":\"y\\n\"}]}}]}]}\nscript\nbatch l\nbatch shot\nbatch c\n",
+};
+
+/// Its screen: a number of six digits stands whole, and moves the text by a column.
+const MUCH_CONTEXT_SHOWN: &str =
+    "screen 0 | \"[File] [Edit] [Select] [ | \"[ ] f                [-] | \"    99998 x⏎ | \"    99999 x⏎ | \"    100000 x⏎ | \"  ( ) Section 1/1    (-) | \"    [ ] + y⏎ | accepted";
+
+#[test]
+fn numbers_of_six_digits_stand_whole(rt: HostRuntime) -> Result<(), Fail> {
+    let output = output_of(rt.alloc(), MUCH_CONTEXT_SHOWN, "size 24 7\n")?;
+    check_long(&rt, rt.alloc(), MUCH_CONTEXT, output.as_str())
+}

@@ -21,6 +21,9 @@ or one character";
 const NO_SCRIPT: &str =
     "no line is the word `script` alone: the state ends and the commands begin there";
 
+/// How many lists and objects of a state may stand one in another, which is what `serde_json` reads.
+const DEEPEST: usize = 127;
+
 /// The hint for a run that ended with its script.
 pub fn end_hint(alloc: Global) -> Option<String> {
     let hint =
@@ -126,12 +129,12 @@ fn state_hint(alloc: Global, text: &str) -> Result<Option<String>, PlayError> {
             Ok(()) => Ok(None),
         },
         Err(error) if error.is_memory() => Err(PlayError::Fault(RecordError::OutOfMemory)),
-        Err(error) => Ok(Some(json_hint(alloc, &error, state.lines)?)),
+        Err(error) => Ok(Some(json_hint(alloc, json, &error, state.lines)?)),
     }
 }
 
 /// Where a state of so many lines is no JSON. Its first line is the input's second.
-fn json_hint(alloc: Global, error: &Error, lines: usize) -> Result<String, PlayError> {
+fn json_hint(alloc: Global, json: &str, error: &Error, lines: usize) -> Result<String, PlayError> {
     if error.is_eof() {
         let line = lines.saturating_add(2);
         return Ok(format!(in alloc;
@@ -140,9 +143,41 @@ fn json_hint(alloc: Global, error: &Error, lines: usize) -> Result<String, PlayE
     }
     let line = error.line().saturating_add(1);
     let column = error.column();
+    if open_behind(bytes_before(json, error.line(), column)) > DEEPEST {
+        return Ok(format!(in alloc;
+            "line {line}, column {column}: too deep, lists and objects may nest {DEEPEST} levels"
+        )?);
+    }
     let message = format!(in alloc; "{error}")?;
     let problem = without_place(message.as_str());
     Ok(format!(in alloc; "line {line}, column {column}: {problem}")?)
+}
+
+/// The bytes of a text that stand before a line and a column, both from 1.
+fn bytes_before(text: &str, line: usize, column: usize) -> &[u8] {
+    let mut length = column.saturating_sub(1);
+    for before in text.split_inclusive('\n').take(line.saturating_sub(1)) {
+        length = length.saturating_add(before.len());
+    }
+    text.as_bytes().get(..length).unwrap_or(text.as_bytes())
+}
+
+/// How many lists and objects are open behind the beginning of a JSON text.
+fn open_behind(bytes: &[u8]) -> usize {
+    let mut open: usize = 0;
+    let mut is_text = false;
+    let mut is_escaped = false;
+    for byte in bytes {
+        match *byte {
+            _ if is_escaped => is_escaped = false,
+            b'\\' => is_escaped = is_text,
+            b'"' => is_text = !is_text,
+            b'[' | b'{' if !is_text => open = open.saturating_add(1),
+            b']' | b'}' if !is_text => open = open.saturating_sub(1),
+            _ => {}
+        }
+    }
+    open
 }
 
 /// A message without the place at its end.

@@ -10,9 +10,6 @@ const MAX_COMMITS: usize = 2;
 /// How many bytes a text may have.
 const MAX_TEXT: usize = 1_000_000;
 
-/// How many files, sections and lines a state may have together.
-const MAX_ITEMS: usize = 1_000_000;
-
 /// Refuses a state that passes a limit, by the first one: of its commits, of its files, sections and lines, of a text.
 pub fn check_limits(alloc: Global, state: &RecordState<'_>) -> Result<(), Misfit> {
     check_count(alloc, "commits", state.commits.len(), MAX_COMMITS)?;
@@ -21,7 +18,7 @@ pub fn check_limits(alloc: Global, state: &RecordState<'_>) -> Result<(), Misfit
         alloc,
         "files, sections and lines together",
         items,
-        MAX_ITEMS,
+        RecordState::MAX_ITEMS,
     )?;
     check_commits(alloc, state.commits.as_slice()).map_err(|misfit| misfit.in_member(
         alloc, "commits",

@@ -5,3 +5,7 @@
 mod memory;
 #[cfg(test)]
 mod record;
+#[cfg(test)]
+mod repairs;
+#[cfg(test)]
+mod worked;

@@ -427,7 +427,7 @@ struct Noting {
 
 impl RecordInput for Noting {
     ghost use Rattle.std.specs.Prelude.{List, []};
-    ghost use Rattle.scm_record.specs.Script.{Read, Edit};
+    ghost use Rattle.scm_record.specs.Script.{Read, Reply};
     ghost use Rattle.scm_record.specs.Testing.{kind_of, single_events};
 
     ghost kind = { λ _. kind_of 80 24 };

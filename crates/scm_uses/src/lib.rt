@@ -42,5 +42,8 @@ pub fn selected_side<'a>(
     Ok(selected)
 }
 
+pub mod input;
+pub mod live;
+pub mod splitter;
 #[cfg(test)]
 mod tests;

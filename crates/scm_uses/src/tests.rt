@@ -1,7 +1,9 @@
+use crate::input::record_keys;
+use crate::live::choose;
 use crate::{mark_first_line, selected_side};
 use scm_record::{
-    ChangeType, File, FileMode, Items, RecordState, Section, SectionChangedLine, SelectedContents,
-    Text,
+    ChangeType, Event, File, FileMode, Items, RecordState, Section, SectionChangedLine,
+    SelectedContents, TerminalKind, Text, Tristate,
 };
 use std::alloc::Global;
 use std::test::Fail;
@@ -43,5 +45,55 @@ fn the_first_line_goes_into_the_commit(rt: HostRuntime) -> Result<(), Fail> {
             matches!(&side.contents, SelectedContents::Text { contents } if contents.as_str() == "a\n")
         );
     }
+    Ok(())
+}
+
+/// The keys that mark the first line and confirm.
+const KEYS: [Event; 4] = [
+    Event::FocusInner,
+    Event::FocusInner,
+    Event::ToggleItem,
+    Event::QuitAccept,
+];
+
+/// The screen of the tests.
+const KIND: TerminalKind = TerminalKind::Testing {
+    width: 40,
+    height: 6,
+};
+
+/// Whether all items of each file are marked.
+fn is_marked(state: &RecordState<'_>) -> bool {
+    let files = state.files.as_slice();
+    files.iter().all(|file| file.tristate() == Tristate::True)
+}
+
+#[test]
+fn keys_of_an_input_of_ones_own_mark_the_line(rt: HostRuntime) -> Result<(), Fail> {
+    let alloc = rt.alloc();
+    let state = state_of_one_line(alloc)?;
+    assert!(rt; state.is_accepted());
+    let marked = record_keys(alloc, state, KEYS.to_vec(alloc)?)?;
+    assert!(rt; is_marked(&marked));
+    Ok(())
+}
+
+#[test]
+fn a_session_is_driven_to_its_end(rt: HostRuntime) -> Result<(), Fail> {
+    let alloc = rt.alloc();
+    let state = state_of_one_line(alloc)?;
+    assert!(rt; state.is_accepted());
+    let marked = choose(alloc, KIND, state, &KEYS)?;
+    assert!(rt; marked.is_some_and(|marked| is_marked(&marked)));
+    Ok(())
+}
+
+#[test]
+fn a_session_without_a_confirmed_quit_has_no_state(rt: HostRuntime) -> Result<(), Fail> {
+    let alloc = rt.alloc();
+    let state = state_of_one_line(alloc)?;
+    assert!(rt; state.is_accepted());
+    let marked = choose(alloc, KIND, state, &KEYS[..3])?;
+    assert!(rt; marked.is_none());
     Ok(())
 }

@@ -1,0 +1,81 @@
+//! A small commit splitter: the changes between two texts, by their lines.
+ghost use Rattle.std.specs.Prelude.{◌≤◌, length};
+
+use scm_record::{
+    ChangeType, File, FileMode, Items, RecordError, Section, SectionChangedLine, Text,
+};
+use std::alloc::Global;
+
+/// How many lines at the front of both texts are the same.
+fn same_front(old: &[&str], new: &[&str]) -> usize
+    ensures old { result ≤ length old.now }
+    ensures new { result ≤ length new.now }
+{
+    old.iter()
+        .zip(new)
+        .take_while(|(old, new)| old == new)
+        .count()
+}
+
+/// The lines of a text, each with its line end.
+fn lines_of(alloc: Global, text: &str) -> Result<Vec<&str>, RecordError> {
+    Ok(text.split_inclusive('\n').collect(alloc)?)
+}
+
+/// Adds lines that were all added, or all removed.
+fn push_changed<'a>(
+    changes: &mut Vec<SectionChangedLine<'a>>,
+    change_type: ChangeType,
+    lines: &[&'a str],
+) -> Result<(), RecordError> {
+    for line in lines {
+        changes.push(SectionChangedLine {
+            is_checked: false,
+            change_type,
+            line: Text::from(*line),
+        })?;
+    }
+    Ok(())
+}
+
+/// What two texts have in common at the front.
+fn context<'a>(alloc: Global, lines: &[&'a str]) -> Result<Section<'a>, RecordError> {
+    let texts = lines.iter().map(|line| Text::from(*line)).collect(alloc)?;
+    Ok(Section::Unchanged { lines: texts })
+}
+
+/// What makes the new text of the old one behind what they have in common.
+fn changed<'a>(
+    alloc: Global,
+    old: &[&'a str],
+    new: &[&'a str],
+) -> Result<Section<'a>, RecordError> {
+    let mut changes = Vec::new(alloc);
+    push_changed(&mut changes, ChangeType::Removed, old)?;
+    push_changed(&mut changes, ChangeType::Added, new)?;
+    Ok(Section::Changed {
+        lines: Items::from(changes),
+    })
+}
+
+/// The changes from one text to another: the lines that both begin with as context, and then the
+/// old lines removed and the new ones added, none of them checked.
+pub fn changed_file<'a>(
+    alloc: Global,
+    path: &'a str,
+    old: &'a str,
+    new: &'a str,
+) -> Result<File<'a>, RecordError> {
+    let old_lines = lines_of(alloc, old)?;
+    let new_lines = lines_of(alloc, new)?;
+    let front = same_front(&old_lines, &new_lines);
+    let mut sections = Vec::new(alloc);
+    sections.push(context(alloc, &old_lines[..front])?)?;
+    sections.push(changed(alloc, &old_lines[front..], &new_lines[front..])?)?;
+    Ok(File {
+        old_path: None,
+        path: Text::from(path),
+        file_mode: FileMode::FILE_DEFAULT,
+        sections: Items::from(sections),
+    })
+}
