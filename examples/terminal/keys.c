@@ -1,161 +1,91 @@
-/* The bytes that a terminal sends, made into words: plain characters, control characters, and sequences behind ESC. */
 #include "keys.h"
 
 #include <stdio.h>
-#include <stdlib.h>
 #include <string.h>
 
-enum { ESC = 27, SHIFT = 1, ALT = 2, CTRL = 4 };
+enum { ESC = 27 };
 
 /* The buttons of a mouse, without the bits of the keys that are held. */
 enum { LEFT_BUTTON = 0, WHEEL_UP = 64, WHEEL_DOWN = 65, HELD_WITH_A_BUTTON = 4 | 8 | 16 };
 
-static void name_key(keys_event *event, unsigned held, const char *name) {
-    snprintf(event->word, sizeof event->word, "%s%s%s%s", held & CTRL ? "ctrl-" : "", held & ALT ? "alt-" : "",
-             held & SHIFT ? "shift-" : "", name);
-}
+/* Tab, which no script knows, shows the other commit too. */
+static const struct {
+    const char *bytes;
+    const char *word;
+} KEYS[] = {
+    {" ", "space"},           {"\r", "enter"},           {"\t", "view"},
+    {"\x1b", "esc"},          {"\x1b[5~", "pageup"},     {"\x1b[6~", "pagedown"},
+    {"\x1b[A", "up"},         {"\x1b[B", "down"},        {"\x1b[C", "right"},
+    {"\x1b[D", "left"},       {"\x1bOA", "up"},          {"\x1bOB", "down"},
+    {"\x1bOC", "right"},      {"\x1bOD", "left"},        {"\x1b[1;2C", "shift-right"},
+    {"\x1b[1;2D", "shift-left"}, {"\x1b[1;5A", "ctrl-up"}, {"\x1b[1;5B", "ctrl-down"},
+    {"\x1b[5;5~", "ctrl-pageup"}, {"\x1b[6;5~", "ctrl-pagedown"},
+};
 
-/* A key of one byte, with what is held beside it. Tab, which no script knows, shows the other commit too. */
-static void name_byte(keys_event *event, unsigned held, char byte) {
-    char name[2] = {byte, 0};
-    if (byte == ' ') {
-        name_key(event, held, "space");
-    } else if (byte == '\r') {
-        name_key(event, held, "enter");
-    } else if (byte == '\t') {
-        name_key(event, held, "view");
-    } else if (byte >= 1 && byte <= 26) {
-        name[0] = (char)('a' + byte - 1);
-        name_key(event, held | CTRL, name);
-    } else if (byte >= 'A' && byte <= 'Z') {
-        name_key(event, held | SHIFT, name);
-    } else if (byte > ' ' && byte < 127) {
-        name_key(event, held, name);
+/* How many bytes the first key has, or 0 where its end has not come yet. */
+static size_t length_of_key(const keys_typed *typed) {
+    const char *bytes = typed->bytes;
+    if (bytes[0] != ESC) {
+        return 1;
     }
-}
-
-/* Reads numbers with `;` between them, and answers how many there are. One that is left out is 0. */
-static size_t read_numbers(const char *text, unsigned long *numbers, size_t room) {
-    size_t count = 0;
-    while (count < room) {
-        char *end;
-        numbers[count++] = strtoul(text, &end, 10);
-        if (*end != ';') {
-            break;
+    if (typed->count == 1) {
+        return 0;
+    }
+    if (bytes[1] != '[' && bytes[1] != 'O') {
+        return bytes[1] == ESC ? 1 : 2; /* an ESC alone before another, or a key with alt held */
+    }
+    for (size_t i = 2; i < typed->count; i++) {
+        if (bytes[i] >= '@' && bytes[i] <= '~' && !(i == 2 && bytes[i] == '[')) {
+            return i + 1;
         }
-        text = end + 1;
     }
-    return count;
+    return 0;
 }
 
-/* A report of the mouse: `<`, the button, the column and the row from 1, and an M where the button goes down. */
-static void name_button(keys_event *event, const char *text, char last) {
-    unsigned long numbers[3] = {0};
-    if (last != 'M' || read_numbers(text + 1, numbers, 3) != 3) {
+/* A report of the mouse: the button, the column and the row from 1, and an M where the button goes down. */
+static void name_button(const char *key, char word[KEYS_WORD]) {
+    unsigned button, column, row;
+    char last;
+    if (sscanf(key, "\x1b[<%5u;%5u;%5u%c", &button, &column, &row, &last) != 4 || last != 'M') {
         return;
     }
-    unsigned long button = numbers[0] & ~(unsigned long)HELD_WITH_A_BUTTON;
-    if (button == WHEEL_UP) {
-        name_key(event, 0, "wheel-up");
-    } else if (button == WHEEL_DOWN) {
-        name_key(event, 0, "wheel-down");
-    } else if (button == LEFT_BUTTON && numbers[1] - 1 <= UINT16_MAX && numbers[2] - 1 <= UINT16_MAX) {
-        event->is_click = true;
-        event->column = (uint16_t)(numbers[1] - 1);
-        event->row = (uint16_t)(numbers[2] - 1);
+    button &= ~(unsigned)HELD_WITH_A_BUTTON;
+    if (button == LEFT_BUTTON && column > 0 && row > 0) {
+        snprintf(word, KEYS_WORD, "click:%u:%u", row - 1, column - 1);
+    } else if (button == WHEEL_UP || button == WHEEL_DOWN) {
+        strcpy(word, button == WHEEL_UP ? "wheel-up" : "wheel-down");
     }
 }
 
-static const char *name_of_arrow(char last) {
-    switch (last) {
-    case 'A': return "up";
-    case 'B': return "down";
-    case 'C': return "right";
-    case 'D': return "left";
-    default: return NULL;
+static void name_key(const char *key, char word[KEYS_WORD]) {
+    word[0] = 0;
+    for (size_t i = 0; i < sizeof KEYS / sizeof *KEYS; i++) {
+        if (strcmp(key, KEYS[i].bytes) == 0) {
+            strcpy(word, KEYS[i].word);
+            return;
+        }
+    }
+    if (key[0] >= 1 && key[0] <= 26) {
+        snprintf(word, KEYS_WORD, "ctrl-%c", 'a' + key[0] - 1);
+    } else if (key[0] >= 'A' && key[0] <= 'Z') {
+        snprintf(word, KEYS_WORD, "shift-%c", key[0]);
+    } else if (key[0] > ' ' && key[0] < 127) {
+        snprintf(word, KEYS_WORD, "%c", key[0]);
+    } else {
+        name_button(key, word);
     }
 }
 
-/* A whole sequence behind ESC [ or ESC O: numbers, of which the second tells what is held, and a last byte. */
-static void name_sequence(keys_event *event, const char *text, char last) {
-    if (text[0] == '<') {
-        name_button(event, text, last);
-        return;
+bool keys_take(keys_typed *typed, bool is_over, char word[KEYS_WORD]) {
+    char key[sizeof typed->bytes + 1];
+    size_t length = typed->count > 0 ? length_of_key(typed) : 0;
+    if (length == 0 && (is_over || typed->count == sizeof typed->bytes)) {
+        length = typed->count;
     }
-    unsigned long numbers[2] = {0};
-    unsigned long held = read_numbers(text, numbers, 2) == 2 ? numbers[1] - 1 : 0;
-    const char *name = name_of_arrow(last);
-    if (last == '~' && numbers[0] == 5) {
-        name = "pageup";
-    } else if (last == '~' && numbers[0] == 6) {
-        name = "pagedown";
-    }
-    if (name && held <= (SHIFT | ALT | CTRL)) {
-        name_key(event, (unsigned)held, name);
-    }
-}
-
-/* Whether a sequence begins with these two bytes. */
-static bool opens_sequence(const char *bytes) {
-    return bytes[0] == ESC && (bytes[1] == '[' || bytes[1] == 'O');
-}
-
-/* A byte within a sequence. Too long a one means nothing. The keys F1 to F5 of a console have a second [ in it. */
-static bool take_further(keys_held *held, char byte, keys_event *event) {
-    bool is_last = byte >= '@' && byte <= '~' && !(byte == '[' && held->count == 2);
-    bool has_room = held->count < sizeof held->bytes - 1;
-    if (has_room) {
-        held->bytes[held->count++] = byte;
-        held->bytes[held->count] = 0;
-    }
-    if (is_last && has_room) {
-        name_sequence(event, held->bytes + 2, byte);
-    }
-    if (is_last) {
-        held->count = 0;
-    }
-    return is_last;
-}
-
-/* The byte behind an ESC: it begins a sequence, or is a key with alt held, or there was an ESC alone before another. */
-static bool take_second(keys_held *held, char byte, keys_event *event) {
-    held->bytes[1] = byte;
-    if (opens_sequence(held->bytes)) {
-        held->count = 2;
-        return false;
-    }
-    if (byte == ESC) {
-        name_key(event, 0, "esc");
-        return true;
-    }
-    held->count = 0;
-    name_byte(event, ALT, byte);
-    return true;
-}
-
-bool keys_take(keys_held *held, char byte, keys_event *event) {
-    *event = (keys_event){0};
-    if (held->count >= 2 && byte != ESC) {
-        return take_further(held, byte, event);
-    }
-    if (held->count == 1) {
-        return take_second(held, byte, event);
-    }
-    if (byte == ESC) {
-        held->bytes[0] = ESC;
-        held->count = 1;
-        return false;
-    }
-    name_byte(event, 0, byte);
-    return true;
-}
-
-bool keys_end(keys_held *held, keys_event *event) {
-    *event = (keys_event){0};
-    bool is_escape = held->count == 1;
-    held->count = 0;
-    if (is_escape) {
-        name_key(event, 0, "esc");
-    }
-    return is_escape;
+    memcpy(key, typed->bytes, length);
+    key[length] = 0;
+    typed->count -= length;
+    memmove(typed->bytes, typed->bytes + length, typed->count);
+    name_key(key, word);
+    return length > 0;
 }

@@ -2,75 +2,30 @@
  *
  *   terminal STATE.json [ACCEPTED]
  *
- * reads a state, and writes what was accepted to a file or, with none, to standard output. A message is edited by
- * $VISUAL or $EDITOR. The status is 0 for an accepted state, 1 where it was given up, 2 for what cannot be read,
- * shown or written. No proof covers this file. */
+ * reads a state, and writes what was accepted to a file or, with none, to standard output. The status is 0 for an
+ * accepted state, 1 where it was given up, 2 for what cannot be read, shown or written. No proof covers this file. */
 #define _XOPEN_SOURCE 700
+#include "files.h"
 #include "keys.h"
 #include "scm.h"
+#include "screen.h"
 
 #include <errno.h>
-#include <fcntl.h>
 #include <langinfo.h>
 #include <locale.h>
 #include <signal.h>
-#include <stdarg.h>
-#include <stdio.h>
 #include <stdlib.h>
 #include <string.h>
-#include <sys/ioctl.h>
-#include <sys/select.h>
-#include <termios.h>
-#include <unistd.h>
 #include <wchar.h>
 
 enum { GIVEN_UP = 1, FAILED = 2 };
 
-/* How long the rest of a sequence behind an ESC may take, in nanoseconds. */
-enum { SEQUENCE_TIME = 50 * 1000 * 1000 };
-
 static scm_session session;
-static FILE *screen; /* the terminal, to write to */
-static int keyboard; /* the terminal, to read from */
-static struct termios settings_before;
-static sigset_t signals_before; /* signals come while the program waits for a key, and at no other time */
-static volatile sig_atomic_t has_new_size;
-static volatile sig_atomic_t stopped_by;
 
-static void on_new_size(int signal_number) {
-    (void)signal_number;
-    has_new_size = 1;
-}
-
-static void on_stop(int signal_number) { stopped_by = signal_number; }
-
-/* Gives the terminal back as it was. */
-static void leave_screen(void) {
-    fputs("\x1b[?1006l\x1b[?1000l\x1b[?25h\x1b[?1049l", screen);
-    fflush(screen);
-    tcsetattr(keyboard, TCSAFLUSH, &settings_before);
-}
-
-/* Takes the terminal's second screen, and each key and click as it comes. */
-static void enter_screen(void) {
-    struct termios settings = settings_before;
-    settings.c_iflag &= ~(tcflag_t)(BRKINT | ICRNL | INPCK | ISTRIP | IXON);
-    settings.c_oflag &= ~(tcflag_t)OPOST;
-    settings.c_lflag &= ~(tcflag_t)(ECHO | ICANON | IEXTEN | ISIG);
-    settings.c_cc[VMIN] = 1;
-    settings.c_cc[VTIME] = 0;
-    tcsetattr(keyboard, TCSAFLUSH, &settings);
-    fputs("\x1b[?1049h\x1b[?25l\x1b[?1000h\x1b[?1006h\x1b[2J", screen);
-}
-
-/* Says what is wrong in a line, and ends. */
-static void fail(const char *format, ...) {
-    va_list rest;
-    va_start(rest, format);
-    fputs("terminal: ", stderr);
-    vfprintf(stderr, format, rest);
-    fputc('\n', stderr);
-    va_end(rest);
+/* Says what is wrong, and ends. */
+static void fail(const char *what, const char *why) {
+    screen_give_back();
+    fprintf(stderr, "terminal: %s: %s\n", what, why);
     scm_free(&session);
     exit(FAILED);
 }
@@ -86,49 +41,16 @@ static const char *words_of(uint32_t code) {
     }
 }
 
-/* The bytes of a file, or NULL with errno set. */
-static char *read_file(const char *path, size_t *length) {
-    FILE *file = fopen(path, "rb");
-    if (!file) {
-        return NULL;
-    }
-    size_t room = 1 << 16;
-    char *bytes = malloc(room);
-    *length = 0;
-    while (bytes) {
-        *length += fread(bytes + *length, 1, room - *length, file);
-        if (*length < room) {
-            break;
-        }
-        room *= 2;
-        char *larger = realloc(bytes, room);
-        if (!larger) {
-            free(bytes);
-        }
-        bytes = larger;
-    }
-    if (bytes && ferror(file)) {
-        free(bytes);
-        bytes = NULL;
-    }
-    fclose(file);
-    return bytes;
-}
-
-static bool write_and_close(FILE *file, const char *bytes, size_t length) {
-    bool is_written = fwrite(bytes, 1, length, file) == length;
-    return fclose(file) == 0 && is_written;
-}
-
-/* What the session has to read, with a zero behind it; NULL where there is no memory. */
+/* What the session has to read, with a zero behind it. */
 static char *session_text(size_t *length) {
     char nothing;
     size_t room = scm_text(&session, &nothing, 0);
     char *text = malloc(room + 1);
-    if (text) {
-        *length = scm_text(&session, text, room);
-        text[*length < room ? *length : room] = 0;
+    if (!text) {
+        fail("cannot go on", words_of(SCM_NO_MEMORY));
     }
+    *length = scm_text(&session, text, room);
+    text[*length] = 0;
     return text;
 }
 
@@ -147,26 +69,24 @@ static const char *colours_of(uint32_t owner) {
 
 /* Draws a row. How many columns a character takes is what the C library says. */
 static void draw_row(uint16_t row, const char *text, const char *end) {
-    uint32_t owner_before = SCM_NOBODY;
-    uint16_t column = 0;
     mbstate_t state = {0};
-    while (text < end) {
-        wchar_t character;
-        size_t bytes = mbrtowc(&character, text, (size_t)(end - text), &state);
+    const char *colours = NULL;
+    int column = 0;
+    wchar_t character;
+    for (size_t bytes; text < end; text += bytes) {
+        bytes = mbrtowc(&character, text, (size_t)(end - text), &state);
         if (bytes == 0 || bytes > (size_t)(end - text)) {
             break;
         }
-        uint32_t owner = scm_owner(&session, row, column);
-        if (owner != owner_before) {
-            fputs(colours_of(owner), screen);
+        int columns = wcwidth(character);
+        if (columns > 0) {
+            const char *next = colours_of(scm_owner(&session, row, (uint16_t)column));
+            fputs(next == colours ? "" : next, screen);
+            colours = next;
+            column += columns;
         }
         fwrite(text, 1, bytes, screen);
-        int columns = wcwidth(character);
-        column = (uint16_t)(column + (columns > 0 ? columns : 0));
-        owner_before = owner;
-        text += bytes;
     }
-    fputs("\x1b[0m", screen);
 }
 
 /* Draws the rows, each of which stands between two quotes. They fill the screen, so nothing needs to be erased. A
@@ -174,191 +94,98 @@ static void draw_row(uint16_t row, const char *text, const char *end) {
 static void draw(void) {
     size_t length;
     char *text = session_text(&length);
-    if (!text) {
-        return;
-    }
+    char *line = text;
     fputs("\x1b[?2026h\x1b[H", screen);
-    const char *line = text;
     for (uint16_t row = 0; *line; row++) {
-        const char *end = strchr(line, '\n');
+        char *end = strchr(line, '\n');
         fputs(row ? "\r\n" : "", screen);
         draw_row(row, line + 1, end - 1);
         line = end + 1;
     }
-    fputs("\x1b[?2026l", screen);
+    fputs("\x1b[0m\x1b[?2026l", screen);
     fflush(screen);
     free(text);
-}
-
-static void size_of_screen(uint16_t *width, uint16_t *height) {
-    struct winsize size;
-    bool is_known = ioctl(keyboard, TIOCGWINSZ, &size) == 0 && size.ws_col > 0 && size.ws_row > 0;
-    *width = is_known ? size.ws_col : 80;
-    *height = is_known ? size.ws_row : 24;
-}
-
-/* Takes the size that the terminal has now. It may have been stopped and set otherwise meanwhile. */
-static void take_new_size(void) {
-    uint16_t width;
-    uint16_t height;
-    has_new_size = 0;
-    size_of_screen(&width, &height);
-    enter_screen();
-    scm_resize(&session, width, height);
-}
-
-/* Starts the editor on a file, with the signals as they were. The shell reads its command as one of its own. */
-static bool edit_file(const char *path) {
-    sigset_t signals;
-    leave_screen();
-    sigprocmask(SIG_SETMASK, &signals_before, &signals);
-    bool is_edited = setenv("SCM_MESSAGE", path, 1) == 0 &&
-                     system("eval \"${VISUAL:-${EDITOR:-vi}} \\\"\\$SCM_MESSAGE\\\"\"") == 0;
-    sigprocmask(SIG_SETMASK, &signals, NULL);
-    enter_screen();
-    return is_edited;
-}
-
-/* Hands in the message as the editor left it. Says why that is not possible, or NULL. */
-static const char *answer_from(const char *path) {
-    size_t length;
-    char *message = read_file(path, &length);
-    if (!message) {
-        return strerror(errno);
-    }
-    uint32_t code = scm_answer(&session, message, length);
-    free(message);
-    return code == SCM_DONE ? NULL : words_of(code);
 }
 
 /* Has the message that the session waits for edited. Where that fails it stays, and the main screen says why. */
 static void edit_message(void) {
     size_t length;
     char *message = session_text(&length);
-    char path[] = "/tmp/message-XXXXXX";
-    int made = message ? mkstemp(path) : -1;
-    FILE *file = made < 0 ? NULL : fdopen(made, "wb");
-    const char *problem = "there is no file for it";
-    if (file && write_and_close(file, message, length)) {
-        problem = edit_file(path) ? answer_from(path) : "the editor failed";
+    size_t new_length = length;
+    screen_give_back();
+    char *edited = edit_text(message, &new_length);
+    uint32_t code = edited ? scm_answer(&session, edited, new_length) : SCM_DONE;
+    if (!edited || code != SCM_DONE) {
+        fprintf(stderr, "terminal: the message stays as it was: %s\n", edited ? words_of(code) : "the editor failed");
+        scm_answer(&session, message, length);
     }
-    if (made >= 0) {
-        unlink(path);
-    }
-    if (problem) {
-        leave_screen();
-        fprintf(stderr, "terminal: the message stays as it was: %s\n", problem);
-        enter_screen();
-        scm_answer(&session, message ? message : "", message ? length : 0);
-    }
+    screen_take();
+    free(edited);
     free(message);
 }
 
-/* Hands in what a key says. A word that means nothing changes nothing. */
-static void press(const keys_event *event) {
-    if (event->is_click) {
-        scm_click(&session, event->row, event->column);
-    } else {
-        scm_press(&session, event->word, strlen(event->word));
-    }
+/* Hands in the word of a key. One that means nothing changes nothing. */
+static void press(const char *word) {
+    scm_press(&session, word, strlen(word));
     while (scm_stage(&session) == SCM_EDITING) {
         edit_message();
     }
 }
 
-/* Waits for bytes: how many came, 0 where the terminal is gone, -1 for a signal or where the time is over. */
-static ssize_t wait_for_bytes(char *bytes, size_t room, bool is_short) {
-    struct timespec time = {0, SEQUENCE_TIME};
-    fd_set waits;
-    FD_ZERO(&waits);
-    FD_SET(keyboard, &waits);
-    if (pselect(keyboard + 1, &waits, NULL, NULL, is_short ? &time : NULL, &signals_before) <= 0) {
-        return -1;
-    }
-    ssize_t count = read(keyboard, bytes, room);
-    return count < 0 ? 0 : count;
+/* The terminal may have been set otherwise meanwhile. */
+static void take_new_size(void) {
+    uint16_t width, height;
+    screen_size(&width, &height);
+    screen_take();
+    scm_resize(&session, width, height);
 }
 
 /* Draws, and takes keys until the session waits no more. */
 static void run(void) {
-    keys_held held = {0};
-    keys_event event;
+    keys_typed typed = {0};
+    char word[KEYS_WORD];
     bool is_drawn = false;
-    while (scm_stage(&session) == SCM_WAITING && !stopped_by && !ferror(screen)) {
+    while (scm_stage(&session) == SCM_WAITING && !screen_stopped_by()) {
         if (!is_drawn) {
             draw();
         }
-        char bytes[256];
-        ssize_t count = wait_for_bytes(bytes, sizeof bytes, held.count > 0);
-        if (count == 0) {
-            break;
-        }
         is_drawn = true;
-        if (has_new_size) {
-            take_new_size();
-            is_drawn = false;
-        } else if (count < 0 && keys_end(&held, &event)) {
-            press(&event);
-            is_drawn = false;
-        }
-        for (ssize_t i = 0; i < count && scm_stage(&session) == SCM_WAITING; i++) {
-            if (keys_take(&held, bytes[i], &event)) {
-                press(&event);
-                is_drawn = false;
-            }
-        }
-    }
-}
-
-/* Symbols are UTF-8, whatever the user's language: without it all columns but those of ASCII would be unknown. */
-static void choose_characters(void) {
-    const char *locales[] = {"", "C.UTF-8", "en_US.UTF-8"};
-    for (size_t i = 0; i < sizeof locales / sizeof *locales; i++) {
-        if (setlocale(LC_CTYPE, locales[i]) && strcmp(nl_langinfo(CODESET), "UTF-8") == 0) {
+        ssize_t count = screen_read(typed.bytes + typed.count, sizeof typed.bytes - typed.count);
+        if (count < 0) {
             return;
         }
-    }
-    fail("the machine has no characters of UTF-8 (no locale C.UTF-8)");
-}
-
-static void handle_signals(void) {
-    const int stops[] = {SIGHUP, SIGINT, SIGQUIT, SIGTERM};
-    struct sigaction on_size = {.sa_handler = on_new_size};
-    struct sigaction on_end = {.sa_handler = on_stop};
-    sigset_t handled;
-    sigemptyset(&handled);
-    for (size_t i = 0; i < sizeof stops / sizeof *stops; i++) {
-        sigaction(stops[i], &on_end, NULL);
-        sigaddset(&handled, stops[i]);
-    }
-    sigaction(SIGWINCH, &on_size, NULL);
-    sigaction(SIGCONT, &on_size, NULL);
-    sigaddset(&handled, SIGWINCH);
-    sigaddset(&handled, SIGCONT);
-    sigprocmask(SIG_BLOCK, &handled, &signals_before);
-}
-
-static void open_terminal(void) {
-    keyboard = open("/dev/tty", O_RDWR | O_CLOEXEC);
-    screen = keyboard < 0 ? NULL : fdopen(keyboard, "w");
-    if (!screen || tcgetattr(keyboard, &settings_before) != 0) {
-        fail("there is no terminal: %s", strerror(errno));
+        typed.count += (size_t)count;
+        if (screen_has_changed()) {
+            take_new_size();
+            is_drawn = false;
+        }
+        while (scm_stage(&session) == SCM_WAITING && keys_take(&typed, count == 0, word)) {
+            press(word);
+            is_drawn = false;
+        }
     }
 }
 
-static void begin_session(const char *path) {
+static void begin(const char *path) {
     size_t length;
-    uint16_t width;
-    uint16_t height;
+    uint16_t width, height;
+    /* symbols are UTF-8, whatever the user's language */
+    bool is_set = setlocale(LC_CTYPE, "") && strcmp(nl_langinfo(CODESET), "UTF-8") == 0;
+    if (!is_set && !setlocale(LC_CTYPE, "C.UTF-8")) {
+        fail("there are no characters of UTF-8", "no locale C.UTF-8");
+    }
     char *json = read_file(path, &length);
     if (!json) {
-        fail("cannot read %s: %s", path, strerror(errno));
+        fail(path, strerror(errno));
     }
-    size_of_screen(&width, &height);
+    if (!screen_open()) {
+        fail("there is no terminal", strerror(errno));
+    }
+    screen_size(&width, &height);
     uint32_t code = scm_new(&session, json, length, width, height);
     free(json);
     if (code != SCM_DONE) {
-        fail("cannot show %s: %s", path, words_of(code));
+        fail(path, words_of(code));
     }
 }
 
@@ -366,41 +193,30 @@ static void begin_session(const char *path) {
 static int report(const char *path) {
     size_t length;
     char *text = session_text(&length);
-    if (!text) {
-        fail("there is no memory for what was accepted");
+    uint32_t stage = scm_stage(&session);
+    if (stage == SCM_ACCEPTED && !write_file(path, text, length)) {
+        fail(path ? path : "standard output", strerror(errno));
     }
-    int status = 0;
-    if (scm_stage(&session) == SCM_ACCEPTED) {
-        FILE *file = path ? fopen(path, "wb") : stdout;
-        if (!file || !write_and_close(file, text, length)) {
-            fail("cannot write %s: %s", path ? path : "what was accepted", strerror(errno));
-        }
-    } else {
-        bool has_ended = scm_stage(&session) == SCM_ENDED;
-        fprintf(stderr, "terminal: %s\n", has_ended ? text : "the terminal is gone");
-        status = GIVEN_UP;
+    if (stage != SCM_ACCEPTED) {
+        fprintf(stderr, "terminal: %s\n", stage == SCM_ENDED ? text : "the terminal is gone");
     }
     free(text);
     scm_free(&session);
-    return status;
+    return stage == SCM_ACCEPTED ? 0 : GIVEN_UP;
 }
 
 int main(int argc, char **argv) {
     if (argc < 2 || argc > 3) {
-        fail("give it a state's file, and perhaps one to write to: terminal STATE.json [ACCEPTED]");
+        fail("give it a state's file, and perhaps one to write to", "terminal STATE.json [ACCEPTED]");
     }
-    choose_characters();
-    open_terminal();
-    begin_session(argv[1]);
-    handle_signals();
-    enter_screen();
+    begin(argv[1]);
+    screen_take();
     run();
-    leave_screen();
-    if (stopped_by) {
+    screen_give_back();
+    if (screen_stopped_by()) {
         scm_free(&session);
-        signal(stopped_by, SIG_DFL);
-        sigprocmask(SIG_SETMASK, &signals_before, NULL);
-        raise(stopped_by);
+        signal(screen_stopped_by(), SIG_DFL);
+        raise(screen_stopped_by());
     }
     return report(argc > 2 ? argv[2] : NULL);
 }

@@ -1,34 +1,50 @@
-/* timing LINES: how long a session over a state of so many lines takes to begin, and then each key, in milliseconds. */
+/* timing FILESxSECTIONSxLINES: what a key costs in a session over a state of so many files of so many changed sections of
+ * so many added lines each, all unfolded, on a screen of 80 x 24. It prints a line: the milliseconds until the session
+ * begins, the microseconds of keys, each the least of many, and the most memory that the program had, in megabytes. */
 #define _XOPEN_SOURCE 700
 #include "scm.h"
 
 #include <stdio.h>
 #include <stdlib.h>
 #include <string.h>
+#include <sys/resource.h>
 #include <time.h>
 
-enum { REPEATS = 10, ROOM_OF_A_LINE = 100 };
+enum { REPEATS = 30, ROOM_OF_AN_ITEM = 120 };
 
 static scm_session session;
 
 static double now(void) {
     struct timespec time;
     clock_gettime(CLOCK_MONOTONIC, &time);
-    return (double)time.tv_sec * 1e3 + (double)time.tv_nsec / 1e6;
+    return (double)time.tv_sec * 1e6 + (double)time.tv_nsec / 1e3;
 }
 
-/* A state of one file with a section of so many added lines. */
-static char *state_of(size_t lines) {
-    char *json = malloc((lines + 10) * ROOM_OF_A_LINE);
-    if (!json) {
-        return NULL;
-    }
-    char *end = json + sprintf(json, "{\"is_read_only\":false,\"commits\":[],\"files\":[{\"old_path\":null,\"path\":\"a.txt\","
-                                     "\"file_mode\":{\"Unix\":33188},\"sections\":[{\"Changed\":{\"lines\":[");
+static char *add_section(char *end, size_t lines) {
+    end += sprintf(end, "{\"Changed\":{\"lines\":[");
     for (size_t i = 0; i < lines; i++) {
         end += sprintf(end, "%s{\"is_checked\":false,\"change_type\":\"Added\",\"line\":\"line %zu\\n\"}", i ? "," : "", i);
     }
-    sprintf(end, "]}}]}]}");
+    return end + sprintf(end, "]}}");
+}
+
+static char *state_of(size_t files, size_t sections, size_t lines) {
+    char *json = malloc((files * (sections * (lines + 1) + 1) + 1) * ROOM_OF_AN_ITEM);
+    char *end = json;
+    if (!json) {
+        return NULL;
+    }
+    end += sprintf(end, "{\"is_read_only\":false,\"commits\":[],\"files\":[");
+    for (size_t file = 0; file < files; file++) {
+        end += sprintf(end, "%s{\"old_path\":null,\"path\":\"file %zu\",\"file_mode\":{\"Unix\":33188},\"sections\":[",
+                       file ? "," : "", file);
+        for (size_t section = 0; section < sections; section++) {
+            end += sprintf(end, "%s", section ? "," : "");
+            end = add_section(end, lines);
+        }
+        end += sprintf(end, "]}");
+    }
+    sprintf(end, "]}");
     return json;
 }
 
@@ -41,38 +57,39 @@ static double time_of_key(const char *word) {
     return now() - begun;
 }
 
-/* The mean and the least time of a key. */
-static void print_key(const char *word) {
-    double sum = 0;
-    double least = 0;
-    for (int i = 0; i < REPEATS; i++) {
+/* The least time of a key; another goes back after each. */
+static void print_key(const char *word, const char *back) {
+    double least = time_of_key(word);
+    for (int i = 1; i < REPEATS; i++) {
+        time_of_key(back);
         double time = time_of_key(word);
-        least = i == 0 || time < least ? time : least;
-        sum += time;
+        least = time < least ? time : least;
     }
-    printf("%-10s mean %9.3f  least %9.3f\n", word, sum / REPEATS, least);
+    time_of_key(back);
+    printf(" | %s %.0f", word, least);
 }
 
 int main(int argc, char **argv) {
-    const char *words[] = {"j", "space", "wheel-down", "pagedown", "ctrl-d", "?"};
-    char *json = argc == 2 ? state_of(strtoul(argv[1], NULL, 10)) : NULL;
-    if (!json) {
-        fputs("timing: give it a number of lines\n", stderr);
-        return 2;
-    }
+    size_t files, sections, lines;
+    bool is_read = argc == 2 && sscanf(argv[1], "%zux%zux%zu", &files, &sections, &lines) == 3;
+    char *json = is_read ? state_of(files, sections, lines) : NULL;
     double begun = now();
-    if (scm_new(&session, json, strlen(json), 80, 24) != SCM_DONE) {
-        fputs("timing: no session begins\n", stderr);
+    if (!json || scm_new(&session, json, strlen(json), 80, 24) != SCM_DONE) {
+        fputs("timing: give it a shape that can be shown: FILESxSECTIONSxLINES\n", stderr);
         return 2;
     }
-    printf("%s lines, a screen of 80 x 24, in milliseconds\nbegin      %14.3f\n", argv[1], now() - begun);
+    printf("%s | begin %.1f ms", argv[1], (now() - begun) / 1e3);
     free(json);
-    printf("shift-F    %14.3f\n", time_of_key("shift-F"));
+    time_of_key("shift-F");
     time_of_key("l");
     time_of_key("l");
-    for (size_t i = 0; i < sizeof words / sizeof *words; i++) {
-        print_key(words[i]);
-    }
+    print_key("j", "k");
+    print_key("pagedown", "pageup");
+    print_key("click:5:20", "click:4:20");
+    print_key("space", "space");
     scm_free(&session);
+    struct rusage usage;
+    getrusage(RUSAGE_SELF, &usage);
+    printf(" | %.1f MB\n", (double)usage.ru_maxrss * 1024 / 1e6);
     return 0;
 }

@@ -1,0 +1,72 @@
+"""What the scripts that try programs share: they build a program, run it beside other runs, and count what was right."""
+import concurrent.futures
+import os
+import pathlib
+import subprocess
+import sys
+import time
+
+ROOT = pathlib.Path(__file__).resolve().parent.parent
+EXAMPLES = ROOT / "examples"
+
+# runs beside one another, one for each processor
+pool = concurrent.futures.ThreadPoolExecutor(os.cpu_count() or 1)
+
+begun = time.monotonic()
+passed = failed = 0
+
+
+def count(is_right, words):
+    """Prints the line of what was tried, and counts it."""
+    global passed, failed
+    if is_right:
+        passed += 1
+    else:
+        failed += 1
+    print(f"{'same' if is_right else 'differs'}: {words}", flush=True)
+
+
+def stop(words):
+    """Ends where nothing can be tried."""
+    count(False, words)
+    end()
+
+
+def end():
+    """Prints the last lines, and ends."""
+    print(f"took {time.monotonic() - begun:.0f} s")
+    print(f"{passed} passed, {failed} failed")
+    sys.exit(0 if failed == 0 else 1)
+
+
+def below(crate):
+    """A crate and the repository's crates that it stands on."""
+    names = {crate}
+    for line in (ROOT / "crates.txt").read_text().splitlines():
+        name, _, libraries = line.partition(":")
+        if name.split(" ")[0] == crate:
+            for library in libraries.split():
+                if (ROOT / "crates" / library).is_dir():
+                    names |= below(library)
+    return names
+
+
+def is_older(made, crates):
+    """Whether a file is not there, or a source of the crates is newer."""
+    if not made.exists():
+        return True
+    parts = [ROOT / "crates" / crate / part for crate in crates for part in ("src", "specs", "proofs")]
+    sources = [source for part in parts for source in part.rglob("*") if source.is_file()]
+    return any(source.stat().st_mtime > made.stat().st_mtime for source in sources)
+
+
+def program(crate):
+    """The program of a crate. It is built where it is not there or a source is newer; it is proved first, which takes long."""
+    made = ROOT / "crates" / crate / "out" / crate
+    if is_older(made, below(crate)):
+        print(f"building {crate}, which is proved first", file=sys.stderr, flush=True)
+        with open(EXAMPLES / "letter", "rb") as script:
+            subprocess.run(["rt", "run"], cwd=made.parent.parent, stdin=script, stdout=subprocess.DEVNULL)
+        if is_older(made, below(crate)):
+            stop(f"{crate} is not built")
+    return made
