@@ -40,6 +40,7 @@ pub mod AppShapeLemmas
 pub mod BoxLemmas
 pub mod OwnerLemmas
 pub mod SessionLemmas
+pub mod SeamLemmas
 pub mod SectionTopLemmas
 pub mod TopLemmas
 pub mod KeySpanLemmas

@@ -11,29 +11,24 @@ ghost use Rattle.scm_view.specs.Spots.{buttons_spots, least_left};
 use crate::button::Button;
 use crate::ids::ComponentId;
 use crate::spots::{Spot, row_spot};
+use crate::widths::joined_width;
 use scm_cells::text_width;
 use scm_render::Viewport;
 use scm_types::RecordError;
-use std::alloc::Global;
 use std::hash::Hash;
 
-/// The columns of a button: those of its label and of the brackets around it.
-#[tactic(auto, unfolding(crate::specs::Buttons::button_width))]
-pub(crate) fn button_width<K: Copy>(
-    alloc: Global,
-    button: &Button<'_, K>,
-) -> Result<usize, RecordError>
+/// The columns of a button: those of its label and of the brackets around it, which join none of the
+/// label's characters.
+pub(crate) fn button_width<K: Copy>(button: &Button<'_, K>) -> Result<usize, RecordError>
     ensures ok { IfOk result (λ n. n ≡ button_width button.now) }
     ensures err { IfErr result (λ e. e ≡ OutOfMemory) }
 {
-    let text = button.text(alloc)?;
-    Ok(text_width(text.as_str()))
+    Ok(joined_width(1, text_width(button.label.as_str()), 1)?)
 }
 
 /// Draws buttons from the right: the first ends before column `end`, each next one a column before the
 /// one to its right begins.
 pub(crate) fn draw_buttons<K: Copy + Eq + Hash + Drop>(
-    alloc: Global,
     viewport: &mut Viewport<K>,
     end: isize,
     y: isize,
@@ -47,7 +42,7 @@ pub(crate) fn draw_buttons<K: Copy + Eq + Hash + Drop>(
 {
     let mut right = end;
     for button in buttons {
-        let width = button_width(alloc, button)?;
+        let width = button_width(button)?;
         let left = right.strict_sub_unsigned(width);
         viewport.draw_component(left, y, button)?;
         right = left - 1;
@@ -58,7 +53,6 @@ pub(crate) fn draw_buttons<K: Copy + Eq + Hash + Drop>(
 /// Adds the spots of buttons on a row, the first of which ends before a column, and each next one a column
 /// before the one to its right begins. Columns are counted from 65,536 columns left of the screen.
 pub(crate) fn push_buttons(
-    alloc: Global,
     spots: &mut Vec<Spot>,
     row: usize,
     end: usize,
@@ -70,7 +64,7 @@ pub(crate) fn push_buttons(
 {
     let mut right = end;
     for button in buttons {
-        let left = right.saturating_sub(button_width(alloc, button)?);
+        let left = right.saturating_sub(button_width(button)?);
         spots.push(row_spot(button.id, row, left, right))?;
         right = left.saturating_sub(1);
     }
@@ -79,7 +73,6 @@ pub(crate) fn push_buttons(
 
 /// The first column of such buttons, or a column where that comes first.
 pub(crate) fn least_left(
-    alloc: Global,
     first: usize,
     end: usize,
     buttons: &[Button<'_, ComponentId>],
@@ -90,7 +83,7 @@ pub(crate) fn least_left(
     let mut least = first;
     let mut right = end;
     for button in buttons {
-        let left = right.saturating_sub(button_width(alloc, button)?);
+        let left = right.saturating_sub(button_width(button)?);
         least = least.min(left);
         right = left.saturating_sub(1);
     }

@@ -138,7 +138,7 @@ impl<'a> Dialog<'a, ComponentId> {
         let place = place_of(width, height, row, self.body);
         let right = far(place.left + place.width);
         let end = place.top + place.height;
-        let left = least_left(alloc, far(place.left), right - 1, self.buttons)?;
+        let left = least_left(far(place.left), right - 1, self.buttons)?;
         spots.push(Spot {
             id: self.id,
             top: place.top,
@@ -146,7 +146,7 @@ impl<'a> Dialog<'a, ComponentId> {
             left,
             right,
         })?;
-        push_buttons(alloc, spots, end.saturating_sub(1), right - 1, self.buttons)?;
+        push_buttons(spots, end.saturating_sub(1), right - 1, self.buttons)?;
         Ok((place.top, end))
     }
 }
@@ -180,13 +180,7 @@ impl<'a, Id: Copy + Eq + Hash + Drop> Component for Dialog<'a, Id> {
     ) -> Result<(), RecordError> {
         let place = dialog_place(viewport.rect(), self.body);
         viewport.draw_frame(place, self.title.as_str(), self.body)?;
-        draw_buttons(
-            alloc,
-            viewport,
-            place.end_x() - 1,
-            place.end_y() - 1,
-            self.buttons,
-        )?;
+        draw_buttons(viewport, place.end_x() - 1, place.end_y() - 1, self.buttons)?;
         Ok(())
     }
 }

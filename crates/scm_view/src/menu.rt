@@ -57,13 +57,13 @@ impl<'a> Menu<'a> {
 }
 
 /// The columns of the widest item.
-fn widest_item(alloc: Global, items: &[MenuItem<'_>]) -> Result<usize, RecordError>
+fn widest_item(items: &[MenuItem<'_>]) -> Result<usize, RecordError>
     ensures ok { IfOk result (λ n. n ≡ widest_item items.now) }
     ensures err { IfErr result (λ e. e ≡ OutOfMemory) }
 {
     let mut widest: usize = 0;
     for item in items {
-        let width = button_width(alloc, &item.button(0))?;
+        let width = button_width(&item.button(0))?;
         widest = widest.max(width);
     }
     Ok(widest)
@@ -71,7 +71,6 @@ fn widest_item(alloc: Global, items: &[MenuItem<'_>]) -> Result<usize, RecordErr
 
 /// Adds the spots of items, one below another from a row and a column on.
 pub(crate) fn push_items(
-    alloc: Global,
     spots: &mut Vec<Spot>,
     top: usize,
     left: usize,
@@ -84,7 +83,7 @@ pub(crate) fn push_items(
 {
     let mut row = top;
     for (item_idx, item) in items.iter().enumerate() {
-        let right = left + button_width(alloc, &item.button(item_idx))?;
+        let right = left + button_width(&item.button(item_idx))?;
         spots.push(row_spot(ComponentId::MenuItem(item_idx), row, far(left), far(right)))?;
         row += 1;
     }
@@ -118,7 +117,7 @@ impl<'a> Component for Menu<'a> {
         x: isize,
         y: isize,
     ) -> Result<(), RecordError> {
-        let width = widest_item(alloc, self.items.as_slice())?;
+        let width = widest_item(self.items.as_slice())?;
         let mut row = y;
         for (item_idx, item) in self.items.as_slice().iter().enumerate() {
             viewport.draw_blank(Rect {

@@ -95,7 +95,6 @@ fn draw_first(
 /// Adds the spots of headers beside each other, the first of them from a column on.
 #[tactic(auto, unfolding(crate::specs::Menus::headers_width))]
 fn push_headers(
-    alloc: Global,
     spots: &mut Vec<Spot>,
     row: usize,
     left: usize,
@@ -108,7 +107,7 @@ fn push_headers(
 {
     let mut column = left;
     for (menu_idx, menu) in menus.iter().enumerate() {
-        let right = column + button_width(alloc, &menu.header(0))?;
+        let right = column + button_width(&menu.header(0))?;
         spots.push(row_spot(ComponentId::Menu(menu_idx), row, far(column), far(right)))?;
         column = right + 1;
     }
@@ -135,7 +134,6 @@ fn open_below(menus: &[Menu<'_>], chosen: Option<usize>) -> usize
 /// of whose headers begins at a column.
 #[tactic(auto, unfolding(crate::specs::Menus::headers_width, crate::specs::Menus::opened))]
 fn push_open(
-    alloc: Global,
     spots: &mut Vec<Spot>,
     row: usize,
     left: usize,
@@ -152,10 +150,10 @@ fn push_open(
     let mut before = chosen;
     for menu in menus {
         if before == 0 {
-            return push_items(alloc, spots, row, column, menu.items.as_slice());
+            return push_items(spots, row, column, menu.items.as_slice());
         }
         before -= 1;
-        column = column + button_width(alloc, &menu.header(0))? + 1;
+        column = column + button_width(&menu.header(0))? + 1;
     }
     Ok(())
 }
@@ -163,7 +161,6 @@ fn push_open(
 /// Adds the spots of the open menu's items, if one of the menus is open.
 #[tactic(auto, unfolding(crate::specs::Menus::opened))]
 fn push_chosen(
-    alloc: Global,
     spots: &mut Vec<Spot>,
     row: usize,
     menus: &[Menu<'_>],
@@ -177,7 +174,7 @@ fn push_chosen(
 {
     match chosen {
         None => Ok(()),
-        Some(place) => push_open(alloc, spots, row, 0, menus, place),
+        Some(place) => push_open(spots, row, 0, menus, place),
     }
 }
 
@@ -208,9 +205,9 @@ impl<'a> MenuBar<'a> {
             left: far(0),
             right: far(width),
         })?;
-        push_headers(alloc, spots, row, 0, self.menus.as_slice())?;
+        push_headers(spots, row, 0, self.menus.as_slice())?;
         let menus = self.menus.as_slice();
-        push_chosen(alloc, spots, row + 1, menus, self.expanded_menu_idx)?;
+        push_chosen(spots, row + 1, menus, self.expanded_menu_idx)?;
         Ok(end)
     }
 }

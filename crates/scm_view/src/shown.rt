@@ -164,7 +164,7 @@ pub(crate) fn show_title(
         show_text(viewport, x, y, &[Span(text.as_str())])?;
         Ok(())
     } else {
-        let width = title.width(alloc)?;
+        let width = title.width()?;
         cover_texts(viewport, x, y, width);
         Ok(())
     }
@@ -232,7 +232,7 @@ pub(crate) fn show_button(
         viewport.draw_component(x, y, button)?;
         Ok(())
     } else {
-        let width = button_width(alloc, button)?;
+        let width = button_width(button)?;
         viewport.note_box(button.id, row_of(x, y, width))?;
         Ok(())
     }

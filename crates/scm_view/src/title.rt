@@ -2,13 +2,10 @@
 ghost use Rattle.std.specs.Prelude.{◌≡◌, IfOk, IfErr, string_bytes};
 ghost use Rattle.scm_cells.specs.Clusters.{text_width};
 ghost use Rattle.scm_errors.specs.declared.error.RecordError.TheVariants.{OutOfMemory};
-ghost use Rattle.scm_view.specs.Rows.{lent_text};
-ghost use Rattle.scm_view.specs.Texts.{path_text};
 ghost use Rattle.scm_view.specs.Titles.{title_text};
 
 use crate::texts::{path_text, section_text};
-use crate::widths::section_width;
-use scm_cells::text_width;
+use crate::widths::{path_width, section_width};
 use scm_types::RecordError;
 use std::alloc::Global;
 
@@ -27,21 +24,6 @@ pub(crate) enum Title<'a> {
     },
 }
 
-/// The columns of a path, after the old one and an arrow if there was another. Two paths make one text,
-/// which is then made to be measured.
-fn path_width(alloc: Global, old_path: Option<&str>, path: &str) -> Result<usize, RecordError>
-    ensures ok { IfOk result (λ n. n ≡ text_width (path_text (lent_text old_path.entry) path.now)) }
-    ensures err { IfErr result (λ e. e ≡ OutOfMemory) }
-{
-    match old_path {
-        None => Ok(text_width(path)),
-        Some(_) => {
-            let text = path_text(alloc, old_path, path)?;
-            Ok(text_width(text.as_str()))
-        }
-    }
-}
-
 impl<'a> Title<'a> {
     /// The title's text.
     pub(crate) fn text(&self, alloc: Global) -> Result<String, RecordError>
@@ -55,12 +37,12 @@ impl<'a> Title<'a> {
     }
 
     /// The title's columns.
-    pub(crate) fn width(&self, alloc: Global) -> Result<usize, RecordError>
+    pub(crate) fn width(&self) -> Result<usize, RecordError>
         ensures ok { IfOk result (λ n. n ≡ text_width (title_text self.now)) }
         ensures err { IfErr result (λ e. e ≡ OutOfMemory) }
     {
         match self {
-            Title::File { old_path, path } => path_width(alloc, *old_path, path),
+            Title::File { old_path, path } => path_width(*old_path, path),
             Title::Section { number, total } => Ok(section_width(*number, *total)),
         }
     }

@@ -1,8 +1,7 @@
 //! Boxes of three states: they show marks and folds.
-ghost use Rattle.std.specs.Prelude.{◌≡◌, IfOk, IfErr, string_bytes};
-ghost use Rattle.scm_errors.specs.declared.error.RecordError.TheVariants.{OutOfMemory};
+ghost use Rattle.std.specs.Prelude.{◌≡◌, true, false};
 ghost use Rattle.scm_view.specs.Rows.{is_fold_open};
-ghost use Rattle.scm_view.specs.Texts.{icon_text, box_text};
+ghost use Rattle.scm_view.specs.Texts.{icon_text, bracketed, box_text};
 
 use scm_cells::Span;
 use scm_render::{Component, Viewport};
@@ -36,17 +35,41 @@ pub struct TristateBox<Id> {
     pub icon_style: TristateIconStyle,
 }
 
-/// The symbol for a state.
-fn icon(use_unicode: bool, icon_style: TristateIconStyle, tristate: &Tristate) -> &'static str
-    ensures { result.now ≡ icon_text use_unicode icon_style tristate.now }
+/// The symbol for a state in brackets: in pointed, in round and in square ones.
+fn bracketed(
+    use_unicode: bool,
+    icon_style: TristateIconStyle,
+    tristate: &Tristate,
+) -> (&'static str, &'static str, &'static str)
+    ensures pointed { result.0.now ≡ bracketed true false (icon_text use_unicode icon_style tristate.now) }
+    ensures round { result.1.now ≡ bracketed false true (icon_text use_unicode icon_style tristate.now) }
+    ensures square { result.2.now ≡ bracketed false false (icon_text use_unicode icon_style tristate.now) }
 {
     match (icon_style, tristate) {
-        (TristateIconStyle::Check, Tristate::False) => " ",
-        (TristateIconStyle::Check, Tristate::Partial) => { if use_unicode { "◐" } else { "~" } }
-        (TristateIconStyle::Check, Tristate::True) => { if use_unicode { "●" } else { "*" } }
-        (TristateIconStyle::Expand, Tristate::False) => "+",
-        (TristateIconStyle::Expand, Tristate::Partial) => { if use_unicode { "±" } else { "~" } }
-        (TristateIconStyle::Expand, Tristate::True) => "-",
+        (TristateIconStyle::Check, Tristate::False) => ("< >", "( )", "[ ]"),
+        (TristateIconStyle::Check, Tristate::Partial) => {
+            if use_unicode {
+                ("<◐>", "(◐)", "[◐]")
+            } else {
+                ("<~>", "(~)", "[~]")
+            }
+        }
+        (TristateIconStyle::Check, Tristate::True) => {
+            if use_unicode {
+                ("<●>", "(●)", "[●]")
+            } else {
+                ("<*>", "(*)", "[*]")
+            }
+        }
+        (TristateIconStyle::Expand, Tristate::False) => ("<+>", "(+)", "[+]"),
+        (TristateIconStyle::Expand, Tristate::Partial) => {
+            if use_unicode {
+                ("<±>", "(±)", "[±]")
+            } else {
+                ("<~>", "(~)", "[~]")
+            }
+        }
+        (TristateIconStyle::Expand, Tristate::True) => ("<->", "(-)", "[-]"),
     }
 }
 
@@ -87,19 +110,17 @@ impl<Id: Copy> TristateBox<Id> {
     }
 
     /// The symbol between brackets.
-    fn text(&self, alloc: Global) -> Result<String, RecordError>
-        ensures ok { IfOk result (λ s. string_bytes s ≡ box_text self.now) }
-        ensures err { IfErr result (λ e. e ≡ OutOfMemory) }
+    fn text(&self) -> &'static str
+        ensures { result.now ≡ box_text self.now }
     {
-        let icon = icon(self.use_unicode, self.icon_style, &self.tristate);
-        let text = if self.is_read_only {
-            format!(in alloc; "<{icon}>")?
+        let (pointed, round, square) = bracketed(self.use_unicode, self.icon_style, &self.tristate);
+        if self.is_read_only {
+            pointed
         } else if self.is_focused {
-            format!(in alloc; "({icon})")?
+            round
         } else {
-            format!(in alloc; "[{icon}]")?
-        };
-        Ok(text)
+            square
+        }
     }
 }
 
@@ -127,8 +148,7 @@ impl<Id: Copy + Eq + Hash + Drop> Component for TristateBox<Id> {
         x: isize,
         y: isize,
     ) -> Result<(), RecordError> {
-        let text = self.text(alloc)?;
-        viewport.draw_span(x, y, &Span(text.as_str()))?;
+        viewport.draw_span(x, y, &Span(self.text()))?;
         Ok(())
     }
 }

@@ -8,11 +8,11 @@ unfolding box_picture
 draw_span-requires g c =
     let fx : FitsSigned w64 c.args.x = c.ranges.x in
     let fy : FitsSigned w64 c.args.y = c.ranges.y in
-    rw (c.as_str.ensures.value, c.in_ok-text.ensures.ok) (simp to_z-of_z c.requires)
+    rw c.text.ensures (simp to_z-of_z c.requires)
 
 pub returns-clause-ok : goal.returns-clause-ok
 unfolding box_picture
 returns-clause-ok g c =
     let fx : FitsSigned w64 c.args.x = c.ranges.x in
     let fy : FitsSigned w64 c.args.y = c.ranges.y in
-    rw (c.as_str.ensures.value, c.in_ok-text.ensures.ok) at (simp to_z-of_z at c.in_ok-draw_span.ensures.ok)
+    rw c.text.ensures at (simp to_z-of_z at c.in_ok-draw_span.ensures.ok)
