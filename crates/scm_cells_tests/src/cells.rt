@@ -179,6 +179,36 @@ fn spans_of_lines(rt: HostRuntime) -> Result<(), RecordError> {
     Ok(())
 }
 
+/// Checks the text of a span.
+fn check_span(rt: &impl Abort, span: &Span<'_>, text: &str) {
+    assert_eq!(rt; span.0, text);
+}
+
+/// Cuts a line of a letter and of a character that is replaced.
+fn check_replaced(
+    rt: &impl Abort,
+    alloc: Global,
+    character: char,
+    replacement: &str,
+) -> Result<(), RecordError> {
+    let line = format!(in alloc; "a{character}")?;
+    let mut spans = Vec::new(alloc);
+    push_spans_from_line(line.as_str(), &mut spans)?;
+    assert_eq!(rt; spans.len(), 2, "{character:?}");
+    check_span(rt, &spans[0], "a");
+    check_span(rt, &spans[1], replacement);
+    Ok(())
+}
+
+#[test]
+fn deletes_and_later_controls_are_replaced(rt: HostRuntime) -> Result<(), RecordError> {
+    check_replaced(&rt, rt.alloc(), '\u{7F}', "␡")?;
+    for code in 0x80..=0x9F_u8 {
+        check_replaced(&rt, rt.alloc(), char::from(code), "\u{FFFD}")?;
+    }
+    Ok(())
+}
+
 /// The columns of spans in which no character is left to be replaced.
 fn columns_shown(rt: &impl Abort, spans: &[Span<'_>]) -> usize {
     let mut columns = 0;
