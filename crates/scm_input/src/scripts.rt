@@ -43,9 +43,7 @@ pub struct ScriptInput {
 }
 
 impl ScriptInput {
-    ghost use Rattle.std.specs.Prelude.{◌≡◌, IsOk, IfOk};
-    ghost use Rattle.scm_input.specs.Testing.{kind_of};
-    ghost use Rattle.scm_input.specs.Scripted.{edits_in, reads_in};
+    ghost use Rattle.std.specs.Prelude.{◌≡◌, IsOk, IfOk, length};
 
     /// An input of these reads and edits, with a screen of so many columns and rows.
     pub fn new(
@@ -67,6 +65,13 @@ impl ScriptInput {
             reads: VecDeque::from(reads),
             edits: VecDeque::from(edits),
         })
+    }
+
+    /// How many edits are left: answers and faults that no message was asked for.
+    pub fn edits_left(&self) -> usize
+        ensures { result ≡ length self.now.edits.items }
+    {
+        self.edits.len()
     }
 }
 

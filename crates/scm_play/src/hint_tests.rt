@@ -18,6 +18,13 @@ size 80 24 | «NOTHING» | script | batch none | fault read gone | batch none =>
 size 80 24 | «NOTHING» | script => the script ended and nothing was accepted: a script accepts by `batch c`, while no quit dialog is open
 «LINE 1 1» q c => the script ended and nothing was accepted: a script accepts by `batch c`, while no quit dialog is open
 
+# What did nothing: keys, and answers that no message was asked for. A line each.
+«NOTHING» none E q c => line 5: the key "E" does nothing
+«NOTHING» shift-up shot c => line 4: the key "shift-up" does nothing
+«NOTHING» F => the script ended and nothing was accepted: a script accepts by `batch c`, while no quit dialog is open | line 4: the key "F" does nothing
+size 80 24 | «NOTHING» | script | # batch F | batch c | batch F | batch E => line 6: the key "F" does nothing
+size 80 24 | «NOTHING» | script | answer "a" | fault edit b | batch c => answers or faults of an edit that were never asked for: 2, the last ones of the script
+
 # The first line.
 ␃ => line 1: wanted `size W H`, each a number from 0 to 65535 in digits alone, found ""
 size 80 => line 1: wanted `size W H`, each a number from 0 to 65535 in digits alone, found "size 80"
@@ -89,15 +96,16 @@ fn hint_for(alloc: Global, input: &[u8]) -> Result<String, Fail> {
     Ok(String::from_utf8(hints)?)
 }
 
-/// Checks the hint of a row. Of one with `…` it is the beginning.
+/// Checks the hint of a row, whose lines ` | ` parts. Of one with `…` it is the beginning.
 fn check_hint(rt: &impl Abort, alloc: Global, row: &str) -> Result<(), Fail> {
     let (input, hint) = row.split_once(" =>").ok_or("a row has two halves")?;
     let hint = hint.trim_start_matches(' ');
     let input = input_of(alloc, input)?.replace(alloc, "␂", "\u{feff}")?;
     let found = hint_for(alloc, input.as_bytes())?;
+    let found = found.trim_end_matches('\n').replace(alloc, "\n", " | ")?;
     match hint.split_once('…') {
         Some((begin, _)) => assert!(rt; found.as_str().starts_with(begin), "{row}: {found}"),
-        None => assert_eq!(rt; found.as_str().trim_end_matches('\n'), hint, "{row}"),
+        None => assert_eq!(rt; found.as_str(), hint, "{row}"),
     }
     Ok(())
 }

@@ -8,6 +8,8 @@ mod given;
 #[cfg(test)]
 mod index;
 #[cfg(test)]
+mod live;
+#[cfg(test)]
 mod owners;
 #[cfg(test)]
 mod painted;

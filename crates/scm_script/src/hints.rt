@@ -24,13 +24,6 @@ const NO_SCRIPT: &str =
 /// How many lists and objects of a state may stand one in another, which is what `serde_json` reads.
 const DEEPEST: usize = 127;
 
-/// The hint for a run that ended with its script.
-pub fn end_hint(alloc: Global) -> Option<String> {
-    let hint =
-        "the script ended and nothing was accepted: a script accepts by `batch c`, while no quit dialog is open\n";
-    String::from_str(alloc, hint).ok()
-}
-
 /// The hint for the refusal of an input, if there is more to say of it.
 pub fn hint_of(
     alloc: Global,

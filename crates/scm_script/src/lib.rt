@@ -10,6 +10,7 @@ mod forms;
 mod hints;
 mod limits;
 mod misfit;
+mod notes;
 mod program;
 mod report;
 mod script;

@@ -4,7 +4,8 @@ ghost use Rattle.scm_types.specs.Limits.{is_accepted_state};
 
 use crate::commands::Commands;
 use crate::error::PlayError;
-use crate::hints::{end_hint, hint_of};
+use crate::hints::hint_of;
+use crate::notes::{ENDED, add_notes};
 use crate::report::{push_accepted, screens_text};
 use crate::script::{Script, read_script};
 use scm_json::read_state;
@@ -40,8 +41,8 @@ pub fn play_with_hints<R: Read + Drop, W: Write + Drop, H: Write + Drop>(
             if !write_whole(writer, answer.output.as_bytes()) {
                 return 2;
             }
-            if let Some(hint) = &answer.hint {
-                write_whole(hints, hint.as_bytes());
+            if !answer.hint.is_empty() {
+                write_whole(hints, answer.hint.as_bytes());
             }
             answer.status
         }
@@ -62,8 +63,8 @@ struct Answer {
     output: String,
     /// The status with which it ends.
     status: u8,
-    /// A line that says where and why it refused.
-    hint: Option<String>,
+    /// Lines that say where and why it refused, and what of the script did nothing. There may be none.
+    hint: String,
 }
 
 /// The answer to what the reader gives. It fails only where memory is refused.
@@ -77,7 +78,7 @@ fn answer_input<R: Read + Drop>(alloc: Global, reader: R) -> Result<Answer, Play
 /// The answer to an input.
 fn answer_text(alloc: Global, text: &str) -> Result<Answer, PlayError> {
     match prepare(alloc, text) {
-        Ok((script, state)) => run(alloc, script, state),
+        Ok((script, state)) => run(alloc, text, script, state),
         Err(refusal) => refuse(alloc, text, &refusal),
     }
 }
@@ -87,7 +88,10 @@ fn refuse(alloc: Global, text: &str, refusal: &PlayError) -> Result<Answer, Play
     Ok(Answer {
         output: format!(in alloc; "{refusal}\n")?,
         status: refusal.status(),
-        hint: hint_of(alloc, text, refusal).ok().flatten(),
+        hint: hint_of(alloc, text, refusal)
+            .ok()
+            .flatten()
+            .unwrap_or(String::new(alloc)),
     })
 }
 
@@ -130,8 +134,13 @@ fn prepare(alloc: Global, text: &str) -> Result<(Script<'_>, RecordState<'static
     Ok((script, state))
 }
 
-/// The answer of a run of the script on an accepted state: the screens, and the accepted state or the fault.
-fn run(alloc: Global, script: Script<'_>, state: RecordState<'static>) -> Result<Answer, PlayError>
+/// The answer of a run of the script of this text on an accepted state: the screens, and the accepted state or the fault.
+fn run(
+    alloc: Global,
+    text: &str,
+    script: Script<'_>,
+    state: RecordState<'static>,
+) -> Result<Answer, PlayError>
     requires { IsTrue (is_accepted_state state) }
 {
     let Script {
@@ -147,29 +156,32 @@ fn run(alloc: Global, script: Script<'_>, state: RecordState<'static>) -> Result
         shots,
     } = commands;
     let ends_in_fault = matches!(reads.last(), Some(ScriptRead::Fault(_)));
-    let input = ScriptInput::new(alloc, width as usize, height as usize, reads, edits)?;
-    run_input(
+    let mut input = ScriptInput::new(alloc, width as usize, height as usize, reads, edits)?;
+    let mut answer = run_input(
         alloc,
         state,
-        input,
+        &mut input,
         screens,
         shots.as_slice(),
         ends_in_fault,
-    )
+    )?;
+    // what memory cannot be had for is not told
+    let _told = add_notes(&mut answer.hint, alloc, text, input.edits_left());
+    Ok(answer)
 }
 
 /// The answer of a run of an input on an accepted state.
 fn run_input(
     alloc: Global,
     state: RecordState<'static>,
-    mut input: ScriptInput,
+    input: &mut ScriptInput,
     mut screens: Screens,
     shots: &[TestingScreenshot],
     ends_in_fault: bool,
 ) -> Result<Answer, PlayError>
     requires { IsTrue (is_accepted_state state) }
 {
-    let outcome = record(alloc, state, &mut input, &mut screens);
+    let outcome = record(alloc, state, input, &mut screens);
     let is_at_end = input.batches_left() == 0 && !ends_in_fault;
     let output = screens_text(alloc, &screens, shots)?;
     match outcome {
@@ -184,7 +196,7 @@ fn accept(alloc: Global, mut output: String, state: &RecordState<'_>) -> Result<
     Ok(Answer {
         output,
         status: 0,
-        hint: None,
+        hint: String::new(alloc),
     })
 }
 
@@ -198,13 +210,13 @@ fn fail(
     let fault = format!(in alloc; "fault: {error}\n")?;
     output.push_str(fault.as_str())?;
     let hint = match error {
-        RecordError::ReadInput(_) if is_at_end => end_hint(alloc),
-        _ => None,
+        RecordError::ReadInput(_) if is_at_end => ENDED,
+        _ => "",
     };
     Ok(Answer {
         output,
         status: 1,
-        hint,
+        hint: String::from_str(alloc, hint).unwrap_or(String::new(alloc)),
     })
 }
 

@@ -78,7 +78,7 @@ fn read_commands(alloc: Global, text: &str, lines: usize) -> Result<Commands, Pl
 }
 
 /// Empty lines and lines that begin with `#` are no commands.
-fn is_command_line(line: &str) -> bool {
+pub fn is_command_line(line: &str) -> bool {
     !line.is_empty() && !line.starts_with('#')
 }
 

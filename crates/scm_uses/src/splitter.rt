@@ -2,7 +2,8 @@
 ghost use Rattle.std.specs.Prelude.{◌≤◌, length};
 
 use scm_record::{
-    ChangeType, File, FileMode, Items, RecordError, Section, SectionChangedLine, Text,
+    ChangeType, Event, File, FileMode, Items, RecordError, RecordState, Recorder, Screens, Section,
+    SectionChangedLine, TestingInput, Text,
 };
 use std::alloc::Global;
 
@@ -78,4 +79,28 @@ pub fn changed_file<'a>(
         file_mode: FileMode::FILE_DEFAULT,
         sections: Items::from(sections),
     })
+}
+
+/// The state of one file.
+fn state_of<'a>(alloc: Global, file: File<'a>) -> Result<RecordState<'a>, RecordError> {
+    let mut state = RecordState::empty(alloc);
+    state.files.push(file)?;
+    Ok(state)
+}
+
+/// The file in a state whose marks are those that these keys leave, or none where the file is beyond
+/// the limits of a state. `File::get_selected_contents` then gives both sides.
+pub fn choose_lines<'a>(
+    alloc: Global,
+    file: File<'a>,
+    keys: Vec<Event>,
+) -> Result<Option<RecordState<'a>>, RecordError> {
+    let state = state_of(alloc, file)?;
+    if !state.is_accepted() {
+        return Ok(None);
+    }
+    let mut input = TestingInput::new(alloc, 80, 24, keys)?;
+    let mut screens = Screens::new(alloc);
+    let marked = Recorder::new(alloc, state)?.run(&mut input, &mut screens)?;
+    Ok(Some(marked))
 }

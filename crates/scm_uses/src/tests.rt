@@ -1,11 +1,13 @@
 use crate::input::record_keys;
 use crate::live::choose;
+use crate::splitter::{changed_file, choose_lines};
 use crate::{mark_first_line, selected_side};
 use scm_record::{
-    ChangeType, Event, File, FileMode, Items, RecordState, Section, SectionChangedLine,
-    SelectedContents, TerminalKind, Text, Tristate,
+    ChangeType, Event, File, FileMode, Items, RecordError, RecordState, Section,
+    SectionChangedLine, SelectedChanges, SelectedContents, TerminalKind, Text, Tristate,
 };
 use std::alloc::Global;
+use std::process::Abort;
 use std::test::Fail;
 
 /// A file of one added line.
@@ -31,6 +33,11 @@ fn state_of_one_line(alloc: Global) -> Result<RecordState<'static>, Fail> {
     })
 }
 
+/// Whether a side of a file is this text.
+fn has_text(side: &SelectedChanges<'_>, text: &str) -> bool {
+    matches!(&side.contents, SelectedContents::Text { contents } if contents.as_str() == text)
+}
+
 #[test]
 fn the_first_line_goes_into_the_commit(rt: HostRuntime) -> Result<(), Fail> {
     let alloc = rt.alloc();
@@ -41,9 +48,7 @@ fn the_first_line_goes_into_the_commit(rt: HostRuntime) -> Result<(), Fail> {
     for file in marked.files.as_slice() {
         let side = selected_side(alloc, file)?;
         assert_eq!(rt; side.file_mode, FileMode::FILE_DEFAULT);
-        assert!(rt;
-            matches!(&side.contents, SelectedContents::Text { contents } if contents.as_str() == "a\n")
-        );
+        assert!(rt; has_text(&side, "a\n"));
     }
     Ok(())
 }
@@ -95,5 +100,28 @@ fn a_session_without_a_confirmed_quit_has_no_state(rt: HostRuntime) -> Result<()
     assert!(rt; state.is_accepted());
     let marked = choose(alloc, KIND, state, &KEYS[..3])?;
     assert!(rt; marked.is_none());
+    Ok(())
+}
+
+/// Checks that of the one file of a state the old line is gone on the selected side, and the new line
+/// waits on the other.
+fn check_sides(rt: &impl Abort, alloc: Global, state: &RecordState<'_>) -> Result<(), RecordError> {
+    assert_eq!(rt; state.files.len(), 1);
+    for file in state.files.as_slice() {
+        let (selected, unselected) = file.get_selected_contents(alloc)?;
+        assert!(rt; has_text(&selected, "same\n"));
+        assert!(rt; has_text(&unselected, "same\nold\nnew\n"));
+    }
+    Ok(())
+}
+
+#[test]
+fn two_texts_are_split(rt: HostRuntime) -> Result<(), Fail> {
+    let alloc = rt.alloc();
+    let file = changed_file(alloc, "f", "same\nold\n", "same\nnew\n")?;
+    let Some(marked) = choose_lines(alloc, file, KEYS.to_vec(alloc)?)? else {
+        panic!(rt; "the file is within the limits");
+    };
+    check_sides(&rt, alloc, &marked)?;
     Ok(())
 }
