@@ -1,6 +1,6 @@
 //! The event that inverts every mark, on files whose marks would not fit each other then, and a state of many lines.
 use scm_record::{
-    ChangeType, Event, File, FileMode, RecordError, RecordState, Recorder, Screens, Section,
+    ChangeType, Event, File, FileMode, Items, RecordError, RecordState, Recorder, Screens, Section,
     SectionChangedLine, TestingInput, Text,
 };
 use scm_state_tests::samples::{ADDED, DEFAULT, REMOVED, changed, file_of};
@@ -21,26 +21,6 @@ fn accepted(
     Recorder::new(alloc, state)?.run(&mut input, &mut screens)
 }
 
-/// A file that had one mode, of two lines that were both changed so, and a change of its mode to another: with these three marks.
-fn file_with_mode(
-    alloc: Global,
-    modes: (FileMode, FileMode),
-    change_type: ChangeType,
-    marks: (bool, bool, bool),
-) -> Result<File<'static>, RecordError> {
-    let (old, new) = modes;
-    let (first, second, is_checked) = marks;
-    let lines = changed(
-        alloc,
-        &[(first, change_type, "a\n"), (second, change_type, "b\n")],
-    )?;
-    let mode = Section::FileMode {
-        is_checked,
-        mode: new,
-    };
-    Ok(file_of(old, vec![in alloc; lines, mode]?))
-}
-
 /// A state of one file.
 fn state_of(alloc: Global, file: File<'static>) -> Result<RecordState<'static>, RecordError> {
     let mut state = RecordState::empty(alloc);
@@ -48,48 +28,119 @@ fn state_of(alloc: Global, file: File<'static>) -> Result<RecordState<'static>, 
     Ok(state)
 }
 
-/// Files, by their two modes and how their lines were changed, and their marks before and after all is inverted.
-const INVERTED: [(
-    (FileMode, FileMode),
-    ChangeType,
-    (bool, bool, bool),
-    (bool, bool, bool),
-); 3] = [
-    (
-        (DEFAULT, FileMode::Absent),
-        REMOVED,
-        (true, false, false),
-        (false, true, false),
-    ),
-    (
-        (FileMode::Absent, DEFAULT),
-        ADDED,
-        (true, false, true),
-        (false, true, true),
-    ),
-    (
-        (FileMode::Absent, FileMode::Absent),
-        ADDED,
-        (true, false, true),
-        (false, true, true),
-    ),
+/// The marks of two lines and of a change of the mode.
+#[derive(Clone, Copy)]
+struct Marks {
+    /// Of the first line.
+    first: bool,
+    /// Of the second one.
+    second: bool,
+    /// Of the change of the mode.
+    mode: bool,
+}
+
+/// A file of two lines that were both changed so and of a change of its mode, with its marks before and after all
+/// is inverted.
+#[derive(Clone, Copy)]
+struct Inversion {
+    /// Its mode.
+    old: FileMode,
+    /// The mode that it gets.
+    new: FileMode,
+    /// How the lines were changed.
+    change_type: ChangeType,
+    /// The marks before.
+    before: Marks,
+    /// The marks after.
+    after: Marks,
+}
+
+/// Such a file with these marks.
+fn marked(
+    alloc: Global,
+    inversion: &Inversion,
+    marks: Marks,
+) -> Result<File<'static>, RecordError> {
+    let change_type = inversion.change_type;
+    let mut sections = Vec::new(alloc);
+    sections.push(changed(
+        alloc,
+        &[
+            (marks.first, change_type, "a\n"),
+            (marks.second, change_type, "b\n"),
+        ],
+    )?)?;
+    sections.push(Section::FileMode {
+        is_checked: marks.mode,
+        mode: inversion.new,
+    })?;
+    Ok(file_of(inversion.old, sections))
+}
+
+/// Marks of which the first line's is not the second's.
+const fn marks(first: bool, mode: bool) -> Marks {
+    Marks {
+        first,
+        second: !first,
+        mode,
+    }
+}
+
+/// A deletion, a new file, and a new file that is deleted.
+const INVERSIONS: [Inversion; 3] = [
+    Inversion {
+        old: DEFAULT,
+        new: FileMode::Absent,
+        change_type: REMOVED,
+        before: marks(true, false),
+        after: marks(false, false),
+    },
+    Inversion {
+        old: FileMode::Absent,
+        new: DEFAULT,
+        change_type: ADDED,
+        before: marks(true, true),
+        after: marks(false, true),
+    },
+    Inversion {
+        old: FileMode::Absent,
+        new: FileMode::Absent,
+        change_type: ADDED,
+        before: marks(true, true),
+        after: marks(false, true),
+    },
 ];
+
+/// Whether the one file of a state is this one.
+fn holds(state: &RecordState<'_>, file: &File<'_>) -> bool {
+    let files = state.files.as_slice();
+    files.len() == 1 && files.iter().all(|other| other == file)
+}
+
+/// Checks what the inversion of all marks leaves of a file.
+fn check_inversion(
+    rt: &impl Abort,
+    alloc: Global,
+    inversion: &Inversion,
+) -> Result<(), RecordError> {
+    let state = state_of(alloc, marked(alloc, inversion, inversion.before)?)?;
+    let answer = accepted(rt, alloc, state, Event::ToggleAll)?;
+    let wanted = marked(alloc, inversion, inversion.after)?;
+    assert!(rt; holds(&answer, &wanted));
+    Ok(())
+}
 
 #[test]
 fn an_inversion_is_repaired(rt: HostRuntime) -> Result<(), RecordError> {
-    let alloc = rt.alloc();
-    for (modes, change_type, before, after) in INVERTED {
-        let state = state_of(alloc, file_with_mode(alloc, modes, change_type, before)?)?;
-        let answer = accepted(&rt, alloc, state, Event::ToggleAll)?;
-        let wanted = state_of(alloc, file_with_mode(alloc, modes, change_type, after)?)?;
-        assert!(rt; answer.files == wanted.files);
+    for inversion in &INVERSIONS {
+        check_inversion(&rt, rt.alloc(), inversion)?;
     }
     Ok(())
 }
 
-/// A state of one file, with one section of so many unchecked additions.
-fn many_lines(alloc: Global, count: usize) -> Result<RecordState<'static>, RecordError> {
-    let mut lines = Vec::new(alloc);
+/// A section of so many unchecked additions.
+fn additions(alloc: Global, count: usize) -> Result<Section<'static>, RecordError> {
+    let mut lines = Items::new(alloc);
     for _ in 0..count {
         lines.push(SectionChangedLine {
             is_checked: false,
@@ -97,18 +148,23 @@ fn many_lines(alloc: Global, count: usize) -> Result<RecordState<'static>, Recor
             line: Text::from(""),
         })?;
     }
-    let section = Section::Changed {
-        lines: lines.into(),
-    };
-    state_of(alloc, file_of(DEFAULT, vec![in alloc; section]?))
+    Ok(Section::Changed { lines })
+}
+
+/// A file of one such section.
+fn many_lines(alloc: Global, count: usize) -> Result<File<'static>, RecordError> {
+    let mut sections = Vec::new(alloc);
+    sections.push(additions(alloc, count)?)?;
+    Ok(file_of(DEFAULT, sections))
 }
 
 #[test]
 fn a_million_items_are_accepted(rt: HostRuntime) -> Result<(), RecordError> {
     let alloc = rt.alloc();
-    let answer = accepted(&rt, alloc, many_lines(alloc, 999_999)?, Event::None)?;
+    let state = state_of(alloc, many_lines(alloc, 999_999)?)?;
+    let answer = accepted(&rt, alloc, state, Event::None)?;
     let wanted = many_lines(alloc, 999_999)?;
-    assert!(rt; answer.files == wanted.files);
+    assert!(rt; holds(&answer, &wanted));
     assert_eq!(rt; answer.commits.len(), 2);
     Ok(())
 }
