@@ -77,37 +77,52 @@ fn marked(
     Ok(file_of(inversion.old, sections))
 }
 
-/// Marks of which the first line's is not the second's.
-const fn marks(first: bool, mode: bool) -> Marks {
-    Marks {
-        first,
-        second: !first,
-        mode,
-    }
-}
-
 /// A deletion, a new file, and a new file that is deleted.
 const INVERSIONS: [Inversion; 3] = [
     Inversion {
         old: DEFAULT,
         new: FileMode::Absent,
         change_type: REMOVED,
-        before: marks(true, false),
-        after: marks(false, false),
+        before: Marks {
+            first: true,
+            second: false,
+            mode: false,
+        },
+        after: Marks {
+            first: false,
+            second: true,
+            mode: false,
+        },
     },
     Inversion {
         old: FileMode::Absent,
         new: DEFAULT,
         change_type: ADDED,
-        before: marks(true, true),
-        after: marks(false, true),
+        before: Marks {
+            first: true,
+            second: false,
+            mode: true,
+        },
+        after: Marks {
+            first: false,
+            second: true,
+            mode: true,
+        },
     },
     Inversion {
         old: FileMode::Absent,
         new: FileMode::Absent,
         change_type: ADDED,
-        before: marks(true, true),
-        after: marks(false, true),
+        before: Marks {
+            first: true,
+            second: false,
+            mode: true,
+        },
+        after: Marks {
+            first: false,
+            second: true,
+            mode: true,
+        },
     },
 ];
 
