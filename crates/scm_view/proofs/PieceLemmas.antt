@@ -17,7 +17,7 @@ use Rattle.scm_view.specs.declared.tops.SectionTop.{SectionTop}
 use Rattle.scm_view.specs.declared.tops.RowKinds.TheVariants as kinds
 use Rattle.scm_view.specs.declared.tops.Piece.{Piece}
 use Rattle.scm_view.specs.declared.tops.Piece.TheVariants as pieces
-use Rattle.scm_view.specs.Rows.{line_key_of, DocRow, SectionRow, DotsRow, BlankRow, is_selected, section_heading, is_fold_open, is_first_open, is_shown, is_open, are_all_shown, is_first, is_last, lines_above, has_dots, dots_height, first_below, changed_rows, numbered_rows, rows_below, shown_lines, context_rows, lines_height, section_height, rows_of, section_rows, ShownSection, shown_section, shown_sections, sections_rows, shown_file, file_rows}
+use Rattle.scm_view.specs.Rows.{line_key_of, DocRow, SectionRow, DotsRow, BlankRow, is_selected, section_heading, is_fold_open, is_first_open, is_shown, is_open, are_all_shown, is_first, is_last, lines_above, has_dots, dots_height, first_below, changed_rows, numbered_rows, rows_below, shown_lines, context_rows, lines_height, section_height, rows_of, section_rows, shown_section, shown_sections, shown_file, file_rows}
 use Rattle.scm_view.specs.Places.{Place, line_places, rows_places, sections_places, files_places}
 use Rattle.scm_view.specs.RowIndex.{section_parts, sections_parts, files_parts}
 use Rattle.scm_view.specs.Tops.{kinds_of, section_top_of, height_where, top_where, section_tops, file_height, tops_in_file, file_top_of, file_tops, tops_in_files}
@@ -112,11 +112,11 @@ first-none : (top : ℕ) (r : DocRow) (rs : List DocRow) → line_places top r �
 unfolding rows_places
 first-none top r rs e = ap (λ w. w ++ rows_places (suc top) rs) e
 
-header-alone : (k : SectionKey) (top : ℕ) → rows_places top [] ≡ lines_places k kinds.Changed top (top + 1) 1
+header-alone : (k : SectionKey) (top : ℕ) → rows_places (suc top) [] ≡ lines_places k kinds.Changed top (top + 1) 1
 unfolding rows_places run_places
 header-alone k top = refl
 
-mark-alone : (k : SectionKey) (top : ℕ) → rows_places top [] ≡ lines_places k kinds.Mark top (top + 1) 1
+mark-alone : (k : SectionKey) (top : ℕ) → rows_places (suc top) [] ≡ lines_places k kinds.Mark top (top + 1) 1
 unfolding rows_places run_places
 mark-alone k top = refl
 

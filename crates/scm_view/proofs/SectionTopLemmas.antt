@@ -1,18 +1,15 @@
 -- A section's place answers for the rows of its view: who owns their columns.
-use Rattle.std.proofs.Common.{◌≡◌, ℕ, zero, suc, ◌+◌, ◌-◌, ◌<◌, ◌≤◌, ◌==◌, Bool, true, false, not, ◌&&◌, ◌||◌, cond, List, [], ◌∷◌, ◌++◌, length, map, take, drop, get_or, nat_lt, append_assoc, refl, sym, ap, ap₂, ◌∙◌, arith}
-use Rattle.std.specs.Prelude.{pos, ◌+ℤ◌, int_le, int_lt, if◌then◌else◌, min, nat_le, nat_eq, Option, Some, None, option_map}
+use Rattle.std.proofs.Common.{◌≡◌, ℕ, zero, suc, ◌+◌, ◌-◌, ◌<◌, ◌≤◌, ◌==◌, Bool, true, false, not, ◌&&◌, ◌||◌, cond, List, [], ◌∷◌, ◌++◌, length, map, take, drop, get_or, nat_lt, refl, sym, ap, ap₂, ◌∙◌, arith}
+use Rattle.std.specs.Prelude.{pos, ◌+ℤ◌, int_le, int_lt, if◌then◌else◌, min, nat_le, Option, Some, None, option_map}
 use Rattle.std.specs.List.{list_any}
-use Rattle.std.proofs.lemmas.Bool.Decides.{nat_tests, Decides-eqb}
+use Rattle.std.proofs.lemmas.Bool.Decides.{nat_tests}
 use Rattle.std.proofs.lemmas.Int.{ints}
 use Rattle.std.proofs.lemmas.List.{length-take, length-drop, length-map, map-append, get_or_append_left, get_or-append_right}
 use Rattle.std.proofs.lemmas.List.Folds.{list_any-append}
-use Rattle.scm_types.specs.declared.keys.SectionKey.{SectionKey}
-use Rattle.scm_types.specs.declared.keys.LineKey.{LineKey}
 use Rattle.scm_types.specs.declared.keys.SelectionKey.TheVariants as selection
 use Rattle.scm_types.specs.declared.line.SectionChangedLine.{SectionChangedLine}
 use Rattle.scm_types.specs.declared.section.Section.{Section}
 use Rattle.scm_types.specs.declared.section.Section.TheVariants.{Unchanged, Changed, FileMode, Binary}
-use Rattle.scm_types.specs.Keys.{is_key, section_of_line}
 use Rattle.scm_render.specs.Hits.{first_of_two}
 use Rattle.scm_render.specs.Lines.{line}
 use Rattle.scm_render.proofs.LineLemmas.{line-get}
@@ -25,8 +22,6 @@ use Rattle.scm_view.specs.Owners.{AreRowsOf}
 use Rattle.scm_view.specs.Texts.{dots_text}
 use Rattle.scm_view.specs.Rows.{DocRow, SectionRow, DotsRow, BlankRow, line_id, line_key_of, changed_rows, numbered_rows, context_rows, shown_lines, rows_below, rows_of, section_heading, is_selected, is_fold_open, lines_above, first_below, has_dots, dots_height, lines_height, context_height, section_height, section_rows, section_id, is_first, is_last, ShownSection}
 use Rattle.scm_view.specs.Strips.{is_among, row_strip, is_whole, is_wide, is_of_section, section_strips}
-use Rattle.scm_view.specs.Places.{Place, line_places, rows_places}
-use Rattle.scm_view.specs.Window.{rows_of_key}
 use Rattle.scm_view.specs.Index.{box_owner, line_owner, context_line, part_owner, section_owner}
 use Rattle.scm_view.specs.Tops.{context_kinds, kinds_of, is_wide_of, section_top_of}
 use Rattle.scm_view.proofs.RowsLemmas.{length-numbered, length-taken}

@@ -194,12 +194,7 @@ impl SectionTop {
 }
 
 /// Who owns a row and column among sections, if one of them does.
-fn sections_owner(
-    width: usize,
-    pieces: &[Piece],
-    row: usize,
-    column: usize,
-) -> Option<ComponentId>
+fn sections_owner(width: usize, pieces: &[Piece], row: usize, column: usize) -> Option<ComponentId>
     ensures { result ≡ sections_owner width (sections_of pieces.now) row column }
 {
     for piece in pieces {

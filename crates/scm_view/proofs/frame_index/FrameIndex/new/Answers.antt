@@ -1,4 +1,4 @@
-use Rattle.std.proofs.Common.{◌∙◌, ◌≤◌, ◌+◌, ap, ap₂, sym, get_or, subst, List}
+use Rattle.std.proofs.Common.{◌∙◌, ◌≤◌, ◌+◌, ap, sym, get_or, subst, List}
 use Rattle.std.specs.List.{flat_map}
 use Rattle.scm_types.specs.Limits.{max_text}
 use Rattle.scm_view.specs.declared.commit_view.CommitView.{CommitView}
