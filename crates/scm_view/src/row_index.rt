@@ -25,7 +25,7 @@ pub enum RowPlace {
     Section(SectionKey, usize),
 }
 
-/// The rows of a document: the rows of each file and section, and how many stand above each.
+/// The rows of a document: those of its message, and where its files and sections stand.
 #[derive(Drop)]
 pub struct RowIndex {
     /// How many rows the message has.
