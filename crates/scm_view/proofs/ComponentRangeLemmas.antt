@@ -1,5 +1,5 @@
 -- What each component draws alone is in range.
-use Rattle.std.proofs.Common.{◌≡◌, ℕ, zero, suc, ◌+◌, ◌*◌, ◌≤◌, ◌^◌, ℤ, pos, ◌+ℤ◌, Bool, true, false, List, [], ◌∷◌, ◌++◌, length, length-append, map, arith}
+use Rattle.std.proofs.Common.{◌≡◌, ℕ, zero, suc, ◌+◌, ◌*◌, ◌≤◌, ◌^◌, ℤ, pos, neg_ℤ, ◌+ℤ◌, ◌≤ℤ◌, Bool, true, false, List, [], ◌∷◌, ◌++◌, length, length-append, map, refl, arith}
 use Rattle.std.specs.Prelude.{◌&&◌, if◌then◌else◌, nat_le, sum_by, codes, Option, Some, None}
 use Rattle.std.specs.List.{list_all}
 use Rattle.std.proofs.lemmas.List.Sums.{sum_by-cons}
@@ -17,6 +17,7 @@ use Rattle.scm_view.specs.declared.button.Button.{Button}
 use Rattle.scm_view.specs.declared.menu.MenuItem.{MenuItem}
 use Rattle.scm_view.specs.declared.menu.Menu.{Menu}
 use Rattle.scm_view.specs.declared.menu_bar.MenuBar.{MenuBar}
+use Rattle.scm_view.specs.declared.dialog.Dialog.{Dialog}
 use Rattle.scm_view.specs.declared.quit_dialog.QuitDialog.{QuitDialog}
 use Rattle.scm_view.specs.declared.file_view_header.FileViewHeader.{FileViewHeader}
 use Rattle.scm_view.specs.declared.section_line_view.SectionLineViewInner.{SectionLineViewInner}
@@ -25,7 +26,7 @@ use Rattle.scm_view.specs.declared.section_view.SectionView.{SectionView}
 use Rattle.scm_view.specs.declared.file_view.FileView.{FileView}
 use Rattle.scm_view.specs.declared.commit_view.CommitView.{CommitView}
 use Rattle.scm_view.specs.Texts.{box_text, button_text, number_text, sign_text}
-use Rattle.scm_view.specs.Rows.{IdBox, line_texts, lent_text, header_heading, rows_of, section_rows, is_shown, is_open, is_first_open, is_fold_open, shown_section, shown_sections, sections_rows, shown_file, file_rows, document_of}
+use Rattle.scm_view.specs.Rows.{IdBox, ShownSection, line_texts, lent_text, header_heading, rows_of, section_rows, is_shown, is_open, is_first_open, is_fold_open, shown_section, shown_sections, sections_rows, shown_file, file_rows, document_of}
 use Rattle.scm_view.specs.FilesRows.{files_rows}
 use Rattle.scm_view.specs.Pictures.{box_picture, button_picture, header_picture, inner_picture, line_picture, section_picture, file_picture, message_picture, commit_message_picture, commit_picture}
 use Rattle.scm_view.specs.Buttons.{button_width}

@@ -5,6 +5,7 @@ use Rattle.std.specs.Ordering.{int_eq}
 use Rattle.std.proofs.lemmas.Bool.Decides.{nat_tests}
 use Rattle.std.proofs.lemmas.Int.{ints}
 use Rattle.std.proofs.lemmas.List.{length-append}
+use Rattle.std.specs.List.{flat_map}
 use Rattle.scm_types.specs.Limits.{is_accepted_state}
 use Rattle.scm_types.specs.declared.keys.SelectionKey.{SelectionKey}
 use Rattle.scm_render.specs.Hits.{first_of_two}
@@ -31,7 +32,8 @@ use Rattle.scm_view.specs.Window.{IsPlain, rows_layers, body_layers, owner, span
 use Rattle.scm_view.specs.Overlays.{overlays, quit_layers, help_layers}
 use Rattle.scm_view.specs.Menus.{menu_layer, opened}
 use Rattle.scm_view.specs.Tables.{menus_with, quit_dialog, help_dialog}
-use Rattle.scm_view.specs.Index.{is_from, spot_owner, files_owner, rows_owner, sections_owner, span_in}
+use Rattle.scm_view.specs.Index.{is_from, spot_owner, files_owner, rows_owner, sections_owner}
+use Rattle.scm_view.specs.Pieces.{piece_places, files_pieces}
 use Rattle.scm_view.specs.Tops.{file_height, files_height, file_tops, tops_in_files}
 use Rattle.scm_view.specs.Spots.{far, message_spots, pinned_spots, bar_spots, quit_spots, help_spots}
 use Rattle.scm_render.specs.Centring.{centred_gap, centred_size}
@@ -51,7 +53,7 @@ use Rattle.scm_view.proofs.OverlayLemmas.{owned-append}
 use Rattle.scm_view.proofs.LimitLemmas.{session-few}
 use Rattle.scm_view.proofs.SessionLemmas.{session-ids}
 use Rattle.scm_view.proofs.TopLemmas.{file-strips-length, owner_of, upper, lower, files-owned, file-height}
-use Rattle.scm_view.proofs.KeySpanLemmas.{spans-are}
+use Rattle.scm_view.proofs.PieceLemmas.{files-places}
 use Rattle.scm_view.proofs.SpotLemmas.{spots-append, on_row, far-among, pinned-spots}
 use Rattle.scm_view.proofs.OverSpotLemmas.{overlays-owner, length-bar, length-placed}
 
@@ -198,13 +200,13 @@ index-owner w h s y x shown v shows wide high within =
 -- ---- keys
 
 pub index-span : (m : ℕ) (shown : Shown) (v : CommitView) (k : SelectionKey) → Shows v shown 0
-    → span_in (file_tops m (1 + message_height (document_of v).message) v.file_views) (tops_in_files (1 + message_height (document_of v).message) v.file_views) k ≡ span shown k
+    → rows_of_key k (flat_map piece_places (files_pieces m (1 + message_height (document_of v).message) v.file_views)) ≡ span shown k
 unfolding span
-index-span m shown v k shows = spans-are m (1 + message_height (document_of v).message) v.file_views k ∙ ap (λ (d : Document). rows_of_key k (places 1 d)) shows
+index-span m shown v k shows = ap (rows_of_key k) (files-places m (1 + message_height (document_of v).message) v.file_views) ∙ ap (λ (d : Document). rows_of_key k (places 1 d)) shows
 
 -- ---- bounds
 
-files-rows-height : (vs : List FileView) → length (files_rows (map shown_file vs)) ≡ files_height vs
+pub files-rows-height : (vs : List FileView) → length (files_rows (map shown_file vs)) ≡ files_height vs
 unfolding files_rows
 files-rows-height [] = refl
 files-rows-height (v ∷ vs) = length-append (file_rows (shown_file v)) (files_rows (map shown_file vs)) ∙ ap₂ (λ a b. a + b) (file-height v) (files-rows-height vs)
@@ -213,7 +215,7 @@ message-few : (message : Option (List ℕ)) → message_height message ≤ 3
 message-few None = omega arith
 message-few (Some t) = omega arith
 
-pub index-few : (shown : Shown) (v : CommitView) → is_accepted_state shown.state ≡ true → Shows v shown 0 → 1 + message_height (document_of v).message + files_height v.file_views < 2 ^ 63
+pub index-few : (shown : Shown) (v : CommitView) → is_accepted_state shown.state ≡ true → Shows v shown 0 → 1 + message_height (document_of v).message + files_height v.file_views < 2 ^ 62
 index-few shown v a shows =
     let few = session-few shown 0 v a shows in
     let size = files-rows-height v.file_views in

@@ -1,4 +1,4 @@
--- An index of rows: what stands on a row, and where a key stands, among spans one below another.
+-- An index of rows: what stands on a row, and where a key stands, among pieces one below another.
 use Rattle.std.proofs.Common.{◌≡◌, ℕ, zero, suc, ◌+◌, ◌-◌, ◌<◌, ◌≤◌, List, [], ◌∷◌, ◌++◌, length, drop, get_or, refl, sym, ap, ◌∙◌, arith, add-one, drop-cons, true, false, Bool, inl, inr}
 use Rattle.std.specs.Prelude.{nat_le, nat_lt, nat_eq, ◌&&◌, ◌||◌, if◌then◌else◌, Option, Some, None, option_map, is_some, slice_get}
 use Rattle.std.specs.List.{flat_map, list_any}
@@ -14,13 +14,13 @@ use Rattle.scm_types.specs.declared.keys.SelectionKey.{SelectionKey}
 use Rattle.scm_types.specs.declared.keys.SelectionKey.TheVariants as keys
 use Rattle.scm_render.specs.Hits.{first_of_two}
 use Rattle.scm_view.specs.declared.row_index.RowPlace.TheVariants as part
-use Rattle.scm_view.specs.declared.row_index.Span.{Span}
-use Rattle.scm_view.specs.declared.line_rows.LineRows.{LineRows}
+use Rattle.scm_view.specs.declared.tops.SectionTop.{SectionTop}
+use Rattle.scm_view.specs.declared.tops.Piece.{Piece}
 use Rattle.scm_view.specs.Rows.{line_key_of}
 use Rattle.scm_view.specs.Places.{Place}
 use Rattle.scm_view.specs.Window.{rows_of_place, rows_of_key}
 use Rattle.scm_view.specs.RowIndex.{section_parts, message_parts}
-use Rattle.scm_view.specs.Spans.{run_places, lines_places, span_lines, span_places, span_parts, run_row, option_or, key_row}
+use Rattle.scm_view.specs.Pieces.{run_places, lines_places, lines_on_top, lines_at_end, first_at_end, piece_places, piece_parts, run_row, option_or, key_row}
 use Rattle.scm_view.proofs.PlaceLemmas.{AllHaveRows, rows-append}
 
 -- ---- what stands on a row
@@ -57,22 +57,22 @@ get-rest [] ys i j e = let same : i ≡ j = omega arith in ap (slice_get ys) sam
 get-rest (x ∷ xs) ys zero j e = absurd (omega arith)
 get-rest (x ∷ xs) ys (suc i) j e = get-rest xs ys i j (omega arith)
 
--- the spans from one on
-pub spans-more : {T : Type 0} (f : Span → List T) (spans : List Span) (i : ℕ) (d : Span) → i < length spans → flat_map f (drop i spans) ≡ f (get_or spans i d) ++ flat_map f (drop (i + 1) spans)
-spans-more f spans i d h = ap (flat_map f) (drop-cons spans i d h) ∙ flat_map-cons f (get_or spans i d) (drop (suc i) spans) ∙ rw add-one refl
+-- the pieces from one on
+pub pieces-more : {T : Type 0} (f : Piece → List T) (pieces : List Piece) (i : ℕ) (d : Piece) → i < length pieces → flat_map f (drop i pieces) ≡ f (get_or pieces i d) ++ flat_map f (drop (i + 1) pieces)
+pieces-more f pieces i d h = ap (flat_map f) (drop-cons pieces i d h) ∙ flat_map-cons f (get_or pieces i d) (drop (suc i) pieces) ∙ rw add-one refl
 
-pub spans-none : {T : Type 0} (f : Span → List T) (spans : List Span) (i : ℕ) → length spans ≤ i → flat_map f (drop i spans) ≡ []
-spans-none f spans i h = ap (flat_map f) (drop_all i spans h)
+pub pieces-none : {T : Type 0} (f : Piece → List T) (pieces : List Piece) (i : ℕ) → length pieces ≤ i → flat_map f (drop i pieces) ≡ []
+pieces-none f pieces i h = ap (flat_map f) (drop_all i pieces h)
 
-pub place-first : (spans : List Span) (i : ℕ) (d : Span) (left own : ℕ) → i < length spans → own ≡ length (span_parts (get_or spans i d)) → left < own
-    → slice_get (span_parts (get_or spans i d)) left ≡ slice_get (flat_map span_parts (drop i spans)) left
-place-first spans i d left own h e k =
-    sym (get-first (span_parts (get_or spans i d)) (flat_map span_parts (drop (i + 1) spans)) left (omega (arith, e, k))) ∙ ap (λ ps. slice_get ps left) (sym (spans-more span_parts spans i d h))
+pub place-first : (pieces : List Piece) (i : ℕ) (d : Piece) (left own : ℕ) → i < length pieces → own ≡ length (piece_parts (get_or pieces i d)) → left < own
+    → slice_get (piece_parts (get_or pieces i d)) left ≡ slice_get (flat_map piece_parts (drop i pieces)) left
+place-first pieces i d left own h e k =
+    sym (get-first (piece_parts (get_or pieces i d)) (flat_map piece_parts (drop (i + 1) pieces)) left (omega (arith, e, k))) ∙ ap (λ ps. slice_get ps left) (sym (pieces-more piece_parts pieces i d h))
 
-pub place-rest : (spans : List Span) (i : ℕ) (d : Span) (left own : ℕ) → i < length spans → own ≡ length (span_parts (get_or spans i d)) → own ≤ left
-    → slice_get (flat_map span_parts (drop (i + 1) spans)) (left - own) ≡ slice_get (flat_map span_parts (drop i spans)) left
-place-rest spans i d left own h e k =
-    sym (get-rest (span_parts (get_or spans i d)) (flat_map span_parts (drop (i + 1) spans)) left (left - own) (omega (arith, e, k))) ∙ ap (λ ps. slice_get ps left) (sym (spans-more span_parts spans i d h))
+pub place-rest : (pieces : List Piece) (i : ℕ) (d : Piece) (left own : ℕ) → i < length pieces → own ≡ length (piece_parts (get_or pieces i d)) → own ≤ left
+    → slice_get (flat_map piece_parts (drop (i + 1) pieces)) (left - own) ≡ slice_get (flat_map piece_parts (drop i pieces)) left
+place-rest pieces i d left own h e k =
+    sym (get-rest (piece_parts (get_or pieces i d)) (flat_map piece_parts (drop (i + 1) pieces)) left (left - own) (omega (arith, e, k))) ∙ ap (λ ps. slice_get ps left) (sym (pieces-more piece_parts pieces i d h))
 
 -- ---- where a line stands
 
@@ -156,31 +156,31 @@ some-of : (a b : Option ℕ) → (is_some a || is_some b) ≡ is_some (option_or
 some-of (Some t) b = refl
 some-of None b = refl
 
-both-rows : (line : LineKey) (k : SectionKey) (top : ℕ) (r : LineRows) (b : Bool) → is_key (keys.Section (section_of_line line)) (keys.Section k) ≡ b
-    → rows_of_key (keys.Line line) (lines_places k top r)
-    ≡ option_map (λ t. (t, 1)) (if b then option_or (run_row (top + r.first_row) 0 r.above line.line_idx) (run_row (top + r.below_row) r.below (r.count - r.below) line.line_idx) else None)
-both-rows line k top r true e =
-    rows-append (keys.Line line) (run_places k (top + r.first_row) 0 r.above) (run_places k (top + r.below_row) r.below (r.count - r.below)) (run-have k (top + r.first_row) 0 r.above)
-    ∙ ap (λ w. first_of_two w (rows_of_key (keys.Line line) (run_places k (top + r.below_row) r.below (r.count - r.below)))) (run-rows line k (top + r.first_row) 0 r.above true e)
-    ∙ ap (first_of_two {A = ℕ × ℕ} (option_map (λ t. (t, 1)) (run_row (top + r.first_row) 0 r.above line.line_idx))) (run-rows line k (top + r.below_row) r.below (r.count - r.below) true e)
-    ∙ first-of (run_row (top + r.first_row) 0 r.above line.line_idx) (run_row (top + r.below_row) r.below (r.count - r.below) line.line_idx)
-both-rows line k top r false e =
-    rows-append (keys.Line line) (run_places k (top + r.first_row) 0 r.above) (run_places k (top + r.below_row) r.below (r.count - r.below)) (run-have k (top + r.first_row) 0 r.above)
-    ∙ ap (λ w. first_of_two w (rows_of_key (keys.Line line) (run_places k (top + r.below_row) r.below (r.count - r.below)))) (run-rows line k (top + r.first_row) 0 r.above false e)
-    ∙ run-rows line k (top + r.below_row) r.below (r.count - r.below) false e
+both-rows : (line : LineKey) (k : SectionKey) (row n low i m : ℕ) (b : Bool) → is_key (keys.Section (section_of_line line)) (keys.Section k) ≡ b
+    → rows_of_key (keys.Line line) (run_places k row 0 n ++ run_places k low i m)
+    ≡ option_map (λ t. (t, 1)) (if b then option_or (run_row row 0 n line.line_idx) (run_row low i m line.line_idx) else None)
+both-rows line k row n low i m true e =
+    rows-append (keys.Line line) (run_places k row 0 n) (run_places k low i m) (run-have k row 0 n)
+    ∙ ap (λ w. first_of_two w (rows_of_key (keys.Line line) (run_places k low i m))) (run-rows line k row 0 n true e)
+    ∙ ap (first_of_two {A = ℕ × ℕ} (option_map (λ t. (t, 1)) (run_row row 0 n line.line_idx))) (run-rows line k low i m true e)
+    ∙ first-of (run_row row 0 n line.line_idx) (run_row low i m line.line_idx)
+both-rows line k row n low i m false e =
+    rows-append (keys.Line line) (run_places k row 0 n) (run_places k low i m) (run-have k row 0 n)
+    ∙ ap (λ w. first_of_two w (rows_of_key (keys.Line line) (run_places k low i m))) (run-rows line k row 0 n false e)
+    ∙ run-rows line k low i m false e
 
-both-any : (line : LineKey) (k : SectionKey) (top : ℕ) (r : LineRows) (b : Bool) → is_key (keys.Section (section_of_line line)) (keys.Section k) ≡ b
-    → list_any (λ (p : Place). is_key (keys.Line line) p.key) (lines_places k top r)
-    ≡ is_some (if b then option_or (run_row (top + r.first_row) 0 r.above line.line_idx) (run_row (top + r.below_row) r.below (r.count - r.below) line.line_idx) else None)
-both-any line k top r true e =
-    list_any-append (λ (p : Place). is_key (keys.Line line) p.key) (run_places k (top + r.first_row) 0 r.above) (run_places k (top + r.below_row) r.below (r.count - r.below))
-    ∙ ap (λ w. w || list_any (λ (p : Place). is_key (keys.Line line) p.key) (run_places k (top + r.below_row) r.below (r.count - r.below))) (run-any line k (top + r.first_row) 0 r.above true e)
-    ∙ ap (λ w. is_some (run_row (top + r.first_row) 0 r.above line.line_idx) || w) (run-any line k (top + r.below_row) r.below (r.count - r.below) true e)
-    ∙ some-of (run_row (top + r.first_row) 0 r.above line.line_idx) (run_row (top + r.below_row) r.below (r.count - r.below) line.line_idx)
-both-any line k top r false e =
-    list_any-append (λ (p : Place). is_key (keys.Line line) p.key) (run_places k (top + r.first_row) 0 r.above) (run_places k (top + r.below_row) r.below (r.count - r.below))
-    ∙ ap (λ w. w || list_any (λ (p : Place). is_key (keys.Line line) p.key) (run_places k (top + r.below_row) r.below (r.count - r.below))) (run-any line k (top + r.first_row) 0 r.above false e)
-    ∙ run-any line k (top + r.below_row) r.below (r.count - r.below) false e
+both-any : (line : LineKey) (k : SectionKey) (row n low i m : ℕ) (b : Bool) → is_key (keys.Section (section_of_line line)) (keys.Section k) ≡ b
+    → list_any (λ (p : Place). is_key (keys.Line line) p.key) (run_places k row 0 n ++ run_places k low i m)
+    ≡ is_some (if b then option_or (run_row row 0 n line.line_idx) (run_row low i m line.line_idx) else None)
+both-any line k row n low i m true e =
+    list_any-append (λ (p : Place). is_key (keys.Line line) p.key) (run_places k row 0 n) (run_places k low i m)
+    ∙ ap (λ w. w || list_any (λ (p : Place). is_key (keys.Line line) p.key) (run_places k low i m)) (run-any line k row 0 n true e)
+    ∙ ap (λ w. is_some (run_row row 0 n line.line_idx) || w) (run-any line k low i m true e)
+    ∙ some-of (run_row row 0 n line.line_idx) (run_row low i m line.line_idx)
+both-any line k row n low i m false e =
+    list_any-append (λ (p : Place). is_key (keys.Line line) p.key) (run_places k row 0 n) (run_places k low i m)
+    ∙ ap (λ w. w || list_any (λ (p : Place). is_key (keys.Line line) p.key) (run_places k low i m)) (run-any line k row 0 n false e)
+    ∙ run-any line k low i m false e
 
 -- no line has the key of a file or a section, or none
 run-other : (key : SelectionKey) (k : SectionKey) (row i n : ℕ) → ((line : LineKey) → is_key key (keys.Line line) ≡ false)
@@ -191,62 +191,43 @@ run-other key k row i (suc n) never =
     let more = run-other key k (suc row) (suc i) n never in
     (rw (never (line_key_of k i)) more.0, rw (never (line_key_of k i)) more.1)
 
-lines-other : (key : SelectionKey) (k : SectionKey) (top : ℕ) (r : LineRows) → ((line : LineKey) → is_key key (keys.Line line) ≡ false)
-    → (rows_of_key key (lines_places k top r) ≡ None) × (list_any (λ (p : Place). is_key key p.key) (lines_places k top r) ≡ false)
-lines-other key k top r never =
-    let a = run-other key k (top + r.first_row) 0 r.above never in
-    let b = run-other key k (top + r.below_row) r.below (r.count - r.below) never in (
-      rows-append key (run_places k (top + r.first_row) 0 r.above) (run_places k (top + r.below_row) r.below (r.count - r.below)) (run-have k (top + r.first_row) 0 r.above)
-          ∙ ap (λ w. first_of_two w (rows_of_key key (run_places k (top + r.below_row) r.below (r.count - r.below)))) a.0 ∙ b.0,
-      list_any-append (λ (p : Place). is_key key p.key) (run_places k (top + r.first_row) 0 r.above) (run_places k (top + r.below_row) r.below (r.count - r.below))
-          ∙ ap (λ w. w || list_any (λ (p : Place). is_key key p.key) (run_places k (top + r.below_row) r.below (r.count - r.below))) a.1 ∙ b.1,
+lines-other : (key : SelectionKey) (k : SectionKey) (row n low i m : ℕ) → ((line : LineKey) → is_key key (keys.Line line) ≡ false)
+    → (rows_of_key key (run_places k row 0 n ++ run_places k low i m) ≡ None) × (list_any (λ (p : Place). is_key key p.key) (run_places k row 0 n ++ run_places k low i m) ≡ false)
+lines-other key k row n low i m never =
+    let a = run-other key k row 0 n never in
+    let b = run-other key k low i m never in (
+      rows-append key (run_places k row 0 n) (run_places k low i m) (run-have k row 0 n)
+          ∙ ap (λ w. first_of_two w (rows_of_key key (run_places k low i m))) a.0 ∙ b.0,
+      list_any-append (λ (p : Place). is_key key p.key) (run_places k row 0 n) (run_places k low i m)
+          ∙ ap (λ w. w || list_any (λ (p : Place). is_key key p.key) (run_places k low i m)) a.1 ∙ b.1,
     )
 
--- the lines of a span
-pub lines-rows : (s : Span) (key : SelectionKey) → rows_of_key key (span_lines s) ≡ option_map (λ t. (t, 1)) (key_row s key)
-unfolding rows_of_key
-lines-rows s key = go s.key key
+-- the lines of a section
+pub lines-rows : (s : SectionTop) (key : SelectionKey) → rows_of_key key (lines_places s.key s.kinds s.top s.end (s.end - s.top)) ≡ option_map (λ t. (t, 1)) (key_row s key)
+lines-rows s key = go key
   where
-    go : (own key : SelectionKey) → rows_of_key key (span_lines (record s { key = own })) ≡ option_map (λ t. (t, 1)) (key_row (record s { key = own }) key)
-    go keys.None keys.None = refl
-    go keys.None (keys.File f) = refl
-    go keys.None (keys.Section k) = refl
-    go keys.None (keys.Line l) = refl
-    go (keys.File g) keys.None = refl
-    go (keys.File g) (keys.File f) = refl
-    go (keys.File g) (keys.Section k) = refl
-    go (keys.File g) (keys.Line l) = refl
-    go (keys.Line g) keys.None = refl
-    go (keys.Line g) (keys.File f) = refl
-    go (keys.Line g) (keys.Section k) = refl
-    go (keys.Line g) (keys.Line l) = refl
-    go (keys.Section g) keys.None = (lines-other keys.None g s.top s.lines (λ l. refl)).0
-    go (keys.Section g) (keys.File f) = (lines-other (keys.File f) g s.top s.lines (λ l. refl)).0
-    go (keys.Section g) (keys.Section k) = (lines-other (keys.Section k) g s.top s.lines (λ l. refl)).0
-    go (keys.Section g) (keys.Line l) = both-rows l g s.top s.lines (is_key (keys.Section (section_of_line l)) (keys.Section g)) refl
+    r : ℕ
+    r = s.end - s.top
 
-pub lines-any : (s : Span) (key : SelectionKey) → list_any (λ (p : Place). is_key key p.key) (span_lines s) ≡ is_some (key_row s key)
-lines-any s key = go s.key key
+    go : (key : SelectionKey) → rows_of_key key (lines_places s.key s.kinds s.top s.end (s.end - s.top)) ≡ option_map (λ t. (t, 1)) (key_row s key)
+    go keys.None = (lines-other keys.None s.key s.top (lines_on_top s.kinds r) (s.end - lines_at_end s.kinds r) (first_at_end s.kinds r) (lines_at_end s.kinds r) (λ l. refl)).0
+    go (keys.File f) = (lines-other (keys.File f) s.key s.top (lines_on_top s.kinds r) (s.end - lines_at_end s.kinds r) (first_at_end s.kinds r) (lines_at_end s.kinds r) (λ l. refl)).0
+    go (keys.Section k) = (lines-other (keys.Section k) s.key s.top (lines_on_top s.kinds r) (s.end - lines_at_end s.kinds r) (first_at_end s.kinds r) (lines_at_end s.kinds r) (λ l. refl)).0
+    go (keys.Line l) = both-rows l s.key s.top (lines_on_top s.kinds r) (s.end - lines_at_end s.kinds r) (first_at_end s.kinds r) (lines_at_end s.kinds r) (is_key (keys.Section (section_of_line l)) (keys.Section s.key)) refl
+
+pub lines-any : (s : SectionTop) (key : SelectionKey) → list_any (λ (p : Place). is_key key p.key) (lines_places s.key s.kinds s.top s.end (s.end - s.top)) ≡ is_some (key_row s key)
+lines-any s key = go key
   where
-    go : (own key : SelectionKey) → list_any (λ (p : Place). is_key key p.key) (span_lines (record s { key = own })) ≡ is_some (key_row (record s { key = own }) key)
-    go keys.None keys.None = refl
-    go keys.None (keys.File f) = refl
-    go keys.None (keys.Section k) = refl
-    go keys.None (keys.Line l) = refl
-    go (keys.File g) keys.None = refl
-    go (keys.File g) (keys.File f) = refl
-    go (keys.File g) (keys.Section k) = refl
-    go (keys.File g) (keys.Line l) = refl
-    go (keys.Line g) keys.None = refl
-    go (keys.Line g) (keys.File f) = refl
-    go (keys.Line g) (keys.Section k) = refl
-    go (keys.Line g) (keys.Line l) = refl
-    go (keys.Section g) keys.None = (lines-other keys.None g s.top s.lines (λ l. refl)).1
-    go (keys.Section g) (keys.File f) = (lines-other (keys.File f) g s.top s.lines (λ l. refl)).1
-    go (keys.Section g) (keys.Section k) = (lines-other (keys.Section k) g s.top s.lines (λ l. refl)).1
-    go (keys.Section g) (keys.Line l) = both-any l g s.top s.lines (is_key (keys.Section (section_of_line l)) (keys.Section g)) refl
+    r : ℕ
+    r = s.end - s.top
 
--- ---- spans one below another
+    go : (key : SelectionKey) → list_any (λ (p : Place). is_key key p.key) (lines_places s.key s.kinds s.top s.end (s.end - s.top)) ≡ is_some (key_row s key)
+    go keys.None = (lines-other keys.None s.key s.top (lines_on_top s.kinds r) (s.end - lines_at_end s.kinds r) (first_at_end s.kinds r) (lines_at_end s.kinds r) (λ l. refl)).1
+    go (keys.File f) = (lines-other (keys.File f) s.key s.top (lines_on_top s.kinds r) (s.end - lines_at_end s.kinds r) (first_at_end s.kinds r) (lines_at_end s.kinds r) (λ l. refl)).1
+    go (keys.Section k) = (lines-other (keys.Section k) s.key s.top (lines_on_top s.kinds r) (s.end - lines_at_end s.kinds r) (first_at_end s.kinds r) (lines_at_end s.kinds r) (λ l. refl)).1
+    go (keys.Line l) = both-any l s.key s.top (lines_on_top s.kinds r) (s.end - lines_at_end s.kinds r) (first_at_end s.kinds r) (lines_at_end s.kinds r) (is_key (keys.Section (section_of_line l)) (keys.Section s.key)) refl
+
+-- ---- pieces one below another
 
 -- the first of two lists that has the key
 any-first : (key : SelectionKey) (ps qs : List Place) → list_any (λ (p : Place). is_key key p.key) ps ≡ true → rows_of_key key (ps ++ qs) ≡ rows_of_key key ps
@@ -269,14 +250,14 @@ any-rest key (p ∷ ps) qs e = go (is_key key p.key) refl (any-rest key ps qs)
     go true f more = absurd (cc (rw f at e))
     go false f more = more (rw f at e)
 
-pub find-first : (spans : List Span) (i : ℕ) (d : Span) (key : SelectionKey) → i < length spans → list_any (λ (p : Place). is_key key p.key) (span_places (get_or spans i d)) ≡ true
-    → rows_of_key key (flat_map span_places (drop i spans)) ≡ rows_of_key key (span_places (get_or spans i d))
-find-first spans i d key h e = ap (rows_of_key key) (spans-more span_places spans i d h) ∙ any-first key (span_places (get_or spans i d)) (flat_map span_places (drop (i + 1) spans)) e
+pub find-first : (pieces : List Piece) (i : ℕ) (d : Piece) (key : SelectionKey) → i < length pieces → list_any (λ (p : Place). is_key key p.key) (piece_places (get_or pieces i d)) ≡ true
+    → rows_of_key key (flat_map piece_places (drop i pieces)) ≡ rows_of_key key (piece_places (get_or pieces i d))
+find-first pieces i d key h e = ap (rows_of_key key) (pieces-more piece_places pieces i d h) ∙ any-first key (piece_places (get_or pieces i d)) (flat_map piece_places (drop (i + 1) pieces)) e
 
-pub find-rest : (spans : List Span) (i : ℕ) (d : Span) (key : SelectionKey) → i < length spans → list_any (λ (p : Place). is_key key p.key) (span_places (get_or spans i d)) ≡ false
-    → rows_of_key key (flat_map span_places (drop i spans)) ≡ rows_of_key key (flat_map span_places (drop (i + 1) spans))
-find-rest spans i d key h e = ap (rows_of_key key) (spans-more span_places spans i d h) ∙ any-rest key (span_places (get_or spans i d)) (flat_map span_places (drop (i + 1) spans)) e
+pub find-rest : (pieces : List Piece) (i : ℕ) (d : Piece) (key : SelectionKey) → i < length pieces → list_any (λ (p : Place). is_key key p.key) (piece_places (get_or pieces i d)) ≡ false
+    → rows_of_key key (flat_map piece_places (drop i pieces)) ≡ rows_of_key key (flat_map piece_places (drop (i + 1) pieces))
+find-rest pieces i d key h e = ap (rows_of_key key) (pieces-more piece_places pieces i d h) ∙ any-rest key (piece_places (get_or pieces i d)) (flat_map piece_places (drop (i + 1) pieces)) e
 
-pub find-none : (spans : List Span) (i : ℕ) (key : SelectionKey) → length spans ≤ i → rows_of_key key (flat_map span_places (drop i spans)) ≡ None
+pub find-none : (pieces : List Piece) (i : ℕ) (key : SelectionKey) → length pieces ≤ i → rows_of_key key (flat_map piece_places (drop i pieces)) ≡ None
 unfolding rows_of_key
-find-none spans i key h = ap (rows_of_key key) (spans-none span_places spans i h)
+find-none pieces i key h = ap (rows_of_key key) (pieces-none piece_places pieces i h)

@@ -43,7 +43,6 @@ pub mod SessionLemmas
 pub mod SeamLemmas
 pub mod SectionTopLemmas
 pub mod TopLemmas
-pub mod KeySpanLemmas
 pub mod SpotLemmas
 pub mod OverSpotLemmas
 pub mod FrameIndexLemmas
@@ -57,7 +56,7 @@ pub mod DocumentOwnerLemmas
 pub mod IdBoxLemmas
 pub mod PlaceLemmas
 pub mod IndexLemmas
-pub mod SpanLemmas
+pub mod PieceLemmas
 pub mod DocumentKeyLemmas
 pub mod RunLemmas
 pub mod DocumentExtentLemmas

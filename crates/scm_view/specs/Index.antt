@@ -1,9 +1,8 @@
 -- The index of a frame that is shown inline: plain data that says who owns each point, on which rows each key stands, and how many
 -- rows all of it spans.
 use Rattle.std.specs.Prelude.{◌≡◌, ℕ, ◌+◌, ◌-◌, ◌==◌, nat_le, nat_lt, Bool, ◌&&◌, ◌||◌, if◌then◌else◌, List, [], ◌∷◌, Option, Some, None, option_map}
+use Rattle.std.specs.List.{flat_map}
 use Rattle.scm_render.specs.Hits.{first_of_two}
-use Rattle.scm_types.specs.Keys.{is_key, section_of_line}
-use Rattle.scm_types.specs.declared.keys.FileKey.{FileKey}
 use Rattle.scm_types.specs.declared.keys.SectionKey.{SectionKey}
 use Rattle.scm_types.specs.declared.keys.LineKey.{LineKey}
 use Rattle.scm_types.specs.declared.keys.SelectionKey.{SelectionKey}
@@ -19,7 +18,8 @@ use Rattle.scm_view.specs.declared.tops.RowKinds.TheVariants.{Changed, Mark, Con
 use Rattle.scm_view.specs.Rows.{file_id, section_id, line_id, line_key_of}
 use Rattle.scm_view.specs.Strips.{is_among}
 use Rattle.scm_view.specs.Shown.{Shown}
-use Rattle.scm_view.specs.Window.{owner, span, extent}
+use Rattle.scm_view.specs.Window.{owner, span, extent, rows_of_key}
+use Rattle.scm_view.specs.Pieces.{files_of, sections_of, piece_places}
 
 -- ---- spots: what lies over the rows of files
 
@@ -93,50 +93,13 @@ rows_owner w fs ss y x = files_owner w fs (sections_owner w ss y x) y x
 abbrev pub owner_in : FrameIndex → ℕ → ℕ → Option ComponentId
 owner_in i y x =
     if nat_lt x i.width
-    then first_of_two (spot_owner i.spots.items y x) (rows_owner i.width i.files.items i.sections.items y x)
+    then first_of_two (spot_owner i.spots.items y x) (rows_owner i.width (files_of i.pieces.items) (sections_of i.pieces.items) y x)
     else None
-
--- ---- keys
-
--- the rows from one to before another; none of no rows
-abbrev pub some_rows : ℕ → ℕ → Option (ℕ × ℕ)
-some_rows top end = if nat_lt top end then Some (top, end - top) else None
-
--- the row of a line of a section: of the first lines of context counted from the top, of all others from the end
-unfoldable pub line_span : RowKinds → ℕ → ℕ → ℕ → Option (ℕ × ℕ)
-line_span Changed top end line = if nat_lt line (end - top - 1) then Some (end - (end - top - 1 - line), 1) else None
-line_span Mark top end line = None
-line_span (Context above first n) top end line =
-    if nat_lt line above then Some (end - (end - top - line), 1)
-    else if nat_lt line n && nat_le (n - line) (end - top - first) then Some (end - (n - line), 1)
-    else None
-
--- the rows of a file, of a section and of a line
-abbrev pub file_span : List FileTop → FileKey → Option (ℕ × ℕ)
-file_span [] k = None
-file_span (f ∷ fs) k = if is_key (selection.File k) (selection.File f.key) then some_rows f.top f.end else file_span fs k
-
-abbrev pub section_span : List SectionTop → SectionKey → Option (ℕ × ℕ)
-section_span [] k = None
-section_span (s ∷ ss) k = if is_key (selection.Section k) (selection.Section s.key) then some_rows s.top s.end else section_span ss k
-
-abbrev pub line_in : SectionTop → LineKey → Option (ℕ × ℕ)
-line_in s k = if is_key (selection.Section (section_of_line k)) (selection.Section s.key) then line_span s.kinds s.top s.end k.line_idx else None
-
-abbrev pub lines_span : List SectionTop → LineKey → Option (ℕ × ℕ)
-lines_span [] k = None
-lines_span (s ∷ ss) k = first_of_two (line_in s k) (lines_span ss k)
-
-abbrev pub span_in : List FileTop → List SectionTop → SelectionKey → Option (ℕ × ℕ)
-span_in fs ss selection.None = None
-span_in fs ss (selection.File k) = file_span fs k
-span_in fs ss (selection.Section k) = section_span ss k
-span_in fs ss (selection.Line k) = lines_span ss k
 
 -- ---- what an index stands for
 
 -- the index of what is shown on a screen of w columns and h rows, from row s of the document on
 pub record IsIndexOf (w h s : ℕ) (shown : Shown) (i : FrameIndex) : Type 0 where
   pub owner : (y x : ℕ) → owner_in i y x ≡ (if nat_lt x w then owner w h s shown y x else None)
-  pub span : (k : SelectionKey) → span_in i.files.items i.sections.items k ≡ span shown k
+  pub span : (k : SelectionKey) → rows_of_key k (flat_map piece_places i.pieces.items) ≡ span shown k
   pub extent : i.extent ≡ extent w h s shown

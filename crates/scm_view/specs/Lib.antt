@@ -52,8 +52,8 @@ pub mod Overlays
 pub mod AppView
 -- What stands on each row of a document, and on which rows each key stands.
 pub mod RowIndex
--- An index as a list of spans; only contracts within this crate cite it.
-pub mod Spans
+-- Pieces: where files and their sections stand, and what stands on their rows.
+pub mod Pieces
 -- How much each part draws: rows, and calls.
 pub mod Counts
 -- What a screen shows of a session inline.

@@ -8,7 +8,8 @@ ghost use Rattle.scm_cells.specs.Counts.{added, plus};
 ghost use Rattle.scm_view.specs.Counts.{header_counts, file_counts, pinned_counts, files_counts, body_counts, document_counts};
 ghost use Rattle.scm_errors.specs.declared.error.RecordError.TheVariants.{OutOfMemory};
 ghost use Rattle.scm_view.specs.Rows.{shown_file, file_rows, document_of};
-ghost use Rattle.scm_view.specs.Tops.{file_tops, files_height, tops_in_files};
+ghost use Rattle.scm_view.specs.Tops.{files_height};
+ghost use Rattle.scm_view.specs.Pieces.{files_pieces};
 ghost use Rattle.scm_view.specs.Pictures.{mask_row, file_mask, pinned_mask, pinned_header, one_file_picture, files_picture, body_picture, file_picture, commit_picture};
 ghost use Rattle.scm_view.specs.Paints.{IsPainted};
 
@@ -17,7 +18,7 @@ use crate::file_view::FileView;
 use crate::ids::ComponentId;
 use crate::no_files::draw_no_files;
 use crate::reach::{draw_under, to_end};
-use crate::tops::{FileTop, SectionTop};
+use crate::tops::Piece;
 use scm_cells::Mask;
 use scm_render::{Component, Viewport};
 use scm_types::{Items, RecordError};
@@ -177,22 +178,20 @@ fn draw_body(
 
 /// Adds where files and their sections stand, if the first of them stands on this row and a header is
 /// pinned on another, and gives the row below them.
-pub(crate) fn push_tops(
-    files: &mut Vec<FileTop>,
-    sections: &mut Vec<SectionTop>,
+pub(crate) fn push_pieces(
+    pieces: &mut Vec<Piece>,
     pinned: usize,
     top: usize,
     views: &[FileView<'_>],
 ) -> Result<usize, RecordError>
-    requires { top + files_height views.now < 2 ^ 63 }
+    requires { top + files_height views.now < 2 ^ 62 }
     ensures end { IfOk result (λ end. end ≡ top + files_height views.now) }
-    ensures files { OnOk result (files.new.items ≡ files.old.items ++ file_tops pinned top views.now) }
-    ensures sections { OnOk result (sections.new.items ≡ sections.old.items ++ tops_in_files top views.now) }
+    ensures ok { OnOk result (pieces.new.items ≡ pieces.old.items ++ files_pieces pinned top views.now) }
     ensures err { IfErr result (λ e. e ≡ OutOfMemory) }
 {
     let mut row = top;
     for view in views {
-        row = view.push_tops(files, sections, pinned, row)?;
+        row = view.push_pieces(pieces, pinned, row)?;
     }
     Ok(row)
 }

@@ -1,5 +1,5 @@
 //! The files of a commit.
-ghost use Rattle.std.specs.Prelude.{◌≡◌, ◌+◌, ◌<◌, ◌^◌, ◌++◌, ◌∷◌, [], pos, ◌+ℤ◌, length, drop, false, OnOk, IfOk, IfErr};
+ghost use Rattle.std.specs.Prelude.{◌≡◌, ◌+◌, ◌<◌, ◌^◌, ◌++◌, ◌∷◌, [], pos, ◌+ℤ◌, length, map, drop, false, OnOk, IfOk, IfErr};
 ghost use Rattle.scm_cells.specs.Rect.{InRange};
 ghost use Rattle.scm_render.specs.Picture.{PictureInRange};
 ghost use Rattle.scm_render.specs.Canvas.{with_picture};
@@ -9,13 +9,16 @@ ghost use Rattle.scm_view.specs.Paints.{IsPainted};
 ghost use Rattle.scm_errors.specs.declared.error.RecordError.TheVariants.{OutOfMemory};
 ghost use Rattle.scm_view.specs.Rows.{header_heading, lent_text, shown_file, is_shown, is_open, is_first_open, shown_section, shown_sections, sections_rows, file_rows};
 ghost use Rattle.scm_view.specs.Pictures.{sections_picture, file_picture};
-ghost use Rattle.scm_view.specs.Tops.{file_height, file_top_of, section_tops, sections_height, tops_in_file};
+ghost use Rattle.scm_view.specs.Tops.{file_height, file_top_of, section_tops, sections_height};
+ghost use Rattle.scm_view.specs.Pieces.{file_pieces};
+ghost use Rattle.scm_view.specs.declared.tops.Piece.TheVariants.{Section as PieceSection};
 
 use crate::file_view_header::FileViewHeader;
 use crate::ids::ComponentId;
+use crate::reach::columns;
 use crate::section_view::SectionView;
 use crate::shown::is_seen;
-use crate::tops::{FileTop, SectionTop};
+use crate::tops::{FileTop, Piece};
 use crate::tristate_box::TristateBox;
 use scm_render::{Component, Viewport};
 use scm_types::{FileKey, Items, RecordError, SelectionKey};
@@ -179,16 +182,14 @@ fn sections_below(y: isize, views: &[SectionView<'_>]) -> isize
     row
 }
 
-/// Adds where sections stand that are shown, if the first of them stands on this row, and gives the row
-/// below them.
+/// Adds where sections stand that are shown, if the first of them stands on this row.
 fn push_sections(
-    tops: &mut Vec<SectionTop>,
+    pieces: &mut Vec<Piece>,
     top: usize,
     views: &[SectionView<'_>],
-) -> Result<usize, RecordError>
+) -> Result<(), RecordError>
     requires { top + sections_height false views.now < 2 ^ 63 }
-    ensures end { IfOk result (λ end. end ≡ top + sections_height false views.now) }
-    ensures ok { OnOk result (tops.new.items ≡ tops.old.items ++ section_tops top false views.now) }
+    ensures ok { OnOk result (pieces.new.items ≡ pieces.old.items ++ map PieceSection (section_tops top false views.now)) }
     ensures err { IfErr result (λ e. e ≡ OutOfMemory) }
 {
     let mut row = top;
@@ -196,57 +197,56 @@ fn push_sections(
     for (index, view) in views.iter().enumerate() {
         if is_shown(before, view, is_open_at(views, index + 1)) {
             let section = view.top(row);
-            tops.push(section)?;
+            pieces.push(Piece::Section(section))?;
             row = section.end;
         }
         before = view.is_open();
     }
-    Ok(row)
+    Ok(())
 }
 
 impl<'a> FileView<'a> {
-    /// Adds where the sections of the file stand, if its first row is this one, and gives the row below
-    /// its last.
-    fn push_own_sections(
-        &self,
-        tops: &mut Vec<SectionTop>,
-        top: usize,
-    ) -> Result<usize, RecordError>
-        requires { top + file_height self.now < 2 ^ 63 }
-        ensures end { IfOk result (λ end. end ≡ top + file_height self.now) }
-        ensures ok { OnOk result (tops.new.items ≡ tops.old.items ++ tops_in_file top self.now) }
-        ensures err { IfErr result (λ e. e ≡ OutOfMemory) }
+    /// How many rows the file has.
+    fn height(&self) -> usize
+        requires { file_height self.now < 2 ^ 62 }
+        ensures { result ≡ file_height self.now }
     {
-        if self.expand_box.is_open() {
-            push_sections(tops, top + 1, self.section_views.as_slice())
-        } else {
-            Ok(top + 1)
+        columns(0, self.row_below(0))
+    }
+
+    /// Where the file stands, if its first row is this one and a header is pinned on another.
+    fn top(&self, pinned: usize, top: usize) -> FileTop
+        requires { top + file_height self.now < 2 ^ 62 }
+        ensures { result ≡ file_top_of pinned top self.now }
+    {
+        let end = top + self.height();
+        FileTop {
+            key: self.file_key,
+            top,
+            end,
+            is_pinned: (top < pinned) & (pinned < end),
         }
     }
 
     /// Adds where the file and its sections stand, if its first row is this one and a header is pinned
     /// on another, and gives the row below its last.
-    pub(crate) fn push_tops(
+    pub(crate) fn push_pieces(
         &self,
-        files: &mut Vec<FileTop>,
-        sections: &mut Vec<SectionTop>,
+        pieces: &mut Vec<Piece>,
         pinned: usize,
         top: usize,
     ) -> Result<usize, RecordError>
-        requires { top + file_height self.now < 2 ^ 63 }
+        requires { top + file_height self.now < 2 ^ 62 }
         ensures end { IfOk result (λ end. end ≡ top + file_height self.now) }
-        ensures files { OnOk result (files.new.items ≡ files.old.items ++ file_top_of pinned top self.now ∷ []) }
-        ensures sections { OnOk result (sections.new.items ≡ sections.old.items ++ tops_in_file top self.now) }
+        ensures ok { OnOk result (pieces.new.items ≡ pieces.old.items ++ file_pieces pinned top self.now) }
         ensures err { IfErr result (λ e. e ≡ OutOfMemory) }
     {
-        let end = self.push_own_sections(sections, top)?;
-        files.push(FileTop {
-            key: self.file_key,
-            top,
-            end,
-            is_pinned: (top < pinned) & (pinned < end),
-        })?;
-        Ok(end)
+        let file = self.top(pinned, top);
+        pieces.push(Piece::File(file))?;
+        if self.expand_box.is_open() {
+            push_sections(pieces, top + 1, self.section_views.as_slice())?;
+        }
+        Ok(file.end)
     }
 
     /// The row below the file's last, where its first is this one.

@@ -8,16 +8,17 @@ ghost use Rattle.scm_view.specs.AppView.{has_help};
 ghost use Rattle.scm_view.specs.Tables.{help_dialog, quit_dialog};
 ghost use Rattle.scm_view.specs.Runs.{document_run, joined, joined_with};
 ghost use Rattle.scm_view.specs.Spots.{dialog_run, help_spots, quit_spots};
-ghost use Rattle.scm_view.specs.Index.{IsIndexOf, owner_in, span_in};
+ghost use Rattle.scm_view.specs.Index.{IsIndexOf, owner_in};
 
 use crate::app_view::AppView;
-use crate::commit_view::push_tops;
+use crate::commit_view::push_pieces;
 use crate::dialog::middle;
 use crate::help_dialog::HelpDialog;
 use crate::ids::ComponentId;
+use crate::key_rows::find_in;
 use crate::quit_dialog::QuitDialog;
 use crate::spots::{Spot, spot_owner};
-use crate::tops::{FileTop, SectionTop, push_pinned, rows_owner, span_in};
+use crate::tops::{Piece, push_pinned, rows_owner};
 use scm_types::{RecordError, SelectionKey};
 use std::alloc::Global;
 
@@ -31,10 +32,8 @@ pub struct FrameIndex {
     /// What lies over the rows of files: the message's button, the pinned header, the menu bar with its
     /// open menu, the dialogs; each over those before it.
     spots: Vec<Spot>,
-    /// Where the files stand.
-    files: Vec<FileTop>,
-    /// Where their sections stand that are shown.
-    sections: Vec<SectionTop>,
+    /// Where the files stand, and their sections that are shown.
+    pieces: Vec<Piece>,
     /// How many rows all of it spans.
     extent: usize,
 }
@@ -136,11 +135,10 @@ impl FrameIndex {
         let views = commit.file_views.as_slice();
         let columns = usize::from(width);
         let mut spots = Vec::new(alloc);
-        let mut files = Vec::new(alloc);
-        let mut sections = Vec::new(alloc);
-        let end = push_tops(&mut files, &mut sections, scroll + 1, 1 + message, views)?;
+        let mut pieces = Vec::new(alloc);
+        let end = push_pieces(&mut pieces, scroll + 1, 1 + message, views)?;
         commit.commit_message_view.push_spots(&mut spots)?;
-        push_pinned(&mut spots, columns, scroll + 1, &files)?;
+        push_pinned(&mut spots, columns, scroll + 1, &pieces)?;
         let below = view
             .menu_bar
             .push_spots(alloc, &mut spots, columns, scroll)?;
@@ -152,8 +150,7 @@ impl FrameIndex {
         Ok(FrameIndex {
             width,
             spots,
-            files,
-            sections,
+            pieces,
             extent: run.1.saturating_sub(run.0),
         })
     }
@@ -171,7 +168,7 @@ impl FrameIndex {
     pub fn span(&self, key: SelectionKey) -> Option<(usize, usize)>
         ensures { (w h s : ℕ) (shown : Shown) → IsIndexOf w h s shown self.now → result ≡ span shown key }
     {
-        span_in(&self.files, &self.sections, key)
+        find_in(&self.pieces, key)
     }
 
     /// How many rows all that is shown spans.
@@ -191,7 +188,7 @@ impl FrameIndex {
         }
         match spot_owner(&self.spots, row, column) {
             Some(id) => Some(id),
-            None => rows_owner(width, &self.files, &self.sections, row, column),
+            None => rows_owner(width, &self.pieces, row, column),
         }
     }
 }

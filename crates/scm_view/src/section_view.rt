@@ -9,14 +9,12 @@ ghost use Rattle.scm_errors.specs.declared.error.RecordError.TheVariants.{OutOfM
 ghost use Rattle.scm_types.specs.declared.section.Section.TheVariants.{Changed};
 ghost use Rattle.scm_view.specs.Texts.{section_text, mode_change_text, binary_text, dots_text};
 ghost use Rattle.scm_view.specs.Rows.{SectionRow, MarkRow, DotsRow, mark_of, line_key_of, section_box, line_box, section_heading, is_fold_open, line_number, numbered_row, numbered_rows, changed_row, changed_rows, context_rows, section_rows, is_selected, is_line_selected, is_header_selected, is_first, is_last, is_open, are_all_shown, lines_above, has_dots, first_below, rows_below, shown_lines, rows_of, dots_height, lines_height, context_height, changed_height, section_height};
-ghost use Rattle.scm_view.specs.Spans.{no_lines, context_lines, lines_of};
 ghost use Rattle.scm_view.specs.Pictures.{IdPicture, row_picture, rows_picture, section_picture};
 ghost use Rattle.scm_view.specs.Tops.{context_kinds, has_context_row, is_wide_of, kinds_of, section_top_of};
 ghost use Rattle.scm_view.specs.Paints.{IsPainted};
 
 use crate::heading::draw_heading;
 use crate::ids::ComponentId;
-use crate::line_rows::LineRows;
 use crate::reach::{cover_rest, highlight};
 use crate::section_line_view::{SectionLineView, SectionLineViewInner};
 use crate::shown::{begin_row, is_seen, rows_above, show_box, show_span, show_text};
@@ -360,19 +358,6 @@ impl<'a> SectionView<'a> {
     }
 }
 
-/// No line stands on a row.
-pub(crate) fn no_line_rows() -> LineRows
-    ensures { result ≡ no_lines }
-{
-    LineRows {
-        first_row: 0,
-        above: 0,
-        below_row: 0,
-        below: 0,
-        count: 0,
-    }
-}
-
 /// The number of a line of context; a number past the greatest is the greatest.
 fn line_number(start: usize, index: usize) -> usize
     ensures { result ≡ line_number start index }
@@ -481,53 +466,6 @@ impl<'a> SectionView<'a> {
             Section::Changed { lines } => self.changed_below(y, lines.len()),
             Section::FileMode { .. } => y + 1,
             Section::Binary { .. } => y + 1,
-        }
-    }
-
-    /// On which rows so many lines of context stand.
-    fn context_line_rows(&self, count: usize) -> LineRows
-        ensures { result ≡ (if count == 0 then no_lines else context_lines self.now count) }
-    {
-        if count == 0 {
-            no_line_rows()
-        } else {
-            let above = self.lines_above(count);
-            LineRows {
-                first_row: 0,
-                above,
-                below_row: above + self.dots_height(count),
-                below: self.first_below(count),
-                count,
-            }
-        }
-    }
-
-    /// On which rows so many changed lines stand.
-    fn changed_line_rows(&self, count: usize) -> LineRows
-        ensures { result ≡ (if is_fold_open self.now.expand_box then record { first_row = 1; above = count; below_row = 0; below = count; count = count } else no_lines) }
-    {
-        if self.expand_box.is_open() {
-            LineRows {
-                first_row: 1,
-                above: count,
-                below_row: 0,
-                below: count,
-                count,
-            }
-        } else {
-            no_line_rows()
-        }
-    }
-
-    /// On which rows its lines stand.
-    pub(crate) fn line_rows(&self) -> LineRows
-        ensures { result ≡ lines_of self.now self.now.section.now }
-    {
-        match self.section {
-            Section::Unchanged { lines } => self.context_line_rows(lines.len()),
-            Section::Changed { lines } => self.changed_line_rows(lines.len()),
-            Section::FileMode { .. } => no_line_rows(),
-            Section::Binary { .. } => no_line_rows(),
         }
     }
 

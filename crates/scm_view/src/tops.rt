@@ -4,8 +4,8 @@ ghost use Rattle.scm_errors.specs.declared.error.RecordError.TheVariants.{OutOfM
 ghost use Rattle.scm_view.specs.Spots.{header_spots, pinned_spots};
 ghost use Rattle.scm_view.specs.Rows.{line_id as id_of_line, line_key_of};
 ghost use Rattle.scm_view.specs.Strips.{is_among as among};
-ghost use Rattle.scm_view.specs.Index.{box_owner, context_line, file_owner, file_span, files_owner, header_owner, line_in, line_owner, line_span, lines_span, part_owner, rows_owner, section_owner, section_span, sections_owner, some_rows, span_in};
-ghost use Rattle.scm_types.specs.Keys.{is_key};
+ghost use Rattle.scm_view.specs.Index.{box_owner, context_line, file_owner, files_owner, header_owner, line_owner, part_owner, rows_owner, section_owner, sections_owner};
+ghost use Rattle.scm_view.specs.Pieces.{files_of, sections_of};
 
 use crate::ids::ComponentId;
 use crate::spots::{Spot, far, is_from, row_spot};
@@ -57,18 +57,20 @@ pub(crate) struct FileTop {
     pub(crate) is_pinned: bool,
 }
 
+/// A file or a section of one, where it stands. A list of them has each file before its sections.
+#[derive(Clone, Copy)]
+pub(crate) enum Piece {
+    /// A file.
+    File(FileTop),
+    /// A section that is shown.
+    Section(SectionTop),
+}
+
 /// Whether a column is one of three from another on.
 fn is_among(first: usize, column: usize) -> bool
     ensures { result ≡ among first 3 column }
 {
     first <= column && column - first < 3
-}
-
-/// Whether two keys are the same.
-fn is_key(key: SelectionKey, other: SelectionKey) -> bool
-    ensures { result ≡ is_key key other }
-{
-    key == other
 }
 
 /// The boxes of a heading from a column on, on a screen of so many columns, and nothing between them.
@@ -170,49 +172,6 @@ impl RowKinds {
             },
         }
     }
-
-    /// The row of a line.
-    #[tactic(auto, unfolding(crate::specs::Index::line_span))]
-    fn line_span(self, top: usize, end: usize, line: usize) -> Option<(usize, usize)>
-        ensures { result ≡ line_span self top end line }
-    {
-        let rows = end.saturating_sub(top);
-        match self {
-            RowKinds::Changed => {
-                let changed = rows.saturating_sub(1);
-                if line < changed {
-                    Some((end - (changed - line), 1))
-                } else {
-                    None
-                }
-            }
-            RowKinds::Mark => None,
-            RowKinds::Context {
-                above,
-                first,
-                lines,
-            } => {
-                if line < above {
-                    Some((end.saturating_sub(rows.saturating_sub(line)), 1))
-                } else if line < lines && lines - line <= rows.saturating_sub(first) {
-                    Some((end.saturating_sub(lines - line), 1))
-                } else {
-                    None
-                }
-            }
-        }
-    }
-}
-
-/// The rows from one to before another, and none of no rows.
-fn some_rows(top: usize, end: usize) -> Option<(usize, usize)>
-    ensures { result ≡ some_rows top end }
-{
-    if top < end {
-        Some((top, end - top))
-    } else {
-        None
-    }
 }
 
 impl SectionTop {
@@ -232,34 +191,20 @@ impl SectionTop {
             }
         }
     }
-
-    /// The row of a line, if it is one of the section's.
-    fn line_in(&self, key: LineKey) -> Option<(usize, usize)>
-        ensures { result ≡ line_in self.now key }
-    {
-        if is_key(
-            SelectionKey::Section(key.section()),
-            SelectionKey::Section(self.key),
-        ) {
-            self.kinds.line_span(self.top, self.end, key.line_idx)
-        } else {
-            None
-        }
-    }
 }
 
 /// Who owns a row and column among sections, if one of them does.
-fn sections_owner(
-    width: usize,
-    sections: &[SectionTop],
-    row: usize,
-    column: usize,
-) -> Option<ComponentId>
-    ensures { result ≡ sections_owner width sections.now row column }
+fn sections_owner(width: usize, pieces: &[Piece], row: usize, column: usize) -> Option<ComponentId>
+    ensures { result ≡ sections_owner width (sections_of pieces.now) row column }
 {
-    for section in sections {
-        if is_from(section.top, section.end, row) {
-            return section.owner(width, row - section.top, column);
+    for piece in pieces {
+        match piece {
+            Piece::File(_) => {}
+            Piece::Section(section) => {
+                if is_from(section.top, section.end, row) {
+                    return section.owner(width, row - section.top, column);
+                }
+            }
         }
     }
     None
@@ -304,16 +249,21 @@ impl FileTop {
 /// Who owns a row and column among files, where this one owns them among sections.
 fn files_owner(
     width: usize,
-    files: &[FileTop],
+    pieces: &[Piece],
     owner: Option<ComponentId>,
     row: usize,
     column: usize,
 ) -> Option<ComponentId>
-    ensures { result ≡ files_owner width files.now owner row column }
+    ensures { result ≡ files_owner width (files_of pieces.now) owner row column }
 {
-    for file in files {
-        if is_from(file.top, file.end, row) {
-            return file.owner(width, owner, row, column);
+    for piece in pieces {
+        match piece {
+            Piece::File(file) => {
+                if is_from(file.top, file.end, row) {
+                    return file.owner(width, owner, row, column);
+                }
+            }
+            Piece::Section(_) => {}
         }
     }
     None
@@ -322,70 +272,14 @@ fn files_owner(
 /// Who owns a row and column among files and their sections.
 pub(crate) fn rows_owner(
     width: usize,
-    files: &[FileTop],
-    sections: &[SectionTop],
+    pieces: &[Piece],
     row: usize,
     column: usize,
 ) -> Option<ComponentId>
-    ensures { result ≡ rows_owner width files.now sections.now row column }
+    ensures { result ≡ rows_owner width (files_of pieces.now) (sections_of pieces.now) row column }
 {
-    let owner = sections_owner(width, sections, row, column);
-    files_owner(width, files, owner, row, column)
-}
-
-/// The rows of a file.
-fn file_span(files: &[FileTop], key: FileKey) -> Option<(usize, usize)>
-    ensures { result ≡ file_span files.now key }
-{
-    for file in files {
-        if is_key(SelectionKey::File(key), SelectionKey::File(file.key)) {
-            return some_rows(file.top, file.end);
-        }
-    }
-    None
-}
-
-/// The rows of a section.
-fn section_span(sections: &[SectionTop], key: SectionKey) -> Option<(usize, usize)>
-    ensures { result ≡ section_span sections.now key }
-{
-    for section in sections {
-        if is_key(
-            SelectionKey::Section(key),
-            SelectionKey::Section(section.key),
-        ) {
-            return some_rows(section.top, section.end);
-        }
-    }
-    None
-}
-
-/// The row of a line.
-fn lines_span(sections: &[SectionTop], key: LineKey) -> Option<(usize, usize)>
-    ensures { result ≡ lines_span sections.now key }
-{
-    for section in sections {
-        if let Some(span) = section.line_in(key) {
-            return Some(span);
-        }
-    }
-    None
-}
-
-/// The first row of a key and how many rows it has, where it is among these.
-pub(crate) fn span_in(
-    files: &[FileTop],
-    sections: &[SectionTop],
-    key: SelectionKey,
-) -> Option<(usize, usize)>
-    ensures { result ≡ span_in files.now sections.now key }
-{
-    match key {
-        SelectionKey::None => None,
-        SelectionKey::File(key) => file_span(files, key),
-        SelectionKey::Section(key) => section_span(sections, key),
-        SelectionKey::Line(key) => lines_span(sections, key),
-    }
+    let owner = sections_owner(width, pieces, row, column);
+    files_owner(width, pieces, owner, row, column)
 }
 
 /// Adds the spots of a header on a row.
@@ -413,16 +307,21 @@ pub(crate) fn push_pinned(
     spots: &mut Vec<Spot>,
     width: usize,
     row: usize,
-    files: &[FileTop],
+    pieces: &[Piece],
 ) -> Result<(), RecordError>
     requires width { width < 2 ^ 63 }
     requires row { row < 2 ^ 63 }
-    ensures ok { OnOk result (spots.new.items ≡ spots.old.items ++ pinned_spots width row files.now) }
+    ensures ok { OnOk result (spots.new.items ≡ spots.old.items ++ pinned_spots width row (files_of pieces.now)) }
     ensures err { IfErr result (λ e. e ≡ OutOfMemory) }
 {
-    for file in files {
-        if file.is_pinned {
-            return push_header(spots, width, row, file.key);
+    for piece in pieces {
+        match piece {
+            Piece::File(file) => {
+                if file.is_pinned {
+                    return push_header(spots, width, row, file.key);
+                }
+            }
+            Piece::Section(_) => {}
         }
     }
     Ok(())

@@ -1,4 +1,5 @@
-use Rattle.std.proofs.Common.{◌≡◌, ◌+◌, ◌++◌, drop, false}
+use Rattle.std.proofs.Common.{◌≡◌, ◌+◌, ◌++◌, drop, map, false}
+use Rattle.scm_view.specs.declared.tops.Piece.TheVariants.{Section}
 use Rattle.scm_view.specs.Tops.{section_tops, sections_height}
 use Rattle.scm_view.proofs.file_view.push_sections.Given as goal
 
@@ -6,6 +7,6 @@ use Rattle.scm_view.proofs.file_view.push_sections.Given as goal
 abbrev pub invariant-loop-index : goal.invariant-loop-index
 invariant-loop-index l =
     record {
-      added : l.tops.items ++ section_tops l.row l.before (drop l.index l.views) ≡ l.fn.tops.items ++ section_tops l.fn.top false l.views;
+      added : l.pieces.items ++ map Section (section_tops l.row l.before (drop l.index l.views)) ≡ l.fn.pieces.items ++ map Section (section_tops l.fn.top false l.views);
       left : l.row + sections_height l.before (drop l.index l.views) ≡ l.fn.top + sections_height false l.views;
     }

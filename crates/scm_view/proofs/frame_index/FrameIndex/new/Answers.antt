@@ -1,18 +1,20 @@
-use Rattle.std.proofs.Common.{◌∙◌, ◌≤◌, ◌+◌, ap, ap₂, sym, get_or, subst, List}
+use Rattle.std.proofs.Common.{◌∙◌, ◌≤◌, ◌+◌, ap, sym, get_or, subst, List}
+use Rattle.std.specs.List.{flat_map}
 use Rattle.scm_types.specs.Limits.{max_text}
 use Rattle.scm_view.specs.declared.commit_view.CommitView.{CommitView}
 use Rattle.scm_view.specs.declared.menu_bar.MenuBar.{MenuBar}
-use Rattle.scm_view.specs.declared.tops.FileTop.{FileTop}
-use Rattle.scm_view.specs.declared.tops.SectionTop.{SectionTop}
-use Rattle.scm_view.specs.Index.{span_in}
+use Rattle.scm_view.specs.Rows.{document_of, message_height}
+use Rattle.scm_view.specs.Window.{rows_of_key}
+use Rattle.scm_view.specs.Pieces.{piece_places, files_of, sections_of}
 use Rattle.scm_view.specs.Menus.{headers_width, opened}
 use Rattle.scm_view.specs.Spots.{IsShortMenu}
 use Rattle.scm_view.proofs.FixedLemmas.{short_bar}
+use Rattle.scm_view.proofs.PieceLemmas.{pieces-files, pieces-sections}
 use Rattle.scm_view.proofs.FrameIndexLemmas.{index-few, shows-first, short-menu, answers-owner, index-span, answers-extent}
 use Rattle.scm_view.proofs.frame_index.FrameIndex.new.Goals as goal
 
-pub push_tops-requires : goal.push_tops-requires
-push_tops-requires c =
+pub push_pieces-requires : goal.push_pieces-requires
+push_pieces-requires c =
     let plain = c.requires.shows.2 in
     let v = c.index-as_slice-0.result in
     let first = c.index-as_slice-0.is ∙ ap (λ (vs : List CommitView). get_or vs 0 v) c.as_slice.ensures in
@@ -38,8 +40,10 @@ returns-clause-ok c = λ shown plain.
     let v = c.index-as_slice-0.result in
     let first = c.index-as_slice-0.is ∙ ap (λ (vs : List CommitView). get_or vs 0 v) c.as_slice.ensures in
     let shows = shows-first a shown w h v plain first in
-    let files = rw (c.new-files.ensures.items, c.height-message.ensures, c.as_slice-views.ensures) at c.in_ok-end.ensures.files in
-    let sections = rw (c.new-sections.ensures.items, c.height-message.ensures, c.as_slice-views.ensures) at c.in_ok-end.ensures.sections in
+    let top = 1 + message_height (document_of v).message in
+    let made = rw (c.new-pieces.ensures.items, c.height-message.ensures, c.as_slice-views.ensures) at c.in_ok-end.ensures.ok in
+    let files = ap files_of made ∙ pieces-files (s + 1) top v.file_views in
+    let sections = ap sections_of made ∙ pieces-sections (s + 1) top v.file_views in
     let m0 = rw c.new-spots.ensures.items at c.in_ok-push_spots.ensures.ok in
     let m1 = rw (c.from-columns.ensures, c.deref.ensures.value) at c.in_ok-push_pinned.ensures.ok in
     let m2 = rw c.from-columns.ensures at c.in_ok-below.ensures.ok in
@@ -48,8 +52,8 @@ returns-clause-ok c = λ shown plain.
     let end = rw (c.height-message.ensures, c.as_slice-views.ensures) at c.in_ok-end.ensures.end in
     record {
       owner = λ y x. answers-owner w h s y x a shown v c.push_spots.new.spots.items c.push_pinned.new.spots.items c.push_spots-2.new.spots.items c.push_quit.new.spots.items c.push_help.new.spots.items
-          c.push_tops.new.files.items c.push_tops.new.sections.items plain shows m0 m1 m2 c.in_ok-quit.ensures.ok c.in_ok-help.ensures.ok files sections;
-      span = λ k. ap₂ (λ (fs : List FileTop) (ss : List SectionTop). span_in fs ss k) files sections ∙ index-span (s + 1) shown v k shows;
+          (files_of c.push_pieces.new.pieces.items) (sections_of c.push_pieces.new.pieces.items) plain shows m0 m1 m2 c.in_ok-quit.ensures.ok c.in_ok-help.ensures.ok files sections;
+      span = λ k. ap (λ ps. rows_of_key k (flat_map piece_places ps)) made ∙ index-span (s + 1) shown v k shows;
       extent = c.saturating_sub.ensures ∙ answers-extent w h s a shown v c.joined_with-run.result c.in_ok-below.below c.height-message.result c.in_ok-end.end c.is_empty.result c.in_ok-quit.quit c.in_ok-help.help plain shows
           run c.in_ok-below.ensures.end c.height-message.ensures empty end c.in_ok-quit.ensures.rows c.in_ok-help.ensures.rows;
     }

@@ -1,0 +1,183 @@
+//! On which rows a key stands among files and sections.
+ghost use Rattle.std.specs.Prelude.{◌≡◌, ◌≤◌, ◌<◌, ◌+◌, ◌-◌, ◌^◌, ◌==◌, if◌then◌else◌, Some, None};
+ghost use Rattle.std.specs.List.{flat_map, list_any};
+ghost use Rattle.scm_types.specs.Keys.{is_key};
+ghost use Rattle.scm_view.specs.Places.{Place};
+ghost use Rattle.scm_view.specs.Window.{rows_of_key};
+ghost use Rattle.scm_view.specs.Pieces.{first_at_end, key_row, line_row, lines_at_end, lines_on_top, piece_places, run_row, section_places};
+
+use crate::tops::{Piece, RowKinds, SectionTop};
+use scm_types::{LineKey, SelectionKey};
+
+/// Whether two keys are the same.
+fn is_same(key: SelectionKey, other: SelectionKey) -> bool
+    ensures { result ≡ is_key key other }
+{
+    key == other
+}
+
+/// The row of a line among so many from one on, which stand on rows from one on.
+fn run_row(row: usize, first: usize, count: usize, index: usize) -> Option<usize>
+    requires { row + count < 2 ^ 64 }
+    ensures { result ≡ run_row row first count index }
+{
+    if first <= index && index - first < count {
+        Some(row + (index - first))
+    } else {
+        None
+    }
+}
+
+/// A run of so many rows from one on, if it has any.
+fn some_rows(top: usize, rows: usize) -> Option<(usize, usize)>
+    ensures { result ≡ (if rows == 0 then None else Some (top, rows)) }
+{
+    if rows == 0 { None } else { Some((top, rows)) }
+}
+
+impl RowKinds {
+    /// How many lines stand on so many rows, from the first row on.
+    fn lines_on_top(self, rows: usize) -> usize
+        ensures is { result ≡ lines_on_top self rows }
+        ensures fits { result ≤ rows }
+    {
+        match self {
+            RowKinds::Changed => 0,
+            RowKinds::Mark => 0,
+            RowKinds::Context {
+                above,
+                first: _,
+                lines: _,
+            } => above.min(rows),
+        }
+    }
+
+    /// How many lines stand on the last of so many rows.
+    fn lines_at_end(self, rows: usize) -> usize
+        ensures is { result ≡ lines_at_end self rows }
+        ensures fits { result ≤ rows }
+    {
+        match self {
+            RowKinds::Changed => rows.saturating_sub(1),
+            RowKinds::Mark => 0,
+            RowKinds::Context {
+                above: _,
+                first,
+                lines: _,
+            } => rows.saturating_sub(first),
+        }
+    }
+
+    /// Which line is the first of those on the last rows.
+    fn first_at_end(self, rows: usize) -> usize
+        ensures { result ≡ first_at_end self rows }
+    {
+        match self {
+            RowKinds::Changed => 0,
+            RowKinds::Mark => 0,
+            RowKinds::Context {
+                above: _,
+                first,
+                lines,
+            } => lines.saturating_sub(rows.saturating_sub(first)),
+        }
+    }
+}
+
+impl SectionTop {
+    /// The row of a line, if it is one of this section and stands on a row.
+    fn line_row(&self, line: LineKey) -> Option<usize>
+        ensures { result ≡ line_row self.now line }
+    {
+        if !is_same(
+            SelectionKey::Section(line.section()),
+            SelectionKey::Section(self.key),
+        ) {
+            return None;
+        }
+        let rows = self.end.saturating_sub(self.top);
+        let last = self.kinds.lines_at_end(rows);
+        match run_row(self.top, 0, self.kinds.lines_on_top(rows), line.line_idx) {
+            Some(row) => Some(row),
+            None => {
+                let row = self.end.saturating_sub(last);
+                run_row(row, self.kinds.first_at_end(rows), last, line.line_idx)
+            }
+        }
+    }
+
+    /// The row of a key below the section's own, if it is that of a line that stands there.
+    fn key_row(&self, key: SelectionKey) -> Option<usize>
+        ensures { result ≡ key_row self.now key }
+    {
+        match key {
+            SelectionKey::None => None,
+            SelectionKey::File(_) => None,
+            SelectionKey::Section(_) => None,
+            SelectionKey::Line(line) => self.line_row(line),
+        }
+    }
+
+    /// The key is the section's, or that of a line of its own.
+    fn has(&self, key: SelectionKey) -> bool
+        ensures { result ≡ list_any (λ (p : Place). is_key key p.key) (section_places self.now) }
+    {
+        let is_own = is_same(key, SelectionKey::Section(self.key));
+        let is_line = self.key_row(key).is_some();
+        is_own | is_line
+    }
+
+    /// The first row of such a key, and how many rows it has, if it has any.
+    fn find(&self, key: SelectionKey) -> Option<(usize, usize)>
+        ensures { result ≡ rows_of_key key (section_places self.now) }
+    {
+        if is_same(key, SelectionKey::Section(self.key)) {
+            some_rows(self.top, self.end.saturating_sub(self.top))
+        } else {
+            match self.key_row(key) {
+                Some(row) => Some((row, 1)),
+                None => None,
+            }
+        }
+    }
+}
+
+impl Piece {
+    /// The key is its own, or that of a line of its own.
+    fn has(&self, key: SelectionKey) -> bool
+        ensures { result ≡ list_any (λ (p : Place). is_key key p.key) (piece_places self.now) }
+    {
+        match self {
+            Piece::File(file) => is_same(key, SelectionKey::File(file.key)),
+            Piece::Section(section) => section.has(key),
+        }
+    }
+
+    /// The first row of such a key, and how many rows it has, if it has any.
+    fn find(&self, key: SelectionKey) -> Option<(usize, usize)>
+        ensures { result ≡ rows_of_key key (piece_places self.now) }
+    {
+        match self {
+            Piece::File(file) => {
+                if is_same(key, SelectionKey::File(file.key)) {
+                    some_rows(file.top, file.end.saturating_sub(file.top))
+                } else {
+                    None
+                }
+            }
+            Piece::Section(section) => section.find(key),
+        }
+    }
+}
+
+/// The first row of a key among files and sections, and how many rows it has, if it has any.
+pub(crate) fn find_in(pieces: &[Piece], key: SelectionKey) -> Option<(usize, usize)>
+    ensures { result ≡ rows_of_key key (flat_map piece_places pieces.now) }
+{
+    for piece in pieces {
+        if piece.has(key) {
+            return piece.find(key);
+        }
+    }
+    None
+}
