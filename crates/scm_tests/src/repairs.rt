@@ -62,7 +62,7 @@ fn marked(
     marks: Marks,
 ) -> Result<File<'static>, RecordError> {
     let change_type = inversion.change_type;
-    let mut sections = Vec::new(alloc);
+    let mut sections: Vec<Section<'static>> = Vec::new(alloc);
     sections.push(changed(
         alloc,
         &[
@@ -168,7 +168,7 @@ fn additions(alloc: Global, count: usize) -> Result<Section<'static>, RecordErro
 
 /// A file of one such section.
 fn many_lines(alloc: Global, count: usize) -> Result<File<'static>, RecordError> {
-    let mut sections = Vec::new(alloc);
+    let mut sections: Vec<Section<'static>> = Vec::new(alloc);
     sections.push(additions(alloc, count)?)?;
     Ok(file_of(DEFAULT, sections))
 }
