@@ -1,8 +1,5 @@
 -- how a page is turned
 pub mod PageLemmas
--- what a session shows
-pub mod ViewLemmas
-pub mod LentLemmas
 -- runs: from point to point, and to one end
 pub mod RunLemmas
 pub mod EndLemmas

@@ -8,7 +8,7 @@ use Rattle.scm_input.specs.declared.events.Event.{Event}
 use Rattle.scm_input.specs.declared.events.Event.TheVariants as events
 use Rattle.scm_selection.specs.KeySet.{is_key}
 use Rattle.scm_record.specs.Session.{Session, at_key, with_pushed, with_menu, with_help, after_menu, after_item, after_toggle, after_expand, message_of}
-use Rattle.scm_record.specs.Menus.{event_of_item}
+use Rattle.scm_shown.specs.Menus.{event_of_item}
 use Rattle.scm_record.specs.Change.{Change, stays, edits}
 use Rattle.scm_record.specs.Dialogs.{pressed}
 

@@ -14,10 +14,6 @@ pub mod Pages
 pub mod Clicks
 -- what an event makes of a session: begin here
 pub mod Step
--- the menus, and the events of their items
-pub mod Menus
--- what is lent of the views that a frame draws
-pub mod Views
 -- runs, as steps from point to point
 pub mod Run
 -- which files an event keeps coherent
@@ -45,6 +41,8 @@ pub use Rattle.scm_selection.specs.Moves
 pub use Rattle.scm_selection.specs.Toggle
 pub use Rattle.scm_selection.specs.Coherence
 pub use Rattle.scm_selection.specs.Counts
+-- of the crate of what is shown
+pub use Rattle.scm_shown.specs.Menus
 -- of the crate of inputs
 pub use Rattle.scm_input.specs.Script
 pub use Rattle.scm_input.specs.KeyTable

@@ -10,10 +10,10 @@ ghost use Rattle.scm_record.specs.Frames.{HasSize, IsMapOf, IsShown, KnowsPlaces
 ghost use Rattle.scm_record.specs.Session.{Session, shown_of};
 ghost use Rattle.scm_record.specs.Uses.{ensured, held, hit, rows_above, scrolled_to, shot_of, top_in};
 
-use crate::views::Showing;
 use scm_cells::{Grid, Rect};
 use scm_input::TerminalKind;
 use scm_render::{DrawnRects, Viewport, find_target};
+use scm_shown::Showing;
 use scm_types::{RecordError, RecordState};
 use scm_view::{AppView, CommitViewMode, ComponentId, FrameIndex, SelectionKey, laws};
 use std::alloc::Global;

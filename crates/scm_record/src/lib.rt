@@ -4,18 +4,12 @@
 //! the crates below stand here too.
 #![tactic(auto)]
 
-mod commit_views;
-mod file_views;
-mod folds;
 mod frame;
 pub mod live;
-mod menus;
 mod pages;
 pub mod recording;
 mod runs;
-mod section_views;
 mod selector;
-mod views;
 
 pub use live::{Editing, LiveSession, Turn};
 pub use recording::Recorder;
@@ -32,6 +26,7 @@ pub use scm_render::{
     Clickable, Component, DrawTrace, DrawnRect, DrawnRects, Viewport, centered_rect, find_target,
 };
 pub use scm_selection::{KeySet, counts, key_lists, key_set, moves, toggles};
+pub use scm_shown::Showing;
 pub use scm_types::{
     ChangeType, Commit, File, FileMode, IsizeExt, Items, OwnedText, RecordError, RecordState,
     Section, SectionChangedLine, SelectedChanges, SelectedContents, Text, Tristate, TryClone,
@@ -43,4 +38,3 @@ pub use scm_view::{
     QuitDialogButtonId, RowIndex, RowPlace, SectionKey, SectionLineView, SectionLineViewInner,
     SectionSelection, SectionView, SelectionKey, TristateBox, TristateIconStyle,
 };
-pub use views::Showing;

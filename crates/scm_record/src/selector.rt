@@ -13,10 +13,10 @@ mod scrolling;
 
 use crate::frame::DrawnFrame;
 use crate::pages::Way;
-use crate::views::Showing;
 use scm_input::Event;
 use scm_selection::key_lists::{first_key, section_keys};
 use scm_selection::key_set::{KeySet, key_set_of};
+use scm_shown::Showing;
 use scm_types::{Commit, Items, OwnedText, RecordError, RecordState};
 use scm_view::{CommitViewMode, QuitDialog, SelectionKey};
 use std::alloc::Global;
@@ -123,16 +123,12 @@ impl<'state> Selector<'state> {
         requires { IsTrue (is_accepted_state self.now.state) }
         ensures { result ≡ shown_of self.now }
     {
-        Showing {
-            state: &self.state,
-            selection: self.selection,
-            expanded: &self.expanded,
-            view_mode: self.view_mode,
-            open_menu: self.open_menu,
-            quit_dialog: self.quit_dialog,
-            is_help_open: self.is_help_open,
-            empty_commit: Commit { message: None },
-        }
+        let mut showing = Showing::new(&self.state, self.selection, &self.expanded);
+        showing.view_mode = self.view_mode;
+        showing.open_menu = self.open_menu;
+        showing.quit_dialog = self.quit_dialog;
+        showing.is_help_open = self.is_help_open;
+        showing
     }
 
     /// The document's row that the screen's first row shows.

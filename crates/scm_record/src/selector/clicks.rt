@@ -2,9 +2,9 @@
 
 use super::{Flow, Selector};
 use crate::frame::DrawnFrame;
-use crate::menus::event_of_item;
 use scm_input::Event;
 use scm_selection::moves::is_key;
+use scm_shown::menus::event_of_item;
 use scm_types::RecordError;
 use scm_view::{ComponentId, SelectionKey};
 
