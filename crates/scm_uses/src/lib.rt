@@ -42,6 +42,7 @@ pub fn selected_side<'a>(
     Ok(selected)
 }
 
+pub mod drawing;
 pub mod input;
 pub mod live;
 pub mod splitter;

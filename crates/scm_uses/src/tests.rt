@@ -1,3 +1,4 @@
+use crate::drawing::screen_of;
 use crate::input::record_keys;
 use crate::live::choose;
 use crate::splitter::{changed_file, choose_lines};
@@ -123,5 +124,17 @@ fn two_texts_are_split(rt: HostRuntime) -> Result<(), Fail> {
         panic!(rt; "the file is within the limits");
     };
     check_sides(&rt, alloc, &marked)?;
+    Ok(())
+}
+
+#[test]
+fn a_folded_file_is_drawn(rt: HostRuntime) -> Result<(), Fail> {
+    let alloc = rt.alloc();
+    let state = state_of_one_line(alloc)?;
+    assert!(rt; state.is_accepted());
+    let grid = screen_of(alloc, &state, 12, 3, 0)?;
+    assert_eq!(rt; grid.symbol(1, 0), Some("["));
+    assert_eq!(rt; grid.symbol(1, 4), Some("f"));
+    assert_eq!(rt; grid.symbol(1, 10), Some("+"));
     Ok(())
 }
