@@ -11,9 +11,9 @@ use std::alloc::Global;
 
 /// What a screen of so many columns and rows shows of a state whose files are all folded, from a row
 /// of the document on, with nothing selected.
-pub fn screen_of<'a>(
+pub fn screen_of(
     alloc: Global,
-    state: &'a RecordState<'a>,
+    state: &RecordState<'_>,
     width: u16,
     height: u16,
     scroll: usize,
