@@ -84,15 +84,24 @@ fn files_of(alloc: Global, given: Given) -> Result<Items<File<'static>>, RecordE
     Ok(files)
 }
 
+/// The commits of a state: none where it has nothing, else two without a message.
+fn commits_of(alloc: Global, given: Given) -> Result<Items<Commit>, RecordError> {
+    let mut commits = Items::new(alloc);
+    if !matches!(given, Given::Nothing) {
+        commits.push(Commit::default())?;
+        commits.push(Commit::default())?;
+    }
+    Ok(commits)
+}
+
 /// The state.
 fn state_of(alloc: Global, given: Given) -> Result<RecordState<'static>, RecordError> {
-    let mut state = RecordState::empty(alloc);
-    if !matches!(given, Given::Nothing) {
-        state.commits.push(Commit::default())?;
-        state.commits.push(Commit::default())?;
-    }
-    state.files = files_of(alloc, given)?;
-    Ok(state)
+    let files = files_of(alloc, given)?;
+    Ok(RecordState {
+        is_read_only: false,
+        commits: commits_of(alloc, given)?,
+        files,
+    })
 }
 
 /// Runs these events over a state, one a batch, on 80 columns and 24 rows.
