@@ -7,7 +7,7 @@ ghost use Rattle.std.specs.Prelude.{◌≡◌, ◌≤◌, IfOk};
 ghost use Rattle.scm_cells.specs.Clusters.{text_width};
 
 use scm_cells::{Grid, Rect, Span, text_width};
-use scm_render::Viewport;
+use scm_render::{Viewport, laws};
 use std::alloc::Global;
 use std::env;
 use std::rt::Clock;
@@ -45,6 +45,7 @@ fn draw(alloc: Global, mut grid: Grid, text: &str) -> anyhow::Result<Grid>
         height: grid.height(),
     };
     let mut viewport: Viewport<u8> = Viewport::new(alloc, grid, rect);
+    laws::drawing_stays_within::<u8>();
     for row in 0..HEIGHT {
         viewport.draw_text(0, row as isize, &[Span(text)])?;
     }

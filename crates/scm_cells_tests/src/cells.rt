@@ -224,7 +224,7 @@ fn columns_shown(rt: &impl Abort, spans: &[Span<'_>]) -> usize {
 }
 
 /// Puts a text on a row of the grid, which has it.
-fn put(
+pub(crate) fn put(
     rt: &impl Abort,
     grid: &mut Grid,
     row: usize,
@@ -388,36 +388,4 @@ fn symbols_with_their_columns(rt: HostRuntime) -> Result<(), RecordError> {
 fn grids_without_columns_show_nothing(rt: HostRuntime) -> Result<(), RecordError> {
     let narrow = Grid::new(rt.alloc(), 0, 3)?;
     check_view(&rt, &narrow, "")
-}
-
-/// Puts a text over others: it changes the row, or memory is refused and the row is as before.
-fn check_put(rt: &impl Abort, grid: &mut Grid, text: &str) -> Result<(), RecordError> {
-    let before = grid.view()?;
-    let outcome = put(rt, grid, 0, 1, text, 0, 12);
-    let after = grid.view()?;
-    assert_eq!(rt; after.as_str() == before.as_str(), outcome.is_err());
-    Ok(())
-}
-
-/// Adds the spans of a line to others, which stay alone where memory is refused.
-fn check_push<'a>(rt: &impl Abort, line: &'a str, spans: &mut Vec<Span<'a>>) {
-    let before = spans.len();
-    if push_spans_from_line(line, spans).is_err() {
-        assert_eq!(rt; spans.len(), before);
-    }
-}
-
-#[test]
-fn refused_memory_keeps_rows(rt: HostRuntime) {
-    if let Ok(mut grid) = Grid::new(rt.alloc(), 12, 1) {
-        let _ = put(&rt, &mut grid, 0, 0, "日本語", 0, 12);
-        let _ = check_put(&rt, &mut grid, "e\u{301}\u{302}\u{303}\u{304}字");
-    }
-}
-
-#[test]
-fn refused_memory_keeps_spans(rt: HostRuntime) {
-    let mut spans = Vec::new(rt.alloc());
-    check_push(&rt, "a", &mut spans);
-    check_push(&rt, "a\u{1}b\u{2}c\u{3}d\u{4}e\u{5}f", &mut spans);
 }

@@ -2,10 +2,10 @@
 use Rattle.std.specs.Prelude.{List, map, string_bytes}
 use Rattle.scm_errors.specs.Fault.{Other, ReadInput}
 use Rattle.scm_input.specs.Script.{Read, Batch, BrokenRead, Edit, Answer, BrokenEdit, Reply, always}
-use Rattle.scm_input.specs.declared.scripts.ScriptRead.{ScriptRead}
-use Rattle.scm_input.specs.declared.scripts.ScriptRead.TheVariants as script_reads
-use Rattle.scm_input.specs.declared.scripts.ScriptEdit.{ScriptEdit}
-use Rattle.scm_input.specs.declared.scripts.ScriptEdit.TheVariants as script_edits
+use Rattle.scm_input.specs.declared.script_input.ScriptRead.{ScriptRead}
+use Rattle.scm_input.specs.declared.script_input.ScriptRead.TheVariants as script_reads
+use Rattle.scm_input.specs.declared.script_input.ScriptEdit.{ScriptEdit}
+use Rattle.scm_input.specs.declared.script_input.ScriptEdit.TheVariants as script_edits
 
 abbrev pub read_in : ScriptRead → Read
 read_in (script_reads.Batch events) = Batch events.items

@@ -1,7 +1,7 @@
 -- What the fields of a store stand for.
 use Rattle.std.specs.Prelude.{map, option_map, string_bytes}
 use Rattle.scm_input.specs.Store.{Store}
-use Rattle.scm_input.specs.declared.store.Screens.TheInside.{Inside}
+use Rattle.scm_input.specs.declared.screens.Screens.TheInside.{Inside}
 
 -- the texts without where they lie in memory
 abbrev pub store_of : Inside → Store

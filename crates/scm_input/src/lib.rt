@@ -6,16 +6,17 @@ pub mod events;
 pub mod helpers;
 pub mod inputs;
 mod key_table;
-pub mod scripts;
-pub mod store;
+pub mod screens;
+pub mod script_input;
 pub mod terminal;
+mod testing_input;
 
 pub use events::{Event, TestingScreenshot};
-pub use helpers::TestingInput;
 pub use inputs::{RecordInput, TerminalKind};
-pub use scripts::{ScriptEdit, ScriptInput, ScriptRead};
-pub use store::Screens;
+pub use screens::Screens;
+pub use script_input::{ScriptEdit, ScriptInput, ScriptRead};
 pub use terminal::{
     KeyCode, KeyEvent, KeyEventKind, KeyModifiers, MouseButton, MouseEvent, MouseEventKind,
     TerminalEvent,
 };
+pub use testing_input::TestingInput;

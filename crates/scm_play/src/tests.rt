@@ -181,18 +181,35 @@ fn check_output(
     Ok(())
 }
 
-/// Plays the script of a row.
-fn check_script(rt: &impl Abort, alloc: Global, row: &str) -> Result<(), Fail> {
+/// A script, and what comes of it.
+#[derive(Drop)]
+struct Example {
+    input: String,
+    output: String,
+    status: u8,
+}
+
+/// The example of a row.
+fn example_of(alloc: Global, row: &str) -> Result<Example, Fail> {
     let (input, answer) = row.split_once(" => ").ok_or("a row has two halves")?;
     let (status, output) = answer.split_once(" | ").ok_or("a status and an output")?;
     let input = input_of(alloc, input)?;
-    let output = output_of(alloc, output, input.as_str())?;
+    Ok(Example {
+        output: output_of(alloc, output, input.as_str())?,
+        input,
+        status: status.parse::<u8>()?,
+    })
+}
+
+/// Plays the script of a row.
+fn check_script(rt: &impl Abort, alloc: Global, row: &str) -> Result<(), Fail> {
+    let example = example_of(alloc, row)?;
     check_output(
         rt,
         alloc,
-        input.as_str(),
-        output.as_str(),
-        status.parse::<u8>()?,
+        example.input.as_str(),
+        example.output.as_str(),
+        example.status,
     )
 }
 
@@ -214,32 +231,34 @@ const LONG_COMMENT: &str = "size 80 24 | «NOTHING» | script | batch q | #␃";
 const LONG_ANSWER: &str =
     "size 80 24 | «MESSAGES \"m\" null» | script | batch e | batch c | answer \"␃";
 
-/// A reader that gives so many bytes, one at a read, and then fails.
+/// A reader that gives a text, at most so many bytes at a read, and fails after so many reads.
 #[derive(Drop)]
-struct BrokenReader {
-    bytes_left: usize,
+struct BrokenReader<'a> {
+    rest: &'a [u8],
+    most: usize,
+    reads_left: usize,
 }
 
-impl Read for BrokenReader {
+impl Read for BrokenReader<'_> {
     fn read(&mut self, buf: &mut [u8]) -> io::Result<usize> {
-        if self.bytes_left == 0 {
+        if self.reads_left == 0 {
             return Err(io::Error::from(io::ErrorKind::BrokenPipe));
         }
-        match buf.first_mut() {
-            Some(byte) => {
-                *byte = b's';
-                self.bytes_left -= 1;
-                Ok(1)
-            }
-            None => Ok(0),
-        }
+        self.reads_left -= 1;
+        let length = self.rest.len().min(buf.len()).min(self.most);
+        buf[..length].copy_from_slice(&self.rest[..length]);
+        self.rest = &self.rest[length..];
+        Ok(length)
     }
 }
 
-/// A writer that takes so many writes, and fails at the next.
+/// A writer that takes at most so many bytes at a write, and fails after so many writes, or at its flush.
 #[derive(Drop)]
 struct BrokenWriter {
+    taken: Vec<u8>,
+    most: usize,
     writes_left: usize,
+    flushes: bool,
 }
 
 impl Write for BrokenWriter {
@@ -248,11 +267,17 @@ impl Write for BrokenWriter {
             return Err(io::Error::from(io::ErrorKind::BrokenPipe));
         }
         self.writes_left -= 1;
-        Ok(buf.len())
+        let length = buf.len().min(self.most);
+        self.taken.extend_from_slice(&buf[..length])?;
+        Ok(length)
     }
 
     fn flush(&mut self) -> io::Result<()> {
-        Ok(())
+        if self.flushes {
+            Ok(())
+        } else {
+            Err(io::Error::from(io::ErrorKind::BrokenPipe))
+        }
     }
 }
 
@@ -265,14 +290,54 @@ fn states_are_read(rt: HostRuntime) -> Result<(), Fail> {
     Ok(())
 }
 
+/// Examples whose reads and writes fail: one with a screen that is accepted, and one that ends in a fault.
+const EXAMPLES: [&str; 2] = [
+    "20 5 «PLAIN» shot c => 0 | screen 0 | \"[File] [Edit] [Selec | \"( ) foo/bar      (+) | accepted | «PLAIN» | file 0 | selected 100644 unchanged | unselected 100644 unchanged",
+    "«NOTHING» q => 1 | fault: cancelled by user",
+];
+
+/// Plays an example to a reader that fails after so many reads, and says whether that was too early: then it is told, and nothing else.
+fn is_cut(
+    rt: &impl Abort,
+    alloc: Global,
+    example: &Example,
+    most: usize,
+    reads_left: usize,
+) -> bool {
+    let reader = BrokenReader {
+        rest: example.input.as_bytes(),
+        most,
+        reads_left,
+    };
+    let mut output = Vec::new(alloc);
+    let status = play(alloc, reader, &mut output);
+    let is_cut = status == 2;
+    let (told, ended) = if is_cut {
+        ("cannot read\n", 2)
+    } else {
+        (example.output.as_str(), example.status)
+    };
+    assert_eq!(rt; (output.as_slice(), status), (told.as_bytes(), ended));
+    is_cut
+}
+
+/// How many runs of an example are cut, where the first has no read and each later one a read more.
+fn runs_cut(rt: &impl Abort, alloc: Global, example: &Example, most: usize) -> usize {
+    let runs = 0..example.input.len().saturating_add(2);
+    runs.filter(|reads| is_cut(rt, alloc, example, most, *reads))
+        .count()
+}
+
 #[test]
-fn broken_readers_are_named(rt: HostRuntime) -> Result<(), Fail> {
-    let mut output = Vec::new(rt.alloc());
-    let status = play(rt.alloc(), BrokenReader { bytes_left: 9 }, &mut output);
-    assert_eq!(rt;
-        (output.as_slice(), status),
-        (b"cannot read\n".as_slice(), 2)
-    );
+fn a_read_that_fails_is_told(rt: HostRuntime) -> Result<(), Fail> {
+    let alloc = rt.alloc();
+    for row in EXAMPLES {
+        let example = example_of(alloc, row)?;
+        // the end is read too
+        let reads = example.input.len().saturating_add(1);
+        assert_eq!(rt; runs_cut(&rt, alloc, &example, 1), reads);
+        assert!(rt; runs_cut(&rt, alloc, &example, usize::MAX) > 1);
+    }
     Ok(())
 }
 
@@ -283,20 +348,50 @@ fn inputs_that_are_no_text_are_named(rt: HostRuntime) -> Result<(), Fail> {
     Ok(())
 }
 
-/// Plays a row's script to a writer that fails, and to one that does not.
-fn check_writers(rt: &impl Abort, alloc: Global, row: &str, status: u8) -> Result<(), Fail> {
-    let input = input_of(alloc, row)?;
-    let broken = BrokenWriter { writes_left: 0 };
-    assert_eq!(rt; play(alloc, input.as_bytes(), broken), 2);
-    let whole = BrokenWriter { writes_left: 100 };
-    assert_eq!(rt; play(alloc, input.as_bytes(), whole), status);
-    Ok(())
+/// Plays an example to a writer that fails after so many writes, or at its flush, where it does not take all: it has taken the beginning of
+/// the output, and nothing twice.
+fn check_writes(
+    rt: &impl Abort,
+    alloc: Global,
+    example: &Example,
+    most: usize,
+    writes: usize,
+    flushes: bool,
+) {
+    let mut writer = BrokenWriter {
+        taken: Vec::new(alloc),
+        most,
+        writes_left: writes,
+        flushes,
+    };
+    let status = play(alloc, example.input.as_bytes(), &mut writer);
+    let output = example.output.as_bytes();
+    let length = writes.saturating_mul(most).min(output.len());
+    let is_whole = length == output.len() && flushes;
+    assert_eq!(rt; writer.taken.as_slice(), &output[..length]);
+    assert_eq!(rt; status, if is_whole { example.status } else { 2 });
 }
 
 #[test]
-fn broken_writers_are_named(rt: HostRuntime) -> Result<(), Fail> {
-    check_writers(&rt, rt.alloc(), "«NOTHING» q", 1)?;
-    check_writers(&rt, rt.alloc(), "«NOTHING» c", 0)
+fn a_write_that_fails_is_told(rt: HostRuntime) -> Result<(), Fail> {
+    let alloc = rt.alloc();
+    for row in EXAMPLES {
+        let example = example_of(alloc, row)?;
+        let length = example.output.len();
+        for writes in 0..length {
+            check_writes(&rt, alloc, &example, 1, writes, true);
+        }
+        for (most, writes, flushes) in [
+            (1, length, true),
+            (1, length, false),
+            (usize::MAX, 0, true),
+            (usize::MAX, 1, true),
+            (usize::MAX, 1, false),
+        ] {
+            check_writes(&rt, alloc, &example, most, writes, flushes);
+        }
+    }
+    Ok(())
 }
 
 /// A row's input with so many more bytes, and an end.

@@ -1,5 +1,5 @@
 -- A session that can be drawn stays so: marks and short messages leave a state within the limits, and the scroll is held.
-use Rattle.std.proofs.Common.{◌≡◌, ℕ, zero, suc, ◌+◌, ◌≤◌, ◌&&◌, Bool, true, false, not, List, [], ◌∷◌, length, map, fold, cond, sym, ap, ◌∙◌, refl, subst}
+use Rattle.std.proofs.Common.{◌≡◌, ℕ, zero, suc, ◌+◌, ◌≤◌, ◌&&◌, Bool, true, false, List, [], ◌∷◌, length, map, fold, cond, sym, ap, ◌∙◌, refl, subst}
 use Rattle.std.specs.Prelude.{IsTrue, nat_le, sum_by}
 use Rattle.std.specs.List.{list_all}
 use Rattle.std.proofs.lemmas.Bool.{and_parts}
@@ -100,15 +100,15 @@ within-same commits new old e =
 accepted-marked : (state : RecordState) (files : List File) → AreMarked files state.files → IsTrue (is_accepted_state state) → IsTrue (is_accepted_state (record state { files = files }))
 accepted-marked state files e h = subst (λ (b : Bool). IsTrue b) (sym (within-same state.commits files state.files e)) h
 
-accepted-changed : (read_only : Bool) (s : Session) (f : List File → List File) → AreMarked (f s.state.files) s.state.files → IsTrue (is_accepted_state s.state) → IsTrue (is_accepted_state (cond read_only s (record s { state = record s.state { files = f s.state.files } })).state)
+accepted-changed : (read_only : Bool) (s : Session) (f : List File → List File) → AreMarked (f s.shown.state.files) s.shown.state.files → IsTrue (is_accepted_state s.shown.state) → IsTrue (is_accepted_state (cond read_only s (record s { shown = record s.shown { state = record s.shown.state { files = f s.shown.state.files } } })).shown.state)
 accepted-changed true s f e h = h
-accepted-changed false s f e h = accepted-marked s.state (f s.state.files) e h
+accepted-changed false s f e h = accepted-marked s.shown.state (f s.shown.state.files) e h
 
-marks-accepted : (s : Session) (state : RecordState) (flow : Flow) → Marks s state flow → IsTrue (is_accepted_state s.state) → IsTrue (is_accepted_state state)
+marks-accepted : (s : Session) (state : RecordState) (flow : Flow) → Marks s state flow → IsTrue (is_accepted_state s.shown.state) → IsTrue (is_accepted_state state)
 marks-accepted s _ _ (steps.unmarked allowed) h = h
-marks-accepted s _ _ toggled h = accepted-changed s.state.is_read_only s (with_key_toggled s.selection) (toggle-hidden s.selection s.state.files) h
-marks-accepted s _ _ inverted h = accepted-changed s.state.is_read_only s with_all_inverted (inverted-hidden s.state.files) h
-marks-accepted s _ _ all_set h = accepted-changed s.state.is_read_only s with_all_set (marked-hidden _ s.state.files) h
+marks-accepted s _ _ toggled h = accepted-changed s.shown.state.is_read_only s (with_key_toggled s.shown.selection) (toggle-hidden s.shown.selection s.shown.state.files) h
+marks-accepted s _ _ inverted h = accepted-changed s.shown.state.is_read_only s with_all_inverted (inverted-hidden s.shown.state.files) h
+marks-accepted s _ _ all_set h = accepted-changed s.shown.state.is_read_only s with_all_set (marked-hidden _ s.shown.state.files) h
 
 scrolls-low : (old new : ℕ) → Scrolls old new → old ≤ max_scroll → new ≤ max_scroll
 scrolls-low old _ unscrolled h = h
@@ -120,7 +120,7 @@ change-keeps-drawable scene s event h =
     let c = change scene s event in
     let it = leads scene s event in
     record {
-      accepted = marks-accepted s c.session.state c.flow it.marks h.accepted;
+      accepted = marks-accepted s c.session.shown.state c.flow it.marks h.accepted;
       scroll = scrolls-low s.scroll c.session.scroll it.scrolls h.scroll;
     }
 
@@ -143,9 +143,9 @@ message-keeps-drawable s commit text e h =
     let all = and_parts _ _ h.accepted in
     let counted = and_parts _ _ all.0 in
     let said = and_parts _ _ counted.0 in
-    let few : nat_le (length (modify (commit_saying text) s.state.commits commit)) 2 ≡ true =
-    ap (λ n. nat_le n 2) (length-modify (commit_saying text) s.state.commits commit) ∙ said.0 in
+    let few : nat_le (length (modify (commit_saying text) s.shown.state.commits commit)) 2 ≡ true =
+    ap (λ n. nat_le n 2) (length-modify (commit_saying text) s.shown.state.commits commit) ∙ said.0 in
     record {
-      accepted = and-true _ _ (and-true _ _ (and-true _ _ few (short-said text s.state.commits commit e said.1)) counted.1) all.1;
+      accepted = and-true _ _ (and-true _ _ (and-true _ _ few (short-said text s.shown.state.commits commit e said.1)) counted.1) all.1;
       scroll = h.scroll;
     }

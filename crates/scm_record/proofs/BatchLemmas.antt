@@ -9,7 +9,7 @@ use Rattle.scm_input.specs.declared.events.Event.TheVariants as events
 use Rattle.scm_record.specs.declared.selector.Flow.{Flow}
 use Rattle.scm_record.specs.declared.selector.Flow.TheVariants as flows
 use Rattle.scm_input.specs.Script.{Read, Batch, BrokenRead, Edit, Answer, BrokenEdit, Reply, no_more}
-use Rattle.scm_record.specs.Session.{Session, shown_of, with_help, message_text, with_message}
+use Rattle.scm_record.specs.Session.{Session, with_help, message_text, with_message}
 use Rattle.scm_record.specs.Frames.{Scene, scene_of}
 use Rattle.scm_record.specs.Uses.{shot_of}
 use Rattle.scm_record.specs.Change.{stays, accepts}
@@ -61,7 +61,7 @@ batches-are-handled w drawn v left r = reaches-placed (Before w) tt r
 -- the batch begins with what was drawn
 record Begins (v : World) (drawn : Session) (w : World) : Type 0 where
   as_drawn : drawn ≡ v.session
-  shown : shown_of w.session ≡ shown_of v.session
+  shown : w.session.shown ≡ v.session.shown
   scroll : w.session.scroll ≡ v.session.scroll
   cleared : w.session.cleared ≡ v.session.cleared
 
@@ -89,10 +89,10 @@ no-last : {A : Type 0} (x : A) (xs : List A) → xs ++ x ∷ [] ≡ [] → ⊥
 no-last x [] e = cc
 no-last x (y ∷ ys) e = cc
 
-begins-as-drawn : (p : Point) {drawn : Session} {w : World} {done left : List Event} → Handling p drawn w done left → done ≡ [] → (shown_of w.session ≡ shown_of drawn) × (w.session.scroll ≡ drawn.scroll)
+begins-as-drawn : (p : Point) {drawn : Session} {w : World} {done left : List Event} → Handling p drawn w done left → done ≡ [] → (w.session.shown ≡ drawn.shown) × (w.session.scroll ≡ drawn.scroll)
 begins-as-drawn p (begun {v = v} {w = w} {drawn = drawn} {left = left} r e) none =
     let it = begins v w drawn left e in
-    (it.shown ∙ sym (ap shown_of it.as_drawn), it.scroll ∙ sym (ap (λ (s : Session). s.scroll) it.as_drawn))
+    (it.shown ∙ sym (ap (λ (s : Session). s.shown) it.as_drawn), it.scroll ∙ sym (ap (λ (s : Session). s.scroll) it.as_drawn))
 begins-as-drawn p (handled {event = event} {done = done} h e) none = absurd (no-last event done none)
 
 pub batches-begin-as-drawn : (p : Point) → BatchesBeginAsDrawn p
@@ -166,7 +166,7 @@ accept-cleared s false false = refl
 -- the screen is cleared by a `Redraw`, and else as clear as it was
 change-cleared : (scene : Scene) (s : Session) (event : Event) → (change scene s event).session.cleared ≡ (is_redraw event || s.cleared)
 change-cleared scene s events.Redraw = refl
-change-cleared scene s events.QuitAccept = accept-cleared s (is_some s.quit_dialog) s.is_help_open
+change-cleared scene s events.QuitAccept = accept-cleared s (is_some s.shown.quit_dialog) s.shown.is_help_open
 change-cleared scene s events.None = (calm s scene events.None refl).cleared
 change-cleared scene s events.QuitCancel = (calm s scene events.QuitCancel refl).cleared
 change-cleared scene s events.QuitInterrupt = (calm s scene events.QuitInterrupt refl).cleared

@@ -68,7 +68,7 @@ module _ (s : Session) where
   gives_up = record { flow = refl; cleared = refl }
 
   opens : Calm s (asked s)
-  opens = either-calm _ s (cancels s) (stays (with_dialog s (Some (opened (message_count s.state) (changed_count s.state))))) gives_up (idle (with_dialog s (Some (opened (message_count s.state) (changed_count s.state)))) refl)
+  opens = either-calm _ s (cancels s) (stays (with_dialog s (Some (opened (message_count s.shown.state) (changed_count s.shown.state))))) gives_up (idle (with_dialog s (Some (opened (message_count s.shown.state) (changed_count s.shown.state)))) refl)
 
   presses : (button : QuitDialogButtonId) → Calm s (pressed s button)
   presses Quit = gives_up
@@ -84,15 +84,15 @@ module _ (s : Session) where
   goes_outside fold_section (keys.Section key) = either-still _ s (after_fold s (keys.Section key)) (after_select s (keys.File (file_of_section key))) (idle (after_fold s (keys.Section key)) refl) (idle (after_select s (keys.File (file_of_section key))) refl)
   goes_outside fold_section (keys.Line key) = record { flow = refl; cleared = refl }
 
-  flips_all : (b : Bool) → Calm s (stays (record (cond b (record s { selection = file_of s.selection; expanded = [] }) (record s { expanded = key_set (all_keys s.state.files) })) { pending = (cond b (record s { selection = file_of s.selection; expanded = [] }) (record s { expanded = key_set (all_keys s.state.files) })).pending ++ events.EnsureSelectionInViewport ∷ [] }))
+  flips_all : (b : Bool) → Calm s (stays (record (cond b (record s { shown = record s.shown { selection = file_of s.shown.selection; expanded = [] } }) (record s { shown = record s.shown { expanded = key_set (all_keys s.shown.state.files) } })) { pending = (cond b (record s { shown = record s.shown { selection = file_of s.shown.selection; expanded = [] } }) (record s { shown = record s.shown { expanded = key_set (all_keys s.shown.state.files) } })).pending ++ events.EnsureSelectionInViewport ∷ [] }))
   flips_all true = record { flow = refl; cleared = refl }
   flips_all false = record { flow = refl; cleared = refl }
 
   files_change : (f : List File → List File) → (with_files_changed f s).cleared ≡ s.cleared
-  files_change f = changed-cleared s.state.is_read_only s (record s { state = record s.state { files = f s.state.files } }) refl
+  files_change f = changed-cleared s.shown.state.is_read_only s (record s { shown = record s.shown { state = record s.shown.state { files = f s.shown.state.files } } }) refl
 
   toggles : Calm s (stays (after_toggle s))
-  toggles = idle (after_toggle s) (files_change (with_key_toggled s.selection))
+  toggles = idle (after_toggle s) (files_change (with_key_toggled s.shown.selection))
 
   -- what lies over the document comes first
   module _ (c : Change) (h : Calm s c) where
@@ -103,15 +103,15 @@ module _ (s : Session) where
     helps_or = either-calm _ s (stays (with_help s false)) c (idle (with_help s false) refl) h
 
     presses_or : Calm s (dialog_pressed_or s c)
-    presses_or = either-calm _ s (pressed s (button_of s.quit_dialog)) c (presses (button_of s.quit_dialog)) h
+    presses_or = either-calm _ s (pressed s (button_of s.shown.quit_dialog)) c (presses (button_of s.shown.quit_dialog)) h
 
   clicks_item : (pushed_event : Option Event) → Calm s (stays (after_item s pushed_event))
   clicks_item None = record { flow = refl; cleared = refl }
   clicks_item (Some next) = record { flow = refl; cleared = refl }
 
   clicks_on : (open_menu : Option ℕ) (id : ComponentId) → Calm s (clicked_on open_menu s id)
-  clicks_on open_menu (ids.ToggleBox key) = either-still (is_key key s.selection) s (after_toggle s) (at_key s key) toggles (idle (at_key s key) refl)
-  clicks_on open_menu (ids.ExpandBox key) = either-still (is_key key s.selection) s (after_expand s) (at_key s key) (idle (after_expand s) refl) (idle (at_key s key) refl)
+  clicks_on open_menu (ids.ToggleBox key) = either-still (is_key key s.shown.selection) s (after_toggle s) (at_key s key) toggles (idle (at_key s key) refl)
+  clicks_on open_menu (ids.ExpandBox key) = either-still (is_key key s.shown.selection) s (after_expand s) (at_key s key) (idle (after_expand s) refl) (idle (at_key s key) refl)
   clicks_on open_menu (ids.FileViewHeader key) = record { flow = refl; cleared = refl }
   clicks_on open_menu (ids.SelectableItem key) = record { flow = refl; cleared = refl }
   clicks_on open_menu (ids.CommitEditMessageButton commit) = edits_message commit (message_of s commit)
@@ -143,11 +143,11 @@ module _ (s : Session) where
   calm scene events.QuitEscape e = helps_or (stays (with_dialog s None)) (idle (with_dialog s None) refl)
   calm scene events.QuitCancel e = helps_or (dialog_closed_or s (asked s)) (either-calm _ s (stays (with_dialog s None)) (asked s) (idle (with_dialog s None) refl) opens)
   calm scene events.ToggleItem e = helps_or (dialog_pressed_or s (stays (after_toggle s))) (presses_or (stays (after_toggle s)) toggles)
-  calm scene events.ToggleItemAndAdvance e = helps_or (dialog_pressed_or s (stays (after_advance (after_toggle s)))) (presses_or (stays (after_advance (after_toggle s))) (idle (after_advance (after_toggle s)) (files_change (with_key_toggled s.selection))))
+  calm scene events.ToggleItemAndAdvance e = helps_or (dialog_pressed_or s (stays (after_advance (after_toggle s)))) (presses_or (stays (after_advance (after_toggle s))) (idle (after_advance (after_toggle s)) (files_change (with_key_toggled s.shown.selection))))
   calm scene events.QuitAccept e = cc
   calm scene events.QuitInterrupt e = either-calm _ s (cancels s) (asked s) gives_up opens
-  calm scene events.FocusInner e = either-calm _ s (stays (with_dialog s (option_map (focused Quit) s.quit_dialog))) (stays (after_inner s)) (idle (with_dialog s (option_map (focused Quit) s.quit_dialog)) refl) (idle (after_inner s) refl)
-  calm scene (events.FocusOuter fold_section) e = either-calm _ s (stays (with_dialog s (option_map (focused GoBack) s.quit_dialog))) (stays (after_outer s fold_section)) (idle (with_dialog s (option_map (focused GoBack) s.quit_dialog)) refl) (goes_outside fold_section s.selection)
+  calm scene events.FocusInner e = either-calm _ s (stays (with_dialog s (option_map (focused Quit) s.shown.quit_dialog))) (stays (after_inner s)) (idle (with_dialog s (option_map (focused Quit) s.shown.quit_dialog)) refl) (idle (after_inner s) refl)
+  calm scene (events.FocusOuter fold_section) e = either-calm _ s (stays (with_dialog s (option_map (focused GoBack) s.shown.quit_dialog))) (stays (after_outer s fold_section)) (idle (with_dialog s (option_map (focused GoBack) s.shown.quit_dialog)) refl) (goes_outside fold_section s.shown.selection)
   calm scene events.ScrollUp e = unless (stays (with_scroll s (held scene (s.scroll - 1)))) (idle (with_scroll s (held scene (s.scroll - 1))) refl)
   calm scene events.ScrollDown e = unless (stays (with_scroll s (held scene (s.scroll + 1)))) (idle (with_scroll s (held scene (s.scroll + 1))) refl)
   calm scene events.PageUp e = unless (stays (with_scroll s (held scene (s.scroll - scene.height)))) (idle (with_scroll s (held scene (s.scroll - scene.height))) refl)
@@ -161,5 +161,5 @@ module _ (s : Session) where
   calm scene events.ToggleAll e = unless (stays (after_toggle_all s)) (idle (after_toggle_all s) (files_change with_all_inverted))
   calm scene events.ToggleAllUniform e = unless (stays (after_toggle_all_uniform s)) (idle (after_toggle_all_uniform s) (files_change with_all_set))
   calm scene events.ExpandItem e = unless (stays (after_expand s)) (idle (after_expand s) refl)
-  calm scene events.ExpandAll e = unless (stays (after_expand_all s)) (flips_all (same_set s.expanded (key_set (all_keys s.state.files))))
+  calm scene events.ExpandAll e = unless (stays (after_expand_all s)) (flips_all (same_set s.shown.expanded (key_set (all_keys s.shown.state.files))))
   calm scene events.EditCommitMessage e = unless (edit_of s 0) (edits_message 0 (message_of s 0))

@@ -19,16 +19,16 @@ use Rattle.scm_record.specs.Run.{World, with_session, with_text, Goes, Breaks, n
 use Rattle.scm_record.proofs.StepLemmas as steps
 use Rattle.scm_record.proofs.StepLemmas.{Allows, Marks, toggled, inverted, all_set, leads, message_at}
 
-commits-same : (read_only : Bool) (s : Session) (f : List File → List File) → (cond read_only s (record s { state = record s.state { files = f s.state.files } })).state.commits ≡ s.state.commits
+commits-same : (read_only : Bool) (s : Session) (f : List File → List File) → (cond read_only s (record s { shown = record s.shown { state = record s.shown.state { files = f s.shown.state.files } } })).shown.state.commits ≡ s.shown.state.commits
 commits-same true s f = refl
 commits-same false s f = refl
 
 -- an event changes no commit
-marks-commits : (s : Session) (state : RecordState) (flow : Flow) → Marks s state flow → state.commits ≡ s.state.commits
+marks-commits : (s : Session) (state : RecordState) (flow : Flow) → Marks s state flow → state.commits ≡ s.shown.state.commits
 marks-commits s _ _ (steps.unmarked allowed) = refl
-marks-commits s _ _ toggled = commits-same s.state.is_read_only s (with_key_toggled s.selection)
-marks-commits s _ _ inverted = commits-same s.state.is_read_only s with_all_inverted
-marks-commits s _ _ all_set = commits-same s.state.is_read_only s with_all_set
+marks-commits s _ _ toggled = commits-same s.shown.state.is_read_only s (with_key_toggled s.shown.selection)
+marks-commits s _ _ inverted = commits-same s.shown.state.is_read_only s with_all_inverted
+marks-commits s _ _ all_set = commits-same s.shown.state.is_read_only s with_all_set
 
 -- the edits are left as they were, and there is still no message
 record IsUnedited (edits : List Reply) (w : World) : Type 0 where
@@ -69,8 +69,8 @@ module _ (edits : List Reply) where
       let scene = scene_of w.kind drawn in
       let c = change scene w.session event in
       let marks = (leads scene w.session event).marks in
-      let same = marks-commits w.session c.session.state c.flow marks in
-      outcome-unedited scene drawn rest (with_session w c.session) c.flow (steps.marks-allow w.session c.session c.session.state c.flow marks refl)
+      let same = marks-commits w.session c.session.shown.state c.flow marks in
+      outcome-unedited scene drawn rest (with_session w c.session) c.flow (steps.marks-allow w.session c.session c.session.shown.state c.flow marks refl)
       (record { messages = λ commit. ap (λ (cs : List Commit). message_at cs commit) same ∙ h.messages commit; left = h.left })
   after-unedited (Accepted w) h = h
   after-unedited (Failed fault w) h = h

@@ -10,7 +10,7 @@ use Rattle.scm_record.proofs.BudgetLemmas.{few-reached, few-stopped}
 use Rattle.scm_record.proofs.RunLemmas.{undrawn-stops}
 
 module _ (s last : Session) (old new : Setting) (n : ℕ) (count : new.store.frames ≡ counted n old.store.frames) where
-  pub ends-with : Reaches (Before (world_in old s 0)) (Accepted (world_in new last n)) → EndsWith s old new last.state
+  pub ends-with : Reaches (Before (world_in old s 0)) (Accepted (world_in new last n)) → EndsWith s old new last.shown.state
   ends-with r = record {
     last = last;
     frames = n;

@@ -9,7 +9,7 @@ use Rattle.scm_render.specs.Picture.{part}
 use Rattle.scm_render.specs.Places.{screen_rect, whole_sight, timed}
 use Rattle.scm_render.specs.Hits.{IsLawful}
 use Rattle.scm_render.specs.declared.trace.DrawnRect.{DrawnRect}
-use Rattle.scm_render.proofs.TargetLemmas.{rect_in_map, target-is}
+use Rattle.scm_render.specs.Laws.{HasLastBoxes}
 use Rattle.scm_view.specs.AppView.{app_picture, app_view_of, AppsAreDrawnAlike, ShowsSession}
 use Rattle.scm_view.specs.Clicks.{is_clickable}
 use Rattle.scm_view.specs.Screens.{sight}
@@ -24,33 +24,33 @@ use Rattle.scm_view.proofs.ScreenLemmas.{cleared-sight, cleared-rows}
 use Rattle.scm_input.specs.declared.inputs.TerminalKind.{TerminalKind}
 use Rattle.scm_record.specs.declared.frame.Places.{Places}
 use Rattle.scm_record.specs.Frames.{Frame, IsMapOf, KnowsPlaces, columns_of, rows_of, scene_of, frame_of, frame_of_document, frame_of_picture, frame_of_view, is_plain, picture_of, same_id}
-use Rattle.scm_record.specs.Session.{Session, shown_of}
+use Rattle.scm_record.specs.Session.{Session}
 
 -- the test tells ids apart
 lawful : IsLawful same_id
 lawful = record { same = search rules; self = search rules }
 
 module _ {S : Type 0} where
-  view-map : (w h s : ℕ) (a : AppView) (v : Sight) (boxes : HashMap ComponentId DrawnRect S) → v ≡ sight w h s
+  view-map : (w h s : ℕ) (a : AppView) (v : Sight) (boxes : HashMap ComponentId DrawnRect S) → (IsLawful same_id → HasLastBoxes same_id is_clickable boxes) → v ≡ sight w h s
       → IsFromIterResult same_id (timed (part ids.App (app_picture a v (pos 0) (pos 0))).boxes) boxes
       → IsMapOf w (frame_of_view w h s a) boxes
   unfolding frame_of_picture
-  view-map w h s a v boxes e made =
+  view-map w h s a v boxes last e made =
       let bs = (part ids.App (picture_of w h s a)).boxes in
       let by : IsFromIterResult same_id (timed bs) boxes = rw e at made in
       record {
-        owner = λ y x p o t. target-is same_id lawful is_clickable boxes (pos y) (pos x) o t bs by;
-        span = λ key. ap (option_map rows_of_box) (rect_in_map same_id lawful bs boxes by (ids.SelectableItem key));
-        extent = ap height_of_box (rect_in_map same_id lawful bs boxes by ids.App);
+        owner = λ y x p o t. (last lawful).targets (pos y) (pos x) o t bs by;
+        span = λ key. ap (option_map rows_of_box) ((last lawful).rects bs by (ids.SelectableItem key));
+        extent = ap height_of_box ((last lawful).rects bs by ids.App);
       }
 
   -- what drawing a view on a cleared grid answers is the map of its frame
-  pub drawn_is_map : (w h s : ℕ) (a : AppView) (grid : Screen) (y : ℤ) (boxes : HashMap ComponentId DrawnRect S) → grid ≡ blank_screen w h → y ≡ pos s
+  pub drawn_is_map : (w h s : ℕ) (a : AppView) (grid : Screen) (y : ℤ) (boxes : HashMap ComponentId DrawnRect S) → (IsLawful same_id → HasLastBoxes same_id is_clickable boxes) → grid ≡ blank_screen w h → y ≡ pos s
       → IsFromIterResult same_id (timed (part ids.App (app_picture a (whole_sight grid (pos 0) y) (pos 0) (pos 0))).boxes) boxes
       → IsMapOf w (frame_of_view w h s a) boxes
-  drawn_is_map w h s a grid y boxes cleared place made =
+  drawn_is_map w h s a grid y boxes last cleared place made =
       let m = rw (cleared, place) at made in
-      view-map w h s a (whole_sight (blank_screen w h) (pos 0) (pos s)) boxes (cleared-sight w h s) m
+      view-map w h s a (whole_sight (blank_screen w h) (pos 0) (pos s)) boxes last (cleared-sight w h s) m
 
 -- and what it leaves are the rows
 pub drawn-rows : (w h s : ℕ) (a : AppView) (grid : Screen) (y : ℤ) (rows : List Row) → grid ≡ blank_screen w h → y ≡ pos s
@@ -74,18 +74,18 @@ pub plain-mode : (w h : ℕ) (mode : CommitViewMode) → mode ≡ Inline → 10 
 plain-mode w h mode e p q = ap (is_plain w h) e ∙ grind (arith, nat_tests)
 
 -- a plain frame is that of its document
-pub plain-frame : (w h : ℕ) (drawn : Session) → drawn.view_mode ≡ Inline → 10 ≤ w → 2 ≤ h → frame_of w h drawn ≡ frame_of_document w h drawn.scroll (shown_of drawn)
+pub plain-frame : (w h : ℕ) (drawn : Session) → drawn.shown.view_mode ≡ Inline → 10 ≤ w → 2 ≤ h → frame_of w h drawn ≡ frame_of_document w h drawn.scroll drawn.shown
 unfolding frame_of
-plain-frame w h drawn e p q = rw (plain-mode w h drawn.view_mode e p q) refl
+plain-frame w h drawn e p q = rw (plain-mode w h drawn.shown.view_mode e p q) refl
 
 -- the frame of a session is that of its document where it is plain, and else that of each view that shows it
-pub plain-is : (w h : ℕ) (s : Session) → is_plain w h s.view_mode ≡ true → frame_of w h s ≡ frame_of_document w h s.scroll (shown_of s)
+pub plain-is : (w h : ℕ) (s : Session) → is_plain w h s.shown.view_mode ≡ true → frame_of w h s ≡ frame_of_document w h s.scroll s.shown
 unfolding frame_of
 plain-is w h s e = rw e refl
 
-pub free-is : AppsAreDrawnAlike → (w h : ℕ) (a : AppView) (s : Session) → is_plain w h s.view_mode ≡ false → ShowsSession a (shown_of s) → frame_of w h s ≡ frame_of_view w h s.scroll a
+pub free-is : AppsAreDrawnAlike → (w h : ℕ) (a : AppView) (s : Session) → is_plain w h s.shown.view_mode ≡ false → ShowsSession a s.shown → frame_of w h s ≡ frame_of_view w h s.scroll a
 unfolding frame_of
-free-is alike w h a s e shows = rw e (sym (view-is alike w h s.scroll a (shown_of s) shows))
+free-is alike w h a s e shows = rw e (sym (view-is alike w h s.scroll a s.shown shows))
 
 -- ---- what is drawn shows the scene
 
@@ -94,17 +94,17 @@ abbrev pub Answers : ℕ → Frame → List Row → Places → Type 0
 Answers w frame rows places = (rows ≡ frame.rows) × KnowsPlaces w frame places
 
 pub plain-shows : (kind : TerminalKind) (s : Session) (a : AppView) (shown : Shown) (scroll w h : ℕ) (rows : List Row) (places : Places) → w ≡ columns_of kind → h ≡ rows_of kind
-    → ShowsSession a shown → shown_of s ≡ shown → s.scroll ≡ scroll → columns_of kind ≤ 65535 → rows_of kind ≤ 65535 → is_plain w h shown.view_mode ≡ true
+    → ShowsSession a shown → s.shown ≡ shown → s.scroll ≡ scroll → columns_of kind ≤ 65535 → rows_of kind ≤ 65535 → is_plain w h shown.view_mode ≡ true
     → ((k : Shown) → IsPlain a k w h → rows ≡ window w h scroll k)
     → ((k : Shown) → IsPlain a k w h → KnowsPlaces w (frame_of_document w h scroll k) places)
     → Answers (columns_of kind) (scene_of kind s).frame rows places
 plain-shows kind s a shown scroll w h rows places ew eh shows same place few_columns few_rows plain drawn kept =
     let is = plain-view w h a shown shows plain (rw ew few_columns) (rw eh few_rows) in
     let here : Answers w (frame_of_document w h scroll shown) rows places = (drawn shown is, kept shown is) in
-    let mode : is_plain (columns_of kind) (rows_of kind) (shown_of s).view_mode ≡ true =
+    let mode : is_plain (columns_of kind) (rows_of kind) s.shown.view_mode ≡ true =
     subst (λ (k : Shown). is_plain (columns_of kind) (rows_of kind) k.view_mode ≡ true) (sym same)
     (subst (λ n. is_plain (columns_of kind) n shown.view_mode ≡ true) eh (subst (λ n. is_plain n h shown.view_mode ≡ true) ew plain)) in
-    let there : Answers (columns_of kind) (frame_of_document (columns_of kind) (rows_of kind) s.scroll (shown_of s)) rows places =
+    let there : Answers (columns_of kind) (frame_of_document (columns_of kind) (rows_of kind) s.scroll s.shown) rows places =
     subst (λ (k : Shown). Answers (columns_of kind) (frame_of_document (columns_of kind) (rows_of kind) s.scroll k) rows places) (sym same)
     (subst (λ n. Answers (columns_of kind) (frame_of_document (columns_of kind) (rows_of kind) n shown) rows places) (sym place)
     (subst (λ n. Answers (columns_of kind) (frame_of_document (columns_of kind) n scroll shown) rows places) eh
@@ -112,11 +112,11 @@ plain-shows kind s a shown scroll w h rows places ew eh shows same place few_col
     subst (λ frame. Answers (columns_of kind) frame rows places) (sym (plain-is (columns_of kind) (rows_of kind) s mode)) there
 
 pub free-shows : AppsAreDrawnAlike → (kind : TerminalKind) (s : Session) (a : AppView) (shown : Shown) (scroll w h : ℕ) (rows : List Row) (places : Places) → w ≡ columns_of kind → h ≡ rows_of kind
-    → ShowsSession a shown → shown_of s ≡ shown → s.scroll ≡ scroll → is_plain w h shown.view_mode ≡ false
+    → ShowsSession a shown → s.shown ≡ shown → s.scroll ≡ scroll → is_plain w h shown.view_mode ≡ false
     → rows ≡ (frame_of_view w h scroll a).rows → KnowsPlaces w (frame_of_view w h scroll a) places
     → Answers (columns_of kind) (scene_of kind s).frame rows places
 free-shows alike kind s a shown scroll w h rows places ew eh shows same place free drawn kept =
-    let mode : is_plain (columns_of kind) (rows_of kind) (shown_of s).view_mode ≡ false =
+    let mode : is_plain (columns_of kind) (rows_of kind) s.shown.view_mode ≡ false =
     subst (λ (k : Shown). is_plain (columns_of kind) (rows_of kind) k.view_mode ≡ false) (sym same)
     (subst (λ n. is_plain (columns_of kind) n shown.view_mode ≡ false) eh (subst (λ n. is_plain n h shown.view_mode ≡ false) ew free)) in
     let there : Answers (columns_of kind) (frame_of_view (columns_of kind) (rows_of kind) s.scroll a) rows places =

@@ -173,18 +173,18 @@ record Kept (given state : RecordState) : Type 0 where
   flag : state.is_read_only ≡ given.is_read_only
   files : IsTrue given.is_read_only → state.files ≡ given.files
 
-files-kept : (read_only : Bool) (given : RecordState) (s : Session) (f : List File → List File) → ((files : List File) → map bare_file (f files) ≡ map bare_file files) → s.state.is_read_only ≡ read_only → Kept given s.state → Kept given (cond read_only s (record s { state = record s.state { files = f s.state.files } })).state
+files-kept : (read_only : Bool) (given : RecordState) (s : Session) (f : List File → List File) → ((files : List File) → map bare_file (f files) ≡ map bare_file files) → s.shown.state.is_read_only ≡ read_only → Kept given s.shown.state → Kept given (cond read_only s (record s { shown = record s.shown { state = record s.shown.state { files = f s.shown.state.files } } })).shown.state
 files-kept true given s f hidden e h = h
 files-kept false given s f hidden e h = record {
-  same = h.same ∙ ap (λ (fs : List File). record (unmarked s.state) { files = fs }) (sym (hidden s.state.files));
+  same = h.same ∙ ap (λ (fs : List File). record (unmarked s.shown.state) { files = fs }) (sym (hidden s.shown.state.files));
   commits = h.commits;
   flag = h.flag;
   files = λ r. let flag = h.flag in cc;
 }
 
 -- marks that change unless the state is read-only
-files_changed-kept : (given : RecordState) (s : Session) (f : List File → List File) → ((files : List File) → map bare_file (f files) ≡ map bare_file files) → Kept given s.state → Kept given (with_files_changed f s).state
-files_changed-kept given s f hidden h = files-kept s.state.is_read_only given s f hidden refl h
+files_changed-kept : (given : RecordState) (s : Session) (f : List File → List File) → ((files : List File) → map bare_file (f files) ≡ map bare_file files) → Kept given s.shown.state → Kept given (with_files_changed f s).shown.state
+files_changed-kept given s f hidden h = files-kept s.shown.state.is_read_only given s f hidden refl h
 
 message-emptied : (text : List ℕ) (cs : List Commit) (i : ℕ) → is_some (message_at cs i) ≡ true → map emptied_commit (modify (commit_saying text) cs i) ≡ map emptied_commit cs
 message-emptied text [] i h = refl
@@ -197,53 +197,53 @@ message-has text (c ∷ cs) zero h = ap (λ b. b ∷ map has_message cs) (sym h)
 message-has text (c ∷ cs) (suc i) h = ap (λ ds. has_message c ∷ ds) (message-has text cs i h)
 
 -- a message in place of another one
-message-kept : (given : RecordState) (s : Session) (commit : ℕ) (text : List ℕ) → Kept given s.state → is_some (message_of s commit) ≡ true → Kept given (with_message s commit text).state
+message-kept : (given : RecordState) (s : Session) (commit : ℕ) (text : List ℕ) → Kept given s.shown.state → is_some (message_of s commit) ≡ true → Kept given (with_message s commit text).shown.state
 message-kept given s commit text h k = record {
-  same = h.same ∙ ap (λ (cs : List Commit). record (unmarked s.state) { commits = cs }) (sym (message-emptied text s.state.commits commit k));
-  commits = message-has text s.state.commits commit k ∙ h.commits;
+  same = h.same ∙ ap (λ (cs : List Commit). record (unmarked s.shown.state) { commits = cs }) (sym (message-emptied text s.shown.state.commits commit k));
+  commits = message-has text s.shown.state.commits commit k ∙ h.commits;
   flag = h.flag;
   files = h.files;
 }
 
 -- what an event makes of a session keeps it
-marks-kept : (given : RecordState) (s : Session) (state : RecordState) (flow : Flow) → Marks s state flow → Kept given s.state → Kept given state
+marks-kept : (given : RecordState) (s : Session) (state : RecordState) (flow : Flow) → Marks s state flow → Kept given s.shown.state → Kept given state
 marks-kept given s _ _ (steps.unmarked allowed) h = h
-marks-kept given s _ _ toggled h = files_changed-kept given s (with_key_toggled s.selection) (toggle-hidden s.selection) h
+marks-kept given s _ _ toggled h = files_changed-kept given s (with_key_toggled s.shown.selection) (toggle-hidden s.shown.selection) h
 marks-kept given s _ _ inverted h = files_changed-kept given s with_all_inverted inverted-hidden h
 marks-kept given s _ _ all_set h = files_changed-kept given s with_all_set all_set-hidden h
 
 abbrev KeptAt : RecordState → Point → Type 0
-KeptAt given p = Kept given (world_at p).session.state
+KeptAt given p = Kept given (world_at p).session.shown.state
 
-short-kept : (given : RecordState) (drawn : Session) (rest : List Event) (b : Bool) (w v : World) → Kept given v.session.state → Kept given w.session.state → KeptAt given (resume drawn rest (cond b (Goes v) (Breaks too_long w)))
+short-kept : (given : RecordState) (drawn : Session) (rest : List Event) (b : Bool) (w v : World) → Kept given v.session.shown.state → Kept given w.session.shown.state → KeptAt given (resume drawn rest (cond b (Goes v) (Breaks too_long w)))
 short-kept given drawn rest true w v k h = k
 short-kept given drawn rest false w v k h = h
 
-answered-kept : (given : RecordState) (drawn : Session) (rest : List Event) (w : World) (commit : ℕ) (edit : Edit) → Kept given w.session.state → is_some (message_of w.session commit) ≡ true → KeptAt given (resume drawn rest (answered w commit edit))
+answered-kept : (given : RecordState) (drawn : Session) (rest : List Event) (w : World) (commit : ℕ) (edit : Edit) → Kept given w.session.shown.state → is_some (message_of w.session commit) ≡ true → KeptAt given (resume drawn rest (answered w commit edit))
 answered-kept given drawn rest w commit (Answer text) h k = short-kept given drawn rest (is_short_text text) w (with_session w (with_message w.session commit text)) (message-kept given w.session commit text h k) h
 answered-kept given drawn rest w commit (BrokenEdit fault) h k = h
 
-edited-kept : (given : RecordState) (drawn : Session) (rest : List Event) (w : World) (commit : ℕ) (edits : List Reply) → Kept given w.session.state → is_some (message_of w.session commit) ≡ true → KeptAt given (resume drawn rest (edited w commit edits))
+edited-kept : (given : RecordState) (drawn : Session) (rest : List Event) (w : World) (commit : ℕ) (edits : List Reply) → Kept given w.session.shown.state → is_some (message_of w.session commit) ≡ true → KeptAt given (resume drawn rest (edited w commit edits))
 edited-kept given drawn rest w commit [] h k = answered-kept given drawn rest (with_edits w []) commit no_more h k
 edited-kept given drawn rest w commit (reply ∷ edits) h k = answered-kept given drawn rest (with_edits w edits) commit (reply (message_text w.session commit)) h k
 
-shot-kept : (given : RecordState) (drawn : Session) (rest : List Event) (b : Bool) (w v : World) → v.session ≡ w.session → Kept given w.session.state → KeptAt given (resume drawn rest (cond b (Goes v) (Breaks no_such_place w)))
+shot-kept : (given : RecordState) (drawn : Session) (rest : List Event) (b : Bool) (w v : World) → v.session ≡ w.session → Kept given w.session.shown.state → KeptAt given (resume drawn rest (cond b (Goes v) (Breaks no_such_place w)))
 shot-kept given drawn rest true w v e h = rw e h
 shot-kept given drawn rest false w v e h = h
 
-outcome-kept : (given : RecordState) (scene : Scene) (drawn : Session) (rest : List Event) (w : World) (flow : Flow) → Allows w.session flow → Kept given w.session.state → KeptAt given (resume drawn rest (outcome_by scene w flow))
+outcome-kept : (given : RecordState) (scene : Scene) (drawn : Session) (rest : List Event) (w : World) (flow : Flow) → Allows w.session flow → Kept given w.session.shown.state → KeptAt given (resume drawn rest (outcome_by scene w flow))
 outcome-kept given scene drawn rest w flows.GoOn k h = h
 outcome-kept given scene drawn rest w flows.Accept k h = h
 outcome-kept given scene drawn rest w flows.Cancel k h = h
 outcome-kept given scene drawn rest w (flows.Edit commit) k h = edited-kept given drawn rest w commit w.edits h k
 outcome-kept given scene drawn rest w (flows.Shoot place) k h = shot-kept given drawn rest (nat_lt place (length w.texts)) w (with_text w place (shot_of scene w.session.cleared)) refl h
 
-read-kept : (given : RecordState) (w : World) (reads : List Read) → Kept given w.session.state → KeptAt given (read w reads)
+read-kept : (given : RecordState) (w : World) (reads : List Read) → Kept given w.session.shown.state → KeptAt given (read w reads)
 read-kept given w [] h = h
 read-kept given w (Batch list ∷ reads) h = h
 read-kept given w (BrokenRead fault ∷ reads) h = h
 
-batch-kept : (given : RecordState) (w : World) (pending : List Event) → Kept given w.session.state → KeptAt given (batch w pending)
+batch-kept : (given : RecordState) (w : World) (pending : List Event) → Kept given w.session.shown.state → KeptAt given (batch w pending)
 batch-kept given w [] h = read-kept given w w.reads h
 batch-kept given w (event ∷ rest) h = h
 
@@ -255,7 +255,7 @@ after-kept given (Within drawn w (event ∷ rest)) h =
     let scene = scene_of w.kind drawn in
     let c = change scene w.session event in
     let marks = (leads scene w.session event).marks in
-    outcome-kept given scene drawn rest (with_session w c.session) c.flow (marks-allow w.session c.session c.session.state c.flow marks refl) (marks-kept given w.session c.session.state c.flow marks h)
+    outcome-kept given scene drawn rest (with_session w c.session) c.flow (marks-allow w.session c.session c.session.shown.state c.flow marks refl) (marks-kept given w.session c.session.shown.state c.flow marks h)
 after-kept given (Accepted w) h = h
 after-kept given (Failed fault w) h = h
 
@@ -263,7 +263,7 @@ reaches-kept : (given : RecordState) (p : Point) {q : Point} → Reaches p q →
 reaches-kept given p here h = h
 reaches-kept given p (on {q = q} r) h = after-kept given q (reaches-kept given p r h)
 
-start-kept : (given : RecordState) → Kept given (start given).state
+start-kept : (given : RecordState) → Kept given (start given).shown.state
 start-kept given = record { same = refl; commits = refl; flag = refl; files = λ _. refl }
 
 -- an accepted state has at most two commits
@@ -280,9 +280,9 @@ length-mapped f [] = refl
 length-mapped f (x ∷ xs) = ap suc (length-mapped f xs)
 
 -- what is reached from the start of an accepted state keeps it
-pub kept-reached : (given answer : RecordState) (s : Session) (w : World) (q : Point) → IsTrue (is_accepted_state given) → s ≡ start given → w.session ≡ s → Reaches (Before w) q → (world_at q).session.state ≡ answer → IsKept given answer
+pub kept-reached : (given answer : RecordState) (s : Session) (w : World) (q : Point) → IsTrue (is_accepted_state given) → s ≡ start given → w.session ≡ s → Reaches (Before w) q → (world_at q).session.shown.state ≡ answer → IsKept given answer
 kept-reached given answer s w q accepted started is_session r returned =
-    let begun : Kept given w.session.state = subst (λ (t : Session). Kept given t.state) (sym (is_session ∙ started)) (start-kept given) in
+    let begun : Kept given w.session.shown.state = subst (λ (t : Session). Kept given t.shown.state) (sym (is_session ∙ started)) (start-kept given) in
     let kept : Kept given answer = subst (λ (state : RecordState). Kept given state) returned (reaches-kept given (Before w) r begun) in
     record {
       same = kept.same;

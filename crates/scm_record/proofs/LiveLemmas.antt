@@ -58,7 +58,7 @@ said-by (Some text) e = refl
 pub changed-said : (scene : Scene) (s t : Session) (event : Event) (flow : Flow) → change scene s event ≡ record { session = t; flow = flow } → (commit : ℕ) → flow ≡ flows.Edit commit → message_of t commit ≡ Some (message_text t commit)
 changed-said scene s t event flow is commit e =
     let c = change scene s event in
-    let allowed = marks-allow s c.session c.session.state c.flow (leads scene s event).marks refl in
+    let allowed = marks-allow s c.session c.session.shown.state c.flow (leads scene s event).marks refl in
     let allows = subst (λ (c : Change). Allows c.session c.flow) is allowed in
     said-by (message_of t commit) (subst (λ (f : Flow). Allows t f) e allows)
 

@@ -28,7 +28,7 @@ abbrev IsConfirmed : Point → Point → Type 0
 IsConfirmed p (Before w) = Unit {0}
 IsConfirmed p (Drawn w) = Unit {0}
 IsConfirmed p (Within drawn w left) = Unit {0}
-IsConfirmed p (Accepted w) = ConfirmsQuit p w.session.state
+IsConfirmed p (Accepted w) = ConfirmsQuit p w.session.shown.state
 IsConfirmed p (Failed fault w) = Unit {0}
 
 module _ (p : Point) where
@@ -62,7 +62,7 @@ module _ (p : Point) where
     calm-confirmed scene w (flows.Edit commit) e = edited-confirmed w commit w.edits
     calm-confirmed scene w (flows.Shoot place) e = cc
 
-    quit-confirmed : (scene : Scene) (w : World) → Reaches p (Within drawn w (events.QuitAccept ∷ left)) → (dialog : Option QuitDialog) (help : Bool) → w.session.quit_dialog ≡ dialog → w.session.is_help_open ≡ help → IsConfirmed p (resume drawn left (changed scene w (cond (is_some dialog) (stays w.session) (cond help (stays (with_help w.session false)) (accepts w.session)))))
+    quit-confirmed : (scene : Scene) (w : World) → Reaches p (Within drawn w (events.QuitAccept ∷ left)) → (dialog : Option QuitDialog) (help : Bool) → w.session.shown.quit_dialog ≡ dialog → w.session.shown.is_help_open ≡ help → IsConfirmed p (resume drawn left (changed scene w (cond (is_some dialog) (stays w.session) (cond help (stays (with_help w.session false)) (accepts w.session)))))
     quit-confirmed scene w r (Some dialog) help e f = tt
     quit-confirmed scene w r None true e f = tt
     quit-confirmed scene w r None false e f = record {
@@ -82,7 +82,7 @@ module _ (p : Point) where
         calm-confirmed scene (with_session w c.session) c.flow (calm w.session scene event e).flow
 
     step-confirmed : (w : World) (event : Event) → Reaches p (Within drawn w (event ∷ left)) → IsConfirmed p (resume drawn left (step drawn w event))
-    step-confirmed w events.QuitAccept r = quit-confirmed (scene_of w.kind drawn) w r w.session.quit_dialog w.session.is_help_open refl refl
+    step-confirmed w events.QuitAccept r = quit-confirmed (scene_of w.kind drawn) w r w.session.shown.quit_dialog w.session.shown.is_help_open refl refl
     step-confirmed w events.Redraw r = tt
     step-confirmed w events.None r = other-confirmed w events.None refl
     step-confirmed w events.QuitCancel r = other-confirmed w events.QuitCancel refl
@@ -126,7 +126,7 @@ module _ (p : Point) where
   reaches-confirmed h (on {q = q} r) = after-confirmed q r (reaches-confirmed h r)
 
 -- a run that is accepted confirmed a quit
-pub accepted-confirmed : (w v : World) → Reaches (Before w) (Accepted v) → ConfirmsQuit (Before w) v.session.state
+pub accepted-confirmed : (w v : World) → Reaches (Before w) (Accepted v) → ConfirmsQuit (Before w) v.session.shown.state
 accepted-confirmed w v r = reaches-confirmed (Before w) tt r
 
 abbrev is_accepted_point : Point → Bool
@@ -142,15 +142,15 @@ no-both p v u fault a b =
     cc
 
 -- a confirmed quit is accepted
-quit-accepts : (w : World) (drawn : Session) (left : List Event) (dialog : Option QuitDialog) (help : Bool) → w.session.quit_dialog ≡ dialog → w.session.is_help_open ≡ help → dialog ≡ None → help ≡ false → after (Within drawn w (events.QuitAccept ∷ left)) ≡ Accepted w
+quit-accepts : (w : World) (drawn : Session) (left : List Event) (dialog : Option QuitDialog) (help : Bool) → w.session.shown.quit_dialog ≡ dialog → w.session.shown.is_help_open ≡ help → dialog ≡ None → help ≡ false → after (Within drawn w (events.QuitAccept ∷ left)) ≡ Accepted w
 quit-accepts w drawn left dialog help e f e' f' =
     let scene = scene_of w.kind drawn in
-    ap (λ (d : Option QuitDialog). resume drawn left (changed scene w (cond (is_some d) (stays w.session) (cond w.session.is_help_open (stays (with_help w.session false)) (accepts w.session))))) (e ∙ e')
+    ap (λ (d : Option QuitDialog). resume drawn left (changed scene w (cond (is_some d) (stays w.session) (cond w.session.shown.is_help_open (stays (with_help w.session false)) (accepts w.session))))) (e ∙ e')
     ∙ ap (λ (b : Bool). resume drawn left (changed scene w (cond b (stays (with_help w.session false)) (accepts w.session)))) (f ∙ f')
 
 pub confirmed-accepts : (p : Point) (state : RecordState) → (quit : ConfirmsQuit p state) → Reaches p (Accepted quit.world)
 confirmed-accepts p state quit =
-    subst (λ (q : Point). Reaches p q) (quit-accepts quit.world quit.drawn quit.left quit.world.session.quit_dialog quit.world.session.is_help_open refl refl quit.no_dialog quit.no_help) (on quit.reached)
+    subst (λ (q : Point). Reaches p q) (quit-accepts quit.world quit.drawn quit.left quit.world.session.shown.quit_dialog quit.world.session.shown.is_help_open refl refl quit.no_dialog quit.no_help) (on quit.reached)
 
 refuses-by : (f : Option Fault) (p : Point) (w : World) → MatchOption f ((q : Point) × Reaches p q × Shows w (world_at q)) (λ fault. Reaches p (Failed fault w)) → MatchOption f (Unit {0}) (λ fault. (state : RecordState) → ConfirmsQuit p state → ⊥)
 refuses-by None p w h = tt

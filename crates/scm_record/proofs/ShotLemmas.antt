@@ -16,7 +16,7 @@ use Rattle.scm_input.specs.declared.inputs.TerminalKind.{TerminalKind}
 use Rattle.scm_record.specs.declared.selector.Flow.{Flow}
 use Rattle.scm_record.specs.declared.selector.Flow.TheVariants as flows
 use Rattle.scm_input.specs.Script.{Read, Batch, BrokenRead, Edit, Answer, BrokenEdit, Reply, no_more}
-use Rattle.scm_record.specs.Session.{Session, IsDrawable, shown_of, with_help, message_text, with_message}
+use Rattle.scm_record.specs.Session.{Session, IsDrawable, with_help, message_text, with_message}
 use Rattle.scm_record.specs.Frames.{Frame, Scene, columns_of, rows_of, frame_of_document, scene_of}
 use Rattle.scm_record.specs.Uses.{hit, shot_of}
 use Rattle.scm_record.specs.Clicks.{clicked}
@@ -32,7 +32,7 @@ use Rattle.scm_record.proofs.BatchLemmas.{IsPlaced, reaches-placed, cleared-by-r
 -- ---- screenshots and clicks, in plain frames
 
 -- a plain frame is that of its document
-pub frame-plain : (kind : TerminalKind) (drawn : Session) → IsInline kind drawn → (scene_of kind drawn).frame ≡ frame_of_document (columns_of kind) (rows_of kind) drawn.scroll (shown_of drawn)
+pub frame-plain : (kind : TerminalKind) (drawn : Session) → IsInline kind drawn → (scene_of kind drawn).frame ≡ frame_of_document (columns_of kind) (rows_of kind) drawn.scroll drawn.shown
 frame-plain kind drawn h = plain-frame (columns_of kind) (rows_of kind) drawn h.view_mode h.wide h.high
 
 inline-shot : (kind : TerminalKind) (drawn : Session) → IsInline kind drawn → (cleared : Bool) → shot_of (scene_of kind drawn) cleared ≡ cond cleared (blank_text kind) (window_text kind drawn)
@@ -59,7 +59,7 @@ hit-on_screen scene s row column is_row is_column is_low =
 pub clicks-hit-owners : (w0 : World) → IsDrawable w0.session → ClicksHitOwners (Before w0)
 clicks-hit-owners w0 drawable drawn w done left row column h plain is_row is_column =
     let low = (reaches-drawable (handling-reached (Before w0) h) drawable).scroll in
-    ap (λ (o : Option ComponentId). changed (scene_of w.kind drawn) w (clicked drawn.open_menu w.session o))
+    ap (λ (o : Option ComponentId). changed (scene_of w.kind drawn) w (clicked drawn.shown.open_menu w.session o))
     (hit-on_screen (scene_of w.kind drawn) w.session.scroll row column is_row is_column low
     ∙ ap (λ (f : Frame). f.owner (w.session.scroll + row) column) (frame-plain w.kind drawn plain))
 
@@ -156,7 +156,7 @@ same-has w0 old new e had = subst (λ (x : Texts). HasShots w0 x) (sym e) had
 module _ (w0 : World) {drawn : Session} {w : World} {done left : List Event} where
   step-has : (event : Event) → Handling (Before w0) drawn w done (event ∷ left) → HasShots w0 w.texts → HasShots w0 (world_at (resume drawn left (step drawn w event))).texts
   step-has (events.TakeScreenshot shot) h had = shot-has w0 shot h (nat_lt shot.place (length w.texts)) had
-  step-has events.QuitAccept h had = same-has w0 _ _ (accept-texts drawn left (scene_of w.kind drawn) w (is_some w.session.quit_dialog) w.session.is_help_open) had
+  step-has events.QuitAccept h had = same-has w0 _ _ (accept-texts drawn left (scene_of w.kind drawn) w (is_some w.session.shown.quit_dialog) w.session.shown.is_help_open) had
   step-has events.Redraw h had = had
   step-has events.None h had = same-has w0 _ _ (other-texts drawn left w events.None refl) had
   step-has events.QuitCancel h had = same-has w0 _ _ (other-texts drawn left w events.QuitCancel refl) had

@@ -46,10 +46,10 @@ Allows s (flows.Shoot place) = Unit {0}
 
 -- the state is left as it was, toggled, inverted and repaired, or set to one mark
 pub data Marks (s : Session) : RecordState → Flow → Type 0 where
-  unmarked : {flow : Flow} → Allows s flow → Marks s s.state flow
-  toggled : Marks s (after_toggle s).state flows.GoOn
-  inverted : Marks s (after_toggle_all s).state flows.GoOn
-  all_set : Marks s (after_toggle_all_uniform s).state flows.GoOn
+  unmarked : {flow : Flow} → Allows s flow → Marks s s.shown.state flow
+  toggled : Marks s (after_toggle s).shown.state flows.GoOn
+  inverted : Marks s (after_toggle_all s).shown.state flows.GoOn
+  all_set : Marks s (after_toggle_all_uniform s).shown.state flows.GoOn
 
 -- at most one event is pushed, which ranks below
 pub data Pushes (event : Event) (old : List Event) : List Event → Type 0 where
@@ -62,7 +62,7 @@ pub data Scrolls (old : ℕ) : ℕ → Type 0 where
   scrolled : {new : ℕ} → new ≤ max_scroll → Scrolls old new
 
 pub record Leads (event : Event) (s : Session) (c : Change) : Type 0 where
-  pub marks : Marks s c.session.state c.flow
+  pub marks : Marks s c.session.shown.state c.flow
   pub pushes : Pushes event s.pending c.session.pending
   pub scrolls : Scrolls s.scroll c.session.scroll
 
@@ -99,11 +99,11 @@ module _ (event : Event) (s : Session) where
   closes : Leads event s (stays (with_dialog s None))
   closes = record { marks = unmarked tt; pushes = nothing; scrolls = unscrolled }
 
-  focuses : (button : QuitDialogButtonId) → Leads event s (stays (with_dialog s (option_map (focused button) s.quit_dialog)))
+  focuses : (button : QuitDialogButtonId) → Leads event s (stays (with_dialog s (option_map (focused button) s.shown.quit_dialog)))
   focuses button = record { marks = unmarked tt; pushes = nothing; scrolls = unscrolled }
 
   opens : Leads event s (asked s)
-  opens = either-leads _ event s (cancels s) (stays (with_dialog s (Some (opened (message_count s.state) (changed_count s.state))))) (ends flows.Cancel tt) (record { marks = unmarked tt; pushes = nothing; scrolls = unscrolled })
+  opens = either-leads _ event s (cancels s) (stays (with_dialog s (Some (opened (message_count s.shown.state) (changed_count s.shown.state))))) (ends flows.Cancel tt) (record { marks = unmarked tt; pushes = nothing; scrolls = unscrolled })
 
   presses : (button : QuitDialogButtonId) → Leads event s (pressed s button)
   presses Quit = ends flows.Cancel tt
@@ -126,21 +126,21 @@ module _ (event : Event) (s : Session) where
     goes_outside fold_section (keys.Section key) = either-stays _ event s (after_fold s (keys.Section key)) (after_select s (keys.File (file_of_section key))) (folds (keys.Section key)) (selects (keys.File (file_of_section key)))
     goes_outside fold_section (keys.Line key) = selects _
 
-    flips_all : (b : Bool) → Leads event s (stays (record (cond b (record s { selection = file_of s.selection; expanded = [] }) (record s { expanded = key_set (all_keys s.state.files) })) { pending = (cond b (record s { selection = file_of s.selection; expanded = [] }) (record s { expanded = key_set (all_keys s.state.files) })).pending ++ events.EnsureSelectionInViewport ∷ [] }))
+    flips_all : (b : Bool) → Leads event s (stays (record (cond b (record s { shown = record s.shown { selection = file_of s.shown.selection; expanded = [] } }) (record s { shown = record s.shown { expanded = key_set (all_keys s.shown.state.files) } })) { pending = (cond b (record s { shown = record s.shown { selection = file_of s.shown.selection; expanded = [] } }) (record s { shown = record s.shown { expanded = key_set (all_keys s.shown.state.files) } })).pending ++ events.EnsureSelectionInViewport ∷ [] }))
     flips_all true = record { marks = unmarked tt; pushes = pushed events.EnsureSelectionInViewport k; scrolls = unscrolled }
     flips_all false = record { marks = unmarked tt; pushes = pushed events.EnsureSelectionInViewport k; scrolls = unscrolled }
 
   files_change : (f : List File → List File) → (with_files_changed f s).pending ≡ s.pending
-  files_change f = changed-pending s.state.is_read_only s (record s { state = record s.state { files = f s.state.files } }) refl
+  files_change f = changed-pending s.shown.state.is_read_only s (record s { shown = record s.shown { state = record s.shown.state { files = f s.shown.state.files } } }) refl
 
   files_scroll : (f : List File → List File) → (with_files_changed f s).scroll ≡ s.scroll
-  files_scroll f = changed-scroll s.state.is_read_only s (record s { state = record s.state { files = f s.state.files } }) refl
+  files_scroll f = changed-scroll s.shown.state.is_read_only s (record s { shown = record s.shown { state = record s.shown.state { files = f s.shown.state.files } } }) refl
 
   toggles : Leads event s (stays (after_toggle s))
-  toggles = record { marks = toggled; pushes = rw (files_change (with_key_toggled s.selection)) nothing; scrolls = rw (files_scroll (with_key_toggled s.selection)) unscrolled }
+  toggles = record { marks = toggled; pushes = rw (files_change (with_key_toggled s.shown.selection)) nothing; scrolls = rw (files_scroll (with_key_toggled s.shown.selection)) unscrolled }
 
   advances : 1 ≤ rank event → Leads event s (stays (after_advance (after_toggle s)))
-  advances k = record { marks = toggled; pushes = rw (files_change (with_key_toggled s.selection)) (pushed events.EnsureSelectionInViewport k); scrolls = rw (files_scroll (with_key_toggled s.selection)) unscrolled }
+  advances k = record { marks = toggled; pushes = rw (files_change (with_key_toggled s.shown.selection)) (pushed events.EnsureSelectionInViewport k); scrolls = rw (files_scroll (with_key_toggled s.shown.selection)) unscrolled }
 
   helps : Leads event s (stays (with_help s false))
   helps = record { marks = unmarked tt; pushes = nothing; scrolls = unscrolled }
@@ -154,7 +154,7 @@ module _ (event : Event) (s : Session) where
     helps_or = either-leads _ event s (stays (with_help s false)) c helps h
 
     presses_or : Leads event s (dialog_pressed_or s c)
-    presses_or = either-leads _ event s (pressed s (button_of s.quit_dialog)) c (presses (button_of s.quit_dialog)) h
+    presses_or = either-leads _ event s (pressed s (button_of s.shown.quit_dialog)) c (presses (button_of s.shown.quit_dialog)) h
 
   holds : (scene : Scene) (scroll : ℕ) → Leads event s (unless_asked s (stays (after_scroll scene s scroll)))
   holds scene scroll = unless (stays (after_scroll scene s scroll)) (record { marks = unmarked tt; pushes = nothing; scrolls = scrolled (low-held scroll max_scroll (scene.frame.extent - 1)) })
@@ -167,8 +167,8 @@ module _ (event : Event) (s : Session) (k : 2 ≤ rank event) where
   clicks_item (Some next) h = record { marks = unmarked tt; pushes = pushed next (omega arith); scrolls = unscrolled }
 
   clicks_on : (open_menu : Option ℕ) (id : ComponentId) → Leads event s (clicked_on open_menu s id)
-  clicks_on open_menu (ids.ToggleBox key) = either-stays (is_key key s.selection) event s (after_toggle s) (at_key s key) (toggles event s) (record { marks = unmarked tt; pushes = nothing; scrolls = unscrolled })
-  clicks_on open_menu (ids.ExpandBox key) = either-stays (is_key key s.selection) event s (after_expand s) (at_key s key) (record { marks = unmarked tt; pushes = pushed events.EnsureSelectionInViewport (omega arith); scrolls = unscrolled }) (record { marks = unmarked tt; pushes = nothing; scrolls = unscrolled })
+  clicks_on open_menu (ids.ToggleBox key) = either-stays (is_key key s.shown.selection) event s (after_toggle s) (at_key s key) (toggles event s) (record { marks = unmarked tt; pushes = nothing; scrolls = unscrolled })
+  clicks_on open_menu (ids.ExpandBox key) = either-stays (is_key key s.shown.selection) event s (after_expand s) (at_key s key) (record { marks = unmarked tt; pushes = pushed events.EnsureSelectionInViewport (omega arith); scrolls = unscrolled }) (record { marks = unmarked tt; pushes = nothing; scrolls = unscrolled })
   clicks_on open_menu (ids.FileViewHeader key) = record { marks = unmarked tt; pushes = nothing; scrolls = unscrolled }
   clicks_on open_menu (ids.SelectableItem key) = record { marks = unmarked tt; pushes = nothing; scrolls = unscrolled }
   clicks_on open_menu (ids.CommitEditMessageButton commit) = edits_message event s (omega arith) commit (message_of s commit) refl
@@ -204,8 +204,8 @@ leads scene s events.ToggleItem = helps_or _ s (dialog_pressed_or s (stays (afte
 leads scene s events.ToggleItemAndAdvance = helps_or _ s (dialog_pressed_or s (stays (after_advance (after_toggle s)))) (presses_or _ s (stays (after_advance (after_toggle s))) (advances _ s (omega arith)))
 leads scene s events.QuitAccept = unless _ s (help_closed_or s (accepts s)) (helps_or _ s (accepts s) (ends _ s flows.Accept tt))
 leads scene s events.QuitInterrupt = either-leads _ _ s (cancels s) (asked s) (ends _ s flows.Cancel tt) (opens _ s)
-leads scene s events.FocusInner = either-leads _ _ s (stays (with_dialog s (option_map (focused Quit) s.quit_dialog))) (stays (after_inner s)) (focuses _ s Quit) (selects _ s (omega arith) _)
-leads scene s (events.FocusOuter fold_section) = either-leads _ _ s (stays (with_dialog s (option_map (focused GoBack) s.quit_dialog))) (stays (after_outer s fold_section)) (focuses _ s GoBack) (goes_outside _ s (omega arith) fold_section s.selection)
+leads scene s events.FocusInner = either-leads _ _ s (stays (with_dialog s (option_map (focused Quit) s.shown.quit_dialog))) (stays (after_inner s)) (focuses _ s Quit) (selects _ s (omega arith) _)
+leads scene s (events.FocusOuter fold_section) = either-leads _ _ s (stays (with_dialog s (option_map (focused GoBack) s.shown.quit_dialog))) (stays (after_outer s fold_section)) (focuses _ s GoBack) (goes_outside _ s (omega arith) fold_section s.shown.selection)
 leads scene s events.ScrollUp = holds _ s scene (s.scroll - 1)
 leads scene s events.ScrollDown = holds _ s scene (s.scroll + 1)
 leads scene s events.PageUp = holds _ s scene (s.scroll - scene.height)
@@ -219,10 +219,10 @@ leads scene s events.FocusNextPage = unless _ s (stays (after_page scene Down s)
 leads scene s events.ToggleAll = unless _ s (stays (after_toggle_all s)) (record { marks = inverted; pushes = rw (files_change events.ToggleAll s _) nothing; scrolls = rw (files_scroll events.ToggleAll s _) unscrolled })
 leads scene s events.ToggleAllUniform = unless _ s (stays (after_toggle_all_uniform s)) (record { marks = all_set; pushes = rw (files_change events.ToggleAllUniform s _) nothing; scrolls = rw (files_scroll events.ToggleAllUniform s _) unscrolled })
 leads scene s events.ExpandItem = unless _ s (stays (after_expand s)) (record { marks = unmarked tt; pushes = pushed events.EnsureSelectionInViewport (omega arith); scrolls = unscrolled })
-leads scene s events.ExpandAll = unless _ s (stays (after_expand_all s)) (flips_all _ s (omega arith) (same_set s.expanded (key_set (all_keys s.state.files))))
+leads scene s events.ExpandAll = unless _ s (stays (after_expand_all s)) (flips_all _ s (omega arith) (same_set s.shown.expanded (key_set (all_keys s.shown.state.files))))
 leads scene s events.EditCommitMessage = unless _ s (edit_of s 0) (edits_message _ s (omega arith) 0 (message_of s 0) refl)
 
-allows-same : (s t : Session) (flow : Flow) → s.state ≡ t.state → Allows s flow → Allows t flow
+allows-same : (s t : Session) (flow : Flow) → s.shown.state ≡ t.shown.state → Allows s flow → Allows t flow
 allows-same s t flows.GoOn e h = tt
 allows-same s t flows.Accept e h = tt
 allows-same s t flows.Cancel e h = tt
@@ -230,7 +230,7 @@ allows-same s t (flows.Edit commit) e h = ap (λ (state : RecordState). is_some 
 allows-same s t (flows.Shoot place) e h = tt
 
 -- what an event asks for is allowed in the session after it
-pub marks-allow : (s t : Session) (state : RecordState) (flow : Flow) → Marks s state flow → state ≡ t.state → Allows t flow
+pub marks-allow : (s t : Session) (state : RecordState) (flow : Flow) → Marks s state flow → state ≡ t.shown.state → Allows t flow
 marks-allow s t _ flow (unmarked allowed) e = allows-same s t flow e allowed
 marks-allow s t _ _ toggled e = tt
 marks-allow s t _ _ inverted e = tt

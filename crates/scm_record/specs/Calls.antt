@@ -30,7 +30,7 @@ abbrev pub Leads : Point → TerminalKind → List Read → List Reply → Turn 
 Leads p kind reads edits (Waiting l) = (frames : ℕ) × (l.kind ≡ kind) × Reaches p (waits l reads edits frames)
 Leads p kind reads edits (Editing a) = (drawn : Session) × (frames : ℕ) × (a.kind ≡ kind) × Reaches p (asks drawn a reads edits frames)
 Leads p kind reads edits (Done state) =
-    (s : Session) × (frames : ℕ) × (s.state ≡ state) × Reaches p (Accepted (world_in (live kind reads edits) s frames))
+    (s : Session) × (frames : ℕ) × (s.shown.state ≡ state) × Reaches p (Accepted (world_in (live kind reads edits) s frames))
 
 -- the steps lead from p to the fault that stands for the error, or memory was refused on the way
 abbrev pub Fails : Point → RecordError → Type 0

@@ -31,7 +31,7 @@ item_event open_menu item = option_and_then (λ (menu : ℕ). event_of_item menu
 
 -- a box does its work where its key is selected, and selects it where it isn't
 abbrev pub box_clicked : Session → SelectionKey → Session → Session
-box_clicked s key done = if is_key key s.selection then done else at_key s key
+box_clicked s key done = if is_key key s.shown.selection then done else at_key s key
 
 -- a click on a part of a frame in which that menu was open
 abbrev pub clicked_on : Option ℕ → Session → ComponentId → Change

@@ -9,12 +9,12 @@ use Rattle.scm_record.specs.Change.{Change, stays, cancels}
 
 -- an open help is closed
 abbrev pub help_closed_or : Session → Change → Change
-help_closed_or s otherwise = if s.is_help_open then stays (with_help s false) else otherwise
+help_closed_or s otherwise = if s.shown.is_help_open then stays (with_help s false) else otherwise
 
 -- ---- the quit dialog, which lies over the document
 
 abbrev pub is_asked : Session → Bool
-is_asked s = is_some s.quit_dialog
+is_asked s = is_some s.shown.quit_dialog
 
 -- nothing happens while the dialog is open
 abbrev pub unless_asked : Session → Change → Change
@@ -30,7 +30,7 @@ focused button dialog = record dialog { focused_button = button }
 -- an open dialog has its focus moved
 abbrev pub dialog_focused_or : Session → QuitDialogButtonId → Change → Change
 dialog_focused_or s button otherwise =
-    if is_asked s then stays (with_dialog s (option_map (focused button) s.quit_dialog)) else otherwise
+    if is_asked s then stays (with_dialog s (option_map (focused button) s.shown.quit_dialog)) else otherwise
 
 abbrev pub pressed : Session → QuitDialogButtonId → Change
 pressed s Quit = cancels s
@@ -43,7 +43,7 @@ button_of (Some dialog) = dialog.focused_button
 
 -- an open dialog has its focused button pressed
 abbrev pub dialog_pressed_or : Session → Change → Change
-dialog_pressed_or s otherwise = if is_asked s then pressed s (button_of s.quit_dialog) else otherwise
+dialog_pressed_or s otherwise = if is_asked s then pressed s (button_of s.shown.quit_dialog) else otherwise
 
 -- the dialog as it is opened, with its focus on Quit
 abbrev pub opened : ℕ → ℕ → QuitDialog
@@ -56,4 +56,4 @@ asked_about s messages files =
     if messages == 0 && files == 0 then cancels s else stays (with_dialog s (Some (opened messages files)))
 
 abbrev pub asked : Session → Change
-asked s = asked_about s (message_count s.state) (changed_count s.state)
+asked s = asked_about s (message_count s.shown.state) (changed_count s.shown.state)

@@ -20,7 +20,7 @@ pub record EndsWith (s : Session) (old new : Setting) (state : RecordState) : Ty
   pub last : Session
   pub frames : ℕ
   pub reached : Reaches (Before (world_in old s 0)) (Accepted (world_in new last frames))
-  pub returned : last.state ≡ state
+  pub returned : last.shown.state ≡ state
   pub counted : Counts frames old.store new.store
   pub few : s.pending ≡ [] → IsFew frames old.reads new.reads
 

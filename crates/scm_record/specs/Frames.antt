@@ -28,7 +28,7 @@ use Rattle.scm_view.specs.Index.{IsIndexOf}
 use Rattle.scm_record.specs.declared.frame.DrawnFrame.{DrawnFrame}
 use Rattle.scm_record.specs.declared.frame.Places.{Places}
 use Rattle.scm_record.specs.declared.frame.Places.TheVariants.{Plain, Free}
-use Rattle.scm_record.specs.Session.{Session, shown_of}
+use Rattle.scm_record.specs.Session.{Session}
 
 pub record Frame : Type 0 where
   -- the screen's rows
@@ -80,9 +80,9 @@ is_plain w h Adjacent = false
 -- the frame of a session: by its document where it is plain, else by the picture of its view
 unfoldable pub frame_of : ℕ → ℕ → Session → Frame
 frame_of w h drawn =
-    if is_plain w h drawn.view_mode
-    then frame_of_document w h drawn.scroll (shown_of drawn)
-    else frame_of_view w h drawn.scroll (app_view_of (shown_of drawn))
+    if is_plain w h drawn.shown.view_mode
+    then frame_of_document w h drawn.scroll drawn.shown
+    else frame_of_view w h drawn.scroll (app_view_of drawn.shown)
 
 -- ---- scenes
 
@@ -105,7 +105,7 @@ scene_of kind drawn = record {
   width = columns_of kind;
   height = rows_of kind;
   frame = frame_of (columns_of kind) (rows_of kind) drawn;
-  open_menu = drawn.open_menu;
+  open_menu = drawn.shown.open_menu;
 }
 
 -- ---- what the code keeps of a drawing

@@ -18,7 +18,7 @@ use Rattle.scm_input.specs.declared.events.Event.TheVariants as events
 use Rattle.scm_input.specs.declared.events.TestingScreenshot.{TestingScreenshot}
 use Rattle.scm_input.specs.declared.inputs.TerminalKind.{TerminalKind}
 use Rattle.scm_input.specs.Store.{Store}
-use Rattle.scm_record.specs.Session.{Session, shown_of, start}
+use Rattle.scm_record.specs.Session.{Session, start}
 use Rattle.scm_record.specs.Frames.{columns_of, rows_of, scene_of}
 use Rattle.scm_record.specs.Uses.{shot_of}
 use Rattle.scm_record.specs.Clicks.{clicked}
@@ -29,13 +29,13 @@ use Rattle.scm_record.specs.Keeping.{IsKept}
 
 -- it is inline, on a screen of at least ten columns and two rows
 pub record IsInline (kind : TerminalKind) (drawn : Session) : Type 0 where
-  pub view_mode : drawn.view_mode ≡ Inline
+  pub view_mode : drawn.shown.view_mode ≡ Inline
   pub wide : 10 ≤ columns_of kind
   pub high : 2 ≤ rows_of kind
 
 -- its window
 abbrev pub window_of : TerminalKind → Session → List Row
-window_of kind drawn = window (columns_of kind) (rows_of kind) drawn.scroll (shown_of drawn)
+window_of kind drawn = window (columns_of kind) (rows_of kind) drawn.scroll drawn.shown
 
 -- the text of its window
 abbrev pub window_text : TerminalKind → Session → List ℕ
@@ -47,7 +47,7 @@ blank_text kind = view_of (replicate (rows_of kind) (blank_row (columns_of kind)
 
 -- who owned a row and column of its document
 abbrev pub owner_at : TerminalKind → Session → ℕ → ℕ → Option ComponentId
-owner_at kind drawn y x = owner (columns_of kind) (rows_of kind) drawn.scroll (shown_of drawn) y x
+owner_at kind drawn y x = owner (columns_of kind) (rows_of kind) drawn.scroll drawn.shown y x
 
 -- ---- batches
 
@@ -104,16 +104,16 @@ StoreHasShots p old new =
 abbrev pub BatchesBeginAsDrawn : Point → Type 0
 BatchesBeginAsDrawn p =
     (drawn : Session) (w : World) (left : List Event)
-    → Handling p drawn w [] left → (shown_of w.session ≡ shown_of drawn) × (w.session.scroll ≡ drawn.scroll)
+    → Handling p drawn w [] left → (w.session.shown ≡ drawn.shown) × (w.session.scroll ≡ drawn.scroll)
 
--- an inline click on the screen acts on the owner of its place: by what was drawn last, and by the scroll of now
+-- an inline click on the screen acts on the owner of its place: by what was drawn last, and by the current scroll
 abbrev pub ClicksHitOwners : Point → Type 0
 ClicksHitOwners p =
     (drawn : Session) (w : World) (done left : List Event) (row column : ℕ)
     → Handling p drawn w done (events.Click row column ∷ left) → IsInline w.kind drawn
     → row < rows_of w.kind → column < columns_of w.kind
     → step drawn w (events.Click row column)
-    ≡ changed (scene_of w.kind drawn) w (clicked drawn.open_menu w.session (owner_at w.kind drawn (w.session.scroll + row) column))
+    ≡ changed (scene_of w.kind drawn) w (clicked drawn.shown.open_menu w.session (owner_at w.kind drawn (w.session.scroll + row) column))
 
 -- ---- ends
 
@@ -123,9 +123,9 @@ pub record ConfirmsQuit (p : Point) (state : RecordState) : Type 0 where
   pub world : World
   pub left : List Event
   pub reached : Reaches p (Within drawn world (events.QuitAccept ∷ left))
-  pub no_dialog : world.session.quit_dialog ≡ None
-  pub no_help : world.session.is_help_open ≡ false
-  pub confirmed : world.session.state ≡ state
+  pub no_dialog : world.session.shown.quit_dialog ≡ None
+  pub no_help : world.session.shown.is_help_open ≡ false
+  pub confirmed : world.session.shown.state ≡ state
 
 -- an answer other than refused memory is a state exactly if the steps reach a confirmed quit, and then that session's
 abbrev pub AcceptsConfirmedQuits : Point → Result RecordState RecordError → Type 0

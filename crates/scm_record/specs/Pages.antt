@@ -45,4 +45,4 @@ page_key scene way list key = page_from scene way list key (top_in scene key) (p
 
 -- a visible key a page away is selected
 abbrev pub after_page : Scene → Way → Session → Session
-after_page scene way s = after_select s (page_key scene way (towards way (visible s)) s.selection)
+after_page scene way s = after_select s (page_key scene way (towards way (visible s)) s.shown.selection)

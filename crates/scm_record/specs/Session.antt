@@ -1,5 +1,5 @@
--- A session, as values: the state, what the user has selected, unfolded and opened, how far the screen is scrolled, whether it
--- was cleared since the last frame, and what is pending. And what becomes of it by each thing that a user does to the document.
+-- A session, as values: what is shown of it, how far the screen is scrolled, whether it was cleared since the last frame, and
+-- what is pending. And what becomes of it by each thing that a user does to the document.
 use Rattle.std.specs.Prelude.{ℕ, ◌==◌, ◌≤◌, IsTrue, Bool, true, false, ◌&&◌, List, [], ◌∷◌, ◌++◌, filter, Option, Some, None, option_and_then, slice_get, if◌then◌else◌}
 use Rattle.std.specs.Option.{unwrap_or}
 use Rattle.scm_types.specs.declared.state.Commit.{Commit}
@@ -13,6 +13,7 @@ use Rattle.scm_view.specs.declared.quit_dialog.QuitDialog.{QuitDialog}
 use Rattle.scm_view.specs.declared.commit_view.CommitViewMode.{CommitViewMode}
 use Rattle.scm_view.specs.declared.commit_view.CommitViewMode.TheVariants.{Inline, Adjacent}
 use Rattle.scm_view.specs.Shown.{Shown}
+use Rattle.scm_shown.specs.Showing.{shown_alone}
 use Rattle.scm_input.specs.declared.events.Event.{Event}
 use Rattle.scm_input.specs.declared.events.Event.TheVariants as events
 use Rattle.scm_types.specs.Keys.{file_of, file_of_section, file_of_line, section_of_line}
@@ -22,32 +23,14 @@ use Rattle.scm_selection.specs.Moves.{next_key, previous_key, inner_key, of_kind
 use Rattle.scm_selection.specs.Toggle.{with_key_toggled, with_all_inverted, with_all_set}
 
 pub record Session : Type 0 where
-  pub state : RecordState
-  pub selection : SelectionKey
-  pub expanded : List SelectionKey
-  pub view_mode : CommitViewMode
-  pub open_menu : Option ℕ
-  pub quit_dialog : Option QuitDialog
-  pub is_help_open : Bool
+  pub shown : Shown
   pub scroll : ℕ
   pub cleared : Bool
   pub pending : List Event
 
--- what the screen shows of it
-abbrev pub shown_of : Session → Shown
-shown_of s = record {
-  state = s.state;
-  selection = s.selection;
-  expanded = s.expanded;
-  view_mode = s.view_mode;
-  open_menu = s.open_menu;
-  quit_dialog = s.quit_dialog;
-  is_help_open = s.is_help_open;
-}
-
 -- a session that can be drawn: its state is within the limits, and the screen is not scrolled too far
 pub record IsDrawable (s : Session) : Type 0 where
-  pub accepted : IsTrue (is_accepted_state s.state)
+  pub accepted : IsTrue (is_accepted_state s.shown.state)
   pub scroll : s.scroll ≤ max_scroll
 
 -- ---- the beginning
@@ -67,13 +50,7 @@ padded_state state = record state { commits = padded state.commits }
 -- the session of a state: its first file is selected, and its sections are expanded
 abbrev pub start : RecordState → Session
 start state = record {
-  state = padded_state state;
-  selection = first_key state.files;
-  expanded = key_set (filter is_section (all_keys state.files));
-  view_mode = Inline;
-  open_menu = None;
-  quit_dialog = None;
-  is_help_open = false;
+  shown = shown_alone (padded_state state) (first_key state.files) (key_set (filter is_section (all_keys state.files)));
   scroll = 0;
   cleared = false;
   pending = [];
@@ -98,13 +75,13 @@ listed None = []
 listed (Some event) = event ∷ []
 
 abbrev pub with_dialog : Session → Option QuitDialog → Session
-with_dialog s dialog = record s { quit_dialog = dialog }
+with_dialog s dialog = record s { shown = record s.shown { quit_dialog = dialog } }
 
 abbrev pub with_help : Session → Bool → Session
-with_help s is_open = record s { is_help_open = is_open }
+with_help s is_open = record s { shown = record s.shown { is_help_open = is_open } }
 
 abbrev pub with_menu : Session → Option ℕ → Session
-with_menu s menu = record s { open_menu = menu }
+with_menu s menu = record s { shown = record s.shown { open_menu = menu } }
 
 -- the menu that is open after a click on the title of one: that one, or none where it is open
 abbrev pub menu_clicked : ℕ → Option ℕ → Option ℕ
@@ -112,7 +89,7 @@ menu_clicked menu None = Some menu
 menu_clicked menu (Some other) = if menu == other then None else Some menu
 
 abbrev pub after_menu : Session → ℕ → Session
-after_menu s menu = with_menu s (menu_clicked menu s.open_menu)
+after_menu s menu = with_menu s (menu_clicked menu s.shown.open_menu)
 
 -- the menu is closed, and the event of its item is pending, if there is one
 abbrev pub after_item : Session → Option Event → Session
@@ -125,7 +102,7 @@ other_mode Inline = Adjacent
 other_mode Adjacent = Inline
 
 abbrev pub in_other_mode : Session → Session
-in_other_mode s = record s { view_mode = other_mode s.view_mode }
+in_other_mode s = record s { shown = record s.shown { view_mode = other_mode s.shown.view_mode } }
 
 abbrev pub with_scroll : Session → ℕ → Session
 with_scroll s scroll = record s { scroll = scroll }
@@ -142,11 +119,11 @@ after_frame s = record s { cleared = false }
 
 -- the visible keys, in order
 abbrev pub visible : Session → List SelectionKey
-visible s = visible_keys (has_key s.expanded) s.state.files
+visible s = visible_keys (has_key s.shown.expanded) s.shown.state.files
 
 -- those of the selection's kind
 abbrev pub visible_of_kind : Session → List SelectionKey
-visible_of_kind s = of_kind (visible s) s.selection
+visible_of_kind s = of_kind (visible s) s.shown.selection
 
 -- the set with the file and the section that the key is in
 abbrev pub with_keys_above : List SelectionKey → SelectionKey → List SelectionKey
@@ -157,7 +134,7 @@ with_keys_above expanded (keys.Line key) = with_key (with_key expanded (keys.Fil
 
 -- the key is selected, and what it is in is expanded
 abbrev pub at_key : Session → SelectionKey → Session
-at_key s key = record s { selection = key; expanded = with_keys_above s.expanded key }
+at_key s key = record s { shown = record s.shown { selection = key; expanded = with_keys_above s.shown.expanded key } }
 
 -- likewise by a key of the keyboard, which also brings it onto the screen
 abbrev pub after_select : Session → SelectionKey → Session
@@ -165,42 +142,42 @@ after_select s key = with_ensure (at_key s key)
 
 -- where the selection isn't visible these four go to the first file
 abbrev pub after_next : Session → Session
-after_next s = after_select s (next_key (visible s) s.selection (first_key s.state.files))
+after_next s = after_select s (next_key (visible s) s.shown.selection (first_key s.shown.state.files))
 
 abbrev pub after_previous : Session → Session
-after_previous s = after_select s (previous_key (visible s) s.selection (first_key s.state.files))
+after_previous s = after_select s (previous_key (visible s) s.shown.selection (first_key s.shown.state.files))
 
 abbrev pub after_next_same_kind : Session → Session
-after_next_same_kind s = after_select s (next_key (visible_of_kind s) s.selection (first_key s.state.files))
+after_next_same_kind s = after_select s (next_key (visible_of_kind s) s.shown.selection (first_key s.shown.state.files))
 
 abbrev pub after_previous_same_kind : Session → Session
-after_previous_same_kind s = after_select s (previous_key (visible_of_kind s) s.selection (first_key s.state.files))
+after_previous_same_kind s = after_select s (previous_key (visible_of_kind s) s.shown.selection (first_key s.shown.state.files))
 
 -- the next key of the kind is selected, and nothing where the selection isn't visible
 abbrev pub after_advance : Session → Session
-after_advance s = after_select s (next_key (visible_of_kind s) s.selection keys.None)
+after_advance s = after_select s (next_key (visible_of_kind s) s.shown.selection keys.None)
 
 abbrev pub after_inner : Session → Session
-after_inner s = after_select s (inner_key (all_keys s.state.files) s.selection)
+after_inner s = after_select s (inner_key (all_keys s.shown.state.files) s.shown.selection)
 
 -- ---- folds
 
 -- the key is folded
 abbrev pub after_fold : Session → SelectionKey → Session
-after_fold s key = with_ensure (record s { expanded = without_key s.expanded key })
+after_fold s key = with_ensure (record s { shown = record s.shown { expanded = without_key s.shown.expanded key } })
 
 -- a file is folded, a section folded or left for its file, a line left for its section
 abbrev pub outside_of : Session → Bool → SelectionKey → Session
 outside_of s fold_section keys.None = s
 outside_of s fold_section (keys.File key) = after_fold s (keys.File key)
 outside_of s fold_section (keys.Section key) =
-    if fold_section && has_key s.expanded (keys.Section key)
+    if fold_section && has_key s.shown.expanded (keys.Section key)
     then after_fold s (keys.Section key)
     else after_select s (keys.File (file_of_section key))
 outside_of s fold_section (keys.Line key) = after_select s (keys.Section (section_of_line key))
 
 abbrev pub after_outer : Session → Bool → Session
-after_outer s fold_section = outside_of s fold_section s.selection
+after_outer s fold_section = outside_of s fold_section s.shown.selection
 
 -- the set with the fold of a file or of a section flipped; nothing else has a fold
 abbrev pub with_fold_flipped : List SelectionKey → SelectionKey → List SelectionKey
@@ -210,14 +187,14 @@ with_fold_flipped expanded (keys.Section key) = with_key_flipped expanded (keys.
 with_fold_flipped expanded (keys.Line key) = expanded
 
 abbrev pub after_expand : Session → Session
-after_expand s = with_ensure (record s { expanded = with_fold_flipped s.expanded s.selection })
+after_expand s = with_ensure (record s { shown = record s.shown { expanded = with_fold_flipped s.shown.expanded s.shown.selection } })
 
 -- where exactly all keys are expanded all is folded and the selection's file selected, else all keys are expanded
 abbrev pub with_all_flipped : Session → Session
 with_all_flipped s =
-    if same_set s.expanded (key_set (all_keys s.state.files))
-    then record s { selection = file_of s.selection; expanded = [] }
-    else record s { expanded = key_set (all_keys s.state.files) }
+    if same_set s.shown.expanded (key_set (all_keys s.shown.state.files))
+    then record s { shown = record s.shown { selection = file_of s.shown.selection; expanded = [] } }
+    else record s { shown = record s.shown { expanded = key_set (all_keys s.shown.state.files) } }
 
 abbrev pub after_expand_all : Session → Session
 after_expand_all s = with_ensure (with_all_flipped s)
@@ -227,11 +204,11 @@ after_expand_all s = with_ensure (with_all_flipped s)
 -- the files changed so, but as they were where the state is read-only
 abbrev pub with_files_changed : (List File → List File) → Session → Session
 with_files_changed change s =
-    if s.state.is_read_only then s else record s { state = record s.state { files = change s.state.files } }
+    if s.shown.state.is_read_only then s else record s { shown = record s.shown { state = record s.shown.state { files = change s.shown.state.files } } }
 
 -- what is selected is toggled
 abbrev pub after_toggle : Session → Session
-after_toggle s = with_files_changed (with_key_toggled s.selection) s
+after_toggle s = with_files_changed (with_key_toggled s.shown.selection) s
 
 abbrev pub after_toggle_all : Session → Session
 after_toggle_all s = with_files_changed with_all_inverted s
@@ -241,7 +218,7 @@ after_toggle_all_uniform s = with_files_changed with_all_set s
 
 -- the message of a commit, if there is one
 abbrev pub message_of : Session → ℕ → Option (List ℕ)
-message_of s i = option_and_then (λ (c : Commit). c.message) (slice_get s.state.commits i)
+message_of s i = option_and_then (λ (c : Commit). c.message) (slice_get s.shown.state.commits i)
 
 -- its text, empty where there is none
 abbrev pub message_text : Session → ℕ → List ℕ
@@ -251,4 +228,4 @@ abbrev pub commit_saying : List ℕ → Commit → Commit
 commit_saying text c = record c { message = Some text }
 
 abbrev pub with_message : Session → ℕ → List ℕ → Session
-with_message s i text = record s { state = record s.state { commits = modify (commit_saying text) s.state.commits i } }
+with_message s i text = record s { shown = record s.shown { state = record s.shown.state { commits = modify (commit_saying text) s.shown.state.commits i } } }

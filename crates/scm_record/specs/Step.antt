@@ -17,12 +17,12 @@ abbrev pub change : Scene → Session → Event → Change
 -- these go by what is drawn, or are seen in it alone, whatever is open
 change scene s events.None = stays s
 change scene s events.Redraw = stays (after_redraw s)
-change scene s events.EnsureSelectionInViewport = stays (with_scroll s (ensured scene s.scroll s.selection))
+change scene s events.EnsureSelectionInViewport = stays (with_scroll s (ensured scene s.scroll s.shown.selection))
 change scene s (events.TakeScreenshot shot) = shoots shot.place s
 change scene s (events.Click row column) = clicked scene.open_menu s (hit scene s.scroll row column)
 change scene s events.ToggleCommitViewMode = stays (in_other_mode s)
 -- these speak to an open help, and then to an open quit dialog
-change scene s events.Help = stays (with_help s (not s.is_help_open))
+change scene s events.Help = stays (with_help s (not s.shown.is_help_open))
 change scene s events.QuitEscape = help_closed_or s (stays (with_dialog s None))
 change scene s events.QuitCancel = help_closed_or s (dialog_closed_or s (asked s))
 change scene s events.ToggleItem = help_closed_or s (dialog_pressed_or s (stays (after_toggle s)))

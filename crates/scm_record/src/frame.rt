@@ -7,7 +7,7 @@ ghost use Rattle.scm_view.specs.declared.ids.ComponentId.TheVariants as ids;
 ghost use Rattle.scm_view.specs.Shown.{Shown};
 ghost use Rattle.scm_view.specs.Window.{IsPlain, ShowsInline, rows_of_box, window};
 ghost use Rattle.scm_record.specs.Frames.{HasSize, IsMapOf, IsShown, KnowsPlaces, Scene, frame_of_document, frame_of_view, is_plain, picture_of, scene_of};
-ghost use Rattle.scm_record.specs.Session.{Session, shown_of};
+ghost use Rattle.scm_record.specs.Session.{Session};
 ghost use Rattle.scm_record.specs.Uses.{ensured, held, hit, rows_above, scrolled_to, shot_of, top_in};
 
 use scm_cells::{Grid, Rect};
@@ -62,6 +62,7 @@ fn render(
     prove!(height <= 65_535);
     grid.clear();
     let boxes = Viewport::render_top_level(alloc, grid, 0, scroll as isize, view)?;
+    scm_render::laws::maps_have_last_boxes(&boxes);
     Ok(boxes)
 }
 
@@ -134,8 +135,7 @@ impl DrawnFrame {
         view: &AppView<'_>,
         scroll: usize,
     ) -> Result<(), RecordError>
-        requires shows { ShowsInline view.now self.old.grid.width (length self.old.grid.rows) }
-        requires scroll { scroll ≤ max_scroll }
+        requires shows { ShowsInline view.now self.old.grid.width (length self.old.grid.rows) scroll }
         ensures rows { OnOk result ((shown : Shown) → IsPlain view.now shown self.old.grid.width (length self.old.grid.rows) →
             self.new.grid.rows ≡ window self.old.grid.width (length self.old.grid.rows) scroll shown) }
         ensures places { OnOk result ((shown : Shown) → IsPlain view.now shown self.old.grid.width (length self.old.grid.rows) →
@@ -182,7 +182,7 @@ impl DrawnFrame {
     ) -> Result<(), RecordError>
         requires accepted { IsTrue (is_accepted_state showing.now.state) }
         requires scroll { scroll ≤ max_scroll }
-        ensures ok { OnOk result ((kind : TerminalKind) (s : Session) → shown_of s ≡ showing.now → s.scroll ≡ scroll
+        ensures ok { OnOk result ((kind : TerminalKind) (s : Session) → s.shown ≡ showing.now → s.scroll ≡ scroll
             → HasSize kind self.old → IsShown (scene_of kind s) self.new) }
         ensures size { (kind : TerminalKind) → HasSize kind self.old → HasSize kind self.new }
         ensures err { IfErr result (λ e. e ≡ OutOfMemory) }

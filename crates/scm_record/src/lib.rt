@@ -7,12 +7,12 @@
 mod frame;
 pub mod live;
 mod pages;
-pub mod recording;
+pub mod recorder;
 mod runs;
 mod selector;
 
 pub use live::{Editing, LiveSession, Turn};
-pub use recording::Recorder;
+pub use recorder::Recorder;
 pub use scm_cells::{
     Clusters, Grid, Line, Mask, Rect, RectSize, ScreenRect, Span, push_spans_from_line,
     replace_control_character, text_width,
@@ -20,7 +20,7 @@ pub use scm_cells::{
 pub use scm_input::{
     Event, KeyCode, KeyEvent, KeyEventKind, KeyModifiers, MouseButton, MouseEvent, MouseEventKind,
     RecordInput, Screens, ScriptEdit, ScriptInput, ScriptRead, TerminalEvent, TerminalKind,
-    TestingInput, TestingScreenshot, events, helpers, inputs, scripts, store, terminal,
+    TestingInput, TestingScreenshot, events, helpers, inputs, screens, script_input, terminal,
 };
 pub use scm_render::{
     Clickable, Component, DrawTrace, DrawnRect, DrawnRects, Viewport, centered_rect, find_target,

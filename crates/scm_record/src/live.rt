@@ -5,7 +5,7 @@ ghost use Rattle.scm_errors.specs.declared.error.RecordError.TheVariants.{OutOfM
 ghost use Rattle.scm_types.specs.Limits.{is_accepted_state};
 ghost use Rattle.scm_input.specs.declared.inputs.TerminalKind.{TerminalKind};
 ghost use Rattle.scm_input.specs.Script.{Read, Reply};
-ghost use Rattle.scm_record.specs.Session.{IsDrawable, Session, after_frame, listed, message_of, message_text, shown_of, start, without_pending};
+ghost use Rattle.scm_record.specs.Session.{IsDrawable, Session, after_frame, listed, message_of, message_text, start, without_pending};
 ghost use Rattle.scm_record.specs.Frames.{HasSize, IsShown, columns_of, rows_of, scene_of};
 ghost use Rattle.scm_record.specs.Run.{Within, world_in};
 ghost use Rattle.scm_record.specs.Calls.{AnswerFails, Answers, Call, Fails, HandleFails, Handles, IsRun, Leads, Path, live};
@@ -97,7 +97,7 @@ fn advance(
     ensures rest { OnOk result (selector.new ≡ without_pending (after_frame selector.old)) }
     ensures err { IfErr result (λ e. e ≡ OutOfMemory) }
 {
-    frame.draw(selector.allocator(), &selector.showing(), selector.scroll())?;
+    frame.draw(selector.allocator(), selector.showing(), selector.scroll())?;
     selector.begin_frame();
     let next = selector.take_next();
     Ok(next)
@@ -212,17 +212,17 @@ impl<'state> LiveSession<'state> {
         self.kind
     }
 
-    /// The state, with the marks and messages of now.
+    /// The state, with its current marks and messages.
     pub fn state(&self) -> &RecordState<'state>
-        ensures { result.now ≡ self.now.session.state }
+        ensures { result.now ≡ self.now.session.shown.state }
     {
         self.selector.state()
     }
 
     /// What the session shows, as views are made of it.
-    pub fn showing(&self) -> Showing<'_>
-        ensures value { result ≡ shown_of self.now.session }
-        ensures accepted { IsTrue (is_accepted_state result.state) }
+    pub fn showing(&self) -> &Showing<'state>
+        ensures value { result.now ≡ self.now.session.shown }
+        ensures accepted { IsTrue (is_accepted_state result.now.state) }
     {
         self.selector.showing()
     }

@@ -1,27 +1,22 @@
-//! Runs: a session over an input, from its first frame to its end.
-ghost use Rattle.std.specs.Prelude.{◌≡◌, ℕ, ◌+◌, false, IfErr, IfOk, IsTrue, None, OnErr, OnOk, string_bytes};
+//! Runs: a session over an input, turn after turn, to its end.
+ghost use Rattle.std.specs.Prelude.{◌≡◌, ℕ, ◌+◌, false, IfErr, IfOk, OnErr, OnOk, string_bytes};
 ghost use Rattle.scm_errors.specs.declared.error.RecordError.TheVariants.{OutOfMemory};
-ghost use Rattle.scm_types.specs.declared.state.RecordState.{RecordState};
-ghost use Rattle.scm_types.specs.Limits.{is_accepted_state, is_short_text};
+ghost use Rattle.scm_types.specs.Limits.{is_short_text};
 ghost use Rattle.scm_input.specs.declared.events.Event.{Event};
 ghost use Rattle.scm_input.specs.declared.inputs.TerminalKind.{TerminalKind};
 ghost use Rattle.scm_input.specs.Script.{Replies, edit_of};
 ghost use Rattle.scm_input.specs.Store.{Store, count_up, with_frame};
-ghost use Rattle.scm_record.specs.Session.{IsDrawable, Session, after_frame, message_of, message_text, start};
+ghost use Rattle.scm_record.specs.Session.{IsDrawable, Session, after_frame, message_text};
 ghost use Rattle.scm_record.specs.Frames.{HasSize, IsShown, Scene, scene_of};
 ghost use Rattle.scm_record.specs.Uses.{shot_of};
-ghost use Rattle.scm_record.specs.Run.{Before, Within, Goes, World, batch, edited, kept_at, no_such_place, setting, too_long, world_in, HasOneEnd, Reaches, Stops};
+ghost use Rattle.scm_record.specs.Run.{Before, Within, Goes, World, batch, edited, kept_at, no_such_place, setting, too_long, world_in, Reaches, Stops};
 ghost use Rattle.scm_record.specs.Turn.{BatchStops, Ceases, Follows, Handles, IsFault, Refused, Refuses, TurnStops, point_of};
 ghost use Rattle.scm_record.specs.Ending.{EndsWith, FailsWith};
-ghost use Rattle.scm_record.specs.Keeping.{IsKept};
-ghost use Rattle.scm_record.specs.Headline.{Headline};
-ghost use Rattle.scm_record.specs.StepCoherence.{StepKeepsCoherent};
 
 use crate::frame::DrawnFrame;
-use crate::recording::Recorder;
 use crate::selector::{Flow, Selector};
 use scm_input::{Event, RecordInput, Screens};
-use scm_types::{RecordError, RecordState};
+use scm_types::RecordError;
 use std::alloc::Global;
 
 /// What follows the events of a batch.
@@ -216,7 +211,7 @@ fn draw(
     ensures unchanged { OnErr result (screens.new ≡ screens.old) }
     ensures size { (kind : TerminalKind) → HasSize kind frame.old → HasSize kind frame.new }
 {
-    frame.draw(selector.allocator(), &selector.showing(), selector.scroll())?;
+    frame.draw(selector.allocator(), selector.showing(), selector.scroll())?;
     selector.begin_frame();
     screens.add_frame();
     Ok(())
@@ -248,7 +243,7 @@ fn turn(
 }
 
 /// Turn after turn, until the user accepts or the run fails.
-fn run_to_end(
+pub(crate) fn run_to_end(
     selector: &mut Selector<'_>,
     frame: &mut DrawnFrame,
     input: &mut dyn RecordInput,
@@ -260,7 +255,7 @@ fn run_to_end(
         EndsWith selector.old
         (setting (kind input.old) (reads input.old) (edits input.old) screens.old)
         (setting (kind input.new) (reads input.new) (edits input.new) screens.new)
-        selector.new.state) }
+        selector.new.shown.state) }
     ensures err { IfErr result (λ e.
         FailsWith selector.old
         (setting (kind input.old) (reads input.old) (edits input.old) screens.old)
@@ -272,51 +267,5 @@ fn run_to_end(
             Next::GoOn => {}
             Next::Accept => return Ok(()),
         }
-    }
-}
-
-impl<'state> Recorder<'state> {
-    /// Runs the session on an input, until the user accepts or gives up.
-    ///
-    /// In turns a frame is drawn, and then all pending events are handled in order, or those of
-    /// the next read where none is pending. A fault ends the run at once: `Cancelled` where the
-    /// user gives up, the input's own fault, `ReadInput("no events left")` where a read is due and
-    /// none is left, `Other("no such screenshot place")` where the store lacks the place of a
-    /// screenshot, `Other("commit message too long")` for an answer of more than 1,000,000 bytes,
-    /// or `OutOfMemory`. The state is then gone, and the store keeps the screens taken.
-    pub fn run(
-        self,
-        input: &mut dyn RecordInput,
-        screens: &mut Screens,
-    ) -> Result<RecordState<'state>, RecordError>
-        // the state of the session in which the steps are accepted, or the fault that they meet
-        ensures ok { IfOk result (λ state.
-            EndsWith self.entry
-            (setting (kind input.old) (reads input.old) (edits input.old) screens.old)
-            (setting (kind input.new) (reads input.new) (edits input.new) screens.new) state) }
-        ensures err { IfErr result (λ e.
-            FailsWith self.entry
-            (setting (kind input.old) (reads input.old) (edits input.old) screens.old)
-            (setting (kind input.new) (reads input.new) (edits input.new) screens.new) e) }
-        // the steps reach one end
-        ensures one_end { let old = setting (kind input.old) (reads input.old) (edits input.old) screens.old in
-            HasOneEnd (Before (world_in old self.entry 0)) }
-        // what a recorder of an accepted state keeps of it
-        ensures kept { IfOk result (λ state. (given : RecordState) →
-            IsTrue (is_accepted_state given) → self.entry ≡ start given → IsKept given state) }
-        // without a message to edit no edit is taken
-        ensures unedited { ((commit : ℕ) → message_of self.entry commit ≡ None) → edits input.new ≡ edits input.old }
-        // what every event keeps
-        ensures coherent { (drawn : Session) (w : World) (event : Event) → StepKeepsCoherent drawn w event }
-        // what the screens show, what clicks act on, and when a run is accepted
-        ensures headline { Headline self.entry
-            (setting (kind input.old) (reads input.old) (edits input.old) screens.old)
-            (setting (kind input.new) (reads input.new) (edits input.new) screens.new) result }
-        ensures kind { kind input.new ≡ kind input.old }
-    {
-        let mut selector = self.into_selector();
-        let mut frame = DrawnFrame::new(selector.allocator(), input.terminal_kind())?;
-        run_to_end(&mut selector, &mut frame, input, screens)?;
-        Ok(selector.into_state())
     }
 }

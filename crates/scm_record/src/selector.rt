@@ -1,15 +1,16 @@
 //! A session in which a user selects changes, and what each event makes of it.
-ghost use Rattle.std.specs.Prelude.{◌≡◌, IfErr, IfOk, OnOk, string_bytes};
+ghost use Rattle.std.specs.Prelude.{◌≡◌, IfErr, IfOk, OnOk};
 ghost use Rattle.scm_errors.specs.declared.error.RecordError.TheVariants.{OutOfMemory};
-ghost use Rattle.scm_types.specs.Edits.{modify};
-ghost use Rattle.scm_record.specs.Session.{commit_saying, padded, with_keys_above};
+ghost use Rattle.scm_record.specs.Session.{padded, with_keys_above};
 
 mod clicks;
 mod dialogs;
-mod folds;
+mod folding;
 mod marks;
+mod messages;
 mod moves;
 mod scrolling;
+mod views;
 
 use crate::frame::DrawnFrame;
 use crate::pages::Way;
@@ -17,8 +18,8 @@ use scm_input::Event;
 use scm_selection::key_lists::{first_key, section_keys};
 use scm_selection::key_set::{KeySet, key_set_of};
 use scm_shown::Showing;
-use scm_types::{Commit, Items, OwnedText, RecordError, RecordState};
-use scm_view::{CommitViewMode, QuitDialog, SelectionKey};
+use scm_types::{Commit, Items, RecordError, RecordState};
+use scm_view::SelectionKey;
 use std::alloc::Global;
 use std::marker::Model;
 use std::mem;
@@ -41,20 +42,8 @@ pub(crate) enum Flow {
 /// A session in which a user selects changes.
 #[derive(Drop)]
 pub(crate) struct Selector<'state> {
-    /// The state, with the marks and messages of now.
-    state: RecordState<'state>,
-    /// What is selected.
-    selection: SelectionKey,
-    /// The keys that are not folded.
-    expanded: KeySet,
-    /// Whether one commit is shown, or two beside each other.
-    view_mode: CommitViewMode,
-    /// The index of the menu that is open, from 0.
-    open_menu: Option<usize>,
-    /// The quit dialog, while it is open.
-    quit_dialog: Option<QuitDialog>,
-    /// The help is open.
-    is_help_open: bool,
+    /// What is shown of it: the state, what is selected, unfolded and opened.
+    showing: Showing<'state>,
     /// The document's row that the screen's first row shows.
     scroll: usize,
     /// The screen was cleared since the last frame.
@@ -74,11 +63,11 @@ impl<'state> Model for Selector<'state> {
 }
 
 impl<'state> Selector<'state> {
-    ghost use Rattle.std.specs.Prelude.{◌≡◌, ◌↔◌, ◌<◌, ◌≤◌, IfErr, IfOk, IsTrue, OnOk, length, string_bytes};
+    ghost use Rattle.std.specs.Prelude.{◌≡◌, ◌↔◌, ◌<◌, ◌≤◌, IfErr, IfOk, IsTrue, OnOk, length};
     ghost use Rattle.scm_errors.specs.declared.error.RecordError.TheVariants.{OutOfMemory};
     ghost use Rattle.scm_types.specs.Limits.{is_accepted_state};
     ghost use Rattle.scm_record.specs.Frames.{IsShown, Scene};
-    ghost use Rattle.scm_record.specs.Session.{after_frame, after_select, at_key, listed, message_text, shown_of, start, with_ensure, with_message, with_pushed, without_pending};
+    ghost use Rattle.scm_record.specs.Session.{after_select, at_key, listed, start, with_ensure, with_pushed, without_pending};
     ghost use Rattle.scm_record.specs.Step.{change};
 
     /// A session over the state, to which commits without a message are added up to two.
@@ -100,18 +89,13 @@ impl<'state> Selector<'state> {
         let sections = section_keys(alloc, files.as_slice())?;
         let expanded = key_set_of(alloc, &sections)?;
         let selection = first_key(files.as_slice());
+        let state = RecordState {
+            is_read_only,
+            commits: Items::from(commits),
+            files,
+        };
         Ok(Selector {
-            state: RecordState {
-                is_read_only,
-                commits: Items::from(commits),
-                files,
-            },
-            selection,
-            expanded,
-            view_mode: CommitViewMode::Inline,
-            open_menu: None,
-            quit_dialog: None,
-            is_help_open: false,
+            showing: Showing::new(state, selection, expanded),
             scroll: 0,
             cleared: false,
             pending: Vec::new(alloc),
@@ -119,16 +103,10 @@ impl<'state> Selector<'state> {
     }
 
     /// What the session shows.
-    pub(crate) fn showing(&self) -> Showing<'_>
-        requires { IsTrue (is_accepted_state self.now.state) }
-        ensures { result ≡ shown_of self.now }
+    pub(crate) fn showing(&self) -> &Showing<'state>
+        ensures { result.now ≡ self.now.shown }
     {
-        let mut showing = Showing::new(&self.state, self.selection, &self.expanded);
-        showing.view_mode = self.view_mode;
-        showing.open_menu = self.open_menu;
-        showing.quit_dialog = self.quit_dialog;
-        showing.is_help_open = self.is_help_open;
-        showing
+        &self.showing
     }
 
     /// The document's row that the screen's first row shows.
@@ -165,8 +143,8 @@ impl<'state> Selector<'state> {
         ensures ok { OnOk result (self.new ≡ at_key self.old key) }
         ensures err { IfErr result (λ e. e ≡ OutOfMemory) }
     {
-        expand_above(&mut self.expanded, key)?;
-        self.selection = key;
+        expand_above(&mut self.showing.expanded, key)?;
+        self.showing.selection = key;
         Ok(())
     }
 
@@ -186,73 +164,56 @@ impl<'state> Selector<'state> {
         ensures err { IfErr result (λ e. e ≡ OutOfMemory) }
     {
         match event {
+            // an open quit dialog ignores what speaks to the document alone
+            Event::ScrollUp
+            | Event::ScrollDown
+            | Event::PageUp
+            | Event::PageDown
+            | Event::FocusPrev
+            | Event::FocusPrevSameKind
+            | Event::FocusPrevPage
+            | Event::FocusNext
+            | Event::FocusNextSameKind
+            | Event::FocusNextPage
+            | Event::ToggleAll
+            | Event::ToggleAllUniform
+            | Event::ExpandItem
+            | Event::ExpandAll
+            | Event::EditCommitMessage
+            | Event::QuitAccept
+                if self.is_asked() => {}
             Event::None => {}
             Event::Redraw => self.clear(),
             Event::EnsureSelectionInViewport => self.show_selection(frame),
             Event::ToggleCommitViewMode => self.flip_mode(),
             Event::Help => self.flip_help(),
             Event::QuitEscape => self.escape(),
+            Event::ScrollUp => self.scroll_up(frame, 1),
+            Event::ScrollDown => self.scroll_down(frame, 1),
+            Event::PageUp => self.page_up(frame),
+            Event::PageDown => self.page_down(frame),
+            Event::FocusPrev => self.select(self.previous_key())?,
+            Event::FocusPrevSameKind => self.select(self.previous_key_of_kind())?,
+            Event::FocusPrevPage => self.select(self.page_key(frame, Way::Up))?,
+            Event::FocusNext => self.select(self.next_key())?,
+            Event::FocusNextSameKind => self.select(self.next_key_of_kind())?,
+            Event::FocusNextPage => self.select(self.page_key(frame, Way::Down))?,
+            Event::ToggleAll => self.toggle_all(),
+            Event::ToggleAllUniform => self.toggle_all_uniform(),
+            Event::ExpandItem => self.flip_fold()?,
+            Event::ExpandAll => self.flip_all_folds()?,
             Event::TakeScreenshot(shot) => return Ok(Flow::Shoot(shot.place)),
             Event::QuitAccept => return Ok(self.accept()),
             Event::QuitCancel => return Ok(self.cancel()),
             Event::QuitInterrupt => return Ok(self.interrupt()),
             Event::ToggleItem => return Ok(self.toggle_item()),
             Event::ToggleItemAndAdvance => return self.toggle_item_and_advance(),
-            Event::ToggleAll => return Ok(self.toggle_all()),
-            Event::ToggleAllUniform => return Ok(self.toggle_all_uniform()),
-            Event::ExpandItem => return self.expand_item(),
-            Event::ExpandAll => return self.expand_all(),
-            Event::EditCommitMessage => return self.edit_first_message(),
-            Event::ScrollUp => return Ok(self.scroll_up(frame, 1)),
-            Event::ScrollDown => return Ok(self.scroll_down(frame, 1)),
-            Event::PageUp => return Ok(self.page_up(frame)),
-            Event::PageDown => return Ok(self.page_down(frame)),
-            Event::FocusPrev => return self.focus_previous(),
-            Event::FocusPrevSameKind => return self.focus_previous_same_kind(),
-            Event::FocusPrevPage => return self.focus_page(frame, Way::Up),
-            Event::FocusNext => return self.focus_next(),
-            Event::FocusNextSameKind => return self.focus_next_same_kind(),
-            Event::FocusNextPage => return self.focus_page(frame, Way::Down),
+            Event::EditCommitMessage => return self.edit_message(0),
             Event::FocusInner => return self.focus_inner(),
             Event::FocusOuter { fold_section } => return self.focus_outer(fold_section),
             Event::Click { row, column } => return self.click_at(frame, row, column),
         }
         Ok(Flow::GoOn)
-    }
-
-    /// Whether the screen was cleared since the last frame.
-    pub(crate) fn is_cleared(&self) -> bool
-        ensures { result ≡ self.now.cleared }
-    {
-        self.cleared
-    }
-
-    /// A frame is drawn over what was cleared.
-    pub(crate) fn begin_frame(&mut self)
-        ensures { self.new ≡ after_frame self.old }
-    {
-        self.cleared = false;
-    }
-
-    /// The message of a commit, empty where there is none.
-    pub(crate) fn message(&self, commit: usize) -> &str
-        ensures { result.now ≡ message_text self.now commit }
-    {
-        match self.state.commits.as_slice().get(commit) {
-            Some(
-                Commit {
-                    message: Some(message),
-                },
-            ) => message.as_str(),
-            _ => "",
-        }
-    }
-
-    /// Gives a commit a message.
-    pub(crate) fn set_message(&mut self, commit: usize, text: String)
-        ensures { self.new ≡ with_message self.old commit (string_bytes text) }
-    {
-        set_message(self.state.commits.as_mut_slice(), commit, text);
     }
 
     /// Whether events are pending.
@@ -280,27 +241,18 @@ impl<'state> Selector<'state> {
         self.pending.pop()
     }
 
-    /// The state, with the marks and messages of now.
+    /// The state, with its current marks and messages.
     pub(crate) fn state(&self) -> &RecordState<'state>
-        ensures { result.now ≡ self.now.state }
+        ensures { result.now ≡ self.now.shown.state }
     {
-        &self.state
+        &self.showing.state
     }
 
     /// Gives the state back.
     pub(crate) fn into_state(self) -> RecordState<'state>
-        ensures { result ≡ self.entry.state }
+        ensures { result ≡ self.entry.shown.state }
     {
-        self.state
-    }
-}
-
-/// Gives the commit at an index a message.
-fn set_message(commits: &mut [Commit], index: usize, text: String)
-    ensures { commits.new ≡ modify (commit_saying (string_bytes text)) commits.old index }
-{
-    if index < commits.len() {
-        commits[index].message = Some(OwnedText::from(text));
+        self.showing.state
     }
 }
 

@@ -14,8 +14,7 @@ use Rattle.scm_render.specs.Around.{no_rect, join, around, AllRectsInRange}
 use Rattle.scm_render.specs.Picture.{Picture, PictureInRange, nothing, followed_by, covering, part, box_rect}
 use Rattle.scm_render.specs.Canvas.{Sight, under}
 use Rattle.scm_render.specs.Drawing.{reach, row_rect, texts_width, span_picture, line_picture, text_picture, blank_picture, frame_picture}
-use Rattle.scm_render.specs.Bounds.{Bounds, SightWithin}
-use Rattle.scm_render.proofs.Within.{BoundsInRange, RectWithin, RectsWithin, PictureWithin}
+use Rattle.scm_render.specs.Bounds.{Bounds, BoundsInRange, SightWithin, RectWithin, RectsWithin, PictureWithin}
 use Rattle.scm_render.proofs.SpanLemmas.{join-x, join-y, join-end_x, join-end_y, join_none, join_empty_left, empty_cases}
 
 -- ---- in range

@@ -1,5 +1,4 @@
 -- ---- definitions that proofs alone cite
-pub mod Within
 pub mod Latest
 pub mod RowsWithin
 pub mod OnScreen

@@ -7,6 +7,7 @@ use Rattle.scm_cells.proofs.RectLemmas.{places}
 use Rattle.scm_render.specs.Picture.{Picture, PictureInRange, nothing, followed_by}
 use Rattle.scm_render.specs.Canvas.{Sight, Canvas, with_mask, with_picture, under}
 use Rattle.scm_render.specs.Drawing.{span_picture, line_picture, text_picture}
+use Rattle.scm_render.specs.Left.{IsLeft}
 use Rattle.scm_render.proofs.PictureLemmas.{PictureInRange-left, PictureInRange-right}
 use Rattle.scm_render.proofs.CanvasLemmas.{with_picture-sight, with_picture-nothing, with_picture-then, with_picture-twice, with_picture-masked}
 
@@ -58,12 +59,6 @@ module _ {K : Type 0} where
   masked c d e f mask b p q r = with_picture-masked c d e f mask (b (under mask c.sight)) p (q ∙ ap (λ s. with_picture d (b s)) (ap (λ v. v.sight) p)) r
 
   -- ---- a loop of parts
-
-  -- of the whole that is drawn on c, d has all but what is left
-  pub record IsLeft (c d : Canvas K) (left whole : Picture K) : Type 0 where
-    pub sight : d.sight ≡ c.sight
-    pub in_range : PictureInRange left
-    pub drawn : with_picture d left ≡ with_picture c whole
 
   pub left-first : (c : Canvas K) (whole : Picture K) → PictureInRange whole → IsLeft c c whole whole
   left-first c whole r = record { sight = refl; in_range = r; drawn = refl }

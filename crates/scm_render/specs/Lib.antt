@@ -20,3 +20,7 @@ pub mod Bounds
 pub mod Rows
 -- Values that stand on consecutive rows.
 pub mod Lines
+-- What a loop of parts has left to draw.
+pub mod Left
+-- What follows from the definitions for whoever draws.
+pub mod Laws

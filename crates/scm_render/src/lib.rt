@@ -11,6 +11,7 @@ mod centring;
 mod component;
 mod drawing;
 mod filling;
+pub mod laws;
 mod surface;
 mod target;
 mod trace;

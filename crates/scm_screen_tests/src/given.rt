@@ -3,9 +3,7 @@ use scm_record::{
     ChangeType, Commit, Event, File, FileMode, Items, LiveSession, RecordError, RecordState,
     Section, SectionChangedLine, TerminalKind, Text, Turn,
 };
-use scm_state_tests::samples::{
-    ADDED, DEFAULT, REMOVED, binary, changed, commits_of, context, file_of,
-};
+use scm_samples::{ADDED, DEFAULT, REMOVED, binary, changed, commits_of, context, file_of};
 use std::alloc::Global;
 use std::process::Abort;
 

@@ -20,7 +20,7 @@ previous_at list key otherwise (Some (suc i)) = unwrap_or (slice_get list i) key
 abbrev pub next_key : List SelectionKey → SelectionKey → SelectionKey → SelectionKey
 next_key list selection otherwise = next_at list selection otherwise (position (is_key selection) list)
 
--- the key before the selection in the list, the selection if it is the first, another where it isn't there
+-- the previous key of the list, the selection if it is the first, another where it isn't there
 abbrev pub previous_key : List SelectionKey → SelectionKey → SelectionKey → SelectionKey
 previous_key list selection otherwise = previous_at list selection otherwise (position (is_key selection) list)
 

@@ -1,6 +1,7 @@
 //! What the screen shows of the commits, and all that it shows.
-ghost use Rattle.std.specs.Prelude.{◌≡◌, length, IfOk, IfErr};
+ghost use Rattle.std.specs.Prelude.{◌≡◌, length, IfOk, IfErr, IsTrue};
 ghost use Rattle.scm_errors.specs.declared.error.RecordError.TheVariants.{OutOfMemory};
+ghost use Rattle.scm_types.specs.Limits.{is_accepted_state};
 ghost use Rattle.scm_view.specs.AppView.{ShowInOrder, ShowsSession, views_shown};
 ghost use Rattle.scm_view.specs.Shown.{Shows, commit_at};
 
@@ -11,7 +12,7 @@ use scm_types::{Commit, Items, RecordError};
 use scm_view::{AppView, CommitMessageView, CommitView, CommitViewMode, HelpDialog};
 use std::alloc::Global;
 
-impl<'a> Showing<'a> {
+impl<'state> Showing<'state> {
     /// The commit at an index, or one without a message.
     fn commit_at(&self, commit_idx: usize) -> &Commit
         ensures { result.now ≡ commit_at commit_idx self.now.state.commits }
@@ -22,12 +23,13 @@ impl<'a> Showing<'a> {
         }
     }
 
-    /// What is shown of a commit.
+    /// What is shown of a commit. The state has to be within the limits.
     pub fn commit_view(
         &self,
         alloc: Global,
         commit_idx: usize,
     ) -> Result<CommitView<'_>, RecordError>
+        requires { IsTrue (is_accepted_state self.now.state) }
         ensures ok { IfOk result (λ view. Shows view self.now commit_idx) }
         ensures err { IfErr result (λ e. e ≡ OutOfMemory) }
     {
@@ -43,6 +45,7 @@ impl<'a> Showing<'a> {
 
     /// What is shown of the commits.
     fn commit_views(&self, alloc: Global) -> Result<Items<CommitView<'_>>, RecordError>
+        requires { IsTrue (is_accepted_state self.now.state) }
         ensures ok { IfOk result (λ views. ShowInOrder views self.now 0) }
         ensures count { IfOk result (λ views. length views ≡ views_shown self.now.view_mode) }
         ensures err { IfErr result (λ e. e ≡ OutOfMemory) }
@@ -55,8 +58,9 @@ impl<'a> Showing<'a> {
         Ok(Items::from(views))
     }
 
-    /// All that is shown.
+    /// All that is shown. The state has to be within the limits, as [`RecordState::is_accepted`](scm_types::RecordState::is_accepted) says.
     pub fn app_view(&self, alloc: Global) -> Result<AppView<'_>, RecordError>
+        requires { IsTrue (is_accepted_state self.now.state) }
         ensures ok { IfOk result (λ view. ShowsSession view self.now) }
         ensures err { IfErr result (λ e. e ≡ OutOfMemory) }
     {

@@ -30,7 +30,7 @@ fn are_all_expanded(showing: &Showing<'_>, key: FileKey, sections: &[Section<'_>
     true
 }
 
-impl<'a> Showing<'a> {
+impl<'state> Showing<'state> {
     /// The fold of a section.
     pub(crate) fn section_fold(&self, key: SectionKey) -> Tristate
         ensures { result ≡ section_fold self.now key }

@@ -1,7 +1,6 @@
 //! What a session shows, and the boxes that show its marks and folds.
-ghost use Rattle.std.specs.Prelude.{◌≡◌, IsTrue};
+ghost use Rattle.std.specs.Prelude.{◌≡◌};
 ghost use Rattle.scm_types.specs.Keys.{has_key, is_key};
-ghost use Rattle.scm_types.specs.Limits.{is_accepted_state};
 ghost use Rattle.scm_view.specs.Shown.{expand_box_of, toggle_box_of};
 ghost use Rattle.scm_shown.specs.Showing.{shown_alone};
 
@@ -13,16 +12,15 @@ use scm_view::{
 };
 use std::marker::Model;
 
-/// What a session shows: all on which the screen depends but its size and how far it is scrolled. The
-/// state is within the limits, as [`RecordState::is_accepted`] says.
+/// What a session shows: all on which the screen depends but its size and how far it is scrolled.
 #[derive(Drop)]
-pub struct Showing<'a> {
-    /// The state.
-    pub state: &'a RecordState<'a>,
+pub struct Showing<'state> {
+    /// The state, with its current marks and messages.
+    pub state: RecordState<'state>,
     /// What is selected.
     pub selection: SelectionKey,
     /// The files and sections that are unfolded.
-    pub expanded: &'a KeySet,
+    pub expanded: KeySet,
     /// How many commits are shown.
     pub view_mode: CommitViewMode,
     /// The open menu, counted from 0.
@@ -35,37 +33,35 @@ pub struct Showing<'a> {
     pub(crate) empty_commit: Commit,
 }
 
-impl<'a> Model for Showing<'a> {
+impl<'state> Model for Showing<'state> {
     ghost use Rattle.scm_view.specs.Shown.{Shown};
 
     ghost Value = { Shown };
 
     ghost view = { λ s. record {
-      state = s.state.now;
+      state = s.state;
       selection = s.selection;
-      expanded = s.expanded.now;
+      expanded = s.expanded;
       view_mode = s.view_mode;
       open_menu = s.open_menu;
       quit_dialog = s.quit_dialog;
       is_help_open = s.is_help_open;
     } };
 
-    ghost use Rattle.std.specs.Prelude.{◌≡◌, true, None};
-    ghost use Rattle.scm_types.specs.Limits.{is_accepted_state};
+    ghost use Rattle.std.specs.Prelude.{◌≡◌, None};
 
-    ghost invariant = { λ s. (is_accepted_state s.state.now ≡ true) × (s.empty_commit.message ≡ None) };
+    ghost invariant = { λ s. s.empty_commit.message ≡ None };
 }
 
-impl<'a> Showing<'a> {
+impl<'state> Showing<'state> {
     /// What is shown of a state in which these files and sections are unfolded: one commit is shown, and nothing
-    /// is open over it. The state has to be within the limits, as [`RecordState::is_accepted`] says.
+    /// is open over it.
     pub fn new(
-        state: &'a RecordState<'a>,
+        state: RecordState<'state>,
         selection: SelectionKey,
-        expanded: &'a KeySet,
-    ) -> Showing<'a>
-        requires { IsTrue (is_accepted_state state.now) }
-        ensures { result ≡ shown_alone state.now selection expanded.now }
+        expanded: KeySet,
+    ) -> Showing<'state>
+        ensures { result ≡ shown_alone state.entry selection expanded }
     {
         Showing {
             state,

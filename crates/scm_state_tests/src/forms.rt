@@ -1,5 +1,5 @@
 //! What the derives of `serde` read and write: each form of a state in JSON, and forms that are refused.
-use crate::samples::{ADDED, DEFAULT, Line, REMOVED, changed, commits_of, context, file_of, owned};
+use scm_samples::{ADDED, DEFAULT, Line, REMOVED, changed, commits_of, context, file_of, owned};
 use scm_types::{
     ChangeType, Commit, File, FileMode, Items, OwnedText, RecordError, RecordState, Section,
     SectionChangedLine, Text,

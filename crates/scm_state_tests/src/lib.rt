@@ -1,8 +1,7 @@
-//! Tests of the state's JSON and of its memory, in a crate of their own, and sample states.
+//! Tests of the state's JSON and of its memory, in a crate of their own.
 #![tactic(auto)]
 
 #[cfg(test)]
 mod forms;
 #[cfg(test)]
 mod memory;
-pub mod samples;

@@ -1,21 +1,13 @@
 //! Memory, of which no contract can say that it is asked for only where it is needed: calls that take it answer with ample
-//! memory, however small or large their arguments are, and the other calls succeed where every request is refused.
-use crate::samples::{ADDED, DEFAULT, binary, changed, context, file_of, owned};
+//! memory, however small or large their arguments are, and the other calls succeed where a request is refused. `tools/refuse-memory`
+//! runs the tests that are named for refused memory with each of their requests refused.
+use scm_samples::{ADDED, DEFAULT, binary, changed, context, file_of, owned, text_of};
 use scm_types::{
     Commit, File, FileMode, IsizeExt, RecordError, RecordState, Section, Text, Tristate, UsizeExt,
     make_binary_description,
 };
-use std::alloc::{AllocError, Global};
+use std::alloc::Global;
 use std::process::Abort;
-
-/// A text of so many bytes.
-fn text_of(alloc: Global, count: usize) -> Result<Text<'static>, AllocError> {
-    let mut text = String::new(alloc);
-    for _ in 0..count {
-        text.push('a')?;
-    }
-    Ok(Text::from(text))
-}
 
 /// Describes bytes by a text and a number of one digit.
 fn check_description(rt: &impl Abort, alloc: Global, text: &str) -> Result<(), RecordError> {
@@ -42,7 +34,7 @@ fn check_commit(rt: &impl Abort, alloc: Global, message: &str) -> Result<(), Rec
 
 /// Copies a text of so many bytes, and what holds it.
 fn check_texts(rt: &impl Abort, alloc: Global, count: usize) -> Result<(), RecordError> {
-    let text = text_of(alloc, count)?;
+    let text = Text::from(text_of(alloc, count)?);
     check_description(rt, alloc, text.as_str())?;
     check_text(rt, alloc, &text)?;
     check_commit(rt, alloc, text.as_str())
@@ -127,14 +119,34 @@ fn check_numbers(rt: &impl Abort) {
     assert_eq!(rt; IsizeExt::clamp_into_usize(-1), 0);
 }
 
+/// Copies a state: the copy equals it, or memory is refused.
+fn check_copy(
+    rt: &impl Abort,
+    alloc: Global,
+    state: &RecordState<'_>,
+    same: &RecordState<'_>,
+) -> Result<(), RecordError> {
+    let outcome = state.try_clone(alloc);
+    assert!(rt; state == same);
+    assert!(rt; outcome? == *same);
+    Ok(())
+}
+
 #[test]
-fn calls_without_memory_succeed_where_it_is_refused(rt: HostRuntime) {
+fn refused_memory_keeps_states(rt: HostRuntime) -> Result<(), RecordError> {
+    let alloc = rt.alloc();
+    let state = marked_state(alloc)?;
+    check_copy(&rt, alloc, &state, &marked_state(alloc)?)
+}
+
+#[test]
+fn refused_memory_stops_no_call_that_takes_none(rt: HostRuntime) -> Result<(), RecordError> {
     let alloc = rt.alloc();
     check_empty(&rt, alloc);
     check_modes(&rt);
     check_numbers(&rt);
     assert_eq!(rt; Tristate::from(true), Tristate::True);
-    if let Ok(mut state) = marked_state(alloc) {
-        check_state(&rt, &mut state);
-    }
+    let mut state = marked_state(alloc)?;
+    check_state(&rt, &mut state);
+    Ok(())
 }

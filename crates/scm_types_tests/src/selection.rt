@@ -1,4 +1,5 @@
 //! Lists and sets of keys, moves among them, toggles and counts, on a file of one section of two lines and some more.
+use scm_samples::{ADDED, Held, commits_of, file_holding, file_with};
 use scm_selection::key_lists::{
     all_keys, file_key, first_key, line_key, section_key, section_keys, visible_keys,
 };
@@ -8,7 +9,6 @@ use scm_selection::steps::{
     first_inside, is_among_visible, next_of_kind, next_visible, previous_of_kind, previous_visible,
 };
 use scm_selection::{counts, toggles};
-use scm_state_tests::samples::{ADDED, Held, commits_of, file_holding, file_with};
 use scm_types::{File, FileKey, Items, RecordError, RecordState, SelectionKey, Tristate};
 use std::alloc::Global;
 use std::process::Abort;

@@ -1,5 +1,5 @@
 //! Marks, splits, limits, errors, lists and texts, by the project's values.
-use scm_state_tests::samples::{
+use scm_samples::{
     ADDED, DEFAULT, HELD, Line, REMOVED, binary, changed, context, deletion, file_holding, file_of,
     file_with, owned,
 };
@@ -382,24 +382,42 @@ fn half_removed(alloc: Global, is_checked: bool) -> Result<File<'static>, Record
     Ok(file_of(DEFAULT, vec![in alloc; lines, deletion]?))
 }
 
+/// Repairs a file.
+fn check_repaired(rt: &impl Abort, mut file: File<'static>, wanted: &File<'_>) {
+    file.repair();
+    assert!(rt; file == *wanted);
+}
+
+/// Repairs a file of which a part is removed, and that is deleted or not.
+fn check_half_removed(rt: &impl Abort, alloc: Global, is_deleted: bool) -> Result<(), RecordError> {
+    let file = half_removed(alloc, is_deleted)?;
+    check_repaired(rt, file, &half_removed(alloc, false)?);
+    Ok(())
+}
+
+/// Repairs a new file of these lines, which are there if it is checked that it is made.
+fn check_made(
+    rt: &impl Abort,
+    alloc: Global,
+    lines: &'static [Line],
+    is_created: bool,
+) -> Result<(), RecordError> {
+    let file = new_file(alloc, lines, is_created)?;
+    check_repaired(rt, file, &new_file(alloc, lines, true)?);
+    Ok(())
+}
+
+#[test]
+fn files_are_made_to_fit(rt: HostRuntime) -> Result<(), RecordError> {
+    check_half_removed(&rt, rt.alloc(), true)?;
+    check_half_removed(&rt, rt.alloc(), false)?;
+    check_made(&rt, rt.alloc(), &CHECKED, false)?;
+    check_made(&rt, rt.alloc(), &UNCHECKED, true)
+}
+
 #[test]
 fn marks_are_made_to_fit(rt: HostRuntime) -> Result<(), RecordError> {
     let alloc = rt.alloc();
-    for (mut file, wanted) in [
-        (half_removed(alloc, true)?, half_removed(alloc, false)?),
-        (half_removed(alloc, false)?, half_removed(alloc, false)?),
-        (
-            new_file(alloc, &CHECKED, false)?,
-            new_file(alloc, &CHECKED, true)?,
-        ),
-        (
-            new_file(alloc, &UNCHECKED, true)?,
-            new_file(alloc, &UNCHECKED, true)?,
-        ),
-    ] {
-        file.repair();
-        assert!(rt; file == wanted);
-    }
     let mut file = half_removed(alloc, true)?;
     uncheck_deletions(file.sections.as_mut_slice());
     assert!(rt; file == half_removed(alloc, false)?);

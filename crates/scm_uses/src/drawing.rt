@@ -13,20 +13,19 @@ use std::alloc::Global;
 /// of the document on, with nothing selected.
 pub fn screen_of(
     alloc: Global,
-    state: &RecordState<'_>,
+    state: RecordState<'_>,
     width: u16,
     height: u16,
     scroll: usize,
 ) -> Result<Grid, RecordError>
-    requires accepted { IsTrue (is_accepted_state state.now) }
+    requires accepted { IsTrue (is_accepted_state state) }
     requires wide { 10 ≤ width }
     requires high { 2 ≤ height }
     requires scroll { scroll ≤ max_scroll }
-    ensures ok { IfOk result (λ grid. grid.rows ≡ window width height scroll (shown_alone state.now keys.None [])) }
+    ensures ok { IfOk result (λ grid. grid.rows ≡ window width height scroll (shown_alone state.entry keys.None [])) }
     ensures err { IfErr result (λ error. error ≡ OutOfMemory) }
 {
-    let folded = KeySet::new(alloc);
-    let showing = Showing::new(state, SelectionKey::None, &folded);
+    let showing = Showing::new(state, SelectionKey::None, KeySet::new(alloc));
     let view = showing.app_view(alloc)?;
     let mut grid = Grid::new(alloc, width, height)?;
     view.paint(alloc, &mut grid, scroll)?;

@@ -42,6 +42,8 @@ pub fn selected_side<'a>(
     Ok(selected)
 }
 
+#[cfg(test)]
+mod caller_tests;
 pub mod drawing;
 pub mod input;
 pub mod live;

@@ -1,23 +1,26 @@
 -- What each component draws alone is in range.
-use Rattle.std.proofs.Common.{◌≡◌, ℕ, zero, suc, ◌+◌, ◌*◌, ◌≤◌, ◌^◌, ℤ, pos, neg_ℤ, ◌+ℤ◌, ◌≤ℤ◌, Bool, true, false, List, [], ◌∷◌, ◌++◌, length, length-append, map, refl, arith}
-use Rattle.std.specs.Prelude.{◌&&◌, if◌then◌else◌, nat_le, sum_by, codes, Option, Some, None}
+use Rattle.std.proofs.Common.{◌≡◌, ℕ, zero, suc, ◌+◌, ◌-◌, ◌*◌, ◌/◌, ◌≤◌, ◌^◌, ℤ, pos, ◌+ℤ◌, Bool, true, false, List, [], ◌∷◌, ◌++◌, length, length-append, map, take, refl, arith}
+use Rattle.std.specs.Int.{int_min, int_max}
+use Rattle.scm_cells.specs.Rect.{end_x_of}
+use Rattle.std.specs.Prelude.{min, ◌&&◌, if◌then◌else◌, nat_le, sum_by, codes, Option, Some, None}
 use Rattle.std.specs.List.{list_all}
+use Rattle.std.proofs.Math.Nat.{div-le_self}
+use Rattle.std.proofs.lemmas.List.{length-take}
 use Rattle.std.proofs.lemmas.List.Sums.{sum_by-cons}
 use Rattle.scm_types.specs.Limits.{is_short_text, is_short_option, has_short_texts, section_size}
 use Rattle.scm_cells.specs.Clusters.{text_width}
 use Rattle.scm_cells.proofs.BoundLemmas.{text_width-le}
 use Rattle.scm_cells.proofs.RectLemmas.{places}
-use Rattle.scm_render.specs.Canvas.{Sight}
-use Rattle.scm_render.specs.Picture.{PictureInRange}
+use Rattle.scm_render.specs.Canvas.{Sight, under}
+use Rattle.scm_render.specs.Picture.{PictureInRange, box_rect}
 use Rattle.scm_render.specs.Drawing.{span_picture}
-use Rattle.scm_render.proofs.PictureLemmas.{PictureInRange-as_part}
+use Rattle.scm_render.proofs.PictureLemmas.{PictureInRange-nothing, PictureInRange-followed, PictureInRange-as_part}
 use Rattle.scm_view.specs.declared.ids.ComponentId.{ComponentId}
 use Rattle.scm_view.specs.declared.ids.ComponentId.TheVariants as ids
 use Rattle.scm_view.specs.declared.button.Button.{Button}
 use Rattle.scm_view.specs.declared.menu.MenuItem.{MenuItem}
 use Rattle.scm_view.specs.declared.menu.Menu.{Menu}
 use Rattle.scm_view.specs.declared.menu_bar.MenuBar.{MenuBar}
-use Rattle.scm_view.specs.declared.dialog.Dialog.{Dialog}
 use Rattle.scm_view.specs.declared.quit_dialog.QuitDialog.{QuitDialog}
 use Rattle.scm_view.specs.declared.file_view_header.FileViewHeader.{FileViewHeader}
 use Rattle.scm_view.specs.declared.section_line_view.SectionLineViewInner.{SectionLineViewInner}
@@ -25,8 +28,14 @@ use Rattle.scm_view.specs.declared.section_line_view.SectionLineViewInner.TheVar
 use Rattle.scm_view.specs.declared.section_view.SectionView.{SectionView}
 use Rattle.scm_view.specs.declared.file_view.FileView.{FileView}
 use Rattle.scm_view.specs.declared.commit_view.CommitView.{CommitView}
+use Rattle.scm_view.specs.declared.commit_view.CommitViewMode.{CommitViewMode}
+use Rattle.scm_view.specs.declared.commit_view.CommitViewMode.TheVariants.{Inline, Adjacent}
+use Rattle.scm_view.specs.declared.app_view.AppView.{AppView}
+use Rattle.scm_view.specs.Overlays.{quit_picture, help_picture}
+use Rattle.scm_view.specs.AppView.{views_shown, view_width, shown_views, view_mask, view_picture, next_view, views_picture, has_help, app_picture}
+use Rattle.scm_view.proofs.AppLemmas.{apply-columns}
 use Rattle.scm_view.specs.Texts.{box_text, button_text, number_text, sign_text}
-use Rattle.scm_view.specs.Rows.{IdBox, ShownSection, line_texts, lent_text, header_heading, rows_of, section_rows, is_shown, is_open, is_first_open, is_fold_open, shown_section, shown_sections, sections_rows, shown_file, file_rows, document_of}
+use Rattle.scm_view.specs.Rows.{IdBox, line_texts, lent_text, header_heading, rows_of, section_rows, is_shown, is_open, is_first_open, is_fold_open, shown_section, shown_sections, sections_rows, shown_file, file_rows, document_of}
 use Rattle.scm_view.specs.FilesRows.{files_rows}
 use Rattle.scm_view.specs.Pictures.{box_picture, button_picture, header_picture, inner_picture, line_picture, section_picture, file_picture, message_picture, commit_message_picture, commit_picture}
 use Rattle.scm_view.specs.Buttons.{button_width}
@@ -34,7 +43,7 @@ use Rattle.scm_view.specs.Menus.{header_button, item_button, header_step, header
 use Rattle.scm_view.specs.Dialogs.{shown_dialog}
 use Rattle.scm_view.specs.Tables.{quit_dialog, help_dialog, named_dialog_picture}
 use Rattle.scm_view.specs.Here.{IsHere, RectIsHere, SightIsHere}
-use Rattle.scm_view.specs.ComponentRanges.{text_of_line, IsShortSection, IsShortFile, AreShortFiles, IsShortCommit, is_short_item, is_short_menu, is_short_bar, is_short_button, are_short_buttons, ComponentsAreInRange}
+use Rattle.scm_view.specs.ComponentRanges.{text_of_line, IsShortSection, IsShortFile, AreShortFiles, IsShortCommit, AreShortCommits, IsShortApp, AppIsHere, is_short_item, is_short_menu, is_short_bar, is_short_button, are_short_buttons, ComponentsAreInRange}
 use Rattle.scm_view.proofs.Near.{IsNear, SightIsNear, AreNarrowSections, IsNarrowFile, AreNarrowFiles}
 use Rattle.scm_view.proofs.Ranges.{button_columns}
 use Rattle.scm_view.proofs.NearLemmas.{heading-in, changed-in, context-in, rows-near, file-near, message-near, document-near}
@@ -239,6 +248,65 @@ help-here : (s : Sight) → RectIsHere s.rect → PictureInRange (named_dialog_p
 unfolding named_dialog_picture
 help-here s r = PictureInRange-as_part ids.HelpDialog _ (dialog-here help_dialog s r (omega (arith, short_help)))
 
+-- ---- all that the selector shows
+
+few-views : (mode : CommitViewMode) (vs : List CommitView) → length (take (views_shown mode) vs) ≤ 2
+few-views Inline vs = omega (arith, length-take 1 vs)
+few-views Adjacent vs = omega (arith, length-take 2 vs)
+
+held-here : (x a e : ℤ) → IsHere x → IsHere a → IsHere e → IsHere (int_min (int_max x a) e)
+held-here x a e p q r = record { low = omega (arith, places, p.low, q.low, r.low); high = omega (arith, places, r.high) }
+
+first-row : IsHere (pos 1)
+first-row = record { low = omega (arith, places); high = omega (arith, places) }
+
+-- a view under its mask
+view-here : (v : CommitView) (s : Sight) (x : ℤ) (n : ℕ) → RectIsHere s.rect → IsHere (s.rect.y +ℤ pos 1) → IsHere x → IsShortCommit v → PictureInRange (view_picture v s x n)
+view-here v s x n r b p h =
+    commit-here v (under (view_mask s x n) s) x (pos 1) (record { x = r.x; end_x = r.end_x; mask_x = held-here x s.rect.x (end_x_of s.rect) p r.x r.end_x; mask_y = b }) p first-row h
+
+next-here : (x : ℤ) (k n w : ℕ) → IsHere x → IsHere ((x +ℤ pos w) +ℤ pos 1) → n ≤ w → k ≤ n → IsHere ((x +ℤ pos k) +ℤ pos 1)
+next-here x k n w p q h l = record { low = omega (arith, places, p.low); high = omega (arith, places, q.high, h, l) }
+
+two-views : (vs : List CommitView) (s : Sight) (x : ℤ) (n : ℕ) → length vs ≤ 2 → AreShortCommits vs → n ≤ s.rect.width → AppIsHere s x → PictureInRange (views_picture vs n s x)
+unfolding views_picture
+two-views [] s x n l h w p = PictureInRange-nothing
+two-views (v ∷ []) s x n l h w p = PictureInRange-followed _ _ (PictureInRange-as_part ids.AppFiles _ (view-here v s x n p.rect p.below p.first h.0)) PictureInRange-nothing
+two-views (v ∷ (u ∷ [])) s x n l h w p =
+    let columns = apply-columns (view_mask s x n) (box_rect (view_picture v s x n)) _ refl in
+    let second = next-here x _ n s.rect.width p.first p.second w (omega (arith, columns)) in
+    PictureInRange-followed _ _ (PictureInRange-as_part ids.AppFiles _ (view-here v s x n p.rect p.below p.first h.0))
+    (PictureInRange-followed _ _ (PictureInRange-as_part ids.AppFiles _ (view-here u s (next_view v s x n) n p.rect p.below second h.1.0)) PictureInRange-nothing)
+two-views (v ∷ (u ∷ (t ∷ vs))) s x n l h w p = absurd (omega (arith, l))
+
+commits-taken : (k : ℕ) (vs : List CommitView) → AreShortCommits vs → AreShortCommits (take k vs)
+commits-taken zero vs h = tt
+commits-taken (suc k) [] h = tt
+commits-taken (suc k) (v ∷ vs) h = (h.0, commits-taken k vs h.1)
+
+least-width : (w n : ℕ) → n ≤ w - 1 → min 120 n ≤ w
+least-width w n h = omega (arith, h)
+
+narrow-view : (mode : CommitViewMode) (w : ℕ) → view_width mode w ≤ w
+narrow-view Inline w = omega arith
+narrow-view Adjacent w = least-width w ((w - 1) / 2) (div-le_self (w - 1) 2)
+
+asked-here : (q : Option QuitDialog) (s : Sight) → RectIsHere s.rect → PictureInRange (quit_picture q s)
+asked-here None s r = PictureInRange-nothing
+asked-here (Some q) s r = PictureInRange-as_part ids.QuitDialog _ (quit-here q s r)
+
+helped-here : (is_shown : Bool) (s : Sight) → RectIsHere s.rect → PictureInRange (help_picture is_shown s)
+helped-here false s r = PictureInRange-nothing
+helped-here true s r = PictureInRange-as_part ids.HelpDialog _ (help-here s r)
+
+app-here : (a : AppView) (s : Sight) (x y : ℤ) → AppIsHere s x → IsShortApp a → PictureInRange (app_picture a s x y)
+unfolding app_picture
+app-here a s x y p h =
+    PictureInRange-followed _ _
+    (two-views (shown_views a) s x (view_width a.commit_view_mode s.rect.width) (few-views a.commit_view_mode a.commit_views) (commits-taken (views_shown a.commit_view_mode) a.commit_views h.commits) (narrow-view a.commit_view_mode s.rect.width) p)
+    (PictureInRange-followed _ _ (PictureInRange-as_part ids.MenuBar _ (bar-in a.menu_bar s x s.rect.y p.rect p.first p.rect.y h.menu_bar))
+    (PictureInRange-followed _ _ (asked-here a.quit_dialog s p.rect) (helped-here (has_help a.help_dialog) s p.rect)))
+
 -- ---- all of them
 
 pub components-in : ComponentsAreInRange
@@ -257,4 +325,5 @@ components-in = record {
   dialogs = λ d s r h. dialog-here (shown_dialog d) s r (buttons-few d.buttons.now h);
   quit_dialogs = quit-here;
   help_dialogs = help-here;
+  apps = app-here;
 }

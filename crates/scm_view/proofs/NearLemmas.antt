@@ -3,7 +3,6 @@ use Rattle.std.proofs.Common.{◌≡◌, ℕ, ◌+◌, ◌≤◌, ◌^◌, Bool,
 use Rattle.std.specs.Int.{int_min, int_max}
 use Rattle.std.specs.Prelude.{int_lt, min, ◌==◌, Option, Some, None}
 use Rattle.std.specs.Char.{encode_utf8}
-use Rattle.scm_types.proofs.LimitLemmas.{scroll_room}
 use Rattle.scm_cells.proofs.BoundLemmas.{text_width-le}
 use Rattle.scm_render.specs.Centring.{centred, centred_gap}
 use Rattle.scm_cells.specs.Clusters.{text_width}

@@ -1,7 +1,7 @@
 -- What menus and dialogs draw is in range.
 use Rattle.std.proofs.Common.{◌≡◌, ℕ, suc, ◌+◌, ◌≤◌, ◌^◌, List, [], ◌∷◌, length, refl, arith}
 use Rattle.std.specs.Prelude.{ℤ, pos, neg_ℤ, ◌+ℤ◌, ◌-ℤ◌, ◌≤ℤ◌, Option, Some, None}
-use Rattle.scm_cells.specs.Rect.{RectInRange, InRange}
+use Rattle.scm_cells.specs.Rect.{RectInRange}
 use Rattle.scm_cells.specs.declared.rect.Rect.{Rect}
 use Rattle.scm_cells.proofs.RectLemmas.{places}
 use Rattle.scm_render.specs.Picture.{PictureInRange}

@@ -1,6 +1,6 @@
 -- What each component draws alone is in range, wherever it is drawn: off the screen too, and under a mask. This is the condition of
 -- its `draw`. The places are not far from the document's corner, the texts are within the limit of a state's, and the parts not too many.
-use Rattle.std.specs.Prelude.{◌≡◌, ℕ, ◌+◌, ◌≤◌, ◌^◌, ℤ, List, [], ◌∷◌, length, sum_by, Bool, true, ◌&&◌, nat_le}
+use Rattle.std.specs.Prelude.{◌≡◌, ℕ, ◌+◌, ◌≤◌, ◌^◌, ℤ, pos, ◌+ℤ◌, List, [], ◌∷◌, length, sum_by, Bool, true, ◌&&◌, nat_le}
 use Rattle.std.specs.List.{list_all}
 use Rattle.scm_types.specs.Limits.{is_short_text, is_short_option, has_short_texts, section_size}
 use Rattle.scm_render.specs.Canvas.{Sight}
@@ -20,12 +20,14 @@ use Rattle.scm_view.specs.declared.section_view.SectionView.{SectionView}
 use Rattle.scm_view.specs.declared.file_view.FileView.{FileView}
 use Rattle.scm_view.specs.declared.commit_message_view.CommitMessageView.{CommitMessageView}
 use Rattle.scm_view.specs.declared.commit_view.CommitView.{CommitView}
+use Rattle.scm_view.specs.declared.app_view.AppView.{AppView}
 use Rattle.scm_view.specs.Here.{IsHere, RectIsHere, SightIsHere}
 use Rattle.scm_view.specs.Rows.{IdBox, lent_text}
 use Rattle.scm_view.specs.Pictures.{box_picture, button_picture, header_picture, line_picture, section_picture, file_picture, commit_message_picture, commit_picture}
 use Rattle.scm_view.specs.Menus.{menu_picture, menu_bar_picture}
 use Rattle.scm_view.specs.Dialogs.{shown_dialog, dialog_picture}
 use Rattle.scm_view.specs.Tables.{quit_dialog, help_dialog, named_dialog_picture}
+use Rattle.scm_view.specs.AppView.{app_picture}
 
 -- ---- views of short texts
 
@@ -76,6 +78,24 @@ is_short_button b = is_short_text b.label
 abbrev pub are_short_buttons : List (Button ComponentId) → Bool
 are_short_buttons bs = nat_le (length bs) 1000 && list_all is_short_button bs
 
+-- ---- all that the selector shows
+
+abbrev pub AreShortCommits : List CommitView → Type 0
+AreShortCommits [] = Unit {0}
+AreShortCommits (v ∷ vs) = IsShortCommit v × AreShortCommits vs
+
+-- the bar and the commits of the view are short
+pub record IsShortApp (a : AppView) : Type 0 where
+  pub menu_bar : is_short_bar a.menu_bar ≡ true
+  pub commits : AreShortCommits a.commit_views
+
+-- the screen, the row below its first one, the view's first column, and where a second commit may begin at most
+pub record AppIsHere (s : Sight) (x : ℤ) : Type 0 where
+  pub rect : RectIsHere s.rect
+  pub below : IsHere (s.rect.y +ℤ pos 1)
+  pub first : IsHere x
+  pub second : IsHere ((x +ℤ pos s.rect.width) +ℤ pos 1)
+
 -- ---- the law
 
 pub record ComponentsAreInRange : Type 0 where
@@ -94,3 +114,4 @@ pub record ComponentsAreInRange : Type 0 where
   pub dialogs : (d : Dialog ComponentId) (s : Sight) → RectIsHere s.rect → are_short_buttons d.buttons.now ≡ true → PictureInRange (dialog_picture (shown_dialog d) s)
   pub quit_dialogs : (q : QuitDialog) (s : Sight) → RectIsHere s.rect → PictureInRange (named_dialog_picture (quit_dialog q) s)
   pub help_dialogs : (s : Sight) → RectIsHere s.rect → PictureInRange (named_dialog_picture help_dialog s)
+  pub apps : (a : AppView) (s : Sight) (x y : ℤ) → AppIsHere s x → IsShortApp a → PictureInRange (app_picture a s x y)

@@ -13,7 +13,7 @@ use Rattle.scm_view.specs.declared.ids.ComponentId.TheVariants as ids
 use Rattle.scm_view.specs.declared.app_view.AppView.{AppView}
 use Rattle.scm_view.specs.declared.commit_view.CommitViewMode.TheVariants.{Inline}
 use Rattle.scm_types.specs.Keys.{is_key}
-use Rattle.scm_types.specs.Limits.{is_accepted_state}
+use Rattle.scm_types.specs.Limits.{is_accepted_state, max_scroll}
 use Rattle.scm_view.specs.Rows.{Document, document_of}
 use Rattle.scm_view.specs.Shown.{Shown, commit_view_of}
 use Rattle.scm_view.specs.Blanks.{blank_row}
@@ -94,9 +94,12 @@ pub record IsPlain (a : AppView) (shown : Shown) (w h : ℕ) : Type 0 where
   pub width : w ≤ 65535
   pub height : h ≤ 65535
 
--- and the session is an accepted one
-abbrev pub ShowsInline : AppView → ℕ → ℕ → Type 0
-ShowsInline a w h = (shown : Shown) × (is_accepted_state shown.state ≡ true) × IsPlain a shown w h
+-- the view shows an accepted session so, from a row of the document on that is within the bound of a scroll
+pub record ShowsInline (a : AppView) (w h s : ℕ) : Type 0 where
+  pub shown : Shown
+  pub accepted : is_accepted_state shown.state ≡ true
+  pub plain : IsPlain a shown w h
+  pub scroll : s ≤ max_scroll
 
 -- the first row of a box, and how many rows it has
 abbrev pub rows_of_box : Rect → ℕ × ℕ

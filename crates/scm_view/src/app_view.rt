@@ -1,6 +1,5 @@
 //! All that the selector shows.
 ghost use Rattle.std.specs.Prelude.{◌≡◌, ◌≤◌, ℤ, pos, ◌+ℤ◌, OnOk, IfOk, IfErr, take, length};
-ghost use Rattle.scm_types.specs.Limits.{max_scroll};
 ghost use Rattle.scm_cells.specs.Rect.{InRange, RectInRange, end_x_of};
 ghost use Rattle.scm_cells.specs.Mask.{MaskInRange};
 ghost use Rattle.scm_render.specs.Picture.{PictureInRange, part};
@@ -260,8 +259,7 @@ impl<'a> AppView<'a> {
     /// what is on the screen, with few rows and calls. Where memory is refused the grid keeps its size.
     #[tactic(auto, using(scm_types::proofs::LimitLemmas::scroll_room))]
     pub fn paint(&self, alloc: Global, grid: &mut Grid, scroll: usize) -> Result<(), RecordError>
-        requires shows { ShowsInline self.now grid.old.width (length grid.old.rows) }
-        requires scroll { scroll ≤ max_scroll }
+        requires shows { ShowsInline self.now grid.old.width (length grid.old.rows) scroll }
         ensures ok { OnOk result ((shown : Shown) → IsPlain self.now shown grid.old.width (length grid.old.rows) →
             grid.new.rows ≡ window grid.old.width (length grid.old.rows) scroll shown) }
         ensures few { OnOk result (IsFew (length grid.old.rows) grid.new.counts) }

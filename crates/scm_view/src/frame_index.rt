@@ -125,8 +125,7 @@ impl FrameIndex {
         height: u16,
         scroll: usize,
     ) -> Result<FrameIndex, RecordError>
-        requires shows { ShowsInline view.now width height }
-        requires scroll { scroll ≤ max_scroll }
+        requires shows { ShowsInline view.now width height scroll }
         ensures ok { IfOk result (λ index. (shown : Shown) → IsPlain view.now shown width height → IsIndexOf width height scroll shown index) }
         ensures err { IfErr result (λ e. e ≡ OutOfMemory) }
     {

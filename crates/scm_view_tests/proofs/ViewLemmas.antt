@@ -8,8 +8,8 @@ use Rattle.scm_types.specs.Limits.{has_short_texts, is_short_option, section_siz
 use Rattle.scm_view.specs.declared.section_view.SectionView.{SectionView}
 use Rattle.scm_view.specs.declared.file_view.FileView.{FileView}
 use Rattle.scm_view.specs.declared.commit_view.CommitView.{CommitView}
-use Rattle.scm_view.specs.ComponentRanges.{IsShortSection, IsShortFile, AreShortFiles, IsShortCommit}
-use Rattle.scm_view_tests.specs.Small.{IsSmallSection, AreSmallSections, IsSmallFile, AreSmallFiles, IsSmallCommit}
+use Rattle.scm_view.specs.ComponentRanges.{IsShortSection, IsShortFile, AreShortFiles, IsShortCommit, AreShortCommits}
+use Rattle.scm_view_tests.specs.Small.{IsSmallSection, AreSmallSections, IsSmallFile, AreSmallFiles, IsSmallCommit, AreSmallCommits}
 
 -- ---- lists that are gone through
 
@@ -24,6 +24,12 @@ files-more vs i d h k l = rw (drop-cons vs i d h) (k, rw add-one at l)
 
 pub files-end : (vs : List FileView) (i : ℕ) → length vs ≤ i → AreSmallFiles (drop i vs)
 files-end vs i h = rw (drop_all i vs h) tt
+
+pub commits-more : (vs : List CommitView) (i : ℕ) (d : CommitView) → i < length vs → IsSmallCommit (get_or vs i d) → AreSmallCommits (drop (i + 1) vs) → AreSmallCommits (drop i vs)
+commits-more vs i d h k l = rw (drop-cons vs i d h) (k, rw add-one at l)
+
+pub commits-end : (vs : List CommitView) (i : ℕ) → length vs ≤ i → AreSmallCommits (drop i vs)
+commits-end vs i h = rw (drop_all i vs h) tt
 
 -- ---- small views are short
 
@@ -53,3 +59,7 @@ short-files (v ∷ vs) h = (short-file v h.0, short-files vs h.1)
 
 pub short-commit : (v : CommitView) → IsSmallCommit v → IsShortCommit v
 short-commit v h = record { message = rw h.message refl; files = short-files v.file_views h.files; count = omega (arith, h.count) }
+
+pub short-commits : (vs : List CommitView) → AreSmallCommits vs → AreShortCommits vs
+short-commits [] h = tt
+short-commits (v ∷ vs) h = (short-commit v h.0, short-commits vs h.1)

@@ -29,3 +29,7 @@ pub record IsSmallCommit (v : CommitView) : Type 0 where
   pub message : v.commit_message_view.commit.now.message ≡ None
   pub files : AreSmallFiles v.file_views
   pub count : length v.file_views ≤ 1000
+
+abbrev pub AreSmallCommits : List CommitView → Type 0
+AreSmallCommits [] = Unit {0}
+AreSmallCommits (v ∷ vs) = IsSmallCommit v × AreSmallCommits vs

@@ -18,10 +18,10 @@ use std::alloc::Global;
 use std::process::Abort;
 
 /// Where a component is drawn: the mask's first column and how many columns it lets through, and the component's column and row.
-type Place = (isize, usize, isize, isize);
+pub(crate) type Place = (isize, usize, isize, isize);
 
 /// A viewport on 20 columns and 3 rows, under a mask of so many columns from one on.
-fn viewport_under(
+pub(crate) fn viewport_under(
     rt: &impl Abort,
     alloc: Global,
     left: isize,
@@ -49,7 +49,7 @@ fn viewport_under(
 }
 
 /// Checks that a place is near the document's corner: at most 1000 columns or rows away.
-fn check_near(rt: &impl Abort, place: isize)
+pub(crate) fn check_near(rt: &impl Abort, place: isize)
     ensures { IsAtCorner place }
 {
     assert!(rt; -1000 <= place);
@@ -57,7 +57,7 @@ fn check_near(rt: &impl Abort, place: isize)
 }
 
 /// Checks that what the viewport shows is near the document's corner, and its mask too.
-fn check_sight(rt: &impl Abort, viewport: &Viewport<ComponentId>)
+pub(crate) fn check_sight(rt: &impl Abort, viewport: &Viewport<ComponentId>)
     ensures { SightIsAtCorner viewport.now.canvas.sight }
 {
     let shown = viewport.rect();
@@ -71,7 +71,7 @@ fn check_sight(rt: &impl Abort, viewport: &Viewport<ComponentId>)
 }
 
 /// Checks what stands on the rows of the viewport's screen, and how many rows and calls were counted.
-fn check_drawing(
+pub(crate) fn check_drawing(
     rt: &impl Abort,
     alloc: Global,
     viewport: Viewport<ComponentId>,
@@ -98,6 +98,7 @@ fn draw_button(
     check_near(rt, y);
     assert!(rt; button.label.len() <= 1_000_000);
     laws::components_are_in_range();
+    scm_render::laws::parts_are_in_range::<ComponentId>();
     let _ = viewport.draw_component(x, y, button)?;
     Ok(())
 }
@@ -177,6 +178,7 @@ fn draw_line(
     check_near(rt, y);
     assert!(rt; line.len() <= 1_000_000);
     laws::components_are_in_range();
+    scm_render::laws::parts_are_in_range::<ComponentId>();
     let _ = viewport.draw_component(x, y, &view)?;
     Ok(())
 }
@@ -232,7 +234,7 @@ fn is_short_menu(menu: &Menu<'_>) -> bool
 }
 
 /// The menus are short.
-fn has_short_menus(menus: &[Menu<'_>]) -> bool
+pub(crate) fn has_short_menus(menus: &[Menu<'_>]) -> bool
     ensures { result ≡ list_all is_short_menu menus.now }
 {
     menus.iter().all(|menu| is_short_menu(menu))
@@ -268,6 +270,7 @@ fn draw_menu(
     check_near(rt, y);
     assert!(rt; is_short_menu(menu));
     laws::components_are_in_range();
+    scm_render::laws::parts_are_in_range::<ComponentId>();
     let _ = viewport.draw_component(x, y, menu)?;
     Ok(())
 }
@@ -331,6 +334,7 @@ fn draw_bar(
     assert!(rt; bar.menus.len() <= 1000);
     assert!(rt; has_short_menus(bar.menus.as_slice()));
     laws::components_are_in_range();
+    scm_render::laws::parts_are_in_range::<ComponentId>();
     let _ = viewport.draw_component(x, y, bar)?;
     Ok(())
 }
@@ -402,6 +406,7 @@ fn draw_dialog(
     check_sight(rt, viewport);
     assert!(rt; are_short_buttons(dialog.buttons));
     laws::components_are_in_range();
+    scm_render::laws::parts_are_in_range::<ComponentId>();
     let _ = viewport.draw_component(0, 0, dialog)?;
     Ok(())
 }
@@ -414,6 +419,7 @@ fn draw_quit(
 ) -> Result<(), RecordError> {
     check_sight(rt, viewport);
     laws::components_are_in_range();
+    scm_render::laws::parts_are_in_range::<ComponentId>();
     let _ = viewport.draw_component(0, 0, dialog)?;
     Ok(())
 }
@@ -426,6 +432,7 @@ fn draw_help(
 ) -> Result<(), RecordError> {
     check_sight(rt, viewport);
     laws::components_are_in_range();
+    scm_render::laws::parts_are_in_range::<ComponentId>();
     let _ = viewport.draw_component(0, 0, dialog)?;
     Ok(())
 }
@@ -545,6 +552,7 @@ fn draw_message(
     check_near(rt, y);
     assert!(rt; has_short_message(&view.commit.message));
     laws::components_are_in_range();
+    scm_render::laws::parts_are_in_range::<ComponentId>();
     let _ = viewport.draw_component(x, y, view)?;
     Ok(())
 }

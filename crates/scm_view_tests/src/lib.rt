@@ -4,6 +4,8 @@
 #[cfg(test)]
 mod alone;
 #[cfg(test)]
+mod apps;
+#[cfg(test)]
 mod keys;
 #[cfg(test)]
 mod views;

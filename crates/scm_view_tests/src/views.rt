@@ -7,7 +7,7 @@ ghost use Rattle.scm_view_tests.specs.Small.{AreSmallFiles, AreSmallSections, Is
 
 use scm_cells::Grid;
 use scm_render::{DrawnRects, Viewport};
-use scm_state_tests::samples::{ADDED, DEFAULT, Line, REMOVED, changed, context, file_of};
+use scm_samples::{ADDED, DEFAULT, Line, REMOVED, changed, context, file_of};
 use scm_types::{
     ChangeType, Commit, File, Items, RecordError, Section, SectionChangedLine, Text, Tristate,
 };
@@ -103,7 +103,7 @@ fn check_files(rt: &impl Abort, views: &[FileView<'_>])
 }
 
 /// Checks that a commit has no message, and few and small files.
-fn check_commit(rt: &impl Abort, view: &CommitView<'_>)
+pub(crate) fn check_commit(rt: &impl Abort, view: &CommitView<'_>)
     ensures { IsSmallCommit view.now }
 {
     assert!(rt; view.commit_message_view.commit.message.is_none());
@@ -124,6 +124,7 @@ fn draw_commit(
     assert!(rt; grid.width() <= 100);
     assert!(rt; grid.height() <= 100);
     laws::components_are_in_range();
+    scm_render::laws::parts_are_in_range::<ComponentId>();
     Viewport::render_top_level(alloc, grid, 0, y as isize, view)
 }
 
@@ -138,6 +139,7 @@ fn draw_section(
     assert!(rt; grid.width() <= 100);
     assert!(rt; grid.height() <= 100);
     laws::components_are_in_range();
+    scm_render::laws::parts_are_in_range::<ComponentId>();
     Viewport::render_top_level(alloc, grid, 0, 0, view)
 }
 
@@ -152,6 +154,7 @@ fn draw_header(
     assert!(rt; grid.width() <= 100);
     assert!(rt; grid.height() <= 100);
     laws::components_are_in_range();
+    scm_render::laws::parts_are_in_range::<ComponentId>();
     Viewport::render_top_level(alloc, grid, 0, 0, view)
 }
 
@@ -165,6 +168,7 @@ fn draw_box(
     assert!(rt; grid.width() <= 100);
     assert!(rt; grid.height() <= 100);
     laws::components_are_in_range();
+    scm_render::laws::parts_are_in_range::<ComponentId>();
     Viewport::render_top_level(alloc, grid, 0, 0, view)
 }
 

@@ -1,4 +1,4 @@
-//! What clicks do, and how a message comes to be edited.
+//! What clicks do.
 
 use super::{Flow, Selector};
 use crate::frame::DrawnFrame;
@@ -9,56 +9,19 @@ use scm_types::RecordError;
 use scm_view::{ComponentId, SelectionKey};
 
 impl<'state> Selector<'state> {
-    ghost use Rattle.std.specs.Prelude.{◌≡◌, IfErr, IfOk, None, OnOk, is_some};
+    ghost use Rattle.std.specs.Prelude.{◌≡◌, IfErr, IfOk, OnOk};
     ghost use Rattle.scm_errors.specs.declared.error.RecordError.TheVariants.{OutOfMemory};
     ghost use Rattle.scm_record.specs.Frames.{IsShown, Scene};
     ghost use Rattle.scm_record.specs.Uses.{hit};
-    ghost use Rattle.scm_record.specs.Session.{after_expand, after_item, after_menu, after_toggle, at_key, message_of};
-    ghost use Rattle.scm_record.specs.Dialogs.{unless_asked};
-    ghost use Rattle.scm_record.specs.Clicks.{box_clicked, clicked, clicked_on, edit_of, item_event};
+    ghost use Rattle.scm_record.specs.Session.{after_expand, after_item, after_menu, after_toggle, at_key};
+    ghost use Rattle.scm_record.specs.Clicks.{box_clicked, clicked, clicked_on, item_event};
 
-    /// Whether the commit has a message.
-    fn has_message(&self, commit: usize) -> bool
-        ensures { result ≡ is_some (message_of self.now commit) }
-    {
-        self.state
-            .commits
-            .as_slice()
-            .get(commit)
-            .is_some_and(|commit| commit.message.is_some())
-    }
-
-    /// Asks that a commit's message be edited, if it has one.
-    fn edit_message(&mut self, commit: usize) -> Result<Flow, RecordError>
-        ensures ok { IfOk result (λ flow. edit_of self.old commit ≡ record { session = self.new; flow = flow }) }
-        ensures err { IfErr result (λ e. e ≡ OutOfMemory) }
-    {
-        self.push(Event::Redraw)?;
-        if self.has_message(commit) {
-            Ok(Flow::Edit(commit))
-        } else {
-            Ok(Flow::GoOn)
-        }
-    }
-
-    /// Asks that the first commit's message be edited, unless the quit dialog is open.
-    pub(super) fn edit_first_message(&mut self) -> Result<Flow, RecordError>
-        ensures ok { IfOk result (λ flow. unless_asked self.old (edit_of self.old 0) ≡ record { session = self.new; flow = flow }) }
-        ensures err { IfErr result (λ e. e ≡ OutOfMemory) }
-    {
-        if self.is_asked() {
-            Ok(Flow::GoOn)
-        } else {
-            self.edit_message(0)
-        }
-    }
-
-    /// Toggles a key where it is selected, and else selects it.
+    /// Selects a key, or toggles it if it is selected.
     fn click_toggle_box(&mut self, key: SelectionKey) -> Result<(), RecordError>
         ensures ok { OnOk result (self.new ≡ box_clicked self.old key (after_toggle self.old)) }
         ensures err { IfErr result (λ e. e ≡ OutOfMemory) }
     {
-        if is_key(key, self.selection) {
+        if is_key(key, self.showing.selection) {
             self.toggle();
             Ok(())
         } else {
@@ -71,7 +34,7 @@ impl<'state> Selector<'state> {
         ensures ok { OnOk result (self.new ≡ box_clicked self.old key (after_expand self.old)) }
         ensures err { IfErr result (λ e. e ≡ OutOfMemory) }
     {
-        if is_key(key, self.selection) {
+        if is_key(key, self.showing.selection) {
             self.flip_fold()
         } else {
             self.go_to(key)
@@ -82,7 +45,7 @@ impl<'state> Selector<'state> {
     fn click_menu(&mut self, menu: usize)
         ensures { self.new ≡ after_menu self.old menu }
     {
-        self.open_menu = match self.open_menu {
+        self.showing.open_menu = match self.showing.open_menu {
             Some(open) if open == menu => None,
             Some(_) | None => Some(menu),
         };
@@ -100,7 +63,7 @@ impl<'state> Selector<'state> {
         ensures ok { OnOk result (self.new ≡ after_item self.old event) }
         ensures err { IfErr result (λ e. e ≡ OutOfMemory) }
     {
-        self.open_menu = None;
+        self.showing.open_menu = None;
         match event {
             None => Ok(()),
             Some(event) => self.push(event),
@@ -118,11 +81,11 @@ impl<'state> Selector<'state> {
             ComponentId::FileViewHeader(key) => self.go_to(SelectionKey::File(key))?,
             ComponentId::SelectableItem(key) => self.go_to(key)?,
             ComponentId::CommitEditMessageButton(commit) => return self.edit_message(commit),
-            ComponentId::MenuBar => self.open_menu = None,
+            ComponentId::MenuBar => self.showing.open_menu = None,
             ComponentId::Menu(menu) => self.click_menu(menu),
             ComponentId::MenuItem(item) => self.click_item(Selector::item_event(open_menu, item))?,
             ComponentId::QuitDialogButton(button) => return Ok(self.press_button(button)),
-            ComponentId::HelpDialogQuitButton => self.is_help_open = false,
+            ComponentId::HelpDialogQuitButton => self.showing.is_help_open = false,
             ComponentId::QuitDialog
             | ComponentId::HelpDialog
             | ComponentId::App

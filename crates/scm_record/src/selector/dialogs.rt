@@ -8,25 +8,25 @@ impl<'state> Selector<'state> {
     ghost use Rattle.std.specs.Prelude.{◌≡◌, not, None, option_map, if◌then◌else◌};
     ghost use Rattle.scm_record.specs.Session.{with_dialog, with_help};
     ghost use Rattle.scm_record.specs.Change.{accepts, cancels, stays};
-    ghost use Rattle.scm_record.specs.Dialogs.{asked, button_of, dialog_closed_or, focused, help_closed_or, is_asked, pressed, unless_asked};
+    ghost use Rattle.scm_record.specs.Dialogs.{asked, button_of, dialog_closed_or, focused, help_closed_or, is_asked, pressed};
 
     /// Whether the quit dialog is open.
     pub(super) fn is_asked(&self) -> bool
         ensures { result ≡ is_asked self.now }
     {
-        self.quit_dialog.is_some()
+        self.showing.quit_dialog.is_some()
     }
 
     /// Opens the quit dialog where something would be lost, and else gives up.
     fn ask(&mut self) -> Flow
         ensures { asked self.old ≡ record { session = self.new; flow = result } }
     {
-        let num_commit_messages = message_count(&self.state);
-        let num_changed_files = changed_count(&self.state);
+        let num_commit_messages = message_count(&self.showing.state);
+        let num_changed_files = changed_count(&self.showing.state);
         if num_commit_messages == 0 && num_changed_files == 0 {
             return Flow::Cancel;
         }
-        self.quit_dialog = Some(QuitDialog {
+        self.showing.quit_dialog = Some(QuitDialog {
             num_commit_messages,
             num_changed_files,
             focused_button: QuitDialogButtonId::Quit,
@@ -36,19 +36,17 @@ impl<'state> Selector<'state> {
 
     /// Shows the help, or closes it.
     pub(super) fn flip_help(&mut self)
-        ensures { self.new ≡ with_help self.old (not self.old.is_help_open) }
+        ensures { self.new ≡ with_help self.old (not self.old.shown.is_help_open) }
     {
-        self.is_help_open = !self.is_help_open;
+        self.showing.is_help_open = !self.showing.is_help_open;
     }
 
-    /// Accepts, unless the quit dialog is open; an open help is closed first.
+    /// Accepts; an open help is closed first.
     pub(super) fn accept(&mut self) -> Flow
-        ensures { unless_asked self.old (help_closed_or self.old (accepts self.old)) ≡ record { session = self.new; flow = result } }
+        ensures { help_closed_or self.old (accepts self.old) ≡ record { session = self.new; flow = result } }
     {
-        if self.is_asked() {
-            Flow::GoOn
-        } else if self.is_help_open {
-            self.is_help_open = false;
+        if self.showing.is_help_open {
+            self.showing.is_help_open = false;
             Flow::GoOn
         } else {
             Flow::Accept
@@ -59,11 +57,11 @@ impl<'state> Selector<'state> {
     pub(super) fn cancel(&mut self) -> Flow
         ensures { help_closed_or self.old (dialog_closed_or self.old (asked self.old)) ≡ record { session = self.new; flow = result } }
     {
-        if self.is_help_open {
-            self.is_help_open = false;
+        if self.showing.is_help_open {
+            self.showing.is_help_open = false;
             Flow::GoOn
         } else if self.is_asked() {
-            self.quit_dialog = None;
+            self.showing.quit_dialog = None;
             Flow::GoOn
         } else {
             self.ask()
@@ -74,10 +72,10 @@ impl<'state> Selector<'state> {
     pub(super) fn escape(&mut self)
         ensures { help_closed_or self.old (stays (with_dialog self.old None)) ≡ stays self.new }
     {
-        if self.is_help_open {
-            self.is_help_open = false;
+        if self.showing.is_help_open {
+            self.showing.is_help_open = false;
         } else {
-            self.quit_dialog = None;
+            self.showing.quit_dialog = None;
         }
     }
 
@@ -94,18 +92,18 @@ impl<'state> Selector<'state> {
 
     /// Moves the focus of the quit dialog.
     pub(super) fn focus(&mut self, button: QuitDialogButtonId)
-        ensures { self.new ≡ with_dialog self.old (option_map (focused button) self.old.quit_dialog) }
+        ensures { self.new ≡ with_dialog self.old (option_map (focused button) self.old.shown.quit_dialog) }
     {
-        if let Some(dialog) = &mut self.quit_dialog {
+        if let Some(dialog) = &mut self.showing.quit_dialog {
             dialog.focused_button = button;
         }
     }
 
     /// The focused button of the quit dialog.
     fn focused_button(&self) -> QuitDialogButtonId
-        ensures { result ≡ button_of self.now.quit_dialog }
+        ensures { result ≡ button_of self.now.shown.quit_dialog }
     {
-        match &self.quit_dialog {
+        match &self.showing.quit_dialog {
             None => QuitDialogButtonId::Quit,
             Some(dialog) => dialog.focused_button,
         }
@@ -118,7 +116,7 @@ impl<'state> Selector<'state> {
         match button {
             QuitDialogButtonId::Quit => Flow::Cancel,
             QuitDialogButtonId::GoBack => {
-                self.quit_dialog = None;
+                self.showing.quit_dialog = None;
                 Flow::GoOn
             }
         }
@@ -126,7 +124,7 @@ impl<'state> Selector<'state> {
 
     /// Presses the focused button of the quit dialog.
     pub(super) fn press(&mut self) -> Flow
-        ensures { pressed self.old (button_of self.old.quit_dialog) ≡ record { session = self.new; flow = result } }
+        ensures { pressed self.old (button_of self.old.shown.quit_dialog) ≡ record { session = self.new; flow = result } }
     {
         self.press_button(self.focused_button())
     }

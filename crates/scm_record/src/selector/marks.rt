@@ -9,14 +9,15 @@ impl<'state> Selector<'state> {
     ghost use Rattle.scm_errors.specs.declared.error.RecordError.TheVariants.{OutOfMemory};
     ghost use Rattle.scm_record.specs.Session.{after_advance, after_toggle, after_toggle_all, after_toggle_all_uniform};
     ghost use Rattle.scm_record.specs.Change.{stays};
-    ghost use Rattle.scm_record.specs.Dialogs.{dialog_pressed_or, help_closed_or, unless_asked};
+    ghost use Rattle.scm_record.specs.Dialogs.{dialog_pressed_or, help_closed_or};
 
     /// Toggles what is selected, unless the state is read-only.
     pub(super) fn toggle(&mut self)
         ensures { self.new ≡ after_toggle self.old }
     {
-        if !self.state.is_read_only {
-            toggle_key(self.state.files.as_mut_slice(), self.selection);
+        if !self.showing.state.is_read_only {
+            let key = self.showing.selection;
+            toggle_key(self.showing.state.files.as_mut_slice(), key);
         }
     }
 
@@ -24,8 +25,8 @@ impl<'state> Selector<'state> {
     pub(super) fn toggle_item(&mut self) -> Flow
         ensures { help_closed_or self.old (dialog_pressed_or self.old (stays (after_toggle self.old))) ≡ record { session = self.new; flow = result } }
     {
-        if self.is_help_open {
-            self.is_help_open = false;
+        if self.showing.is_help_open {
+            self.showing.is_help_open = false;
             Flow::GoOn
         } else if self.is_asked() {
             self.press()
@@ -40,8 +41,8 @@ impl<'state> Selector<'state> {
         ensures ok { IfOk result (λ flow. help_closed_or self.old (dialog_pressed_or self.old (stays (after_advance (after_toggle self.old)))) ≡ record { session = self.new; flow = flow }) }
         ensures err { IfErr result (λ e. e ≡ OutOfMemory) }
     {
-        if self.is_help_open {
-            self.is_help_open = false;
+        if self.showing.is_help_open {
+            self.showing.is_help_open = false;
             Ok(Flow::GoOn)
         } else if self.is_asked() {
             Ok(self.press())
@@ -52,23 +53,21 @@ impl<'state> Selector<'state> {
         }
     }
 
-    /// Inverts every mark.
-    pub(super) fn toggle_all(&mut self) -> Flow
-        ensures { unless_asked self.old (stays (after_toggle_all self.old)) ≡ record { session = self.new; flow = result } }
+    /// Inverts every mark, unless the state is read-only.
+    pub(super) fn toggle_all(&mut self)
+        ensures { self.new ≡ after_toggle_all self.old }
     {
-        if !self.is_asked() && !self.state.is_read_only {
-            invert_all(self.state.files.as_mut_slice());
+        if !self.showing.state.is_read_only {
+            invert_all(self.showing.state.files.as_mut_slice());
         }
-        Flow::GoOn
     }
 
-    /// Checks everything, or unchecks everything where all is checked.
-    pub(super) fn toggle_all_uniform(&mut self) -> Flow
-        ensures { unless_asked self.old (stays (after_toggle_all_uniform self.old)) ≡ record { session = self.new; flow = result } }
+    /// Checks everything, or unchecks everything where all is checked, unless the state is read-only.
+    pub(super) fn toggle_all_uniform(&mut self)
+        ensures { self.new ≡ after_toggle_all_uniform self.old }
     {
-        if !self.is_asked() && !self.state.is_read_only {
-            set_all(self.state.files.as_mut_slice());
+        if !self.showing.state.is_read_only {
+            set_all(self.showing.state.files.as_mut_slice());
         }
-        Flow::GoOn
     }
 }

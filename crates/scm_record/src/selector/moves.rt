@@ -14,28 +14,103 @@ impl<'state> Selector<'state> {
     ghost use Rattle.std.specs.Prelude.{◌≡◌, IfErr, IfOk, OnOk};
     ghost use Rattle.scm_errors.specs.declared.error.RecordError.TheVariants.{OutOfMemory};
     ghost use Rattle.scm_view.specs.declared.quit_dialog.QuitDialogButtonId.TheVariants.{Quit, GoBack};
-    ghost use Rattle.scm_selection.specs.KeyLists.{first_key};
-    ghost use Rattle.scm_selection.specs.Moves.{next_key, previous_key};
+    ghost use Rattle.scm_selection.specs.KeyLists.{all_keys, first_key};
+    ghost use Rattle.scm_selection.specs.Moves.{inner_key, next_key, previous_key};
+    ghost use Rattle.scm_types.specs.declared.keys.SelectionKey.TheVariants as keys;
     ghost use Rattle.scm_record.specs.Frames.{IsShown, Scene};
-    ghost use Rattle.scm_record.specs.Session.{visible, after_next, after_previous, after_next_same_kind, after_previous_same_kind, after_advance, after_inner, after_outer};
+    ghost use Rattle.scm_record.specs.Session.{after_advance, after_inner, after_outer, visible, visible_of_kind};
     ghost use Rattle.scm_record.specs.Change.{stays};
-    ghost use Rattle.scm_record.specs.Dialogs.{dialog_focused_or, unless_asked};
-    ghost use Rattle.scm_record.specs.Pages.{after_page};
+    ghost use Rattle.scm_record.specs.Dialogs.{dialog_focused_or};
+    ghost use Rattle.scm_record.specs.Pages.{page_key, towards};
 
     /// The visible key after the selection.
-    fn next_key(&self) -> SelectionKey
-        ensures { result ≡ next_key (visible self.now) self.now.selection (first_key self.now.state.files) }
+    pub(super) fn next_key(&self) -> SelectionKey
+        ensures { result ≡ next_key (visible self.now) self.now.shown.selection (first_key self.now.shown.state.files) }
     {
-        let files = self.state.files.as_slice();
-        next_visible(&self.expanded, files, self.selection, first_key(files))
+        let files = self.showing.state.files.as_slice();
+        next_visible(
+            &self.showing.expanded,
+            files,
+            self.showing.selection,
+            first_key(files),
+        )
     }
 
     /// The visible key before the selection.
-    fn previous_key(&self) -> SelectionKey
-        ensures { result ≡ previous_key (visible self.now) self.now.selection (first_key self.now.state.files) }
+    pub(super) fn previous_key(&self) -> SelectionKey
+        ensures { result ≡ previous_key (visible self.now) self.now.shown.selection (first_key self.now.shown.state.files) }
     {
-        let files = self.state.files.as_slice();
-        previous_visible(&self.expanded, files, self.selection, first_key(files))
+        let files = self.showing.state.files.as_slice();
+        previous_visible(
+            &self.showing.expanded,
+            files,
+            self.showing.selection,
+            first_key(files),
+        )
+    }
+
+    /// The next visible key of the selection's kind.
+    pub(super) fn next_key_of_kind(&self) -> SelectionKey
+        ensures { result ≡ next_key (visible_of_kind self.now) self.now.shown.selection (first_key self.now.shown.state.files) }
+    {
+        let files = self.showing.state.files.as_slice();
+        next_of_kind(
+            &self.showing.expanded,
+            files,
+            self.showing.selection,
+            first_key(files),
+        )
+    }
+
+    /// The visible key of the selection's kind before it.
+    pub(super) fn previous_key_of_kind(&self) -> SelectionKey
+        ensures { result ≡ previous_key (visible_of_kind self.now) self.now.shown.selection (first_key self.now.shown.state.files) }
+    {
+        let files = self.showing.state.files.as_slice();
+        previous_of_kind(
+            &self.showing.expanded,
+            files,
+            self.showing.selection,
+            first_key(files),
+        )
+    }
+
+    /// The next visible key of the selection's kind, and none where the selection isn't visible.
+    fn key_to_advance_to(&self) -> SelectionKey
+        ensures { result ≡ next_key (visible_of_kind self.now) self.now.shown.selection keys.None }
+    {
+        let files = self.showing.state.files.as_slice();
+        next_of_kind(
+            &self.showing.expanded,
+            files,
+            self.showing.selection,
+            SelectionKey::None,
+        )
+    }
+
+    /// The first key inside the selection.
+    fn inner_key(&self) -> SelectionKey
+        ensures { result ≡ inner_key (all_keys self.now.shown.state.files) self.now.shown.selection }
+    {
+        first_inside(
+            &self.showing.expanded,
+            self.showing.state.files.as_slice(),
+            self.showing.selection,
+        )
+    }
+
+    /// A visible key about half a screen away.
+    pub(super) fn page_key(&self, frame: &DrawnFrame, way: Way) -> SelectionKey
+        ensures { (scene : Scene) → IsShown scene frame.now →
+            result ≡ page_key scene way (towards way (visible self.now)) self.now.shown.selection }
+    {
+        page_key(
+            frame,
+            way,
+            &self.showing.expanded,
+            self.showing.state.files.as_slice(),
+            self.showing.selection,
+        )
     }
 
     /// Selects the first key inside the selection; in the quit dialog, the button Quit.
@@ -46,8 +121,7 @@ impl<'state> Selector<'state> {
         if self.is_asked() {
             self.focus(QuitDialogButtonId::Quit);
         } else {
-            let key = first_inside(&self.expanded, self.state.files.as_slice(), self.selection);
-            self.select(key)?;
+            self.select(self.inner_key())?;
         }
         Ok(Flow::GoOn)
     }
@@ -57,12 +131,12 @@ impl<'state> Selector<'state> {
         ensures ok { OnOk result (self.new ≡ after_outer self.old fold_section) }
         ensures err { IfErr result (λ e. e ≡ OutOfMemory) }
     {
-        let selection = self.selection;
+        let selection = self.showing.selection;
         match selection {
             SelectionKey::None => Ok(()),
             SelectionKey::File(_) => self.fold(selection),
             SelectionKey::Section(key) => {
-                if fold_section && self.expanded.contains(selection) {
+                if fold_section && self.showing.expanded.contains(selection) {
                     self.fold(selection)
                 } else {
                     self.select(SelectionKey::File(key.file()))
@@ -90,70 +164,6 @@ impl<'state> Selector<'state> {
         ensures ok { OnOk result (self.new ≡ after_advance self.old) }
         ensures err { IfErr result (λ e. e ≡ OutOfMemory) }
     {
-        let files = self.state.files.as_slice();
-        let key = next_of_kind(&self.expanded, files, self.selection, SelectionKey::None);
-        self.select(key)
-    }
-
-    /// Selects the visible key before.
-    pub(super) fn focus_previous(&mut self) -> Result<Flow, RecordError>
-        ensures ok { IfOk result (λ flow. unless_asked self.old (stays (after_previous self.old)) ≡ record { session = self.new; flow = flow }) }
-        ensures err { IfErr result (λ e. e ≡ OutOfMemory) }
-    {
-        if !self.is_asked() {
-            self.select(self.previous_key())?;
-        }
-        Ok(Flow::GoOn)
-    }
-
-    /// Selects the visible key before of the selection's kind.
-    pub(super) fn focus_previous_same_kind(&mut self) -> Result<Flow, RecordError>
-        ensures ok { IfOk result (λ flow. unless_asked self.old (stays (after_previous_same_kind self.old)) ≡ record { session = self.new; flow = flow }) }
-        ensures err { IfErr result (λ e. e ≡ OutOfMemory) }
-    {
-        if !self.is_asked() {
-            let files = self.state.files.as_slice();
-            let key = previous_of_kind(&self.expanded, files, self.selection, first_key(files));
-            self.select(key)?;
-        }
-        Ok(Flow::GoOn)
-    }
-
-    /// Selects the next visible key.
-    pub(super) fn focus_next(&mut self) -> Result<Flow, RecordError>
-        ensures ok { IfOk result (λ flow. unless_asked self.old (stays (after_next self.old)) ≡ record { session = self.new; flow = flow }) }
-        ensures err { IfErr result (λ e. e ≡ OutOfMemory) }
-    {
-        if !self.is_asked() {
-            self.select(self.next_key())?;
-        }
-        Ok(Flow::GoOn)
-    }
-
-    /// Selects the next visible key of the selection's kind.
-    pub(super) fn focus_next_same_kind(&mut self) -> Result<Flow, RecordError>
-        ensures ok { IfOk result (λ flow. unless_asked self.old (stays (after_next_same_kind self.old)) ≡ record { session = self.new; flow = flow }) }
-        ensures err { IfErr result (λ e. e ≡ OutOfMemory) }
-    {
-        if !self.is_asked() {
-            let files = self.state.files.as_slice();
-            let key = next_of_kind(&self.expanded, files, self.selection, first_key(files));
-            self.select(key)?;
-        }
-        Ok(Flow::GoOn)
-    }
-
-    /// Selects a visible key about half a screen away.
-    pub(super) fn focus_page(&mut self, frame: &DrawnFrame, way: Way) -> Result<Flow, RecordError>
-        ensures ok { IfOk result (λ flow. (scene : Scene) → IsShown scene frame.now →
-            unless_asked self.old (stays (after_page scene way self.old)) ≡ record { session = self.new; flow = flow }) }
-        ensures err { IfErr result (λ e. e ≡ OutOfMemory) }
-    {
-        if !self.is_asked() {
-            let files = self.state.files.as_slice();
-            let key = page_key(frame, way, &self.expanded, files, self.selection);
-            self.select(key)?;
-        }
-        Ok(Flow::GoOn)
+        self.select(self.key_to_advance_to())
     }
 }

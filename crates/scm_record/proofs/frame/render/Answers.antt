@@ -29,4 +29,4 @@ pub returns-clause-ok : goal.returns-clause-ok
 returns-clause-ok c =
     let y : to_z w64 c.args.scroll ≡ pos c.args.scroll = to_z_pos w64 c.args.scroll (omega (arith, c.requires.scroll, scroll_room)) in
     drawn_is_map c.args.grid.now.width (length c.args.grid.now.rows) c.args.scroll c.args.view.now c.clear.new.self
-    (to_z w64 c.args.scroll) c.in_ok-boxes.boxes c.clear.ensures y c.in_ok-boxes.ensures.boxes
+    (to_z w64 c.args.scroll) c.in_ok-boxes.boxes c.maps_have_last_boxes.ensures c.clear.ensures y c.in_ok-boxes.ensures.boxes

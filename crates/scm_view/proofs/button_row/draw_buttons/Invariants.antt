@@ -1,5 +1,5 @@
 use Rattle.std.proofs.Common.{◌≡◌, ◌-◌, drop, length}
-use Rattle.scm_render.proofs.StepLemmas.{IsLeft}
+use Rattle.scm_render.specs.Left.{IsLeft}
 use Rattle.scm_cells.specs.Counts.{added}
 use Rattle.scm_view.specs.Counts.{drawn}
 use Rattle.scm_view.specs.Buttons.{buttons_picture}

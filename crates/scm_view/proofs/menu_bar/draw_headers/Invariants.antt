@@ -1,5 +1,5 @@
 use Rattle.std.proofs.Common.{◌≡◌, ◌+◌, ◌-◌, drop, length, ◌+ℤ◌, pos}
-use Rattle.scm_render.proofs.StepLemmas.{IsLeft}
+use Rattle.scm_render.specs.Left.{IsLeft}
 use Rattle.scm_cells.specs.Counts.{added}
 use Rattle.scm_view.specs.Counts.{drawn}
 use Rattle.scm_view.specs.Menus.{headers_picture, headers_width}

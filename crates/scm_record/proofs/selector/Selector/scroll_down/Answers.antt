@@ -2,8 +2,6 @@ use Rattle.std.proofs.Common.{◌≡◌, ◌∙◌, ℕ, ◌+◌, ◌-◌, ap, s
 use Rattle.std.specs.Prelude.{min}
 use Rattle.scm_types.proofs.LimitLemmas.{scroll_room}
 use Rattle.scm_types.specs.Limits.{max_scroll}
-use Rattle.scm_record.specs.Change.{stays}
-use Rattle.scm_record.specs.Dialogs.{unless_asked}
 use Rattle.scm_record.specs.Session.{Session, with_scroll}
 use Rattle.scm_record.specs.Uses.{held}
 use Rattle.scm_record.proofs.selector.Selector.scroll_down.Goals as goal
@@ -20,4 +18,4 @@ returns c scene shown =
     c.saturating_add.ensures ∙ ap (λ n. min (n + c.args.rows) 18446744073709551615) at in
     let same : held scene (s.scroll + c.args.rows) ≡ held scene c.saturating_add.result =
     capped (s.scroll + c.args.rows) (scene.frame.extent - 1) ∙ sym (ap (held scene) row) in
-    ap (λ n. unless_asked s (stays (with_scroll s n))) same ∙ c.scroll_to-2.ensures scene shown
+    c.scroll_to-2.ensures scene shown ∙ ap (with_scroll s) (sym same)

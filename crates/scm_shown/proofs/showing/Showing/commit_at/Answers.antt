@@ -11,11 +11,11 @@ without_message c none = ap (λ m. record { message = m }) none
 pub returns-in-Some : goal.returns-in-Some
 returns-in-Some c =
     let i = c.args.commit_idx in
-    let found = rw (sym c.in-Some.ensures) at (commit_at-get i c.self.inside.state.now.commits) in
+    let found = rw (sym c.in-Some.ensures) at (commit_at-get i c.self.inside.state.commits) in
     sym found ∙ ap (λ (s : Shown). commit_at i s.state.commits) c.self.view_is
 
 pub returns-in-None : goal.returns-in-None
 returns-in-None c =
     let i = c.args.commit_idx in
-    let lacking = rw (sym c.in-None.ensures) at (commit_at-get i c.self.inside.state.now.commits) in
-    without_message c.self.inside.empty_commit c.self.invariant.1 ∙ sym lacking ∙ ap (λ (s : Shown). commit_at i s.state.commits) c.self.view_is
+    let lacking = rw (sym c.in-None.ensures) at (commit_at-get i c.self.inside.state.commits) in
+    without_message c.self.inside.empty_commit c.self.invariant ∙ sym lacking ∙ ap (λ (s : Shown). commit_at i s.state.commits) c.self.view_is

@@ -18,20 +18,20 @@ pub paint_inline-outcome-requires-clause-picture : goal.paint_inline-outcome-req
 paint_inline-outcome-requires-clause-picture c =
     let w = c.args.grid.now.width in
     let h = length c.args.grid.now.rows in
-    let y : to_z w64 c.args.scroll ≡ pos c.args.scroll = to_z_pos w64 c.args.scroll (omega (arith, c.requires.scroll, scroll_room)) in
+    let y : to_z w64 c.args.scroll ≡ pos c.args.scroll = to_z_pos w64 c.args.scroll (omega (arith, c.requires.shows.scroll, scroll_room)) in
     let wide : c.width.result ≡ w = c.width.ensures.value ∙ ap (λ (g : Screen). g.width) c.clear.ensures in
     let tall : c.height.result ≡ h = c.height.ensures.value ∙ ap (λ (g : Screen). length g.rows) c.clear.ensures ∙ length-replicate h (blank_row w) in
     let whole = c.replace.ensures.value ∙ c.clear.ensures in
     let seen : c.new-viewport.result.canvas.sight ≡ sight w h c.args.scroll =
     rw (y, wide, tall) at (ap (λ (v : Canvas ComponentId). v.sight) c.new-viewport.ensures.canvas) in
-    let plain = c.requires.shows.2 in
-    rw seen (PictureInRange-part _ _ (apps-in-range c.requires.shows.0 c.args.self.now w h c.args.scroll (pos 0) c.requires.shows.1 plain.shows plain.width plain.height c.requires.scroll))
+    let plain = c.requires.shows.plain in
+    rw seen (PictureInRange-part _ _ (apps-in-range c.requires.shows.shown c.args.self.now w h c.args.scroll (pos 0) c.requires.shows.accepted plain.shows plain.width plain.height c.requires.shows.scroll))
 
 pub returns-clause-ok : goal.returns-clause-ok
 returns-clause-ok c =
     let w = c.args.grid.now.width in
     let h = length c.args.grid.now.rows in
-    let y : to_z w64 c.args.scroll ≡ pos c.args.scroll = to_z_pos w64 c.args.scroll (omega (arith, c.requires.scroll, scroll_room)) in
+    let y : to_z w64 c.args.scroll ≡ pos c.args.scroll = to_z_pos w64 c.args.scroll (omega (arith, c.requires.shows.scroll, scroll_room)) in
     let wide : c.width.result ≡ w = c.width.ensures.value ∙ ap (λ (g : Screen). g.width) c.clear.ensures in
     let tall : c.height.result ≡ h = c.height.ensures.value ∙ ap (λ (g : Screen). length g.rows) c.clear.ensures ∙ length-replicate h (blank_row w) in
     let whole = c.replace.ensures.value ∙ c.clear.ensures in
@@ -45,12 +45,12 @@ pub returns-clause-few : goal.returns-clause-few
 returns-clause-few c =
     let w = c.args.grid.now.width in
     let h = length c.args.grid.now.rows in
-    let y : to_z w64 c.args.scroll ≡ pos c.args.scroll = to_z_pos w64 c.args.scroll (omega (arith, c.requires.scroll, scroll_room)) in
+    let y : to_z w64 c.args.scroll ≡ pos c.args.scroll = to_z_pos w64 c.args.scroll (omega (arith, c.requires.shows.scroll, scroll_room)) in
     let wide : c.width.result ≡ w = c.width.ensures.value ∙ ap (λ (g : Screen). g.width) c.clear.ensures in
     let tall : c.height.result ≡ h = c.height.ensures.value ∙ ap (λ (g : Screen). length g.rows) c.clear.ensures ∙ length-replicate h (blank_row w) in
     let whole = c.replace.ensures.value ∙ c.clear.ensures in
     let seen : c.new-viewport.result.canvas.sight ≡ sight w h c.args.scroll =
     rw (y, wide, tall) at (ap (λ (v : Canvas ComponentId). v.sight) c.new-viewport.ensures.canvas) in
     let none : c.new-viewport.result.counts ≡ no_counts = c.new-viewport.ensures.counts ∙ ap (λ (g : Screen). g.counts) whole in
-    on-ok _ (few-painted c.new-viewport.result.counts c.paint_inline-outcome.new.viewport.counts c.into_grid.result.counts c.args.self.now c.requires.shows.0 w h c.args.scroll c.new-viewport.result.canvas.sight c.requires.shows.2 seen none c.into_grid.ensures.counts)
+    on-ok _ (few-painted c.new-viewport.result.counts c.paint_inline-outcome.new.viewport.counts c.into_grid.result.counts c.args.self.now c.requires.shows.shown w h c.args.scroll c.new-viewport.result.canvas.sight c.requires.shows.plain seen none c.into_grid.ensures.counts)
     c.paint_inline-outcome.ensures.counts

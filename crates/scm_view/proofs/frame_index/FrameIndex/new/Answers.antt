@@ -15,21 +15,21 @@ use Rattle.scm_view.proofs.frame_index.FrameIndex.new.Goals as goal
 
 pub push_pieces-requires : goal.push_pieces-requires
 push_pieces-requires c =
-    let plain = c.requires.shows.2 in
+    let plain = c.requires.shows.plain in
     let v = c.index-as_slice-0.result in
     let first = c.index-as_slice-0.is ∙ ap (λ (vs : List CommitView). get_or vs 0 v) c.as_slice.ensures in
-    let shows = shows-first c.args.view.now c.requires.shows.0 c.args.width c.args.height v plain first in
-    rw (c.height-message.ensures, c.as_slice-views.ensures) (index-few c.requires.shows.0 v c.requires.shows.1 shows)
+    let shows = shows-first c.args.view.now c.requires.shows.shown c.args.width c.args.height v plain first in
+    rw (c.height-message.ensures, c.as_slice-views.ensures) (index-few c.requires.shows.shown v c.requires.shows.accepted shows)
 
 pub push_spots-requires-2-clause-headers : goal.push_spots-requires-2-clause-headers
 push_spots-requires-2-clause-headers c =
-    let plain = c.requires.shows.2 in
-    subst (λ (b : MenuBar). headers_width b.menus ≤ max_text) (sym plain.shows.menu_bar) (short_bar c.requires.shows.0.open_menu).0
+    let plain = c.requires.shows.plain in
+    subst (λ (b : MenuBar). headers_width b.menus ≤ max_text) (sym plain.shows.menu_bar) (short_bar c.requires.shows.shown.open_menu).0
 
 pub push_spots-requires-2-clause-items : goal.push_spots-requires-2-clause-items
 push_spots-requires-2-clause-items c =
-    let plain = c.requires.shows.2 in
-    subst (λ (b : MenuBar). IsShortMenu (opened 0 b.menus b.expanded_menu_idx)) (sym plain.shows.menu_bar) (short-menu _ (short_bar c.requires.shows.0.open_menu).1)
+    let plain = c.requires.shows.plain in
+    subst (λ (b : MenuBar). IsShortMenu (opened 0 b.menus b.expanded_menu_idx)) (sym plain.shows.menu_bar) (short-menu _ (short_bar c.requires.shows.shown.open_menu).1)
 
 pub returns-clause-ok : goal.returns-clause-ok
 returns-clause-ok c = λ shown plain.

@@ -1,0 +1,135 @@
+//! Memory, of which no contract can say that it is asked for only where it is needed: calls that take it answer with ample
+//! memory, however small or large their arguments are, and the other calls succeed where a request is refused. `tools/refuse-memory`
+//! runs the tests that are named for refused memory with each of their requests refused: what is checked there holds, and the test
+//! passes or ends in `OutOfMemory`.
+use scm_input::{
+    Event, KeyCode, KeyEvent, KeyEventKind, KeyModifiers, MouseButton, MouseEvent, MouseEventKind,
+    RecordInput, Screens, ScriptEdit, ScriptInput, ScriptRead, TerminalEvent, TerminalKind,
+    TestingInput,
+};
+use scm_samples::text_of;
+use scm_types::{RecordError, SelectionKey};
+use std::alloc::Global;
+use std::process::Abort;
+
+/// Reads of an input of so many events.
+fn check_events_left(rt: &impl Abort, alloc: Global, count: usize) -> Result<(), RecordError> {
+    let events = vec![in alloc; Event::Redraw; count]?;
+    let mut input = TestingInput::new(alloc, 80, 24, events)?;
+    assert_eq!(rt; input.batches_left(), count);
+    assert_eq!(rt; input.next_events()?.len(), 1);
+    Ok(())
+}
+
+/// An edit that is answered in so many bytes.
+fn check_edit(rt: &impl Abort, alloc: Global, count: usize) -> Result<(), RecordError> {
+    let mut input = TestingInput::new(alloc, 80, 24, Vec::new(alloc))?;
+    input.commit_messages.push_back(text_of(alloc, count)?)?;
+    assert_eq!(rt; input.edit_commit_message("")?.len(), count);
+    Ok(())
+}
+
+/// The reads of a script of one batch.
+fn reads_of(alloc: Global, batch: Vec<Event>) -> Result<Vec<ScriptRead>, RecordError> {
+    Ok(vec![in alloc; ScriptRead::Batch(batch)]?)
+}
+
+/// The batch of a script that has so many events.
+fn check_batch(rt: &impl Abort, alloc: Global, count: usize) -> Result<(), RecordError> {
+    let reads = reads_of(alloc, vec![in alloc; Event::Redraw; count]?)?;
+    let mut script = ScriptInput::new(alloc, 80, 24, reads, Vec::new(alloc))?;
+    assert_eq!(rt; script.next_events()?.len(), count);
+    Ok(())
+}
+
+/// The answer of a script that has so many bytes.
+fn check_answer(rt: &impl Abort, alloc: Global, count: usize) -> Result<(), RecordError> {
+    let edits = vec![in alloc; ScriptEdit::Answer(text_of(alloc, count)?)]?;
+    let mut script = ScriptInput::new(alloc, 80, 24, Vec::new(alloc), edits)?;
+    assert_eq!(rt; script.edit_commit_message("")?.len(), count);
+    Ok(())
+}
+
+/// Places of a store that has so many.
+fn check_store(rt: &impl Abort, alloc: Global, count: usize) -> Result<(), RecordError> {
+    let mut screens = Screens::new(alloc);
+    for _ in 0..count {
+        let _ = screens.place()?;
+    }
+    let last = screens.place()?;
+    assert_eq!(rt; screens.text(last), "<this screenshot was never assigned>");
+    Ok(())
+}
+
+#[test]
+fn inputs_and_stores_of_any_size(rt: HostRuntime) -> Result<(), RecordError> {
+    let alloc = rt.alloc();
+    for count in [0, 1, 10_000] {
+        check_events_left(&rt, alloc, count)?;
+        check_edit(&rt, alloc, count)?;
+        check_batch(&rt, alloc, count)?;
+        check_answer(&rt, alloc, count)?;
+        check_store(&rt, alloc, count)?;
+    }
+    Ok(())
+}
+
+// ---- calls that take no memory
+
+/// The calls on events.
+fn check_events(rt: &impl Abort) {
+    let key = KeyEvent {
+        code: KeyCode::Char('q'),
+        modifiers: KeyModifiers::NONE,
+        kind: KeyEventKind::Press,
+    };
+    let mouse = MouseEvent {
+        kind: MouseEventKind::Down(MouseButton::Left),
+        column: 3,
+        row: 4,
+        modifiers: KeyModifiers::SHIFT,
+    };
+    let click = Event::Click { row: 4, column: 3 };
+    for (told, event) in [
+        (TerminalEvent::Key(key), Event::QuitCancel),
+        (TerminalEvent::Mouse(mouse), click),
+        (TerminalEvent::Other, Event::None),
+    ] {
+        assert_eq!(rt; Event::from(told), event);
+    }
+}
+
+/// The calls on inputs and stores.
+fn check_recording(rt: &impl Abort, input: &TestingInput, script: &ScriptInput, screens: &Screens) {
+    let kind = TerminalKind::Testing {
+        width: 80,
+        height: 24,
+    };
+    assert_eq!(rt;
+        (input.terminal_kind(), script.terminal_kind()),
+        (kind, kind)
+    );
+    assert_eq!(rt; (input.batches_left(), script.batches_left()), (1, 0));
+    assert_eq!(rt; screens.frames(), 0);
+}
+
+/// A store with a place, and two inputs, one of them of an event.
+fn recording(alloc: Global) -> Result<(TestingInput, ScriptInput, Screens), RecordError> {
+    let events = vec![in alloc; Event::None]?;
+    let input = TestingInput::new(alloc, 80, 24, events)?;
+    let script = ScriptInput::new(alloc, 80, 24, Vec::new(alloc), Vec::new(alloc))?;
+    Ok((input, script, Screens::new(alloc)))
+}
+
+#[test]
+fn refused_memory_stops_no_call_that_takes_none(rt: HostRuntime) -> Result<(), RecordError> {
+    let alloc = rt.alloc();
+    assert_eq!(rt; SelectionKey::default(), SelectionKey::None);
+    check_events(&rt);
+    let (input, script, mut screens) = recording(alloc)?;
+    check_recording(&rt, &input, &script, &screens);
+    let shot = screens.place()?;
+    assert!(rt; matches!(shot.event(), Event::TakeScreenshot(taken) if taken == shot));
+    assert_eq!(rt; screens.text(shot), "<this screenshot was never assigned>");
+    Ok(())
+}

@@ -1,0 +1,112 @@
+//! What refused memory leaves of the queues of inputs and of a store. `tools/refuse-memory` runs each test with each of its
+//! requests for memory refused: what is checked here holds, and the test passes or ends in `OutOfMemory`.
+use scm_input::{Event, RecordInput, Screens, ScriptEdit, ScriptInput, ScriptRead, TestingInput};
+use scm_samples::text_of;
+use scm_types::RecordError;
+use std::alloc::Global;
+use std::process::Abort;
+
+/// An input of two events and a message.
+fn testing_input(alloc: Global) -> Result<TestingInput, RecordError> {
+    let events = vec![in alloc; Event::QuitCancel, Event::Redraw]?;
+    let mut input = TestingInput::new(alloc, 80, 24, events)?;
+    input.commit_messages.push_back(text_of(alloc, 3)?)?;
+    Ok(input)
+}
+
+#[test]
+fn refused_memory_keeps_events(rt: HostRuntime) -> Result<(), RecordError> {
+    let mut input = testing_input(rt.alloc())?;
+    let outcome = input.next_events();
+    let (left, next) = match &outcome {
+        Ok(_) => (1, Event::Redraw),
+        Err(_) => (2, Event::QuitCancel),
+    };
+    assert_eq!(rt; input.events.len(), left);
+    assert_eq!(rt; input.events.front().copied(), Some(next));
+    assert_eq!(rt; input.commit_messages.len(), 1);
+    assert_eq!(rt; outcome?.as_slice(), [Event::QuitCancel].as_slice());
+    Ok(())
+}
+
+/// Checks that a call past the end of a script fails with these words, unless memory for them is refused.
+fn check_past<T: Drop>(
+    rt: &impl Abort,
+    outcome: Result<T, RecordError>,
+    words: &str,
+) -> Result<(), RecordError> {
+    match outcome {
+        Ok(_) => panic!(rt; "there is nothing left"),
+        Err(RecordError::ReadInput(text)) => assert_eq!(rt; text.as_str(), words),
+        Err(RecordError::Other(text)) => assert_eq!(rt; text.as_str(), words),
+        Err(error) => return Err(error),
+    }
+    Ok(())
+}
+
+/// What an edit past the last is.
+const NO_MESSAGES: &str = "No more commit messages available";
+
+#[test]
+fn refused_memory_keeps_messages(rt: HostRuntime) -> Result<(), RecordError> {
+    let mut input = testing_input(rt.alloc())?;
+    assert_eq!(rt; input.edit_commit_message("hello")?.len(), 3);
+    let outcome = input.edit_commit_message("hello");
+    assert_eq!(rt; (input.events.len(), input.commit_messages.len()), (2, 0));
+    assert_eq!(rt; input.events.front().copied(), Some(Event::QuitCancel));
+    check_past(&rt, outcome, NO_MESSAGES)
+}
+
+#[test]
+fn refused_memory_keeps_edits_of_a_script(rt: HostRuntime) -> Result<(), RecordError> {
+    let alloc = rt.alloc();
+    let edits = vec![in alloc; ScriptEdit::Answer(text_of(alloc, 3)?)]?;
+    let mut script = ScriptInput::new(alloc, 80, 24, Vec::new(alloc), edits)?;
+    let outcome = script.next_events();
+    assert_eq!(rt; (script.batches_left(), script.edits_left()), (0, 1));
+    assert_eq!(rt; script.edit_commit_message("hello")?.len(), 3);
+    check_past(&rt, outcome, "no events left")
+}
+
+#[test]
+fn refused_memory_keeps_reads_of_a_script(rt: HostRuntime) -> Result<(), RecordError> {
+    let alloc = rt.alloc();
+    let batch = vec![in alloc; Event::Redraw, Event::QuitCancel]?;
+    let reads = vec![in alloc; ScriptRead::Batch(batch)]?;
+    let mut script = ScriptInput::new(alloc, 80, 24, reads, Vec::new(alloc))?;
+    let outcome = script.edit_commit_message("hello");
+    assert_eq!(rt; (script.batches_left(), script.edits_left()), (1, 0));
+    assert_eq!(rt;
+        script.next_events()?.as_slice(),
+        [Event::Redraw, Event::QuitCancel].as_slice()
+    );
+    check_past(&rt, outcome, NO_MESSAGES)
+}
+
+/// Takes the place behind so many: it is there then, or memory is refused and the store has as many as before.
+fn check_place(rt: &impl Abort, screens: &mut Screens, count: usize) -> Result<(), RecordError> {
+    let outcome = screens.place();
+    assert_eq!(rt; screens.has_place(count), outcome.is_ok());
+    assert!(rt; count == 0 || screens.has_place(count - 1));
+    assert_eq!(rt; outcome?.place, count);
+    Ok(())
+}
+
+/// Takes places of a store that has one, up to twenty.
+fn check_places(rt: &impl Abort, screens: &mut Screens) -> Result<(), RecordError> {
+    for count in 1..20 {
+        check_place(rt, screens, count)?;
+    }
+    Ok(())
+}
+
+#[test]
+fn refused_memory_keeps_stores(rt: HostRuntime) -> Result<(), RecordError> {
+    let alloc = rt.alloc();
+    let mut screens = Screens::new(alloc);
+    let first = screens.place()?;
+    screens.keep(first.place, String::from_str(alloc, "a screen")?);
+    let outcome = check_places(&rt, &mut screens);
+    assert_eq!(rt; screens.text(first), "a screen");
+    outcome
+}

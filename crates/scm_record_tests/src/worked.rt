@@ -1,0 +1,234 @@
+//! Runs over single events: examples of small states, and the states that they end in.
+use scm_record::{
+    Commit, Event, File, FileMode, Items, RecordError, RecordState, Recorder, Screens, ScriptInput,
+    ScriptRead, Section, TestingInput, Text,
+};
+use scm_samples::{ADDED, DEFAULT, Line, changed, file_of};
+use std::alloc::Global;
+use std::process::Abort;
+
+/// A state of two commits without messages.
+#[derive(Clone, Copy)]
+pub(crate) enum Given {
+    /// No files, and no commits yet.
+    Nothing,
+    /// The file `foo/bar` without sections.
+    Plain,
+    /// A file of these changed lines.
+    Lines(&'static [Line]),
+    /// A file without sections, and one of these changed lines.
+    Second(&'static [Line]),
+    /// A new file of an added line, and of the mode that it gets: whether both are checked.
+    New(bool),
+}
+
+/// An added line, unchecked and checked.
+const UNCHECKED: [Line; 1] = [(false, ADDED, "c\n")];
+
+const CHECKED: [Line; 1] = [(true, ADDED, "c\n")];
+
+/// Ten lines.
+const TEN: [Line; 10] = [
+    (false, ADDED, "0\n"),
+    (false, ADDED, "1\n"),
+    (false, ADDED, "2\n"),
+    (false, ADDED, "3\n"),
+    (false, ADDED, "4\n"),
+    (false, ADDED, "5\n"),
+    (false, ADDED, "6\n"),
+    (false, ADDED, "7\n"),
+    (false, ADDED, "8\n"),
+    (false, ADDED, "9\n"),
+];
+
+/// A file of these changed lines.
+fn file(alloc: Global, lines: &[Line]) -> Result<File<'static>, RecordError> {
+    Ok(file_of(DEFAULT, vec![in alloc; changed(alloc, lines)?]?))
+}
+
+/// A file without sections.
+fn plain_file(alloc: Global, path: &'static str) -> File<'static> {
+    File {
+        old_path: None,
+        path: Text::from(path),
+        file_mode: DEFAULT,
+        sections: Items::new(alloc),
+    }
+}
+
+/// A file that is created with one line.
+fn new_file(alloc: Global, is_checked: bool) -> Result<File<'static>, RecordError> {
+    let line: Line = (is_checked, ADDED, "n\n");
+    let mut file = file(alloc, &[line])?;
+    file.file_mode = FileMode::Absent;
+    file.sections.push(Section::FileMode {
+        is_checked,
+        mode: DEFAULT,
+    })?;
+    Ok(file)
+}
+
+/// The files of a state.
+fn files_of(alloc: Global, given: Given) -> Result<Items<File<'static>>, RecordError> {
+    let mut files = Items::new(alloc);
+    match given {
+        Given::Nothing => {}
+        Given::Plain => files.push(plain_file(alloc, "foo/bar"))?,
+        Given::Lines(lines) => files.push(file(alloc, lines)?)?,
+        Given::Second(lines) => {
+            files.push(plain_file(alloc, "p"))?;
+            files.push(file(alloc, lines)?)?;
+        }
+        Given::New(is_checked) => files.push(new_file(alloc, is_checked)?)?,
+    }
+    Ok(files)
+}
+
+/// The commits of a state: none where it has nothing, else two without a message.
+fn commits_of(alloc: Global, given: Given) -> Result<Items<Commit>, RecordError> {
+    let mut commits = Items::new(alloc);
+    if !matches!(given, Given::Nothing) {
+        commits.push(Commit::default())?;
+        commits.push(Commit::default())?;
+    }
+    Ok(commits)
+}
+
+/// The state.
+pub(crate) fn state_of(alloc: Global, given: Given) -> Result<RecordState<'static>, RecordError> {
+    let files = files_of(alloc, given)?;
+    Ok(RecordState {
+        is_read_only: false,
+        commits: commits_of(alloc, given)?,
+        files,
+    })
+}
+
+/// Runs these events over a state, one a batch, on 80 columns and 24 rows.
+fn outcome_of(
+    alloc: Global,
+    given: Given,
+    events: &[Event],
+) -> Result<RecordState<'static>, RecordError> {
+    let state = state_of(alloc, given)?;
+    if !state.is_accepted() {
+        return Err(RecordError::Other(String::from_str(alloc, "not accepted")?));
+    }
+    let mut input = TestingInput::new(alloc, 80, 24, Vec::from_slice(alloc, events)?)?;
+    Recorder::new(alloc, state)?.run(&mut input, &mut Screens::new(alloc))
+}
+
+/// A run: the state, the events, and the state that is accepted.
+type Row = (Given, &'static [Event], Given);
+
+/// Accepts, while no dialog is open.
+const ACCEPT: Event = Event::QuitAccept;
+
+/// Gives up, or asks first.
+const CANCEL: Event = Event::QuitCancel;
+
+/// To the first key inside the selected one.
+const INNER: Event = Event::FocusInner;
+
+/// The button of the question that goes back.
+const BACK: Event = Event::Click {
+    row: 12,
+    column: 55,
+};
+
+/// The runs that are accepted.
+const ACCEPTED: [Row; 5] = [
+    (Given::Plain, &[ACCEPT], Given::Plain),
+    (
+        Given::New(false),
+        &[INNER, INNER, Event::ToggleItem, ACCEPT],
+        Given::New(true),
+    ),
+    (
+        Given::Lines(&CHECKED),
+        &[CANCEL, BACK, ACCEPT],
+        Given::Lines(&CHECKED),
+    ),
+    (
+        Given::Lines(&CHECKED),
+        &[Event::ScrollDown, CANCEL, BACK, ACCEPT],
+        Given::Lines(&CHECKED),
+    ),
+    (
+        Given::Second(&UNCHECKED),
+        &[INNER, Event::ToggleItem, ACCEPT],
+        Given::Second(&CHECKED),
+    ),
+];
+
+/// Checks that a run is accepted with a state.
+fn check_accepted(rt: &impl Abort, alloc: Global, row: Row) -> Result<(), RecordError> {
+    let (given, events, wanted) = row;
+    let state = outcome_of(alloc, given, events)?;
+    assert_eq!(rt; state, state_of(alloc, wanted)?);
+    Ok(())
+}
+
+/// Checks that a run ends in an error of these words.
+fn check_refused(
+    rt: &impl Abort,
+    alloc: Global,
+    given: Given,
+    events: &[Event],
+    wanted: &str,
+) -> Result<(), RecordError> {
+    let Err(error) = outcome_of(alloc, given, events) else {
+        panic!(rt; "the run is accepted");
+    };
+    let words = format!(in alloc; "{error}")?;
+    assert_eq!(rt; words.as_str(), wanted);
+    Ok(())
+}
+
+#[test]
+fn small_states_are_given_up_and_accepted(rt: HostRuntime) -> Result<(), RecordError> {
+    let alloc = rt.alloc();
+    check_refused(&rt, alloc, Given::Nothing, &[CANCEL], "cancelled by user")?;
+    for row in ACCEPTED {
+        check_accepted(&rt, alloc, row)?;
+    }
+    check_refused(
+        &rt,
+        alloc,
+        Given::Plain,
+        &[Event::None],
+        "failed to read user input: no events left",
+    )
+}
+
+/// An input on 24 columns and 8 rows that opens a file, the menu Select, and chooses its second item.
+fn choosing(alloc: Global) -> Result<ScriptInput, RecordError> {
+    let mut reads = Vec::new(alloc);
+    for event in [
+        INNER,
+        Event::Click { row: 0, column: 15 },
+        Event::Click { row: 2, column: 15 },
+    ] {
+        reads.push(ScriptRead::Batch(vec![in alloc; event]?))?;
+    }
+    ScriptInput::new(alloc, 24, 8, reads, Vec::new(alloc))
+}
+
+/// How many frames a run draws over a file of ten lines.
+fn frames_of(alloc: Global, input: &mut ScriptInput) -> Result<usize, RecordError> {
+    let state = state_of(alloc, Given::Lines(&TEN))?;
+    let mut screens = Screens::new(alloc);
+    if state.is_accepted() {
+        let _ = Recorder::new(alloc, state)?.run(input, &mut screens);
+    }
+    Ok(screens.frames())
+}
+
+#[test]
+fn what_a_menu_leaves_has_its_own_frame(rt: HostRuntime) -> Result<(), RecordError> {
+    // one before each of four reads, of which the last finds no events; and three before what is left to be handled: the selection is
+    // brought onto the screen, the item moves it, and it is brought onto the screen again
+    let mut input = choosing(rt.alloc())?;
+    assert_eq!(rt; frames_of(rt.alloc(), &mut input)?, 7);
+    Ok(())
+}

@@ -1,0 +1,10 @@
+-- What a loop of parts has left to draw.
+use Rattle.std.specs.Prelude.{◌≡◌}
+use Rattle.scm_render.specs.Picture.{Picture, PictureInRange}
+use Rattle.scm_render.specs.Canvas.{Canvas, with_picture}
+
+-- of the whole that is drawn on c, d has all but what is left
+pub record IsLeft {K : Type 0} (c d : Canvas K) (left whole : Picture K) : Type 0 where
+  pub sight : d.sight ≡ c.sight
+  pub in_range : PictureInRange left
+  pub drawn : with_picture d left ≡ with_picture c whole

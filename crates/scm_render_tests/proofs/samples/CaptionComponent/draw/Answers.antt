@@ -1,0 +1,18 @@
+use Rattle.std.proofs.Common.{FitsSigned, w64}
+use Rattle.std.proofs.lemmas.Int.{to_z-of_z}
+use Rattle.scm_render_tests.specs.Samples.{caption_picture}
+use Rattle.scm_render_tests.proofs.samples.CaptionComponent.draw.Goals as goal
+
+pub draw_text-requires : goal.draw_text-requires
+unfolding caption_picture
+draw_text-requires c =
+    let fx : FitsSigned w64 c.args.x = c.ranges.x in
+    let fy : FitsSigned w64 c.args.y = c.ranges.y in
+    simp to_z-of_z c.requires
+
+pub returns-clause-ok : goal.returns-clause-ok
+unfolding caption_picture
+returns-clause-ok c =
+    let fx : FitsSigned w64 c.args.x = c.ranges.x in
+    let fy : FitsSigned w64 c.args.y = c.ranges.y in
+    simp to_z-of_z at c.in_ok-draw_text.ensures.ok

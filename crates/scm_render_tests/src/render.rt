@@ -1,0 +1,724 @@
+//! Centring, texts, frames, masks and the boxes of components, by the project's values.
+ghost use Rattle.std.specs.Prelude.{◌≡◌, ◌≤◌, length, pos, Some, None};
+ghost use Rattle.scm_cells.specs.Clusters.{text_width};
+ghost use Rattle.scm_cells.specs.Spans.{span_texts};
+ghost use Rattle.scm_render.specs.Drawing.{texts_width};
+ghost use Rattle.scm_render.specs.Bounds.{SightWithin};
+ghost use Rattle.scm_render_tests.specs.Near.{IsNear, near, AreShort};
+
+use crate::samples::{Caption, Column, Nest, Pair, Pane};
+use crate::tags::{Spot, Tag, boxed};
+use scm_cells::{Grid, Line, Mask, Rect, RectSize, ScreenRect, Span, text_width};
+use scm_errors::RecordError;
+use scm_render::{DrawTrace, DrawnRect, DrawnRects, Viewport, centered_rect, find_target, laws};
+use std::alloc::{AllocError, Global};
+use std::process::Abort;
+
+/// The rectangle at a column and a row, with its numbers of columns and rows.
+pub(crate) fn rect(x: isize, y: isize, width: usize, height: usize) -> Rect
+    ensures { result ≡ record { x = x; y = y; width = width; height = height } }
+{
+    Rect {
+        x,
+        y,
+        width,
+        height,
+    }
+}
+
+/// A mask of so many columns of all rows.
+pub(crate) fn columns(x: isize, width: usize) -> Mask
+    ensures { result ≡ record { x = x; y = pos 0; width = Some width; height = None } }
+{
+    Mask {
+        x,
+        y: 0,
+        width: Some(width),
+        height: None,
+    }
+}
+
+/// Checks that a rectangle is the expected one.
+pub(crate) fn check_rect(rt: &impl Abort, found: Rect, expected: Rect) {
+    assert_eq!(rt; found, expected);
+}
+
+/// Checks what stands on a grid.
+fn check_view(rt: &impl Abort, grid: &Grid, expected: &str) -> Result<(), RecordError> {
+    assert_eq!(rt; grid.view()?.as_str(), expected);
+    Ok(())
+}
+
+/// Checks what stands on the grid of a viewport.
+fn check_drawing(
+    rt: &impl Abort,
+    viewport: Viewport<u8>,
+    expected: &str,
+) -> Result<(), RecordError> {
+    let grid = viewport.into_grid();
+    check_view(rt, &grid, expected)
+}
+
+/// Checks that a place is near the document's corner: at most 1000 columns or rows away.
+fn check_near(rt: &impl Abort, place: isize)
+    ensures { IsNear place }
+{
+    assert!(rt; -1000 <= place);
+    assert!(rt; place <= 1000);
+}
+
+/// Checks that what the viewport shows is near the document's corner, and its mask too.
+fn check_sight(rt: &impl Abort, viewport: &Viewport<u8>)
+    ensures { SightWithin near viewport.now.canvas.sight }
+{
+    let shown = viewport.rect();
+    let mask = viewport.mask();
+    check_near(rt, shown.x);
+    check_near(rt, shown.end_x());
+    check_near(rt, mask.x);
+}
+
+/// Checks that a text is short: at most 100 columns.
+fn check_text(rt: &impl Abort, text: &str)
+    ensures { text_width text.now ≤ 100 }
+{
+    assert!(rt; text_width(text) <= 100);
+}
+
+/// The columns of spans, of which there are few.
+fn columns_of(rt: &impl Abort, spans: &[Span]) -> usize
+    ensures { result ≡ texts_width (span_texts spans.now) }
+{
+    let mut columns = 0;
+    for span in spans {
+        let width = text_width(span.0);
+        assert!(rt; width <= 100);
+        assert!(rt; columns <= 100);
+        columns += width;
+    }
+    columns
+}
+
+/// Checks that spans are short.
+fn check_spans(rt: &impl Abort, spans: &[Span])
+    ensures { texts_width (span_texts spans.now) ≤ 100 }
+{
+    assert!(rt; columns_of(rt, spans) <= 100);
+}
+
+/// A viewport on a new grid that shows the part of the document from a column and a row on.
+fn viewport_at(
+    alloc: Global,
+    x: isize,
+    y: isize,
+    width: u16,
+    height: u16,
+) -> Result<Viewport<u8>, RecordError>
+    requires x { IsNear x }
+    requires y { IsNear y }
+{
+    let grid = Grid::new(alloc, width, height)?;
+    let shown = rect(x, y, width as usize, height as usize);
+    let viewport = Viewport::new(alloc, grid, shown);
+    Ok(viewport)
+}
+
+/// A viewport on a grid of six columns and two rows, which shows the document from its corner on.
+pub(crate) fn viewport_on(rt: &impl Abort, alloc: Global, grid: Grid) -> Viewport<u8> {
+    assert_eq!(rt; (grid.width(), grid.height()), (6, 2));
+    Viewport::new(alloc, grid, rect(0, 0, 6, 2))
+}
+
+/// Draws a text, which is near the document's corner.
+fn draw_text(
+    rt: &impl Abort,
+    viewport: &mut Viewport<u8>,
+    x: isize,
+    y: isize,
+    spans: &[Span],
+) -> Result<Rect, RecordError> {
+    check_sight(rt, viewport);
+    check_near(rt, x);
+    check_near(rt, y);
+    check_spans(rt, spans);
+    laws::drawing_stays_within::<u8>();
+    viewport.draw_text(x, y, spans)
+}
+
+/// Draws a line, which is near the document's corner.
+fn draw_line(
+    rt: &impl Abort,
+    viewport: &mut Viewport<u8>,
+    x: isize,
+    y: isize,
+    line: &Line,
+) -> Result<Rect, RecordError> {
+    check_near(rt, x);
+    check_near(rt, y);
+    check_spans(rt, line.0.as_slice());
+    laws::drawing_stays_within::<u8>();
+    viewport.draw_line(x, y, line)
+}
+
+/// Draws a span, which is near the document's corner.
+fn draw_span(
+    rt: &impl Abort,
+    viewport: &mut Viewport<u8>,
+    x: isize,
+    y: isize,
+    span: &Span,
+) -> Result<Rect, RecordError> {
+    check_near(rt, x);
+    check_near(rt, y);
+    check_text(rt, span.0);
+    laws::drawing_stays_within::<u8>();
+    viewport.draw_span(x, y, span)
+}
+
+/// Draws a caption, which is near the document's corner.
+fn draw_caption(
+    rt: &impl Abort,
+    viewport: &mut Viewport<u8>,
+    x: isize,
+    y: isize,
+    caption: &Caption,
+) -> Result<Rect, RecordError> {
+    check_sight(rt, viewport);
+    check_text(rt, caption.text);
+    check_near(rt, x);
+    check_near(rt, y);
+    laws::parts_are_in_range::<u8>();
+    laws::drawing_stays_within::<u8>();
+    viewport.draw_component(x, y, caption)
+}
+
+/// Draws a nest, whose masks and texts are near the document's corner, at that corner.
+fn draw_nest(
+    rt: &impl Abort,
+    viewport: &mut Viewport<u8>,
+    nest: &Nest,
+) -> Result<Rect, RecordError> {
+    check_sight(rt, viewport);
+    check_text(rt, nest.pane.caption.text);
+    check_text(rt, nest.below.text);
+    check_near(rt, nest.mask.x);
+    check_near(rt, nest.pane.mask.x);
+    laws::parts_are_in_range::<u8>();
+    laws::drawing_stays_within::<u8>();
+    viewport.draw_component(0, 0, nest)
+}
+
+/// Draws a pair of short texts on a grid.
+pub(crate) fn render_pair(
+    rt: &impl Abort,
+    alloc: Global,
+    grid: &mut Grid,
+    pair: &Pair,
+) -> Result<DrawnRects<u8>, RecordError> {
+    check_text(rt, pair.first.text);
+    check_text(rt, pair.second.text);
+    assert!(rt; grid.width() <= 100);
+    assert!(rt; grid.height() <= 100);
+    laws::parts_are_in_range::<u8>();
+    laws::drawing_stays_within::<u8>();
+    Viewport::render_top_level(alloc, grid, 0, 0, pair)
+}
+
+/// Checks that the texts of captions are short.
+fn check_captions(rt: &impl Abort, captions: &[Caption])
+    ensures { AreShort captions.now }
+{
+    for caption in captions {
+        check_text(rt, caption.text);
+    }
+}
+
+/// Draws a column of a few short texts on a grid.
+fn render_column(
+    rt: &impl Abort,
+    alloc: Global,
+    grid: &mut Grid,
+    column: &Column,
+) -> Result<DrawnRects<u8>, RecordError> {
+    check_captions(rt, column.captions.as_slice());
+    assert!(rt; column.captions.len() <= 1000);
+    assert!(rt; grid.width() <= 100);
+    assert!(rt; grid.height() <= 100);
+    laws::parts_are_in_range::<u8>();
+    laws::drawing_stays_within::<u8>();
+    Viewport::render_top_level(alloc, grid, 0, 0, column)
+}
+
+/// Draws a tag with a short label at the document's corner.
+fn draw_tag(
+    rt: &impl Abort,
+    alloc: Global,
+    viewport: &mut Viewport<u8>,
+    tag: &Tag<u8>,
+) -> Result<Rect, RecordError> {
+    let text = boxed(alloc, tag.is_focused, tag.label)?;
+    check_text(rt, text.as_str());
+    laws::parts_are_in_range::<u8>();
+    laws::drawing_stays_within::<u8>();
+    viewport.draw_component(0, 0, tag)
+}
+
+/// What a click hits in row `y` and column `x`.
+fn target_at(boxes: &DrawnRects<Spot>, y: isize, x: isize) -> Option<Spot> {
+    find_target(boxes, y, x)
+}
+
+#[test]
+fn centring(rt: HostRuntime) {
+    let dialog = RectSize {
+        width: 60,
+        height: 3,
+    };
+    let centred = centered_rect(rect(0, 0, 80, 24), dialog, 60, 20);
+    check_rect(&rt, centred, rect(10, 9, 60, 4));
+    let centred = centered_rect(rect(0, 0, 10, 2), dialog, 60, 20);
+    check_rect(&rt, centred, rect(0, 0, 10, 2));
+    let text = RectSize {
+        width: 29,
+        height: 1,
+    };
+    let centred = centered_rect(rect(0, 1, 80, 23), text, 50, 50);
+    check_rect(&rt, centred, rect(20, 6, 40, 11));
+}
+
+/// A box of one cell, at column 2.
+fn small_box() -> DrawnRect {
+    DrawnRect {
+        rect: rect(2, 0, 1, 1),
+        timestamp: 3,
+    }
+}
+
+/// Checks the rectangle of a trace, and its box with the id 7.
+fn check_trace(rt: &impl Abort, trace: &DrawTrace<u8>, rect: Rect, drawn: Option<DrawnRect>) {
+    check_rect(rt, trace.rect, rect);
+    assert_eq!(rt; trace.components.get(&7).copied(), drawn);
+}
+
+#[test]
+fn traces(rt: HostRuntime) -> Result<(), RecordError> {
+    let alloc = rt.alloc();
+    check_trace(&rt, &DrawTrace::new(alloc), rect(0, 0, 0, 0), None);
+    let mut trace: DrawTrace<u8> = DrawTrace::new(alloc);
+    trace.merge_rect(rect(0, 0, 1, 1));
+    let mut other: DrawTrace<u8> = DrawTrace::new(alloc);
+    other.merge_rect(rect(2, 0, 1, 1));
+    let _ = other.components.insert(7, small_box())?;
+    check_trace(&rt, &other, rect(2, 0, 1, 1), Some(small_box()));
+    trace.merge(other)?;
+    check_trace(&rt, &trace, rect(0, 0, 3, 1), Some(small_box()));
+    Ok(())
+}
+
+/// Checks the place of a viewport of six columns and two rows at row 1, and where it shows rectangles.
+fn check_places(rt: &impl Abort, viewport: &Viewport<u8>) {
+    let whole = rect(0, 1, 6, 2);
+    check_rect(rt, viewport.rect(), whole);
+    check_rect(rt, viewport.mask_rect(), whole);
+    assert_eq!(rt; viewport.mask(), Mask::from(whole));
+    let shown = ScreenRect {
+        x: 0,
+        y: 0,
+        width: 3,
+        height: 2,
+    };
+    for (height, expected) in [(1, None), (3, Some(shown))] {
+        assert_eq!(rt; viewport.translate_rect(rect(0, 0, 3, height)), expected);
+    }
+}
+
+#[test]
+fn viewports_have_places(rt: HostRuntime) -> Result<(), RecordError> {
+    let viewport = viewport_at(rt.alloc(), 0, 1, 6, 2)?;
+    check_places(&rt, &viewport);
+    Ok(())
+}
+
+/// A grid of which the second row has a text that is cut at the end.
+fn grid_with_text(rt: &impl Abort, alloc: Global) -> Result<Grid, RecordError> {
+    let mut viewport = viewport_at(alloc, 0, 1, 6, 2)?;
+    let drawn = draw_text(rt, &mut viewport, 2, 2, &[Span("abcdef")])?;
+    check_rect(rt, drawn, rect(2, 2, 6, 1));
+    check_rect(rt, viewport.cover(rect(3, 1, 2, 2)), rect(3, 1, 2, 2));
+    Ok(viewport.into_grid())
+}
+
+#[test]
+fn texts(rt: HostRuntime) -> Result<(), RecordError> {
+    let grid = grid_with_text(&rt, rt.alloc())?;
+    assert_eq!(rt; (grid.width(), grid.height()), (6, 2));
+    check_view(&rt, &grid, "\"      \"\n\"  abc…\"\n")
+}
+
+#[test]
+fn captions_over_texts(rt: HostRuntime) -> Result<(), RecordError> {
+    let alloc = rt.alloc();
+    let grid = grid_with_text(&rt, alloc)?;
+    assert_eq!(rt; (grid.width(), grid.height()), (6, 2));
+    let mut viewport: Viewport<u8> = Viewport::new(alloc, grid, rect(0, 1, 6, 2));
+    let caption = Caption { id: 1, text: "a" };
+    check_rect(
+        &rt,
+        viewport.draw_blank(rect(0, 1, 6, 2))?,
+        rect(0, 1, 6, 2),
+    );
+    let drawn = draw_caption(&rt, &mut viewport, 9, 2, &caption)?;
+    check_rect(&rt, drawn, rect(5, 2, 5, 1));
+    check_drawing(&rt, viewport, "\"      \"\n\"     …\"\n")
+}
+
+#[test]
+fn counts(rt: HostRuntime) -> Result<(), RecordError> {
+    let mut viewport = viewport_at(rt.alloc(), 0, 0, 6, 2)?;
+    viewport.begin_row();
+    viewport.note_box(7, rect(9, 9, 2, 1))?;
+    check_rect(&rt, viewport.cover(rect(3, 1, 2, 2)), rect(3, 1, 2, 2));
+    let drawn = draw_text(&rt, &mut viewport, 2, 9, &[Span("abcdefgh")])?;
+    check_rect(&rt, drawn, rect(2, 9, 8, 1));
+    let mut grid = viewport.into_grid();
+    assert_eq!(rt; (grid.rows_drawn(), grid.calls()), (1, 1));
+    grid.clear();
+    assert_eq!(rt; (grid.rows_drawn(), grid.calls()), (0, 0));
+    Ok(())
+}
+
+/// A viewport at the document's corner, of six columns, of which the mask lets three through.
+fn masked_viewport(
+    rt: &impl Abort,
+    alloc: Global,
+    height: u16,
+) -> Result<Viewport<u8>, RecordError> {
+    let mut viewport = viewport_at(alloc, 0, 0, 6, height)?;
+    assert_eq!(rt; viewport.swap_mask(Some(columns(2, 3))), None);
+    check_rect(rt, viewport.mask_rect(), rect(2, 0, 3, height as usize));
+    Ok(viewport)
+}
+
+/// Takes the mask off, and checks what stands on the screen.
+fn check_masked(
+    rt: &impl Abort,
+    mut viewport: Viewport<u8>,
+    expected: &str,
+) -> Result<(), RecordError> {
+    assert_eq!(rt; viewport.swap_mask(None), Some(columns(2, 3)));
+    check_drawing(rt, viewport, expected)
+}
+
+#[test]
+fn masked_spans(rt: HostRuntime) -> Result<(), RecordError> {
+    let mut viewport = masked_viewport(&rt, rt.alloc(), 4)?;
+    for (x, y, text, width) in [
+        (0, 0, "abcdef", 6),
+        (1, 1, "日本", 4),
+        (0, 2, "a日本", 5),
+        (2, 3, "日本", 4),
+    ] {
+        let drawn = draw_span(&rt, &mut viewport, x, y, &Span(text))?;
+        check_rect(&rt, drawn, rect(x, y, width, 1));
+    }
+    let expected = "\"  cde \"\n\"   本 \"\n\"   本 \"\n\"  日  \"\n";
+    check_masked(&rt, viewport, expected)
+}
+
+/// Draws spans as a text on row 0 and as a line on row 1, of so many columns.
+fn check_texts(
+    rt: &impl Abort,
+    alloc: Global,
+    viewport: &mut Viewport<u8>,
+    spans: &[Span],
+    width: usize,
+) -> Result<(), RecordError> {
+    let drawn = draw_text(rt, viewport, 0, 0, spans)?;
+    check_rect(rt, drawn, rect(0, 0, width, 1));
+    let line = Line(spans.to_vec(alloc)?);
+    let drawn = draw_line(rt, viewport, 0, 1, &line)?;
+    check_rect(rt, drawn, rect(0, 1, width, 1));
+    Ok(())
+}
+
+#[test]
+fn masked_texts(rt: HostRuntime) -> Result<(), RecordError> {
+    let alloc = rt.alloc();
+    let mut viewport = masked_viewport(&rt, alloc, 2)?;
+    let text = [Span("a"), Span("日"), Span("bcd")];
+    check_texts(&rt, alloc, &mut viewport, &text, 6)?;
+    check_masked(&rt, viewport, "\"   b… \"\n\"   bc \"\n")
+}
+
+/// Draws a frame over a screen of so many columns and rows.
+fn check_frame(
+    rt: &impl Abort,
+    alloc: Global,
+    width: u16,
+    height: u16,
+    expected: &str,
+) -> Result<(), RecordError> {
+    let whole = rect(0, 0, width as usize, height as usize);
+    let mut viewport = viewport_at(alloc, 0, 0, width, height)?;
+    check_rect(rt, viewport.draw_frame(whole, "Quit", &["body"])?, whole);
+    check_drawing(rt, viewport, expected)
+}
+
+#[test]
+fn frames(rt: HostRuntime) -> Result<(), RecordError> {
+    let alloc = rt.alloc();
+    for (width, height, expected) in [
+        (10, 2, "\"┌Quit────┐\"\n\"└────────┘\"\n"),
+        (1, 1, "\"┌\"\n"),
+        (1, 2, "\"┌\"\n\"└\"\n"),
+        (2, 1, "\"┌┐\"\n"),
+        (0, 0, ""),
+        (0, 2, ""),
+        (3, 3, "\"┌Q┐\"\n\"│b│\"\n\"└─┘\"\n"),
+    ] {
+        check_frame(&rt, alloc, width, height, expected)?;
+    }
+    Ok(())
+}
+
+/// Checks the box of an id: its rectangle, and its rank in the order of beginning, from 0.
+fn check_box(rt: &impl Abort, boxes: &DrawnRects<u8>, id: u8, expected: (Rect, usize)) {
+    let (rect, timestamp) = expected;
+    let expected = DrawnRect { rect, timestamp };
+    assert_eq!(rt; boxes.get(&id).copied(), Some(expected));
+}
+
+/// Two texts of one id, under the id 1.
+fn twins() -> Pair {
+    Pair {
+        id: 1,
+        first: Caption { id: 2, text: "ab" },
+        second: Caption { id: 2, text: "c" },
+    }
+}
+
+#[test]
+fn boxes(rt: HostRuntime) -> Result<(), RecordError> {
+    let alloc = rt.alloc();
+    let mut grid = Grid::new(alloc, 6, 3)?;
+    let drawn = render_pair(&rt, alloc, &mut grid, &twins())?;
+    check_box(&rt, &drawn, 1, (rect(0, 0, 2, 2), 0));
+    check_box(&rt, &drawn, 2, (rect(0, 1, 1, 1), 2));
+    check_view(&rt, &grid, "\"ab    \"\n\"c     \"\n\"      \"\n")
+}
+
+/// A pane over a text, under a mask.
+fn sample_nest() -> Nest {
+    Nest {
+        id: 1,
+        mask: columns(1, 3),
+        pane: Pane {
+            id: 2,
+            mask: columns(2, 4),
+            caption: Caption {
+                id: 3,
+                text: "abcdef",
+            },
+        },
+        below: Caption {
+            id: 4,
+            text: "uvwxyz",
+        },
+    }
+}
+
+#[test]
+fn nested_masks(rt: HostRuntime) -> Result<(), RecordError> {
+    let mut viewport = viewport_at(rt.alloc(), 0, 0, 6, 2)?;
+    let outer = columns(0, 5);
+    viewport.swap_mask(Some(outer));
+    let drawn = draw_nest(&rt, &mut viewport, &sample_nest())?;
+    check_rect(&rt, drawn, rect(0, 0, 6, 2));
+    assert_eq!(rt; viewport.mask(), outer);
+    check_drawing(&rt, viewport, "\"  cdef\"\n\" vw…  \"\n")
+}
+
+/// Three texts: of wide symbols, longer than the grid, and without columns.
+fn sample_column(alloc: Global) -> Result<Column, AllocError> {
+    let captions = vec![in alloc;
+        Caption { id: 2, text: "日" },
+        Caption {
+            id: 3,
+            text: "abcdefgh"
+        },
+        Caption { id: 4, text: "" },
+    ]?;
+    Ok(Column { id: 1, captions })
+}
+
+#[test]
+fn rows_of_captions(rt: HostRuntime) -> Result<(), RecordError> {
+    let alloc = rt.alloc();
+    let mut grid = Grid::new(alloc, 6, 4)?;
+    let drawn = render_column(&rt, alloc, &mut grid, &sample_column(alloc)?)?;
+    for (id, expected) in [
+        (1, (rect(0, 0, 8, 2), 0)),
+        (2, (rect(0, 0, 2, 1), 1)),
+        (3, (rect(0, 1, 8, 1), 2)),
+        (4, (rect(0, 0, 0, 0), 3)),
+    ] {
+        check_box(&rt, &drawn, id, expected);
+    }
+    check_view(
+        &rt,
+        &grid,
+        "\"日    \"\n\"abcde…\"\n\"      \"\n\"      \"\n",
+    )
+}
+
+/// A thousand texts of two hundred ids.
+fn long_column(alloc: Global) -> Result<Column, AllocError> {
+    let mut captions = Vec::new(alloc);
+    for _ in 0..5 {
+        for id in 0..200u8 {
+            captions.push(Caption { id, text: "a" })?;
+        }
+    }
+    Ok(Column { id: 255, captions })
+}
+
+#[test]
+fn a_thousand_boxes(rt: HostRuntime) -> Result<(), RecordError> {
+    let alloc = rt.alloc();
+    let mut grid = Grid::new(alloc, 6, 4)?;
+    let drawn = render_column(&rt, alloc, &mut grid, &long_column(alloc)?)?;
+    assert_eq!(rt; drawn.len(), 201);
+    check_box(&rt, &drawn, 7, (rect(0, 807, 1, 1), 808));
+    Ok(())
+}
+
+#[test]
+fn texts_without_columns_and_texts_made_while_drawing(rt: HostRuntime) -> Result<(), RecordError> {
+    let alloc = rt.alloc();
+    let mut viewport = viewport_at(alloc, 0, 0, 6, 1)?;
+    let tag = Tag {
+        id: 1,
+        label: "ab",
+        is_focused: true,
+    };
+    let drawn = draw_tag(&rt, alloc, &mut viewport, &tag)?;
+    check_rect(&rt, drawn, rect(0, 0, 4, 1));
+    let drawn = draw_span(&rt, &mut viewport, 5, 0, &Span(""))?;
+    check_rect(&rt, drawn, rect(5, 0, 0, 1));
+    check_drawing(&rt, viewport, "\"(ab)  \"\n")
+}
+
+/// Draws a text of so many columns by each call that takes one.
+fn check_drawn(
+    rt: &impl Abort,
+    alloc: Global,
+    viewport: &mut Viewport<u8>,
+    text: &str,
+    width: usize,
+) -> Result<(), RecordError> {
+    let drawn = draw_span(rt, viewport, 0, 1, &Span(text))?;
+    check_rect(rt, drawn, rect(0, 1, width, 1));
+    check_texts(rt, alloc, viewport, &[Span(text)], width)
+}
+
+/// Fills so many columns and rows by each call that does so.
+fn check_filled(
+    rt: &impl Abort,
+    viewport: &mut Viewport<u8>,
+    width: u16,
+    height: u16,
+    body: &[&str],
+) -> Result<(), RecordError> {
+    let whole = rect(0, 0, width as usize, height as usize);
+    check_rect(rt, viewport.draw_blank(whole)?, whole);
+    check_rect(rt, viewport.draw_frame(whole, "Quit", body)?, whole);
+    Ok(())
+}
+
+#[test]
+fn texts_without_symbols_are_drawn(rt: HostRuntime) -> Result<(), RecordError> {
+    let alloc = rt.alloc();
+    let mut viewport = viewport_at(alloc, 0, 0, 6, 2)?;
+    let drawn = draw_text(&rt, &mut viewport, 3, 0, &[])?;
+    check_rect(&rt, drawn, rect(3, 0, 0, 1));
+    let drawn = draw_line(&rt, &mut viewport, 3, 0, &Line(Vec::new(alloc)))?;
+    check_rect(&rt, drawn, rect(3, 0, 0, 1));
+    Ok(())
+}
+
+/// A text of one column: a letter under five thousand marks.
+fn long_text(alloc: Global) -> Result<String, AllocError> {
+    let mut text = String::from_str(alloc, "e")?;
+    for _ in 0..5000 {
+        text.push_str("\u{301}")?;
+    }
+    Ok(text)
+}
+
+#[test]
+fn texts_of_any_size_are_drawn(rt: HostRuntime) -> Result<(), RecordError> {
+    let alloc = rt.alloc();
+    let mut viewport = viewport_at(alloc, 0, 0, 6, 2)?;
+    check_drawn(&rt, alloc, &mut viewport, "", 0)?;
+    check_drawn(&rt, alloc, &mut viewport, "abcdefgh", 8)?;
+    let long = long_text(alloc)?;
+    check_drawn(&rt, alloc, &mut viewport, long.as_str(), 1)
+}
+
+/// Five thousand rows of text.
+fn long_body(alloc: Global) -> Result<Vec<&'static str>, AllocError> {
+    let mut body = Vec::new(alloc);
+    for _ in 0..5000 {
+        body.push("日本語")?;
+    }
+    Ok(body)
+}
+
+#[test]
+fn frames_of_any_size_are_drawn(rt: HostRuntime) -> Result<(), RecordError> {
+    let alloc = rt.alloc();
+    let mut viewport = viewport_at(alloc, 0, 0, 6, 2)?;
+    let body = long_body(alloc)?;
+    for (width, height) in [(0, 0), (0, 9), (9, 0), (1, 1), (5000, 5000)] {
+        check_filled(&rt, &mut viewport, width, height, &[])?;
+        check_filled(&rt, &mut viewport, width, height, body.as_slice())?;
+    }
+    Ok(())
+}
+
+#[test]
+fn components_are_drawn_without_places(rt: HostRuntime) -> Result<(), RecordError> {
+    let alloc = rt.alloc();
+    let mut nowhere = Grid::new(alloc, 0, 0)?;
+    let captions = Vec::new(alloc);
+    let drawn = render_column(&rt, alloc, &mut nowhere, &Column { id: 1, captions })?;
+    assert_eq!(rt; drawn.len(), 1);
+    Ok(())
+}
+
+#[test]
+fn targets(rt: HostRuntime) -> Result<(), RecordError> {
+    let mut boxes: DrawnRects<Spot> = DrawnRects::new(rt.alloc());
+    for (number, rect, timestamp) in [
+        (0, rect(0, 0, 9, 9), 4),
+        (1, rect(0, 0, 4, 2), 1),
+        (2, rect(2, 1, 4, 2), 3),
+        (3, rect(3, 1, 0, 2), 5),
+    ] {
+        let spot = Spot { number };
+        let _ = boxes.insert(spot, DrawnRect { rect, timestamp })?;
+    }
+    for (y, x, expected) in [
+        (0, 0, Some(1)),
+        (1, 2, Some(2)),
+        (1, 3, Some(2)),
+        (2, 5, Some(2)),
+        (2, 6, None),
+        (8, 8, None),
+        (-1, 0, None),
+    ] {
+        let found = target_at(&boxes, y, x);
+        assert_eq!(rt; found.map(|spot| spot.number), expected);
+    }
+    Ok(())
+}

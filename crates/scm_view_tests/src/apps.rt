@@ -1,0 +1,162 @@
+//! All that is shown of a state, drawn alone: on the screen, off it and under a mask, and how much is drawn.
+ghost use Rattle.scm_view.specs.ComponentRanges.{IsShortApp};
+ghost use Rattle.scm_view_tests.specs.Small.{AreSmallCommits};
+
+use crate::alone::{check_drawing, check_near, check_sight, has_short_menus, viewport_under};
+use crate::views::{check_commit, rows_of};
+use scm_cells::Grid;
+use scm_render::Viewport;
+use scm_samples::{ADDED, file_with};
+use scm_selection::KeySet;
+use scm_shown::Showing;
+use scm_types::{Items, RecordError, RecordState};
+use scm_view::{AppView, CommitView, ComponentId, SelectionKey, laws};
+use std::alloc::Global;
+use std::process::Abort;
+
+/// Draws all that is shown of a state whose files are all folded, on a new grid that shows the document
+/// from a row on.
+fn draw_app(
+    rt: &impl Abort,
+    alloc: Global,
+    grid: &mut Grid,
+    scroll: usize,
+    state: &RecordState<'_>,
+) -> Result<(), RecordError> {
+    assert!(rt; state.is_accepted());
+    assert!(rt; scroll <= 1000);
+    assert!(rt; grid.width() <= 100);
+    assert!(rt; grid.height() <= 100);
+    let folded = KeySet::new(alloc);
+    let showing = Showing::new(state, SelectionKey::None, &folded);
+    let view = showing.app_view(alloc)?;
+    laws::apps_are_in_range();
+    let _ = Viewport::render_top_level(alloc, grid, 0, scroll as isize, &view)?;
+    Ok(())
+}
+
+/// A state of one file, of which an added line is not selected.
+fn sample_state(alloc: Global) -> Result<RecordState<'static>, RecordError> {
+    let mut state = RecordState::empty(alloc);
+    state
+        .files
+        .push(file_with(alloc, &["a\n"], &[(false, ADDED, "b\n")])?)?;
+    Ok(state)
+}
+
+/// Checks what is drawn of that state on 30 columns and 3 rows, and how many rows and calls are counted.
+fn check_app(
+    rt: &impl Abort,
+    alloc: Global,
+    scroll: usize,
+    rows: &str,
+    counts: (usize, usize),
+) -> Result<(), RecordError> {
+    let state = sample_state(alloc)?;
+    let mut grid = Grid::new(alloc, 30, 3)?;
+    draw_app(rt, alloc, &mut grid, scroll, &state)?;
+    assert_eq!(rt; rows_of(alloc, &grid)?.as_str(), rows);
+    assert_eq!(rt; (grid.rows_drawn(), grid.calls()), counts, "{rows}");
+    Ok(())
+}
+
+#[test]
+fn apps_are_drawn_alone(rt: HostRuntime) -> Result<(), RecordError> {
+    // the menu bar takes a blank and four titles, wherever the document is; the header is a row of four calls where the screen has it,
+    // though the menu bar hides it on the screen's first row
+    let bar = "[File] [Edit] [Select] [View]\n\n\n";
+    for (scroll, rows, counts) in [
+        (
+            0,
+            "[File] [Edit] [Select] [View]\n[ ] f                      [+]\n\n",
+            (1, 9),
+        ),
+        (1, bar, (1, 9)),
+        (2, bar, (0, 5)),
+        (1000, bar, (0, 5)),
+    ] {
+        check_app(&rt, rt.alloc(), scroll, rows, counts)?;
+    }
+    Ok(())
+}
+
+// ---- under a mask
+
+/// Checks that commits have no message, and few and small files.
+fn check_commits(rt: &impl Abort, views: &[CommitView<'_>])
+    ensures { AreSmallCommits views.now }
+{
+    for view in views {
+        check_commit(rt, view);
+    }
+}
+
+/// Checks that a view has short menus, and small commits.
+fn check_view(rt: &impl Abort, view: &AppView<'_>)
+    ensures { IsShortApp view.now }
+{
+    let menus = view.menu_bar.menus.as_slice();
+    assert!(rt; menus.len() <= 1000);
+    assert!(rt; has_short_menus(menus));
+    let commits = view.commit_views.as_slice();
+    check_commits(rt, commits);
+}
+
+/// Draws all that a view shows, from a column on.
+fn draw_view(
+    rt: &impl Abort,
+    viewport: &mut Viewport<ComponentId>,
+    x: isize,
+    view: &AppView<'_>,
+) -> Result<(), RecordError> {
+    check_sight(rt, viewport);
+    check_near(rt, x);
+    check_view(rt, view);
+    laws::components_are_in_range();
+    scm_render::laws::parts_are_in_range::<ComponentId>();
+    let _ = viewport.draw_component(x, 0, view)?;
+    Ok(())
+}
+
+/// Draws all that is shown of a state whose files are all folded, from a column on.
+fn draw_state(
+    rt: &impl Abort,
+    alloc: Global,
+    viewport: &mut Viewport<ComponentId>,
+    x: isize,
+    state: &RecordState<'_>,
+) -> Result<(), RecordError> {
+    assert!(rt; state.is_accepted());
+    let folded = KeySet::new(alloc);
+    let showing = Showing::new(state, SelectionKey::None, &folded);
+    let view = showing.app_view(alloc)?;
+    draw_view(rt, viewport, x, &view)
+}
+
+/// Checks what is drawn of the state from a column on, on 20 columns and 3 rows under a mask of so many columns from one on.
+fn check_masked(
+    rt: &impl Abort,
+    alloc: Global,
+    mask: (isize, usize),
+    x: isize,
+    rows: &str,
+) -> Result<(), RecordError> {
+    let state = sample_state(alloc)?;
+    let mut viewport = viewport_under(rt, alloc, mask.0, mask.1)?;
+    draw_state(rt, alloc, &mut viewport, x, &state)?;
+    check_drawing(rt, alloc, viewport, rows, (1, 9))
+}
+
+#[test]
+fn apps_are_drawn_under_masks(rt: HostRuntime) -> Result<(), RecordError> {
+    // the mask cuts the menu bar; the document has a mask of its own, which replaces it
+    for (mask, x, rows) in [
+        ((0, 20), 0, "[File] [Edit] [Selec\n[ ] f            [+]\n\n"),
+        ((4, 2), 0, "    e]\n[ ] f            [+]\n\n"),
+        ((0, 0), 0, "\n[ ] f            [+]\n\n"),
+        ((0, 20), -3, "le] [Edit] [Select]\n f            [+]\n\n"),
+    ] {
+        check_masked(&rt, rt.alloc(), mask, x, rows)?;
+    }
+    Ok(())
+}
