@@ -60,13 +60,24 @@ def is_older(made, crates):
     return any(source.stat().st_mtime > made.stat().st_mtime for source in sources)
 
 
-def program(crate):
-    """The program of a crate. It is built where it is not there or a source is newer; it is proved first, which takes long."""
-    made = ROOT / "crates" / crate / "out" / crate
+def built(crate, name, *words):
+    """A file that a command makes in a crate's folder `out`. It is made where it is not there or a source is newer; the crate is proved
+    first, which takes long."""
+    made = ROOT / "crates" / crate / "out" / name
     if is_older(made, below(crate)):
-        print(f"building {crate}, which is proved first", file=sys.stderr, flush=True)
+        print(f"building {name}, of which the crate is proved first", file=sys.stderr, flush=True)
         with open(EXAMPLES / "letter", "rb") as script:
-            subprocess.run(["rt", "run"], cwd=made.parent.parent, stdin=script, stdout=subprocess.DEVNULL)
+            subprocess.run(words, cwd=made.parent.parent, stdin=script, stdout=subprocess.DEVNULL)
         if is_older(made, below(crate)):
-            stop(f"{crate} is not built")
+            stop(f"{name} is not built")
     return made
+
+
+def program(crate):
+    """The program of a crate."""
+    return built(crate, crate, "rt", "run")
+
+
+def test_program(crate):
+    """The program of a crate's tests."""
+    return built(crate, f"{crate}_tests", "rt", "test")
