@@ -1,6 +1,6 @@
 -- How much was drawn, call after call.
 use Rattle.std.proofs.Common.{◌≡◌, ℕ, zero, suc, ◌+◌, ◌≤◌, refl, sym, ap, ◌∙◌, arith, true, false, Bool}
-use Rattle.std.specs.Prelude.{nat_lt, ◌^◌, ◌-◌, if◌then◌else◌}
+use Rattle.std.specs.Prelude.{nat_lt, ◌^◌, ◌-◌, if◌then◌else◌, Result, Ok, Err, OnOk}
 use Rattle.scm_cells.specs.Counts.{Counts, no_counts, plus, raised, raised_by, added}
 
 raised-sum : (a b n : ℕ) → raised_by b (raised_by a n) ≡ raised_by (a + b) n
@@ -47,6 +47,11 @@ counts-most c a e =
     let rows = raised_by-most a.rows 0 in
     let calls = raised_by-most a.calls 0 in
     (rw e (omega (arith, rows)), rw e (omega (arith, calls)))
+
+-- more was drawn, and then nothing more where a call that may fail succeeds
+pub counted-before : {T E : Type 0} (r : Result T E) (c d e a : Counts) → d ≡ added c a → OnOk r (e ≡ added d no_counts) → OnOk r (e ≡ added c a)
+counted-before (Ok v) c d e a p q = q ∙ added-none d ∙ p
+counted-before (Err f) c d e a p q = tt
 
 -- ---- a loop
 

@@ -6,6 +6,8 @@ pub mod Picture
 pub mod Canvas
 -- The picture that each drawing call makes.
 pub mod Drawing
+-- What a drawing call does, in one word.
+pub mod Draws
 -- Places on the screen, and boxes with their times.
 pub mod Places
 -- A rectangle in the middle of another.

@@ -1,9 +1,9 @@
 //! What draws itself in a viewport.
-ghost use Rattle.std.specs.Prelude.{◌≡◌, ℕ, ℤ, OnOk, IfErr};
-ghost use Rattle.scm_cells.specs.Counts.{added};
+ghost use Rattle.std.specs.Prelude.{◌≡◌, ℕ, ℤ};
 ghost use Rattle.scm_render.specs.Picture.{Picture, PictureInRange};
-ghost use Rattle.scm_render.specs.Canvas.{Sight, Canvas, with_picture};
+ghost use Rattle.scm_render.specs.Canvas.{Sight};
 ghost use Rattle.scm_errors.specs.declared.error.RecordError.TheVariants.{OutOfMemory};
+ghost use Rattle.scm_render.specs.Draws.{Draws};
 
 use crate::viewport::Viewport;
 use scm_errors::RecordError;
@@ -44,8 +44,5 @@ pub trait Component: Sized {
         y: isize,
     ) -> Result<(), RecordError>
         requires { PictureInRange (picture self.now viewport.old.canvas.sight x y) }
-        ensures ok { OnOk result (viewport.new.canvas ≡ with_picture viewport.old.canvas (picture self.now viewport.old.canvas.sight x y)) }
-        ensures counts { OnOk result (viewport.new.counts ≡ added viewport.old.counts (record { rows = rows self.now viewport.old.canvas.sight x y; calls = calls self.now viewport.old.canvas.sight x y })) }
-        ensures rect { viewport.new.canvas.sight.rect ≡ viewport.old.canvas.sight.rect }
-        ensures err { IfErr result (λ e. e ≡ OutOfMemory) };
+        ensures { Draws viewport.old viewport.new result (picture self.now viewport.old.canvas.sight x y) (record { rows = rows self.now viewport.old.canvas.sight x y; calls = calls self.now viewport.old.canvas.sight x y }) };
 }

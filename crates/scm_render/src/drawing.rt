@@ -2,11 +2,12 @@
 ghost use Rattle.std.specs.Prelude.{◌≡◌, OnOk, IfOk, IfErr};
 ghost use Rattle.scm_cells.specs.Spans.{span_texts};
 ghost use Rattle.scm_cells.specs.Clusters.{text_width};
-ghost use Rattle.scm_cells.specs.Counts.{added, one_call};
+ghost use Rattle.scm_cells.specs.Counts.{added, no_counts, one_call};
 ghost use Rattle.scm_render.specs.Picture.{PictureInRange};
 ghost use Rattle.scm_render.specs.Canvas.{with_picture};
 ghost use Rattle.scm_render.specs.Drawing.{texts_width, row_rect, span_picture, line_picture, text_picture, body_texts, blank_picture, frame_picture};
 ghost use Rattle.scm_errors.specs.declared.error.RecordError.TheVariants.{OutOfMemory};
+ghost use Rattle.scm_render.specs.Draws.{Draws};
 
 use crate::filling::Filling;
 use crate::viewport::{Viewport, grown};
@@ -31,11 +32,8 @@ impl<K: Copy + Eq + Hash + Drop> Viewport<K> {
     /// text's.
     pub fn draw_span(&mut self, x: isize, y: isize, span: &Span) -> Result<Rect, RecordError>
         requires { PictureInRange {K = K} (span_picture self.old.canvas.sight x y span.now.0.now) }
-        ensures ok { OnOk result (self.new.canvas ≡ with_picture self.old.canvas (span_picture self.old.canvas.sight x y span.now.0.now)) }
+        ensures draws { Draws self.old self.new result (span_picture self.old.canvas.sight x y span.now.0.now) one_call }
         ensures drawn { IfOk result (λ r. r ≡ row_rect x y (text_width span.now.0.now)) }
-        ensures counts { OnOk result (self.new.counts ≡ added self.old.counts one_call) }
-        ensures rect { self.new.canvas.sight.rect ≡ self.old.canvas.sight.rect }
-        ensures err { IfErr result (λ e. e ≡ OutOfMemory) }
     {
         self.count_call();
         self.add_text(x, y, span.0)
@@ -44,11 +42,8 @@ impl<K: Copy + Eq + Hash + Drop> Viewport<K> {
     /// Draws a line, its spans one after another, cut to the mask. The box is the whole line's.
     pub fn draw_line(&mut self, x: isize, y: isize, line: &Line) -> Result<Rect, RecordError>
         requires { PictureInRange {K = K} (line_picture self.old.canvas.sight x y (span_texts line.now.0.items)) }
-        ensures ok { OnOk result (self.new.canvas ≡ with_picture self.old.canvas (line_picture self.old.canvas.sight x y (span_texts line.now.0.items))) }
+        ensures draws { Draws self.old self.new result (line_picture self.old.canvas.sight x y (span_texts line.now.0.items)) one_call }
         ensures drawn { IfOk result (λ r. r ≡ row_rect x y (texts_width (span_texts line.now.0.items))) }
-        ensures counts { OnOk result (self.new.counts ≡ added self.old.counts one_call) }
-        ensures rect { self.new.canvas.sight.rect ≡ self.old.canvas.sight.rect }
-        ensures err { IfErr result (λ e. e ≡ OutOfMemory) }
     {
         self.count_call();
         self.add_spans(x, y, line.0.as_slice())
@@ -59,11 +54,8 @@ impl<K: Copy + Eq + Hash + Drop> Viewport<K> {
     /// one of the whole spans.
     pub fn draw_text(&mut self, x: isize, y: isize, spans: &[Span]) -> Result<Rect, RecordError>
         requires { PictureInRange {K = K} (text_picture self.old.canvas.sight x y (span_texts spans.now)) }
-        ensures ok { OnOk result (self.new.canvas ≡ with_picture self.old.canvas (text_picture self.old.canvas.sight x y (span_texts spans.now))) }
+        ensures draws { Draws self.old self.new result (text_picture self.old.canvas.sight x y (span_texts spans.now)) one_call }
         ensures drawn { IfOk result (λ r. r ≡ row_rect x y (texts_width (span_texts spans.now))) }
-        ensures counts { OnOk result (self.new.counts ≡ added self.old.counts one_call) }
-        ensures rect { self.new.canvas.sight.rect ≡ self.old.canvas.sight.rect }
-        ensures err { IfErr result (λ e. e ≡ OutOfMemory) }
     {
         self.count_call();
         self.add_cut(x, y, spans)
@@ -72,11 +64,8 @@ impl<K: Copy + Eq + Hash + Drop> Viewport<K> {
     /// Draws spaces over the rectangle, as far as the mask goes, and gives the rectangle.
     pub fn draw_blank(&mut self, rect: Rect) -> Result<Rect, RecordError>
         requires { PictureInRange {K = K} (blank_picture self.old.canvas.sight rect) }
-        ensures ok { OnOk result (self.new.canvas ≡ with_picture self.old.canvas (blank_picture self.old.canvas.sight rect)) }
+        ensures draws { Draws self.old self.new result (blank_picture self.old.canvas.sight rect) one_call }
         ensures drawn { IfOk result (λ r. r ≡ rect) }
-        ensures counts { OnOk result (self.new.counts ≡ added self.old.counts one_call) }
-        ensures rect { self.new.canvas.sight.rect ≡ self.old.canvas.sight.rect }
-        ensures err { IfErr result (λ e. e ≡ OutOfMemory) }
     {
         self.count_call();
         self.add_blank(rect)
@@ -94,11 +83,8 @@ impl<K: Copy + Eq + Hash + Drop> Viewport<K> {
         body: &[&str],
     ) -> Result<Rect, RecordError>
         requires { PictureInRange {K = K} (frame_picture self.old.canvas.sight rect title.now (body_texts body.now)) }
-        ensures ok { OnOk result (self.new.canvas ≡ with_picture self.old.canvas (frame_picture self.old.canvas.sight rect title.now (body_texts body.now))) }
+        ensures draws { Draws self.old self.new result (frame_picture self.old.canvas.sight rect title.now (body_texts body.now)) one_call }
         ensures drawn { IfOk result (λ r. r ≡ rect) }
-        ensures counts { OnOk result (self.new.counts ≡ added self.old.counts one_call) }
-        ensures rect { self.new.canvas.sight.rect ≡ self.old.canvas.sight.rect }
-        ensures err { IfErr result (λ e. e ≡ OutOfMemory) }
     {
         self.count_call();
         self.add_frame(rect, title, body)
@@ -115,11 +101,8 @@ impl<K: Copy + Eq + Hash + Drop> Viewport<K> {
     /// Adds a text to what is drawn.
     fn add_text(&mut self, x: isize, y: isize, text: &str) -> Result<Rect, RecordError>
         requires { PictureInRange {K = K} (span_picture self.old.canvas.sight x y text.now) }
-        ensures ok { OnOk result (self.new.canvas ≡ with_picture self.old.canvas (span_picture self.old.canvas.sight x y text.now)) }
+        ensures draws { Draws self.old self.new result (span_picture self.old.canvas.sight x y text.now) no_counts }
         ensures drawn { IfOk result (λ r. r ≡ row_rect x y (text_width text.now)) }
-        ensures counts { OnOk result (self.new.counts ≡ self.old.counts) }
-        ensures rect { self.new.canvas.sight.rect ≡ self.old.canvas.sight.rect }
-        ensures err { IfErr result (λ e. e ≡ OutOfMemory) }
     {
         let within = self.mask_rect();
         let columns = self.surface.put_text(within, x, y, text)?;
@@ -131,11 +114,8 @@ impl<K: Copy + Eq + Hash + Drop> Viewport<K> {
     /// Adds spans one after another to what is drawn.
     fn add_spans(&mut self, x: isize, y: isize, spans: &[Span]) -> Result<Rect, RecordError>
         requires { PictureInRange {K = K} (line_picture self.old.canvas.sight x y (span_texts spans.now)) }
-        ensures ok { OnOk result (self.new.canvas ≡ with_picture self.old.canvas (line_picture self.old.canvas.sight x y (span_texts spans.now))) }
+        ensures draws { Draws self.old self.new result (line_picture self.old.canvas.sight x y (span_texts spans.now)) no_counts }
         ensures drawn { IfOk result (λ r. r ≡ row_rect x y (texts_width (span_texts spans.now))) }
-        ensures counts { OnOk result (self.new.counts ≡ self.old.counts) }
-        ensures rect { self.new.canvas.sight.rect ≡ self.old.canvas.sight.rect }
-        ensures err { IfErr result (λ e. e ≡ OutOfMemory) }
     {
         let within = self.mask_rect();
         let columns = self.surface.put_spans(within, x, y, spans)?;
@@ -147,11 +127,8 @@ impl<K: Copy + Eq + Hash + Drop> Viewport<K> {
     /// Adds spans to what is drawn, and an ellipsis where they go past the mask.
     fn add_cut(&mut self, x: isize, y: isize, spans: &[Span]) -> Result<Rect, RecordError>
         requires { PictureInRange {K = K} (text_picture self.old.canvas.sight x y (span_texts spans.now)) }
-        ensures ok { OnOk result (self.new.canvas ≡ with_picture self.old.canvas (text_picture self.old.canvas.sight x y (span_texts spans.now))) }
+        ensures draws { Draws self.old self.new result (text_picture self.old.canvas.sight x y (span_texts spans.now)) no_counts }
         ensures drawn { IfOk result (λ r. r ≡ row_rect x y (texts_width (span_texts spans.now))) }
-        ensures counts { OnOk result (self.new.counts ≡ self.old.counts) }
-        ensures rect { self.new.canvas.sight.rect ≡ self.old.canvas.sight.rect }
-        ensures err { IfErr result (λ e. e ≡ OutOfMemory) }
     {
         let drawn = self.add_spans(x, y, spans)?;
         let end = self.mask_rect().end_x();
@@ -164,11 +141,8 @@ impl<K: Copy + Eq + Hash + Drop> Viewport<K> {
     /// Adds spaces over the rectangle to what is drawn.
     fn add_blank(&mut self, rect: Rect) -> Result<Rect, RecordError>
         requires { PictureInRange {K = K} (blank_picture self.old.canvas.sight rect) }
-        ensures ok { OnOk result (self.new.canvas ≡ with_picture self.old.canvas (blank_picture self.old.canvas.sight rect)) }
+        ensures draws { Draws self.old self.new result (blank_picture self.old.canvas.sight rect) no_counts }
         ensures drawn { IfOk result (λ r. r ≡ rect) }
-        ensures counts { OnOk result (self.new.counts ≡ self.old.counts) }
-        ensures rect { self.new.canvas.sight.rect ≡ self.old.canvas.sight.rect }
-        ensures err { IfErr result (λ e. e ≡ OutOfMemory) }
     {
         let part = rect.intersect(self.mask_rect());
         self.surface.fill(&mut self.scratch, part, Filling::Blank)?;
@@ -179,11 +153,8 @@ impl<K: Copy + Eq + Hash + Drop> Viewport<K> {
     /// Adds a frame over the rectangle to what is drawn.
     fn add_frame(&mut self, rect: Rect, title: &str, body: &[&str]) -> Result<Rect, RecordError>
         requires { PictureInRange {K = K} (frame_picture self.old.canvas.sight rect title.now (body_texts body.now)) }
-        ensures ok { OnOk result (self.new.canvas ≡ with_picture self.old.canvas (frame_picture self.old.canvas.sight rect title.now (body_texts body.now))) }
+        ensures draws { Draws self.old self.new result (frame_picture self.old.canvas.sight rect title.now (body_texts body.now)) no_counts }
         ensures drawn { IfOk result (λ r. r ≡ rect) }
-        ensures counts { OnOk result (self.new.counts ≡ self.old.counts) }
-        ensures rect { self.new.canvas.sight.rect ≡ self.old.canvas.sight.rect }
-        ensures err { IfErr result (λ e. e ≡ OutOfMemory) }
     {
         let within = self.mask_rect();
         if rect.width > 0 && rect.height > 0 {

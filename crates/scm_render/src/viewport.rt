@@ -1,7 +1,7 @@
 //! A part of a document on a grid.
-ghost use Rattle.std.specs.Prelude.{◌≡◌, ◌<◌, ◌≤◌, OnOk, OnErr, IfOk, IfErr, IfSome, length, [], ◌∷◌, Option, None, Some, pos};
-ghost use Rattle.scm_cells.specs.Rect.{RectInRange, InRange};
-ghost use Rattle.scm_cells.specs.Mask.{MaskInRange, apply_of};
+ghost use Rattle.std.specs.Prelude.{◌≡◌, ◌<◌, ◌≤◌, OnOk, IfOk, IfErr, length, [], ◌∷◌, Option, None, Some, pos};
+ghost use Rattle.scm_cells.specs.Rect.{RectInRange};
+ghost use Rattle.scm_cells.specs.Mask.{MaskInRange};
 ghost use Rattle.scm_cells.specs.Counts.{added, one_row};
 ghost use Rattle.scm_render.specs.Around.{join, no_rect};
 ghost use Rattle.scm_render.specs.Picture.{PictureInRange, part, box_rect, covering};
@@ -10,6 +10,7 @@ ghost use Rattle.scm_render.specs.Drawing.{mask_or, reach};
 ghost use Rattle.scm_render.specs.Places.{translated, timed, screen_rect, whole_sight};
 ghost use Rattle.std.specs.HashMap.{IsFromIterResult};
 ghost use Rattle.scm_errors.specs.declared.error.RecordError.TheVariants.{OutOfMemory};
+ghost use Rattle.scm_render.specs.Draws.{Draws};
 
 use crate::component::Component;
 use crate::surface::Surface;
@@ -208,11 +209,8 @@ impl<K: Copy + Eq + Hash + Drop> Viewport<K> {
         component: &C,
     ) -> Result<Rect, RecordError>
         requires { PictureInRange (part (C.key component.now) (C.picture component.now self.old.canvas.sight x y)) }
-        ensures ok { OnOk result (self.new.canvas ≡ with_picture self.old.canvas (part (C.key component.now) (C.picture component.now self.old.canvas.sight x y))) }
-        ensures counts { OnOk result (self.new.counts ≡ added self.old.counts (record { rows = C.rows component.now self.old.canvas.sight x y; calls = C.calls component.now self.old.canvas.sight x y })) }
+        ensures draws { Draws self.old self.new result (part (C.key component.now) (C.picture component.now self.old.canvas.sight x y)) (record { rows = C.rows component.now self.old.canvas.sight x y; calls = C.calls component.now self.old.canvas.sight x y }) }
         ensures drawn { IfOk result (λ r. r ≡ box_rect (C.picture component.now self.old.canvas.sight x y)) }
-        ensures rect { self.new.canvas.sight.rect ≡ self.old.canvas.sight.rect }
-        ensures err { IfErr result (λ e. e ≡ OutOfMemory) }
     {
         let id = component.id();
         let place = self.boxes.len();

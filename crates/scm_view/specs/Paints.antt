@@ -1,8 +1,11 @@
 -- Painting: what stands on the screen's rows after drawing, whatever boxes were noted.
-use Rattle.std.specs.Prelude.{◌≡◌, ℕ, min, ℤ, ◌-ℤ◌, int_lt, Bool, ◌&&◌}
+use Rattle.std.specs.Prelude.{◌≡◌, ℕ, min, ℤ, ◌-ℤ◌, int_lt, Bool, ◌&&◌, Result, OnOk, IfErr}
+use Rattle.scm_errors.specs.declared.error.RecordError.{RecordError}
+use Rattle.scm_errors.specs.declared.error.RecordError.TheVariants.{OutOfMemory}
+use Rattle.scm_cells.specs.Counts.{Counts, added}
 use Rattle.scm_cells.specs.Rect.{or_zero, end_y_of}
 use Rattle.scm_cells.specs.declared.rect.Rect.{Rect}
-use Rattle.scm_render.specs.Canvas.{Canvas, painted}
+use Rattle.scm_render.specs.Canvas.{Canvas, ViewportState, painted}
 use Rattle.scm_view.specs.declared.ids.ComponentId.{ComponentId}
 use Rattle.scm_view.specs.Pictures.{IdPicture}
 
@@ -10,6 +13,14 @@ use Rattle.scm_view.specs.Pictures.{IdPicture}
 pub record IsPainted (before after : Canvas ComponentId) (picture : IdPicture) : Type 0 where
   pub sight : after.sight ≡ before.sight
   pub rows : after.rows ≡ painted before.sight.rect picture.puts before.sight.rect.y before.rows
+
+-- a call that returned this paints the picture, and counts so much for it, unless memory was refused; the part of the document
+-- that is on the screen stays in any case
+pub record Paints {A : Type 0} (before after : ViewportState ComponentId) (result : Result A RecordError) (picture : IdPicture) (counted : Counts) : Type 0 where
+  pub ok : OnOk result (IsPainted before.canvas after.canvas picture)
+  pub counts : OnOk result (after.counts ≡ added before.counts counted)
+  pub rect : after.canvas.sight.rect ≡ before.canvas.sight.rect
+  pub err : IfErr result (λ e. e ≡ OutOfMemory)
 
 -- the screen has one of the rows from y on and above another
 abbrev pub is_seen : Rect → ℤ → ℤ → Bool

@@ -3,8 +3,7 @@ ghost use Rattle.std.specs.Prelude.{◌≡◌, ◌≤◌, ℤ, pos, ◌+ℤ◌, 
 ghost use Rattle.scm_cells.specs.Rect.{InRange, RectInRange, end_x_of};
 ghost use Rattle.scm_cells.specs.Mask.{MaskInRange};
 ghost use Rattle.scm_render.specs.Picture.{PictureInRange, part};
-ghost use Rattle.scm_cells.specs.Counts.{added};
-ghost use Rattle.scm_render.specs.Canvas.{with_picture, under};
+ghost use Rattle.scm_render.specs.Canvas.{under};
 ghost use Rattle.scm_view.specs.Rows.{document_of};
 ghost use Rattle.scm_view.specs.Counts.{drawn, document_counts, quit_calls, help_calls};
 ghost use Rattle.scm_errors.specs.declared.error.RecordError.TheVariants.{OutOfMemory};
@@ -13,8 +12,9 @@ ghost use Rattle.scm_view.specs.Overlays.{quit_picture, help_picture};
 ghost use Rattle.scm_view.specs.Shown.{Shown};
 ghost use Rattle.scm_view.specs.Window.{IsPlain, ShowsInline, window, IsFew};
 ghost use Rattle.scm_view.specs.AppView.{views_shown, view_width, held, view_mask, view_picture, next_view, views_picture, views_counts, has_help, app_picture, app_counts};
-ghost use Rattle.scm_view.specs.Paints.{IsPainted};
 ghost use Rattle.scm_view.specs.declared.commit_view.CommitViewMode.TheVariants.{Inline};
+ghost use Rattle.scm_render.specs.Draws.{Draws};
+ghost use Rattle.scm_view.specs.Paints.{Paints};
 
 use crate::commit_view::{CommitView, CommitViewMode};
 use crate::help_dialog::HelpDialog;
@@ -102,11 +102,8 @@ fn draw_view(
 ) -> Result<isize, RecordError>
     requires below { InRange (viewport.old.canvas.sight.rect.y +ℤ pos 1) }
     requires picture { PictureInRange (part ids.AppFiles (view_picture view.now viewport.old.canvas.sight x width)) }
-    ensures ok { OnOk result (viewport.new.canvas ≡ with_picture viewport.old.canvas (part ids.AppFiles (view_picture view.now viewport.old.canvas.sight x width))) }
+    ensures draws { Draws viewport.old viewport.new result (part ids.AppFiles (view_picture view.now viewport.old.canvas.sight x width)) (document_counts (document_of view.now) (under (view_mask viewport.old.canvas.sight x width) viewport.old.canvas.sight) (pos 1)) }
     ensures next { IfOk result (λ c. c ≡ next_view view.now viewport.old.canvas.sight x width) }
-    ensures counts { OnOk result (viewport.new.counts ≡ added viewport.old.counts (document_counts (document_of view.now) (under (view_mask viewport.old.canvas.sight x width) viewport.old.canvas.sight) (pos 1))) }
-    ensures rect { viewport.new.canvas.sight.rect ≡ viewport.old.canvas.sight.rect }
-    ensures err { IfErr result (λ e. e ≡ OutOfMemory) }
 {
     let mask = view_mask(viewport, x, width);
     let outer = viewport.swap_mask(Some(mask));
@@ -125,10 +122,7 @@ fn draw_views(
     requires below { InRange (viewport.old.canvas.sight.rect.y +ℤ pos 1) }
     requires end { InRange (end_x_of viewport.old.canvas.sight.rect) }
     requires picture { PictureInRange (views_picture views.now width viewport.old.canvas.sight x) }
-    ensures ok { OnOk result (viewport.new.canvas ≡ with_picture viewport.old.canvas (views_picture views.now width viewport.old.canvas.sight x)) }
-    ensures counts { OnOk result (viewport.new.counts ≡ added viewport.old.counts (views_counts views.now width viewport.old.canvas.sight x)) }
-    ensures rect { viewport.new.canvas.sight.rect ≡ viewport.old.canvas.sight.rect }
-    ensures err { IfErr result (λ e. e ≡ OutOfMemory) }
+    ensures { Draws viewport.old viewport.new result (views_picture views.now width viewport.old.canvas.sight x) (views_counts views.now width viewport.old.canvas.sight x) }
 {
     let mut left = x;
     for view in views {
@@ -143,10 +137,7 @@ fn draw_quit(
     dialog: &Option<QuitDialog>,
 ) -> Result<(), RecordError>
     requires { PictureInRange (quit_picture dialog.now viewport.old.canvas.sight) }
-    ensures ok { OnOk result (viewport.new.canvas ≡ with_picture viewport.old.canvas (quit_picture dialog.now viewport.old.canvas.sight)) }
-    ensures counts { OnOk result (viewport.new.counts ≡ added viewport.old.counts (drawn 0 (quit_calls dialog.now))) }
-    ensures rect { viewport.new.canvas.sight.rect ≡ viewport.old.canvas.sight.rect }
-    ensures err { IfErr result (λ e. e ≡ OutOfMemory) }
+    ensures { Draws viewport.old viewport.new result (quit_picture dialog.now viewport.old.canvas.sight) (drawn 0 (quit_calls dialog.now)) }
 {
     match dialog {
         Some(quit_dialog) => {
@@ -163,10 +154,7 @@ fn draw_help(
     dialog: &Option<HelpDialog>,
 ) -> Result<(), RecordError>
     requires { PictureInRange (help_picture (has_help dialog.now) viewport.old.canvas.sight) }
-    ensures ok { OnOk result (viewport.new.canvas ≡ with_picture viewport.old.canvas (help_picture (has_help dialog.now) viewport.old.canvas.sight)) }
-    ensures counts { OnOk result (viewport.new.counts ≡ added viewport.old.counts (drawn 0 (help_calls (has_help dialog.now)))) }
-    ensures rect { viewport.new.canvas.sight.rect ≡ viewport.old.canvas.sight.rect }
-    ensures err { IfErr result (λ e. e ≡ OutOfMemory) }
+    ensures { Draws viewport.old viewport.new result (help_picture (has_help dialog.now) viewport.old.canvas.sight) (drawn 0 (help_calls (has_help dialog.now))) }
 {
     match dialog {
         Some(help_dialog) => {
@@ -202,10 +190,7 @@ fn paint_view(
 ) -> Result<(), RecordError>
     requires below { InRange (viewport.old.canvas.sight.rect.y +ℤ pos 1) }
     requires picture { PictureInRange (view_picture view.now viewport.old.canvas.sight x width) }
-    ensures ok { OnOk result (IsPainted viewport.old.canvas viewport.new.canvas (view_picture view.now viewport.old.canvas.sight x width)) }
-    ensures counts { OnOk result (viewport.new.counts ≡ added viewport.old.counts (document_counts (document_of view.now) (under (view_mask viewport.old.canvas.sight x width) viewport.old.canvas.sight) (pos 1))) }
-    ensures rect { viewport.new.canvas.sight.rect ≡ viewport.old.canvas.sight.rect }
-    ensures err { IfErr result (λ e. e ≡ OutOfMemory) }
+    ensures { Paints viewport.old viewport.new result (view_picture view.now viewport.old.canvas.sight x width) (document_counts (document_of view.now) (under (view_mask viewport.old.canvas.sight x width) viewport.old.canvas.sight) (pos 1)) }
 {
     let mask = view_mask(viewport, x, width);
     let outer = viewport.swap_mask(Some(mask));
@@ -223,10 +208,7 @@ fn paint_first(
 ) -> Result<(), RecordError>
     requires below { InRange (viewport.old.canvas.sight.rect.y +ℤ pos 1) }
     requires picture { PictureInRange (views_picture (take 1 views.now) width viewport.old.canvas.sight (pos 0)) }
-    ensures ok { OnOk result (IsPainted viewport.old.canvas viewport.new.canvas (views_picture (take 1 views.now) width viewport.old.canvas.sight (pos 0))) }
-    ensures counts { OnOk result (viewport.new.counts ≡ added viewport.old.counts (views_counts (take 1 views.now) width viewport.old.canvas.sight (pos 0))) }
-    ensures rect { viewport.new.canvas.sight.rect ≡ viewport.old.canvas.sight.rect }
-    ensures err { IfErr result (λ e. e ≡ OutOfMemory) }
+    ensures { Paints viewport.old viewport.new result (views_picture (take 1 views.now) width viewport.old.canvas.sight (pos 0)) (views_counts (take 1 views.now) width viewport.old.canvas.sight (pos 0)) }
 {
     match views.first() {
         Some(view) => paint_view(alloc, viewport, 0, width, view),
@@ -243,10 +225,7 @@ impl<'a> AppView<'a> {
     ) -> Result<(), RecordError>
         requires inline { self.now.commit_view_mode ≡ Inline }
         requires picture { PictureInRange (app_picture self.now viewport.old.canvas.sight (pos 0) (pos 0)) }
-        ensures ok { OnOk result (IsPainted viewport.old.canvas viewport.new.canvas (app_picture self.now viewport.old.canvas.sight (pos 0) (pos 0))) }
-        ensures counts { OnOk result (viewport.new.counts ≡ added viewport.old.counts (app_counts self.now viewport.old.canvas.sight (pos 0))) }
-        ensures rect { viewport.new.canvas.sight.rect ≡ viewport.old.canvas.sight.rect }
-        ensures err { IfErr result (λ e. e ≡ OutOfMemory) }
+        ensures { Paints viewport.old viewport.new result (app_picture self.now viewport.old.canvas.sight (pos 0) (pos 0)) (app_counts self.now viewport.old.canvas.sight (pos 0)) }
     {
         let screen = viewport.rect();
         paint_first(alloc, viewport, screen.width, self.commit_views.as_slice())?;

@@ -1,12 +1,11 @@
 //! Buttons beside others.
 ghost use Rattle.std.specs.Prelude.{◌≡◌, length, OnOk, IfOk, IfErr, ◌<◌, ◌^◌, ◌++◌};
 ghost use Rattle.scm_render.specs.Picture.{PictureInRange};
-ghost use Rattle.scm_render.specs.Canvas.{with_picture};
-ghost use Rattle.scm_cells.specs.Counts.{added};
 ghost use Rattle.scm_view.specs.Counts.{drawn};
 ghost use Rattle.scm_errors.specs.declared.error.RecordError.TheVariants.{OutOfMemory};
 ghost use Rattle.scm_view.specs.Buttons.{button_width, buttons_picture};
 ghost use Rattle.scm_view.specs.Spots.{buttons_spots, least_left};
+ghost use Rattle.scm_render.specs.Draws.{Draws};
 
 use crate::button::Button;
 use crate::ids::ComponentId;
@@ -35,10 +34,7 @@ pub(crate) fn draw_buttons<K: Copy + Eq + Hash + Drop>(
     buttons: &[Button<'_, K>],
 ) -> Result<(), RecordError>
     requires { PictureInRange (buttons_picture viewport.old.canvas.sight end y buttons.now) }
-    ensures ok { OnOk result (viewport.new.canvas ≡ with_picture viewport.old.canvas (buttons_picture viewport.old.canvas.sight end y buttons.now)) }
-    ensures counts { OnOk result (viewport.new.counts ≡ added viewport.old.counts (drawn 0 (length buttons.now))) }
-    ensures rect { viewport.new.canvas.sight.rect ≡ viewport.old.canvas.sight.rect }
-    ensures err { IfErr result (λ e. e ≡ OutOfMemory) }
+    ensures { Draws viewport.old viewport.new result (buttons_picture viewport.old.canvas.sight end y buttons.now) (drawn 0 (length buttons.now)) }
 {
     let mut right = end;
     for button in buttons {

@@ -1,14 +1,13 @@
 //! The message of a commit.
 ghost use Rattle.std.specs.Prelude.{◌≡◌, ◌++◌, is_some, Some, OnOk, IfErr};
 ghost use Rattle.scm_render.specs.Picture.{PictureInRange};
-ghost use Rattle.scm_render.specs.Canvas.{with_picture};
-ghost use Rattle.scm_cells.specs.Counts.{added};
 ghost use Rattle.scm_view.specs.Counts.{drawn, on_row, message_counts};
 ghost use Rattle.scm_errors.specs.declared.error.RecordError.TheVariants.{OutOfMemory};
 ghost use Rattle.scm_view.specs.Pictures.{beside_button, edit_button, message_picture};
 ghost use Rattle.scm_view.specs.Rows.{message_height};
 ghost use Rattle.scm_view.specs.Spots.{message_spots};
 ghost use Rattle.scm_view.specs.Texts.{divider_text, message_text};
+ghost use Rattle.scm_render.specs.Draws.{Draws};
 
 use crate::button::Button;
 use crate::ids::ComponentId;
@@ -49,10 +48,7 @@ fn draw_beside_button(
     text: &str,
 ) -> Result<(), RecordError>
     requires { PictureInRange (beside_button text.now viewport.old.canvas.sight x y) }
-    ensures ok { OnOk result (viewport.new.canvas ≡ with_picture viewport.old.canvas (beside_button text.now viewport.old.canvas.sight x y)) }
-    ensures counts { OnOk result (viewport.new.counts ≡ added viewport.old.counts (on_row viewport.old.canvas.sight.rect y (drawn 0 2))) }
-    ensures rect { viewport.new.canvas.sight.rect ≡ viewport.old.canvas.sight.rect }
-    ensures err { IfErr result (λ e. e ≡ OutOfMemory) }
+    ensures { Draws viewport.old viewport.new result (beside_button text.now viewport.old.canvas.sight x y) (on_row viewport.old.canvas.sight.rect y (drawn 0 2)) }
 {
     show_span(viewport, x + 15, y, divider_text())?;
     show_text(viewport, x + 19, y, &[Span(text)])?;
@@ -69,10 +65,7 @@ fn draw_message(
     message: &str,
 ) -> Result<(), RecordError>
     requires { PictureInRange (message_picture commit_idx (Some message.now) viewport.old.canvas.sight x y) }
-    ensures ok { OnOk result (viewport.new.canvas ≡ with_picture viewport.old.canvas (message_picture commit_idx (Some message.now) viewport.old.canvas.sight x y)) }
-    ensures counts { OnOk result (viewport.new.counts ≡ added viewport.old.counts (message_counts (Some message.now) viewport.old.canvas.sight.rect y)) }
-    ensures rect { viewport.new.canvas.sight.rect ≡ viewport.old.canvas.sight.rect }
-    ensures err { IfErr result (λ e. e ≡ OutOfMemory) }
+    ensures { Draws viewport.old viewport.new result (message_picture commit_idx (Some message.now) viewport.old.canvas.sight x y) (message_counts (Some message.now) viewport.old.canvas.sight.rect y) }
 {
     let width = to_end(viewport, x);
     let button = edit_button(commit_idx);

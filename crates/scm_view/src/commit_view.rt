@@ -3,15 +3,16 @@ ghost use Rattle.std.specs.Prelude.{◌≡◌, ◌+◌, ◌<◌, ◌^◌, ◌++�
 ghost use Rattle.scm_cells.specs.Rect.{InRange};
 ghost use Rattle.scm_cells.specs.Mask.{MaskInRange};
 ghost use Rattle.scm_render.specs.Picture.{PictureInRange};
-ghost use Rattle.scm_render.specs.Canvas.{with_picture, under};
-ghost use Rattle.scm_cells.specs.Counts.{added, plus};
+ghost use Rattle.scm_render.specs.Canvas.{under};
+ghost use Rattle.scm_cells.specs.Counts.{plus};
 ghost use Rattle.scm_view.specs.Counts.{header_counts, file_counts, pinned_counts, files_counts, body_counts, document_counts};
 ghost use Rattle.scm_errors.specs.declared.error.RecordError.TheVariants.{OutOfMemory};
 ghost use Rattle.scm_view.specs.Rows.{shown_file, file_rows, document_of};
 ghost use Rattle.scm_view.specs.Tops.{files_height};
 ghost use Rattle.scm_view.specs.Pieces.{files_pieces};
 ghost use Rattle.scm_view.specs.Pictures.{mask_row, file_mask, pinned_mask, pinned_header, one_file_picture, files_picture, body_picture, file_picture, commit_picture};
-ghost use Rattle.scm_view.specs.Paints.{IsPainted};
+ghost use Rattle.scm_render.specs.Draws.{Draws};
+ghost use Rattle.scm_view.specs.Paints.{Paints};
 
 use crate::commit_message_view::CommitMessageView;
 use crate::file_view::FileView;
@@ -99,10 +100,7 @@ fn draw_pinned(
     file: &FileView<'_>,
 ) -> Result<(), RecordError>
     requires { PictureInRange (pinned_header (shown_file file.now) viewport.old.canvas.sight x y) }
-    ensures ok { OnOk result (viewport.new.canvas ≡ with_picture viewport.old.canvas (pinned_header (shown_file file.now) viewport.old.canvas.sight x y)) }
-    ensures counts { OnOk result (viewport.new.counts ≡ added viewport.old.counts (header_counts viewport.old.canvas.sight.rect y)) }
-    ensures rect { viewport.new.canvas.sight.rect ≡ viewport.old.canvas.sight.rect }
-    ensures err { IfErr result (λ e. e ≡ OutOfMemory) }
+    ensures { Draws viewport.old viewport.new result (pinned_header (shown_file file.now) viewport.old.canvas.sight x y) (header_counts viewport.old.canvas.sight.rect y) }
 {
     let header = file.header();
     let row = pinned_mask(viewport, x, y);
@@ -118,10 +116,7 @@ fn draw_file(
     file: &FileView<'_>,
 ) -> Result<(), RecordError>
     requires { PictureInRange (one_file_picture (shown_file file.now) viewport.old.canvas.sight x y) }
-    ensures ok { OnOk result (viewport.new.canvas ≡ with_picture viewport.old.canvas (one_file_picture (shown_file file.now) viewport.old.canvas.sight x y)) }
-    ensures counts { OnOk result (viewport.new.counts ≡ added viewport.old.counts (plus (file_counts (shown_file file.now) viewport.old.canvas.sight.rect y) (pinned_counts (shown_file file.now) viewport.old.canvas.sight.rect (mask_row viewport.old.canvas.sight) y))) }
-    ensures rect { viewport.new.canvas.sight.rect ≡ viewport.old.canvas.sight.rect }
-    ensures err { IfErr result (λ e. e ≡ OutOfMemory) }
+    ensures { Draws viewport.old viewport.new result (one_file_picture (shown_file file.now) viewport.old.canvas.sight x y) (plus (file_counts (shown_file file.now) viewport.old.canvas.sight.rect y) (pinned_counts (shown_file file.now) viewport.old.canvas.sight.rect (mask_row viewport.old.canvas.sight) y)) }
 {
     let top = mask_row(viewport);
     let below = file.row_below(y);
@@ -142,10 +137,7 @@ fn draw_files(
     files: &[FileView<'_>],
 ) -> Result<(), RecordError>
     requires { PictureInRange (files_picture (map shown_file files.now) viewport.old.canvas.sight x y) }
-    ensures ok { OnOk result (viewport.new.canvas ≡ with_picture viewport.old.canvas (files_picture (map shown_file files.now) viewport.old.canvas.sight x y)) }
-    ensures counts { OnOk result (viewport.new.counts ≡ added viewport.old.counts (files_counts (map shown_file files.now) viewport.old.canvas.sight.rect (mask_row viewport.old.canvas.sight) y)) }
-    ensures rect { viewport.new.canvas.sight.rect ≡ viewport.old.canvas.sight.rect }
-    ensures err { IfErr result (λ e. e ≡ OutOfMemory) }
+    ensures { Draws viewport.old viewport.new result (files_picture (map shown_file files.now) viewport.old.canvas.sight x y) (files_counts (map shown_file files.now) viewport.old.canvas.sight.rect (mask_row viewport.old.canvas.sight) y) }
 {
     let mut row = y;
     for file in files {
@@ -164,10 +156,7 @@ fn draw_body(
     files: &[FileView<'_>],
 ) -> Result<(), RecordError>
     requires { PictureInRange (body_picture (map shown_file files.now) viewport.old.canvas.sight x y (y +ℤ pos height)) }
-    ensures ok { OnOk result (viewport.new.canvas ≡ with_picture viewport.old.canvas (body_picture (map shown_file files.now) viewport.old.canvas.sight x y (y +ℤ pos height))) }
-    ensures counts { OnOk result (viewport.new.counts ≡ added viewport.old.counts (body_counts (map shown_file files.now) viewport.old.canvas.sight y (y +ℤ pos height))) }
-    ensures rect { viewport.new.canvas.sight.rect ≡ viewport.old.canvas.sight.rect }
-    ensures err { IfErr result (λ e. e ≡ OutOfMemory) }
+    ensures { Draws viewport.old viewport.new result (body_picture (map shown_file files.now) viewport.old.canvas.sight x y (y +ℤ pos height)) (body_counts (map shown_file files.now) viewport.old.canvas.sight y (y +ℤ pos height)) }
 {
     if files.is_empty() {
         draw_no_files(viewport, x, y)
@@ -209,10 +198,7 @@ fn paint_under(
     requires mask { MaskInRange mask }
     requires below { below ≡ y +ℤ pos (length (file_rows (shown_file file.now))) }
     requires picture { PictureInRange (file_picture file.now (under mask viewport.old.canvas.sight) x y) }
-    ensures ok { OnOk result (IsPainted viewport.old.canvas viewport.new.canvas (file_picture file.now (under mask viewport.old.canvas.sight) x y)) }
-    ensures counts { OnOk result (viewport.new.counts ≡ added viewport.old.counts (file_counts (shown_file file.now) viewport.old.canvas.sight.rect y)) }
-    ensures rect { viewport.new.canvas.sight.rect ≡ viewport.old.canvas.sight.rect }
-    ensures err { IfErr result (λ e. e ≡ OutOfMemory) }
+    ensures { Paints viewport.old viewport.new result (file_picture file.now (under mask viewport.old.canvas.sight) x y) (file_counts (shown_file file.now) viewport.old.canvas.sight.rect y) }
 {
     let outer = viewport.swap_mask(Some(mask));
     file.paint(alloc, viewport, x, y, below)?;
@@ -229,10 +215,7 @@ fn paint_file(
     file: &FileView<'_>,
 ) -> Result<(), RecordError>
     requires { PictureInRange (one_file_picture (shown_file file.now) viewport.old.canvas.sight x y) }
-    ensures ok { OnOk result (IsPainted viewport.old.canvas viewport.new.canvas (one_file_picture (shown_file file.now) viewport.old.canvas.sight x y)) }
-    ensures counts { OnOk result (viewport.new.counts ≡ added viewport.old.counts (plus (file_counts (shown_file file.now) viewport.old.canvas.sight.rect y) (pinned_counts (shown_file file.now) viewport.old.canvas.sight.rect (mask_row viewport.old.canvas.sight) y))) }
-    ensures rect { viewport.new.canvas.sight.rect ≡ viewport.old.canvas.sight.rect }
-    ensures err { IfErr result (λ e. e ≡ OutOfMemory) }
+    ensures { Paints viewport.old viewport.new result (one_file_picture (shown_file file.now) viewport.old.canvas.sight x y) (plus (file_counts (shown_file file.now) viewport.old.canvas.sight.rect y) (pinned_counts (shown_file file.now) viewport.old.canvas.sight.rect (mask_row viewport.old.canvas.sight) y)) }
 {
     let first = mask_row(viewport);
     let below = file.row_below(y);
@@ -254,10 +237,7 @@ fn paint_files(
     files: &[FileView<'_>],
 ) -> Result<(), RecordError>
     requires { PictureInRange (files_picture (map shown_file files.now) viewport.old.canvas.sight x y) }
-    ensures ok { OnOk result (IsPainted viewport.old.canvas viewport.new.canvas (files_picture (map shown_file files.now) viewport.old.canvas.sight x y)) }
-    ensures counts { OnOk result (viewport.new.counts ≡ added viewport.old.counts (files_counts (map shown_file files.now) viewport.old.canvas.sight.rect (mask_row viewport.old.canvas.sight) y)) }
-    ensures rect { viewport.new.canvas.sight.rect ≡ viewport.old.canvas.sight.rect }
-    ensures err { IfErr result (λ e. e ≡ OutOfMemory) }
+    ensures { Paints viewport.old viewport.new result (files_picture (map shown_file files.now) viewport.old.canvas.sight x y) (files_counts (map shown_file files.now) viewport.old.canvas.sight.rect (mask_row viewport.old.canvas.sight) y) }
 {
     let mut row = y;
     for file in files {
@@ -277,10 +257,7 @@ fn paint_body(
     files: &[FileView<'_>],
 ) -> Result<(), RecordError>
     requires { PictureInRange (body_picture (map shown_file files.now) viewport.old.canvas.sight x y (y +ℤ pos height)) }
-    ensures ok { OnOk result (IsPainted viewport.old.canvas viewport.new.canvas (body_picture (map shown_file files.now) viewport.old.canvas.sight x y (y +ℤ pos height))) }
-    ensures counts { OnOk result (viewport.new.counts ≡ added viewport.old.counts (body_counts (map shown_file files.now) viewport.old.canvas.sight y (y +ℤ pos height))) }
-    ensures rect { viewport.new.canvas.sight.rect ≡ viewport.old.canvas.sight.rect }
-    ensures err { IfErr result (λ e. e ≡ OutOfMemory) }
+    ensures { Paints viewport.old viewport.new result (body_picture (map shown_file files.now) viewport.old.canvas.sight x y (y +ℤ pos height)) (body_counts (map shown_file files.now) viewport.old.canvas.sight y (y +ℤ pos height)) }
 {
     if files.is_empty() {
         draw_no_files(viewport, x, y)
@@ -299,10 +276,7 @@ impl<'a> CommitView<'a> {
         y: isize,
     ) -> Result<(), RecordError>
         requires { PictureInRange (commit_picture self.now viewport.old.canvas.sight x y) }
-        ensures ok { OnOk result (IsPainted viewport.old.canvas viewport.new.canvas (commit_picture self.now viewport.old.canvas.sight x y)) }
-        ensures counts { OnOk result (viewport.new.counts ≡ added viewport.old.counts (document_counts (document_of self.now) viewport.old.canvas.sight y)) }
-        ensures rect { viewport.new.canvas.sight.rect ≡ viewport.old.canvas.sight.rect }
-        ensures err { IfErr result (λ e. e ≡ OutOfMemory) }
+        ensures { Paints viewport.old viewport.new result (commit_picture self.now viewport.old.canvas.sight x y) (document_counts (document_of self.now) viewport.old.canvas.sight y) }
     {
         let height = self.commit_message_view.height();
         viewport.draw_component(x, y, &self.commit_message_view)?;

@@ -1,17 +1,16 @@
 //! The files of a commit.
-ghost use Rattle.std.specs.Prelude.{◌≡◌, ◌+◌, ◌<◌, ◌^◌, ◌++◌, ◌∷◌, [], pos, ◌+ℤ◌, length, map, drop, false, OnOk, IfOk, IfErr};
+ghost use Rattle.std.specs.Prelude.{◌≡◌, ◌+◌, ◌<◌, ◌^◌, ◌++◌, ◌∷◌, pos, ◌+ℤ◌, length, map, drop, false, OnOk, IfOk, IfErr};
 ghost use Rattle.scm_cells.specs.Rect.{InRange};
 ghost use Rattle.scm_render.specs.Picture.{PictureInRange};
-ghost use Rattle.scm_render.specs.Canvas.{with_picture};
-ghost use Rattle.scm_cells.specs.Counts.{added};
 ghost use Rattle.scm_view.specs.Counts.{sections_counts, file_counts};
-ghost use Rattle.scm_view.specs.Paints.{IsPainted};
 ghost use Rattle.scm_errors.specs.declared.error.RecordError.TheVariants.{OutOfMemory};
 ghost use Rattle.scm_view.specs.Rows.{header_heading, lent_text, shown_file, is_shown, is_open, is_first_open, shown_section, shown_sections, sections_rows, file_rows};
 ghost use Rattle.scm_view.specs.Pictures.{sections_picture, file_picture};
 ghost use Rattle.scm_view.specs.Tops.{file_height, file_top_of, section_tops, sections_height};
 ghost use Rattle.scm_view.specs.Pieces.{file_pieces};
 ghost use Rattle.scm_view.specs.declared.tops.Piece.TheVariants.{Section as PieceSection};
+ghost use Rattle.scm_render.specs.Draws.{Draws};
+ghost use Rattle.scm_view.specs.Paints.{Paints};
 
 use crate::file_view_header::FileViewHeader;
 use crate::ids::ComponentId;
@@ -70,10 +69,7 @@ fn draw_section(
     is_shown: bool,
 ) -> Result<(), RecordError>
     requires { PictureInRange (sections_picture (shown_section is_shown view.now) viewport.old.canvas.sight x y) }
-    ensures ok { OnOk result (viewport.new.canvas ≡ with_picture viewport.old.canvas (sections_picture (shown_section is_shown view.now) viewport.old.canvas.sight x y)) }
-    ensures counts { OnOk result (viewport.new.counts ≡ added viewport.old.counts (sections_counts (shown_section is_shown view.now) viewport.old.canvas.sight.rect y)) }
-    ensures rect { viewport.new.canvas.sight.rect ≡ viewport.old.canvas.sight.rect }
-    ensures err { IfErr result (λ e. e ≡ OutOfMemory) }
+    ensures { Draws viewport.old viewport.new result (sections_picture (shown_section is_shown view.now) viewport.old.canvas.sight x y) (sections_counts (shown_section is_shown view.now) viewport.old.canvas.sight.rect y) }
 {
     if is_shown {
         viewport.draw_component(x, y, view)?;
@@ -101,10 +97,7 @@ fn draw_sections(
 ) -> Result<(), RecordError>
     requires y { InRange y }
     requires picture { PictureInRange (sections_picture (shown_sections false views.now) viewport.old.canvas.sight x y) }
-    ensures ok { OnOk result (viewport.new.canvas ≡ with_picture viewport.old.canvas (sections_picture (shown_sections false views.now) viewport.old.canvas.sight x y)) }
-    ensures counts { OnOk result (viewport.new.counts ≡ added viewport.old.counts (sections_counts (shown_sections false views.now) viewport.old.canvas.sight.rect y)) }
-    ensures rect { viewport.new.canvas.sight.rect ≡ viewport.old.canvas.sight.rect }
-    ensures err { IfErr result (λ e. e ≡ OutOfMemory) }
+    ensures { Draws viewport.old viewport.new result (sections_picture (shown_sections false views.now) viewport.old.canvas.sight x y) (sections_counts (shown_sections false views.now) viewport.old.canvas.sight.rect y) }
 {
     let mut row = y;
     let mut before = false;
@@ -128,10 +121,7 @@ fn paint_section(
 ) -> Result<(), RecordError>
     requires y { InRange y }
     requires picture { PictureInRange (sections_picture (shown_section is_shown view.now) viewport.old.canvas.sight x y) }
-    ensures ok { OnOk result (IsPainted viewport.old.canvas viewport.new.canvas (sections_picture (shown_section is_shown view.now) viewport.old.canvas.sight x y)) }
-    ensures counts { OnOk result (viewport.new.counts ≡ added viewport.old.counts (sections_counts (shown_section is_shown view.now) viewport.old.canvas.sight.rect y)) }
-    ensures rect { viewport.new.canvas.sight.rect ≡ viewport.old.canvas.sight.rect }
-    ensures err { IfErr result (λ e. e ≡ OutOfMemory) }
+    ensures { Paints viewport.old viewport.new result (sections_picture (shown_section is_shown view.now) viewport.old.canvas.sight x y) (sections_counts (shown_section is_shown view.now) viewport.old.canvas.sight.rect y) }
 {
     if is_shown {
         view.paint(alloc, viewport, x, y)
@@ -150,10 +140,7 @@ fn paint_sections(
 ) -> Result<(), RecordError>
     requires y { InRange y }
     requires picture { PictureInRange (sections_picture (shown_sections false views.now) viewport.old.canvas.sight x y) }
-    ensures ok { OnOk result (IsPainted viewport.old.canvas viewport.new.canvas (sections_picture (shown_sections false views.now) viewport.old.canvas.sight x y)) }
-    ensures counts { OnOk result (viewport.new.counts ≡ added viewport.old.counts (sections_counts (shown_sections false views.now) viewport.old.canvas.sight.rect y)) }
-    ensures rect { viewport.new.canvas.sight.rect ≡ viewport.old.canvas.sight.rect }
-    ensures err { IfErr result (λ e. e ≡ OutOfMemory) }
+    ensures { Paints viewport.old viewport.new result (sections_picture (shown_sections false views.now) viewport.old.canvas.sight x y) (sections_counts (shown_sections false views.now) viewport.old.canvas.sight.rect y) }
 {
     let mut row = y;
     let mut before = false;
@@ -293,10 +280,7 @@ impl<'a> FileView<'a> {
         y: isize,
     ) -> Result<(), RecordError>
         requires { PictureInRange (file_picture self.now viewport.old.canvas.sight x y) }
-        ensures ok { OnOk result (IsPainted viewport.old.canvas viewport.new.canvas (file_picture self.now viewport.old.canvas.sight x y)) }
-        ensures counts { OnOk result (viewport.new.counts ≡ added viewport.old.counts (file_counts (shown_file self.now) viewport.old.canvas.sight.rect y)) }
-        ensures rect { viewport.new.canvas.sight.rect ≡ viewport.old.canvas.sight.rect }
-        ensures err { IfErr result (λ e. e ≡ OutOfMemory) }
+        ensures { Paints viewport.old viewport.new result (file_picture self.now viewport.old.canvas.sight x y) (file_counts (shown_file self.now) viewport.old.canvas.sight.rect y) }
     {
         let header = self.header();
         viewport.draw_component(x, y, &header)?;
@@ -318,10 +302,7 @@ impl<'a> FileView<'a> {
     ) -> Result<(), RecordError>
         requires below { below ≡ y +ℤ pos (length (file_rows (shown_file self.now))) }
         requires picture { PictureInRange (file_picture self.now viewport.old.canvas.sight x y) }
-        ensures ok { OnOk result (IsPainted viewport.old.canvas viewport.new.canvas (file_picture self.now viewport.old.canvas.sight x y)) }
-        ensures counts { OnOk result (viewport.new.counts ≡ added viewport.old.counts (file_counts (shown_file self.now) viewport.old.canvas.sight.rect y)) }
-        ensures rect { viewport.new.canvas.sight.rect ≡ viewport.old.canvas.sight.rect }
-        ensures err { IfErr result (λ e. e ≡ OutOfMemory) }
+        ensures { Paints viewport.old viewport.new result (file_picture self.now viewport.old.canvas.sight x y) (file_counts (shown_file self.now) viewport.old.canvas.sight.rect y) }
     {
         if is_seen(viewport, y, below) {
             self.paint_parts(alloc, viewport, x, y)

@@ -1,12 +1,9 @@
 //! What the header of a file and that of a section have in common: two boxes, and a text between them.
-ghost use Rattle.std.specs.Prelude.{◌≡◌, OnOk, IfErr};
 ghost use Rattle.scm_render.specs.Picture.{PictureInRange};
-ghost use Rattle.scm_render.specs.Canvas.{with_picture};
-ghost use Rattle.scm_cells.specs.Counts.{added};
 ghost use Rattle.scm_view.specs.Counts.{drawn, on_row};
-ghost use Rattle.scm_errors.specs.declared.error.RecordError.TheVariants.{OutOfMemory};
 ghost use Rattle.scm_view.specs.Pictures.{title_picture, heading_picture};
 ghost use Rattle.scm_view.specs.Titles.{title_text};
+ghost use Rattle.scm_render.specs.Draws.{Draws};
 
 use crate::ids::ComponentId;
 use crate::reach::{columns, fold_column};
@@ -30,10 +27,7 @@ fn draw_before_fold(
     title: &Title<'_>,
 ) -> Result<(), RecordError>
     requires { PictureInRange (title_picture toggle_box.now (title_text title.now) width viewport.old.canvas.sight x y) }
-    ensures ok { OnOk result (viewport.new.canvas ≡ with_picture viewport.old.canvas (title_picture toggle_box.now (title_text title.now) width viewport.old.canvas.sight x y)) }
-    ensures counts { OnOk result (viewport.new.counts ≡ added viewport.old.counts (on_row viewport.old.canvas.sight.rect y (drawn 0 3))) }
-    ensures rect { viewport.new.canvas.sight.rect ≡ viewport.old.canvas.sight.rect }
-    ensures err { IfErr result (λ e. e ≡ OutOfMemory) }
+    ensures { Draws viewport.old viewport.new result (title_picture toggle_box.now (title_text title.now) width viewport.old.canvas.sight x y) (on_row viewport.old.canvas.sight.rect y (drawn 0 3)) }
 {
     show_blank(viewport, x, y, width)?;
     show_box(viewport, x, y, toggle_box)?;
@@ -53,10 +47,7 @@ pub(crate) fn draw_heading(
     title: &Title<'_>,
 ) -> Result<(), RecordError>
     requires { PictureInRange (heading_picture (record { toggle = toggle_box.now; fold = expand_box.now; title = title_text title.now }) viewport.old.canvas.sight x y) }
-    ensures ok { OnOk result (viewport.new.canvas ≡ with_picture viewport.old.canvas (heading_picture (record { toggle = toggle_box.now; fold = expand_box.now; title = title_text title.now }) viewport.old.canvas.sight x y)) }
-    ensures counts { OnOk result (viewport.new.counts ≡ added viewport.old.counts (on_row viewport.old.canvas.sight.rect y (drawn 0 4))) }
-    ensures rect { viewport.new.canvas.sight.rect ≡ viewport.old.canvas.sight.rect }
-    ensures err { IfErr result (λ e. e ≡ OutOfMemory) }
+    ensures { Draws viewport.old viewport.new result (heading_picture (record { toggle = toggle_box.now; fold = expand_box.now; title = title_text title.now }) viewport.old.canvas.sight x y) (on_row viewport.old.canvas.sight.rect y (drawn 0 4)) }
 {
     let fold_x = fold_column(viewport);
     let width = columns(x, fold_x);

@@ -3,12 +3,11 @@ ghost use Rattle.std.specs.Prelude.{◌≡◌, ◌+◌, ◌<◌, ◌≤◌, ◌^
 ghost use Rattle.scm_types.specs.Limits.{max_text};
 ghost use Rattle.scm_cells.specs.Rect.{InRange};
 ghost use Rattle.scm_render.specs.Picture.{PictureInRange};
-ghost use Rattle.scm_render.specs.Canvas.{with_picture};
-ghost use Rattle.scm_cells.specs.Counts.{added};
 ghost use Rattle.scm_view.specs.Counts.{drawn, first_calls};
 ghost use Rattle.scm_errors.specs.declared.error.RecordError.TheVariants.{OutOfMemory};
 ghost use Rattle.scm_view.specs.Menus.{headers_picture, headers_width, menus_before, first_picture, opened};
 ghost use Rattle.scm_view.specs.Spots.{IsShortMenu, bar_spots, headers_spots, open_height, open_spots};
+ghost use Rattle.scm_render.specs.Draws.{Draws};
 
 use crate::button_row::button_width;
 use crate::ids::ComponentId;
@@ -53,11 +52,8 @@ fn draw_headers(
 ) -> Result<isize, RecordError>
     requires picture { PictureInRange (headers_picture viewport.old.canvas.sight x y first_idx menus.now) }
     requires count { first_idx + length menus.now < 2 ^ 64 }
-    ensures ok { OnOk result (viewport.new.canvas ≡ with_picture viewport.old.canvas (headers_picture viewport.old.canvas.sight x y first_idx menus.now)) }
+    ensures draws { Draws viewport.old viewport.new result (headers_picture viewport.old.canvas.sight x y first_idx menus.now) (drawn 0 (length menus.now)) }
     ensures column { IfOk result (λ c. c ≡ x +ℤ pos (headers_width menus.now)) }
-    ensures counts { OnOk result (viewport.new.counts ≡ added viewport.old.counts (drawn 0 (length menus.now))) }
-    ensures rect { viewport.new.canvas.sight.rect ≡ viewport.old.canvas.sight.rect }
-    ensures err { IfErr result (λ e. e ≡ OutOfMemory) }
 {
     let mut column = x;
     for (menu_idx, menu) in menus.iter().enumerate() {
@@ -78,10 +74,7 @@ fn draw_first(
 ) -> Result<(), RecordError>
     requires picture { PictureInRange (first_picture menus.now viewport.old.canvas.sight x y) }
     requires below { 0 < length menus.now → InRange (y +ℤ pos 1) }
-    ensures ok { OnOk result (viewport.new.canvas ≡ with_picture viewport.old.canvas (first_picture menus.now viewport.old.canvas.sight x y)) }
-    ensures counts { OnOk result (viewport.new.counts ≡ added viewport.old.counts (drawn 0 (first_calls menus.now))) }
-    ensures rect { viewport.new.canvas.sight.rect ≡ viewport.old.canvas.sight.rect }
-    ensures err { IfErr result (λ e. e ≡ OutOfMemory) }
+    ensures { Draws viewport.old viewport.new result (first_picture menus.now viewport.old.canvas.sight x y) (drawn 0 (first_calls menus.now)) }
 {
     match menus.first() {
         Some(menu) => {

@@ -1,11 +1,9 @@
 //! What stands where there are no files.
-ghost use Rattle.std.specs.Prelude.{◌≡◌, OnOk, IfErr};
+ghost use Rattle.std.specs.Prelude.{◌≡◌};
 ghost use Rattle.scm_render.specs.Picture.{PictureInRange};
-ghost use Rattle.scm_render.specs.Canvas.{with_picture};
-ghost use Rattle.scm_cells.specs.Counts.{added};
 ghost use Rattle.scm_view.specs.Counts.{no_files_counts};
-ghost use Rattle.scm_errors.specs.declared.error.RecordError.TheVariants.{OutOfMemory};
 ghost use Rattle.scm_view.specs.Pictures.{no_files_place, no_files_picture};
+ghost use Rattle.scm_render.specs.Draws.{Draws};
 
 use crate::ids::ComponentId;
 use crate::shown::{begin_row, show_text};
@@ -39,10 +37,7 @@ pub(crate) fn draw_no_files(
     y: isize,
 ) -> Result<(), RecordError>
     requires { PictureInRange (no_files_picture viewport.old.canvas.sight x y) }
-    ensures ok { OnOk result (viewport.new.canvas ≡ with_picture viewport.old.canvas (no_files_picture viewport.old.canvas.sight x y)) }
-    ensures counts { OnOk result (viewport.new.counts ≡ added viewport.old.counts (no_files_counts viewport.old.canvas.sight y)) }
-    ensures rect { viewport.new.canvas.sight.rect ≡ viewport.old.canvas.sight.rect }
-    ensures err { IfErr result (λ e. e ≡ OutOfMemory) }
+    ensures { Draws viewport.old viewport.new result (no_files_picture viewport.old.canvas.sight x y) (no_files_counts viewport.old.canvas.sight y) }
 {
     let place = no_files_place(viewport);
     let row = y + place.y;

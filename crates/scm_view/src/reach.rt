@@ -1,13 +1,12 @@
 //! How far a row reaches, and covers of rows.
-ghost use Rattle.std.specs.Prelude.{◌≡◌, ◌-ℤ◌, ◌+ℤ◌, pos, OnOk, IfErr};
+ghost use Rattle.std.specs.Prelude.{◌≡◌, ◌-ℤ◌, ◌+ℤ◌, pos};
 ghost use Rattle.scm_cells.specs.Rect.{or_zero, InRange, RectInRange};
 ghost use Rattle.scm_cells.specs.Mask.{MaskInRange};
-ghost use Rattle.scm_cells.specs.Counts.{added};
 ghost use Rattle.scm_render.specs.Picture.{PictureInRange, covering, part};
 ghost use Rattle.scm_render.specs.Canvas.{with_picture, under};
-ghost use Rattle.scm_errors.specs.declared.error.RecordError.TheVariants.{OutOfMemory};
 ghost use Rattle.scm_view.specs.declared.ids.ComponentId.{ComponentId};
 ghost use Rattle.scm_view.specs.Pictures.{to_end, fold_column, rest_of_row, whole_row, highlight};
+ghost use Rattle.scm_render.specs.Draws.{Draws};
 
 use crate::ids::ComponentId;
 use scm_cells::{Mask, Rect};
@@ -104,10 +103,7 @@ pub(crate) fn draw_under<K: Copy + Eq + Hash + Drop, C: Component<Id = K>>(
 ) -> Result<(), RecordError>
     requires mask { MaskInRange mask }
     requires picture { PictureInRange (part (C.key component.now) (C.picture component.now (under mask viewport.old.canvas.sight) x y)) }
-    ensures ok { OnOk result (viewport.new.canvas ≡ with_picture viewport.old.canvas (part (C.key component.now) (C.picture component.now (under mask viewport.old.canvas.sight) x y))) }
-    ensures counts { OnOk result (viewport.new.counts ≡ added viewport.old.counts (record { rows = C.rows component.now (under mask viewport.old.canvas.sight) x y; calls = C.calls component.now (under mask viewport.old.canvas.sight) x y })) }
-    ensures rect { viewport.new.canvas.sight.rect ≡ viewport.old.canvas.sight.rect }
-    ensures err { IfErr result (λ e. e ≡ OutOfMemory) }
+    ensures { Draws viewport.old viewport.new result (part (C.key component.now) (C.picture component.now (under mask viewport.old.canvas.sight) x y)) (record { rows = C.rows component.now (under mask viewport.old.canvas.sight) x y; calls = C.calls component.now (under mask viewport.old.canvas.sight) x y }) }
 {
     let outer = viewport.swap_mask(Some(mask));
     viewport.draw_component(x, y, component)?;

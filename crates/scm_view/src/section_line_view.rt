@@ -1,5 +1,5 @@
 //! The lines of a section.
-ghost use Rattle.std.specs.Prelude.{◌≡◌, ◌+◌, pos, ◌+ℤ◌, OnOk, IfErr};
+ghost use Rattle.std.specs.Prelude.{◌≡◌, ◌+◌};
 ghost use Rattle.scm_render.specs.Picture.{PictureInRange};
 ghost use Rattle.scm_render.specs.Canvas.{with_picture};
 ghost use Rattle.scm_render.specs.Drawing.{text_picture, texts_width};
@@ -7,11 +7,11 @@ ghost use Rattle.scm_cells.specs.Replaced.{line_pieces};
 ghost use Rattle.scm_view.specs.Covers.{texts_cover};
 ghost use Rattle.scm_cells.specs.Counts.{added, one_call};
 ghost use Rattle.scm_view.specs.Counts.{drawn, on_row};
-ghost use Rattle.scm_errors.specs.declared.error.RecordError.TheVariants.{OutOfMemory};
 ghost use Rattle.scm_view.specs.declared.ids.ComponentId.{ComponentId};
 ghost use Rattle.scm_view.specs.Pictures.{context_picture, changed_picture};
 ghost use Rattle.scm_view.specs.Rows.{line_texts};
 ghost use Rattle.scm_view.specs.Texts.{number_text, sign_text};
+ghost use Rattle.scm_render.specs.Draws.{Draws};
 
 use crate::ids::ComponentId;
 use crate::reach::cover_row;
@@ -75,10 +75,7 @@ fn draw_line_texts(
     line: &str,
 ) -> Result<(), RecordError>
     requires { PictureInRange {K = ComponentId} (text_picture viewport.old.canvas.sight x y (line_texts front.now line.now)) }
-    ensures ok { OnOk result (viewport.new.canvas ≡ with_picture viewport.old.canvas (text_picture viewport.old.canvas.sight x y (line_texts front.now line.now))) }
-    ensures counts { OnOk result (viewport.new.counts ≡ added viewport.old.counts (on_row viewport.old.canvas.sight.rect y one_call)) }
-    ensures rect { viewport.new.canvas.sight.rect ≡ viewport.old.canvas.sight.rect }
-    ensures err { IfErr result (λ e. e ≡ OutOfMemory) }
+    ensures { Draws viewport.old viewport.new result (text_picture viewport.old.canvas.sight x y (line_texts front.now line.now)) (on_row viewport.old.canvas.sight.rect y one_call) }
 {
     if is_on_screen(viewport, y) {
         let mut spans = Vec::new(alloc);
@@ -102,10 +99,7 @@ fn draw_numbered_texts(
     line: &str,
 ) -> Result<(), RecordError>
     requires { PictureInRange {K = ComponentId} (text_picture viewport.old.canvas.sight x y (line_texts (number_text number) line.now)) }
-    ensures ok { OnOk result (viewport.new.canvas ≡ with_picture viewport.old.canvas (text_picture viewport.old.canvas.sight x y (line_texts (number_text number) line.now))) }
-    ensures counts { OnOk result (viewport.new.counts ≡ added viewport.old.counts (on_row viewport.old.canvas.sight.rect y one_call)) }
-    ensures rect { viewport.new.canvas.sight.rect ≡ viewport.old.canvas.sight.rect }
-    ensures err { IfErr result (λ e. e ≡ OutOfMemory) }
+    ensures { Draws viewport.old viewport.new result (text_picture viewport.old.canvas.sight x y (line_texts (number_text number) line.now)) (on_row viewport.old.canvas.sight.rect y one_call) }
 {
     if is_on_screen(viewport, y) {
         let text = number_text(alloc, number)?;
@@ -127,10 +121,7 @@ fn draw_context_line(
     number: usize,
 ) -> Result<(), RecordError>
     requires { PictureInRange (context_picture (line_texts (number_text number) line.now) viewport.old.canvas.sight x y) }
-    ensures ok { OnOk result (viewport.new.canvas ≡ with_picture viewport.old.canvas (context_picture (line_texts (number_text number) line.now) viewport.old.canvas.sight x y)) }
-    ensures counts { OnOk result (viewport.new.counts ≡ added viewport.old.counts (on_row viewport.old.canvas.sight.rect y (drawn 0 1))) }
-    ensures rect { viewport.new.canvas.sight.rect ≡ viewport.old.canvas.sight.rect }
-    ensures err { IfErr result (λ e. e ≡ OutOfMemory) }
+    ensures { Draws viewport.old viewport.new result (context_picture (line_texts (number_text number) line.now) viewport.old.canvas.sight x y) (on_row viewport.old.canvas.sight.rect y (drawn 0 1)) }
 {
     cover_row(viewport, y);
     draw_numbered_texts(alloc, viewport, x, y, number, line)?;
@@ -148,10 +139,7 @@ fn draw_changed_line(
     line: &str,
 ) -> Result<(), RecordError>
     requires { PictureInRange (changed_picture toggle_box.now (line_texts (sign_text change_type) line.now) viewport.old.canvas.sight x y) }
-    ensures ok { OnOk result (viewport.new.canvas ≡ with_picture viewport.old.canvas (changed_picture toggle_box.now (line_texts (sign_text change_type) line.now) viewport.old.canvas.sight x y)) }
-    ensures counts { OnOk result (viewport.new.counts ≡ added viewport.old.counts (on_row viewport.old.canvas.sight.rect y (drawn 0 2))) }
-    ensures rect { viewport.new.canvas.sight.rect ≡ viewport.old.canvas.sight.rect }
-    ensures err { IfErr result (λ e. e ≡ OutOfMemory) }
+    ensures { Draws viewport.old viewport.new result (changed_picture toggle_box.now (line_texts (sign_text change_type) line.now) viewport.old.canvas.sight x y) (on_row viewport.old.canvas.sight.rect y (drawn 0 2)) }
 {
     cover_row(viewport, y);
     show_box(viewport, x, y, toggle_box)?;

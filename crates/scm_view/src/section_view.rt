@@ -1,17 +1,15 @@
 //! The sections of a file.
-ghost use Rattle.std.specs.Prelude.{◌≡◌, ℕ, ◌≤◌, ◌+◌, ◌-◌, ◌<◌, ◌^◌, ◌==◌, pos, ◌+ℤ◌, List, length, nat_lt, not, ◌&&◌, Option, option_map, OnOk, IfOk, IfErr, string_bytes, if◌then◌else◌, ◌++◌, [], ◌∷◌};
+ghost use Rattle.std.specs.Prelude.{◌≡◌, ◌≤◌, ◌+◌, ◌-◌, ◌<◌, ◌^◌, ◌==◌, pos, ◌+ℤ◌, length, not, ◌&&◌, Option, ◌++◌, ◌∷◌};
 ghost use Rattle.scm_cells.specs.Rect.{InRange};
 ghost use Rattle.scm_render.specs.Picture.{PictureInRange};
-ghost use Rattle.scm_render.specs.Canvas.{with_picture};
-ghost use Rattle.scm_cells.specs.Counts.{added};
 ghost use Rattle.scm_view.specs.Counts.{row_counts, rows_counts};
-ghost use Rattle.scm_errors.specs.declared.error.RecordError.TheVariants.{OutOfMemory};
 ghost use Rattle.scm_types.specs.declared.section.Section.TheVariants.{Changed};
-ghost use Rattle.scm_view.specs.Texts.{section_text, mode_change_text, binary_text, dots_text};
-ghost use Rattle.scm_view.specs.Rows.{SectionRow, MarkRow, DotsRow, mark_of, line_key_of, section_box, line_box, section_heading, is_fold_open, line_number, numbered_row, numbered_rows, changed_row, changed_rows, context_rows, section_rows, is_selected, is_line_selected, is_header_selected, is_first, is_last, is_open, are_all_shown, lines_above, has_dots, first_below, rows_below, shown_lines, rows_of, dots_height, lines_height, context_height, changed_height, section_height};
-ghost use Rattle.scm_view.specs.Pictures.{IdPicture, row_picture, rows_picture, section_picture};
+ghost use Rattle.scm_view.specs.Texts.{mode_change_text, binary_text, dots_text};
+ghost use Rattle.scm_view.specs.Rows.{SectionRow, MarkRow, DotsRow, mark_of, line_key_of, section_box, line_box, section_heading, is_fold_open, line_number, numbered_row, numbered_rows, changed_row, changed_rows, context_rows, section_rows, is_selected, is_line_selected, is_first, is_last, is_open, are_all_shown, lines_above, has_dots, first_below, rows_below, shown_lines, rows_of, dots_height, lines_height, context_height, changed_height, section_height};
+ghost use Rattle.scm_view.specs.Pictures.{row_picture, rows_picture, section_picture};
 ghost use Rattle.scm_view.specs.Tops.{context_kinds, has_context_row, is_wide_of, kinds_of, section_top_of};
-ghost use Rattle.scm_view.specs.Paints.{IsPainted};
+ghost use Rattle.scm_render.specs.Draws.{Draws};
+ghost use Rattle.scm_view.specs.Paints.{Paints};
 
 use crate::heading::draw_heading;
 use crate::ids::ComponentId;
@@ -164,10 +162,7 @@ impl<'a> SectionView<'a> {
         line: &Text<'_>,
     ) -> Result<(), RecordError>
         requires { PictureInRange (row_picture (numbered_row self.now index line.now) viewport.old.canvas.sight x y) }
-        ensures ok { OnOk result (viewport.new.canvas ≡ with_picture viewport.old.canvas (row_picture (numbered_row self.now index line.now) viewport.old.canvas.sight x y)) }
-        ensures counts { OnOk result (viewport.new.counts ≡ added viewport.old.counts (row_counts (numbered_row self.now index line.now) viewport.old.canvas.sight.rect y)) }
-        ensures rect { viewport.new.canvas.sight.rect ≡ viewport.old.canvas.sight.rect }
-        ensures err { IfErr result (λ e. e ≡ OutOfMemory) }
+        ensures { Draws viewport.old viewport.new result (row_picture (numbered_row self.now index line.now) viewport.old.canvas.sight x y) (row_counts (numbered_row self.now index line.now) viewport.old.canvas.sight.rect y) }
     {
         let view = SectionLineView {
             line_key: self.line_key(index),
@@ -191,10 +186,7 @@ impl<'a> SectionView<'a> {
     ) -> Result<(), RecordError>
         requires index { first + length lines.now ≤ 2 ^ 64 - 1 }
         requires picture { PictureInRange (rows_picture (numbered_rows self.now first lines.now) viewport.old.canvas.sight x y) }
-        ensures ok { OnOk result (viewport.new.canvas ≡ with_picture viewport.old.canvas (rows_picture (numbered_rows self.now first lines.now) viewport.old.canvas.sight x y)) }
-        ensures counts { OnOk result (viewport.new.counts ≡ added viewport.old.counts (rows_counts (numbered_rows self.now first lines.now) viewport.old.canvas.sight.rect y)) }
-        ensures rect { viewport.new.canvas.sight.rect ≡ viewport.old.canvas.sight.rect }
-        ensures err { IfErr result (λ e. e ≡ OutOfMemory) }
+        ensures { Draws viewport.old viewport.new result (rows_picture (numbered_rows self.now first lines.now) viewport.old.canvas.sight x y) (rows_counts (numbered_rows self.now first lines.now) viewport.old.canvas.sight.rect y) }
     {
         let mut row = y;
         for (index, line) in lines.iter().enumerate() {
@@ -214,10 +206,7 @@ impl<'a> SectionView<'a> {
         line: &SectionChangedLine<'_>,
     ) -> Result<(), RecordError>
         requires { PictureInRange (row_picture (changed_row self.now index line.now) viewport.old.canvas.sight x y) }
-        ensures ok { OnOk result (viewport.new.canvas ≡ with_picture viewport.old.canvas (row_picture (changed_row self.now index line.now) viewport.old.canvas.sight x y)) }
-        ensures counts { OnOk result (viewport.new.counts ≡ added viewport.old.counts (row_counts (changed_row self.now index line.now) viewport.old.canvas.sight.rect y)) }
-        ensures rect { viewport.new.canvas.sight.rect ≡ viewport.old.canvas.sight.rect }
-        ensures err { IfErr result (λ e. e ≡ OutOfMemory) }
+        ensures { Draws viewport.old viewport.new result (row_picture (changed_row self.now index line.now) viewport.old.canvas.sight x y) (row_counts (changed_row self.now index line.now) viewport.old.canvas.sight.rect y) }
     {
         let view = SectionLineView {
             line_key: self.line_key(index),
@@ -242,10 +231,7 @@ impl<'a> SectionView<'a> {
     ) -> Result<(), RecordError>
         requires index { first + length lines.now ≤ 2 ^ 64 - 1 }
         requires picture { PictureInRange (rows_picture (changed_rows self.now first lines.now) viewport.old.canvas.sight x y) }
-        ensures ok { OnOk result (viewport.new.canvas ≡ with_picture viewport.old.canvas (rows_picture (changed_rows self.now first lines.now) viewport.old.canvas.sight x y)) }
-        ensures counts { OnOk result (viewport.new.counts ≡ added viewport.old.counts (rows_counts (changed_rows self.now first lines.now) viewport.old.canvas.sight.rect y)) }
-        ensures rect { viewport.new.canvas.sight.rect ≡ viewport.old.canvas.sight.rect }
-        ensures err { IfErr result (λ e. e ≡ OutOfMemory) }
+        ensures { Draws viewport.old viewport.new result (rows_picture (changed_rows self.now first lines.now) viewport.old.canvas.sight x y) (rows_counts (changed_rows self.now first lines.now) viewport.old.canvas.sight.rect y) }
     {
         let mut row = y;
         for (index, line) in lines.iter().enumerate() {
@@ -264,10 +250,7 @@ impl<'a> SectionView<'a> {
         lines: &[SectionChangedLine<'a>],
     ) -> Result<(), RecordError>
         requires { PictureInRange (rows_picture (changed_rows self.now 0 lines.now) viewport.old.canvas.sight x y) }
-        ensures ok { OnOk result (IsPainted viewport.old.canvas viewport.new.canvas (rows_picture (changed_rows self.now 0 lines.now) viewport.old.canvas.sight x y)) }
-        ensures counts { OnOk result (viewport.new.counts ≡ added viewport.old.counts (rows_counts (changed_rows self.now 0 lines.now) viewport.old.canvas.sight.rect y)) }
-        ensures rect { viewport.new.canvas.sight.rect ≡ viewport.old.canvas.sight.rect }
-        ensures err { IfErr result (λ e. e ≡ OutOfMemory) }
+        ensures { Paints viewport.old viewport.new result (rows_picture (changed_rows self.now 0 lines.now) viewport.old.canvas.sight x y) (rows_counts (changed_rows self.now 0 lines.now) viewport.old.canvas.sight.rect y) }
     {
         let screen = viewport.rect();
         let first = rows_above(y, screen.y, lines.len());
@@ -291,10 +274,7 @@ impl<'a> SectionView<'a> {
         y: isize,
     ) -> Result<(), RecordError>
         requires { PictureInRange (row_picture (SectionRow (is_selected self.now) (section_heading self.now)) viewport.old.canvas.sight x y) }
-        ensures ok { OnOk result (viewport.new.canvas ≡ with_picture viewport.old.canvas (row_picture (SectionRow (is_selected self.now) (section_heading self.now)) viewport.old.canvas.sight x y)) }
-        ensures counts { OnOk result (viewport.new.counts ≡ added viewport.old.counts (row_counts (SectionRow (is_selected self.now) (section_heading self.now)) viewport.old.canvas.sight.rect y)) }
-        ensures rect { viewport.new.canvas.sight.rect ≡ viewport.old.canvas.sight.rect }
-        ensures err { IfErr result (λ e. e ≡ OutOfMemory) }
+        ensures { Draws viewport.old viewport.new result (row_picture (SectionRow (is_selected self.now) (section_heading self.now)) viewport.old.canvas.sight x y) (row_counts (SectionRow (is_selected self.now) (section_heading self.now)) viewport.old.canvas.sight.rect y) }
     {
         begin_row(viewport, y);
         let title = Title::Section {
@@ -324,10 +304,7 @@ impl<'a> SectionView<'a> {
         text: &str,
     ) -> Result<(), RecordError>
         requires { PictureInRange (row_picture (MarkRow (is_selected self.now) (section_box self.now is_checked) text.now) viewport.old.canvas.sight x y) }
-        ensures ok { OnOk result (viewport.new.canvas ≡ with_picture viewport.old.canvas (row_picture (MarkRow (is_selected self.now) (section_box self.now is_checked) text.now) viewport.old.canvas.sight x y)) }
-        ensures counts { OnOk result (viewport.new.counts ≡ added viewport.old.counts (row_counts (MarkRow (is_selected self.now) (section_box self.now is_checked) text.now) viewport.old.canvas.sight.rect y)) }
-        ensures rect { viewport.new.canvas.sight.rect ≡ viewport.old.canvas.sight.rect }
-        ensures err { IfErr result (λ e. e ≡ OutOfMemory) }
+        ensures { Draws viewport.old viewport.new result (row_picture (MarkRow (is_selected self.now) (section_box self.now is_checked) text.now) viewport.old.canvas.sight x y) (row_counts (MarkRow (is_selected self.now) (section_box self.now is_checked) text.now) viewport.old.canvas.sight.rect y) }
     {
         let toggle_box = self.section_box(is_checked);
         begin_row(viewport, y);
@@ -346,10 +323,7 @@ impl<'a> SectionView<'a> {
         y: isize,
     ) -> Result<(), RecordError>
         requires { PictureInRange (row_picture (DotsRow (dots_text self.now.use_unicode)) viewport.old.canvas.sight x y) }
-        ensures ok { OnOk result (viewport.new.canvas ≡ with_picture viewport.old.canvas (row_picture (DotsRow (dots_text self.now.use_unicode)) viewport.old.canvas.sight x y)) }
-        ensures counts { OnOk result (viewport.new.counts ≡ added viewport.old.counts (row_counts (DotsRow (dots_text self.now.use_unicode)) viewport.old.canvas.sight.rect y)) }
-        ensures rect { viewport.new.canvas.sight.rect ≡ viewport.old.canvas.sight.rect }
-        ensures err { IfErr result (λ e. e ≡ OutOfMemory) }
+        ensures { Draws viewport.old viewport.new result (row_picture (DotsRow (dots_text self.now.use_unicode)) viewport.old.canvas.sight x y) (row_counts (DotsRow (dots_text self.now.use_unicode)) viewport.old.canvas.sight.rect y) }
     {
         begin_row(viewport, y);
         cover_rest(viewport, x, y);
@@ -599,10 +573,7 @@ impl<'a> SectionView<'a> {
         lines: &[Text<'a>],
     ) -> Result<(), RecordError>
         requires { PictureInRange (rows_picture (rows_below self.now lines.now) viewport.old.canvas.sight x y) }
-        ensures ok { OnOk result (viewport.new.canvas ≡ with_picture viewport.old.canvas (rows_picture (rows_below self.now lines.now) viewport.old.canvas.sight x y)) }
-        ensures counts { OnOk result (viewport.new.counts ≡ added viewport.old.counts (rows_counts (rows_below self.now lines.now) viewport.old.canvas.sight.rect y)) }
-        ensures rect { viewport.new.canvas.sight.rect ≡ viewport.old.canvas.sight.rect }
-        ensures err { IfErr result (λ e. e ≡ OutOfMemory) }
+        ensures { Draws viewport.old viewport.new result (rows_picture (rows_below self.now lines.now) viewport.old.canvas.sight x y) (rows_counts (rows_below self.now lines.now) viewport.old.canvas.sight.rect y) }
     {
         let first = self.first_below(lines.len());
         if self.has_dots(lines.len()) {
@@ -622,10 +593,7 @@ impl<'a> SectionView<'a> {
         lines: &[Text<'a>],
     ) -> Result<(), RecordError>
         requires { PictureInRange (rows_picture (shown_lines self.now lines.now) viewport.old.canvas.sight x y) }
-        ensures ok { OnOk result (viewport.new.canvas ≡ with_picture viewport.old.canvas (rows_picture (shown_lines self.now lines.now) viewport.old.canvas.sight x y)) }
-        ensures counts { OnOk result (viewport.new.counts ≡ added viewport.old.counts (rows_counts (shown_lines self.now lines.now) viewport.old.canvas.sight.rect y)) }
-        ensures rect { viewport.new.canvas.sight.rect ≡ viewport.old.canvas.sight.rect }
-        ensures err { IfErr result (λ e. e ≡ OutOfMemory) }
+        ensures { Draws viewport.old viewport.new result (rows_picture (shown_lines self.now lines.now) viewport.old.canvas.sight x y) (rows_counts (shown_lines self.now lines.now) viewport.old.canvas.sight.rect y) }
     {
         let above = self.lines_above(lines.len());
         self.draw_numbered(viewport, x, y, 0, &lines[..above])?;
@@ -641,10 +609,7 @@ impl<'a> SectionView<'a> {
         lines: &[Text<'a>],
     ) -> Result<(), RecordError>
         requires { PictureInRange (rows_picture (context_rows self.now lines.now) viewport.old.canvas.sight x y) }
-        ensures ok { OnOk result (viewport.new.canvas ≡ with_picture viewport.old.canvas (rows_picture (context_rows self.now lines.now) viewport.old.canvas.sight x y)) }
-        ensures counts { OnOk result (viewport.new.counts ≡ added viewport.old.counts (rows_counts (context_rows self.now lines.now) viewport.old.canvas.sight.rect y)) }
-        ensures rect { viewport.new.canvas.sight.rect ≡ viewport.old.canvas.sight.rect }
-        ensures err { IfErr result (λ e. e ≡ OutOfMemory) }
+        ensures { Draws viewport.old viewport.new result (rows_picture (context_rows self.now lines.now) viewport.old.canvas.sight x y) (rows_counts (context_rows self.now lines.now) viewport.old.canvas.sight.rect y) }
     {
         if lines.is_empty() {
             begin_row(viewport, y);
@@ -665,10 +630,7 @@ impl<'a> SectionView<'a> {
         lines: &[SectionChangedLine<'a>],
     ) -> Result<(), RecordError>
         requires { PictureInRange (rows_picture (rows_of self.now (Changed lines.now)) viewport.old.canvas.sight x y) }
-        ensures ok { OnOk result (viewport.new.canvas ≡ with_picture viewport.old.canvas (rows_picture (rows_of self.now (Changed lines.now)) viewport.old.canvas.sight x y)) }
-        ensures counts { OnOk result (viewport.new.counts ≡ added viewport.old.counts (rows_counts (rows_of self.now (Changed lines.now)) viewport.old.canvas.sight.rect y)) }
-        ensures rect { viewport.new.canvas.sight.rect ≡ viewport.old.canvas.sight.rect }
-        ensures err { IfErr result (λ e. e ≡ OutOfMemory) }
+        ensures { Draws viewport.old viewport.new result (rows_picture (rows_of self.now (Changed lines.now)) viewport.old.canvas.sight x y) (rows_counts (rows_of self.now (Changed lines.now)) viewport.old.canvas.sight.rect y) }
     {
         self.draw_header(alloc, viewport, x, y)?;
         if self.expand_box.is_open() {
@@ -690,10 +652,7 @@ impl<'a> SectionView<'a> {
         lines: &[SectionChangedLine<'a>],
     ) -> Result<(), RecordError>
         requires { PictureInRange (rows_picture (rows_of self.now (Changed lines.now)) viewport.old.canvas.sight x y) }
-        ensures ok { OnOk result (IsPainted viewport.old.canvas viewport.new.canvas (rows_picture (rows_of self.now (Changed lines.now)) viewport.old.canvas.sight x y)) }
-        ensures counts { OnOk result (viewport.new.counts ≡ added viewport.old.counts (rows_counts (rows_of self.now (Changed lines.now)) viewport.old.canvas.sight.rect y)) }
-        ensures rect { viewport.new.canvas.sight.rect ≡ viewport.old.canvas.sight.rect }
-        ensures err { IfErr result (λ e. e ≡ OutOfMemory) }
+        ensures { Paints viewport.old viewport.new result (rows_picture (rows_of self.now (Changed lines.now)) viewport.old.canvas.sight x y) (rows_counts (rows_of self.now (Changed lines.now)) viewport.old.canvas.sight.rect y) }
     {
         self.draw_header(alloc, viewport, x, y)?;
         if self.expand_box.is_open() {
@@ -712,10 +671,7 @@ impl<'a> SectionView<'a> {
         y: isize,
     ) -> Result<(), RecordError>
         requires { PictureInRange (section_picture self.now viewport.old.canvas.sight x y) }
-        ensures ok { OnOk result (IsPainted viewport.old.canvas viewport.new.canvas (section_picture self.now viewport.old.canvas.sight x y)) }
-        ensures counts { OnOk result (viewport.new.counts ≡ added viewport.old.counts (rows_counts (section_rows self.now) viewport.old.canvas.sight.rect y)) }
-        ensures rect { viewport.new.canvas.sight.rect ≡ viewport.old.canvas.sight.rect }
-        ensures err { IfErr result (λ e. e ≡ OutOfMemory) }
+        ensures { Paints viewport.old viewport.new result (section_picture self.now viewport.old.canvas.sight x y) (rows_counts (section_rows self.now) viewport.old.canvas.sight.rect y) }
     {
         match self.section {
             Section::Unchanged { .. } => self.draw(alloc, viewport, x, y),
@@ -738,10 +694,7 @@ impl<'a> SectionView<'a> {
         requires y { InRange y }
         requires end { InRange (y +ℤ pos (section_height self.now self.now.section.now)) }
         requires picture { PictureInRange (section_picture self.now viewport.old.canvas.sight x y) }
-        ensures ok { OnOk result (IsPainted viewport.old.canvas viewport.new.canvas (section_picture self.now viewport.old.canvas.sight x y)) }
-        ensures counts { OnOk result (viewport.new.counts ≡ added viewport.old.counts (rows_counts (section_rows self.now) viewport.old.canvas.sight.rect y)) }
-        ensures rect { viewport.new.canvas.sight.rect ≡ viewport.old.canvas.sight.rect }
-        ensures err { IfErr result (λ e. e ≡ OutOfMemory) }
+        ensures { Paints viewport.old viewport.new result (section_picture self.now viewport.old.canvas.sight x y) (rows_counts (section_rows self.now) viewport.old.canvas.sight.rect y) }
     {
         if is_seen(viewport, y, self.row_below(y)) {
             self.paint_rows(alloc, viewport, x, y)

@@ -1,12 +1,11 @@
 //! What is drawn where the screen has its row, and noted elsewhere: the boxes are the same, and nothing
 //! is put.
-ghost use Rattle.std.specs.Prelude.{◌≡◌, ◌<◌, ◌≤◌, ◌^◌, ◌∷◌, [], length, false, OnOk, IfErr};
+ghost use Rattle.std.specs.Prelude.{◌≡◌, ◌<◌, ◌≤◌, ◌^◌, ◌∷◌, [], length};
 ghost use Rattle.scm_cells.specs.Counts.{added, one_row, one_call};
 ghost use Rattle.scm_cells.specs.Spans.{span_texts};
 ghost use Rattle.scm_render.specs.Picture.{PictureInRange};
 ghost use Rattle.scm_render.specs.Canvas.{with_picture};
 ghost use Rattle.scm_render.specs.Drawing.{has_row, row_rect, span_picture, text_picture, blank_picture, texts_width};
-ghost use Rattle.scm_errors.specs.declared.error.RecordError.TheVariants.{OutOfMemory};
 ghost use Rattle.scm_view.specs.declared.ids.ComponentId.{ComponentId};
 ghost use Rattle.scm_view.specs.Pictures.{box_part};
 ghost use Rattle.scm_view.specs.Buttons.{button_part};
@@ -14,6 +13,7 @@ ghost use Rattle.scm_view.specs.Counts.{on_row};
 ghost use Rattle.scm_view.specs.Paints.{is_seen, rows_above};
 ghost use Rattle.scm_view.specs.Covers.{texts_cover};
 ghost use Rattle.scm_view.specs.Titles.{title_text};
+ghost use Rattle.scm_render.specs.Draws.{Draws};
 
 use crate::button::Button;
 use crate::button_row::button_width;
@@ -82,10 +82,7 @@ pub(crate) fn show_span(
     text: &str,
 ) -> Result<(), RecordError>
     requires { PictureInRange {K = ComponentId} (span_picture viewport.old.canvas.sight x y text.now) }
-    ensures ok { OnOk result (viewport.new.canvas ≡ with_picture viewport.old.canvas (span_picture viewport.old.canvas.sight x y text.now)) }
-    ensures counts { OnOk result (viewport.new.counts ≡ added viewport.old.counts (on_row viewport.old.canvas.sight.rect y one_call)) }
-    ensures rect { viewport.new.canvas.sight.rect ≡ viewport.old.canvas.sight.rect }
-    ensures err { IfErr result (λ e. e ≡ OutOfMemory) }
+    ensures { Draws viewport.old viewport.new result (span_picture viewport.old.canvas.sight x y text.now) (on_row viewport.old.canvas.sight.rect y one_call) }
 {
     if is_on_screen(viewport, y) {
         viewport.draw_span(x, y, &Span(text))?;
@@ -131,10 +128,7 @@ pub(crate) fn show_text(
     spans: &[Span],
 ) -> Result<(), RecordError>
     requires { PictureInRange {K = ComponentId} (text_picture viewport.old.canvas.sight x y (span_texts spans.now)) }
-    ensures ok { OnOk result (viewport.new.canvas ≡ with_picture viewport.old.canvas (text_picture viewport.old.canvas.sight x y (span_texts spans.now))) }
-    ensures counts { OnOk result (viewport.new.counts ≡ added viewport.old.counts (on_row viewport.old.canvas.sight.rect y one_call)) }
-    ensures rect { viewport.new.canvas.sight.rect ≡ viewport.old.canvas.sight.rect }
-    ensures err { IfErr result (λ e. e ≡ OutOfMemory) }
+    ensures { Draws viewport.old viewport.new result (text_picture viewport.old.canvas.sight x y (span_texts spans.now)) (on_row viewport.old.canvas.sight.rect y one_call) }
 {
     if is_on_screen(viewport, y) {
         viewport.draw_text(x, y, spans)?;
@@ -154,10 +148,7 @@ pub(crate) fn show_title(
     title: &Title<'_>,
 ) -> Result<(), RecordError>
     requires { PictureInRange {K = ComponentId} (text_picture viewport.old.canvas.sight x y (title_text title.now ∷ [])) }
-    ensures ok { OnOk result (viewport.new.canvas ≡ with_picture viewport.old.canvas (text_picture viewport.old.canvas.sight x y (title_text title.now ∷ []))) }
-    ensures counts { OnOk result (viewport.new.counts ≡ added viewport.old.counts (on_row viewport.old.canvas.sight.rect y one_call)) }
-    ensures rect { viewport.new.canvas.sight.rect ≡ viewport.old.canvas.sight.rect }
-    ensures err { IfErr result (λ e. e ≡ OutOfMemory) }
+    ensures { Draws viewport.old viewport.new result (text_picture viewport.old.canvas.sight x y (title_text title.now ∷ [])) (on_row viewport.old.canvas.sight.rect y one_call) }
 {
     if is_on_screen(viewport, y) {
         let text = title.text(alloc)?;
@@ -178,10 +169,7 @@ pub(crate) fn show_blank(
     width: usize,
 ) -> Result<(), RecordError>
     requires { PictureInRange {K = ComponentId} (blank_picture viewport.old.canvas.sight (row_rect x y width)) }
-    ensures ok { OnOk result (viewport.new.canvas ≡ with_picture viewport.old.canvas (blank_picture viewport.old.canvas.sight (row_rect x y width))) }
-    ensures counts { OnOk result (viewport.new.counts ≡ added viewport.old.counts (on_row viewport.old.canvas.sight.rect y one_call)) }
-    ensures rect { viewport.new.canvas.sight.rect ≡ viewport.old.canvas.sight.rect }
-    ensures err { IfErr result (λ e. e ≡ OutOfMemory) }
+    ensures { Draws viewport.old viewport.new result (blank_picture viewport.old.canvas.sight (row_rect x y width)) (on_row viewport.old.canvas.sight.rect y one_call) }
 {
     if is_on_screen(viewport, y) {
         viewport.draw_blank(row_of(x, y, width))?;
@@ -200,10 +188,7 @@ pub(crate) fn show_box(
     tristate_box: &TristateBox<ComponentId>,
 ) -> Result<(), RecordError>
     requires { PictureInRange (box_part tristate_box.now viewport.old.canvas.sight x y) }
-    ensures ok { OnOk result (viewport.new.canvas ≡ with_picture viewport.old.canvas (box_part tristate_box.now viewport.old.canvas.sight x y)) }
-    ensures counts { OnOk result (viewport.new.counts ≡ added viewport.old.counts (on_row viewport.old.canvas.sight.rect y one_call)) }
-    ensures rect { viewport.new.canvas.sight.rect ≡ viewport.old.canvas.sight.rect }
-    ensures err { IfErr result (λ e. e ≡ OutOfMemory) }
+    ensures { Draws viewport.old viewport.new result (box_part tristate_box.now viewport.old.canvas.sight x y) (on_row viewport.old.canvas.sight.rect y one_call) }
 {
     if is_on_screen(viewport, y) {
         viewport.draw_component(x, y, tristate_box)?;
@@ -223,10 +208,7 @@ pub(crate) fn show_button(
     button: &Button<'_, ComponentId>,
 ) -> Result<(), RecordError>
     requires { PictureInRange (button_part button.now viewport.old.canvas.sight x y) }
-    ensures ok { OnOk result (viewport.new.canvas ≡ with_picture viewport.old.canvas (button_part button.now viewport.old.canvas.sight x y)) }
-    ensures counts { OnOk result (viewport.new.counts ≡ added viewport.old.counts (on_row viewport.old.canvas.sight.rect y one_call)) }
-    ensures rect { viewport.new.canvas.sight.rect ≡ viewport.old.canvas.sight.rect }
-    ensures err { IfErr result (λ e. e ≡ OutOfMemory) }
+    ensures { Draws viewport.old viewport.new result (button_part button.now viewport.old.canvas.sight x y) (on_row viewport.old.canvas.sight.rect y one_call) }
 {
     if is_on_screen(viewport, y) {
         viewport.draw_component(x, y, button)?;

@@ -21,4 +21,4 @@ draw_text-requires c =
 
 pub loop-row-preserved : goal.loop-row-preserved
 loop-row-preserved c =
-    rw (c.in_ok-draw_text.ensures.ok, sight-kept c.loop-row.viewport.canvas _) c.loop-row.invariant
+    rw (c.in_ok-draw_text.ensures.draws.ok, sight-kept c.loop-row.viewport.canvas _) c.loop-row.invariant

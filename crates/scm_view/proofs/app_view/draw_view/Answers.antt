@@ -1,4 +1,4 @@
-use Rattle.std.proofs.Common.{◌≡◌, ◌∙◌, refl, ap, FitsSigned, w64}
+use Rattle.std.proofs.Common.{rules, ◌≡◌, ◌∙◌, refl, ap, FitsSigned, w64}
 use Rattle.std.specs.Prelude.{pos, ◌+ℤ◌}
 use Rattle.std.proofs.lemmas.Int.{to_z-of_z}
 use Rattle.scm_cells.specs.Mask.{apply_of}
@@ -45,15 +45,23 @@ overflow_add-result c =
     let end : FitsSigned w64 (c.args.x +ℤ pos (apply_of (view_mask s c.args.x c.args.width) (box_rect (view_picture v s c.args.x c.args.width))).width) = fits.0 in
     rw sum (simp to_z-of_z fits.1)
 
-pub returns-clause-ok : goal.returns-clause-ok
-returns-clause-ok c =
+pub returns-clause-draws : goal.returns-clause-draws
+returns-clause-draws c =
     let fx : FitsSigned w64 c.args.x = c.ranges.x in
     let s = c.args.viewport.now.canvas.sight in
     let mask = simp to_z-of_z at c.view_mask-mask.ensures.mask in
     let seen : c.swap_mask-outer.new.self.canvas.sight ≡ under (view_mask s c.args.x c.args.width) s = ap (λ t. t.sight) c.swap_mask-outer.ensures.new ∙ ap (λ m. under m s) mask in
-    let inner = c.swap_mask-outer.new.self.canvas in
-    let drawn = simp (to_z-of_z, seen) at c.in_ok-drawn.ensures.ok in
-    with_picture-masked _ inner c.draw_component.new.self.canvas _ c.view_mask-mask.result _ c.swap_mask-outer.ensures.new drawn (rw c.swap_mask-outer.ensures.old at c.swap_mask.ensures.new)
+    record {
+      ok =
+          let inner = c.swap_mask-outer.new.self.canvas in
+          let drawn = simp (to_z-of_z, seen) at c.in_ok-drawn.ensures.draws.ok in
+          with_picture-masked _ inner c.draw_component.new.self.canvas _ c.view_mask-mask.result _ c.swap_mask-outer.ensures.new drawn (rw c.swap_mask-outer.ensures.old at c.swap_mask.ensures.new);
+      counts =
+          let drawn = rw c.swap_mask-outer.ensures.counts at (rw seen at c.in_ok-drawn.ensures.draws.counts) in
+          c.swap_mask.ensures.counts ∙ drawn;
+      rect = search rules;
+      err = search rules;
+    }
 
 pub returns-clause-next : goal.returns-clause-next
 returns-clause-next c =
@@ -69,12 +77,3 @@ returns-clause-next c =
     let end : FitsSigned w64 (c.args.x +ℤ pos (apply_of (view_mask s c.args.x c.args.width) (box_rect (view_picture v s c.args.x c.args.width))).width) = fits.0 in
     let next : FitsSigned w64 (next_view v s c.args.x c.args.width) = fits.1 in
     rw sum (simp to_z-of_z refl)
-
-pub returns-clause-counts : goal.returns-clause-counts
-returns-clause-counts c =
-    let fx : FitsSigned w64 c.args.x = c.ranges.x in
-    let s = c.args.viewport.now.canvas.sight in
-    let mask = simp to_z-of_z at c.view_mask-mask.ensures.mask in
-    let seen : c.swap_mask-outer.new.self.canvas.sight ≡ under (view_mask s c.args.x c.args.width) s = ap (λ v. v.sight) c.swap_mask-outer.ensures.new ∙ ap (λ m. under m s) mask in
-    let drawn = rw c.swap_mask-outer.ensures.counts at (rw seen at c.in_ok-drawn.ensures.counts) in
-    c.swap_mask.ensures.counts ∙ drawn

@@ -1,4 +1,4 @@
-use Rattle.std.proofs.Common.{◌≡◌, refl, sym, ℕ, FitsSigned, w64}
+use Rattle.std.proofs.Common.{rules, ◌≡◌, refl, sym, ℕ, FitsSigned, w64}
 use Rattle.std.specs.Prelude.{ℤ}
 use Rattle.std.proofs.lemmas.Int.{to_z-of_z}
 use Rattle.std.proofs.Math.Facts.{sfits_to_z}
@@ -37,21 +37,23 @@ loop-view-preserved c =
     let left = simp (to_z-of_z, c.loop-view.left-is) at c.loop-view.invariant.left in
     let at_left : FitsSigned w64 c.loop-view.left = simp c.loop-view.left-is at (sfits_to_z {w = w64} c.loop-view.auto.left-fits) in
     let at_next : FitsSigned w64 c.in_ok-left.left = after-fits v s c.loop-view.left c.in_ok-left.left c.args.width at_left c.requires.end (PictureInRange-part _ _ (PictureInRange-left _ _ (rw (more next) at left.in_range))) next in
-    let drawn = simp c.loop-view.left-is at c.in_ok-left.ensures.ok in
+    let drawn = simp c.loop-view.left-is at c.in_ok-left.ensures.draws.ok in
     let count = rw (sym c.view-item.is) at (views_counts-more c.args.views.now c.loop-view.view-index v c.args.width s c.loop-view.left c.in_ok-left.left c.loop-view-test.true) in
     let so_far = simp (to_z-of_z, c.loop-view.left-is) at c.loop-view.invariant.counts in
-    let counted = simp left.sight at (simp c.loop-view.left-is at c.in_ok-left.ensures.counts) in
+    let counted = simp left.sight at (simp c.loop-view.left-is at c.in_ok-left.ensures.draws.counts) in
     let counts = counts-more _ _ _ _ _ _ _ (count next) so_far counted in
     simp to_z-of_z (record { counts = counts; left = left-more _ _ _ (one v c.loop-view.left c.args.width) _ _ _ (more next) left drawn })
 
-pub returns-clause-ok : goal.returns-clause-ok
-returns-clause-ok c =
+pub returns : goal.returns
+returns c =
     let fx : FitsSigned w64 c.args.x = c.ranges.x in
-    let left = simp (to_z-of_z, c.loop-view.left-is) at c.loop-view.invariant.left in
-    left-none _ _ _ _ (views_picture-end _ _ _ _ _ c.loop-view-test.false) left
-
-pub returns-clause-counts : goal.returns-clause-counts
-returns-clause-counts c =
-    let fx : FitsSigned w64 c.args.x = c.ranges.x in
-    let left = simp (to_z-of_z, c.loop-view.left-is) at c.loop-view.invariant.counts in
-    counts-end _ _ _ _ (views_counts-end _ _ _ _ _ c.loop-view-test.false) left
+    record {
+      ok =
+          let left = simp (to_z-of_z, c.loop-view.left-is) at c.loop-view.invariant.left in
+          left-none _ _ _ _ (views_picture-end _ _ _ _ _ c.loop-view-test.false) left;
+      counts =
+          let left = simp (to_z-of_z, c.loop-view.left-is) at c.loop-view.invariant.counts in
+          counts-end _ _ _ _ (views_counts-end _ _ _ _ _ c.loop-view-test.false) left;
+      rect = search rules;
+      err = search rules;
+    }

@@ -1,4 +1,4 @@
-use Rattle.std.proofs.Common.{◌≡◌, ◌∙◌, ap, FitsSigned, w64}
+use Rattle.std.proofs.Common.{rules, ◌≡◌, ◌∙◌, ap, FitsSigned, w64}
 use Rattle.std.specs.Prelude.{ℤ, pos}
 use Rattle.std.proofs.lemmas.Int.{to_z-of_z}
 use Rattle.scm_render.specs.Canvas.{Sight, under}
@@ -19,20 +19,18 @@ paint-requires c =
     let seen : c.swap_mask-outer.new.self.canvas.sight ≡ under (view_mask s c.args.x c.args.width) s = ap (λ v. v.sight) c.swap_mask-outer.ensures.new ∙ ap (λ m. under m s) mask in
     rw seen (simp to_z-of_z c.requires.picture)
 
-pub returns-clause-ok : goal.returns-clause-ok
-returns-clause-ok c =
-    let fx : FitsSigned w64 c.args.x = c.ranges.x in
-    let s = c.args.viewport.now.canvas.sight in
-    let mask = simp to_z-of_z at c.view_mask-mask.ensures.mask in
-    let seen : c.swap_mask-outer.new.self.canvas.sight ≡ under (view_mask s c.args.x c.args.width) s = ap (λ v. v.sight) c.swap_mask-outer.ensures.new ∙ ap (λ m. under m s) mask in
-    rw mask at (painted-masked _ c.swap_mask-outer.new.self.canvas c.paint.new.viewport.canvas _ c.view_mask-mask.result (one c.args.view.now c.args.x) c.swap_mask-outer.ensures.new
-    (simp to_z-of_z at c.in_ok-paint.ensures.ok) (rw c.swap_mask-outer.ensures.old at c.swap_mask.ensures.new))
-
-pub returns-clause-counts : goal.returns-clause-counts
-returns-clause-counts c =
+pub returns : goal.returns
+returns c =
     let fx : FitsSigned w64 c.args.x = c.ranges.x in
     let s = c.args.viewport.now.canvas.sight in
     let mask = simp to_z-of_z at c.view_mask-mask.ensures.mask in
     let seen : c.swap_mask-outer.new.self.canvas.sight ≡ under (view_mask s c.args.x c.args.width) s = ap (λ v. v.sight) c.swap_mask-outer.ensures.new ∙ ap (λ m. under m s) mask in
     let painted = rw c.swap_mask-outer.ensures.counts at (rw seen at c.in_ok-paint.ensures.counts) in
-    c.swap_mask.ensures.counts ∙ painted
+    record {
+      ok =
+          rw mask at (painted-masked _ c.swap_mask-outer.new.self.canvas c.paint.new.viewport.canvas _ c.view_mask-mask.result (one c.args.view.now c.args.x) c.swap_mask-outer.ensures.new
+          (simp to_z-of_z at c.in_ok-paint.ensures.ok) (rw c.swap_mask-outer.ensures.old at c.swap_mask.ensures.new));
+      counts = c.swap_mask.ensures.counts ∙ painted;
+      rect = search rules;
+      err = search rules;
+    }

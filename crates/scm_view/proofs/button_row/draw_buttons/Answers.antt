@@ -1,4 +1,4 @@
-use Rattle.std.proofs.Common.{◌+◌, ◌-◌, length, arith, sym, ◌-ℤ◌, pos, FitsSigned, w64}
+use Rattle.std.proofs.Common.{rules, ◌+◌, ◌-◌, length, arith, sym, ◌-ℤ◌, pos, FitsSigned, w64}
 use Rattle.std.proofs.lemmas.Int.{to_z-of_z}
 use Rattle.scm_render.proofs.StepLemmas.{left-part, left-more, left-none}
 use Rattle.scm_view.specs.Buttons.{button_width, button_part}
@@ -48,18 +48,20 @@ loop-button-preserved g c =
     let place = simp c.loop-button.right-is at (rw c.in_ok-width.ensures.ok at c.strict_sub_unsigned-left.ensures) in
     let fl : FitsSigned w64 (c.loop-button.right -ℤ pos (button_width b)) = left-fits _ _ _ _ _ (rw more at left.in_range) in
     let fb : FitsSigned w64 ((c.loop-button.right -ℤ pos (button_width b)) -ℤ pos 1) = before-fits _ _ _ _ _ (rw more at left.in_range) in
-    let drawn = simp to_z-of_z at (rw place at c.in_ok-draw_component.ensures.ok) in
+    let drawn = simp to_z-of_z at (rw place at c.in_ok-draw_component.ensures.draws.ok) in
     let n = length c.args.buttons.now in
     let i = c.loop-button.button-index in
-    let counted = calls-more _ _ _ (n - i) 1 (n - (i + 1)) n (omega arith) c.loop-button.invariant.counts c.in_ok-draw_component.ensures.counts in
+    let counted = calls-more _ _ _ (n - i) 1 (n - (i + 1)) n (omega arith) c.loop-button.invariant.counts c.in_ok-draw_component.ensures.draws.counts in
     rw place (simp to_z-of_z (record { left = left-more _ _ _ (λ s. button_part b s x c.args.y) _ _ _ more left drawn; counts = counted }))
 
-pub returns-clause-ok : goal.returns-clause-ok
-returns-clause-ok g c =
+pub returns : goal.returns
+returns g c =
     let fe : FitsSigned w64 c.args.end = c.ranges.end in
     let fy : FitsSigned w64 c.args.y = c.ranges.y in
     let left = simp (to_z-of_z, c.loop-button.right-is) at c.loop-button.invariant.left in
-    left-none _ _ _ _ (buttons_picture-end _ _ _ _ _ c.loop-button-test.false) left
-
-pub returns-clause-counts : goal.returns-clause-counts
-returns-clause-counts g c = calls-end _ _ _ _ (omega arith) c.loop-button.invariant.counts
+    record {
+      ok = left-none _ _ _ _ (buttons_picture-end _ _ _ _ _ c.loop-button-test.false) left;
+      counts = calls-end _ _ _ _ (omega arith) c.loop-button.invariant.counts;
+      rect = search rules;
+      err = search rules;
+    }

@@ -1,4 +1,4 @@
-use Rattle.std.proofs.Common.{List, ℕ, [], ◌∷◌, FitsSigned, w64}
+use Rattle.std.proofs.Common.{rules, List, ℕ, [], ◌∷◌, FitsSigned, w64}
 use Rattle.std.specs.Prelude.{ℤ, pos, ◌+ℤ◌}
 use Rattle.std.proofs.lemmas.Int.{to_z-of_z}
 use Rattle.scm_render.specs.Canvas.{Sight}
@@ -46,21 +46,19 @@ show_text-requires c =
     let f19 : FitsSigned w64 (c.args.x +ℤ pos 19) = InRange-fits _ (text-place _ _ _ _ last).0 in
     simp to_z-of_z last
 
-pub returns-clause-ok : goal.returns-clause-ok
+pub returns : goal.returns
 unfolding beside_button
-returns-clause-ok c =
+returns c =
     let fx : FitsSigned w64 c.args.x = c.ranges.x in
     let fy : FitsSigned w64 c.args.y = c.ranges.y in
     let f15 : FitsSigned w64 (c.args.x +ℤ pos 15) = InRange-fits _ (span-place _ _ _ _ (PictureInRange-left _ _ c.requires)).0 in
     let drawn = rw c.divider_text.ensures at (simp to_z-of_z at c.in_ok-show_span.ensures.ok) in
     let last = rest _ _ _ (text c.args.text.now c.args.x c.args.y) drawn c.requires in
     let f19 : FitsSigned w64 (c.args.x +ℤ pos 19) = InRange-fits _ (text-place _ _ _ _ last).0 in
-    step _ _ _ _ (text c.args.text.now c.args.x c.args.y) drawn (simp to_z-of_z at c.in_ok-show_text.ensures.ok)
-
-pub returns-clause-counts : goal.returns-clause-counts
-unfolding beside_button
-returns-clause-counts c =
-    let fx : FitsSigned w64 c.args.x = c.ranges.x in
-    let fy : FitsSigned w64 c.args.y = c.ranges.y in
     let divider = simp to_z-of_z at c.in_ok-show_span.ensures.counts in
-    on_row-then _ _ _ _ _ _ _ _ c.in_ok-show_span.ensures.rect divider (simp to_z-of_z at c.in_ok-show_text.ensures.counts)
+    record {
+      ok = step _ _ _ _ (text c.args.text.now c.args.x c.args.y) drawn (simp to_z-of_z at c.in_ok-show_text.ensures.ok);
+      counts = on_row-then _ _ _ _ _ _ _ _ c.in_ok-show_span.ensures.rect divider (simp to_z-of_z at c.in_ok-show_text.ensures.counts);
+      rect = search rules;
+      err = search rules;
+    }

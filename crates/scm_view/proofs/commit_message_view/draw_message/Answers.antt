@@ -1,4 +1,4 @@
-use Rattle.std.proofs.Common.{◌∙◌, ap, sym, ℕ, List, FitsSigned, w64, arith}
+use Rattle.std.proofs.Common.{rules, ◌∙◌, ap, sym, ℕ, List, FitsSigned, w64, arith}
 use Rattle.std.specs.Prelude.{ℤ, pos, ◌+ℤ◌}
 use Rattle.std.proofs.lemmas.Int.{to_z-of_z}
 use Rattle.scm_cells.specs.Rect.{InRange}
@@ -60,32 +60,31 @@ draw_beside_button-requires c =
     let all = rw same at c.requires in
     simp to_z-of_z (third _ _ _ _ (edit c.args.commit_idx c.args.x c.args.y) (beside c.message_text-text.result.now c.args.x c.args.y) cover button all)
 
-pub returns-clause-ok : goal.returns-clause-ok
+pub returns : goal.returns
 unfolding message_picture
-returns-clause-ok c =
+returns c =
     let fx : FitsSigned w64 c.args.x = c.ranges.x in
     let fy : FitsSigned w64 c.args.y = c.ranges.y in
     let fr : FitsSigned w64 (c.args.y +ℤ pos 1) = one-more _ (RectInRange-covering _ (PictureInRange-left _ _ c.requires)).y in
     let cover = simp to_z-of_z at (rw c.to_end-width.ensures.columns at c.cover_rect.ensures.new) in
     let same = c.begin_row-2.ensures.canvas ∙ c.begin_row.ensures.canvas in
-    let button = rw same at (simp to_z-of_z at (rw c.edit_button-button.ensures at c.in_ok-show_button.ensures.ok)) in
-    let last = simp to_z-of_z at c.in_ok-draw_beside_button.ensures.ok in
-    c.begin_row-3.ensures.canvas ∙ rw (sym c.message_text-text.ensures) (three _ _ _ _ _ (edit c.args.commit_idx c.args.x c.args.y) (beside c.message_text-text.result.now c.args.x c.args.y) cover button last)
-
-pub returns-clause-counts : goal.returns-clause-counts
-unfolding message_picture
-returns-clause-counts c =
-    let fx : FitsSigned w64 c.args.x = c.ranges.x in
-    let fy : FitsSigned w64 c.args.y = c.ranges.y in
-    let fr : FitsSigned w64 (c.args.y +ℤ pos 1) = one-more _ (RectInRange-covering _ (PictureInRange-left _ _ c.requires)).y in
     let fb : FitsSigned w64 ((c.args.y +ℤ pos 1) +ℤ pos 1) = two-more _ (RectInRange-covering _ (PictureInRange-left _ _ c.requires)).y in
     let first = rw (c.cover_rect.ensures.counts, c.cover_rect.ensures.rect) at (simp to_z-of_z at c.begin_row.ensures.counts) in
     let second = rw (ap (λ v. v.sight.rect) c.begin_row.ensures.canvas, c.cover_rect.ensures.rect) at (simp to_z-of_z at c.begin_row-2.ensures.counts) in
     let rect = ap (λ v. v.sight.rect) (c.begin_row-2.ensures.canvas ∙ c.begin_row.ensures.canvas) ∙ c.cover_rect.ensures.rect in
-    let button = rw rect at (simp to_z-of_z at c.in_ok-show_button.ensures.counts) in
-    let beside = rw (c.in_ok-show_button.ensures.rect ∙ rect) at (simp to_z-of_z at c.in_ok-draw_beside_button.ensures.counts) in
-    let last = rw (c.in_ok-draw_beside_button.ensures.rect ∙ c.in_ok-show_button.ensures.rect ∙ rect) at (simp to_z-of_z at c.begin_row-3.ensures.counts) in
-    message-counted _ _ _ _ _ _ _ c.args.y c.args.message.now first second button beside last
+    record {
+      ok =
+          let button = rw same at (simp to_z-of_z at (rw c.edit_button-button.ensures at c.in_ok-show_button.ensures.ok)) in
+          let last = simp to_z-of_z at c.in_ok-draw_beside_button.ensures.ok in
+          c.begin_row-3.ensures.canvas ∙ rw (sym c.message_text-text.ensures) (three _ _ _ _ _ (edit c.args.commit_idx c.args.x c.args.y) (beside c.message_text-text.result.now c.args.x c.args.y) cover button last);
+      counts =
+          let button = rw rect at (simp to_z-of_z at c.in_ok-show_button.ensures.counts) in
+          let beside = rw (c.in_ok-show_button.ensures.rect ∙ rect) at (simp to_z-of_z at c.in_ok-draw_beside_button.ensures.counts) in
+          let last = rw (c.in_ok-draw_beside_button.ensures.rect ∙ c.in_ok-show_button.ensures.rect ∙ rect) at (simp to_z-of_z at c.begin_row-3.ensures.counts) in
+          message-counted _ _ _ _ _ _ _ c.args.y c.args.message.now first second button beside last;
+      rect = search rules;
+      err = search rules;
+    }
 
 pub overflow_add-row-2 : goal.overflow_add-row-2
 unfolding message_picture

@@ -1,4 +1,4 @@
-use Rattle.std.proofs.Common.{◌∙◌, sym, ap, length, FitsSigned, w64, ◌+ℤ◌, pos}
+use Rattle.std.proofs.Common.{rules, ◌∙◌, sym, ap, length, FitsSigned, w64, ◌+ℤ◌, pos}
 use Rattle.std.proofs.lemmas.Int.{to_z-of_z}
 use Rattle.scm_render.proofs.PictureLemmas.{PictureInRange-left, PictureInRange-right}
 use Rattle.scm_render.proofs.CanvasLemmas.{with_picture-after, with_picture-sight, with_picture-nothing}
@@ -54,17 +54,16 @@ loop-file-preserved c =
       whole = with_picture-after _ _ _ _ drawn ∙ whole;
     }))
 
-pub returns-clause-ok : goal.returns-clause-ok
-returns-clause-ok c =
+pub returns : goal.returns
+returns c =
     let fx : FitsSigned w64 c.args.x = c.ranges.x in
     let fy : FitsSigned w64 c.args.y = c.ranges.y in
     let end = files_picture-end c.args.files.now c.loop-file.file-index c.args.viewport.now.canvas.sight c.args.x c.loop-file.row c.loop-file-test.false in
     let whole = rw end at (simp (to_z-of_z, c.loop-file.row-is) at c.loop-file.invariant.whole) in
-    sym (with_picture-nothing _) ∙ whole
-
-pub returns-clause-counts : goal.returns-clause-counts
-returns-clause-counts c =
-    let fx : FitsSigned w64 c.args.x = c.ranges.x in
-    let fy : FitsSigned w64 c.args.y = c.ranges.y in
     let left = simp (to_z-of_z, c.loop-file.row-is) at c.loop-file.invariant.counts in
-    counts-end _ _ _ _ (files_counts-end c.args.files.now c.loop-file.file-index c.args.viewport.now.canvas.sight.rect (mask_row c.args.viewport.now.canvas.sight) c.loop-file.row c.loop-file-test.false) left
+    record {
+      ok = sym (with_picture-nothing _) ∙ whole;
+      counts = counts-end _ _ _ _ (files_counts-end c.args.files.now c.loop-file.file-index c.args.viewport.now.canvas.sight.rect (mask_row c.args.viewport.now.canvas.sight) c.loop-file.row c.loop-file-test.false) left;
+      rect = search rules;
+      err = search rules;
+    }

@@ -1,4 +1,4 @@
-use Rattle.std.proofs.Common.{FitsSigned, w64}
+use Rattle.std.proofs.Common.{rules, FitsSigned, w64}
 use Rattle.std.proofs.lemmas.Int.{to_z-of_z}
 use Rattle.scm_view.specs.Rows.{shown_file}
 use Rattle.scm_view.specs.Pictures.{row_picture, header_picture}
@@ -27,15 +27,14 @@ draw_under-requires-clause-picture c =
     let fy : FitsSigned w64 c.args.y = c.ranges.y in
     rw (c.header-header.ensures.key, c.header-header.ensures.heading, c.pinned_mask-row.ensures.mask) (simp to_z-of_z c.requires)
 
-pub returns-clause-ok : goal.returns-clause-ok
+pub returns : goal.returns
 unfolding row_picture header_picture shown_file
-returns-clause-ok c =
+returns c =
     let fx : FitsSigned w64 c.args.x = c.ranges.x in
     let fy : FitsSigned w64 c.args.y = c.ranges.y in
-    simp to_z-of_z at (rw (c.header-header.ensures.key, c.header-header.ensures.heading, c.pinned_mask-row.ensures.mask) at c.draw_under.ensures.ok)
-
-pub returns-clause-counts : goal.returns-clause-counts
-returns-clause-counts c =
-    let fx : FitsSigned w64 c.args.x = c.ranges.x in
-    let fy : FitsSigned w64 c.args.y = c.ranges.y in
-    simp to_z-of_z at c.draw_under.ensures.counts
+    record {
+      ok = simp to_z-of_z at (rw (c.header-header.ensures.key, c.header-header.ensures.heading, c.pinned_mask-row.ensures.mask) at c.draw_under.ensures.ok);
+      counts = simp to_z-of_z at c.draw_under.ensures.counts;
+      rect = search rules;
+      err = search rules;
+    }

@@ -1,4 +1,4 @@
-use Rattle.std.proofs.Common.{◌≡◌, ◌∙◌, sym, ap, length, map, true, false, ◌==◌, FitsSigned, w64}
+use Rattle.std.proofs.Common.{rules, ◌≡◌, ◌∙◌, sym, ap, length, map, true, false, ◌==◌, FitsSigned, w64}
 use Rattle.std.specs.Prelude.{pos, ◌+ℤ◌}
 use Rattle.std.proofs.lemmas.Int.{to_z-of_z}
 use Rattle.scm_view.specs.Rows.{shown_file}
@@ -31,34 +31,28 @@ paint_files-requires c =
     let row = simp to_z-of_z at c.strict_add_unsigned.ensures in
     rw row (simp to_z-of_z (rw some at c.requires))
 
-pub returns-then-is_empty-clause-ok : goal.returns-then-is_empty-clause-ok
-returns-then-is_empty-clause-ok c =
+pub returns-then-is_empty : goal.returns-then-is_empty
+returns-then-is_empty c =
     let fx : FitsSigned w64 c.args.x = c.ranges.x in
     let fy : FitsSigned w64 c.args.y = c.ranges.y in
     let none : (length (map shown_file c.args.files.now) == 0) ≡ true = ap (λ n. n == 0) (length-shown c.args.files.now) ∙ sym c.is_empty.ensures ∙ c.if-is_empty.true in
-    rw none (on-ok _ (drawn-painted _ _ _) (simp to_z-of_z at c.draw_no_files.ensures.ok))
+    record {
+      ok = rw none (on-ok _ (drawn-painted _ _ _) (simp to_z-of_z at c.draw_no_files.ensures.ok));
+      counts = rw none (simp to_z-of_z at c.draw_no_files.ensures.counts);
+      rect = search rules;
+      err = search rules;
+    }
 
-pub returns-else-is_empty-clause-ok : goal.returns-else-is_empty-clause-ok
-returns-else-is_empty-clause-ok c =
+pub returns-else-is_empty : goal.returns-else-is_empty
+returns-else-is_empty c =
     let fx : FitsSigned w64 c.args.x = c.ranges.x in
     let fy : FitsSigned w64 c.args.y = c.ranges.y in
     let some : (length (map shown_file c.args.files.now) == 0) ≡ false = ap (λ n. n == 0) (length-shown c.args.files.now) ∙ sym c.is_empty.ensures ∙ c.if-is_empty.false in
     let fits : FitsSigned w64 (c.args.y +ℤ pos c.args.height) = InRange-fits _ (files-top _ _ _ _ some (rw some at c.requires)) in
     let row = simp to_z-of_z at c.strict_add_unsigned.ensures in
-    rw some (simp to_z-of_z at (rw row at c.paint_files.ensures.ok))
-
-pub returns-then-is_empty-clause-counts : goal.returns-then-is_empty-clause-counts
-returns-then-is_empty-clause-counts c =
-    let fx : FitsSigned w64 c.args.x = c.ranges.x in
-    let fy : FitsSigned w64 c.args.y = c.ranges.y in
-    let none : (length (map shown_file c.args.files.now) == 0) ≡ true = ap (λ n. n == 0) (length-shown c.args.files.now) ∙ sym c.is_empty.ensures ∙ c.if-is_empty.true in
-    rw none (simp to_z-of_z at c.draw_no_files.ensures.counts)
-
-pub returns-else-is_empty-clause-counts : goal.returns-else-is_empty-clause-counts
-returns-else-is_empty-clause-counts c =
-    let fx : FitsSigned w64 c.args.x = c.ranges.x in
-    let fy : FitsSigned w64 c.args.y = c.ranges.y in
-    let some : (length (map shown_file c.args.files.now) == 0) ≡ false = ap (λ n. n == 0) (length-shown c.args.files.now) ∙ sym c.is_empty.ensures ∙ c.if-is_empty.false in
-    let fits : FitsSigned w64 (c.args.y +ℤ pos c.args.height) = InRange-fits _ (files-top _ _ _ _ some (rw some at c.requires)) in
-    let row = simp to_z-of_z at c.strict_add_unsigned.ensures in
-    rw some (simp to_z-of_z at (rw row at c.paint_files.ensures.counts))
+    record {
+      ok = rw some (simp to_z-of_z at (rw row at c.paint_files.ensures.ok));
+      counts = rw some (simp to_z-of_z at (rw row at c.paint_files.ensures.counts));
+      rect = search rules;
+      err = search rules;
+    }

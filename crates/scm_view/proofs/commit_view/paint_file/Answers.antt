@@ -1,4 +1,4 @@
-use Rattle.std.proofs.Common.{◌≡◌, ◌∙◌, refl, ap, sym, length, true, false, FitsSigned, w64}
+use Rattle.std.proofs.Common.{rules, ◌≡◌, ◌∙◌, refl, ap, sym, length, true, false, FitsSigned, w64}
 use Rattle.std.specs.Prelude.{pos, ◌+ℤ◌}
 use Rattle.std.proofs.lemmas.Int.{to_z-of_z}
 use Rattle.scm_render.proofs.PictureLemmas.{PictureInRange-left, PictureInRange-right, PictureInRange-part}
@@ -74,9 +74,9 @@ draw_pinned-requires c =
     let same = painted.sight in
     rw (c.mask_row-first.ensures.row, same) (simp to_z-of_z (rw test at (PictureInRange-right _ _ c.requires)))
 
-pub returns-then-is_between-clause-ok : goal.returns-then-is_between-clause-ok
-unfolding one_file_picture pinned_picture file_picture part
-returns-then-is_between-clause-ok c =
+pub returns-then-is_between : goal.returns-then-is_between
+unfolding one_file_picture pinned_picture file_picture part pinned_counts
+returns-then-is_between c =
     let fx : FitsSigned w64 c.args.x = c.ranges.x in
     let fy : FitsSigned w64 c.args.y = c.ranges.y in
     let s = c.args.viewport.now.canvas.sight in
@@ -89,11 +89,17 @@ returns-then-is_between-clause-ok c =
     let test : is_pinned (mask_row s) c.args.y (length (file_rows f)) ≡ true = sym between ∙ c.if-is_between.true in
     let painted = painted-as _ _ _ (part (file_id f.key) (shown_file_picture f (under (file_mask s c.args.x c.args.y) s) c.args.x c.args.y)) refl (simp to_z-of_z at (rw c.file_mask-rows.ensures.mask at c.in_ok-paint_under.ensures.ok)) in
     let same = painted.sight in
-    rw test (on-ok _ (painted-step-drawn _ _ _ _ (λ t. pinned_header f t c.args.x (mask_row s)) painted) (simp to_z-of_z at (rw c.mask_row-first.ensures.row at c.draw_pinned.ensures.ok)))
+    let counted = simp to_z-of_z at c.in_ok-paint_under.ensures.counts in
+    record {
+      ok = rw test (on-ok _ (painted-step-drawn _ _ _ _ (λ t. pinned_header f t c.args.x (mask_row s)) painted) (simp to_z-of_z at (rw c.mask_row-first.ensures.row at c.draw_pinned.ensures.ok)));
+      counts = rw test (on-ok _ (counts-then _ _ _ _ _ counted) (rw c.in_ok-paint_under.ensures.rect at (simp to_z-of_z at (rw c.mask_row-first.ensures.row at c.draw_pinned.ensures.counts))));
+      rect = search rules;
+      err = search rules;
+    }
 
-pub returns-else-is_between-clause-ok : goal.returns-else-is_between-clause-ok
-unfolding one_file_picture pinned_picture file_picture part
-returns-else-is_between-clause-ok c =
+pub returns-else-is_between : goal.returns-else-is_between
+unfolding one_file_picture pinned_picture file_picture part pinned_counts
+returns-else-is_between c =
     let fx : FitsSigned w64 c.args.x = c.ranges.x in
     let fy : FitsSigned w64 c.args.y = c.ranges.y in
     let s = c.args.viewport.now.canvas.sight in
@@ -106,36 +112,10 @@ returns-else-is_between-clause-ok c =
     let test : is_pinned (mask_row s) c.args.y (length (file_rows f)) ≡ false = sym between ∙ c.if-is_between.false in
     let painted = painted-as _ _ _ (part (file_id f.key) (shown_file_picture f (under (file_mask s c.args.x c.args.y) s) c.args.x c.args.y)) refl (simp to_z-of_z at (rw c.file_mask-rows.ensures.mask at c.in_ok-paint_under.ensures.ok)) in
     let same = painted.sight in
-    rw test (painted-then _ _ _ _ _ painted (painted-nothing _))
-
-pub returns-then-is_between-clause-counts : goal.returns-then-is_between-clause-counts
-unfolding one_file_picture pinned_counts
-returns-then-is_between-clause-counts c =
-    let fx : FitsSigned w64 c.args.x = c.ranges.x in
-    let fy : FitsSigned w64 c.args.y = c.ranges.y in
-    let s = c.args.viewport.now.canvas.sight in
-    let f = shown_file c.args.file.now in
-    let fits = file-fits f _ _ _ (PictureInRange-part _ _ (PictureInRange-left _ _ c.requires)) in
-    let ft : FitsSigned w64 (mask_row s) = InRange-fits _ (rw c.mask_row-first.ensures.row at c.mask_row-first.ensures.in_range) in
-    let fb : FitsSigned w64 (c.args.y +ℤ pos (length (file_rows f))) = InRange-fits _ fits.end in
-    let below = simp to_z-of_z at c.row_below-below.ensures in
-    let between = simp to_z-of_z at (rw (c.mask_row-first.ensures.row, below) at c.is_between.ensures) in
     let counted = simp to_z-of_z at c.in_ok-paint_under.ensures.counts in
-    let test : is_pinned (mask_row s) c.args.y (length (file_rows f)) ≡ true = sym between ∙ c.if-is_between.true in
-    rw test (on-ok _ (counts-then _ _ _ _ _ counted) (rw c.in_ok-paint_under.ensures.rect at (simp to_z-of_z at (rw c.mask_row-first.ensures.row at c.draw_pinned.ensures.counts))))
-
-pub returns-else-is_between-clause-counts : goal.returns-else-is_between-clause-counts
-unfolding one_file_picture pinned_counts
-returns-else-is_between-clause-counts c =
-    let fx : FitsSigned w64 c.args.x = c.ranges.x in
-    let fy : FitsSigned w64 c.args.y = c.ranges.y in
-    let s = c.args.viewport.now.canvas.sight in
-    let f = shown_file c.args.file.now in
-    let fits = file-fits f _ _ _ (PictureInRange-part _ _ (PictureInRange-left _ _ c.requires)) in
-    let ft : FitsSigned w64 (mask_row s) = InRange-fits _ (rw c.mask_row-first.ensures.row at c.mask_row-first.ensures.in_range) in
-    let fb : FitsSigned w64 (c.args.y +ℤ pos (length (file_rows f))) = InRange-fits _ fits.end in
-    let below = simp to_z-of_z at c.row_below-below.ensures in
-    let between = simp to_z-of_z at (rw (c.mask_row-first.ensures.row, below) at c.is_between.ensures) in
-    let counted = simp to_z-of_z at c.in_ok-paint_under.ensures.counts in
-    let test : is_pinned (mask_row s) c.args.y (length (file_rows f)) ≡ false = sym between ∙ c.if-is_between.false in
-    rw test (counted ∙ ap (added c.args.viewport.now.counts) (sym (plus-none (file_counts f s.rect c.args.y))))
+    record {
+      ok = rw test (painted-then _ _ _ _ _ painted (painted-nothing _));
+      counts = rw test (counted ∙ ap (added c.args.viewport.now.counts) (sym (plus-none (file_counts f s.rect c.args.y))));
+      rect = search rules;
+      err = search rules;
+    }

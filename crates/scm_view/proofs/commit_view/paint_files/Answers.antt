@@ -1,4 +1,4 @@
-use Rattle.std.proofs.Common.{sym, length, FitsSigned, w64, ◌+ℤ◌, pos}
+use Rattle.std.proofs.Common.{rules, sym, length, FitsSigned, w64, ◌+ℤ◌, pos}
 use Rattle.std.specs.Prelude.{ℤ}
 use Rattle.std.proofs.lemmas.Int.{to_z-of_z}
 use Rattle.scm_render.specs.Canvas.{Sight}
@@ -59,16 +59,17 @@ loop-file-preserved c =
       left = to-more _ _ _ (one (shown_file v) c.args.x c.loop-file.row) _ _ _ more left painted;
     }))
 
-pub returns-clause-ok : goal.returns-clause-ok
-returns-clause-ok c =
+pub returns : goal.returns
+returns c =
     let fx : FitsSigned w64 c.args.x = c.ranges.x in
     let fy : FitsSigned w64 c.args.y = c.ranges.y in
-    let left = simp (to_z-of_z, c.loop-file.row-is) at c.loop-file.invariant.left in
-    to-none _ _ _ _ (files_picture-end c.args.files.now c.loop-file.file-index c.args.viewport.now.canvas.sight c.args.x c.loop-file.row c.loop-file-test.false) left
-
-pub returns-clause-counts : goal.returns-clause-counts
-returns-clause-counts c =
-    let fx : FitsSigned w64 c.args.x = c.ranges.x in
-    let fy : FitsSigned w64 c.args.y = c.ranges.y in
-    let left = simp (to_z-of_z, c.loop-file.row-is) at c.loop-file.invariant.counts in
-    counts-end _ _ _ _ (files_counts-end c.args.files.now c.loop-file.file-index c.args.viewport.now.canvas.sight.rect (mask_row c.args.viewport.now.canvas.sight) c.loop-file.row c.loop-file-test.false) left
+    record {
+      ok =
+          let left = simp (to_z-of_z, c.loop-file.row-is) at c.loop-file.invariant.left in
+          to-none _ _ _ _ (files_picture-end c.args.files.now c.loop-file.file-index c.args.viewport.now.canvas.sight c.args.x c.loop-file.row c.loop-file-test.false) left;
+      counts =
+          let left = simp (to_z-of_z, c.loop-file.row-is) at c.loop-file.invariant.counts in
+          counts-end _ _ _ _ (files_counts-end c.args.files.now c.loop-file.file-index c.args.viewport.now.canvas.sight.rect (mask_row c.args.viewport.now.canvas.sight) c.loop-file.row c.loop-file-test.false) left;
+      rect = search rules;
+      err = search rules;
+    }

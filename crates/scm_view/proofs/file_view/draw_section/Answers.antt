@@ -1,4 +1,4 @@
-use Rattle.std.proofs.Common.{◌∙◌, [], refl, ap, sym, FitsSigned, w64}
+use Rattle.std.proofs.Common.{rules, ◌∙◌, [], refl, ap, sym, FitsSigned, w64}
 use Rattle.std.proofs.lemmas.Int.{to_z-of_z}
 use Rattle.scm_cells.specs.Counts.{added}
 use Rattle.scm_render.proofs.CanvasLemmas.{with_picture-nothing}
@@ -15,22 +15,24 @@ draw_component-requires c =
     let fy : FitsSigned w64 c.args.y = c.ranges.y in
     simp to_z-of_z (one-first _ _ _ _ (rw c.if-is_shown.true at c.requires))
 
-pub returns-in_ok-draw_component-clause-ok : goal.returns-in_ok-draw_component-clause-ok
+pub returns-in_ok-draw_component : goal.returns-in_ok-draw_component
 unfolding section_picture
-returns-in_ok-draw_component-clause-ok c =
+returns-in_ok-draw_component c =
     let fx : FitsSigned w64 c.args.x = c.ranges.x in
     let fy : FitsSigned w64 c.args.y = c.ranges.y in
-    rw c.if-is_shown.true (one-alone _ _ _ _ _ (simp to_z-of_z at c.in_ok-draw_component.ensures.ok))
+    record {
+      ok = rw c.if-is_shown.true (one-alone _ _ _ _ _ (simp to_z-of_z at c.in_ok-draw_component.ensures.draws.ok));
+      counts = rw c.if-is_shown.true (simp to_z-of_z at c.in_ok-draw_component.ensures.draws.counts ∙ ap (added c.args.viewport.now.counts) (sym (sections_counts-one _ _ _)));
+      rect = search rules;
+      err = search rules;
+    }
 
-pub returns-else-is_shown-clause-ok : goal.returns-else-is_shown-clause-ok
+pub returns-else-is_shown : goal.returns-else-is_shown
 unfolding sections_picture
-returns-else-is_shown-clause-ok c = rw c.if-is_shown.false (sym (with_picture-nothing _))
-
-pub returns-in_ok-draw_component-clause-counts : goal.returns-in_ok-draw_component-clause-counts
-returns-in_ok-draw_component-clause-counts c =
-    let fx : FitsSigned w64 c.args.x = c.ranges.x in
-    let fy : FitsSigned w64 c.args.y = c.ranges.y in
-    rw c.if-is_shown.true (simp to_z-of_z at c.in_ok-draw_component.ensures.counts ∙ ap (added c.args.viewport.now.counts) (sym (sections_counts-one _ _ _)))
-
-pub returns-else-is_shown-clause-counts : goal.returns-else-is_shown-clause-counts
-returns-else-is_shown-clause-counts c = rw c.if-is_shown.false (sym (added-none _) ∙ ap (added c.args.viewport.now.counts) (sym (sections_counts-none [] _ _ refl)))
+returns-else-is_shown c =
+    record {
+      ok = rw c.if-is_shown.false (sym (with_picture-nothing _));
+      counts = rw c.if-is_shown.false (sym (added-none _) ∙ ap (added c.args.viewport.now.counts) (sym (sections_counts-none [] _ _ refl)));
+      rect = search rules;
+      err = search rules;
+    }

@@ -1,4 +1,4 @@
-use Rattle.std.proofs.Common.{◌∙◌, [], refl, ap, sym, FitsSigned, w64}
+use Rattle.std.proofs.Common.{rules, ◌∙◌, [], refl, ap, sym, FitsSigned, w64}
 use Rattle.std.proofs.lemmas.Int.{to_z-of_z}
 use Rattle.scm_cells.specs.Counts.{added}
 use Rattle.scm_render.proofs.CountLemmas.{added-none}
@@ -23,22 +23,24 @@ paint-requires-clause-picture c =
     let fy : FitsSigned w64 c.args.y = c.ranges.y in
     simp to_z-of_z (PictureInRange-part _ _ (one-first _ _ _ _ (rw c.if-is_shown.true at c.requires.picture)))
 
-pub returns-then-is_shown-clause-ok : goal.returns-then-is_shown-clause-ok
+pub returns-then-is_shown : goal.returns-then-is_shown
 unfolding section_picture
-returns-then-is_shown-clause-ok c =
+returns-then-is_shown c =
     let fx : FitsSigned w64 c.args.x = c.ranges.x in
     let fy : FitsSigned w64 c.args.y = c.ranges.y in
-    rw c.if-is_shown.true (on-ok _ (one-painted _ _ _ _ _) (simp to_z-of_z at c.paint.ensures.ok))
+    record {
+      ok = rw c.if-is_shown.true (on-ok _ (one-painted _ _ _ _ _) (simp to_z-of_z at c.paint.ensures.ok));
+      counts = rw c.if-is_shown.true (on-ok _ (one-counted _ _ _ _ _) (simp to_z-of_z at c.paint.ensures.counts));
+      rect = search rules;
+      err = search rules;
+    }
 
-pub returns-then-is_shown-clause-counts : goal.returns-then-is_shown-clause-counts
-returns-then-is_shown-clause-counts c =
-    let fx : FitsSigned w64 c.args.x = c.ranges.x in
-    let fy : FitsSigned w64 c.args.y = c.ranges.y in
-    rw c.if-is_shown.true (on-ok _ (one-counted _ _ _ _ _) (simp to_z-of_z at c.paint.ensures.counts))
-
-pub returns-else-is_shown-clause-ok : goal.returns-else-is_shown-clause-ok
+pub returns-else-is_shown : goal.returns-else-is_shown
 unfolding sections_picture
-returns-else-is_shown-clause-ok c = rw c.if-is_shown.false (painted-nothing _)
-
-pub returns-else-is_shown-clause-counts : goal.returns-else-is_shown-clause-counts
-returns-else-is_shown-clause-counts c = rw c.if-is_shown.false (sym (added-none _) ∙ ap (added c.args.viewport.now.counts) (sym (sections_counts-none [] _ _ refl)))
+returns-else-is_shown c =
+    record {
+      ok = rw c.if-is_shown.false (painted-nothing _);
+      counts = rw c.if-is_shown.false (sym (added-none _) ∙ ap (added c.args.viewport.now.counts) (sym (sections_counts-none [] _ _ refl)));
+      rect = search rules;
+      err = search rules;
+    }

@@ -1,4 +1,4 @@
-use Rattle.std.proofs.Common.{◌≡◌, ◌∙◌, ◌+◌, ◌++◌, List, sym, ap, drop, length, FitsSigned, w64, ◌+ℤ◌, pos}
+use Rattle.std.proofs.Common.{rules, ◌≡◌, ◌∙◌, ◌+◌, ◌++◌, List, sym, ap, drop, length, FitsSigned, w64, ◌+ℤ◌, pos}
 use Rattle.std.specs.Prelude.{ℤ}
 use Rattle.std.proofs.lemmas.Int.{to_z-of_z}
 use Rattle.scm_cells.specs.Rect.{InRange}
@@ -85,16 +85,17 @@ loop-index-preserved c =
       left = to-more _ _ _ (one (shown_section c.is_shown-shown.result v) c.args.x c.loop-index.row) _ _ _ all left painted;
     }))
 
-pub returns-clause-ok : goal.returns-clause-ok
-returns-clause-ok c =
+pub returns : goal.returns
+returns c =
     let fx : FitsSigned w64 c.args.x = c.ranges.x in
     let fy : FitsSigned w64 c.args.y = c.ranges.y in
-    let left = simp (to_z-of_z, c.loop-index.row-is) at c.loop-index.invariant.left in
-    to-none _ _ _ _ (shown_sections-end c.loop-index.before c.args.views.now c.loop-index.index c.args.viewport.now.canvas.sight c.args.x c.loop-index.row c.loop-index-test.false) left
-
-pub returns-clause-counts : goal.returns-clause-counts
-returns-clause-counts c =
-    let fx : FitsSigned w64 c.args.x = c.ranges.x in
-    let fy : FitsSigned w64 c.args.y = c.ranges.y in
-    let left = simp (to_z-of_z, c.loop-index.row-is) at c.loop-index.invariant.counts in
-    counts-end _ _ _ _ (sections_counts-none _ c.args.viewport.now.canvas.sight.rect c.loop-index.row (shown_sections-none c.loop-index.before c.args.views.now c.loop-index.index c.loop-index-test.false)) left
+    record {
+      ok =
+          let left = simp (to_z-of_z, c.loop-index.row-is) at c.loop-index.invariant.left in
+          to-none _ _ _ _ (shown_sections-end c.loop-index.before c.args.views.now c.loop-index.index c.args.viewport.now.canvas.sight c.args.x c.loop-index.row c.loop-index-test.false) left;
+      counts =
+          let left = simp (to_z-of_z, c.loop-index.row-is) at c.loop-index.invariant.counts in
+          counts-end _ _ _ _ (sections_counts-none _ c.args.viewport.now.canvas.sight.rect c.loop-index.row (shown_sections-none c.loop-index.before c.args.views.now c.loop-index.index c.loop-index-test.false)) left;
+      rect = search rules;
+      err = search rules;
+    }

@@ -1,4 +1,4 @@
-use Rattle.std.proofs.Common.{FitsSigned, w64, List, [], ◌∷◌, ℕ}
+use Rattle.std.proofs.Common.{rules, FitsSigned, w64, List, [], ◌∷◌, ℕ}
 use Rattle.std.specs.Prelude.{ℤ, pos, ◌+ℤ◌}
 use Rattle.std.proofs.lemmas.Int.{to_z-of_z}
 use Rattle.scm_render.specs.Canvas.{Sight}
@@ -52,22 +52,23 @@ show_title-requires c =
     let fits : FitsSigned w64 (c.args.x +ℤ pos 4) = InRange-fits _ (text-place _ _ _ _ last).0 in
     simp to_z-of_z last
 
-pub returns-clause-ok : goal.returns-clause-ok
+pub returns : goal.returns
 unfolding title_picture
-returns-clause-ok c =
+returns c =
     let fx : FitsSigned w64 c.args.x = c.ranges.x in
     let fy : FitsSigned w64 c.args.y = c.ranges.y in
-    let blank = simp to_z-of_z at c.in_ok-show_blank.ensures.ok in
-    let toggle = simp to_z-of_z at c.in_ok-show_box.ensures.ok in
-    let last = third _ _ _ _ (box c.args.toggle_box.now c.args.x c.args.y) (text (title_text c.args.title.now) c.args.x c.args.y) blank toggle c.requires in
-    let fits : FitsSigned w64 (c.args.x +ℤ pos 4) = InRange-fits _ (text-place _ _ _ _ last).0 in
-    three _ _ _ _ _ (box c.args.toggle_box.now c.args.x c.args.y) (text (title_text c.args.title.now) c.args.x c.args.y) blank toggle (simp to_z-of_z at c.in_ok-show_title.ensures.ok)
-
-pub returns-clause-counts : goal.returns-clause-counts
-returns-clause-counts c =
-    let fx : FitsSigned w64 c.args.x = c.ranges.x in
-    let fy : FitsSigned w64 c.args.y = c.ranges.y in
-    let blank = simp to_z-of_z at c.in_ok-show_blank.ensures.counts in
-    let toggle = simp to_z-of_z at c.in_ok-show_box.ensures.counts in
-    let title = simp to_z-of_z at c.in_ok-show_title.ensures.counts in
-    on_row-three _ _ _ _ _ _ _ _ _ _ _ c.in_ok-show_blank.ensures.rect c.in_ok-show_box.ensures.rect blank toggle title
+    record {
+      ok =
+          let blank = simp to_z-of_z at c.in_ok-show_blank.ensures.ok in
+          let toggle = simp to_z-of_z at c.in_ok-show_box.ensures.ok in
+          let last = third _ _ _ _ (box c.args.toggle_box.now c.args.x c.args.y) (text (title_text c.args.title.now) c.args.x c.args.y) blank toggle c.requires in
+          let fits : FitsSigned w64 (c.args.x +ℤ pos 4) = InRange-fits _ (text-place _ _ _ _ last).0 in
+          three _ _ _ _ _ (box c.args.toggle_box.now c.args.x c.args.y) (text (title_text c.args.title.now) c.args.x c.args.y) blank toggle (simp to_z-of_z at c.in_ok-show_title.ensures.ok);
+      counts =
+          let blank = simp to_z-of_z at c.in_ok-show_blank.ensures.counts in
+          let toggle = simp to_z-of_z at c.in_ok-show_box.ensures.counts in
+          let title = simp to_z-of_z at c.in_ok-show_title.ensures.counts in
+          on_row-three _ _ _ _ _ _ _ _ _ _ _ c.in_ok-show_blank.ensures.rect c.in_ok-show_box.ensures.rect blank toggle title;
+      rect = search rules;
+      err = search rules;
+    }

@@ -1,4 +1,4 @@
-use Rattle.std.proofs.Common.{◌∙◌, sym, ap}
+use Rattle.std.proofs.Common.{rules, ◌∙◌, sym, ap}
 use Rattle.scm_render.proofs.CanvasLemmas.{with_picture-nothing}
 use Rattle.scm_render.specs.Canvas.{with_picture}
 use Rattle.scm_view.proofs.MenuPartsLemmas.{first_picture-none, first_calls-none}
@@ -7,12 +7,15 @@ use Rattle.scm_view.specs.Counts.{drawn}
 use Rattle.scm_render.proofs.CountLemmas.{added-none}
 use Rattle.scm_view.proofs.menu_bar.draw_first.Goals as goal
 
-pub returns-in-None-clause-ok : goal.returns-in-None-clause-ok
-returns-in-None-clause-ok c =
-    let none = first_picture-none c.args.menus.now c.args.viewport.now.canvas.sight c.args.x c.args.y (rw c.in-None.is at c.first.ensures.value) in
-    sym (with_picture-nothing _) ∙ ap (with_picture c.args.viewport.now.canvas) (sym none)
-
-pub returns-in-None-clause-counts : goal.returns-in-None-clause-counts
-returns-in-None-clause-counts c =
-    let none = first_calls-none c.args.menus.now (rw c.in-None.is at c.first.ensures.value) in
-    sym (added-none _) ∙ ap (λ n. added c.args.viewport.now.counts (drawn 0 n)) (sym none)
+pub returns-in-None : goal.returns-in-None
+returns-in-None c =
+    record {
+      ok =
+          let none = first_picture-none c.args.menus.now c.args.viewport.now.canvas.sight c.args.x c.args.y (rw c.in-None.is at c.first.ensures.value) in
+          sym (with_picture-nothing _) ∙ ap (with_picture c.args.viewport.now.canvas) (sym none);
+      counts =
+          let none = first_calls-none c.args.menus.now (rw c.in-None.is at c.first.ensures.value) in
+          sym (added-none _) ∙ ap (λ n. added c.args.viewport.now.counts (drawn 0 n)) (sym none);
+      rect = search rules;
+      err = search rules;
+    }

@@ -1,4 +1,4 @@
-use Rattle.std.proofs.Common.{arith, length, ◌-◌, ℕ, ◌≡◌, ◌+◌, ◌∙◌, sym, ap, ◌+ℤ◌, pos, FitsSigned, w64}
+use Rattle.std.proofs.Common.{rules, arith, length, ◌-◌, ℕ, ◌≡◌, ◌+◌, ◌∙◌, sym, ap, ◌+ℤ◌, pos, FitsSigned, w64}
 use Rattle.std.specs.Prelude.{ℤ}
 use Rattle.std.proofs.lemmas.Int.{to_z-of_z}
 use Rattle.scm_render.specs.Canvas.{Sight}
@@ -65,28 +65,30 @@ loop-menu_idx-preserved c =
     let end : FitsSigned w64 (c.loop-menu_idx.column +ℤ pos (button_width (header_button (c.args.first_idx + i) m))) = header-fits (c.args.first_idx + i) m _ _ _ _ (rw more at left.in_range) in
     let after : FitsSigned w64 ((c.loop-menu_idx.column +ℤ pos (button_width (header_button (c.args.first_idx + i) m))) +ℤ pos 1) = header_after-fits (c.args.first_idx + i) m _ _ _ _ (rw more at left.in_range) in
     let sum = simp c.loop-menu_idx.column-is at (rw width at c.strict_add_unsigned-column.ensures) in
-    let drawn = simp (to_z-of_z, c.loop-menu_idx.column-is) at (rw c.header-header.ensures at c.in_ok-drawn.ensures.ok) in
+    let drawn = simp (to_z-of_z, c.loop-menu_idx.column-is) at (rw c.header-header.ensures at c.in_ok-drawn.ensures.draws.ok) in
     let next = header-next c.loop-menu_idx.column (c.args.first_idx + i) m in
     let n = length c.args.menus.now in
-    let counted = calls-more _ _ _ (n - i) 1 (n - (i + 1)) n (omega arith) c.loop-menu_idx.invariant.counts c.in_ok-drawn.ensures.counts in
+    let counted = calls-more _ _ _ (n - i) 1 (n - (i + 1)) n (omega arith) c.loop-menu_idx.invariant.counts c.in_ok-drawn.ensures.draws.counts in
     rw sum (simp to_z-of_z (rw next (record {
       counts = counted;
       left = left-more _ _ _ (header (c.args.first_idx + i) m column c.args.y) _ _ _ more left drawn;
       columns = columns ∙ before;
     })))
 
-pub returns-clause-ok : goal.returns-clause-ok
-returns-clause-ok c =
+pub returns-clause-draws : goal.returns-clause-draws
+returns-clause-draws c =
     let fx : FitsSigned w64 c.args.x = c.ranges.x in
     let fy : FitsSigned w64 c.args.y = c.ranges.y in
     let left = simp (to_z-of_z, c.loop-menu_idx.column-is) at c.loop-menu_idx.invariant.left in
-    left-none _ _ _ _ (headers_picture-end _ _ _ _ _ _ c.loop-menu_idx-test.false) left
+    record {
+      ok = left-none _ _ _ _ (headers_picture-end _ _ _ _ _ _ c.loop-menu_idx-test.false) left;
+      counts = calls-end _ _ _ _ (omega arith) c.loop-menu_idx.invariant.counts;
+      rect = search rules;
+      err = search rules;
+    }
 
 pub returns-clause-column : goal.returns-clause-column
 returns-clause-column c =
     let fx : FitsSigned w64 c.args.x = c.ranges.x in
     let before = simp (to_z-of_z, c.loop-menu_idx.column-is) at c.loop-menu_idx.invariant.columns in
     simp c.loop-menu_idx.column-is (sym (headers_width-end c.args.menus.now c.loop-menu_idx.menu_idx c.loop-menu_idx.column c.loop-menu_idx-test.false) ∙ before)
-
-pub returns-clause-counts : goal.returns-clause-counts
-returns-clause-counts c = calls-end _ _ _ _ (omega arith) c.loop-menu_idx.invariant.counts

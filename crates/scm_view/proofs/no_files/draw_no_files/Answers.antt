@@ -1,4 +1,4 @@
-use Rattle.std.proofs.Common.{ap, FitsSigned, w64}
+use Rattle.std.proofs.Common.{rules, ap, FitsSigned, w64}
 use Rattle.std.specs.Prelude.{◌+ℤ◌}
 use Rattle.std.proofs.lemmas.Int.{to_z-of_z}
 use Rattle.scm_view.specs.Pictures.{no_files_place, no_files_picture}
@@ -36,9 +36,9 @@ show_text-requires c =
     let row : FitsSigned w64 (c.args.y +ℤ (no_files_place s).y) = InRange-fits _ (text-place _ _ _ _ c.requires).1 in
     rw (place, c.no_files_text.ensures, c.begin_row.ensures.canvas) (simp to_z-of_z c.requires)
 
-pub returns-clause-ok : goal.returns-clause-ok
+pub returns : goal.returns
 unfolding no_files_picture
-returns-clause-ok c =
+returns c =
     let fx : FitsSigned w64 c.args.x = c.ranges.x in
     let fy : FitsSigned w64 c.args.y = c.ranges.y in
     let s = c.args.viewport.now.canvas.sight in
@@ -47,17 +47,11 @@ returns-clause-ok c =
     let at_y : FitsSigned w64 (no_files_place s).y = (place-fits s).1 in
     let column : FitsSigned w64 (c.args.x +ℤ (no_files_place s).x) = InRange-fits _ (text-place _ _ _ _ c.requires).0 in
     let row : FitsSigned w64 (c.args.y +ℤ (no_files_place s).y) = InRange-fits _ (text-place _ _ _ _ c.requires).1 in
-    simp to_z-of_z at (rw (place, c.no_files_text.ensures, c.begin_row.ensures.canvas) at c.in_ok-show_text.ensures.ok)
-
-pub returns-clause-counts : goal.returns-clause-counts
-unfolding no_files_picture
-returns-clause-counts c =
-    let fx : FitsSigned w64 c.args.x = c.ranges.x in
-    let fy : FitsSigned w64 c.args.y = c.ranges.y in
-    let s = c.args.viewport.now.canvas.sight in
-    let place = c.no_files_place-place.ensures in
-    let at_y : FitsSigned w64 (no_files_place s).y = (place-fits s).1 in
-    let row : FitsSigned w64 (c.args.y +ℤ (no_files_place s).y) = InRange-fits _ (text-place _ _ _ _ c.requires).1 in
     let began = simp to_z-of_z at (rw place at c.begin_row.ensures.counts) in
     let text = simp to_z-of_z at (rw place at c.in_ok-show_text.ensures.counts) in
-    on_row-then _ _ _ _ _ _ _ _ (ap (λ v. v.sight.rect) c.begin_row.ensures.canvas) began text
+    record {
+      ok = simp to_z-of_z at (rw (place, c.no_files_text.ensures, c.begin_row.ensures.canvas) at c.in_ok-show_text.ensures.ok);
+      counts = on_row-then _ _ _ _ _ _ _ _ (ap (λ v. v.sight.rect) c.begin_row.ensures.canvas) began text;
+      rect = search rules;
+      err = search rules;
+    }

@@ -1,4 +1,4 @@
-use Rattle.std.proofs.Common.{◌∙◌, List, ℕ, FitsSigned, w64}
+use Rattle.std.proofs.Common.{rules, ◌∙◌, List, ℕ, FitsSigned, w64}
 use Rattle.std.specs.Prelude.{ℤ, pos, ◌+ℤ◌}
 use Rattle.std.proofs.lemmas.Int.{to_z-of_z}
 use Rattle.scm_types.specs.declared.line.ChangeType.{ChangeType}
@@ -53,22 +53,23 @@ draw_line_texts-requires c =
     let fits : FitsSigned w64 (c.args.x +ℤ pos 4) = InRange-fits _ (text-place _ _ _ _ last).0 in
     rw c.sign_text.ensures (simp to_z-of_z last)
 
-pub returns-clause-ok : goal.returns-clause-ok
+pub returns : goal.returns
 unfolding changed_picture
-returns-clause-ok c =
+returns c =
     let fx : FitsSigned w64 c.args.x = c.ranges.x in
     let fy : FitsSigned w64 c.args.y = c.ranges.y in
     let cover = simp to_z-of_z at c.cover_row.ensures.new in
-    let toggle = simp to_z-of_z at c.in_ok-show_box.ensures.ok in
-    let last = third _ _ _ _ (box c.args.toggle_box.now c.args.x c.args.y) (texts c.args.change_type c.args.line.now c.args.x c.args.y) cover toggle c.requires in
-    let fits : FitsSigned w64 (c.args.x +ℤ pos 4) = InRange-fits _ (text-place _ _ _ _ last).0 in
-    let drawn = rw c.sign_text.ensures at (simp to_z-of_z at c.in_ok-draw_line_texts.ensures.ok) in
-    three _ _ _ _ _ (box c.args.toggle_box.now c.args.x c.args.y) (texts c.args.change_type c.args.line.now c.args.x c.args.y) cover toggle drawn
-
-pub returns-clause-counts : goal.returns-clause-counts
-returns-clause-counts c =
-    let fx : FitsSigned w64 c.args.x = c.ranges.x in
-    let fy : FitsSigned w64 c.args.y = c.ranges.y in
-    let toggle = rw (c.cover_row.ensures.counts, c.cover_row.ensures.rect) at (simp to_z-of_z at c.in_ok-show_box.ensures.counts) in
-    let texts = simp to_z-of_z at c.in_ok-draw_line_texts.ensures.counts in
-    on_row-then _ _ _ _ _ _ _ _ (c.in_ok-show_box.ensures.rect ∙ c.cover_row.ensures.rect) toggle texts
+    record {
+      ok =
+          let toggle = simp to_z-of_z at c.in_ok-show_box.ensures.ok in
+          let last = third _ _ _ _ (box c.args.toggle_box.now c.args.x c.args.y) (texts c.args.change_type c.args.line.now c.args.x c.args.y) cover toggle c.requires in
+          let fits : FitsSigned w64 (c.args.x +ℤ pos 4) = InRange-fits _ (text-place _ _ _ _ last).0 in
+          let drawn = rw c.sign_text.ensures at (simp to_z-of_z at c.in_ok-draw_line_texts.ensures.ok) in
+          three _ _ _ _ _ (box c.args.toggle_box.now c.args.x c.args.y) (texts c.args.change_type c.args.line.now c.args.x c.args.y) cover toggle drawn;
+      counts =
+          let toggle = rw (c.cover_row.ensures.counts, c.cover_row.ensures.rect) at (simp to_z-of_z at c.in_ok-show_box.ensures.counts) in
+          let texts = simp to_z-of_z at c.in_ok-draw_line_texts.ensures.counts in
+          on_row-then _ _ _ _ _ _ _ _ (c.in_ok-show_box.ensures.rect ∙ c.cover_row.ensures.rect) toggle texts;
+      rect = search rules;
+      err = search rules;
+    }

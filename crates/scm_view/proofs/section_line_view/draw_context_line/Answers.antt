@@ -1,4 +1,4 @@
-use Rattle.std.proofs.Common.{List, ℕ, FitsSigned, w64}
+use Rattle.std.proofs.Common.{rules, List, ℕ, FitsSigned, w64}
 use Rattle.std.specs.Prelude.{ℤ}
 use Rattle.std.proofs.lemmas.Int.{to_z-of_z}
 use Rattle.scm_render.specs.Canvas.{Sight}
@@ -27,11 +27,16 @@ draw_numbered_texts-requires c =
     let cover = simp to_z-of_z at c.cover_row.ensures.new in
     simp to_z-of_z (rest _ _ _ (texts c.args.number c.args.line.now c.args.x c.args.y) cover c.requires)
 
-pub returns-clause-ok : goal.returns-clause-ok
+pub returns : goal.returns
 unfolding context_picture
-returns-clause-ok c =
+returns c =
     let fx : FitsSigned w64 c.args.x = c.ranges.x in
     let fy : FitsSigned w64 c.args.y = c.ranges.y in
     let cover = simp to_z-of_z at c.cover_row.ensures.new in
     let drawn = simp to_z-of_z at c.in_ok-draw_numbered_texts.ensures.ok in
-    step _ _ _ _ (texts c.args.number c.args.line.now c.args.x c.args.y) cover drawn
+    record {
+      ok = step _ _ _ _ (texts c.args.number c.args.line.now c.args.x c.args.y) cover drawn;
+      counts = search rules;
+      rect = search rules;
+      err = search rules;
+    }

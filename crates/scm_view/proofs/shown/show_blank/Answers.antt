@@ -1,4 +1,4 @@
-use Rattle.std.proofs.Common.{◌∙◌, sym, FitsSigned, w64}
+use Rattle.std.proofs.Common.{rules, ◌∙◌, sym, FitsSigned, w64}
 use Rattle.std.proofs.lemmas.Int.{to_z-of_z}
 use Rattle.scm_render.proofs.DrawLemmas.{blank_in_range}
 use Rattle.scm_view.specs.declared.ids.ComponentId.{ComponentId}
@@ -21,35 +21,29 @@ cover_rect-requires c =
     let rows = c.is_on_screen.ensures.rows in
     rw c.row_of-else-is_on_screen.ensures (simp to_z-of_z (blank_in_range {K = ComponentId} _ _ c.requires))
 
-pub returns-in_ok-draw_blank-clause-ok : goal.returns-in_ok-draw_blank-clause-ok
-returns-in_ok-draw_blank-clause-ok c =
+pub returns-in_ok-draw_blank : goal.returns-in_ok-draw_blank
+returns-in_ok-draw_blank c =
     let fx : FitsSigned w64 c.args.x = c.ranges.x in
     let fy : FitsSigned w64 c.args.y = c.ranges.y in
     let test = simp to_z-of_z at c.is_on_screen.ensures.test in
     let rows = c.is_on_screen.ensures.rows in
-    simp to_z-of_z at (rw c.row_of.ensures at c.in_ok-draw_blank.ensures.ok)
+    record {
+      ok = simp to_z-of_z at (rw c.row_of.ensures at c.in_ok-draw_blank.ensures.draws.ok);
+      counts = (counted-shown _ _ _ _ _ (sym test ∙ c.if-is_on_screen.true) c.in_ok-draw_blank.ensures.draws.counts);
+      rect = search rules;
+      err = search rules;
+    }
 
-pub returns-else-is_on_screen-clause-ok : goal.returns-else-is_on_screen-clause-ok
-returns-else-is_on_screen-clause-ok c =
+pub returns-else-is_on_screen : goal.returns-else-is_on_screen
+returns-else-is_on_screen c =
     let fx : FitsSigned w64 c.args.x = c.ranges.x in
     let fy : FitsSigned w64 c.args.y = c.ranges.y in
     let test = simp to_z-of_z at c.is_on_screen.ensures.test in
     let rows = c.is_on_screen.ensures.rows in
     let drawn = rw c.row_of-else-is_on_screen.ensures at c.cover_rect.ensures.new in
-    simp to_z-of_z at drawn ∙ blank-hidden c.args.viewport.now.canvas c.args.x c.args.y c.args.width rows (sym test ∙ c.if-is_on_screen.false)
-
-pub returns-in_ok-draw_blank-clause-counts : goal.returns-in_ok-draw_blank-clause-counts
-returns-in_ok-draw_blank-clause-counts c =
-    let fx : FitsSigned w64 c.args.x = c.ranges.x in
-    let fy : FitsSigned w64 c.args.y = c.ranges.y in
-    let test = simp to_z-of_z at c.is_on_screen.ensures.test in
-    let rows = c.is_on_screen.ensures.rows in
-    (counted-shown _ _ _ _ _ (sym test ∙ c.if-is_on_screen.true) c.in_ok-draw_blank.ensures.counts)
-
-pub returns-else-is_on_screen-clause-counts : goal.returns-else-is_on_screen-clause-counts
-returns-else-is_on_screen-clause-counts c =
-    let fx : FitsSigned w64 c.args.x = c.ranges.x in
-    let fy : FitsSigned w64 c.args.y = c.ranges.y in
-    let test = simp to_z-of_z at c.is_on_screen.ensures.test in
-    let rows = c.is_on_screen.ensures.rows in
-    (counted-hidden _ _ _ _ _ (sym test ∙ c.if-is_on_screen.false) c.cover_rect.ensures.counts)
+    record {
+      ok = simp to_z-of_z at drawn ∙ blank-hidden c.args.viewport.now.canvas c.args.x c.args.y c.args.width rows (sym test ∙ c.if-is_on_screen.false);
+      counts = (counted-hidden _ _ _ _ _ (sym test ∙ c.if-is_on_screen.false) c.cover_rect.ensures.counts);
+      rect = search rules;
+      err = search rules;
+    }

@@ -1,4 +1,4 @@
-use Rattle.std.proofs.Common.{◌∙◌, sym, FitsSigned, w64}
+use Rattle.std.proofs.Common.{rules, ◌∙◌, sym, FitsSigned, w64}
 use Rattle.std.proofs.lemmas.Int.{to_z-of_z}
 use Rattle.scm_render.proofs.DrawLemmas.{span_in_range}
 use Rattle.scm_view.specs.declared.ids.ComponentId.{ComponentId}
@@ -13,27 +13,29 @@ cover_rect-requires c =
     let rows = c.is_on_screen.ensures.rows in
     rw c.row_of.ensures (rw c.text_width.ensures.value (simp to_z-of_z (span_in_range {K = ComponentId} _ _ _ _ c.requires)))
 
-pub returns-else-is_on_screen-clause-ok : goal.returns-else-is_on_screen-clause-ok
-returns-else-is_on_screen-clause-ok c =
+pub returns-else-is_on_screen : goal.returns-else-is_on_screen
+returns-else-is_on_screen c =
     let fx : FitsSigned w64 c.args.x = c.ranges.x in
     let fy : FitsSigned w64 c.args.y = c.ranges.y in
     let test = simp to_z-of_z at c.is_on_screen.ensures.test in
     let rows = c.is_on_screen.ensures.rows in
     let drawn = rw c.text_width.ensures.value at (rw c.row_of.ensures at c.cover_rect.ensures.new) in
-    simp to_z-of_z at drawn ∙ span-hidden c.args.viewport.now.canvas c.args.x c.args.y c.args.text.now rows (sym test ∙ c.if-is_on_screen.false)
+    record {
+      ok = simp to_z-of_z at drawn ∙ span-hidden c.args.viewport.now.canvas c.args.x c.args.y c.args.text.now rows (sym test ∙ c.if-is_on_screen.false);
+      counts = (counted-hidden _ _ _ _ _ (sym test ∙ c.if-is_on_screen.false) c.cover_rect.ensures.counts);
+      rect = search rules;
+      err = search rules;
+    }
 
-pub returns-in_ok-draw_span-clause-counts : goal.returns-in_ok-draw_span-clause-counts
-returns-in_ok-draw_span-clause-counts c =
+pub returns-in_ok-draw_span : goal.returns-in_ok-draw_span
+returns-in_ok-draw_span c =
     let fx : FitsSigned w64 c.args.x = c.ranges.x in
     let fy : FitsSigned w64 c.args.y = c.ranges.y in
     let test = simp to_z-of_z at c.is_on_screen.ensures.test in
     let rows = c.is_on_screen.ensures.rows in
-    (counted-shown _ _ _ _ _ (sym test ∙ c.if-is_on_screen.true) c.in_ok-draw_span.ensures.counts)
-
-pub returns-else-is_on_screen-clause-counts : goal.returns-else-is_on_screen-clause-counts
-returns-else-is_on_screen-clause-counts c =
-    let fx : FitsSigned w64 c.args.x = c.ranges.x in
-    let fy : FitsSigned w64 c.args.y = c.ranges.y in
-    let test = simp to_z-of_z at c.is_on_screen.ensures.test in
-    let rows = c.is_on_screen.ensures.rows in
-    (counted-hidden _ _ _ _ _ (sym test ∙ c.if-is_on_screen.false) c.cover_rect.ensures.counts)
+    record {
+      ok = search rules;
+      counts = (counted-shown _ _ _ _ _ (sym test ∙ c.if-is_on_screen.true) c.in_ok-draw_span.ensures.draws.counts);
+      rect = search rules;
+      err = search rules;
+    }

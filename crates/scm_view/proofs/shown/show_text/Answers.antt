@@ -1,4 +1,4 @@
-use Rattle.std.proofs.Common.{◌∙◌, sym, FitsSigned, w64}
+use Rattle.std.proofs.Common.{rules, ◌∙◌, sym, FitsSigned, w64}
 use Rattle.std.proofs.lemmas.Int.{to_z-of_z}
 use Rattle.scm_cells.specs.Spans.{span_texts}
 use Rattle.scm_render.proofs.DrawLemmas.{line_in_range, text_picture-line}
@@ -16,26 +16,28 @@ cover_texts-requires c =
     let fy : FitsSigned w64 c.args.y = c.ranges.y in
     simp to_z-of_z (cover-in-range _ _ _ _ (span_texts c.args.spans.now) c.spans_width.ensures c.requires)
 
-pub returns-else-is_on_screen-clause-ok : goal.returns-else-is_on_screen-clause-ok
-returns-else-is_on_screen-clause-ok c =
+pub returns-else-is_on_screen : goal.returns-else-is_on_screen
+returns-else-is_on_screen c =
     let fx : FitsSigned w64 c.args.x = c.ranges.x in
     let fy : FitsSigned w64 c.args.y = c.ranges.y in
     let test = simp to_z-of_z at c.is_on_screen.ensures.test in
     let rows = c.is_on_screen.ensures.rows in
-    simp to_z-of_z at c.cover_texts.ensures.new ∙ cover-hidden c.args.viewport.now.canvas c.args.x c.args.y _ (span_texts c.args.spans.now) c.spans_width.ensures rows (sym test ∙ c.if-is_on_screen.false)
+    record {
+      ok = simp to_z-of_z at c.cover_texts.ensures.new ∙ cover-hidden c.args.viewport.now.canvas c.args.x c.args.y _ (span_texts c.args.spans.now) c.spans_width.ensures rows (sym test ∙ c.if-is_on_screen.false);
+      counts = (counted-hidden _ _ _ _ _ (sym test ∙ c.if-is_on_screen.false) c.cover_texts.ensures.counts);
+      rect = search rules;
+      err = search rules;
+    }
 
-pub returns-in_ok-draw_text-clause-counts : goal.returns-in_ok-draw_text-clause-counts
-returns-in_ok-draw_text-clause-counts c =
+pub returns-in_ok-draw_text : goal.returns-in_ok-draw_text
+returns-in_ok-draw_text c =
     let fx : FitsSigned w64 c.args.x = c.ranges.x in
     let fy : FitsSigned w64 c.args.y = c.ranges.y in
     let test = simp to_z-of_z at c.is_on_screen.ensures.test in
     let rows = c.is_on_screen.ensures.rows in
-    (counted-shown _ _ _ _ _ (sym test ∙ c.if-is_on_screen.true) c.in_ok-draw_text.ensures.counts)
-
-pub returns-else-is_on_screen-clause-counts : goal.returns-else-is_on_screen-clause-counts
-returns-else-is_on_screen-clause-counts c =
-    let fx : FitsSigned w64 c.args.x = c.ranges.x in
-    let fy : FitsSigned w64 c.args.y = c.ranges.y in
-    let test = simp to_z-of_z at c.is_on_screen.ensures.test in
-    let rows = c.is_on_screen.ensures.rows in
-    (counted-hidden _ _ _ _ _ (sym test ∙ c.if-is_on_screen.false) c.cover_texts.ensures.counts)
+    record {
+      ok = search rules;
+      counts = (counted-shown _ _ _ _ _ (sym test ∙ c.if-is_on_screen.true) c.in_ok-draw_text.ensures.draws.counts);
+      rect = search rules;
+      err = search rules;
+    }

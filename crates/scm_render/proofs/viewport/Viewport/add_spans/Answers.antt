@@ -1,4 +1,4 @@
-use Rattle.std.proofs.Common.{◌≡◌, ◌∙◌, sym, ap, refl, FitsSigned, w64}
+use Rattle.std.proofs.Common.{rules, ◌≡◌, ◌∙◌, sym, ap, refl, FitsSigned, w64}
 use Rattle.std.proofs.lemmas.Int.{to_z-of_z}
 use Rattle.scm_cells.specs.Rect.{RectInRange}
 use Rattle.scm_cells.specs.Spans.{span_texts}
@@ -7,6 +7,7 @@ use Rattle.scm_render.specs.Drawing.{reach, row_rect, texts_width}
 use Rattle.scm_render.proofs.AroundLemmas.{RectInRange-join}
 use Rattle.scm_render.proofs.DrawLemmas.{with_picture-line, line_in_range}
 use Rattle.scm_render.proofs.PaintLemmas.{with_puts-counts}
+use Rattle.scm_render.proofs.CountLemmas.{added-none}
 use Rattle.scm_render.proofs.viewport.Viewport.add_spans.Goals as goal
 
 pub put_spans-requires-clause-x : goal.put_spans-requires-clause-x
@@ -25,19 +26,25 @@ grown-self-inside-requires-clause-rect g c =
     let fy : FitsSigned w64 c.args.y = c.ranges.y in
     rw (c.row_rect-drawn.ensures, c.in_ok-columns.ensures.columns) (simp to_z-of_z (line_in_range _ _ _ _ c.requires))
 
-pub returns-clause-ok : goal.returns-clause-ok
-returns-clause-ok g c =
+pub returns-clause-draws : goal.returns-clause-draws
+returns-clause-draws g c =
     let fx : FitsSigned w64 c.args.x = c.ranges.x in
     let fy : FitsSigned w64 c.args.y = c.ranges.y in
     let rows = simp to_z-of_z at c.in_ok-columns.ensures.ok in
     let drawn : c.row_rect-drawn.result ≡ row_rect c.args.x c.args.y (texts_width (span_texts c.args.spans.now)) =
     rw (c.row_rect-drawn.ensures, c.in_ok-columns.ensures.columns) (simp to_z-of_z refl) in
-    rw (sym c.self.view_is)
-    (with_picture-line _ _ _ c.mask_rect-within.result c.args.x c.args.y (span_texts c.args.spans.now)
-    (c.mask_rect-within.ensures.value ∙ ap (λ v. reach v.canvas.sight) (sym c.self.view_is))
-    rows refl
-    (c.grown-self-inside.ensures ∙ ap (join c.self.inside.area) drawn)
-    refl)
+    record {
+      ok =
+          rw (sym c.self.view_is)
+          (with_picture-line _ _ _ c.mask_rect-within.result c.args.x c.args.y (span_texts c.args.spans.now)
+          (c.mask_rect-within.ensures.value ∙ ap (λ v. reach v.canvas.sight) (sym c.self.view_is))
+          rows refl
+          (c.grown-self-inside.ensures ∙ ap (join c.self.inside.area) drawn)
+          refl);
+      counts = with_puts-counts _ _ _ c.in_ok-columns.ensures.ok ∙ ap (λ v. v.counts) c.self.view_is ∙ sym (added-none _);
+      rect = search rules;
+      err = search rules;
+    }
 
 pub invariant_of-self-2 : goal.invariant_of-self-2
 invariant_of-self-2 g c =
@@ -48,6 +55,3 @@ invariant_of-self-2 g c =
       mask = c.self.invariant.mask;
       area = rw c.grown-self-inside.ensures (RectInRange-join _ _ c.self.invariant.area drawn);
     }
-
-pub returns-clause-counts : goal.returns-clause-counts
-returns-clause-counts g c = with_puts-counts _ _ _ c.in_ok-columns.ensures.ok ∙ ap (λ v. v.counts) c.self.view_is

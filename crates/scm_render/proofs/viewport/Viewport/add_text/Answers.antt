@@ -1,4 +1,4 @@
-use Rattle.std.proofs.Common.{◌∙◌, sym, ap, refl, FitsSigned, w64}
+use Rattle.std.proofs.Common.{rules, ◌∙◌, sym, ap, refl, FitsSigned, w64}
 use Rattle.std.proofs.lemmas.Int.{to_z-of_z}
 use Rattle.scm_cells.specs.Rect.{RectInRange}
 use Rattle.scm_render.specs.Around.{join}
@@ -6,6 +6,7 @@ use Rattle.scm_render.specs.Drawing.{reach}
 use Rattle.scm_render.proofs.AroundLemmas.{RectInRange-join}
 use Rattle.scm_render.proofs.DrawLemmas.{with_picture-span, span_in_range}
 use Rattle.scm_render.proofs.PaintLemmas.{with_puts-counts}
+use Rattle.scm_render.proofs.CountLemmas.{added-none}
 use Rattle.scm_render.proofs.viewport.Viewport.add_text.Goals as goal
 
 pub put_text-requires-clause-x : goal.put_text-requires-clause-x
@@ -25,17 +26,23 @@ returns-clause-drawn g c =
     let fy : FitsSigned w64 c.args.y = c.ranges.y in
     rw (c.row_rect-drawn.ensures, c.in_ok-columns.ensures.columns) (simp to_z-of_z refl)
 
-pub returns-clause-ok : goal.returns-clause-ok
-returns-clause-ok g c =
+pub returns-clause-draws : goal.returns-clause-draws
+returns-clause-draws g c =
     let fx : FitsSigned w64 c.args.x = c.ranges.x in
     let fy : FitsSigned w64 c.args.y = c.ranges.y in
     let drawn = simp to_z-of_z at c.in_ok-columns.ensures.ok in
-    rw (sym c.self.view_is)
-    (with_picture-span _ _ _ c.mask_rect-within.result c.args.x c.args.y c.args.text.now
-    (c.mask_rect-within.ensures.value ∙ ap (λ v. reach v.canvas.sight) (sym c.self.view_is))
-    drawn refl
-    (c.grown-self-inside.ensures ∙ ap (join c.self.inside.area) (returns-clause-drawn g c))
-    refl)
+    record {
+      ok =
+          rw (sym c.self.view_is)
+          (with_picture-span _ _ _ c.mask_rect-within.result c.args.x c.args.y c.args.text.now
+          (c.mask_rect-within.ensures.value ∙ ap (λ v. reach v.canvas.sight) (sym c.self.view_is))
+          drawn refl
+          (c.grown-self-inside.ensures ∙ ap (join c.self.inside.area) (returns-clause-drawn g c))
+          refl);
+      counts = with_puts-counts _ _ _ c.in_ok-columns.ensures.ok ∙ ap (λ v. v.counts) c.self.view_is ∙ sym (added-none _);
+      rect = search rules;
+      err = search rules;
+    }
 
 pub invariant_of-self-2 : goal.invariant_of-self-2
 invariant_of-self-2 g c =
@@ -46,6 +53,3 @@ invariant_of-self-2 g c =
       mask = c.self.invariant.mask;
       area = rw c.grown-self-inside.ensures (RectInRange-join _ _ c.self.invariant.area drawn);
     }
-
-pub returns-clause-counts : goal.returns-clause-counts
-returns-clause-counts g c = with_puts-counts _ _ _ c.in_ok-columns.ensures.ok ∙ ap (λ v. v.counts) c.self.view_is

@@ -1,4 +1,4 @@
-use Rattle.std.proofs.Common.{arith, ◌≡◌, ◌∙◌, ◌<◌, ◌++◌, ◌∷◌, [], List, length, sym, ap, FitsSigned, w64, length-append, set, ℕ}
+use Rattle.std.proofs.Common.{rules, arith, ◌≡◌, ◌∙◌, ◌<◌, ◌++◌, ◌∷◌, [], List, length, sym, ap, FitsSigned, w64, length-append, set, ℕ}
 use Rattle.std.proofs.lemmas.Int.{to_z-of_z}
 use Rattle.scm_render.proofs.PictureLemmas.{PictureInRange-part}
 use Rattle.scm_render.specs.Picture.{Picture, Box, box_rect}
@@ -25,8 +25,8 @@ index_mut-requires g c =
     rw (c.self-2.inside.boxes.ok.0, ap (λ v. v.canvas.boxes) c.self-2.view_is)
     (there _ c.draw.new.viewport.canvas _ c.self.inside.boxes.items _ c.len-place.result c.in_ok-draw.ensures.ok c.in_ok-push.ensures.items (c.len-place.ensures ∙ c.self.inside.boxes.ok.0))
 
-pub returns-clause-ok : goal.returns-clause-ok
-returns-clause-ok g c =
+pub returns-clause-draws : goal.returns-clause-draws
+returns-clause-draws g c =
     let fx : FitsSigned w64 c.args.x = c.ranges.x in
     let fy : FitsSigned w64 c.args.y = c.ranges.y in
     let y = c.default.ensures in
@@ -34,13 +34,20 @@ returns-clause-ok g c =
     let z = c.default-self-inside.ensures in
     let none = no_rect-from c.default-self-inside.result z.0 z.1.0 z.1.1.0 z.1.1.1 in
     let drawn = simp to_z-of_z at c.in_ok-draw.ensures.ok in
-    rw (sym c.self.view_is)
-    (with_picture-part _ c.draw.new.viewport.canvas _ _ _
-    (ap (λ v. v.canvas.sight) c.self-2.view_is)
-    (ap (λ v. v.canvas.rows) c.self-2.view_is)
-    (c.grown-self-inside.ensures ∙ ap (λ v. join c.self.inside.area v.canvas.area) c.self-2.view_is)
-    (rw (c.len-place.ensures ∙ c.self.inside.boxes.ok.0, c.id-id.ensures) (ap (λ v. set v.canvas.boxes (length c.self.inside.boxes.items) (g.C.Component.key c.args.component.now, v.canvas.area)) c.self-2.view_is))
-    (simp (none, c.in_ok-push.ensures.items, c.id-id.ensures, taken) at drawn))
+    let counted = simp to_z-of_z at c.in_ok-draw.ensures.counts in
+    record {
+      ok =
+          rw (sym c.self.view_is)
+          (with_picture-part _ c.draw.new.viewport.canvas _ _ _
+          (ap (λ v. v.canvas.sight) c.self-2.view_is)
+          (ap (λ v. v.canvas.rows) c.self-2.view_is)
+          (c.grown-self-inside.ensures ∙ ap (λ v. join c.self.inside.area v.canvas.area) c.self-2.view_is)
+          (rw (c.len-place.ensures ∙ c.self.inside.boxes.ok.0, c.id-id.ensures) (ap (λ v. set v.canvas.boxes (length c.self.inside.boxes.items) (g.C.Component.key c.args.component.now, v.canvas.area)) c.self-2.view_is))
+          (simp (none, c.in_ok-push.ensures.items, c.id-id.ensures, taken) at drawn));
+      counts = rw (sym c.self.view_is) (ap (λ v. v.counts) c.self-2.view_is ∙ counted);
+      rect = search rules;
+      err = search rules;
+    }
 
 pub returns-clause-drawn : goal.returns-clause-drawn
 unfolding with_picture box_rect
@@ -58,10 +65,3 @@ invariant_of-self-3 g c =
       mask = c.self-2.invariant.mask;
       area = rw c.grown-self-inside.ensures (RectInRange-join _ _ c.self.invariant.area c.self-2.invariant.area);
     }
-
-pub returns-clause-counts : goal.returns-clause-counts
-returns-clause-counts g c =
-    let fx : FitsSigned w64 c.args.x = c.ranges.x in
-    let fy : FitsSigned w64 c.args.y = c.ranges.y in
-    let counted = simp to_z-of_z at c.in_ok-draw.ensures.counts in
-    rw (sym c.self.view_is) (ap (λ v. v.counts) c.self-2.view_is ∙ counted)

@@ -9,7 +9,7 @@ returns-clause-rows g c =
     let fx : FitsSigned w64 c.args.x = c.ranges.x in
     let fy : FitsSigned w64 c.args.y = c.ranges.y in
     let began = simp (to_z-of_z, c.width.ensures.value, c.height.ensures.value, c.replace.ensures.value) at c.new-viewport.ensures.canvas in
-    let drawn = simp (to_z-of_z, began) at c.in_ok-outcome.ensures.ok in
+    let drawn = simp (to_z-of_z, began) at c.in_ok-outcome.ensures.draws.ok in
     c.into_parts-drawn.ensures.rows ∙ part-rows _ _ _ _ drawn
 
 pub returns-clause-boxes : goal.returns-clause-boxes
@@ -17,7 +17,7 @@ returns-clause-boxes g c =
     let fx : FitsSigned w64 c.args.x = c.ranges.x in
     let fy : FitsSigned w64 c.args.y = c.ranges.y in
     let began = simp (to_z-of_z, c.width.ensures.value, c.height.ensures.value, c.replace.ensures.value) at c.new-viewport.ensures.canvas in
-    let drawn = simp (to_z-of_z, began) at c.in_ok-outcome.ensures.ok in
+    let drawn = simp (to_z-of_z, began) at c.in_ok-outcome.ensures.draws.ok in
     let boxes = c.in_ok-timed.ensures.ok ∙ ap timed (c.as_slice.ensures.value ∙ c.into_parts-drawn.ensures.boxes ∙ part-boxes _ _ _ _ drawn refl) in
     rw boxes at c.in_ok-rects.ensures
 
@@ -26,5 +26,5 @@ returns-clause-counts g c =
     let fx : FitsSigned w64 c.args.x = c.ranges.x in
     let fy : FitsSigned w64 c.args.y = c.ranges.y in
     let began = simp (to_z-of_z, c.width.ensures.value, c.height.ensures.value, c.replace.ensures.value) at c.new-viewport.ensures.canvas in
-    let counted = simp (to_z-of_z, began) at c.in_ok-outcome.ensures.counts in
+    let counted = simp (to_z-of_z, began) at c.in_ok-outcome.ensures.draws.counts in
     rw (c.new-viewport.ensures.counts, c.replace.ensures.value) at (c.into_parts-drawn.ensures.counts ∙ counted)

@@ -1,4 +1,4 @@
-use Rattle.std.proofs.Common.{FitsSigned, w64}
+use Rattle.std.proofs.Common.{rules, FitsSigned, w64}
 use Rattle.std.proofs.lemmas.Int.{to_z-of_z}
 use Rattle.scm_render_tests.specs.Samples.{caption_picture}
 use Rattle.scm_render_tests.proofs.samples.CaptionComponent.draw.Goals as goal
@@ -10,9 +10,14 @@ draw_text-requires c =
     let fy : FitsSigned w64 c.args.y = c.ranges.y in
     simp to_z-of_z c.requires
 
-pub returns-clause-ok : goal.returns-clause-ok
+pub returns : goal.returns
 unfolding caption_picture
-returns-clause-ok c =
+returns c =
     let fx : FitsSigned w64 c.args.x = c.ranges.x in
     let fy : FitsSigned w64 c.args.y = c.ranges.y in
-    simp to_z-of_z at c.in_ok-draw_text.ensures.ok
+    record {
+      ok = simp to_z-of_z at c.in_ok-draw_text.ensures.draws.ok;
+      counts = search rules;
+      rect = search rules;
+      err = search rules;
+    }

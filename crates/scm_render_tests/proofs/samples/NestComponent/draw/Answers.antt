@@ -1,4 +1,4 @@
-use Rattle.std.proofs.Common.{◌∙◌, ℕ, ℤ, pos, ◌+ℤ◌, FitsSigned, w64}
+use Rattle.std.proofs.Common.{rules, ◌∙◌, ℕ, ℤ, pos, ◌+ℤ◌, FitsSigned, w64}
 use Rattle.std.proofs.lemmas.Int.{to_z-of_z}
 use Rattle.scm_render.specs.Picture.{Picture, PictureInRange, part, followed_by}
 use Rattle.scm_render.specs.Canvas.{Sight, under}
@@ -37,25 +37,28 @@ draw_component-requires-2 c =
     let fx : FitsSigned w64 c.args.x = c.ranges.x in
     let fy : FitsSigned w64 c.args.y = c.ranges.y in
     let below = row_below-fits c.calls_have_rects.ensures c.parts_are_in_range.ensures c.args.self.now c.args.viewport.now.canvas.sight c.args.x c.args.y c.requires in
-    let first = simp to_z-of_z at c.in_ok-draw_component.ensures.ok in
+    let first = simp to_z-of_z at c.in_ok-draw_component.ensures.draws.ok in
     simp to_z-of_z (c.parts_are_in_range.ensures.rest c.swap_mask-outer.new.self.canvas _ _ (lower c.args.self.now c.args.x c.args.y) first (rw c.swap_mask-outer.ensures.new c.requires))
 
-pub returns-clause-ok : goal.returns-clause-ok
+pub returns : goal.returns
 unfolding nest_picture
-returns-clause-ok c =
+returns c =
     let fx : FitsSigned w64 c.args.x = c.ranges.x in
     let fy : FitsSigned w64 c.args.y = c.ranges.y in
     let nest = c.args.self.now in
     let below = row_below-fits c.calls_have_rects.ensures c.parts_are_in_range.ensures nest c.args.viewport.now.canvas.sight c.args.x c.args.y c.requires in
-    let first = simp to_z-of_z at c.in_ok-draw_component.ensures.ok in
-    let second = simp to_z-of_z at c.in_ok-draw_component-2.ensures.ok in
-    c.pictures_are_composed.ensures.masked _ c.swap_mask-outer.new.self.canvas c.draw_component-2.new.self.canvas _ nest.mask
-    (λ s. followed_by (upper nest c.args.x c.args.y s) (lower nest c.args.x c.args.y s))
-    c.swap_mask-outer.ensures.new
-    (c.pictures_are_composed.ensures.step _ _ _ _ (lower nest c.args.x c.args.y) first second)
-    (rw c.swap_mask-outer.ensures.old at c.swap_mask.ensures.new)
-
-pub returns-clause-counts : goal.returns-clause-counts
-returns-clause-counts c =
-    let first = rw c.swap_mask-outer.ensures.counts at c.in_ok-draw_component.ensures.counts in
-    c.swap_mask.ensures.counts ∙ c.counts_add_up.ensures.step _ _ _ one_call one_call first c.in_ok-draw_component-2.ensures.counts
+    record {
+      ok =
+          let first = simp to_z-of_z at c.in_ok-draw_component.ensures.draws.ok in
+          let second = simp to_z-of_z at c.in_ok-draw_component-2.ensures.draws.ok in
+          c.pictures_are_composed.ensures.masked _ c.swap_mask-outer.new.self.canvas c.draw_component-2.new.self.canvas _ nest.mask
+          (λ s. followed_by (upper nest c.args.x c.args.y s) (lower nest c.args.x c.args.y s))
+          c.swap_mask-outer.ensures.new
+          (c.pictures_are_composed.ensures.step _ _ _ _ (lower nest c.args.x c.args.y) first second)
+          (rw c.swap_mask-outer.ensures.old at c.swap_mask.ensures.new);
+      counts =
+          let first = rw c.swap_mask-outer.ensures.counts at c.in_ok-draw_component.ensures.draws.counts in
+          c.swap_mask.ensures.counts ∙ c.counts_add_up.ensures.step _ _ _ one_call one_call first c.in_ok-draw_component-2.ensures.draws.counts;
+      rect = search rules;
+      err = search rules;
+    }

@@ -1,4 +1,4 @@
-use Rattle.std.proofs.Common.{ℕ, ℤ, pos, ◌+ℤ◌, FitsSigned, w64}
+use Rattle.std.proofs.Common.{rules, ℕ, ℤ, pos, ◌+ℤ◌, FitsSigned, w64}
 use Rattle.std.proofs.lemmas.Int.{to_z-of_z}
 use Rattle.scm_render.specs.Picture.{Picture, PictureInRange, part}
 use Rattle.scm_render.specs.Canvas.{Sight}
@@ -34,18 +34,20 @@ draw_component-requires-2 c =
     let fx : FitsSigned w64 c.args.x = c.ranges.x in
     let fy : FitsSigned w64 c.args.y = c.ranges.y in
     let below = second_row-fits c.calls_have_rects.ensures c.parts_are_in_range.ensures c.args.self.now c.args.viewport.now.canvas.sight c.args.x c.args.y c.requires in
-    let first = simp to_z-of_z at c.in_ok-draw_component.ensures.ok in
+    let first = simp to_z-of_z at c.in_ok-draw_component.ensures.draws.ok in
     simp to_z-of_z (c.parts_are_in_range.ensures.rest _ _ _ (lower c.args.self.now c.args.x c.args.y) first c.requires)
 
-pub returns-clause-ok : goal.returns-clause-ok
+pub returns : goal.returns
 unfolding pair_picture
-returns-clause-ok c =
+returns c =
     let fx : FitsSigned w64 c.args.x = c.ranges.x in
     let fy : FitsSigned w64 c.args.y = c.ranges.y in
     let below = second_row-fits c.calls_have_rects.ensures c.parts_are_in_range.ensures c.args.self.now c.args.viewport.now.canvas.sight c.args.x c.args.y c.requires in
-    let first = simp to_z-of_z at c.in_ok-draw_component.ensures.ok in
-    let second = simp to_z-of_z at c.in_ok-draw_component-2.ensures.ok in
-    c.pictures_are_composed.ensures.step _ _ _ _ (lower c.args.self.now c.args.x c.args.y) first second
-
-pub returns-clause-counts : goal.returns-clause-counts
-returns-clause-counts c = c.counts_add_up.ensures.step _ _ _ one_call one_call c.in_ok-draw_component.ensures.counts c.in_ok-draw_component-2.ensures.counts
+    let first = simp to_z-of_z at c.in_ok-draw_component.ensures.draws.ok in
+    let second = simp to_z-of_z at c.in_ok-draw_component-2.ensures.draws.ok in
+    record {
+      ok = c.pictures_are_composed.ensures.step _ _ _ _ (lower c.args.self.now c.args.x c.args.y) first second;
+      counts = c.counts_add_up.ensures.step _ _ _ one_call one_call c.in_ok-draw_component.ensures.draws.counts c.in_ok-draw_component-2.ensures.draws.counts;
+      rect = search rules;
+      err = search rules;
+    }

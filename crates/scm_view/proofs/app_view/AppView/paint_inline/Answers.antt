@@ -1,4 +1,4 @@
-use Rattle.std.proofs.Common.{FitsSigned, w64}
+use Rattle.std.proofs.Common.{rules, FitsSigned, w64}
 use Rattle.std.specs.Prelude.{ℤ, Option}
 use Rattle.std.proofs.lemmas.Int.{to_z-of_z}
 use Rattle.scm_cells.specs.Rect.{RectInRange}
@@ -65,7 +65,7 @@ draw_quit-requires c =
     let fy : FitsSigned w64 s.rect.y = InRange-fits _ r.y in
     let views = rw (c.as_slice.ensures, c.rect-screen.ensures.value) at c.in_ok-paint_first.ensures.ok in
     let over = rest-in _ _ _ (λ t. followed_by (bar a.menu_bar (pos 0) s.rect.y t) (followed_by (quit a.quit_dialog t) (help a.help_dialog t))) views all in
-    let menus = simp to_z-of_z at (rw c.rect-screen.ensures.value at c.in_ok-draw_component.ensures.ok) in
+    let menus = simp to_z-of_z at (rw c.rect-screen.ensures.value at c.in_ok-draw_component.ensures.draws.ok) in
     let dialogs = rest _ _ _ (λ t. followed_by (quit a.quit_dialog t) (help a.help_dialog t)) menus over in
     PictureInRange-left _ _ dialogs
 
@@ -79,25 +79,26 @@ draw_help-requires c =
     let fy : FitsSigned w64 s.rect.y = InRange-fits _ r.y in
     let views = rw (c.as_slice.ensures, c.rect-screen.ensures.value) at c.in_ok-paint_first.ensures.ok in
     let over = rest-in _ _ _ (λ t. followed_by (bar a.menu_bar (pos 0) s.rect.y t) (followed_by (quit a.quit_dialog t) (help a.help_dialog t))) views all in
-    let menus = simp to_z-of_z at (rw c.rect-screen.ensures.value at c.in_ok-draw_component.ensures.ok) in
+    let menus = simp to_z-of_z at (rw c.rect-screen.ensures.value at c.in_ok-draw_component.ensures.draws.ok) in
     let dialogs = rest _ _ _ (λ t. followed_by (quit a.quit_dialog t) (help a.help_dialog t)) menus over in
     rest _ _ _ (help a.help_dialog) c.in_ok-draw_quit.ensures.ok dialogs
 
-pub returns-clause-ok : goal.returns-clause-ok
+pub returns : goal.returns
 unfolding app_picture
-returns-clause-ok c =
+returns c =
     let s = c.args.viewport.now.canvas.sight in
     let a = c.args.self.now in
     let r : RectInRange s.rect = rw c.rect-screen.ensures.value at c.rect-screen.ensures.in_range in
     let fy : FitsSigned w64 s.rect.y = InRange-fits _ r.y in
-    let views = rw (c.as_slice.ensures, c.rect-screen.ensures.value) at c.in_ok-paint_first.ensures.ok in
-    let menus = simp to_z-of_z at (rw c.rect-screen.ensures.value at c.in_ok-draw_component.ensures.ok) in
-    rw c.requires.inline (on-ok _ (four-painted _ _ _ _ _ _ (bar a.menu_bar (pos 0) s.rect.y) (quit a.quit_dialog) (help a.help_dialog) views menus c.in_ok-draw_quit.ensures.ok) c.draw_help.ensures.ok)
-
-pub returns-clause-counts : goal.returns-clause-counts
-returns-clause-counts c =
-    let s = c.args.viewport.now.canvas.sight in
-    let a = c.args.self.now in
     let counted = rw (c.as_slice.ensures, c.rect-screen.ensures.value) at c.in_ok-paint_first.ensures.counts in
-    let views : c.paint_first.new.viewport.counts ≡ added c.args.viewport.now.counts (views_counts (shown_views a) (view_width a.commit_view_mode s.rect.width) s (pos 0)) = rw c.requires.inline counted in
-    on-ok _ (app-counted _ _ _ _ _ a s (pos 0) views c.in_ok-draw_component.ensures.counts c.in_ok-draw_quit.ensures.counts) c.draw_help.ensures.counts
+    record {
+      ok =
+          let views = rw (c.as_slice.ensures, c.rect-screen.ensures.value) at c.in_ok-paint_first.ensures.ok in
+          let menus = simp to_z-of_z at (rw c.rect-screen.ensures.value at c.in_ok-draw_component.ensures.draws.ok) in
+          rw c.requires.inline (on-ok _ (four-painted _ _ _ _ _ _ (bar a.menu_bar (pos 0) s.rect.y) (quit a.quit_dialog) (help a.help_dialog) views menus c.in_ok-draw_quit.ensures.ok) c.draw_help.ensures.ok);
+      counts =
+          let views : c.paint_first.new.viewport.counts ≡ added c.args.viewport.now.counts (views_counts (shown_views a) (view_width a.commit_view_mode s.rect.width) s (pos 0)) = rw c.requires.inline counted in
+          on-ok _ (app-counted _ _ _ _ _ a s (pos 0) views c.in_ok-draw_component.ensures.draws.counts c.in_ok-draw_quit.ensures.counts) c.draw_help.ensures.counts;
+      rect = search rules;
+      err = search rules;
+    }

@@ -1,4 +1,4 @@
-use Rattle.std.proofs.Common.{FitsSigned, w64}
+use Rattle.std.proofs.Common.{rules, FitsSigned, w64}
 use Rattle.std.specs.Prelude.{ℤ, Option}
 use Rattle.std.proofs.lemmas.Int.{to_z-of_z}
 use Rattle.scm_cells.specs.Rect.{RectInRange}
@@ -65,7 +65,7 @@ draw_quit-requires c =
     let fy : FitsSigned w64 s.rect.y = InRange-fits _ r.y in
     let views = simp to_z-of_z at (rw (c.shown_views.ensures, c.view_width-width.ensures, c.rect-screen.ensures.value) at c.in_ok-draw_views.ensures.ok) in
     let over = second-of-four _ _ _ (bar a.menu_bar c.args.x s.rect.y) (quit a.quit_dialog) (help a.help_dialog) views c.requires in
-    let menus = simp to_z-of_z at (rw c.rect-screen.ensures.value at c.in_ok-draw_component.ensures.ok) in
+    let menus = simp to_z-of_z at (rw c.rect-screen.ensures.value at c.in_ok-draw_component.ensures.draws.ok) in
     let dialogs = rest _ _ _ (λ t. followed_by (quit a.quit_dialog t) (help a.help_dialog t)) menus over in
     PictureInRange-left _ _ dialogs
 
@@ -79,24 +79,26 @@ draw_help-requires c =
     let fy : FitsSigned w64 s.rect.y = InRange-fits _ r.y in
     let views = simp to_z-of_z at (rw (c.shown_views.ensures, c.view_width-width.ensures, c.rect-screen.ensures.value) at c.in_ok-draw_views.ensures.ok) in
     let over = second-of-four _ _ _ (bar a.menu_bar c.args.x s.rect.y) (quit a.quit_dialog) (help a.help_dialog) views c.requires in
-    let menus = simp to_z-of_z at (rw c.rect-screen.ensures.value at c.in_ok-draw_component.ensures.ok) in
+    let menus = simp to_z-of_z at (rw c.rect-screen.ensures.value at c.in_ok-draw_component.ensures.draws.ok) in
     let dialogs = rest _ _ _ (λ t. followed_by (quit a.quit_dialog t) (help a.help_dialog t)) menus over in
     rest _ _ _ (help a.help_dialog) c.in_ok-draw_quit.ensures.ok dialogs
 
-pub returns-clause-ok : goal.returns-clause-ok
+pub returns : goal.returns
 unfolding app_picture
-returns-clause-ok c =
+returns c =
     let fx : FitsSigned w64 c.args.x = c.ranges.x in
     let s = c.args.viewport.now.canvas.sight in
     let a = c.args.self.now in
     let r : RectInRange s.rect = rw c.rect-screen.ensures.value at c.rect-screen.ensures.in_range in
     let fy : FitsSigned w64 s.rect.y = InRange-fits _ r.y in
-    let views = simp to_z-of_z at (rw (c.shown_views.ensures, c.view_width-width.ensures, c.rect-screen.ensures.value) at c.in_ok-draw_views.ensures.ok) in
-    let menus = simp to_z-of_z at (rw c.rect-screen.ensures.value at c.in_ok-draw_component.ensures.ok) in
-    on-ok _ (four _ _ _ _ _ _ (bar a.menu_bar c.args.x s.rect.y) (quit a.quit_dialog) (help a.help_dialog) views menus c.in_ok-draw_quit.ensures.ok) c.draw_help.ensures.ok
-
-pub returns-clause-counts : goal.returns-clause-counts
-returns-clause-counts c =
-    let fx : FitsSigned w64 c.args.x = c.ranges.x in
-    let views = simp to_z-of_z at (rw (c.shown_views.ensures, c.view_width-width.ensures, c.rect-screen.ensures.value) at c.in_ok-draw_views.ensures.counts) in
-    on-ok _ (app-counted _ _ _ _ _ c.args.self.now c.args.viewport.now.canvas.sight c.args.x views c.in_ok-draw_component.ensures.counts c.in_ok-draw_quit.ensures.counts) c.draw_help.ensures.counts
+    record {
+      ok =
+          let views = simp to_z-of_z at (rw (c.shown_views.ensures, c.view_width-width.ensures, c.rect-screen.ensures.value) at c.in_ok-draw_views.ensures.ok) in
+          let menus = simp to_z-of_z at (rw c.rect-screen.ensures.value at c.in_ok-draw_component.ensures.draws.ok) in
+          on-ok _ (four _ _ _ _ _ _ (bar a.menu_bar c.args.x s.rect.y) (quit a.quit_dialog) (help a.help_dialog) views menus c.in_ok-draw_quit.ensures.ok) c.draw_help.ensures.ok;
+      counts =
+          let views = simp to_z-of_z at (rw (c.shown_views.ensures, c.view_width-width.ensures, c.rect-screen.ensures.value) at c.in_ok-draw_views.ensures.counts) in
+          on-ok _ (app-counted _ _ _ _ _ c.args.self.now c.args.viewport.now.canvas.sight c.args.x views c.in_ok-draw_component.ensures.draws.counts c.in_ok-draw_quit.ensures.counts) c.draw_help.ensures.counts;
+      rect = search rules;
+      err = search rules;
+    }

@@ -1,4 +1,4 @@
-use Rattle.std.proofs.Common.{sym, FitsSigned, w64}
+use Rattle.std.proofs.Common.{rules, sym, FitsSigned, w64}
 use Rattle.std.proofs.lemmas.Int.{to_z-of_z}
 use Rattle.scm_render.proofs.CanvasLemmas.{with_picture-nothing}
 use Rattle.scm_render.proofs.CountLemmas.{added-none}
@@ -13,23 +13,24 @@ draw_message-requires c =
     let fy : FitsSigned w64 c.args.y = c.ranges.y in
     rw c.as_str.ensures (simp to_z-of_z (rw c.in-Some.is at c.requires))
 
-pub returns-in-None-clause-ok : goal.returns-in-None-clause-ok
-unfolding commit_message_picture message_picture
-returns-in-None-clause-ok c = rw c.in-None.is (sym (with_picture-nothing _))
+pub returns-in-None : goal.returns-in-None
+unfolding commit_message_picture message_picture message_counts
+returns-in-None c =
+    record {
+      ok = rw c.in-None.is (sym (with_picture-nothing _));
+      counts = rw c.in-None.is (sym (added-none _));
+      rect = search rules;
+      err = search rules;
+    }
 
-pub returns-in-Some-clause-ok : goal.returns-in-Some-clause-ok
+pub returns-in-Some : goal.returns-in-Some
 unfolding commit_message_picture
-returns-in-Some-clause-ok c =
+returns-in-Some c =
     let fx : FitsSigned w64 c.args.x = c.ranges.x in
     let fy : FitsSigned w64 c.args.y = c.ranges.y in
-    rw c.in-Some.is (rw c.as_str.ensures at (simp to_z-of_z at c.draw_message.ensures.ok))
-
-pub returns-in-None-clause-counts : goal.returns-in-None-clause-counts
-unfolding message_counts
-returns-in-None-clause-counts c = rw c.in-None.is (sym (added-none _))
-
-pub returns-in-Some-clause-counts : goal.returns-in-Some-clause-counts
-returns-in-Some-clause-counts c =
-    let fx : FitsSigned w64 c.args.x = c.ranges.x in
-    let fy : FitsSigned w64 c.args.y = c.ranges.y in
-    rw c.in-Some.is (rw c.as_str.ensures at (simp to_z-of_z at c.draw_message.ensures.counts))
+    record {
+      ok = rw c.in-Some.is (rw c.as_str.ensures at (simp to_z-of_z at c.draw_message.ensures.ok));
+      counts = rw c.in-Some.is (rw c.as_str.ensures at (simp to_z-of_z at c.draw_message.ensures.counts));
+      rect = search rules;
+      err = search rules;
+    }

@@ -1,4 +1,4 @@
-use Rattle.std.proofs.Common.{List, ℕ, map, FitsSigned, w64}
+use Rattle.std.proofs.Common.{rules, List, ℕ, map, FitsSigned, w64}
 use Rattle.std.specs.Prelude.{ℤ, pos, ◌+ℤ◌}
 use Rattle.std.proofs.lemmas.Int.{to_z-of_z}
 use Rattle.scm_render.specs.Canvas.{Sight}
@@ -28,25 +28,24 @@ paint_body-requires c =
     let fx : FitsSigned w64 c.args.x = c.ranges.x in
     let fy : FitsSigned w64 c.args.y = c.ranges.y in
     let v = c.args.self.now in
-    let message = simp to_z-of_z at c.in_ok-draw_component.ensures.ok in
+    let message = simp to_z-of_z at c.in_ok-draw_component.ensures.draws.ok in
     rw (c.as_slice.ensures, c.height-height.ensures) (simp to_z-of_z (rest-in _ _ _ (body (map shown_file v.file_views) (message_height v.commit_message_view.commit.now.message) c.args.x c.args.y) (drawn-painted _ _ _ message) c.requires))
 
-pub returns-clause-ok : goal.returns-clause-ok
-unfolding commit_picture document_picture commit_message_picture
-returns-clause-ok c =
+pub returns : goal.returns
+unfolding commit_picture document_picture commit_message_picture document_counts
+returns c =
     let fx : FitsSigned w64 c.args.x = c.ranges.x in
     let fy : FitsSigned w64 c.args.y = c.ranges.y in
     let v = c.args.self.now in
-    let message = simp to_z-of_z at c.in_ok-draw_component.ensures.ok in
-    on-ok _ (painted-step _ _ _ _ (body (map shown_file v.file_views) (message_height v.commit_message_view.commit.now.message) c.args.x c.args.y) (drawn-painted _ _ _ message))
-    (rw (c.as_slice.ensures, c.height-height.ensures) at (simp to_z-of_z at c.paint_body.ensures.ok))
-
-pub returns-clause-counts : goal.returns-clause-counts
-unfolding document_counts commit_message_picture
-returns-clause-counts c =
-    let fx : FitsSigned w64 c.args.x = c.ranges.x in
-    let fy : FitsSigned w64 c.args.y = c.ranges.y in
-    let message = simp to_z-of_z at c.in_ok-draw_component.ensures.ok in
-    let counted = simp to_z-of_z at c.in_ok-draw_component.ensures.counts in
-    on-ok _ (counts-then _ _ _ _ _ counted)
-    (rw (c.as_slice.ensures, c.height-height.ensures, sight-after _ _ _ message) at (simp to_z-of_z at c.paint_body.ensures.counts))
+    let message = simp to_z-of_z at c.in_ok-draw_component.ensures.draws.ok in
+    let counted = simp to_z-of_z at c.in_ok-draw_component.ensures.draws.counts in
+    record {
+      ok =
+          on-ok _ (painted-step _ _ _ _ (body (map shown_file v.file_views) (message_height v.commit_message_view.commit.now.message) c.args.x c.args.y) (drawn-painted _ _ _ message))
+          (rw (c.as_slice.ensures, c.height-height.ensures) at (simp to_z-of_z at c.paint_body.ensures.ok));
+      counts =
+          on-ok _ (counts-then _ _ _ _ _ counted)
+          (rw (c.as_slice.ensures, c.height-height.ensures, sight-after _ _ _ message) at (simp to_z-of_z at c.paint_body.ensures.counts));
+      rect = search rules;
+      err = search rules;
+    }

@@ -1,4 +1,4 @@
-use Rattle.std.proofs.Common.{◌∙◌, refl, [], sym, ap, false, List, FitsSigned, w64, arith}
+use Rattle.std.proofs.Common.{rules, ◌∙◌, refl, [], sym, ap, false, List, FitsSigned, w64, arith}
 use Rattle.std.specs.Prelude.{ℤ, pos, ◌+ℤ◌}
 use Rattle.std.proofs.lemmas.Int.{to_z-of_z}
 use Rattle.scm_cells.specs.Rect.{InRange}
@@ -20,11 +20,6 @@ use Rattle.scm_view.proofs.file_view.FileViewComponent.draw.Goals as goal
 
 two-more : (z : ℤ) → InRange z → FitsSigned w64 (z +ℤ pos 2)
 two-more z r = omega (arith, places)
-
--- the row below the header is in range
-file-next : (f : FileView) (s : Sight) (x y : ℤ) → PictureInRange (file_picture f s x y) → InRange (y +ℤ pos 1)
-unfolding file_picture shown_file_picture
-file-next f s x y r = row-end _ _ _ _ (PictureInRange-left _ _ r)
 
 abbrev below : List ShownSection → ℤ → ℤ → Sight → IdPicture
 below ps x y s = sections_picture ps s (x +ℤ pos 2) (y +ℤ pos 1)
@@ -65,48 +60,45 @@ draw_sections-requires-clause-picture c =
     let all = rw shown at c.requires in
     let wide : FitsSigned w64 (c.args.x +ℤ pos 2) = two-more _ (heading-rect _ _ _ _ (PictureInRange-part _ _ (PictureInRange-left _ _ all))).x in
     let fits : FitsSigned w64 (c.args.y +ℤ pos 1) = InRange-fits _ (heading-rect _ _ _ _ (PictureInRange-part _ _ (PictureInRange-left _ _ all))).end_y in
-    let header = rw (c.header-header.ensures.key, c.header-header.ensures.heading) at (simp to_z-of_z at c.in_ok-draw_component.ensures.ok) in
+    let header = rw (c.header-header.ensures.key, c.header-header.ensures.heading) at (simp to_z-of_z at c.in_ok-draw_component.ensures.draws.ok) in
     rw c.as_slice.ensures (simp to_z-of_z (rest _ _ _ (below (shown_sections false c.args.self.now.section_views) c.args.x c.args.y) header all))
 
-pub returns-then-is_open-clause-ok : goal.returns-then-is_open-clause-ok
-unfolding file_picture shown_file_picture shown_file row_picture header_picture
-returns-then-is_open-clause-ok c =
+pub returns-then-is_open : goal.returns-then-is_open
+unfolding file_picture shown_file_picture shown_file row_picture header_picture file_counts
+returns-then-is_open c =
     let fx : FitsSigned w64 c.args.x = c.ranges.x in
     let fy : FitsSigned w64 c.args.y = c.ranges.y in
     let shown = sym c.is_open.ensures ∙ c.if-is_open.true in
     let all = rw shown at c.requires in
     let wide : FitsSigned w64 (c.args.x +ℤ pos 2) = two-more _ (heading-rect _ _ _ _ (PictureInRange-part _ _ (PictureInRange-left _ _ all))).x in
     let fits : FitsSigned w64 (c.args.y +ℤ pos 1) = InRange-fits _ (heading-rect _ _ _ _ (PictureInRange-part _ _ (PictureInRange-left _ _ all))).end_y in
-    let header = rw (c.header-header.ensures.key, c.header-header.ensures.heading) at (simp to_z-of_z at c.in_ok-draw_component.ensures.ok) in
-    rw shown (on-ok _ (step _ _ _ _ (below (shown_sections false c.args.self.now.section_views) c.args.x c.args.y) header)
-    (rw c.as_slice.ensures at (simp to_z-of_z at c.draw_sections.ensures.ok)))
+    record {
+      ok =
+          let header = rw (c.header-header.ensures.key, c.header-header.ensures.heading) at (simp to_z-of_z at c.in_ok-draw_component.ensures.draws.ok) in
+          rw shown (on-ok _ (step _ _ _ _ (below (shown_sections false c.args.self.now.section_views) c.args.x c.args.y) header)
+          (rw c.as_slice.ensures at (simp to_z-of_z at c.draw_sections.ensures.ok)));
+      counts =
+          let header = simp to_z-of_z at c.in_ok-draw_component.ensures.draws.counts in
+          rw shown (on-ok _ (counts-then _ _ _ _ _ header)
+          (rw (c.as_slice.ensures, c.in_ok-draw_component.ensures.draws.rect) at (simp to_z-of_z at c.draw_sections.ensures.counts)));
+      rect = search rules;
+      err = search rules;
+    }
 
-pub returns-else-is_open-clause-ok : goal.returns-else-is_open-clause-ok
-unfolding file_picture shown_file_picture shown_file row_picture header_picture sections_picture
-returns-else-is_open-clause-ok c =
+pub returns-else-is_open : goal.returns-else-is_open
+unfolding file_picture shown_file_picture shown_file row_picture header_picture sections_picture file_counts
+returns-else-is_open c =
     let fx : FitsSigned w64 c.args.x = c.ranges.x in
     let fy : FitsSigned w64 c.args.y = c.ranges.y in
     let folded = sym c.is_open.ensures ∙ c.if-is_open.false in
-    let header = rw (c.header-header.ensures.key, c.header-header.ensures.heading) at (simp to_z-of_z at c.in_ok-draw_component.ensures.ok) in
-    rw folded (header ∙ ap (with_picture c.args.viewport.now.canvas) (sym (followed-nothing _)))
-
-pub returns-then-is_open-clause-counts : goal.returns-then-is_open-clause-counts
-unfolding file_counts shown_file
-returns-then-is_open-clause-counts c =
-    let fx : FitsSigned w64 c.args.x = c.ranges.x in
-    let fy : FitsSigned w64 c.args.y = c.ranges.y in
-    let shown = sym c.is_open.ensures ∙ c.if-is_open.true in
-    let fits : FitsSigned w64 (c.args.y +ℤ pos 1) = InRange-fits _ (file-next _ _ _ _ c.requires) in
-    let header = simp to_z-of_z at c.in_ok-draw_component.ensures.counts in
-    rw shown (on-ok _ (counts-then _ _ _ _ _ header)
-    (rw (c.as_slice.ensures, c.in_ok-draw_component.ensures.rect) at (simp to_z-of_z at c.draw_sections.ensures.counts)))
-
-pub returns-else-is_open-clause-counts : goal.returns-else-is_open-clause-counts
-unfolding file_counts shown_file
-returns-else-is_open-clause-counts c =
-    let fx : FitsSigned w64 c.args.x = c.ranges.x in
-    let fy : FitsSigned w64 c.args.y = c.ranges.y in
-    let folded = sym c.is_open.ensures ∙ c.if-is_open.false in
-    let header = simp to_z-of_z at c.in_ok-draw_component.ensures.counts in
-    rw folded (header ∙ ap (added c.args.viewport.now.counts) (sym (plus-none (header_counts c.args.viewport.now.canvas.sight.rect c.args.y))
-    ∙ ap (plus (header_counts c.args.viewport.now.canvas.sight.rect c.args.y)) (sym (sections_counts-none [] c.args.viewport.now.canvas.sight.rect (c.args.y +ℤ pos 1) refl))))
+    record {
+      ok =
+          let header = rw (c.header-header.ensures.key, c.header-header.ensures.heading) at (simp to_z-of_z at c.in_ok-draw_component.ensures.draws.ok) in
+          rw folded (header ∙ ap (with_picture c.args.viewport.now.canvas) (sym (followed-nothing _)));
+      counts =
+          let header = simp to_z-of_z at c.in_ok-draw_component.ensures.draws.counts in
+          rw folded (header ∙ ap (added c.args.viewport.now.counts) (sym (plus-none (header_counts c.args.viewport.now.canvas.sight.rect c.args.y))
+          ∙ ap (plus (header_counts c.args.viewport.now.canvas.sight.rect c.args.y)) (sym (sections_counts-none [] c.args.viewport.now.canvas.sight.rect (c.args.y +ℤ pos 1) refl))));
+      rect = search rules;
+      err = search rules;
+    }

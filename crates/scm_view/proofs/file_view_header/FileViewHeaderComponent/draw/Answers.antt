@@ -1,4 +1,4 @@
-use Rattle.std.proofs.Common.{ap, FitsSigned, w64}
+use Rattle.std.proofs.Common.{rules, ap, FitsSigned, w64}
 use Rattle.std.proofs.lemmas.Int.{to_z-of_z}
 use Rattle.scm_view.specs.Pictures.{header_picture}
 use Rattle.scm_view.proofs.CountLemmas.{on_row-then}
@@ -11,16 +11,15 @@ draw_heading-requires c =
     let fy : FitsSigned w64 c.args.y = c.ranges.y in
     rw c.begin_row.ensures.canvas (simp to_z-of_z c.requires)
 
-pub returns-clause-ok : goal.returns-clause-ok
+pub returns : goal.returns
 unfolding header_picture
-returns-clause-ok c =
-    let fx : FitsSigned w64 c.args.x = c.ranges.x in
-    let fy : FitsSigned w64 c.args.y = c.ranges.y in
-    rw c.begin_row.ensures.canvas at (simp to_z-of_z at c.in_ok-draw_heading.ensures.ok)
-
-pub returns-clause-counts : goal.returns-clause-counts
-returns-clause-counts c =
+returns c =
     let fx : FitsSigned w64 c.args.x = c.ranges.x in
     let fy : FitsSigned w64 c.args.y = c.ranges.y in
     let began = simp to_z-of_z at c.begin_row.ensures.counts in
-    on_row-then _ _ _ _ _ _ _ _ (ap (λ v. v.sight.rect) c.begin_row.ensures.canvas) began (simp to_z-of_z at c.in_ok-draw_heading.ensures.counts)
+    record {
+      ok = rw c.begin_row.ensures.canvas at (simp to_z-of_z at c.in_ok-draw_heading.ensures.ok);
+      counts = on_row-then _ _ _ _ _ _ _ _ (ap (λ v. v.sight.rect) c.begin_row.ensures.canvas) began (simp to_z-of_z at c.in_ok-draw_heading.ensures.counts);
+      rect = search rules;
+      err = search rules;
+    }

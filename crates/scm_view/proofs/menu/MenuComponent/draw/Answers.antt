@@ -1,4 +1,4 @@
-use Rattle.std.proofs.Common.{arith, length, ◌+◌, ◌-◌, ◌*◌, ℕ, sym, ◌+ℤ◌, pos, FitsSigned, w64}
+use Rattle.std.proofs.Common.{rules, arith, length, ◌+◌, ◌-◌, ◌*◌, ℕ, sym, ◌+ℤ◌, pos, FitsSigned, w64}
 use Rattle.std.specs.Prelude.{ℤ}
 use Rattle.std.proofs.lemmas.Int.{to_z-of_z}
 use Rattle.scm_render.specs.Canvas.{Sight}
@@ -45,7 +45,7 @@ draw_component-requires c =
     let row = c.loop-item_idx.row in
     let more = rw (sym (rw items at c.item-item.is)) at (items_picture-more c.in_ok-width.width c.args.self.now.items i t c.args.viewport.now.canvas.sight c.args.x row (rw items at c.loop-item_idx-test.true)) in
     let left = simp (to_z-of_z, c.loop-item_idx.row-is) at c.loop-item_idx.invariant.left in
-    let blank = simp (to_z-of_z, c.loop-item_idx.row-is) at c.in_ok-draw_blank.ensures.ok in
+    let blank = simp (to_z-of_z, c.loop-item_idx.row-is) at c.in_ok-draw_blank.ensures.draws.ok in
     rw c.button.ensures (simp (to_z-of_z, c.loop-item_idx.row-is)
     (rest _ _ _ (λ s. button_part (item_button i t) s c.args.x row) blank (left-part _ _ (item c.in_ok-width.width i t c.args.x row) _ _ _ more left)))
 
@@ -70,24 +70,24 @@ loop-item_idx-preserved c =
     let more = rw (sym (rw items at c.item-item.is)) at (items_picture-more c.in_ok-width.width c.args.self.now.items i t c.args.viewport.now.canvas.sight c.args.x row (rw items at c.loop-item_idx-test.true)) in
     let left = simp (to_z-of_z, c.loop-item_idx.row-is) at c.loop-item_idx.invariant.left in
     let below : FitsSigned w64 (c.loop-item_idx.row +ℤ pos 1) = item_below-fits _ _ _ _ _ _ (rw more at left.in_range) in
-    let blank = simp (to_z-of_z, c.loop-item_idx.row-is) at c.in_ok-draw_blank.ensures.ok in
-    let drawn = simp (to_z-of_z, c.loop-item_idx.row-is) at (rw c.button.ensures at c.in_ok-draw_component.ensures.ok) in
+    let blank = simp (to_z-of_z, c.loop-item_idx.row-is) at c.in_ok-draw_blank.ensures.draws.ok in
+    let drawn = simp (to_z-of_z, c.loop-item_idx.row-is) at (rw c.button.ensures at c.in_ok-draw_component.ensures.draws.ok) in
     let inside = rw items at c.loop-item_idx-test.true in
     let n = length c.args.self.now.items in
-    let counted = calls-more _ _ _ (2 * (n - i)) 2 (2 * (n - (i + 1))) (2 * n) (omega (arith, inside)) c.loop-item_idx.invariant.counts (calls-then _ _ _ 1 1 c.in_ok-draw_blank.ensures.counts c.in_ok-draw_component.ensures.counts) in
+    let counted = calls-more _ _ _ (2 * (n - i)) 2 (2 * (n - (i + 1))) (2 * n) (omega (arith, inside)) c.loop-item_idx.invariant.counts (calls-then _ _ _ 1 1 c.in_ok-draw_blank.ensures.draws.counts c.in_ok-draw_component.ensures.draws.counts) in
     simp c.loop-item_idx.row-is (simp to_z-of_z
     (record { left = left-more _ _ _ (item c.in_ok-width.width i t c.args.x row) _ _ _ more left (step _ _ _ _ (λ s. button_part (item_button i t) s c.args.x row) blank drawn); counts = counted }))
 
-pub returns-clause-ok : goal.returns-clause-ok
-returns-clause-ok c =
+pub returns : goal.returns
+returns c =
     let fx : FitsSigned w64 c.args.x = c.ranges.x in
     let fy : FitsSigned w64 c.args.y = c.ranges.y in
     let items = c.as_slice-item-items.ensures in
     let left = simp (to_z-of_z, c.loop-item_idx.row-is) at c.loop-item_idx.invariant.left in
-    left-none _ _ _ _ (items_picture-end _ _ _ _ _ _ (rw items at c.loop-item_idx-test.false)) left
-
-pub returns-clause-counts : goal.returns-clause-counts
-returns-clause-counts c =
-    let items = c.as_slice-item-items.ensures in
     let past = rw items at c.loop-item_idx-test.false in
-    calls-end _ _ _ _ (omega (arith, past)) c.loop-item_idx.invariant.counts
+    record {
+      ok = left-none _ _ _ _ (items_picture-end _ _ _ _ _ _ (rw items at c.loop-item_idx-test.false)) left;
+      counts = calls-end _ _ _ _ (omega (arith, past)) c.loop-item_idx.invariant.counts;
+      rect = search rules;
+      err = search rules;
+    }

@@ -1,4 +1,4 @@
-use Rattle.std.proofs.Common.{ℕ, List, length, take, drop, ◌+ℤ◌, pos, FitsSigned, w64}
+use Rattle.std.proofs.Common.{rules, ℕ, List, length, take, drop, ◌+ℤ◌, pos, FitsSigned, w64}
 use Rattle.std.specs.Prelude.{ℤ}
 use Rattle.std.proofs.lemmas.Int.{to_z-of_z}
 use Rattle.scm_render.specs.Canvas.{Sight}
@@ -44,7 +44,7 @@ draw_headers-requires-clause-picture c =
     let top = rw c.rect.ensures.value at c.top_row.ensures in
     let parts = rw (bar-parts b s c.args.x c.args.y) at c.requires in
     let front = rw (c.open_idx-open_idx.ensures, c.as_slice.ensures) at c.split_at.ensures.front in
-    let blank = rw top at c.in_ok-draw_blank.ensures.ok in
+    let blank = rw top at c.in_ok-draw_blank.ensures.draws.ok in
     let all = second-of-four _ _ _ (heads c.args.x c.args.y 0 (take n b.menus)) (heads (after c.args.x b) c.args.y n (drop n b.menus)) (first c.args.y (after c.args.x b) (drop n b.menus)) blank parts in
     rw front (simp to_z-of_z (PictureInRange-left _ _ all))
 
@@ -58,13 +58,13 @@ draw_headers-requires-2-clause-picture c =
     let top = rw c.rect.ensures.value at c.top_row.ensures in
     let parts = rw (bar-parts b s c.args.x c.args.y) at c.requires in
     let front = rw (c.open_idx-open_idx.ensures, c.as_slice.ensures) at c.split_at.ensures.front in
-    let blank = rw top at c.in_ok-draw_blank.ensures.ok in
+    let blank = rw top at c.in_ok-draw_blank.ensures.draws.ok in
     let all = second-of-four _ _ _ (heads c.args.x c.args.y 0 (take n b.menus)) (heads (after c.args.x b) c.args.y n (drop n b.menus)) (first c.args.y (after c.args.x b) (drop n b.menus)) blank parts in
     let before = PictureInRange-left _ _ all in
     let fc : FitsSigned w64 (after c.args.x c.args.self.now) = headers_end-fits _ _ _ _ _ fx before in
     let column = simp to_z-of_z at (rw front at c.in_ok-column.ensures.column) in
     let back = rw (c.open_idx-open_idx.ensures, c.as_slice.ensures) at c.split_at.ensures.back in
-    let drawn = simp to_z-of_z at (rw front at c.in_ok-column.ensures.ok) in
+    let drawn = simp to_z-of_z at (rw front at c.in_ok-column.ensures.draws.ok) in
     let more = rest _ _ _ (λ t. followed_by (heads (after c.args.x b) c.args.y n (drop n b.menus) t) (first c.args.y (after c.args.x b) (drop n b.menus) t)) drawn all in
     rw (column, c.open_idx-open_idx.ensures, back) (simp to_z-of_z (PictureInRange-left _ _ more))
 
@@ -78,15 +78,15 @@ draw_first-requires-clause-picture c =
     let top = rw c.rect.ensures.value at c.top_row.ensures in
     let parts = rw (bar-parts b s c.args.x c.args.y) at c.requires in
     let front = rw (c.open_idx-open_idx.ensures, c.as_slice.ensures) at c.split_at.ensures.front in
-    let blank = rw top at c.in_ok-draw_blank.ensures.ok in
+    let blank = rw top at c.in_ok-draw_blank.ensures.draws.ok in
     let all = second-of-four _ _ _ (heads c.args.x c.args.y 0 (take n b.menus)) (heads (after c.args.x b) c.args.y n (drop n b.menus)) (first c.args.y (after c.args.x b) (drop n b.menus)) blank parts in
     let before = PictureInRange-left _ _ all in
     let fc : FitsSigned w64 (after c.args.x c.args.self.now) = headers_end-fits _ _ _ _ _ fx before in
     let column = simp to_z-of_z at (rw front at c.in_ok-column.ensures.column) in
     let back = rw (c.open_idx-open_idx.ensures, c.as_slice.ensures) at c.split_at.ensures.back in
-    let drawn = simp to_z-of_z at (rw front at c.in_ok-column.ensures.ok) in
+    let drawn = simp to_z-of_z at (rw front at c.in_ok-column.ensures.draws.ok) in
     let more = rest _ _ _ (λ t. followed_by (heads (after c.args.x b) c.args.y n (drop n b.menus) t) (first c.args.y (after c.args.x b) (drop n b.menus) t)) drawn all in
-    let others = simp to_z-of_z at (rw (column, c.open_idx-open_idx.ensures, back) at c.in_ok-draw_headers.ensures.ok) in
+    let others = simp to_z-of_z at (rw (column, c.open_idx-open_idx.ensures, back) at c.in_ok-draw_headers.ensures.draws.ok) in
     rw (column, back) (simp to_z-of_z (rest _ _ _ (first c.args.y (after c.args.x b) (drop n b.menus)) others more))
 
 pub draw_first-requires-clause-below : goal.draw_first-requires-clause-below
@@ -99,18 +99,18 @@ draw_first-requires-clause-below c = λ some.
     let top = rw c.rect.ensures.value at c.top_row.ensures in
     let parts = rw (bar-parts b s c.args.x c.args.y) at c.requires in
     let front = rw (c.open_idx-open_idx.ensures, c.as_slice.ensures) at c.split_at.ensures.front in
-    let blank = rw top at c.in_ok-draw_blank.ensures.ok in
+    let blank = rw top at c.in_ok-draw_blank.ensures.draws.ok in
     let all = second-of-four _ _ _ (heads c.args.x c.args.y 0 (take n b.menus)) (heads (after c.args.x b) c.args.y n (drop n b.menus)) (first c.args.y (after c.args.x b) (drop n b.menus)) blank parts in
     let before = PictureInRange-left _ _ all in
     let fc : FitsSigned w64 (after c.args.x c.args.self.now) = headers_end-fits _ _ _ _ _ fx before in
     let column = simp to_z-of_z at (rw front at c.in_ok-column.ensures.column) in
     let back = rw (c.open_idx-open_idx.ensures, c.as_slice.ensures) at c.split_at.ensures.back in
-    let drawn = simp to_z-of_z at (rw front at c.in_ok-column.ensures.ok) in
+    let drawn = simp to_z-of_z at (rw front at c.in_ok-column.ensures.draws.ok) in
     let more = rest _ _ _ (λ t. followed_by (heads (after c.args.x b) c.args.y n (drop n b.menus) t) (first c.args.y (after c.args.x b) (drop n b.menus) t)) drawn all in
     simp to_z-of_z (header-below n (drop n b.menus) _ (after c.args.x b) c.args.y (rw back at some) (PictureInRange-left _ _ more))
 
-pub returns-clause-ok : goal.returns-clause-ok
-returns-clause-ok c =
+pub returns : goal.returns
+returns c =
     let fx : FitsSigned w64 c.args.x = c.ranges.x in
     let fy : FitsSigned w64 c.args.y = c.ranges.y in
     let s = c.args.viewport.now.canvas.sight in
@@ -119,22 +119,21 @@ returns-clause-ok c =
     let top = rw c.rect.ensures.value at c.top_row.ensures in
     let parts = rw (bar-parts b s c.args.x c.args.y) at c.requires in
     let front = rw (c.open_idx-open_idx.ensures, c.as_slice.ensures) at c.split_at.ensures.front in
-    let blank = rw top at c.in_ok-draw_blank.ensures.ok in
+    let blank = rw top at c.in_ok-draw_blank.ensures.draws.ok in
     let all = second-of-four _ _ _ (heads c.args.x c.args.y 0 (take n b.menus)) (heads (after c.args.x b) c.args.y n (drop n b.menus)) (first c.args.y (after c.args.x b) (drop n b.menus)) blank parts in
     let before = PictureInRange-left _ _ all in
     let fc : FitsSigned w64 (after c.args.x c.args.self.now) = headers_end-fits _ _ _ _ _ fx before in
     let column = simp to_z-of_z at (rw front at c.in_ok-column.ensures.column) in
     let back = rw (c.open_idx-open_idx.ensures, c.as_slice.ensures) at c.split_at.ensures.back in
-    let drawn = simp to_z-of_z at (rw front at c.in_ok-column.ensures.ok) in
+    let drawn = simp to_z-of_z at (rw front at c.in_ok-column.ensures.draws.ok) in
     let more = rest _ _ _ (λ t. followed_by (heads (after c.args.x b) c.args.y n (drop n b.menus) t) (first c.args.y (after c.args.x b) (drop n b.menus) t)) drawn all in
-    let others = simp to_z-of_z at (rw (column, c.open_idx-open_idx.ensures, back) at c.in_ok-draw_headers.ensures.ok) in
+    let others = simp to_z-of_z at (rw (column, c.open_idx-open_idx.ensures, back) at c.in_ok-draw_headers.ensures.draws.ok) in
     let last = simp to_z-of_z at (rw (column, back) at c.in_ok-draw_first.ensures.ok) in
-    rw (bar-parts b s c.args.x c.args.y)
-    (four _ _ _ _ _ _ (heads c.args.x c.args.y 0 (take n b.menus)) (heads (after c.args.x b) c.args.y n (drop n b.menus)) (first c.args.y (after c.args.x b) (drop n b.menus)) blank drawn others last)
-
-pub returns-clause-counts : goal.returns-clause-counts
-returns-clause-counts c =
-    let b = c.args.self.now in
-    let front = rw (c.open_idx-open_idx.ensures, c.as_slice.ensures) at c.split_at.ensures.front in
-    let back = rw (c.open_idx-open_idx.ensures, c.as_slice.ensures) at c.split_at.ensures.back in
-    bar-counted b _ _ _ _ _ _ _ front back c.in_ok-draw_blank.ensures.counts c.in_ok-column.ensures.counts c.in_ok-draw_headers.ensures.counts c.in_ok-draw_first.ensures.counts
+    record {
+      ok =
+          rw (bar-parts b s c.args.x c.args.y)
+          (four _ _ _ _ _ _ (heads c.args.x c.args.y 0 (take n b.menus)) (heads (after c.args.x b) c.args.y n (drop n b.menus)) (first c.args.y (after c.args.x b) (drop n b.menus)) blank drawn others last);
+      counts = bar-counted b _ _ _ _ _ _ _ front back c.in_ok-draw_blank.ensures.draws.counts c.in_ok-column.ensures.draws.counts c.in_ok-draw_headers.ensures.draws.counts c.in_ok-draw_first.ensures.counts;
+      rect = search rules;
+      err = search rules;
+    }

@@ -1,3 +1,4 @@
+use Rattle.std.proofs.Common.{rules}
 use Rattle.scm_view.specs.Tables.{named_dialog_picture}
 use Rattle.scm_view.proofs.quit_dialog.QuitDialogComponent.draw.Goals as goal
 
@@ -5,6 +6,12 @@ pub draw_component-requires : goal.draw_component-requires
 unfolding named_dialog_picture
 draw_component-requires c = rw (c.from.ensures, c.as_str.ensures.value, c.in_ok-text.ensures.ok, c.quit_button.ensures, c.go_back_button.ensures) c.requires
 
-pub returns-clause-ok : goal.returns-clause-ok
+pub returns : goal.returns
 unfolding named_dialog_picture
-returns-clause-ok c = rw (c.from.ensures, c.as_str.ensures.value, c.in_ok-text.ensures.ok, c.quit_button.ensures, c.go_back_button.ensures) at c.in_ok-draw_component.ensures.ok
+returns c =
+    record {
+      ok = rw (c.from.ensures, c.as_str.ensures.value, c.in_ok-text.ensures.ok, c.quit_button.ensures, c.go_back_button.ensures) at c.in_ok-draw_component.ensures.draws.ok;
+      counts = search rules;
+      rect = search rules;
+      err = search rules;
+    }

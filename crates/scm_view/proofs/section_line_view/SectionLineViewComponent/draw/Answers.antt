@@ -1,4 +1,4 @@
-use Rattle.std.proofs.Common.{ap, FitsSigned, w64}
+use Rattle.std.proofs.Common.{rules, ap, FitsSigned, w64}
 use Rattle.std.proofs.lemmas.Int.{to_z-of_z}
 use Rattle.scm_view.specs.Pictures.{line_picture}
 use Rattle.scm_view.proofs.RowsLemmas.{on-ok}
@@ -19,30 +19,28 @@ draw_changed_line-requires c =
     let fy : FitsSigned w64 c.args.y = c.ranges.y in
     rw c.begin_row.ensures.canvas (simp to_z-of_z (rw c.in-Changed.is at c.requires))
 
-pub returns-in-Unchanged-clause-ok : goal.returns-in-Unchanged-clause-ok
+pub returns-in-Unchanged : goal.returns-in-Unchanged
 unfolding line_picture
-returns-in-Unchanged-clause-ok c =
-    let fx : FitsSigned w64 c.args.x = c.ranges.x in
-    let fy : FitsSigned w64 c.args.y = c.ranges.y in
-    rw c.in-Unchanged.is (rw c.begin_row.ensures.canvas at (simp to_z-of_z at c.draw_context_line.ensures.ok))
-
-pub returns-in-Changed-clause-ok : goal.returns-in-Changed-clause-ok
-unfolding line_picture
-returns-in-Changed-clause-ok c =
-    let fx : FitsSigned w64 c.args.x = c.ranges.x in
-    let fy : FitsSigned w64 c.args.y = c.ranges.y in
-    rw c.in-Changed.is (rw c.begin_row.ensures.canvas at (simp to_z-of_z at c.draw_changed_line.ensures.ok))
-
-pub returns-in-Unchanged-clause-counts : goal.returns-in-Unchanged-clause-counts
-returns-in-Unchanged-clause-counts c =
+returns-in-Unchanged c =
     let fx : FitsSigned w64 c.args.x = c.ranges.x in
     let fy : FitsSigned w64 c.args.y = c.ranges.y in
     let began = simp to_z-of_z at c.begin_row.ensures.counts in
-    rw c.in-Unchanged.is (on-ok _ (on_row-then _ _ _ _ _ _ _ _ (ap (λ v. v.sight.rect) c.begin_row.ensures.canvas) began) (simp to_z-of_z at c.draw_context_line.ensures.counts))
+    record {
+      ok = rw c.in-Unchanged.is (rw c.begin_row.ensures.canvas at (simp to_z-of_z at c.draw_context_line.ensures.ok));
+      counts = rw c.in-Unchanged.is (on-ok _ (on_row-then _ _ _ _ _ _ _ _ (ap (λ v. v.sight.rect) c.begin_row.ensures.canvas) began) (simp to_z-of_z at c.draw_context_line.ensures.counts));
+      rect = search rules;
+      err = search rules;
+    }
 
-pub returns-in-Changed-clause-counts : goal.returns-in-Changed-clause-counts
-returns-in-Changed-clause-counts c =
+pub returns-in-Changed : goal.returns-in-Changed
+unfolding line_picture
+returns-in-Changed c =
     let fx : FitsSigned w64 c.args.x = c.ranges.x in
     let fy : FitsSigned w64 c.args.y = c.ranges.y in
     let began = simp to_z-of_z at c.begin_row.ensures.counts in
-    rw c.in-Changed.is (on-ok _ (on_row-then _ _ _ _ _ _ _ _ (ap (λ v. v.sight.rect) c.begin_row.ensures.canvas) began) (simp to_z-of_z at c.draw_changed_line.ensures.counts))
+    record {
+      ok = rw c.in-Changed.is (rw c.begin_row.ensures.canvas at (simp to_z-of_z at c.draw_changed_line.ensures.ok));
+      counts = rw c.in-Changed.is (on-ok _ (on_row-then _ _ _ _ _ _ _ _ (ap (λ v. v.sight.rect) c.begin_row.ensures.canvas) began) (simp to_z-of_z at c.draw_changed_line.ensures.counts));
+      rect = search rules;
+      err = search rules;
+    }

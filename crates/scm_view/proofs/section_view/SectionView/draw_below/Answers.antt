@@ -1,4 +1,4 @@
-use Rattle.std.proofs.Common.{◌∙◌, sym, FitsSigned, w64}
+use Rattle.std.proofs.Common.{rules, ◌∙◌, sym, FitsSigned, w64}
 use Rattle.std.specs.Prelude.{pos, ◌+ℤ◌}
 use Rattle.std.proofs.lemmas.Int.{to_z-of_z}
 use Rattle.scm_render.proofs.StepLemmas.{InRange-fits}
@@ -30,24 +30,22 @@ draw_numbered-requires-clause-picture c =
     let dots = simp to_z-of_z at c.in_ok-draw_dots.ensures.ok in
     rw (take-rest c.first_below-first.result c.args.lines.now, c.first_below-first.ensures.line) (simp to_z-of_z (row-rest _ _ _ _ _ _ dots all))
 
-pub returns-in_ok-draw_dots-clause-ok : goal.returns-in_ok-draw_dots-clause-ok
-returns-in_ok-draw_dots-clause-ok c =
+pub returns-in_ok-draw_dots : goal.returns-in_ok-draw_dots
+returns-in_ok-draw_dots c =
     let fx : FitsSigned w64 c.args.x = c.ranges.x in
     let fy : FitsSigned w64 c.args.y = c.ranges.y in
     let some = sym c.has_dots.ensures ∙ c.if-has_dots.true in
     let all = rw some at c.requires in
     let next : FitsSigned w64 (c.args.y +ℤ pos 1) = InRange-fits _ (row-end _ _ _ _ (row-first _ _ _ _ _ all)) in
-    let dots = simp to_z-of_z at c.in_ok-draw_dots.ensures.ok in
-    rw some (on-ok _ (row-then _ _ _ _ _ _ _ dots)
-    (rw (take-rest c.first_below-first.result c.args.lines.now, c.first_below-first.ensures.line) at (simp to_z-of_z at c.draw_numbered.ensures.ok)))
-
-pub returns-in_ok-draw_dots-clause-counts : goal.returns-in_ok-draw_dots-clause-counts
-returns-in_ok-draw_dots-clause-counts c =
-    let fx : FitsSigned w64 c.args.x = c.ranges.x in
-    let fy : FitsSigned w64 c.args.y = c.ranges.y in
-    let some = sym c.has_dots.ensures ∙ c.if-has_dots.true in
-    let all = rw some at c.requires in
-    let next : FitsSigned w64 (c.args.y +ℤ pos 1) = InRange-fits _ (row-end _ _ _ _ (row-first _ _ _ _ _ all)) in
-    let dots = simp to_z-of_z at c.in_ok-draw_dots.ensures.counts in
-    rw some (on-ok _ (row-counted _ _ _ _ _ _ _ _ c.in_ok-draw_dots.ensures.rect dots)
-    (rw (take-rest c.first_below-first.result c.args.lines.now, c.first_below-first.ensures.line) at (simp to_z-of_z at c.draw_numbered.ensures.counts)))
+    record {
+      ok =
+          let dots = simp to_z-of_z at c.in_ok-draw_dots.ensures.ok in
+          rw some (on-ok _ (row-then _ _ _ _ _ _ _ dots)
+          (rw (take-rest c.first_below-first.result c.args.lines.now, c.first_below-first.ensures.line) at (simp to_z-of_z at c.draw_numbered.ensures.ok)));
+      counts =
+          let dots = simp to_z-of_z at c.in_ok-draw_dots.ensures.counts in
+          rw some (on-ok _ (row-counted _ _ _ _ _ _ _ _ c.in_ok-draw_dots.ensures.rect dots)
+          (rw (take-rest c.first_below-first.result c.args.lines.now, c.first_below-first.ensures.line) at (simp to_z-of_z at c.draw_numbered.ensures.counts)));
+      rect = search rules;
+      err = search rules;
+    }

@@ -1,4 +1,4 @@
-use Rattle.std.proofs.Common.{FitsSigned, w64}
+use Rattle.std.proofs.Common.{rules, FitsSigned, w64}
 use Rattle.std.specs.Prelude.{pos, ◌+ℤ◌}
 use Rattle.std.proofs.lemmas.Int.{to_z-of_z}
 use Rattle.scm_render.proofs.PictureLemmas.{PictureInRange-part}
@@ -21,16 +21,15 @@ draw_component-requires c =
     let fits : FitsSigned w64 (c.args.x +ℤ pos 2) = InRange-fits _ (changed-place _ _ _ _ _ (PictureInRange-part _ _ c.requires)) in
     rw (c.line_key.ensures, c.line_box.ensures, c.as_str.ensures) (simp to_z-of_z c.requires)
 
-pub returns-clause-ok : goal.returns-clause-ok
+pub returns : goal.returns
 unfolding row_picture line_picture
-returns-clause-ok c =
+returns c =
     let fx : FitsSigned w64 c.args.x = c.ranges.x in
     let fy : FitsSigned w64 c.args.y = c.ranges.y in
     let fits : FitsSigned w64 (c.args.x +ℤ pos 2) = InRange-fits _ (changed-place _ _ _ _ _ (PictureInRange-part _ _ c.requires)) in
-    rw (c.line_key.ensures, c.line_box.ensures, c.as_str.ensures) at (simp to_z-of_z at c.in_ok-draw_component.ensures.ok)
-
-pub returns-clause-counts : goal.returns-clause-counts
-returns-clause-counts c =
-    let fx : FitsSigned w64 c.args.x = c.ranges.x in
-    let fy : FitsSigned w64 c.args.y = c.ranges.y in
-    simp to_z-of_z at c.in_ok-draw_component.ensures.counts
+    record {
+      ok = rw (c.line_key.ensures, c.line_box.ensures, c.as_str.ensures) at (simp to_z-of_z at c.in_ok-draw_component.ensures.draws.ok);
+      counts = simp to_z-of_z at c.in_ok-draw_component.ensures.draws.counts;
+      rect = search rules;
+      err = search rules;
+    }

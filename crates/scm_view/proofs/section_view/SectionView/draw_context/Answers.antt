@@ -1,4 +1,4 @@
-use Rattle.std.proofs.Common.{◌∙◌, sym, FitsSigned, w64}
+use Rattle.std.proofs.Common.{rules, ◌∙◌, sym, FitsSigned, w64}
 use Rattle.std.proofs.lemmas.Int.{to_z-of_z}
 use Rattle.scm_view.specs.Rows.{context_rows, BlankRow}
 use Rattle.scm_view.specs.Pictures.{row_picture}
@@ -22,34 +22,28 @@ draw_shown_lines-requires c =
     let some = sym c.is_empty.ensures ∙ c.if-is_empty.false in
     simp to_z-of_z (rw some at c.requires)
 
-pub returns-then-is_empty-clause-ok : goal.returns-then-is_empty-clause-ok
+pub returns-then-is_empty : goal.returns-then-is_empty
 unfolding context_rows row_picture
-returns-then-is_empty-clause-ok c =
+returns-then-is_empty c =
     let fx : FitsSigned w64 c.args.x = c.ranges.x in
     let fy : FitsSigned w64 c.args.y = c.ranges.y in
     let none = sym c.is_empty.ensures ∙ c.if-is_empty.true in
-    rw none (row-alone _ _ BlankRow _ _ (rw c.begin_row.ensures.canvas at (simp to_z-of_z at c.cover_rest.ensures.new)))
+    record {
+      ok = rw none (row-alone _ _ BlankRow _ _ (rw c.begin_row.ensures.canvas at (simp to_z-of_z at c.cover_rest.ensures.new)));
+      counts = rw none (row-counted-alone _ _ _ BlankRow _ (c.cover_rest.ensures.counts ∙ simp to_z-of_z at c.begin_row.ensures.counts));
+      rect = search rules;
+      err = search rules;
+    }
 
-pub returns-else-is_empty-clause-ok : goal.returns-else-is_empty-clause-ok
+pub returns-else-is_empty : goal.returns-else-is_empty
 unfolding context_rows
-returns-else-is_empty-clause-ok c =
+returns-else-is_empty c =
     let fx : FitsSigned w64 c.args.x = c.ranges.x in
     let fy : FitsSigned w64 c.args.y = c.ranges.y in
     let some = sym c.is_empty.ensures ∙ c.if-is_empty.false in
-    rw some (simp to_z-of_z at c.draw_shown_lines.ensures.ok)
-
-pub returns-then-is_empty-clause-counts : goal.returns-then-is_empty-clause-counts
-unfolding context_rows
-returns-then-is_empty-clause-counts c =
-    let fx : FitsSigned w64 c.args.x = c.ranges.x in
-    let fy : FitsSigned w64 c.args.y = c.ranges.y in
-    let none = sym c.is_empty.ensures ∙ c.if-is_empty.true in
-    rw none (row-counted-alone _ _ _ BlankRow _ (c.cover_rest.ensures.counts ∙ simp to_z-of_z at c.begin_row.ensures.counts))
-
-pub returns-else-is_empty-clause-counts : goal.returns-else-is_empty-clause-counts
-unfolding context_rows
-returns-else-is_empty-clause-counts c =
-    let fx : FitsSigned w64 c.args.x = c.ranges.x in
-    let fy : FitsSigned w64 c.args.y = c.ranges.y in
-    let some = sym c.is_empty.ensures ∙ c.if-is_empty.false in
-    rw some (simp to_z-of_z at c.draw_shown_lines.ensures.counts)
+    record {
+      ok = rw some (simp to_z-of_z at c.draw_shown_lines.ensures.ok);
+      counts = rw some (simp to_z-of_z at c.draw_shown_lines.ensures.counts);
+      rect = search rules;
+      err = search rules;
+    }

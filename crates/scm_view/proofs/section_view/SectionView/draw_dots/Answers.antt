@@ -1,4 +1,4 @@
-use Rattle.std.proofs.Common.{ap, List, ℕ, FitsSigned, w64}
+use Rattle.std.proofs.Common.{rules, ap, List, ℕ, FitsSigned, w64}
 use Rattle.std.specs.Prelude.{ℤ, pos, ◌+ℤ◌}
 use Rattle.std.proofs.lemmas.Int.{to_z-of_z}
 use Rattle.scm_render.specs.Canvas.{Sight}
@@ -37,20 +37,19 @@ show_span-requires c =
     let fits : FitsSigned w64 (c.args.x +ℤ pos 6) = InRange-fits _ (span-place _ _ _ _ last).0 in
     rw c.dots_text.ensures (simp to_z-of_z last)
 
-pub returns-clause-ok : goal.returns-clause-ok
+pub returns : goal.returns
 unfolding row_picture
-returns-clause-ok c =
+returns c =
     let fx : FitsSigned w64 c.args.x = c.ranges.x in
     let fy : FitsSigned w64 c.args.y = c.ranges.y in
     let cover = rw c.begin_row.ensures.canvas at (simp to_z-of_z at c.cover_rest.ensures.new) in
     let last = rest _ _ _ (dots _ c.args.x c.args.y) cover c.requires in
     let fits : FitsSigned w64 (c.args.x +ℤ pos 6) = InRange-fits _ (span-place _ _ _ _ last).0 in
-    step _ _ _ _ (dots _ c.args.x c.args.y) cover (rw c.dots_text.ensures at (simp to_z-of_z at c.in_ok-show_span.ensures.ok))
-
-pub returns-clause-counts : goal.returns-clause-counts
-returns-clause-counts c =
-    let fx : FitsSigned w64 c.args.x = c.ranges.x in
-    let fy : FitsSigned w64 c.args.y = c.ranges.y in
     let began = simp to_z-of_z at c.begin_row.ensures.counts in
-    let dots = rw (c.cover_rest.ensures.counts, c.cover_rest.ensures.rect) at (simp to_z-of_z at c.in_ok-show_span.ensures.counts) in
-    on_row-then _ _ _ _ _ _ _ _ (ap (λ v. v.sight.rect) c.begin_row.ensures.canvas) began dots
+    let drawn = rw (c.cover_rest.ensures.counts, c.cover_rest.ensures.rect) at (simp to_z-of_z at c.in_ok-show_span.ensures.counts) in
+    record {
+      ok = step _ _ _ _ (dots _ c.args.x c.args.y) cover (rw c.dots_text.ensures at (simp to_z-of_z at c.in_ok-show_span.ensures.ok));
+      counts = on_row-then _ _ _ _ _ _ _ _ (ap (λ v. v.sight.rect) c.begin_row.ensures.canvas) began drawn;
+      rect = search rules;
+      err = search rules;
+    }

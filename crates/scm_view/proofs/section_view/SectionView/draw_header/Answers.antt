@@ -1,4 +1,4 @@
-use Rattle.std.proofs.Common.{◌∙◌, ap, Bool, FitsSigned, w64}
+use Rattle.std.proofs.Common.{rules, ◌∙◌, ap, Bool, FitsSigned, w64}
 use Rattle.std.specs.Prelude.{ℤ}
 use Rattle.std.proofs.lemmas.Int.{to_z-of_z}
 use Rattle.scm_render.specs.Canvas.{Sight}
@@ -27,17 +27,16 @@ highlight-requires c =
     let heading = rw c.begin_row.ensures.canvas at (simp to_z-of_z at c.in_ok-draw_heading.ensures.ok) in
     rw c.is_selected.ensures (simp to_z-of_z (rest _ _ _ (light (is_selected c.args.self.now) c.args.y) heading c.requires))
 
-pub returns-clause-ok : goal.returns-clause-ok
+pub returns : goal.returns
 unfolding row_picture
-returns-clause-ok c =
+returns c =
     let fx : FitsSigned w64 c.args.x = c.ranges.x in
     let fy : FitsSigned w64 c.args.y = c.ranges.y in
     let heading = rw c.begin_row.ensures.canvas at (simp to_z-of_z at c.in_ok-draw_heading.ensures.ok) in
-    step _ _ _ _ (light (is_selected c.args.self.now) c.args.y) heading (rw c.is_selected.ensures at (simp to_z-of_z at c.highlight.ensures.new))
-
-pub returns-clause-counts : goal.returns-clause-counts
-returns-clause-counts c =
-    let fx : FitsSigned w64 c.args.x = c.ranges.x in
-    let fy : FitsSigned w64 c.args.y = c.ranges.y in
     let began = simp to_z-of_z at c.begin_row.ensures.counts in
-    c.highlight.ensures.counts ∙ on_row-then _ _ _ _ _ _ _ _ (ap (λ v. v.sight.rect) c.begin_row.ensures.canvas) began (simp to_z-of_z at c.in_ok-draw_heading.ensures.counts)
+    record {
+      ok = step _ _ _ _ (light (is_selected c.args.self.now) c.args.y) heading (rw c.is_selected.ensures at (simp to_z-of_z at c.highlight.ensures.new));
+      counts = c.highlight.ensures.counts ∙ on_row-then _ _ _ _ _ _ _ _ (ap (λ v. v.sight.rect) c.begin_row.ensures.canvas) began (simp to_z-of_z at c.in_ok-draw_heading.ensures.counts);
+      rect = search rules;
+      err = search rules;
+    }

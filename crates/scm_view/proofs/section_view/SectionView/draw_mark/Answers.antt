@@ -1,4 +1,4 @@
-use Rattle.std.proofs.Common.{◌∙◌, ap, Bool, List, [], ◌∷◌, ℕ, FitsSigned, w64}
+use Rattle.std.proofs.Common.{rules, ◌∙◌, ap, Bool, List, [], ◌∷◌, ℕ, FitsSigned, w64}
 use Rattle.std.specs.Prelude.{ℤ, pos, ◌+ℤ◌}
 use Rattle.std.proofs.lemmas.Int.{to_z-of_z}
 use Rattle.scm_render.specs.Canvas.{Sight}
@@ -74,27 +74,28 @@ highlight-requires c =
     let drawn = simp to_z-of_z at c.in_ok-show_text.ensures.ok in
     rw c.is_selected.ensures (simp to_z-of_z (third _ _ _ _ (text c.args.text.now c.args.x c.args.y) (light (is_selected c.args.self.now) c.args.y) toggle drawn more))
 
-pub returns-clause-ok : goal.returns-clause-ok
+pub returns : goal.returns
 unfolding row_picture
-returns-clause-ok c =
+returns c =
     let fx : FitsSigned w64 c.args.x = c.ranges.x in
     let fy : FitsSigned w64 c.args.y = c.ranges.y in
     let b = section_box c.args.self.now c.args.is_checked in
     let cover = rw c.begin_row.ensures.canvas at (simp to_z-of_z at c.cover_rest.ensures.new) in
-    let toggle = rw c.section_box-toggle_box.ensures at (simp to_z-of_z at c.in_ok-show_box.ensures.ok) in
-    let more = second-of-four _ _ _ (box b c.args.x c.args.y) (text c.args.text.now c.args.x c.args.y) (light (is_selected c.args.self.now) c.args.y) cover c.requires in
-    let own = second _ _ _ (text c.args.text.now c.args.x c.args.y) (light (is_selected c.args.self.now) c.args.y) toggle more in
-    let fits : FitsSigned w64 (c.args.x +ℤ pos 4) = InRange-fits _ (text-place _ _ _ _ own).0 in
-    let drawn = simp to_z-of_z at c.in_ok-show_text.ensures.ok in
-    let lit = rw c.is_selected.ensures at (simp to_z-of_z at c.highlight.ensures.new) in
-    four _ _ _ _ _ _ (box b c.args.x c.args.y) (text c.args.text.now c.args.x c.args.y) (light (is_selected c.args.self.now) c.args.y) cover toggle drawn lit
-
-pub returns-clause-counts : goal.returns-clause-counts
-returns-clause-counts c =
-    let fx : FitsSigned w64 c.args.x = c.ranges.x in
-    let fy : FitsSigned w64 c.args.y = c.ranges.y in
     let began = simp to_z-of_z at c.begin_row.ensures.counts in
-    let toggle = rw (c.cover_rest.ensures.counts, c.cover_rest.ensures.rect) at (simp to_z-of_z at c.in_ok-show_box.ensures.counts) in
-    let text = simp to_z-of_z at c.in_ok-show_text.ensures.counts in
-    c.highlight.ensures.counts
-    ∙ on_row-three _ _ _ _ _ _ _ _ _ _ _ (ap (λ v. v.sight.rect) c.begin_row.ensures.canvas) (c.in_ok-show_box.ensures.rect ∙ c.cover_rest.ensures.rect) began toggle text
+    record {
+      ok =
+          let toggle = rw c.section_box-toggle_box.ensures at (simp to_z-of_z at c.in_ok-show_box.ensures.ok) in
+          let more = second-of-four _ _ _ (box b c.args.x c.args.y) (text c.args.text.now c.args.x c.args.y) (light (is_selected c.args.self.now) c.args.y) cover c.requires in
+          let own = second _ _ _ (text c.args.text.now c.args.x c.args.y) (light (is_selected c.args.self.now) c.args.y) toggle more in
+          let fits : FitsSigned w64 (c.args.x +ℤ pos 4) = InRange-fits _ (text-place _ _ _ _ own).0 in
+          let drawn = simp to_z-of_z at c.in_ok-show_text.ensures.ok in
+          let lit = rw c.is_selected.ensures at (simp to_z-of_z at c.highlight.ensures.new) in
+          four _ _ _ _ _ _ (box b c.args.x c.args.y) (text c.args.text.now c.args.x c.args.y) (light (is_selected c.args.self.now) c.args.y) cover toggle drawn lit;
+      counts =
+          let toggle = rw (c.cover_rest.ensures.counts, c.cover_rest.ensures.rect) at (simp to_z-of_z at c.in_ok-show_box.ensures.counts) in
+          let text = simp to_z-of_z at c.in_ok-show_text.ensures.counts in
+          c.highlight.ensures.counts
+          ∙ on_row-three _ _ _ _ _ _ _ _ _ _ _ (ap (λ v. v.sight.rect) c.begin_row.ensures.canvas) (c.in_ok-show_box.ensures.rect ∙ c.cover_rest.ensures.rect) began toggle text;
+      rect = search rules;
+      err = search rules;
+    }

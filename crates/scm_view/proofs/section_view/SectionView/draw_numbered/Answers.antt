@@ -1,4 +1,4 @@
-use Rattle.std.proofs.Common.{◌∙◌, sym, ap, FitsSigned, w64, ◌+ℤ◌, pos}
+use Rattle.std.proofs.Common.{rules, ◌∙◌, sym, ap, FitsSigned, w64, ◌+ℤ◌, pos}
 use Rattle.std.proofs.lemmas.Int.{to_z-of_z}
 use Rattle.scm_render.proofs.PictureLemmas.{PictureInRange-left, PictureInRange-right}
 use Rattle.scm_render.proofs.CanvasLemmas.{with_picture-after, with_picture-sight, with_picture-nothing}
@@ -40,17 +40,16 @@ loop-index-preserved c =
       whole = with_picture-after _ _ _ _ drawn ∙ whole;
     }))
 
-pub returns-clause-ok : goal.returns-clause-ok
-returns-clause-ok c =
+pub returns : goal.returns
+returns c =
     let fx : FitsSigned w64 c.args.x = c.ranges.x in
     let fy : FitsSigned w64 c.args.y = c.ranges.y in
     let end = rows_picture-end _ c.args.viewport.now.canvas.sight c.args.x c.loop-index.row (numbered_rows-end c.args.self.now c.args.first c.args.lines.now c.loop-index.index c.loop-index-test.false) in
     let whole = rw end at (simp (to_z-of_z, c.loop-index.row-is) at c.loop-index.invariant.whole) in
-    sym (with_picture-nothing _) ∙ whole
-
-pub returns-clause-counts : goal.returns-clause-counts
-returns-clause-counts c =
-    let fx : FitsSigned w64 c.args.x = c.ranges.x in
-    let fy : FitsSigned w64 c.args.y = c.ranges.y in
     let left = simp (to_z-of_z, c.loop-index.row-is) at c.loop-index.invariant.counts in
-    counts-end _ _ _ _ (rows_counts-end _ c.args.viewport.now.canvas.sight.rect c.loop-index.row (numbered_rows-end c.args.self.now c.args.first c.args.lines.now c.loop-index.index c.loop-index-test.false)) left
+    record {
+      ok = sym (with_picture-nothing _) ∙ whole;
+      counts = counts-end _ _ _ _ (rows_counts-end _ c.args.viewport.now.canvas.sight.rect c.loop-index.row (numbered_rows-end c.args.self.now c.args.first c.args.lines.now c.loop-index.index c.loop-index-test.false)) left;
+      rect = search rules;
+      err = search rules;
+    }

@@ -1,4 +1,4 @@
-use Rattle.std.proofs.Common.{FitsSigned, w64, length, ◌≤◌}
+use Rattle.std.proofs.Common.{rules, FitsSigned, w64, length, ◌≤◌}
 use Rattle.std.specs.Prelude.{pos, ◌+ℤ◌, take}
 use Rattle.std.proofs.lemmas.Int.{to_z-of_z}
 use Rattle.scm_view.specs.Rows.{lines_above, numbered_rows, rows_below}
@@ -31,26 +31,23 @@ draw_below-requires c =
     let above = rw c.lines_above-above.ensures.lines at (simp to_z-of_z at c.in_ok-draw_numbered.ensures.ok) in
     rw row (simp to_z-of_z (rows-rest _ _ _ _ n _ _ (length-taken c.args.self.now n c.args.lines.now most) above c.requires))
 
-pub returns-clause-ok : goal.returns-clause-ok
-returns-clause-ok c =
+pub returns : goal.returns
+returns c =
     let fx : FitsSigned w64 c.args.x = c.ranges.x in
     let fy : FitsSigned w64 c.args.y = c.ranges.y in
     let n = lines_above c.args.self.now (length c.args.lines.now) in
     let most : n ≤ length c.args.lines.now = rw c.lines_above-above.ensures.lines at c.lines_above-above.ensures.most in
     let fits : FitsSigned w64 (c.args.y +ℤ pos n) = rw (length-taken c.args.self.now n c.args.lines.now most) at (rows-fit (numbered_rows c.args.self.now 0 (take n c.args.lines.now)) c.args.viewport.now.canvas.sight c.args.x c.args.y fy (rows-first (numbered_rows c.args.self.now 0 (take n c.args.lines.now)) (rows_below c.args.self.now c.args.lines.now) c.args.viewport.now.canvas.sight c.args.x c.args.y c.requires)) in
     let row = simp to_z-of_z at (rw c.lines_above-above.ensures.lines at c.strict_add_unsigned.ensures) in
-    let above = rw c.lines_above-above.ensures.lines at (simp to_z-of_z at c.in_ok-draw_numbered.ensures.ok) in
-    on-ok _ (rows-then _ _ _ _ _ n _ _ (length-taken c.args.self.now n c.args.lines.now most) above)
-    (simp to_z-of_z at (rw row at c.draw_below.ensures.ok))
-
-pub returns-clause-counts : goal.returns-clause-counts
-returns-clause-counts c =
-    let fx : FitsSigned w64 c.args.x = c.ranges.x in
-    let fy : FitsSigned w64 c.args.y = c.ranges.y in
-    let n = lines_above c.args.self.now (length c.args.lines.now) in
-    let most : n ≤ length c.args.lines.now = rw c.lines_above-above.ensures.lines at c.lines_above-above.ensures.most in
-    let fits : FitsSigned w64 (c.args.y +ℤ pos n) = rw (length-taken c.args.self.now n c.args.lines.now most) at (rows-fit (numbered_rows c.args.self.now 0 (take n c.args.lines.now)) c.args.viewport.now.canvas.sight c.args.x c.args.y fy (rows-first (numbered_rows c.args.self.now 0 (take n c.args.lines.now)) (rows_below c.args.self.now c.args.lines.now) c.args.viewport.now.canvas.sight c.args.x c.args.y c.requires)) in
-    let row = simp to_z-of_z at (rw c.lines_above-above.ensures.lines at c.strict_add_unsigned.ensures) in
-    let above = rw c.lines_above-above.ensures.lines at (simp to_z-of_z at c.in_ok-draw_numbered.ensures.counts) in
-    on-ok _ (rows-counted _ _ _ _ _ _ _ n _ (length-taken c.args.self.now n c.args.lines.now most) c.in_ok-draw_numbered.ensures.rect above)
-    (simp to_z-of_z at (rw row at c.draw_below.ensures.counts))
+    record {
+      ok =
+          let above = rw c.lines_above-above.ensures.lines at (simp to_z-of_z at c.in_ok-draw_numbered.ensures.ok) in
+          on-ok _ (rows-then _ _ _ _ _ n _ _ (length-taken c.args.self.now n c.args.lines.now most) above)
+          (simp to_z-of_z at (rw row at c.draw_below.ensures.ok));
+      counts =
+          let above = rw c.lines_above-above.ensures.lines at (simp to_z-of_z at c.in_ok-draw_numbered.ensures.counts) in
+          on-ok _ (rows-counted _ _ _ _ _ _ _ n _ (length-taken c.args.self.now n c.args.lines.now most) c.in_ok-draw_numbered.ensures.rect above)
+          (simp to_z-of_z at (rw row at c.draw_below.ensures.counts));
+      rect = search rules;
+      err = search rules;
+    }

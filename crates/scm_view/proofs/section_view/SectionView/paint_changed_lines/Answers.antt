@@ -1,4 +1,4 @@
-use Rattle.std.proofs.Common.{◌≡◌, take, length, FitsSigned, w64}
+use Rattle.std.proofs.Common.{rules, ◌≡◌, take, length, FitsSigned, w64}
 use Rattle.std.specs.Prelude.{pos, ◌+ℤ◌}
 use Rattle.std.proofs.lemmas.Int.{to_z-of_z}
 use Rattle.scm_cells.specs.Rect.{RectInRange, end_y_of}
@@ -24,8 +24,8 @@ draw_changed_lines-requires-clause-picture c =
     let row = simp to_z-of_z at c.strict_add_unsigned.ensures in
     rw (take-rest c.rows_above-first.result (take c.rows_above-end.result ls), row) (simp to_z-of_z (lines-in c.args.self.now ls s c.args.x c.args.y _ _ cut c.requires))
 
-pub returns-clause-ok : goal.returns-clause-ok
-returns-clause-ok c =
+pub returns : goal.returns
+returns c =
     let fx : FitsSigned w64 c.args.x = c.ranges.x in
     let fy : FitsSigned w64 c.args.y = c.ranges.y in
     let s = c.args.viewport.now.canvas.sight in
@@ -38,22 +38,13 @@ returns-clause-ok c =
     let cut = cut-at s.rect c.args.y (length ls) c.rows_above-first.result c.rows_above-end.result first end in
     let fits : FitsSigned w64 (c.args.y +ℤ pos c.rows_above-first.result) = lines-fit c.args.self.now ls s c.args.x c.args.y _ c.rows_above-end.result cut fy c.requires in
     let row = simp to_z-of_z at c.strict_add_unsigned.ensures in
-    on-ok _ (lines-painted c.args.viewport.now.canvas _ c.args.self.now ls c.args.x c.args.y _ _ (rw c.rect-screen.ensures.value at c.rect-screen.ensures.rows) first end)
-    (simp to_z-of_z at (rw (take-rest c.rows_above-first.result (take c.rows_above-end.result ls), row) at c.draw_changed_lines.ensures.ok))
-
-pub returns-clause-counts : goal.returns-clause-counts
-returns-clause-counts c =
-    let fx : FitsSigned w64 c.args.x = c.ranges.x in
-    let fy : FitsSigned w64 c.args.y = c.ranges.y in
-    let s = c.args.viewport.now.canvas.sight in
-    let ls = c.args.lines.now in
-    let r : RectInRange s.rect = rw c.rect-screen.ensures.value at c.rect-screen.ensures.in_range in
-    let ft : FitsSigned w64 s.rect.y = InRange-fits _ r.y in
-    let fe : FitsSigned w64 (end_y_of s.rect) = InRange-fits _ r.end_y in
-    let first : c.rows_above-first.result ≡ rows_above c.args.y s.rect.y (length ls) = simp to_z-of_z at (rw c.rect-screen.ensures.value at c.rows_above-first.ensures.value) in
-    let end : c.rows_above-end.result ≡ rows_above c.args.y (end_y_of s.rect) (length ls) = simp to_z-of_z at (rw (c.end_y.ensures, c.rect-screen.ensures.value) at c.rows_above-end.ensures.value) in
-    let cut = cut-at s.rect c.args.y (length ls) c.rows_above-first.result c.rows_above-end.result first end in
-    let fits : FitsSigned w64 (c.args.y +ℤ pos c.rows_above-first.result) = lines-fit c.args.self.now ls s c.args.x c.args.y _ c.rows_above-end.result cut fy c.requires in
-    let row = simp to_z-of_z at c.strict_add_unsigned.ensures in
-    on-ok _ (lines-counted _ _ s.rect c.args.self.now ls c.args.y _ _ first end)
-    (simp to_z-of_z at (rw (take-rest c.rows_above-first.result (take c.rows_above-end.result ls), row) at c.draw_changed_lines.ensures.counts))
+    record {
+      ok =
+          on-ok _ (lines-painted c.args.viewport.now.canvas _ c.args.self.now ls c.args.x c.args.y _ _ (rw c.rect-screen.ensures.value at c.rect-screen.ensures.rows) first end)
+          (simp to_z-of_z at (rw (take-rest c.rows_above-first.result (take c.rows_above-end.result ls), row) at c.draw_changed_lines.ensures.ok));
+      counts =
+          on-ok _ (lines-counted _ _ s.rect c.args.self.now ls c.args.y _ _ first end)
+          (simp to_z-of_z at (rw (take-rest c.rows_above-first.result (take c.rows_above-end.result ls), row) at c.draw_changed_lines.ensures.counts));
+      rect = search rules;
+      err = search rules;
+    }

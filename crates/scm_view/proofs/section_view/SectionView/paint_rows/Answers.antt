@@ -1,4 +1,4 @@
-use Rattle.std.proofs.Common.{FitsSigned, w64}
+use Rattle.std.proofs.Common.{rules, FitsSigned, w64}
 use Rattle.std.proofs.lemmas.Int.{to_z-of_z}
 use Rattle.scm_view.specs.Rows.{section_rows}
 use Rattle.scm_view.specs.Pictures.{section_picture}
@@ -13,34 +13,47 @@ paint_changed-requires c =
     let fy : FitsSigned w64 c.args.y = c.ranges.y in
     rw c.as_slice.ensures (simp to_z-of_z (rw c.in-Changed.is at c.requires))
 
-pub returns-in-Unchanged-clause-ok : goal.returns-in-Unchanged-clause-ok
-returns-in-Unchanged-clause-ok c =
+pub returns-in-Unchanged : goal.returns-in-Unchanged
+returns-in-Unchanged c =
     let fx : FitsSigned w64 c.args.x = c.ranges.x in
     let fy : FitsSigned w64 c.args.y = c.ranges.y in
-    on-ok _ (drawn-painted _ _ _) (simp to_z-of_z at c.draw.ensures.ok)
+    record {
+      ok = on-ok _ (drawn-painted _ _ _) (simp to_z-of_z at c.draw.ensures.ok);
+      counts = search rules;
+      rect = search rules;
+      err = search rules;
+    }
 
-pub returns-in-Changed-clause-ok : goal.returns-in-Changed-clause-ok
+pub returns-in-Changed : goal.returns-in-Changed
 unfolding section_picture section_rows
-returns-in-Changed-clause-ok c =
+returns-in-Changed c =
     let fx : FitsSigned w64 c.args.x = c.ranges.x in
     let fy : FitsSigned w64 c.args.y = c.ranges.y in
-    rw c.in-Changed.is (rw c.as_slice.ensures at (simp to_z-of_z at c.paint_changed.ensures.ok))
+    record {
+      ok = rw c.in-Changed.is (rw c.as_slice.ensures at (simp to_z-of_z at c.paint_changed.ensures.ok));
+      counts = rw c.in-Changed.is (rw c.as_slice.ensures at (simp to_z-of_z at c.paint_changed.ensures.counts));
+      rect = search rules;
+      err = search rules;
+    }
 
-pub returns-in-Changed-clause-counts : goal.returns-in-Changed-clause-counts
-unfolding section_rows
-returns-in-Changed-clause-counts c =
+pub returns-in-FileMode : goal.returns-in-FileMode
+returns-in-FileMode c =
     let fx : FitsSigned w64 c.args.x = c.ranges.x in
     let fy : FitsSigned w64 c.args.y = c.ranges.y in
-    rw c.in-Changed.is (rw c.as_slice.ensures at (simp to_z-of_z at c.paint_changed.ensures.counts))
+    record {
+      ok = on-ok _ (drawn-painted _ _ _) (simp to_z-of_z at c.draw-in-FileMode.ensures.ok);
+      counts = search rules;
+      rect = search rules;
+      err = search rules;
+    }
 
-pub returns-in-FileMode-clause-ok : goal.returns-in-FileMode-clause-ok
-returns-in-FileMode-clause-ok c =
+pub returns-in-Binary : goal.returns-in-Binary
+returns-in-Binary c =
     let fx : FitsSigned w64 c.args.x = c.ranges.x in
     let fy : FitsSigned w64 c.args.y = c.ranges.y in
-    on-ok _ (drawn-painted _ _ _) (simp to_z-of_z at c.draw-in-FileMode.ensures.ok)
-
-pub returns-in-Binary-clause-ok : goal.returns-in-Binary-clause-ok
-returns-in-Binary-clause-ok c =
-    let fx : FitsSigned w64 c.args.x = c.ranges.x in
-    let fy : FitsSigned w64 c.args.y = c.ranges.y in
-    on-ok _ (drawn-painted _ _ _) (simp to_z-of_z at c.draw-in-Binary.ensures.ok)
+    record {
+      ok = on-ok _ (drawn-painted _ _ _) (simp to_z-of_z at c.draw-in-Binary.ensures.ok);
+      counts = search rules;
+      rect = search rules;
+      err = search rules;
+    }

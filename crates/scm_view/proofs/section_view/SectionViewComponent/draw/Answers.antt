@@ -1,4 +1,4 @@
-use Rattle.std.proofs.Common.{FitsSigned, w64}
+use Rattle.std.proofs.Common.{rules, FitsSigned, w64}
 use Rattle.std.proofs.lemmas.Int.{to_z-of_z}
 use Rattle.scm_view.specs.Rows.{section_rows}
 use Rattle.scm_view.specs.Pictures.{section_picture}
@@ -34,58 +34,50 @@ draw_mark-requires-in-Binary c =
     let fy : FitsSigned w64 c.args.y = c.ranges.y in
     rw (c.as_str-in-Binary.ensures.value, c.in_ok-text-in-Binary.ensures.ok) (simp to_z-of_z (row-first _ _ _ _ _ (rw c.in-Binary.is at c.requires)))
 
-pub returns-in-Unchanged-clause-ok : goal.returns-in-Unchanged-clause-ok
+pub returns-in-Unchanged : goal.returns-in-Unchanged
 unfolding section_picture section_rows
-returns-in-Unchanged-clause-ok c =
+returns-in-Unchanged c =
     let fx : FitsSigned w64 c.args.x = c.ranges.x in
     let fy : FitsSigned w64 c.args.y = c.ranges.y in
-    rw c.in-Unchanged.is (rw c.as_slice.ensures at (simp to_z-of_z at c.draw_context.ensures.ok))
+    record {
+      ok = rw c.in-Unchanged.is (rw c.as_slice.ensures at (simp to_z-of_z at c.draw_context.ensures.ok));
+      counts = rw c.in-Unchanged.is (rw c.as_slice.ensures at (simp to_z-of_z at c.draw_context.ensures.counts));
+      rect = search rules;
+      err = search rules;
+    }
 
-pub returns-in-Changed-clause-ok : goal.returns-in-Changed-clause-ok
+pub returns-in-Changed : goal.returns-in-Changed
 unfolding section_picture section_rows
-returns-in-Changed-clause-ok c =
+returns-in-Changed c =
     let fx : FitsSigned w64 c.args.x = c.ranges.x in
     let fy : FitsSigned w64 c.args.y = c.ranges.y in
-    rw c.in-Changed.is (rw c.as_slice-in-Changed.ensures at (simp to_z-of_z at c.draw_changed.ensures.ok))
+    record {
+      ok = rw c.in-Changed.is (rw c.as_slice-in-Changed.ensures at (simp to_z-of_z at c.draw_changed.ensures.ok));
+      counts = rw c.in-Changed.is (rw c.as_slice-in-Changed.ensures at (simp to_z-of_z at c.draw_changed.ensures.counts));
+      rect = search rules;
+      err = search rules;
+    }
 
-pub returns-in_ok-text-in-FileMode-clause-ok : goal.returns-in_ok-text-in-FileMode-clause-ok
+pub returns-in_ok-text-in-FileMode : goal.returns-in_ok-text-in-FileMode
 unfolding section_picture section_rows
-returns-in_ok-text-in-FileMode-clause-ok c =
+returns-in_ok-text-in-FileMode c =
     let fx : FitsSigned w64 c.args.x = c.ranges.x in
     let fy : FitsSigned w64 c.args.y = c.ranges.y in
-    rw c.in-FileMode.is (on-ok _ (row-alone _ _ _ _ _) (rw (c.as_str.ensures.value, c.in_ok-text-in-FileMode.ensures.ok) at (simp to_z-of_z at c.draw_mark.ensures.ok)))
+    record {
+      ok = rw c.in-FileMode.is (on-ok _ (row-alone _ _ _ _ _) (rw (c.as_str.ensures.value, c.in_ok-text-in-FileMode.ensures.ok) at (simp to_z-of_z at c.draw_mark.ensures.ok)));
+      counts = rw c.in-FileMode.is (on-ok _ (row-counted-alone _ _ _ _ _) (simp to_z-of_z at c.draw_mark.ensures.counts));
+      rect = search rules;
+      err = search rules;
+    }
 
-pub returns-in_ok-text-in-Binary-clause-ok : goal.returns-in_ok-text-in-Binary-clause-ok
+pub returns-in_ok-text-in-Binary : goal.returns-in_ok-text-in-Binary
 unfolding section_picture section_rows
-returns-in_ok-text-in-Binary-clause-ok c =
+returns-in_ok-text-in-Binary c =
     let fx : FitsSigned w64 c.args.x = c.ranges.x in
     let fy : FitsSigned w64 c.args.y = c.ranges.y in
-    rw c.in-Binary.is (on-ok _ (row-alone _ _ _ _ _) (rw (c.as_str-in-Binary.ensures.value, c.in_ok-text-in-Binary.ensures.ok) at (simp to_z-of_z at c.draw_mark-in-Binary.ensures.ok)))
-
-pub returns-in-Unchanged-clause-counts : goal.returns-in-Unchanged-clause-counts
-unfolding section_rows
-returns-in-Unchanged-clause-counts c =
-    let fx : FitsSigned w64 c.args.x = c.ranges.x in
-    let fy : FitsSigned w64 c.args.y = c.ranges.y in
-    rw c.in-Unchanged.is (rw c.as_slice.ensures at (simp to_z-of_z at c.draw_context.ensures.counts))
-
-pub returns-in-Changed-clause-counts : goal.returns-in-Changed-clause-counts
-unfolding section_rows
-returns-in-Changed-clause-counts c =
-    let fx : FitsSigned w64 c.args.x = c.ranges.x in
-    let fy : FitsSigned w64 c.args.y = c.ranges.y in
-    rw c.in-Changed.is (rw c.as_slice-in-Changed.ensures at (simp to_z-of_z at c.draw_changed.ensures.counts))
-
-pub returns-in_ok-text-in-FileMode-clause-counts : goal.returns-in_ok-text-in-FileMode-clause-counts
-unfolding section_rows
-returns-in_ok-text-in-FileMode-clause-counts c =
-    let fx : FitsSigned w64 c.args.x = c.ranges.x in
-    let fy : FitsSigned w64 c.args.y = c.ranges.y in
-    rw c.in-FileMode.is (on-ok _ (row-counted-alone _ _ _ _ _) (simp to_z-of_z at c.draw_mark.ensures.counts))
-
-pub returns-in_ok-text-in-Binary-clause-counts : goal.returns-in_ok-text-in-Binary-clause-counts
-unfolding section_rows
-returns-in_ok-text-in-Binary-clause-counts c =
-    let fx : FitsSigned w64 c.args.x = c.ranges.x in
-    let fy : FitsSigned w64 c.args.y = c.ranges.y in
-    rw c.in-Binary.is (on-ok _ (row-counted-alone _ _ _ _ _) (simp to_z-of_z at c.draw_mark-in-Binary.ensures.counts))
+    record {
+      ok = rw c.in-Binary.is (on-ok _ (row-alone _ _ _ _ _) (rw (c.as_str-in-Binary.ensures.value, c.in_ok-text-in-Binary.ensures.ok) at (simp to_z-of_z at c.draw_mark-in-Binary.ensures.ok)));
+      counts = rw c.in-Binary.is (on-ok _ (row-counted-alone _ _ _ _ _) (simp to_z-of_z at c.draw_mark-in-Binary.ensures.counts));
+      rect = search rules;
+      err = search rules;
+    }
