@@ -21,14 +21,13 @@ fn draw_app(
     alloc: Global,
     grid: &mut Grid,
     scroll: usize,
-    state: &RecordState<'_>,
+    state: RecordState<'_>,
 ) -> Result<(), RecordError> {
     assert!(rt; state.is_accepted());
     assert!(rt; scroll <= 1000);
     assert!(rt; grid.width() <= 100);
     assert!(rt; grid.height() <= 100);
-    let folded = KeySet::new(alloc);
-    let showing = Showing::new(state, SelectionKey::None, &folded);
+    let showing = Showing::new(state, SelectionKey::None, KeySet::new(alloc));
     let view = showing.app_view(alloc)?;
     laws::apps_are_in_range();
     let _ = Viewport::render_top_level(alloc, grid, 0, scroll as isize, &view)?;
@@ -54,7 +53,7 @@ fn check_app(
 ) -> Result<(), RecordError> {
     let state = sample_state(alloc)?;
     let mut grid = Grid::new(alloc, 30, 3)?;
-    draw_app(rt, alloc, &mut grid, scroll, &state)?;
+    draw_app(rt, alloc, &mut grid, scroll, state)?;
     assert_eq!(rt; rows_of(alloc, &grid)?.as_str(), rows);
     assert_eq!(rt; (grid.rows_drawn(), grid.calls()), counts, "{rows}");
     Ok(())
@@ -124,11 +123,10 @@ fn draw_state(
     alloc: Global,
     viewport: &mut Viewport<ComponentId>,
     x: isize,
-    state: &RecordState<'_>,
+    state: RecordState<'_>,
 ) -> Result<(), RecordError> {
     assert!(rt; state.is_accepted());
-    let folded = KeySet::new(alloc);
-    let showing = Showing::new(state, SelectionKey::None, &folded);
+    let showing = Showing::new(state, SelectionKey::None, KeySet::new(alloc));
     let view = showing.app_view(alloc)?;
     draw_view(rt, viewport, x, &view)
 }
@@ -143,7 +141,7 @@ fn check_masked(
 ) -> Result<(), RecordError> {
     let state = sample_state(alloc)?;
     let mut viewport = viewport_under(rt, alloc, mask.0, mask.1)?;
-    draw_state(rt, alloc, &mut viewport, x, &state)?;
+    draw_state(rt, alloc, &mut viewport, x, state)?;
     check_drawing(rt, alloc, viewport, rows, (1, 9))
 }
 
