@@ -22,19 +22,19 @@ returns-clause-draws g c =
       ok =
           elim c.if-rect-gt0.branch [
             | then-rect-gt0+then-rect-gt0-2+in_ok-put_frame w ↦
-            rw (w.self-inside-is, sym c.self.view_is)
-            (with_picture-frame _ _ _ c.mask_rect-within.result c.args.rect c.args.title.now (body_texts c.args.body.now)
-            (c.mask_rect-within.ensures.value ∙ ap (λ v. reach v.canvas.sight) (sym c.self.view_is))
-            (is_empty-in c.args.rect w.if-rect-gt0.true w.if-rect-gt0-2.true)
-            w.in_ok-put_frame.ensures.ok refl
-            (c.grown-self-inside.ensures ∙ ap (λ i. join i.area c.args.rect) w.self-inside-is)
-            refl)
+                rw (w.self-inside-is, sym c.self.view_is)
+                (with_picture-frame _ _ _ c.mask_rect-within.result c.args.rect c.args.title.now (body_texts c.args.body.now)
+                (c.mask_rect-within.ensures.value ∙ ap (λ v. reach v.canvas.sight) (sym c.self.view_is))
+                (is_empty-in c.args.rect w.if-rect-gt0.true w.if-rect-gt0-2.true)
+                w.in_ok-put_frame.ensures.ok refl
+                (c.grown-self-inside.ensures ∙ ap (λ i. join i.area c.args.rect) w.self-inside-is)
+                refl)
             | else-rect-gt0 w ↦
-            let none : is_empty c.args.rect ≡ true = elim w.else-rect-gt0.branch [ else-rect-gt0-via-then-rect-gt0+else-rect-gt0-2 w' ↦ grind (arith, nat_tests) | else-rect-gt0-via-else-rect-gt0 w' ↦ grind (arith, nat_tests) ] in
-            rw (w.self-inside-is, sym c.self.view_is)
-            (with_picture-no_frame _ _ c.args.rect c.args.title.now (body_texts c.args.body.now) none refl refl
-            (c.grown-self-inside.ensures ∙ ap (λ i. join i.area c.args.rect) w.self-inside-is)
-            refl)
+                let none : is_empty c.args.rect ≡ true = elim w.else-rect-gt0.branch [ else-rect-gt0-via-then-rect-gt0+else-rect-gt0-2 w' ↦ grind (arith, nat_tests) | else-rect-gt0-via-else-rect-gt0 w' ↦ grind (arith, nat_tests) ] in
+                rw (w.self-inside-is, sym c.self.view_is)
+                (with_picture-no_frame _ _ c.args.rect c.args.title.now (body_texts c.args.body.now) none refl refl
+                (c.grown-self-inside.ensures ∙ ap (λ i. join i.area c.args.rect) w.self-inside-is)
+                refl)
           ];
       counts =
           elim c.if-rect-gt0.branch [

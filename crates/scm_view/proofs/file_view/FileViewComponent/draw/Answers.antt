@@ -4,8 +4,6 @@ use Rattle.std.proofs.lemmas.Int.{to_z-of_z}
 use Rattle.scm_cells.specs.Rect.{InRange}
 use Rattle.scm_cells.proofs.RectLemmas.{places}
 use Rattle.scm_render.specs.Canvas.{Sight, with_picture}
-use Rattle.scm_render.specs.Picture.{PictureInRange}
-use Rattle.scm_view.specs.declared.file_view.FileView.{FileView}
 use Rattle.scm_render.proofs.PictureLemmas.{PictureInRange-left, PictureInRange-part}
 use Rattle.scm_cells.specs.Counts.{added, plus}
 use Rattle.scm_view.specs.Counts.{file_counts, header_counts}
