@@ -9,10 +9,6 @@ map_from f i (x ∷ xs) = f i x ∷ map_from f (suc i) xs
 abbrev pub so_far : {X : Type 0} → (ℕ → X → X) → List X → ℕ → List X
 so_far f xs i = take i (map_from f 0 xs) ++ drop i xs
 
-pub length-map_from : {X : Type 0} (f : ℕ → X → X) (i : ℕ) (xs : List X) → length (map_from f i xs) ≡ length xs
-length-map_from f i [] = refl
-length-map_from f i (x ∷ xs) = ap suc (length-map_from f (suc i) xs)
-
 all-from : {X : Type 0} (f : ℕ → X → X) (k : ℕ) (xs : List X) (i : ℕ) → length xs ≤ i → take i (map_from f k xs) ++ drop i xs ≡ map_from f k xs
 all-from f k [] zero h = refl
 all-from f k [] (suc i) h = refl

@@ -1,17 +1,15 @@
 -- How many columns a row has after a put, and puts that leave it as it was.
 use Rattle.std.proofs.Common.{◌≡◌, ℕ, zero, suc, ◌+◌, ◌-◌, ◌<◌, ◌≤◌, List, [], ◌∷◌, ◌++◌, length, take, drop, replicate, append-nil, length-append, length-take, length-drop, refl, ap, ◌∙◌, arith, ◌⊎◌, inl, inr, ⊎_elim}
 use Rattle.std.specs.Prelude.{ℤ, pos, negsuc, ◌+ℤ◌, ◌-ℤ◌, ◌≤ℤ◌, ◌<ℤ◌}
-use Rattle.std.specs.Prelude.{Bool, true, false, int_lt, if◌then◌else◌}
 use Rattle.std.specs.Int.{int_min, int_max}
 use Rattle.std.proofs.lemmas.Bool.{cases_lt}
 use Rattle.std.proofs.lemmas.List.{length-replicate}
 use Rattle.std.proofs.lemmas.Int.{ints, by_lt_z}
 use Rattle.scm_cells.specs.Rect.{or_zero}
 use Rattle.scm_cells.specs.Cluster.{Cluster, bytes_as_clusters}
-use Rattle.scm_cells.specs.Clusters.{clusters, text_width}
+use Rattle.scm_cells.specs.Clusters.{clusters}
 use Rattle.scm_cells.specs.Cell.{Cell, blank}
-use Rattle.scm_cells.specs.Row.{cells_of, later_cells, whole_before, whole_after, written, overlay, put, ellipsis}
-use Rattle.scm_cells.proofs.Say.{say}
+use Rattle.scm_cells.specs.Row.{cells_of, later_cells, whole_before, whole_after, written, overlay, put}
 use Rattle.scm_cells.specs.Laying.{fit}
 use Rattle.scm_cells.proofs.RectLemmas.{places}
 use Rattle.scm_cells.proofs.RowLemmas.{overlay-none}
@@ -134,18 +132,6 @@ length-put row column text low high h =
     (λ (some : low < high). put-length row column text low high h (fits (clusters text) column low high (AllKept-clusters text) some))
     (λ (none : high ≤ low). put-length row column text low high h (inl (written-closed (clusters text) column low high none)))
     (cases_lt low high)
-
-pub length-say : (row : List Cell) (column : ℤ) (text : List ℕ) (low high : ℕ) → high ≤ length row → length (say row column text low high) ≡ length row
-unfolding say
-length-say row column text low high h =
-    let cut = put row column text low high in
-    let size = length-put row column text low high h in
-    let again = length-put cut (pos high -ℤ pos 1) ellipsis low high (omega (arith, size, h)) in
-    if-length (int_lt (pos high) (column +ℤ pos (text_width text))) (put cut (pos high -ℤ pos 1) ellipsis low high) cut (length row) (again ∙ size) size
-  where
-    if-length : (b : Bool) (xs ys : List Cell) (n : ℕ) → length xs ≡ n → length ys ≡ n → length (if b then xs else ys) ≡ n
-    if-length true xs ys n e f = e
-    if-length false xs ys n e f = f
 
 -- ---- puts that leave the row as it was
 

@@ -5,13 +5,13 @@ use Rattle.std.specs.Int.{int_max}
 use Rattle.std.proofs.lemmas.List.{length-replicate, drop_all}
 use Rattle.scm_cells.specs.Rect.{or_zero}
 use Rattle.scm_cells.specs.Cluster.{Cluster, is_printable, bytes_as_clusters}
-use Rattle.scm_cells.specs.Clusters.{clusters, text_width}
+use Rattle.scm_cells.specs.Clusters.{clusters}
 use Rattle.scm_cells.specs.Cell.{Cell, blank}
 use Rattle.scm_cells.specs.Row.{cells_of, later_cells, whole_before, whole_after, written, overlay, put}
 use Rattle.scm_cells.specs.Laying.{fit}
 use Rattle.scm_cells.proofs.RectLemmas.{places}
 use Rattle.scm_cells.proofs.WrittenLemmas.{AllKept, written-fit, fit-cons, fit-none}
-use Rattle.scm_cells.proofs.PrintableLemmas.{clusters-printable, text_width-printable}
+use Rattle.scm_cells.proofs.PrintableLemmas.{clusters-printable}
 
 -- a space as a cluster
 abbrev pub space : Cluster
@@ -28,9 +28,6 @@ bytes-spaces (suc n) = ap (λ cs. space ∷ cs) (bytes-spaces n)
 
 pub clusters-spaces : (n : ℕ) → clusters (replicate n 32) ≡ replicate n space
 clusters-spaces n = clusters-printable (replicate n 32) (printable-spaces n) ∙ bytes-spaces n
-
-pub text_width-spaces : (n : ℕ) → text_width (replicate n 32) ≡ n
-text_width-spaces n = text_width-printable (replicate n 32) (printable-spaces n) ∙ length-replicate n 32
 
 AllKept-spaces : (n : ℕ) → AllKept (replicate n space)
 AllKept-spaces zero = tt

@@ -10,10 +10,9 @@ use Rattle.std.proofs.lemmas.List.Concat.{flat_map-append}
 use Rattle.std.proofs.lemmas.List.Elements.{All-nil, All-cons, All-head, All-tail, All-append}
 use Rattle.scm_cells.specs.Rect.{or_zero}
 use Rattle.scm_cells.specs.Cluster.{Cluster}
-use Rattle.scm_cells.specs.Clusters.{clusters, text_width}
+use Rattle.scm_cells.specs.Clusters.{clusters}
 use Rattle.scm_cells.specs.Cell.{Cell, blank}
-use Rattle.scm_cells.specs.Row.{IsWhole, cells_of, later_cells, whole_before, whole_after, written, passes, cells_past, overlay, put, ellipsis}
-use Rattle.scm_cells.proofs.Say.{say}
+use Rattle.scm_cells.specs.Row.{IsWhole, cells_of, later_cells, whole_before, whole_after, written, passes, cells_past, overlay, put}
 use Rattle.scm_cells.proofs.PutLemmas.{length-later, length-cells}
 use Rattle.scm_cells.proofs.SpaceLemmas.{space, cells-space}
 use Rattle.scm_cells.proofs.WrittenLemmas.{AllKept, AllKept-clusters, by_stop, written-none, written-cons, written-stop}
@@ -217,9 +216,3 @@ pub IsWhole-put : (row : List Cell) (column : ℤ) (text : List ℕ) (low high :
 unfolding put
 IsWhole-put row column text low high h =
     IsWhole-overlay row (or_zero (int_max column (pos low))) (written column (clusters text) low high) h (IsWhole-written (clusters text) column low high (AllKept-clusters text))
-
-pub IsWhole-say : (row : List Cell) (column : ℤ) (text : List ℕ) (low high : ℕ) → IsWhole row → IsWhole (say row column text low high)
-unfolding say
-IsWhole-say row column text low high h =
-    let cut = IsWhole-put row column text low high h in
-    IsWhole-if (int_lt (pos high) (column +ℤ pos (text_width text))) _ _ (IsWhole-put _ (pos high -ℤ pos 1) ellipsis low high cut) cut

@@ -88,9 +88,6 @@ pub AllKept-clusters : (text : List ℕ) → AllKept (clusters text)
 unfolding clusters kept
 AllKept-clusters text = AllKept-pieces (graphemes true text)
 
-pub AllKept-first : (cs rest : List Cluster) (c : Cluster) → AllKept cs → cs ≡ c ∷ rest → IsKept c
-AllKept-first cs rest c h e = (subst AllKept e h).0
-
 -- ---- a cluster at a time
 
 and_false : (b : Bool) → (b && false) ≡ false

@@ -66,6 +66,10 @@ impl Column {
         ensures ok { OnOk result (self.new ≡ record self.old { laid = record { symbol = symbol.now; width = width; offset = 0 } }) }
         ensures err { OnErr result (self.new.shown ≡ self.old.shown) }
     {
+        if symbol == " " && width == 1 {
+            self.lay_blank();
+            return Ok(());
+        }
         let missing = symbol.len().saturating_sub(self.symbol.len());
         self.symbol.reserve(missing)?;
         self.next_symbol.clear();

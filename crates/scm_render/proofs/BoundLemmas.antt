@@ -1,21 +1,19 @@
 -- What each drawing call draws within bounds, and that it is then in range.
-use Rattle.std.proofs.Common.{◌≡◌, ℕ, ◌<◌, Bool, true, false, List, [], ◌∷◌, ◌++◌, refl, arith, inl, inr, ◌⊎◌}
+use Rattle.std.proofs.Common.{ℕ, Bool, true, false, List, [], ◌∷◌, ◌++◌, arith}
 use Rattle.std.specs.Prelude.{ℤ, pos, ◌+ℤ◌, ◌-ℤ◌, ◌≤ℤ◌, ◌<ℤ◌, int_lt, if◌then◌else◌}
 use Rattle.std.specs.Int.{int_min, int_max}
-use Rattle.std.proofs.lemmas.Int.{ints, clamps}
-use Rattle.scm_cells.specs.Rect.{RectInRange, is_empty, end_x_of, or_zero, rect_between}
+use Rattle.scm_cells.specs.Rect.{RectInRange, end_x_of, or_zero, rect_between}
 use Rattle.scm_cells.specs.Clusters.{text_width}
 use Rattle.scm_cells.specs.Row.{ellipsis}
 use Rattle.scm_cells.specs.declared.rect.Rect.{Rect}
 use Rattle.scm_cells.specs.declared.mask.Mask.{Mask}
 use Rattle.scm_cells.proofs.RectLemmas.{places}
 use Rattle.scm_cells.proofs.WidthLemmas.{width-ellipsis}
-use Rattle.scm_render.specs.Around.{no_rect, join, around, AllRectsInRange}
-use Rattle.scm_render.specs.Picture.{Picture, PictureInRange, nothing, followed_by, covering, part, box_rect}
+use Rattle.scm_render.specs.Around.{AllRectsInRange}
+use Rattle.scm_render.specs.Picture.{Picture, PictureInRange, nothing, followed_by, covering, part}
 use Rattle.scm_render.specs.Canvas.{Sight, under}
 use Rattle.scm_render.specs.Drawing.{reach, row_rect, texts_width, span_picture, line_picture, text_picture, blank_picture, frame_picture}
 use Rattle.scm_render.specs.Bounds.{Bounds, BoundsInRange, SightWithin, RectWithin, RectsWithin, PictureWithin}
-use Rattle.scm_render.proofs.SpanLemmas.{join-x, join-y, join-end_x, join-end_y, join_none, join_empty_left, empty_cases}
 
 -- ---- in range
 
@@ -43,23 +41,6 @@ row-within b x y n p q t e = record { x = p; end_x = q; y = t; end_y = omega (ar
 RectsWithin-append : (b : Bounds) (xs ys : List Rect) → RectsWithin b xs → RectsWithin b ys → RectsWithin b (xs ++ ys)
 RectsWithin-append b [] ys p q = q
 RectsWithin-append b (x ∷ xs) ys p q = (p.0, RectsWithin-append b xs ys p.1 q)
-
--- wider bounds hold what narrower ones do
-pub record BoundsWithin (inner outer : Bounds) : Type 0 where
-  pub left : outer.left ≤ℤ inner.left
-  pub right : inner.right ≤ℤ outer.right
-  pub top : outer.top ≤ℤ inner.top
-  pub bottom : inner.bottom ≤ℤ outer.bottom
-
-RectsWithin-wider : (a b : Bounds) (rs : List Rect) → BoundsWithin a b → RectsWithin a rs → RectsWithin b rs
-RectsWithin-wider a b [] h p = tt
-RectsWithin-wider a b (r ∷ rs) h p = (
-  record { x = omega (arith, ints, h.left, p.0.x); end_x = omega (arith, ints, h.right, p.0.end_x); y = omega (arith, ints, h.top, p.0.y); end_y = omega (arith, ints, h.bottom, p.0.end_y) },
-  RectsWithin-wider a b rs h p.1,
-)
-
-pub PictureWithin-wider : {K : Type 0} (a b : Bounds) (p : Picture K) → BoundsWithin a b → PictureWithin a p → PictureWithin b p
-PictureWithin-wider a b p h w = record { areas = RectsWithin-wider a b p.areas h w.areas }
 
 -- ---- how far drawing reaches
 
@@ -135,36 +116,3 @@ module _ {K : Type 0} where
   pub frame-within : (b : Bounds) (s : Sight) (r : Rect) (title : List ℕ) (body : List (List ℕ)) → RectWithin b r → PictureWithin {K = K} b (frame_picture s r title body)
   unfolding frame_picture
   frame-within b s r title body h = record { areas = (h, tt) }
-
--- ---- the box of a component
-
--- a rectangle is empty, or lies within the bounds
-abbrev EmptyOrWithin : Bounds → Rect → Type 0
-EmptyOrWithin b r = (is_empty r ≡ true) ⊎ RectWithin b r
-
-join-within : (b : Bounds) (r a : Rect) → EmptyOrWithin b r → RectWithin b a → EmptyOrWithin b (join r a)
-join-within b r a h k = by_empty (empty_cases r) (empty_cases a)
-  where
-    by_empty : (is_empty r ≡ true) ⊎ ((is_empty r ≡ false) × (0 < r.width) × (0 < r.height)) → (is_empty a ≡ true) ⊎ ((is_empty a ≡ false) × (0 < a.width) × (0 < a.height)) → EmptyOrWithin b (join r a)
-    by_empty p (inl e) = rw (join_none r a e) h
-    by_empty (inl e) (inr f) = rw (join_empty_left r a e f.0) (inr k)
-    by_empty (inr e) (inr f) = both h e.0 f.0
-      where
-        both : EmptyOrWithin b r → is_empty r ≡ false → is_empty a ≡ false → EmptyOrWithin b (join r a)
-        both (inl o) e f = absurd (cc (o, e))
-        both (inr w) e f = inr (record {
-          x = rw (join-x r a e f) (omega (arith, ints, clamps, w.x, k.x));
-          end_x = rw (join-end_x r a e f) (omega (arith, ints, clamps, w.end_x, k.end_x));
-          y = rw (join-y r a e f) (omega (arith, ints, clamps, w.y, k.y));
-          end_y = rw (join-end_y r a e f) (omega (arith, ints, clamps, w.end_y, k.end_y));
-        })
-
-around-within : (b : Bounds) (r : Rect) (rs : List Rect) → EmptyOrWithin b r → RectsWithin b rs → EmptyOrWithin b (around r rs)
-unfolding around
-around-within b r [] h k = h
-around-within b r (x ∷ xs) h k = around-within b (join r x) xs (join-within b r x h k.0) k.1
-
--- the box of a component that draws within bounds is empty, or lies within them
-pub box-within : {K : Type 0} (b : Bounds) (p : Picture K) → PictureWithin b p → (is_empty (box_rect p) ≡ true) ⊎ RectWithin b (box_rect p)
-unfolding box_rect
-box-within b p w = around-within b no_rect p.areas (inl refl) w.areas

@@ -26,10 +26,6 @@ module _ {K : Type 0} where
   unfolding with_picture
   with_picture-boxes c m = refl
 
-  pub with_picture-area : (c : Canvas K) (m : Picture K) → (with_picture c m).area ≡ around c.area m.areas
-  unfolding with_picture
-  with_picture-area c m = refl
-
   -- a picture without a box
   pub with_picture-plain : (c d : Canvas K) (m : Picture K) → d.sight ≡ c.sight → d.rows ≡ painted c.sight.rect m.puts c.sight.rect.y c.rows → d.area ≡ around c.area m.areas → d.boxes ≡ c.boxes → m.boxes ≡ []
       → d ≡ with_picture c m

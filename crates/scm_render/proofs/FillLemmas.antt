@@ -58,14 +58,6 @@ spaces_of x y (suc n) =
 abbrev pub blank_over : Rect → Rect → Row → Row
 blank_over v q = put_over v q (replicate q.width 32)
 
-blanks-from : (v seen q : Rect) (y : ℤ) (n : ℕ) → q.y ≤ℤ y → (y +ℤ pos n) ≤ℤ end_y_of q → Paints v seen y (rows_puts Blank q y n) (replicate n (blank_over v q))
-unfolding rows_puts
-blanks-from v seen q y zero h k = paints_none v seen y
-blanks-from v seen q y (suc n) h k =
-    paints_more v seen y _ _ (blank_over v q ∷ []) (replicate n (blank_over v q))
-    (rw (spaces_of q.x y q.width) (text_paints v seen q y (replicate q.width 32) h (omega (arith, ints))))
-    (blanks-from v seen q (y +ℤ pos 1) n (omega (arith, ints)) (omega (arith, ints)))
-
 rows_one : (f : Filling) (r : Rect) (y : ℤ) → rows_puts f r y 1 ≡ text_puts r r.x y (row_text f r.x y r.width)
 unfolding rows_puts
 rows_one f r y = append-nil (text_puts r r.x y (row_text f r.x y r.width))

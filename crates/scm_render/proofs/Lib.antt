@@ -1,7 +1,6 @@
 -- ---- definitions that proofs alone cite
 pub mod Latest
 pub mod RowsWithin
-pub mod OnScreen
 -- ---- lemmas
 pub mod AroundLemmas
 pub mod BoundLemmas

@@ -38,15 +38,6 @@ unfolding painted
 length-painted v ps z [] = refl
 length-painted v ps z (row ∷ rows) = ap suc (length-painted v ps (z +ℤ pos 1) rows)
 
--- row r of the screen is what stands on document row z + r, where the first shows row z
-pub row-painted : (v : Rect) (ps : List Put) (z : ℤ) (rows : List Row) (r : ℕ) (d : Row) → r < length rows
-    → get_or (painted v ps z rows) r d ≡ paint v ps (z +ℤ pos r) (get_or rows r d)
-unfolding painted
-row-painted v ps z [] r d h = absurd (omega arith)
-row-painted v ps z (row ∷ rows) zero d h = ap (λ k. paint v ps k row) (omega (arith, ints))
-row-painted v ps z (row ∷ rows) (suc r) d h =
-    row-painted v ps (z +ℤ pos 1) rows r d (omega arith) ∙ ap (λ k. paint v ps k (get_or rows r d)) (omega (arith, ints))
-
 apart : (z y : ℤ) → z <ℤ y → int_eq z y ≡ false
 apart z y h = grind (arith, ints, Decides-int_eq z y)
 

@@ -1,5 +1,5 @@
 -- What stands on a row of the document after drawing, one row at a time.
-use Rattle.std.proofs.Common.{◌≡◌, ℕ, ◌<◌, ◌≤◌, List, [], ◌∷◌, ◌++◌, length, get_or, refl, sym, ap, ◌∙◌, arith, cond, true, false, Bool, inl, inr}
+use Rattle.std.proofs.Common.{◌≡◌, ℕ, ◌<◌, ◌≤◌, List, [], ◌∷◌, ◌++◌, length, refl, sym, ap, ◌∙◌, arith, cond, true, false, Bool, inl, inr}
 use Rattle.std.specs.Prelude.{ℤ, pos, ◌+ℤ◌, ◌-ℤ◌, ◌≤ℤ◌, int_lt, if◌then◌else◌}
 use Rattle.std.specs.Int.{int_min, int_max}
 use Rattle.std.specs.Ordering.{int_eq}
@@ -8,48 +8,19 @@ use Rattle.std.proofs.lemmas.Int.{ints}
 use Rattle.scm_cells.specs.Rect.{end_x_of, rect_between, or_zero}
 use Rattle.scm_cells.specs.Clusters.{text_width, clusters}
 use Rattle.scm_cells.specs.Row.{put, ellipsis}
-use Rattle.scm_cells.proofs.Say.{say}
 use Rattle.scm_cells.specs.declared.rect.Rect.{Rect}
 use Rattle.scm_cells.proofs.RectLemmas.{places}
 use Rattle.scm_cells.proofs.RowLemmas.{overlay-none}
 use Rattle.scm_cells.proofs.WrittenLemmas.{written-closed}
 use Rattle.scm_render.specs.Lines.{line}
-use Rattle.scm_render.specs.Picture.{Put, Picture, nothing, followed_by}
-use Rattle.scm_render.specs.Canvas.{Row, Sight, Canvas, put_at, paint, painted, with_picture}
+use Rattle.scm_render.specs.Picture.{Put, nothing, followed_by}
+use Rattle.scm_render.specs.Canvas.{Row, Sight, put_at, paint}
 use Rattle.scm_render.specs.Drawing.{reach, has_row, whole_put, text_puts, texts_puts, texts_width, line_picture, span_picture, text_picture}
-use Rattle.scm_render.proofs.OnScreen.{shown_puts}
 use Rattle.scm_render.specs.Rows.{put_texts, say_texts, limit}
 use Rattle.scm_render.proofs.RowsWithin.{put_within, put_texts_within, say_within}
 use Rattle.scm_render.proofs.LineLemmas.{line-append}
-use Rattle.scm_render.proofs.PaintLemmas.{paint-append, paint-none, paint-more, row-painted, painted-append, painted-above, painted-below, length-painted, int_eq-false}
-use Rattle.scm_render.proofs.DrawLemmas.{off_cases, text_puts-shown, text_puts-hidden, texts_puts-none, texts_puts-more, texts_width-more, texts_width-none}
-use Rattle.scm_render.proofs.CanvasLemmas.{with_picture-rows}
-
--- row r of the screen with the picture is what the puts make of it that stand on document row r below the screen's first
-pub row-with_picture : {K : Type 0} (c : Canvas K) (m : Picture K) (r : ℕ) (d : Row) → r < length c.rows
-    → get_or (with_picture c m).rows r d ≡ paint c.sight.rect m.puts (c.sight.rect.y +ℤ pos r) (get_or c.rows r d)
-row-with_picture c m r d h = ap (λ w. get_or w r d) (with_picture-rows c m) ∙ row-painted c.sight.rect m.puts c.sight.rect.y c.rows r d h
-
--- ---- puts off the screen
-
-put-off : (v : Rect) (p : Put) (rows : List Row) → length rows ≡ v.height → has_row v p.row ≡ false → painted v (p ∷ []) v.y rows ≡ rows
-put-off v p rows h e =
-    elim (off_cases v p.row e) [ inl f ↦ painted-above v p v.y rows f | inr f ↦ painted-below v p v.y rows (rw h f) ]
-
--- they change nothing
-pub painted-shown : (v : Rect) (ps : List Put) (rows : List Row) → length rows ≡ v.height → painted v (shown_puts v ps) v.y rows ≡ painted v ps v.y rows
-unfolding shown_puts
-painted-shown v [] rows h = refl
-painted-shown v (p ∷ ps) rows h = go (has_row v p.row) refl (λ more k. painted-shown v ps more k)
-  where
-    go : (b : Bool) → has_row v p.row ≡ b → ((more : List Row) → length more ≡ v.height → painted v (shown_puts v ps) v.y more ≡ painted v ps v.y more)
-        → painted v (cond b (p ∷ shown_puts v ps) (shown_puts v ps)) v.y rows ≡ painted v (p ∷ ps) v.y rows
-    go true e rest =
-        painted-append v (p ∷ []) (shown_puts v ps) v.y rows
-        ∙ rest (painted v (p ∷ []) v.y rows) (length-painted v (p ∷ []) v.y rows ∙ h)
-        ∙ sym (painted-append v (p ∷ []) ps v.y rows)
-    go false e rest =
-        rest rows h ∙ ap (λ w. painted v ps v.y w) (sym (put-off v p rows h e)) ∙ sym (painted-append v (p ∷ []) ps v.y rows)
+use Rattle.scm_render.proofs.PaintLemmas.{paint-append, paint-none, paint-more, int_eq-false}
+use Rattle.scm_render.proofs.DrawLemmas.{text_puts-shown, text_puts-hidden, texts_puts-none, texts_puts-more}
 
 -- ---- parts on one row, and on consecutive rows: on the rows of `seen`, which may be fewer than the screen's, as those
 -- ---- that a mask lets through
@@ -166,16 +137,6 @@ say_texts-whole : (row : Row) (column : ℤ) (ts : List (List ℕ)) (low high : 
     → say_texts row column ts low high ≡ put_texts row column ts low high
 unfolding say_texts
 say_texts-whole row column ts low high e = rw e refl
-
--- one text says what a row says
-pub say_texts-one : (row : Row) (column : ℤ) (t : List ℕ) (low high : ℕ) → say_texts row column (t ∷ []) low high ≡ say row column t low high
-unfolding say_texts say
-say_texts-one row column t low high =
-    let one = texts_width-more t [] (t ∷ []) refl in
-    let none = texts_width-none [] refl in
-    let width : texts_width (t ∷ []) ≡ text_width t = omega (arith, one, none) in
-    let alone : put_texts row column (t ∷ []) low high ≡ put row column t low high = put_texts-more row column t [] low high ∙ put_texts-none _ _ low high in
-    rw (width, alone) refl
 
 -- a part of the screen: it begins on it, and ends on it if it has a column
 record IsPart (v m : Rect) : Type 0 where
