@@ -160,10 +160,6 @@ module _ {K : Type 0} where
       go true h = refl
       go false h = h
 
-  one-shows : (s : Strip K) (t : Bool) (row : Row) → cond t (s.shows row) row ≡ (cond t s clear).shows row
-  one-shows s true row = refl
-  one-shows s false row = refl
-
   one-owner : (s : Strip K) (t : Bool) (x : ℕ) → cond t (s.owner x) None ≡ (cond t s clear).owner x
   one-owner s true x = refl
   one-owner s false x = refl
@@ -216,9 +212,6 @@ module _ {K : Type 0} (same_id : K → K → Bool) (is_clickable : K → Bool) w
   pub draws_over : (v : Rect) (P Q R : K → Type 0) (a b : Picture K) (y : ℤ) (k : ℕ) (ss ts : List (Strip K)) → k + length ts ≤ length ss → Draws v P a y ss → Draws v Q b (y +ℤ pos k) ts
       → Apart P Q → ((i : K) → P i → R i) → ((i : K) → Q i → R i) → Draws v R (followed_by a b) y (laid_over k ts ss)
   draws_over v P Q R a b y k ss ts fits ha hb differ p q = draws_both v P Q R a b y (y +ℤ pos k) ss ts (laid_over k ts ss) ha hb differ p q (λ z. line-over k ts ss y z fits)
-
-  owned_where : (a t : Bool) (i : K) (c : Bool) → c ≡ t → cond (a && c) (Some i) None ≡ cond (a && t) (Some i) None
-  owned_where a t i c e = rw e refl
 
   -- a component around what its parts draw, which owns what they don't
   pub draws_part : (v : Rect) (P R : K → Type 0) (i : K) (m : Picture K) (y : ℤ) (ss : List (Strip K)) (test : ℕ → Bool) → Draws v P m y ss → HasBox (box_rect m) y (length ss) v.width test
@@ -280,6 +273,3 @@ module _ {K : Type 0} (same_id : K → K → Bool) (is_clickable : K → Bool) w
 module _ {K : Type 0} where
   pub shows-line : (ss : List (Strip K)) (y z : ℤ) (row : Row) → line (λ (r : Row). r) (map (λ (s : Strip K). s.shows) ss) y z row ≡ (line clear ss y z).shows row
   shows-line ss y z row = ap (λ (f : Row → Row). f row) (line-map (λ (s : Strip K). s.shows) clear ss y z)
-
-  pub owner-line : (x : ℕ) (ss : List (Strip K)) (y z : ℤ) → line None (map (λ (s : Strip K). s.owner x) ss) y z ≡ (line clear ss y z).owner x
-  owner-line x ss y z = line-map (λ (s : Strip K). s.owner x) clear ss y z

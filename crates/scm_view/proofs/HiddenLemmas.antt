@@ -1,21 +1,18 @@
 -- Pictures off the screen: what covers as much, with the same boxes, leaves the same.
 use Rattle.std.proofs.Common.{◌≡◌, ℕ, suc, ◌<◌, List, [], ◌∷◌, ◌++◌, length, refl, sym, ap, ◌∙◌, arith, true, false}
-use Rattle.std.specs.Prelude.{ℤ, pos, ◌+ℤ◌, ◌-ℤ◌, ◌<ℤ◌, ◌≤ℤ◌}
+use Rattle.std.specs.Prelude.{ℤ, pos, ◌+ℤ◌}
 use Rattle.std.proofs.lemmas.Int.{ints}
 use Rattle.scm_cells.specs.Clusters.{text_width}
 use Rattle.scm_cells.specs.Counts.{Counts, no_counts, added}
-use Rattle.scm_cells.specs.Rect.{end_x_of}
-use Rattle.scm_cells.specs.Row.{ellipsis}
 use Rattle.scm_cells.specs.declared.rect.Rect.{Rect}
 use Rattle.scm_render.specs.Around.{around}
-use Rattle.scm_render.specs.Picture.{Put, nothing, followed_by, covering, part, box_rect}
+use Rattle.scm_render.specs.Picture.{Put, nothing, covering, part, box_rect}
 use Rattle.scm_render.specs.Canvas.{Row, Canvas, paint, painted, with_picture}
-use Rattle.scm_render.specs.Drawing.{reach, has_row, row_rect, texts_width, span_picture, line_picture, text_picture, blank_picture}
-use Rattle.scm_render.proofs.CanvasLemmas.{canvas-same, with_picture-twice}
+use Rattle.scm_render.specs.Drawing.{reach, has_row, row_rect, span_picture, blank_picture}
+use Rattle.scm_render.proofs.CanvasLemmas.{canvas-same}
 use Rattle.scm_render.proofs.CountLemmas.{added-none}
 use Rattle.scm_render.proofs.PaintLemmas.{painted-none}
-use Rattle.scm_render.proofs.DrawLemmas.{text_picture-long, text_picture-short}
-use Rattle.scm_render.proofs.RowLemmas.{OneRow, IsReached, not_seen, one_text, one_said}
+use Rattle.scm_render.proofs.RowLemmas.{OneRow, IsReached, not_seen, one_text}
 use Rattle.scm_render.proofs.FillLemmas.{one_blank}
 use Rattle.scm_view.specs.declared.ids.ComponentId.{ComponentId}
 use Rattle.scm_view.specs.declared.button.Button.{Button}
@@ -84,27 +81,6 @@ pub button-hidden : (c : Canvas ComponentId) (b : Button ComponentId) (x y : ℤ
     → with_picture c (part b.id (covering (row_rect x y (button_width b)))) ≡ with_picture c (button_part b c.sight x y)
 unfolding button_picture button_width
 button-hidden c b x y n e = part-hidden c b.id x y (button_text b) n e
-
--- texts that fit, and texts with an ellipsis
-pub text-hidden-short : (c d : Canvas ComponentId) (x y : ℤ) (ts : List (List ℕ)) → length c.rows ≡ c.sight.rect.height → has_row c.sight.rect y ≡ false
-    → (x +ℤ pos (texts_width ts)) ≤ℤ end_x_of (reach c.sight) → d ≡ with_picture c (covering (row_rect x y (texts_width ts))) → d ≡ with_picture c (text_picture c.sight x y ts)
-unfolding covering line_picture followed_by nothing
-text-hidden-short c d x y ts n e h p =
-    let short : text_picture {K = ComponentId} c.sight x y ts ≡ followed_by (line_picture c.sight x y ts) nothing = text_picture-short c.sight x y ts h in
-    p ∙ hidden c y (text_picture c.sight x y ts) (covering (row_rect x y (texts_width ts))) _ n e (one_said ComponentId c.sight.rect c.sight x y ts (no-reach c.sight.rect (reach c.sight) y e)) refl
-    (ap (λ (m : IdPicture). m.boxes) (sym short)) (ap (λ (m : IdPicture). m.areas) (sym short))
-
-pub text-hidden-long : (c d e : Canvas ComponentId) (x y : ℤ) (ts : List (List ℕ)) → length c.rows ≡ c.sight.rect.height → has_row c.sight.rect y ≡ false
-    → end_x_of (reach c.sight) <ℤ (x +ℤ pos (texts_width ts)) → d ≡ with_picture c (covering (row_rect x y (texts_width ts)))
-    → e ≡ with_picture d (covering (row_rect (end_x_of (reach c.sight) -ℤ pos 1) y (text_width ellipsis))) → e ≡ with_picture c (text_picture c.sight x y ts)
-unfolding covering line_picture span_picture followed_by
-text-hidden-long c d e x y ts n k h p q =
-    let a : IdPicture = covering (row_rect x y (texts_width ts)) in
-    let b : IdPicture = covering (row_rect (end_x_of (reach c.sight) -ℤ pos 1) y (text_width ellipsis)) in
-    let long : text_picture {K = ComponentId} c.sight x y ts ≡ followed_by (line_picture c.sight x y ts) (span_picture c.sight (end_x_of (reach c.sight) -ℤ pos 1) y ellipsis) = text_picture-long c.sight x y ts h in
-    with_picture-twice c d e a b p q
-    ∙ hidden c y (text_picture c.sight x y ts) (followed_by a b) _ n k (one_said ComponentId c.sight.rect c.sight x y ts (no-reach c.sight.rect (reach c.sight) y k)) refl
-    (ap (λ (m : IdPicture). m.boxes) (sym long)) (ap (λ (m : IdPicture). m.areas) (sym long))
 
 -- ---- so much on a row
 

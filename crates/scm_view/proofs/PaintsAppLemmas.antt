@@ -50,10 +50,6 @@ view-counts v n s x = sym (plus-none (document_counts (document_of v) (under (vi
 pub view-counted : (c d : Counts) (v : CommitView) (n : ℕ) (s : Sight) (x : ℤ) → d ≡ added c (document_counts (document_of v) (under (view_mask s x n) s) (pos 1)) → d ≡ added c (views_counts (v ∷ []) n s x)
 view-counted c d v n s x p = p ∙ ap (added c) (view-counts v n s x)
 
-pub none-painted : (n : ℕ) (s : Sight) (x : ℤ) → nothing ≡ views_picture [] n s x
-unfolding views_picture
-none-painted n s x = refl
-
 pub no-view-counted : (c : Counts) (n : ℕ) (s : Sight) (x : ℤ) → c ≡ added c (views_counts [] n s x)
 unfolding views_counts
 no-view-counted c n s x = sym (added-none c)

@@ -156,6 +156,3 @@ header-fits f s x y r = let h = heading-rect f.heading s x y (PictureInRange-par
 pub section-size : (v : SectionView) → length (section_rows v) ≡ section_height v v.section.now
 unfolding section_rows
 section-size v = height-of v v.section.now
-
-pub shown-size : (v : SectionView) → length (sections_rows (shown_section true v)) ≡ length (section_rows v)
-shown-size v = one-height v ∙ sym (section-size v)

@@ -106,11 +106,6 @@ far-among c n x = go (is_among c n x) refl
 pub far-all : (w x : ℕ) → x < w → is_from (far 0) (far w) (x + 65536) ≡ true
 far-all w x h = grind (arith, nat_tests, h)
 
--- a row with spots, as a strip
-row-of : (t : Bool) (a b c : Option ComponentId) → first_of_two (if t then a else None) (first_of_two (if t then b else None) (if t then c else None)) ≡ (if t then first_of_two a (first_of_two b c) else None)
-row-of true a b c = refl
-row-of false a b c = refl
-
 pub and_if : (t u : Bool) (i : ComponentId) → ◌≡◌ {A = Option ComponentId} (if t && u then Some i else None) (if t then (if u then Some i else None) else None)
 and_if true u i = refl
 and_if false u i = refl

@@ -1,11 +1,14 @@
 -- What follows from the definitions: what is drawn of a commit is in range, and makes of the screen what the document says; and the boxes
--- of sections own what their strips say.
+-- of sections own what their strips say; and a cleared grid is a screen of the document.
 use Rattle.std.specs.Prelude.{◌≡◌, ℕ, ◌≤◌, ◌<◌, ℤ, pos, List, [], ◌∷◌, ◌++◌, Bool, true}
-use Rattle.scm_types.specs.Limits.{is_accepted_state}
+use Rattle.scm_types.specs.Limits.{is_accepted_state, max_scroll}
+use Rattle.scm_cells.specs.Rect.{RectInRange}
+use Rattle.scm_cells.specs.Screen.{blank_screen}
 use Rattle.scm_render.specs.Picture.{PictureInRange}
 use Rattle.scm_render.specs.Canvas.{Row, Sight, paint}
 use Rattle.scm_render.specs.Drawing.{reach, has_row}
 use Rattle.scm_render.specs.Hits.{IsLawful, latest}
+use Rattle.scm_render.specs.Places.{whole_sight}
 use Rattle.scm_types.specs.declared.keys.FileKey.{FileKey}
 use Rattle.scm_view.specs.declared.ids.ComponentId.{ComponentId}
 use Rattle.scm_view.specs.declared.commit_view.CommitView.{CommitView}
@@ -17,6 +20,7 @@ use Rattle.scm_view.specs.Strips.{sections_strips, document_layers, pinned_layer
 use Rattle.scm_view.specs.Owners.{AreSectionsOf}
 use Rattle.scm_view.specs.Clicks.{is_clickable}
 use Rattle.scm_view.specs.Close.{IsClose, SightIsClose}
+use Rattle.scm_view.specs.Screens.{screen, sight}
 
 -- what is drawn of a commit is in range, for each view that shows a session with an accepted state
 abbrev pub CommitsAreInRange : Type 0
@@ -46,3 +50,9 @@ SectionsOwnTheirColumns =
     (same : ComponentId → ComponentId → Bool) → IsLawful same
     → (f : FileKey) (ps : List ShownSection) (s : Sight) (w top x : ℕ) → 10 ≤ w → IsOpen s w → AreSectionsOf f 0 ps → x < w
     → (z : ℕ) → latest same is_clickable (sections_picture ps s (pos 2) (pos top)).boxes (pos z) (pos x) ≡ (strip_at z (record { first = top; strips = sections_strips w ps })).owner x
+
+-- a cleared grid of w columns and h rows, whose first row shows row s of the document, is the screen there, and this is in range unless
+-- it is too large or scrolled too far
+pub record ClearedGridsAreScreens : Type 0 where
+  pub cleared : (w h s : ℕ) → whole_sight (blank_screen w h) (pos 0) (pos s) ≡ sight w h s
+  pub in_range : (w h s : ℕ) → w ≤ 65535 → h ≤ 65535 → s ≤ max_scroll → RectInRange (screen w h s)

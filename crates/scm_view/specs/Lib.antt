@@ -58,6 +58,8 @@ pub mod Pieces
 pub mod Counts
 -- What a screen shows of a session inline.
 pub mod Window
+-- A frame: what a screen shows, and where things stand on it.
+pub mod Frame
 -- The index of a frame that is shown inline.
 pub mod Index
 -- Where files and sections stand, by the views that show them.
