@@ -8,16 +8,11 @@ from repository import ABSENT, LINK, git, shown, stored, tracked_changes, untrac
 class Change:
     """A file's mode and contents in the index, and what git would store of the working tree's."""
 
-    def __init__(self, path, old_mode, old_id, new_mode):
-        self.path, self.old_mode, self.old_id, self.new_mode = path, old_mode, old_id, new_mode
-        self.new_id, self.is_whole, self.marker = None, False, NO_LINE_END
-        if new_mode == LINK:
-            self.new_id = stored(os.fsencode(os.readlink(path)))
-        elif new_mode != ABSENT:
-            with open(path, "rb") as file:
-                self.new_id = stored(file.read(), "--path=" + path)
+    def __init__(self, path, old_mode, old_id, new_mode, new_id):
+        self.path, self.old_mode, self.old_id, self.new_mode, self.new_id = path, old_mode, old_id, new_mode, new_id
+        self.is_whole, self.marker = False, NO_LINE_END
 
-    def state(self):
+    def fingerprint(self):
         """All that may not change while the user chooses."""
         return self.old_mode, self.old_id, self.new_mode, self.new_id
 
@@ -38,7 +33,7 @@ class Change:
             sections.append({"FileMode": {"is_checked": False, "mode": mode_of(self.new_mode)}})
         if is_text and old != new:
             self.marker = marker_for(text_of(old), text_of(new))
-            sections += line_sections(*(lines_of(text_of(it), self.marker) for it in (old, new)))
+            sections += line_sections(*(lines_of(text_of(side), self.marker) for side in (old, new)))
         # a file that is no text comes and goes as one item, its mode, and so does one that becomes a link or was one
         self.is_whole = not is_text and self.old_mode != self.new_mode and (ABSENT in modes or LINK in modes)
         if not is_text and old != new and not self.is_whole:
@@ -66,6 +61,16 @@ class Change:
         return b"%s %s\t%s\0" % (mode.encode(), name.encode(), os.fsencode(self.path))
 
 
+def store(path, mode):
+    """Puts what the working tree has into git's store of objects, and answers its name there: None where nothing is there."""
+    if mode == ABSENT:
+        return None
+    if mode == LINK:
+        return stored(os.fsencode(os.readlink(path)))
+    with open(path, "rb") as file:
+        return stored(file.read(), "--path=" + path)
+
+
 def described(mode, name, data):
     return "to " + shown(os.fsdecode(data)) if mode == LINK else "%s (%d bytes)" % (name[:10], len(data))
 
@@ -74,7 +79,8 @@ def mode_of(mode):
     return "Absent" if mode == ABSENT else {"Unix": int(mode, 8)}
 
 
-def changes(paths, folder):
+def read_changes(paths, folder):
     """What differs between the index and the working tree, by path."""
-    found = [*tracked_changes(paths, folder), *untracked_files(paths, folder)]
-    return [it for it in (Change(*one) for one in sorted(found)) if it.has_change()]
+    found = sorted([*tracked_changes(paths, folder), *untracked_files(paths, folder)])
+    read = [Change(path, *old, new_mode, store(path, new_mode)) for path, *old, new_mode in found]
+    return [change for change in read if change.has_change()]

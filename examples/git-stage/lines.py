@@ -51,8 +51,8 @@ def hunks_of(old, new):
         return [(0, len(old), 0, len(new))]
     words = ["--unified=0", "--inter-hunk-context=0", "--no-ext-diff", "--no-textconv", "--no-color", "--text"]
     found = []
-    for hunk in HUNK.finditer(git("diff", *words, *(stored("".join(it).encode()) for it in (old, new)))):
-        start, count, new_start, new_count = (1 if it is None else int(it) for it in hunk.groups())
+    for hunk in HUNK.finditer(git("diff", *words, *(stored("".join(side).encode()) for side in (old, new)))):
+        start, count, new_start, new_count = (1 if number is None else int(number) for number in hunk.groups())
         a = start - 1 if count else start
         b = new_start - 1 if new_count else new_start
         found.append((a, a + count, b, b + new_count))

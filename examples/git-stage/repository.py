@@ -18,7 +18,10 @@ def stop(text):
 
 def git(*words, given=None, folder=None):
     """What git answers, as bytes. Where it refuses, its own words are said."""
-    done = subprocess.run(["git", *words], input=given, cwd=folder, capture_output=True)
+    try:
+        done = subprocess.run(["git", *words], input=given, cwd=folder, capture_output=True)
+    except FileNotFoundError:
+        stop("it needs git, and there is no such program")
     if done.returncode:
         stop(os.fsdecode(done.stderr).strip())
     return done.stdout

@@ -7,6 +7,8 @@ KEYS = {"space": " ", "enter": "\r", "esc": "\x1b", "up": "\x1b[A", "down": "\x1
 FRAME = re.compile(rb"\x1b\[\?2026h\x1b\[H(.*?)\x1b\[\?2026l", re.S)
 COLOURS = re.compile(rb"\x1b\[[0-9;]*m")
 SECONDS = 60
+# how long a program draws nothing that has drawn all, in seconds
+QUIET = 0.3
 
 
 def bytes_of(word):
@@ -44,9 +46,13 @@ class Typed:
         self.has_ended = False
         self.wait_for_frames(1)
 
+    def has_more(self, seconds):
+        """Whether more comes within so many seconds."""
+        return bool(select.select([self.terminal], [], [], seconds)[0])
+
     def read(self):
         """Reads what comes next, and says whether the program still runs."""
-        if not select.select([self.terminal], [], [], SECONDS)[0]:
+        if not self.has_more(SECONDS):
             raise TimeoutError("nothing was drawn for %d seconds" % SECONDS)
         try:
             got = os.read(self.terminal, 65536)
@@ -67,10 +73,29 @@ class Typed:
         os.write(self.terminal, bytes_of(word).encode())
         self.wait_for_frames(count)
 
+    def resize(self, width, height):
+        """Gives the terminal another size, of which the kernel tells the program, and waits until it draws no more."""
+        count = len(self.frames) + 1
+        fcntl.ioctl(self.terminal, termios.TIOCSWINSZ, struct.pack("HHHH", height, width, 0, 0))
+        self.wait_for_frames(count)
+        while self.has_more(QUIET) and self.read():
+            pass
+
     def screen(self):
         """The rows of the last frame, each between quotes."""
         rows = COLOURS.sub(b"", self.frames[-1]).split(b"\r\n") if self.frames else []
         return b"".join(b'"' + row + b'"\n' for row in rows)
+
+    def colours(self):
+        """What was set for each character of the last frame, by rows."""
+        found, colour = [], ""
+        for row in self.frames[-1].decode().split("\r\n"):
+            found.append([])
+            for part in re.split("(%s)" % COLOURS.pattern.decode(), row):
+                is_colour = part.startswith("\x1b")
+                colour = part if is_colour else colour
+                found[-1] += [] if is_colour else [colour] * len(part)
+        return found
 
     def end(self):
         """Waits for the program's end, and answers its status."""

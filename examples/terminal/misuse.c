@@ -1,0 +1,205 @@
+/* Meets each refusal that the library for C has a code for, and looks each time that the session then stands as before, and
+ * goes on. It does nothing that scm.h forbids. It prints nothing, and stops at the first thing that is otherwise. */
+#undef NDEBUG
+#include "scm.h"
+
+#include <assert.h>
+#include <stdlib.h>
+#include <string.h>
+
+enum { WIDTH = 24, HEIGHT = 4, LONGEST_MESSAGE = 1000000 };
+
+static const char STATE[] =
+    "{\"is_read_only\":false,\"commits\":[{\"message\":\"hello\"},{\"message\":null}],\"files\":[{\"old_path\":null,"
+    "\"path\":\"f\",\"file_mode\":{\"Unix\":33188},\"sections\":[{\"Changed\":{\"lines\":["
+    "{\"is_checked\":true,\"change_type\":\"Added\",\"line\":\"n\\n\"}]}}]}]}";
+static const char THREE_COMMITS[] =
+    "{\"is_read_only\":false,\"commits\":[{\"message\":null},{\"message\":null},{\"message\":null}],\"files\":[]}";
+
+/* All that a session tells; of a text its beginning. */
+typedef struct {
+    uint32_t stage;
+    uint32_t owners[HEIGHT][WIDTH];
+    size_t length;
+    char text[512];
+} standing;
+
+static scm_session session;
+static standing before;
+
+/* Memory is refused where the C library's own functions have these names beside those that a program may replace. */
+#ifdef __GLIBC__
+extern void *__libc_malloc(size_t size);
+extern void *__libc_realloc(void *block, size_t size);
+static volatile bool is_refused;
+void *malloc(size_t size) { return is_refused ? NULL : __libc_malloc(size); }
+void *realloc(void *block, size_t size) { return is_refused ? NULL : __libc_realloc(block, size); }
+#endif
+
+static standing look(void) {
+    standing now = {.stage = scm_stage(&session)};
+    for (uint16_t row = 0; row < HEIGHT; row++) {
+        for (uint16_t column = 0; column < WIDTH; column++) {
+            now.owners[row][column] = scm_owner(&session, row, column);
+        }
+    }
+    now.length = scm_text(&session, now.text, sizeof now.text);
+    return now;
+}
+
+static bool is_same(const standing *one, const standing *other) {
+    return one->stage == other->stage && memcmp(one->owners, other->owners, sizeof one->owners) == 0
+        && one->length == other->length && memcmp(one->text, other->text, sizeof one->text) == 0;
+}
+
+/* Looks that a call was done, and led to this stage. */
+static void done(uint32_t code, uint32_t stage) {
+    assert(code == SCM_DONE);
+    before = look();
+    assert(before.stage == stage);
+}
+
+/* Looks that a call was refused with this code, and left all as it was. */
+static void refused(uint32_t code, uint32_t wanted) {
+    assert(code == wanted);
+    standing now = look();
+    assert(is_same(&now, &before));
+}
+
+static bool reads(const char *text) {
+    return before.length == strlen(text) && memcmp(before.text, text, before.length) == 0;
+}
+
+static uint32_t begin(const char *json) { return scm_new(&session, json, strlen(json), WIDTH, HEIGHT); }
+
+static uint32_t press(const char *word) { return scm_press(&session, word, strlen(word)); }
+
+static uint32_t answer(const char *message) { return scm_answer(&session, message, strlen(message)); }
+
+/* Every call that changes a session, where it waits for none of them. */
+static void refuse_calls(uint32_t code) {
+    refused(press("j"), code);
+    refused(scm_click(&session, 1, 1), code);
+    refused(answer("bye"), code);
+    refused(scm_resize(&session, WIDTH, HEIGHT), code);
+    refused(press("no word"), SCM_NO_WORD);
+}
+
+static void close_session(void) {
+    scm_free(&session);
+    before = look();
+    assert(before.stage == SCM_NONE && reads(""));
+}
+
+static void refuse_where_closed(void) {
+    close_session();
+    refuse_calls(SCM_CLOSED);
+    done(begin(STATE), SCM_WAITING);
+    close_session();
+    close_session();
+    refuse_calls(SCM_CLOSED);
+}
+
+/* A state that is refused leaves the session closed, also where one was open. */
+static void refuse_states(void) {
+    const struct {
+        const char *json;
+        uint32_t code;
+    } states[] = {
+        {"", SCM_BAD_STATE}, {"{\"is_read_only\":", SCM_BAD_STATE}, {"[]", SCM_BAD_STATE},
+        {"\xff", SCM_NOT_TEXT}, {THREE_COMMITS, SCM_NOT_ACCEPTED},
+    };
+    for (size_t i = 0; i < sizeof states / sizeof *states; i++) {
+        refused(begin(states[i].json), states[i].code);
+        assert(begin(STATE) == SCM_DONE);
+        refused(begin(states[i].json), states[i].code);
+        refused(press("j"), SCM_CLOSED);
+    }
+    refused(scm_new(&session, STATE, sizeof STATE, WIDTH, HEIGHT), SCM_BAD_STATE); /* with the zero behind it */
+#ifdef __GLIBC__
+    is_refused = true;
+    uint32_t code = begin(STATE);
+    is_refused = false;
+    refused(code, SCM_NO_MEMORY);
+#endif
+}
+
+static void refuse_words(void) {
+    const char *words[] = {"",       "\xff",      "shot",       "jj",            "j ",         "ctrl-",
+                           "click:", "click:1:x", "click:-1:1", "click:1:65536", "ctrl-ctrl-c"};
+    done(begin(STATE), SCM_WAITING);
+    for (size_t i = 0; i < sizeof words / sizeof *words; i++) {
+        refused(press(words[i]), SCM_NO_WORD);
+    }
+    refused(scm_press(&session, "j", 2), SCM_NO_WORD); /* with the zero behind it */
+    refused(answer("bye"), SCM_NOT_NOW);
+    standing begun = before;
+    done(press("l"), SCM_WAITING);
+    assert(!is_same(&begun, &before));
+}
+
+/* No size is refused, and no place. */
+static void take_any_size(void) {
+    standing begun = before;
+    done(scm_resize(&session, 0, 0), SCM_WAITING);
+    assert(reads(""));
+    done(scm_click(&session, 0, 0), SCM_WAITING);
+    done(scm_resize(&session, WIDTH, HEIGHT), SCM_WAITING);
+    done(scm_click(&session, HEIGHT, 0), SCM_WAITING);
+    done(scm_click(&session, UINT16_MAX, UINT16_MAX), SCM_WAITING);
+    assert(is_same(&begun, &before));
+    assert(scm_owner(&session, HEIGHT, 0) == SCM_NOBODY && scm_owner(&session, UINT16_MAX, UINT16_MAX) == SCM_NOBODY);
+}
+
+/* What does not fit is cut, and nothing is written behind it. */
+static void cut_text(void) {
+    char text[] = "............";
+    assert(scm_text(&session, text, 0) == before.length && strcmp(text, "............") == 0);
+    assert(scm_text(&session, text, 7) == before.length && strcmp(text, "\"[File]" ".....") == 0);
+}
+
+static void refuse_messages(void) {
+    static char message[LONGEST_MESSAGE + 1];
+    memset(message, 'm', sizeof message);
+    done(press("e"), SCM_EDITING);
+    assert(reads("hello"));
+    refused(press("j"), SCM_NOT_NOW);
+    refused(scm_click(&session, 1, 1), SCM_NOT_NOW);
+    refused(scm_resize(&session, WIDTH, HEIGHT), SCM_NOT_NOW);
+    refused(answer("\xe6\x97"), SCM_NOT_TEXT);
+    refused(scm_answer(&session, message, LONGEST_MESSAGE + 1), SCM_TOO_LONG);
+#ifdef __GLIBC__
+    is_refused = true;
+    uint32_t code = answer("bye");
+    is_refused = false;
+    refused(code, SCM_NO_MEMORY);
+#endif
+    done(scm_answer(&session, message, LONGEST_MESSAGE), SCM_WAITING);
+    done(press("e"), SCM_EDITING);
+    assert(before.length == LONGEST_MESSAGE && before.text[0] == 'm');
+    done(answer(""), SCM_WAITING);
+}
+
+/* Once it has ended a session stays so until it is closed. */
+static void refuse_after_the_end(void) {
+    done(press("c"), SCM_ACCEPTED);
+    assert(before.length > 9 && memcmp(before.text, "accepted\n", 9) == 0);
+    refuse_calls(SCM_NOT_NOW);
+    done(begin(STATE), SCM_WAITING);
+    done(press("ctrl-c"), SCM_WAITING);
+    done(press("ctrl-c"), SCM_ENDED);
+    assert(reads("cancelled by user"));
+    refuse_calls(SCM_NOT_NOW);
+    close_session();
+}
+
+int main(void) {
+    refuse_where_closed();
+    refuse_states();
+    refuse_words();
+    take_any_size();
+    cut_text();
+    refuse_messages();
+    refuse_after_the_end();
+    return 0;
+}
