@@ -1,8 +1,8 @@
 -- A toggle keeps a file coherent, unless it is new and also deleted.
-use Rattle.std.proofs.Common.{◌≡◌, ◌⊎◌, inl, inr, ℕ, zero, suc, Bool, true, false, not, ◌&&◌, ◌||◌, List, [], ◌∷◌, map, refl, ap, sym, ◌∙◌, Option, Some, None}
+use Rattle.std.proofs.Common.{◌≡◌, ◌⊎◌, inl, inr, ℕ, zero, suc, Bool, true, false, not, ◌&&◌, List, [], ◌∷◌, map, refl, ap, sym, ◌∙◌, Option, Some, None}
 use Rattle.std.specs.Prelude.{slice_get, IsTrue, option_and_then, option_map}
-use Rattle.std.specs.List.{list_any, list_all, flat_map}
-use Rattle.std.proofs.lemmas.List.Folds.{list_all-append, list_all-map}
+use Rattle.std.specs.List.{list_any, list_all}
+use Rattle.std.proofs.lemmas.List.Folds.{list_all-map}
 use Rattle.std.proofs.lemmas.Option.{slice_get-map}
 use Rattle.scm_types.specs.declared.line.SectionChangedLine.{SectionChangedLine}
 use Rattle.scm_types.specs.declared.file_mode.FileMode.{FileMode}
@@ -12,13 +12,13 @@ use Rattle.scm_types.specs.declared.section.Section.TheVariants as sections
 use Rattle.scm_types.specs.declared.file.File.{File}
 use Rattle.scm_types.specs.Marks.{file_with_marks, line_with_mark, section_with_marks, section_marks, file_marks, tristate_of}
 use Rattle.scm_types.specs.Mode.{is_absent}
-use Rattle.scm_types.specs.Same.{IsCoherent, is_checked_deletion, is_unchecked_creation, line_marks}
+use Rattle.scm_types.specs.Same.{is_checked_deletion, is_unchecked_creation}
 use Rattle.scm_types.specs.declared.keys.SelectionKey.{SelectionKey}
 use Rattle.scm_types.specs.declared.keys.SelectionKey.TheVariants as keys
 use Rattle.scm_types.specs.Edits.{modify}
 use Rattle.scm_selection.specs.Toggle.{with_all_inverted, with_file_inverted, with_all_set, after_lines, after_mode, after_section, line_mark, mark_after, with_changed_set, with_file_toggled, with_key_toggled, with_line_inverted, with_line_toggled, with_section_toggled, with_this_line_toggled, with_this_section_toggled}
-use Rattle.scm_types.specs.Repair.{is_deletion, is_new_and_deleted, repaired, with_deletion_unchecked, with_mode_checked}
-use Rattle.scm_types.proofs.FitLemmas.{or_from, and_from, any_map, all_map, none_map, each_map, every_line, every_section, is_on, Fits, FitsFile, fits_from, coherent_from, deletion_gone, creation_checked, deletion_before}
+use Rattle.scm_types.specs.Repair.{is_deletion, is_new_and_deleted, with_deletion_unchecked, with_mode_checked}
+use Rattle.scm_types.proofs.FitLemmas.{or_from, and_from, any_map, all_map, none_map, each_map, every_line, is_on, Fits, FitsFile, fits_from, coherent_from, deletion_gone, creation_checked, deletion_before}
 use Rattle.scm_types.proofs.RepairLemmas.{repaired_fits}
 use Rattle.scm_selection.specs.Coherence.{KeepsCoherent}
 

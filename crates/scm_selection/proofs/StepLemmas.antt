@@ -23,11 +23,6 @@ drop-at [] i x e = absurd (cc e)
 drop-at (y ∷ ys) zero x e = let same : y ≡ x = cc e in rw same refl
 drop-at (y ∷ ys) (suc i) x e = let n : suc i + 1 ≡ suc (i + 1) = omega arith in rw n (drop-at ys i x e)
 
-pub take-at : {X : Type 0} (xs : List X) (i : ℕ) (x : X) → slice_get xs i ≡ Some x → take (i + 1) xs ≡ take i xs ++ x ∷ []
-take-at [] i x e = absurd (cc e)
-take-at (y ∷ ys) zero x e = let same : y ≡ x = cc e in rw same refl
-take-at (y ∷ ys) (suc i) x e = let n : suc i + 1 ≡ suc (i + 1) = omega arith in rw n (ap (λ zs. y ∷ zs) (take-at ys i x e))
-
 pub take-end : {X : Type 0} (n end : ℕ) (xs : List X) → end ≡ min n (length xs) → take end xs ≡ take n xs
 take-end n end [] e = take_all end [] (omega arith) ∙ sym (take_all n [] (omega arith))
 take-end zero end (x ∷ xs) e = let none : end ≡ 0 = omega (arith, e) in rw none refl

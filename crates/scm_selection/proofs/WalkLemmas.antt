@@ -18,9 +18,6 @@ use Rattle.scm_selection.proofs.RelationLemmas.{IsPlaced, placed, next_part, pre
 
 -- ---- no key comes twice
 
-after-file-away : (q : SelectionKey → Bool) (fs : List File) (f : ℕ) → parted q (after_file fs f) ≡ None → (ks : List SelectionKey) → parted q ks ≡ None → parted q (ks ++ after_file fs f) ≡ None
-after-file-away q fs f away ks none = both_none q ks (after_file fs f) none away
-
 -- none of the keys after a key is that key
 never-after : (fs : List File) (key : SelectionKey) → parted (is_key key) (keys_after fs key) ≡ None
 never-after fs keys.None = refl

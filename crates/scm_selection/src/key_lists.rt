@@ -1,10 +1,8 @@
 //! Lists of the keys of a state, in order.
-ghost use Rattle.std.specs.Prelude.{◌≡◌, ◌∷◌, ◌++◌, filter, true, IfErr, IfOk, OnOk};
+ghost use Rattle.std.specs.Prelude.{◌≡◌, ◌++◌, filter, IfErr, IfOk, OnOk};
 ghost use Rattle.scm_errors.specs.declared.error.RecordError.TheVariants.{OutOfMemory};
-ghost use Rattle.scm_selection.specs.KeySet.{has_key};
-ghost use Rattle.scm_selection.specs.KeyLists.{all_keys, file_key, first_key, is_section, is_visible, line_key, line_keys, section_key, section_keys, sections_keys, visible_keys};
+ghost use Rattle.scm_selection.specs.KeyLists.{all_keys, file_key, first_key, is_section, line_key, line_keys, section_key, section_keys, sections_keys};
 
-use crate::key_set::KeySet;
 use scm_types::{
     File, FileKey, LineKey, RecordError, Section, SectionChangedLine, SectionKey, SelectionKey,
 };
@@ -117,91 +115,6 @@ pub fn all_keys(alloc: Global, files: &[File<'_>]) -> Result<Vec<SelectionKey>, 
     for (index, file) in files.iter().enumerate() {
         keys.push(file_key(index))?;
         push_sections(&mut keys, index, file.sections.as_slice())?;
-    }
-    Ok(keys)
-}
-
-/// Adds the keys that are visible of a section of an expanded file.
-fn push_visible_section(
-    keys: &mut Vec<SelectionKey>,
-    expanded: &KeySet,
-    file: usize,
-    index: usize,
-    section: &Section<'_>,
-) -> Result<(), RecordError>
-    requires { has_key expanded.now (file_key file) ≡ true }
-    ensures ok { OnOk result (keys.new.items ≡ keys.old.items
-        ++ filter (is_visible (has_key expanded.now)) (section_keys file index section.now)) }
-    ensures err { IfErr result (λ e. e ≡ OutOfMemory) }
-{
-    match section {
-        Section::Unchanged { .. } => Ok(()),
-        Section::Changed { lines } => {
-            let key = section_key(file, index);
-            keys.push(key)?;
-            if expanded.contains(key) {
-                push_lines(keys, file, index, lines.as_slice())
-            } else {
-                Ok(())
-            }
-        }
-        Section::FileMode { .. } | Section::Binary { .. } => {
-            keys.push(section_key(file, index))?;
-            Ok(())
-        }
-    }
-}
-
-/// Adds the keys that are visible of the sections of an expanded file.
-fn push_visible_sections(
-    keys: &mut Vec<SelectionKey>,
-    expanded: &KeySet,
-    file: usize,
-    sections: &[Section<'_>],
-) -> Result<(), RecordError>
-    requires { has_key expanded.now (file_key file) ≡ true }
-    ensures ok { OnOk result (keys.new.items ≡ keys.old.items
-        ++ filter (is_visible (has_key expanded.now)) (sections_keys file 0 sections.now)) }
-    ensures err { IfErr result (λ e. e ≡ OutOfMemory) }
-{
-    for (index, section) in sections.iter().enumerate() {
-        push_visible_section(keys, expanded, file, index, section)?;
-    }
-    Ok(())
-}
-
-/// Adds the keys that are visible of a file.
-fn push_visible_file(
-    keys: &mut Vec<SelectionKey>,
-    expanded: &KeySet,
-    index: usize,
-    file: &File<'_>,
-) -> Result<(), RecordError>
-    ensures ok { OnOk result (keys.new.items ≡ keys.old.items
-        ++ filter (is_visible (has_key expanded.now)) (file_key index ∷ sections_keys index 0 file.now.sections)) }
-    ensures err { IfErr result (λ e. e ≡ OutOfMemory) }
-{
-    let key = file_key(index);
-    keys.push(key)?;
-    if expanded.contains(key) {
-        push_visible_sections(keys, expanded, index, file.sections.as_slice())
-    } else {
-        Ok(())
-    }
-}
-
-/// The visible keys, in order.
-pub fn visible_keys(
-    alloc: Global,
-    expanded: &KeySet,
-    files: &[File<'_>],
-) -> Result<Vec<SelectionKey>, RecordError>
-    ensures ok { IfOk result (λ keys. keys.items ≡ visible_keys (has_key expanded.now) files.now) }
-    ensures err { IfErr result (λ e. e ≡ OutOfMemory) }
-{
-    let mut keys = Vec::new(alloc);
-    for (index, file) in files.iter().enumerate() {
-        push_visible_file(&mut keys, expanded, index, file)?;
     }
     Ok(keys)
 }

@@ -43,7 +43,7 @@ fn is_stop(reach: Reach, expanded: &KeySet, key: SelectionKey) -> bool
 {
     match reach {
         Reach::Visible => is_visible(expanded, key),
-        Reach::SameKind(selection) => { is_visible(expanded, key) && is_same_kind(selection, key) }
+        Reach::SameKind(selection) => { is_same_kind(selection, key) && is_visible(expanded, key) }
         Reach::Inside(selection) => is_inside(selection, key),
     }
 }

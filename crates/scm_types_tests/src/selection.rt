@@ -1,10 +1,9 @@
 //! Lists and sets of keys, moves among them, toggles and counts, on a file of one section of two lines and some more.
 use scm_samples::{ADDED, Held, commits_of, file_holding, file_with};
 use scm_selection::key_lists::{
-    all_keys, file_key, first_key, line_key, section_key, section_keys, visible_keys,
+    all_keys, file_key, first_key, line_key, section_key, section_keys,
 };
 use scm_selection::key_set::{KeySet, key_set_of};
-use scm_selection::moves::is_key;
 use scm_selection::steps::{
     first_inside, is_among_visible, next_of_kind, next_visible, previous_of_kind, previous_visible,
 };
@@ -34,22 +33,6 @@ fn sample_keys() -> [SelectionKey; 4] {
     ]
 }
 
-/// Checks which keys are visible where these are unfolded: so many of the file's first.
-fn check_visible(
-    rt: &impl Abort,
-    alloc: Global,
-    unfolded: &[SelectionKey],
-    count: usize,
-) -> Result<(), RecordError> {
-    let files = samples(alloc)?;
-    let keys = visible_keys(alloc, &key_set_of(alloc, unfolded)?, files.as_slice())?;
-    assert_eq!(rt; keys.len(), count);
-    for (key, expected) in keys.iter().zip(sample_keys().iter()) {
-        assert!(rt; is_key(*key, *expected));
-    }
-    Ok(())
-}
-
 /// Checks a list of keys.
 fn check_list(rt: &impl Abort, keys: Vec<SelectionKey>, expected: &[SelectionKey]) {
     assert_eq!(rt; keys.as_slice(), expected);
@@ -69,15 +52,6 @@ fn lists_of_keys(rt: HostRuntime) -> Result<(), RecordError> {
         assert_eq!(rt; found, expected);
     }
     Ok(())
-}
-
-#[test]
-fn lists_of_visible_keys(rt: HostRuntime) -> Result<(), RecordError> {
-    let alloc = rt.alloc();
-    check_visible(&rt, alloc, &[], 1)?;
-    check_visible(&rt, alloc, &[section_key(0, 1)], 1)?;
-    check_visible(&rt, alloc, &[file_key(0)], 2)?;
-    check_visible(&rt, alloc, &[section_key(0, 1), file_key(0)], 4)
 }
 
 #[test]
