@@ -179,6 +179,12 @@ other-button-clears : change (hit_of (ids.CommitEditMessageButton 1)) said click
 unfolding max_items max_scroll
 other-button-clears = refl
 
+-- ---- clearing
+
+-- the screen is cleared, and nothing else: what is shown, and how far it is scrolled, stays
+redraw-clears : change plain begun events.Redraw ≡ stays (record begun { cleared = true })
+redraw-clears = refl
+
 -- ---- scrolling
 
 -- also a scroll up is held: here all that is drawn spans three rows

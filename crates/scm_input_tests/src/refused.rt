@@ -23,7 +23,10 @@ fn refused_memory_keeps_events(rt: HostRuntime) -> Result<(), RecordError> {
         Err(_) => (2, Event::QuitCancel),
     };
     assert_eq!(rt; input.events.len(), left);
-    assert_eq!(rt; input.events.front().copied(), Some(next));
+    assert_eq!(rt;
+        (input.events.front().copied(), input.events.back().copied()),
+        (Some(next), Some(Event::Redraw))
+    );
     assert_eq!(rt; input.commit_messages.len(), 1);
     assert_eq!(rt; outcome?.as_slice(), [Event::QuitCancel].as_slice());
     Ok(())

@@ -552,3 +552,21 @@ fn numbers_of_six_digits_stand_whole(rt: HostRuntime) -> Result<(), Fail> {
     let output = output_of(rt.alloc(), MUCH_CONTEXT_SHOWN, "size 24 7\n")?;
     check_long(&rt, rt.alloc(), MUCH_CONTEXT, output.as_str())
 }
+
+/// A script that scrolls down over ten lines by far more than they span, in one batch, and then up by two rows.
+const FAR_DOWN: Long = Long {
+    begin: "size 24 8\n{\"is_read_only\":false,\"commits\":[],\"files\":[{\"old_path\":null,\"path\":\"f\",\"file_mode\":{\"Unix\":33188},\"sections\":[{\"Changed\":{\"lines\":[{\"is_checked\":false,\"change_type\":\"Added\",\"line\":\"0\\n\"},{\"is_checked\":false,\"change_type\":\"Added\",\"line\":\"1\\n\"},{\"is_checked\":false,\"change_type\":\"Added\",\"line\":\"2\\n\"},{\"is_checked\":false,\"change_type\":\"Added\",\"line\":\"3\\n\"},{\"is_checked\":false,\"change_type\":\"Added\",\"line\":\"4\\n\"},{\"is_checked\":false,\"change_type\":\"Added\",\"line\":\"5\\n\"},{\"is_checked\":false,\"change_type\":\"Added\",\"line\":\"6\\n\"},{\"is_checked\":false,\"change_type\":\"Added\",\"line\":\"7\\n\"},{\"is_checked\":false,\"change_type\":\"Added\",\"line\":\"8\\n\"},{\"is_checked\":false,\"change_type\":\"Added\",\"line\":\"9\\n\"}]}}]}]}\nscript\nbatch l\nbatch",
+    middle: " wheel-down",
+    times: 100_000,
+    end: "\nbatch shot\nbatch wheel-up wheel-up\nbatch shot\nbatch c\n",
+};
+
+/// Its screens: at 12, the row of the last line, the menu bar alone; at 10 the last line, below the pinned header.
+const FAR_DOWN_SHOWN: &str =
+    "screen 0 | \"[File] [Edit] [Select] [ | screen 1 | \"[File] [Edit] [Select] [ | \"[ ] f                [-] | \"    [ ] + 9⏎ | accepted";
+
+#[test]
+fn a_long_scroll_ends_at_the_last_row(rt: HostRuntime) -> Result<(), Fail> {
+    let output = output_of(rt.alloc(), FAR_DOWN_SHOWN, "size 24 8\n")?;
+    check_long(&rt, rt.alloc(), FAR_DOWN, output.as_str())
+}

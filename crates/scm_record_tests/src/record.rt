@@ -231,10 +231,10 @@ const ROWS: [Row; 9] = [
     // a batch may be empty
     (HELLO, &[Read::Batch(&[])], NO_EVENTS, 2, 0, "bye"),
     (HELLO, &[], NO_EVENTS, 1, 0, "bye"),
-    // a click as far away as can be hits nothing
+    // a click as far away as can be hits nothing: what was selected is toggled after it
     (
         HELLO,
-        &[Read::Batch(&[TOGGLE, FAR, FAR, ACCEPT])],
+        &[Read::Batch(&[FAR, TOGGLE, FAR, ACCEPT])],
         "accepted 11 hello",
         1,
         0,
@@ -408,5 +408,36 @@ fn screenshots_are_kept_at_their_places(rt: HostRuntime) -> Result<(), RecordErr
         assert_eq!(rt; (outcome.as_str(), screens.text(first)), (wanted, text));
     }
     assert_eq!(rt; screens.frames(), 19);
+    Ok(())
+}
+
+/// Reads that take a screenshot, click as far away as can be, take another, and accept.
+fn clicking(
+    alloc: Global,
+    before: TestingScreenshot,
+    after: TestingScreenshot,
+) -> Result<Vec<ScriptRead>, RecordError> {
+    let mut reads = Vec::new(alloc);
+    for event in [before.event(), FAR, after.event(), ACCEPT] {
+        push_batch(alloc, &mut reads, event, 1)?;
+    }
+    Ok(reads)
+}
+
+#[test]
+fn a_click_far_away_changes_no_screen(rt: HostRuntime) -> Result<(), RecordError> {
+    let alloc = rt.alloc();
+    let mut screens = Screens::new(alloc);
+    let (before, after) = (screens.place()?, screens.place()?);
+    let reads = clicking(alloc, before, after)?;
+    let mut input = ScriptInput::new(alloc, 20, 2, reads, Vec::new(alloc))?;
+    let outcome = run_words(alloc, None, &mut input, &mut screens)?;
+    assert_eq!(rt; outcome.as_str(), "accepted 00");
+    for shot in [before, after] {
+        assert_eq!(rt;
+            screens.text(shot),
+            "\"[File] [Edit] [Selec\"\n\"( ) f            (+)\"\n"
+        );
+    }
     Ok(())
 }

@@ -8,8 +8,8 @@ use Rattle.scm_cells.specs.declared.text.Span.{Span}
 use Rattle.scm_cells.specs.Clusters.{text_width}
 use Rattle.scm_render.specs.Picture.{Picture, PictureInRange, part}
 use Rattle.scm_render.specs.Canvas.{Sight, under}
-use Rattle.scm_render.specs.Drawing.{texts_width, span_picture, line_picture, text_picture}
-use Rattle.scm_render.specs.Bounds.{BoundsInRange, SightWithin, PictureWithin}
+use Rattle.scm_render.specs.Drawing.{texts_width, span_picture, line_picture, text_picture, frame_picture}
+use Rattle.scm_render.specs.Bounds.{BoundsInRange, SightWithin, RectWithin, PictureWithin}
 use Rattle.scm_render.specs.Laws.{DrawingStaysWithin}
 use Rattle.scm_render_tests.specs.Near.{IsNear, near, AreShort}
 use Rattle.scm_render_tests.specs.Samples.{caption_picture, pair_picture, pane_picture, nest_picture, column_picture}
@@ -39,6 +39,17 @@ module _ {K : Type 0} (stays : DrawingStaysWithin K) where
 
   pub text-near : (s : Sight) (x y : ℤ) (ts : List (List ℕ)) → SightWithin near s → IsNear x → IsNear y → texts_width ts ≤ 100 → PictureWithin {K = K} near (text_picture s x y ts)
   text-near s x y ts w p q h = stays.texts near s x y ts w (omega (arith, ints, p.low)) (omega (arith, ints, p.high, h)) (omega (arith, ints, q.low)) (omega (arith, ints, q.high))
+
+  -- a frame of six columns and three rows
+  pub frame-near : (s : Sight) (x y : ℤ) (title : List ℕ) (body : List (List ℕ)) → IsNear x → IsNear y → PictureWithin {K = K} near (frame_picture s (record { x = x; y = y; width = 6; height = 3 }) title body)
+  frame-near s x y title body p q =
+      let within : RectWithin near (record { x = x; y = y; width = 6; height = 3 }) = record {
+        x = omega (arith, ints, p.low);
+        end_x = omega (arith, ints, p.high);
+        y = omega (arith, ints, q.low);
+        end_y = omega (arith, ints, q.high);
+      } in
+      stays.frames near s _ title body within
 
   -- a label between brackets
   pub tag-near : (focused : Bool) (label : List ℕ) (s : Sight) → text_width (boxed_text focused label) ≤ 100 → PictureWithin {K = K} near (tag_picture focused label s (pos 0) (pos 0))

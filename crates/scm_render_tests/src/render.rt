@@ -175,6 +175,25 @@ fn draw_span(
     viewport.draw_span(x, y, span)
 }
 
+/// Draws a frame of six columns and three rows, which is near the document's corner.
+fn draw_frame(
+    rt: &impl Abort,
+    viewport: &mut Viewport<u8>,
+    x: isize,
+    y: isize,
+) -> Result<Rect, RecordError> {
+    check_near(rt, x);
+    check_near(rt, y);
+    laws::drawing_stays_within::<u8>();
+    let whole = Rect {
+        x,
+        y,
+        width: 6,
+        height: 3,
+    };
+    viewport.draw_frame(whole, "Quit", &["body"])
+}
+
 /// Draws a caption, which is near the document's corner.
 fn draw_caption(
     rt: &impl Abort,
@@ -477,6 +496,36 @@ fn frames(rt: HostRuntime) -> Result<(), RecordError> {
         (3, 3, "\"┌Q┐\"\n\"│b│\"\n\"└─┘\"\n"),
     ] {
         check_frame(&rt, alloc, width, height, expected)?;
+    }
+    Ok(())
+}
+
+/// Draws a frame from a place on, where the mask lets these columns through.
+fn check_masked_frame(
+    rt: &impl Abort,
+    alloc: Global,
+    mask: Mask,
+    x: isize,
+    y: isize,
+    expected: &str,
+) -> Result<(), RecordError> {
+    let mut viewport = viewport_at(alloc, 0, 0, 6, 2)?;
+    let _ = viewport.swap_mask(Some(mask));
+    let drawn = draw_frame(rt, &mut viewport, x, y)?;
+    check_rect(rt, drawn, rect(x, y, 6, 3));
+    check_drawing(rt, viewport, expected)
+}
+
+#[test]
+fn masked_frames(rt: HostRuntime) -> Result<(), RecordError> {
+    // a frame that begins off the screen, one that ends there, and two that the mask cuts
+    for (mask, x, y, expected) in [
+        (columns(0, 6), -2, -1, "\"ody│  \"\n\"───┘  \"\n"),
+        (columns(0, 6), 3, 1, "\"      \"\n\"   ┌Qu\"\n"),
+        (columns(1, 3), 0, 0, "\" Qui  \"\n\" bod  \"\n"),
+        (columns(2, 0), 0, 0, "\"      \"\n\"      \"\n"),
+    ] {
+        check_masked_frame(&rt, rt.alloc(), mask, x, y, expected)?;
     }
     Ok(())
 }

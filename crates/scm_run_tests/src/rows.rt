@@ -35,6 +35,9 @@ const NEXT: Event = Event::FocusNext;
 /// Accepts, while no dialog is open.
 const ACCEPT: Event = Event::QuitAccept;
 
+/// Selects the file of the second view, and then unfolds it.
+const UNFOLD: Event = Event::Click { row: 1, column: 39 };
+
 /// A line of context, a line removed and a line added.
 const OPEN: &str =
     r#"{"is_read_only":false,"commits":[{"message":null},{"message":null}],"files":[{"old_path":null,"path":"f","file_mode":{"Unix":33188},"sections":[{"Unchanged":{"lines":["a\n"]}},{"Changed":{"lines":[{"is_checked":false,"change_type":"Removed","line":"b\n"},{"is_checked":true,"change_type":"Added","line":"c\n"}]}}]}]}"#;
@@ -129,8 +132,20 @@ const MESSAGES: &str =
 const OTHER_MESSAGES: &str =
     r#"{"is_read_only":false,"commits":[{"message":"a"},{"message":"z"}],"files":[{"old_path":null,"path":"foo/bar","file_mode":{"Unix":33188},"sections":[{"Changed":{"lines":[{"is_checked":false,"change_type":"Added","line":"n\n"}]}}]}]}"#;
 
+/// The same without messages.
+const BAR: &str =
+    r#"{"is_read_only":false,"commits":[{"message":null},{"message":null}],"files":[{"old_path":null,"path":"foo/bar","file_mode":{"Unix":33188},"sections":[{"Changed":{"lines":[{"is_checked":false,"change_type":"Added","line":"n\n"}]}}]}]}"#;
+
+/// That file beside itself, unfolded in the second view alone.
+const BAR_SCREEN: &str = r#""[File] [Edit] [Select] [View]            "
+"[ ] foo/bar      [+] ( ) foo/bar      (±)"
+"                       [ ] Section 1/1[+]"
+"                                         "
+"                                         "
+"#;
+
 /// The runs.
-pub(crate) const ROWS: [Row; 9] = [
+pub(crate) const ROWS: [Row; 10] = [
     Row {
         width: 24,
         height: 8,
@@ -237,6 +252,22 @@ pub(crate) const ROWS: [Row; 9] = [
         answer: "z",
         screen: ABSENT,
         accepted: OTHER_MESSAGES,
+    },
+    // the second view is unfolded
+    Row {
+        width: 41,
+        height: 5,
+        given: BAR,
+        batches: &[
+            &[Event::ToggleCommitViewMode],
+            &[UNFOLD],
+            &[UNFOLD],
+            &[SHOT],
+            &[ACCEPT],
+        ],
+        answer: "",
+        screen: BAR_SCREEN,
+        accepted: BAR,
     },
 ];
 

@@ -81,6 +81,7 @@ fn check_marks(rt: &impl Abort, file: &mut File<'_>) {
     file.set_checked(true);
     assert_eq!(rt; file.tristate(), Tristate::True);
     file.toggle_all();
+    file.repair();
     assert_eq!(rt; file.tristate(), Tristate::False);
     for section in file.sections.iter_mut() {
         check_section(rt, section);

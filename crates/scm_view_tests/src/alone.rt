@@ -183,6 +183,35 @@ fn draw_line(
     Ok(())
 }
 
+/// Draws a line of context of a short text, with its number.
+fn draw_context(
+    rt: &impl Abort,
+    viewport: &mut Viewport<ComponentId>,
+    x: isize,
+    y: isize,
+    line_num: usize,
+    line: &str,
+) -> Result<(), RecordError> {
+    let line_key = LineKey {
+        commit_idx: 0,
+        file_idx: 0,
+        section_idx: 0,
+        line_idx: 0,
+    };
+    let view = SectionLineView {
+        line_key,
+        inner: SectionLineViewInner::Unchanged { line, line_num },
+    };
+    check_sight(rt, viewport);
+    check_near(rt, x);
+    check_near(rt, y);
+    assert!(rt; line.len() <= 1_000_000);
+    laws::components_are_in_range();
+    scm_render::laws::parts_are_in_range::<ComponentId>();
+    let _ = viewport.draw_component(x, y, &view)?;
+    Ok(())
+}
+
 /// Checks what a changed line draws.
 fn check_line(
     rt: &impl Abort,
@@ -212,6 +241,39 @@ fn lines_are_drawn_alone(rt: HostRuntime) -> Result<(), RecordError> {
         ((0, 20, 2, -1), Removed, "\n\n\n", (0, 0)),
     ] {
         check_line(&rt, rt.alloc(), place, change_type, rows, counts)?;
+    }
+    Ok(())
+}
+
+/// Checks what a line of context draws.
+fn check_context(
+    rt: &impl Abort,
+    alloc: Global,
+    place: Place,
+    line_num: usize,
+    rows: &str,
+    counts: (usize, usize),
+) -> Result<(), RecordError> {
+    let (left, width, x, y) = place;
+    let mut viewport = viewport_under(rt, alloc, left, width)?;
+    draw_context(rt, &mut viewport, x, y, line_num, "ab\n")?;
+    check_drawing(rt, alloc, viewport, rows, counts)
+}
+
+#[test]
+fn lines_of_context_are_drawn_alone(rt: HostRuntime) -> Result<(), RecordError> {
+    // likewise, with one call
+    for (place, line_num, rows, counts) in [
+        ((0, 20, 2, 1), 7, "\n      7 ab⏎\n\n", (1, 1)),
+        ((0, 20, 2, 2), 100_000, "\n\n  100000 ab⏎\n", (1, 1)),
+        ((0, 20, -3, 0), 7, " 7 ab⏎\n\n\n", (1, 1)),
+        ((0, 9, 2, 0), 7, "      7 …\n\n\n", (1, 1)),
+        ((4, 4, 2, 1), 7, "\n      7…\n\n", (1, 1)),
+        ((0, 0, 2, 1), 7, "\n\n\n", (1, 1)),
+        ((0, 20, 2, 3), 7, "\n\n\n", (0, 0)),
+        ((0, 20, 2, -1), 7, "\n\n\n", (0, 0)),
+    ] {
+        check_context(&rt, rt.alloc(), place, line_num, rows, counts)?;
     }
     Ok(())
 }
