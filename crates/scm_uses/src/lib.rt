@@ -1,4 +1,4 @@
-//! The libraries as a caller uses them.
+//! Marks the first line of a state; and further callers of the libraries.
 #![tactic(auto)]
 
 ghost use Rattle.std.specs.Prelude.{◌≡◌, IfErr, IfOk, IsTrue, true};
@@ -44,6 +44,8 @@ pub fn selected_side<'a>(
 
 #[cfg(test)]
 mod caller_tests;
+#[cfg(test)]
+mod crate_tests;
 pub mod drawing;
 pub mod input;
 pub mod live;
