@@ -500,16 +500,26 @@ fn frames(rt: HostRuntime) -> Result<(), RecordError> {
     Ok(())
 }
 
-/// Draws a frame from a place on, where the mask lets these columns through.
+/// Draws a frame from a place on, under a mask of so many columns from one on.
 fn check_masked_frame(
     rt: &impl Abort,
     alloc: Global,
-    mask: Mask,
+    mask: (isize, usize),
     x: isize,
     y: isize,
     expected: &str,
 ) -> Result<(), RecordError> {
+    let (left, width) = mask;
+    assert!(rt; 0 <= left);
+    assert!(rt; left <= 100);
+    assert!(rt; width <= 100);
     let mut viewport = viewport_at(alloc, 0, 0, 6, 2)?;
+    let mask = Mask {
+        x: left,
+        y: 0,
+        width: Some(width),
+        height: None,
+    };
     let _ = viewport.swap_mask(Some(mask));
     let drawn = draw_frame(rt, &mut viewport, x, y)?;
     check_rect(rt, drawn, rect(x, y, 6, 3));
@@ -520,10 +530,10 @@ fn check_masked_frame(
 fn masked_frames(rt: HostRuntime) -> Result<(), RecordError> {
     // a frame that begins off the screen, one that ends there, and two that the mask cuts
     for (mask, x, y, expected) in [
-        (columns(0, 6), -2, -1, "\"ody│  \"\n\"───┘  \"\n"),
-        (columns(0, 6), 3, 1, "\"      \"\n\"   ┌Qu\"\n"),
-        (columns(1, 3), 0, 0, "\" Qui  \"\n\" bod  \"\n"),
-        (columns(2, 0), 0, 0, "\"      \"\n\"      \"\n"),
+        ((0, 6), -2, -1, "\"ody│  \"\n\"───┘  \"\n"),
+        ((0, 6), 3, 1, "\"      \"\n\"   ┌Qu\"\n"),
+        ((1, 3), 0, 0, "\" Qui  \"\n\" bod  \"\n"),
+        ((2, 0), 0, 0, "\"      \"\n\"      \"\n"),
     ] {
         check_masked_frame(&rt, rt.alloc(), mask, x, y, expected)?;
     }
