@@ -13,8 +13,9 @@ typedef struct {
     size_t count;
 } keys_typed;
 
-/* Takes the first key, and writes its word: none for a key that means nothing. Says whether there was one: the end of
- * its bytes may not have come yet, and `is_over` says that no more of them come. */
+/* Takes the first key out of what was typed, and writes its word: an empty one for a key that means nothing. Answers
+ * whether there was a key, since its last bytes may not have come yet. Where `is_over` says that no more bytes come, what
+ * is there is a key. */
 bool keys_take(keys_typed *typed, bool is_over, char word[KEYS_WORD]);
 
 #endif

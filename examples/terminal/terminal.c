@@ -11,12 +11,9 @@
 #include "screen.h"
 
 #include <errno.h>
-#include <langinfo.h>
-#include <locale.h>
 #include <signal.h>
 #include <stdlib.h>
 #include <string.h>
-#include <wchar.h>
 
 enum { GIVEN_UP = 1, FAILED = 2 };
 
@@ -30,18 +27,15 @@ static void fail(const char *what, const char *why) {
     exit(FAILED);
 }
 
+/* What a code says, until the next call. */
 static const char *words_of(uint32_t code) {
-    switch (code) {
-    case SCM_NOT_TEXT: return "it is no UTF-8";
-    case SCM_BAD_STATE: return "it is no state's JSON form";
-    case SCM_NOT_ACCEPTED: return "it has too many commits, files or lines, or too long a text";
-    case SCM_TOO_LONG: return "it has more than 1,000,000 bytes";
-    case SCM_NO_MEMORY: return "there is no memory for it";
-    default: return "the session takes it no more";
-    }
+    static char words[256];
+    size_t length = scm_words(code, words, sizeof words - 1);
+    words[length < sizeof words ? length : sizeof words - 1] = 0;
+    return words;
 }
 
-/* What the session has to read, with a zero behind it. */
+/* What the session has to read, as a string of C. */
 static char *session_text(size_t *length) {
     char nothing;
     size_t room = scm_text(&session, &nothing, 0);
@@ -67,25 +61,19 @@ static const char *colours_of(uint32_t owner) {
     }
 }
 
-/* Draws a row. How many columns a character takes is what the C library says. */
+/* Draws a row, whose text is its symbols one after another. The session says at which columns they begin. */
 static void draw_row(uint16_t row, const char *text, const char *end) {
-    mbstate_t state = {0};
     const char *colours = NULL;
-    int column = 0;
-    wchar_t character;
-    for (size_t bytes; text < end; text += bytes) {
-        bytes = mbrtowc(&character, text, (size_t)(end - text), &state);
-        if (bytes == 0 || bytes > (size_t)(end - text)) {
-            break;
-        }
-        int columns = wcwidth(character);
-        if (columns > 0) {
-            const char *next = colours_of(scm_owner(&session, row, (uint16_t)column));
+    char nothing;
+    for (uint16_t column = 0; text < end; column++) {
+        size_t bytes = scm_symbol(&session, row, column, &nothing, 0);
+        if (bytes > 0) {
+            const char *next = colours_of(scm_owner(&session, row, column));
             fputs(next == colours ? "" : next, screen);
             colours = next;
-            column += columns;
+            fwrite(text, 1, bytes, screen);
+            text += bytes;
         }
-        fwrite(text, 1, bytes, screen);
     }
 }
 
@@ -132,12 +120,14 @@ static void press(const char *word) {
     }
 }
 
-/* The terminal may have been set otherwise meanwhile. */
+/* Goes on to the screen's new size, and scrolls so far that what is selected stands on it. The terminal may have been set
+ * otherwise meanwhile. */
 static void take_new_size(void) {
     uint16_t width, height;
     screen_size(&width, &height);
     screen_take();
     scm_resize(&session, width, height);
+    press("ensure");
 }
 
 /* Draws, and takes keys until the session waits no more. */
@@ -169,11 +159,6 @@ static void run(void) {
 static void begin(const char *path) {
     size_t length;
     uint16_t width, height;
-    /* symbols are UTF-8, whatever the user's language */
-    bool is_set = setlocale(LC_CTYPE, "") && strcmp(nl_langinfo(CODESET), "UTF-8") == 0;
-    if (!is_set && !setlocale(LC_CTYPE, "C.UTF-8")) {
-        fail("there are no characters of UTF-8", "no locale C.UTF-8");
-    }
     char *json = read_file(path, &length);
     if (!json) {
         fail(path, strerror(errno));

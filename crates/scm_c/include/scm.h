@@ -23,24 +23,30 @@ typedef struct {
     void *at;
 } scm_session;
 
-/* What a call answers. Of all but SCM_DONE the session is as it was (`scm_new`: closed). */
+/* What a call answers; `scm_words` has a sentence for each. Where it is not SCM_DONE, the call has left the session as
+ * it was, and `scm_new` has left it closed. */
 enum {
-    SCM_DONE = 0,
+    SCM_DONE = 0,         /* the call is done */
     SCM_CLOSED = 1,       /* the session is closed */
-    SCM_NOT_NOW = 2,      /* it doesn't wait for this now */
+    SCM_NOT_NOW = 2,      /* the session doesn't wait for this now */
     SCM_NO_WORD = 3,      /* the bytes are no word of an event */
-    SCM_NOT_TEXT = 4,     /* the state or the message is no UTF-8 */
+    SCM_NOT_TEXT = 4,     /* the bytes are no UTF-8 */
     SCM_BAD_STATE = 5,    /* the text is no state's JSON form */
-    SCM_NOT_ACCEPTED = 6, /* the state is beyond the limits */
+    SCM_NOT_ACCEPTED = 6, /* the state has more than 2 commits, 16,000,000 files, sections and lines, or 1,000,000 bytes in a
+                             text */
     SCM_TOO_LONG = 7,     /* the message has more than 1,000,000 bytes */
-    SCM_NO_MEMORY = 8,    /* memory was refused */
+    SCM_NO_MEMORY = 8,    /* there is not enough memory */
 };
 
-/* Where a session stands, and what `scm_text` then reads. */
+/* Where a session stands, and what `scm_text` then reads.
+ *
+ * Of accepted changes that is the line `accepted`, then a line with the state's JSON form, and then three lines for each
+ * file, which count from 0: `file I`, `selected MODE C` and `unselected MODE C`. These are the file's two sides: MODE is
+ * octal digits or `<absent>`, and C is `unchanged`, `text "T"` or `binary OLD NEW`, with texts as JSON strings or `null`. */
 enum {
     SCM_WAITING = 0,  /* it waits for an event: the screen's rows, each between two quotes and with a line end */
     SCM_EDITING = 1,  /* it waits for a message: the message as it stands */
-    SCM_ACCEPTED = 2, /* the changes are accepted: what the program prints of an accepted state */
+    SCM_ACCEPTED = 2, /* the changes are accepted: the state, and each file's two sides */
     SCM_ENDED = 3,    /* it ended with an error: the words of the error */
     SCM_NONE = 4,     /* it is closed: nothing */
 };
@@ -58,22 +64,26 @@ enum {
     SCM_DIALOG = 8,
 };
 
-/* Begins a session on a screen of so many columns and rows. One that was open is closed first. */
+/* Begins a session over a state, on a screen of so many columns and rows. One that was open is closed first. Where
+ * it fails it answers the first of SCM_NOT_TEXT, SCM_BAD_STATE and SCM_NOT_ACCEPTED that holds, or SCM_NO_MEMORY. */
 uint32_t scm_new(scm_session *session, const char *json, size_t length, uint16_t width, uint16_t height);
 
-/* Where it stands. */
+/* Where a session stands. */
 uint32_t scm_stage(scm_session *session);
 
-/* Hands in a word of a script, but not "shot". */
+/* Hands in a word of a script, but not "shot". Where it fails it answers the first of SCM_NO_WORD, SCM_CLOSED and
+ * SCM_NOT_NOW that holds. */
 uint32_t scm_press(scm_session *session, const char *word, size_t length);
 
-/* Hands in a click on a row and column of the screen, from 0. */
+/* Hands in a click on a row and column of the screen, from 0. Where it fails it answers SCM_CLOSED or SCM_NOT_NOW. */
 uint32_t scm_click(scm_session *session, uint16_t row, uint16_t column);
 
-/* Hands in the message that it waits for. */
+/* Hands in the message that it waits for. Where it fails it answers the first of SCM_TOO_LONG, SCM_NOT_TEXT, SCM_CLOSED and
+ * SCM_NOT_NOW that holds, or SCM_NO_MEMORY: never for a text that is too long or no UTF-8. */
 uint32_t scm_answer(scm_session *session, const char *text, size_t length);
 
-/* Goes on to a screen of another size. It has to wait for an event. */
+/* Goes on to a screen of another size, where it waits for an event. Where it fails it answers SCM_CLOSED or SCM_NOT_NOW.
+ * The document stays scrolled as it was: the word "ensure" brings what is selected onto the new screen. */
 uint32_t scm_resize(scm_session *session, uint16_t width, uint16_t height);
 
 /* Writes what there is to read, as far as it fits, and answers how many bytes it has: 0 too where memory is refused. */
@@ -81,6 +91,14 @@ size_t scm_text(scm_session *session, char *out, size_t length);
 
 /* Whose a place of the screen is, by rows and columns from 0: what a click there acts on. */
 uint32_t scm_owner(scm_session *session, uint16_t row, uint16_t column);
+
+/* Writes the symbol that begins at a row and column of the screen, from 0, as far as it fits, and answers how many bytes
+ * of UTF-8 it has: 0 at a later column of a wide symbol, past the screen, and while the session waits for no event. */
+size_t scm_symbol(scm_session *session, uint16_t row, uint16_t column, char *out, size_t length);
+
+/* Writes what a code says, as far as it fits, and answers how many bytes that has: 0 for what no call answers. The words
+ * are ASCII. No zero is written behind a text, here or elsewhere. */
+size_t scm_words(uint32_t code, char *out, size_t length);
 
 /* Closes it. */
 void scm_free(scm_session *session);

@@ -11,7 +11,7 @@ use Rattle.scm_record.specs.declared.live.Turn.{Turn}
 use Rattle.scm_c.specs.declared.held.Held.{Held}
 use Rattle.scm_c.specs.declared.held.Stage.{Stage}
 use Rattle.scm_c.specs.declared.held.Stage.TheVariants.{Waiting, Editing, Ended}
-use Rattle.scm_c.specs.Stages.{Presses, Says, Resizes, Behind, IsOpenAt, behind, open_at, stage_after, stage_resized}
+use Rattle.scm_c.specs.Stages.{Presses, Says, Resizes, Behind, HandsIn, IsOpenAt, behind, open_at, stage_after, stage_resized}
 
 presses-by : (event : Event) (l : Live) (r : Result Turn RecordError) → IfOk r (λ turn. Handles l event turn) → IfErr r (λ e. HandleFails l event e) → Presses event (Waiting l) (stage_after r)
 presses-by event l (Ok turn) h k = Presses.turned turn h
@@ -37,6 +37,9 @@ resizes kind l r old new e f h k = rw (e, f) (resizes-by kind l r h k)
 -- what is behind a session goes on as the value does
 pub goes-behind : (Goes : Stage → Stage → Type 0) (old new : Option Held) (h before k : Held) → old ≡ Some h → before ≡ h → new ≡ Some k → Goes before.stage k.stage → Behind Goes old new
 goes-behind Goes old new h before k e f g goes = rw (e, g) (behind (subst (λ (x : Held). Goes x.stage k.stage) f goes))
+
+pub hands-in : (event : Event) (given : Option Event) (old new : Option Held) → given ≡ Some event → Behind (Presses event) old new → HandsIn given old new
+hands-in event given old new e goes = rw e goes
 
 pub opens-at : (Stands : Stage → Type 0) (new : Option Held) (h : Held) → new ≡ Some h → Stands h.stage → IsOpenAt Stands new
 opens-at Stands new h e s = rw e (open_at s)

@@ -1,36 +1,98 @@
 -- What a call tells of where a session stands.
-use Rattle.std.proofs.Common.{◌≡◌, ℕ, min, List, [], ◌++◌, length, take, drop, Bool, true, false, if◌then◌else◌, Option, Some, None, IsUtf8, refl, sym, ap, ◌∙◌, subst, arith}
+use Rattle.std.proofs.Common.{◌≡◌, ℕ, min, List, [], ◌++◌, ◌<◌, ◌≤◌, length, take, drop, Bool, true, false, ◌&&◌, IsTrue, if◌then◌else◌, Option, Some, None, option_and_then, IsUtf8, refl, sym, ap, ◌∙◌, subst, arith}
 use Rattle.std.specs.Str.{is_utf8}
 use Rattle.std.proofs.lemmas.Str.{IsUtf8-from_is_utf8, is_utf8-from_IsUtf8}
+use Rattle.std.proofs.lemmas.Bool.{false≢true, lt-leb, le-leb}
+use Rattle.serde_json.specs.Read.{read}
+use Rattle.scm_types.specs.declared.state.RecordState.{RecordState}
+use Rattle.scm_types.specs.Limits.{is_accepted_state, is_short_text, max_text}
 use Rattle.scm_input.specs.declared.events.Event.{Event}
+use Rattle.scm_json.specs.Form.{state_of}
 use Rattle.scm_script.specs.Words.{event_of_word}
 use Rattle.scm_c.specs.declared.held.Held.{Held}
-use Rattle.scm_c.specs.Told.{code_of_call, code_of_press, done_code, event_of_bytes, over, owner_behind, owner_in, waits, IsRead, IsText, Writes}
+use Rattle.scm_c.specs.declared.held.Stage.{Stage}
+use Rattle.scm_c.specs.Told.{IsCode, IsRead, IsText, Writes, code_of_call, code_of_form, code_of_json, code_of_message, code_of_press, code_where, done_code, event_of_bytes, is_message, over}
 
 -- the event of a word
 
 pub word_event : (bytes : List ℕ) → IsUtf8 bytes → event_of_word bytes ≡ event_of_bytes bytes
 word_event bytes u = ap (λ (t : Bool). if t then event_of_word bytes else None) (sym (is_utf8-from_IsUtf8 bytes u))
 
-no_text : (t : Bool) (o : Option Event) → (t ≡ true → ⊥) → None ≡ (if t then o else None)
-no_text true o n = absurd (n refl)
-no_text false o n = refl
+is_false : (t : Bool) → (t ≡ true → ⊥) → t ≡ false
+is_false true n = absurd (n refl)
+is_false false n = refl
+
+not_utf8 : (bytes : List ℕ) → ¬ (IsUtf8 bytes) → is_utf8 bytes ≡ false
+not_utf8 bytes n = is_false (is_utf8 bytes) (λ e. n (IsUtf8-from_is_utf8 bytes e))
 
 pub no_event : (bytes : List ℕ) → ¬ (IsUtf8 bytes) → None ≡ event_of_bytes bytes
-no_event bytes n = no_text (is_utf8 bytes) (event_of_word bytes) (λ e. n (IsUtf8-from_is_utf8 bytes e))
+no_event bytes n = ap (λ (t : Bool). if t then event_of_word bytes else None) (sym (not_utf8 bytes n))
 
 -- codes
 
-pub call_code : (old : Option Held) (h before : Held) (is_done : Bool) → old ≡ Some h → before ≡ h → is_done ≡ waits before.stage → done_code is_done ≡ code_of_call old
-call_code old h before is_done e f g = ap done_code (g ∙ ap (λ (x : Held). waits x.stage) f) ∙ ap code_of_call (sym e)
+pub call_code : (is_due : Stage → Bool) (old : Option Held) (h before : Held) (is_done : Bool)
+    → old ≡ Some h → before ≡ h → is_done ≡ is_due before.stage → done_code is_done ≡ code_where is_due old
+call_code is_due old h before is_done e f g = ap done_code (g ∙ ap (λ (x : Held). is_due x.stage) f) ∙ ap (λ (o : Option Held). code_where is_due o) (sym e)
 
 pub press_code : (event : Event) (word : Option Event) (old : Option Held) → word ≡ Some event → code_of_call old ≡ code_of_press word old
 press_code event word old e = ap (λ (o : Option Event). code_of_press o old) (sym e)
 
--- owners
+pub known_as : (needs_memory : Bool) (code answer : ℕ) → code ≡ answer → IsCode needs_memory code answer
+known_as needs_memory code answer e = rw e IsCode.known
 
-pub owner_is : (old : Option Held) (h before : Held) (row column answer : ℕ) → old ≡ Some h → before ≡ h → answer ≡ owner_in before.stage row column → answer ≡ owner_behind old row column
-owner_is old h before row column answer e f g = g ∙ ap (λ (x : Held). owner_in x.stage row column) f ∙ ap (λ (o : Option Held). owner_behind o row column) (sym e)
+-- messages
+
+-- what `IsCode` says of a text, by whether it is short and whether it is UTF-8
+abbrev Coded : Bool → Bool → ℕ → ℕ → Type 0
+Coded short utf8 code answer = IsCode (short && utf8) (if short then if utf8 then code else 4 else 7) answer
+
+coded_long : (short utf8 : Bool) (code : ℕ) → short ≡ false → Coded short utf8 code 7
+coded_long short utf8 code e = rw e IsCode.known
+
+coded_bytes : (short utf8 : Bool) (code : ℕ) → short ≡ true → utf8 ≡ false → Coded short utf8 code 4
+coded_bytes short utf8 code e f = rw (e, f) IsCode.known
+
+coded_copy : (short utf8 : Bool) (code answer : ℕ) → IsTrue (short && utf8) → answer ≡ code → Coded short utf8 code answer
+coded_copy true true code answer t e = rw e IsCode.known
+coded_copy true false code answer t e = absurd (false≢true t)
+coded_copy false utf8 code answer t e = absurd (false≢true t)
+
+pub long_message : (text : List ℕ) (code : ℕ) → max_text < length text → IsCode (is_message text) (code_of_message text code) 7
+long_message text code h = coded_long (is_short_text text) (is_utf8 text) code (lt-leb (length text) max_text h)
+
+pub bad_message : (text : List ℕ) (code : ℕ) → length text ≤ max_text → ¬ (IsUtf8 text) → IsCode (is_message text) (code_of_message text code) 4
+bad_message text code h n = coded_bytes (is_short_text text) (is_utf8 text) code (le-leb (length text) max_text h) (not_utf8 text n)
+
+pub good_message : (text : List ℕ) → length text ≤ max_text → IsUtf8 text → IsTrue (is_message text)
+good_message text h u = rw (le-leb (length text) max_text h, is_utf8-from_IsUtf8 text u) refl
+
+pub message_code : (text : List ℕ) (code answer : ℕ) → IsTrue (is_message text) → answer ≡ code → IsCode (is_message text) (code_of_message text code) answer
+message_code text code answer t e = coded_copy (is_short_text text) (is_utf8 text) code answer t e
+
+-- states
+
+-- what `IsCode` says of a state's text, by whether it is UTF-8 and of what it is the form
+abbrev Formed : Bool → Option RecordState → ℕ → Type 0
+Formed utf8 form answer = IsCode utf8 (if utf8 then code_of_form form else 4) answer
+
+formed_bytes : (utf8 : Bool) (form : Option RecordState) → utf8 ≡ false → Formed utf8 form 4
+formed_bytes utf8 form e = rw e IsCode.known
+
+formed_none : (utf8 : Bool) (form : Option RecordState) → utf8 ≡ true → form ≡ None → Formed utf8 form 5
+formed_none utf8 form e f = rw (e, f) IsCode.known
+
+formed_large : (utf8 : Bool) (form : Option RecordState) (given : RecordState) → utf8 ≡ true → form ≡ Some given → is_accepted_state given ≡ false → Formed utf8 form 6
+formed_large utf8 form given e f g = rw (e, f) (rw g IsCode.known)
+
+pub bad_text : (json : List ℕ) → ¬ (IsUtf8 json) → IsCode (is_utf8 json) (code_of_json json) 4
+bad_text json n = formed_bytes (is_utf8 json) (option_and_then state_of (read json)) (not_utf8 json n)
+
+pub no_form : (json : List ℕ) → IsUtf8 json → option_and_then state_of (read json) ≡ None → IsCode (is_utf8 json) (code_of_json json) 5
+no_form json u e = formed_none (is_utf8 json) (option_and_then state_of (read json)) (is_utf8-from_IsUtf8 json u) e
+
+pub not_accepted : (json : List ℕ) (given : RecordState)
+    → IsUtf8 json → option_and_then state_of (read json) ≡ Some given → is_accepted_state given ≡ false → IsCode (is_utf8 json) (code_of_json json) 6
+not_accepted json given u e f = formed_large (is_utf8 json) (option_and_then state_of (read json)) given (is_utf8-from_IsUtf8 json u) e f
 
 -- texts
 

@@ -67,6 +67,11 @@ pub record Begins (json : List ℕ) (width height : ℕ) (stage : Stage) : Type 
 pub data Behind (Goes : Stage → Stage → Type 0) : Option Held → Option Held → Type 0 where
   behind : {old new : Held} → Goes old.stage new.stage → Behind Goes (Some old) (Some new)
 
+-- likewise by an event that has to be there
+abbrev pub HandsIn : Option Event → Option Held → Option Held → Type 0
+HandsIn None old new = ⊥
+HandsIn (Some event) old new = Behind (Presses event) old new
+
 -- a session is open, and stands so
 pub data IsOpenAt (Stands : Stage → Type 0) : Option Held → Type 0 where
   open_at : {held : Held} → Stands held.stage → IsOpenAt Stands (Some held)

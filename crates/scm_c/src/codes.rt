@@ -1,4 +1,6 @@
 //! The numbers by which a C program is answered.
+ghost use Rattle.std.specs.Prelude.{◌≡◌};
+ghost use Rattle.scm_c.specs.Told.{words_of_code};
 
 /// The call is done.
 pub const DONE: u32 = 0;
@@ -48,3 +50,22 @@ pub const MARK: u32 = 6;
 pub const FOLD: u32 = 7;
 /// A dialog.
 pub const DIALOG: u32 = 8;
+
+/// What the code of a call says: nothing of a number that no call answers.
+pub(crate) fn words(code: u32) -> &'static str
+    ensures { result.now ≡ words_of_code code }
+{
+    match code {
+        DONE => "the call is done",
+        CLOSED => "the session is closed",
+        NOT_NOW => "the session doesn't wait for this now",
+        NO_WORD => "the bytes are no word of an event",
+        NOT_TEXT => "the bytes are no UTF-8",
+        BAD_STATE => "the text is no state's JSON form",
+        NOT_ACCEPTED =>
+            "the state has more than 2 commits, 16,000,000 files, sections and lines, or 1,000,000 bytes in a text",
+        TOO_LONG => "the message has more than 1,000,000 bytes",
+        NO_MEMORY => "there is not enough memory",
+        _ => "",
+    }
+}

@@ -58,7 +58,7 @@ impl Handle {
         }
     }
 
-    /// One to nothing is given up.
+    /// Gives up a handle that points to nothing, where nothing is to be freed.
     fn spend(self)
         requires { self.value ≡ None }
     {

@@ -1,8 +1,12 @@
 //! What is behind a session that a C program keeps.
-ghost use Rattle.std.specs.Prelude.{◌≡◌, ◌<◌, IfErr, IfOk, IfSome, IsTrue, false, string_bytes};
+ghost use Rattle.std.specs.Prelude.{◌≡◌, ◌<◌, IfErr, IfOk, IfSome, IsTrue, Some, false, option_and_then, string_bytes};
 ghost use Rattle.scm_input.specs.declared.inputs.TerminalKind.TheVariants.{Testing};
+ghost use Rattle.std.specs.Str.{is_utf8};
+ghost use Rattle.serde_json.specs.Read.{read};
+ghost use Rattle.scm_types.specs.Limits.{is_accepted_state};
+ghost use Rattle.scm_json.specs.Form as form_of;
 ghost use Rattle.scm_c.specs.Stages.{Begins, Presses, Resizes, Says, code_of, stage_after, stage_resized};
-ghost use Rattle.scm_c.specs.Told.{IsText, number_of_owner, owner_in, waits};
+ghost use Rattle.scm_c.specs.Told.{IsCode, IsText, asks, code_of_json, number_of_owner, owner_in, symbol_in, waits};
 
 use crate::codes;
 use scm_json::read_state;
@@ -65,28 +69,46 @@ fn screen(width: u16, height: u16) -> TerminalKind
     }
 }
 
+/// The state of this JSON form, or the code of a refusal.
+fn state_of(alloc: Global, json: &[u8]) -> Result<RecordState<'static>, u32>
+    ensures text { IfOk result (λ given. IsTrue (is_utf8 json.now)) }
+    ensures form { IfOk result (λ given. option_and_then form_of.state_of (read json.now) ≡ Some given) }
+    ensures accepted { IfOk result (λ given. IsTrue (is_accepted_state given)) }
+    ensures err { IfErr result (λ code. IsCode (is_utf8 json.now) (code_of_json json.now) code) }
+    ensures refused { IfErr result (λ code. 0 < code) }
+{
+    let Ok(text) = str::from_utf8(json) else {
+        return Err(codes::NOT_TEXT);
+    };
+    let state = match read_state(alloc, text) {
+        Ok(Some(state)) => state,
+        Ok(None) => return Err(codes::BAD_STATE),
+        Err(_) => return Err(codes::NO_MEMORY),
+    };
+    if state.is_accepted() {
+        Ok(state)
+    } else {
+        Err(codes::NOT_ACCEPTED)
+    }
+}
+
 impl Held {
     /// A session over the state of this JSON form, or the code of a refusal.
     pub(crate) fn new(alloc: Global, json: &[u8], width: u16, height: u16) -> Result<Box<Held>, u32>
         ensures ok { IfOk result (λ held. Begins json.now width height held.value.stage) }
-        ensures err { IfErr result (λ code. 0 < code) }
+        ensures good { IfOk result (λ held. code_of_json json.now ≡ 0) }
+        ensures err { IfErr result (λ code. IsCode (is_utf8 json.now) (code_of_json json.now) code) }
+        ensures refused { IfErr result (λ code. 0 < code) }
     {
-        let Ok(text) = str::from_utf8(json) else {
-            return Err(codes::NOT_TEXT);
-        };
-        let state = match read_state(alloc, text) {
-            Ok(Some(state)) => state,
-            Ok(None) => return Err(codes::BAD_STATE),
-            Err(_) => return Err(codes::NO_MEMORY),
-        };
-        if !state.is_accepted() {
-            return Err(codes::NOT_ACCEPTED);
-        }
+        let state = state_of(alloc, json)?;
         let Ok(session) = LiveSession::new(alloc, screen(width, height), state) else {
             return Err(codes::NO_MEMORY);
         };
         let stage = Stage::Waiting(session);
-        Box::new(alloc, Held { stage }).map_err(|_| codes::NO_MEMORY)
+        let Ok(held) = Box::new(alloc, Held { stage }) else {
+            return Err(codes::NO_MEMORY);
+        };
+        Ok(held)
     }
 
     /// The code of where it stands.
@@ -128,6 +150,7 @@ impl Held {
 
     /// Hands in a message, where it waits for one.
     pub(crate) fn answer(&mut self, text: String) -> bool
+        ensures asks { result ≡ asks self.old.stage }
         ensures said { IsTrue result → Says (string_bytes text) self.old.stage self.new.stage }
         ensures kept { result ≡ false → self.new ≡ self.old }
     {
@@ -174,13 +197,26 @@ impl Held {
         }
     }
 
-    /// The code of whose a place of the screen is.
+    /// Whose a place of the screen is, as a code.
     pub(crate) fn owner(&self, row: u16, column: u16) -> u32
         ensures { result ≡ owner_in self.now.stage row column }
     {
         match &self.stage {
             Stage::Waiting(session) => owner_code(session.owner(row as usize, column as usize)),
             Stage::Editing(_) | Stage::Accepted(_) | Stage::Ended(_) => codes::NOBODY,
+        }
+    }
+
+    /// The symbol that begins at a row and column of the screen, or the empty text.
+    pub(crate) fn symbol(&self, row: u16, column: u16) -> &str
+        ensures { result.now ≡ symbol_in self.now.stage row column }
+    {
+        match &self.stage {
+            Stage::Waiting(session) => {
+                let symbol = session.grid().symbol(row as usize, column as usize);
+                symbol.unwrap_or("")
+            }
+            Stage::Editing(_) | Stage::Accepted(_) | Stage::Ended(_) => "",
         }
     }
 }

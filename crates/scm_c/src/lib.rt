@@ -1,12 +1,12 @@
 //! A session for C: `scm.h` tells what each function does.
 #![tactic(auto)]
 
-ghost use Rattle.std.specs.Prelude.{◌≡◌, ◌<◌, IfErr, IfOk, IsTrue, None, Some, false, length, string_bytes};
-ghost use Rattle.scm_input.specs.declared.events.Event.{Event};
+ghost use Rattle.std.specs.Prelude.{◌≡◌, ℕ, ◌<◌, IfErr, IfOk, IsTrue, None, false, length, string_bytes};
 ghost use Rattle.scm_input.specs.declared.events.Event.TheVariants as events;
 ghost use Rattle.scm_input.specs.declared.inputs.TerminalKind.TheVariants.{Testing};
-ghost use Rattle.scm_c.specs.Stages.{Begins, Behind, IsOpenAt, Presses, Resizes, Says, code_behind};
-ghost use Rattle.scm_c.specs.Told.{Writes, code_of_call, code_of_press, done_code, event_of_bytes, over, owner_behind};
+ghost use Rattle.std.specs.Str.{is_utf8};
+ghost use Rattle.scm_c.specs.Stages.{Begins, Behind, HandsIn, IsOpenAt, Presses, Resizes, Says, code_behind};
+ghost use Rattle.scm_c.specs.Told.{IsCode, Writes, code_of_answer, code_of_call, code_of_json, code_of_message, code_of_press, done_code, event_of_bytes, is_message, over, owner_behind, symbol_behind, words_of_code};
 
 mod codes;
 pub mod handle;
@@ -28,6 +28,7 @@ pub extern "C" fn scm_new(
     width: u16,
     height: u16,
 ) -> u32
+    ensures code { IsCode (is_utf8 json.now) (code_of_json json.now) result }
     // what is behind it then, and nothing where it is refused
     ensures begun { result ≡ 0 → IsOpenAt (Begins json.now width height) session.new.handle.value }
     ensures refused { 0 < result → session.new.handle.value ≡ None }
@@ -63,19 +64,12 @@ pub extern "C" fn scm_stage(alloc: Global, session: &mut Session) -> u32
 pub extern "C" fn scm_press(alloc: Global, session: &mut Session, word: &[u8]) -> u32
     ensures code { result ≡ code_of_press (event_of_bytes word.now) session.old.handle.value }
     // its event leads on as the contract of a live session says, and else all stays
-    ensures pressed { result ≡ 0 → (event : Event) × (event_of_bytes word.now ≡ Some event) × Behind (Presses event) session.old.handle.value session.new.handle.value }
+    ensures pressed { result ≡ 0 → HandsIn (event_of_bytes word.now) session.old.handle.value session.new.handle.value }
     ensures kept { 0 < result → session.new.handle.value ≡ session.old.handle.value }
 {
-    let Some(event) = event_of(word) else {
-        return codes::NO_WORD;
-    };
-    match take(alloc, session) {
-        Some(mut held) => {
-            let is_done = held.press(event);
-            put(alloc, session, held);
-            done_or_not_now(is_done)
-        }
-        None => codes::CLOSED,
+    match event_of(word) {
+        Some(event) => hand_in(alloc, session, event),
+        None => codes::NO_WORD,
     }
 }
 
@@ -90,9 +84,18 @@ pub extern "C" fn scm_click(alloc: Global, session: &mut Session, row: u16, colu
         row: row as usize,
         column: column as usize,
     };
+    hand_in(alloc, session, click)
+}
+
+/// Hands in an event.
+fn hand_in(alloc: Global, session: &mut Session, event: Event) -> u32
+    ensures code { result ≡ code_of_call session.old.handle.value }
+    ensures pressed { result ≡ 0 → Behind (Presses event) session.old.handle.value session.new.handle.value }
+    ensures kept { 0 < result → session.new.handle.value ≡ session.old.handle.value }
+{
     match take(alloc, session) {
         Some(mut held) => {
-            let is_done = held.press(click);
+            let is_done = held.press(event);
             put(alloc, session, held);
             done_or_not_now(is_done)
         }
@@ -122,6 +125,7 @@ fn done_or_not_now(is_done: bool) -> u32
 /// Hands in the message that a session waits for.
 #[unsafe(no_mangle)]
 pub extern "C" fn scm_answer(alloc: Global, session: &mut Session, text: &[u8]) -> u32
+    ensures code { IsCode (is_message text.now) (code_of_answer text.now session.old.handle.value) result }
     // the message leads on as the contract of a live session says, and else all stays
     ensures said { result ≡ 0 → Behind (Says text.now) session.old.handle.value session.new.handle.value }
     ensures kept { 0 < result → session.new.handle.value ≡ session.old.handle.value }
@@ -143,15 +147,20 @@ pub extern "C" fn scm_answer(alloc: Global, session: &mut Session, text: &[u8]) 
 /// The bytes as a message, or the code of a refusal.
 fn message_of(alloc: Global, text: &[u8]) -> Result<String, u32>
     ensures ok { IfOk result (λ message. string_bytes message ≡ text.now) }
-    ensures err { IfErr result (λ code. 0 < code) }
+    ensures good { IfOk result (λ message. IsTrue (is_message text.now)) }
+    ensures err { IfErr result (λ code. (otherwise : ℕ) → IsCode (is_message text.now) (code_of_message text.now otherwise) code) }
+    ensures refused { IfErr result (λ code. 0 < code) }
 {
     if text.len() > 1_000_000 {
         return Err(codes::TOO_LONG);
     }
-    match str::from_utf8(text) {
-        Ok(text) => String::from_str(alloc, text).map_err(|_| codes::NO_MEMORY),
-        Err(_) => Err(codes::NOT_TEXT),
-    }
+    let Ok(text) = str::from_utf8(text) else {
+        return Err(codes::NOT_TEXT);
+    };
+    let Ok(message) = String::from_str(alloc, text) else {
+        return Err(codes::NO_MEMORY);
+    };
+    Ok(message)
 }
 
 /// Goes on to a screen of another size.
@@ -214,6 +223,38 @@ pub extern "C" fn scm_owner(alloc: Global, session: &mut Session, row: u16, colu
         }
         None => codes::NOBODY,
     }
+}
+
+/// Writes the symbol that begins at a place of the screen, as far as it fits, and answers how many bytes it has.
+#[unsafe(no_mangle)]
+pub extern "C" fn scm_symbol(
+    alloc: Global,
+    session: &mut Session,
+    row: u16,
+    column: u16,
+    out: &mut [u8],
+) -> usize
+    ensures len { result ≡ length (symbol_behind session.old.handle.value row column) }
+    ensures written { out.new ≡ over (symbol_behind session.old.handle.value row column) out.old }
+    ensures kept { session.new.handle.value ≡ session.old.handle.value }
+{
+    match take(alloc, session) {
+        Some(held) => {
+            let len = write_text(held.symbol(row, column).as_bytes(), out);
+            put(alloc, session, held);
+            len
+        }
+        None => write_text(&[], out),
+    }
+}
+
+/// Writes what a code says, as far as it fits, and answers how many bytes that has.
+#[unsafe(no_mangle)]
+pub extern "C" fn scm_words(code: u32, out: &mut [u8]) -> usize
+    ensures len { result ≡ length (words_of_code code) }
+    ensures written { out.new ≡ over (words_of_code code) out.old }
+{
+    write_text(codes::words(code).as_bytes(), out)
 }
 
 /// Closes a session.

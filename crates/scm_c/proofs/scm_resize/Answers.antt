@@ -4,6 +4,7 @@ use Rattle.scm_c.specs.Behind.{held_in}
 use Rattle.scm_c.specs.Stages.{Resizes}
 use Rattle.scm_c.proofs.StageLemmas.{goes-behind}
 use Rattle.scm_c.proofs.ToldLemmas.{call_code}
+use Rattle.scm_c.specs.Told.{waits}
 use Rattle.scm_c.proofs.scm_resize.Goals as goal
 
 pub returns-in-Some-clause-resized : goal.returns-in-Some-clause-resized
@@ -14,5 +15,5 @@ returns-in-Some-clause-resized c = λ done.
 pub returns-in-Some-clause-code : goal.returns-in-Some-clause-code
 returns-in-Some-clause-code c =
     c.done_or_not_now.ensures.code
-    ∙ call_code c.args.session.now.handle.value c.in-Some.held.value c.deref_mut.result.now c.resize-is_done.result
+    ∙ call_code waits c.args.session.now.handle.value c.in-Some.held.value c.deref_mut.result.now c.resize-is_done.result
     (sym c.take.ensures.taken ∙ ap held_in c.in-Some.is) c.deref_mut.ensures.value c.resize-is_done.ensures.waits

@@ -1,0 +1,16 @@
+use Rattle.std.proofs.Common.{arith}
+use Rattle.scm_c.proofs.ToldLemmas.{long_message, bad_message, good_message}
+use Rattle.scm_c.specs.Told.{IsCode}
+use Rattle.scm_c.proofs.message_of.Goals as goal
+
+pub returns-then-text-gt1000000-clause-err : goal.returns-then-text-gt1000000-clause-err
+returns-then-text-gt1000000-clause-err c = λ otherwise. long_message c.args.text.now otherwise c.if-text-gt1000000.true
+
+pub returns-in_default-clause-err : goal.returns-in_default-clause-err
+returns-in_default-clause-err c = λ otherwise. bad_message c.args.text.now otherwise (omega (arith, c.if-text-gt1000000.false)) c.in_default.ensures.cases.0
+
+pub returns-in_default-from_str-clause-err : goal.returns-in_default-from_str-clause-err
+returns-in_default-from_str-clause-err c = λ otherwise. IsCode.no_memory (good_message c.args.text.now (omega (arith, c.if-text-gt1000000.false)) c.in-Ok.ensures.cases.1)
+
+pub returns-clause-good : goal.returns-clause-good
+returns-clause-good c = good_message c.args.text.now (omega (arith, c.if-text-gt1000000.false)) c.in-Ok.ensures.cases.1
