@@ -15,7 +15,8 @@ use Rattle.scm_view.specs.declared.quit_dialog.QuitDialogButtonId.TheVariants.{Q
 use Rattle.scm_view.specs.declared.ids.ComponentId.TheVariants as ids
 use Rattle.scm_view.specs.declared.commit_view.CommitViewMode.TheVariants as mode
 use Rattle.scm_view.specs.Shown.{Shown}
-use Rattle.scm_record.specs.Frames.{Scene, frame_of_document}
+use Rattle.scm_view.specs.Frame.{frame_of_document}
+use Rattle.scm_record.specs.Frames.{Scene}
 use Rattle.scm_record.specs.Uses.{shot_of}
 use Rattle.scm_view.specs.Texts.{message_text}
 use Rattle.scm_view.specs.Window.{layers, rows_from, owner, span, extent}

@@ -1,5 +1,5 @@
 -- What drawing a view answers is its frame.
-use Rattle.std.proofs.Common.{◌≡◌, ℕ, ◌≤◌, true, false, refl, sym, ap, subst, ◌∙◌, arith, rules}
+use Rattle.std.proofs.Common.{◌≡◌, ℕ, ◌≤◌, true, false, replicate, refl, sym, ap, subst, ◌∙◌, arith}
 use Rattle.std.proofs.lemmas.Bool.Decides.{nat_tests}
 use Rattle.std.specs.Prelude.{ℤ, pos, option_map, List}
 use Rattle.std.specs.HashMap.{HashMap, IsFromIterResult}
@@ -7,12 +7,15 @@ use Rattle.scm_cells.specs.Screen.{Screen, blank_screen}
 use Rattle.scm_render.specs.Canvas.{Row, Sight, painted}
 use Rattle.scm_render.specs.Picture.{part}
 use Rattle.scm_render.specs.Places.{screen_rect, whole_sight, timed}
-use Rattle.scm_render.specs.Hits.{IsLawful}
 use Rattle.scm_render.specs.declared.trace.DrawnRect.{DrawnRect}
 use Rattle.scm_render.specs.Laws.{HasLastBoxes}
 use Rattle.scm_view.specs.AppView.{app_picture, app_view_of, AppsAreDrawnAlike, ShowsSession}
+use Rattle.scm_view.specs.Blanks.{blank_row}
 use Rattle.scm_view.specs.Clicks.{is_clickable}
-use Rattle.scm_view.specs.Screens.{sight}
+use Rattle.scm_view.specs.Frame.{Frame, frame_of_document, frame_of_picture, frame_of_view, is_plain, picture_of}
+use Rattle.scm_view.specs.Laws.{ClearedGridsAreScreens}
+use Rattle.scm_view.specs.SameIds.{same_id}
+use Rattle.scm_view.specs.Screens.{screen, sight}
 use Rattle.scm_view.specs.Shown.{Shown}
 use Rattle.scm_view.specs.Window.{rows_of_box, height_of_box, IsPlain, window}
 use Rattle.scm_view.specs.declared.app_view.AppView.{AppView}
@@ -20,18 +23,17 @@ use Rattle.scm_view.specs.declared.commit_view.CommitViewMode.{CommitViewMode}
 use Rattle.scm_view.specs.declared.commit_view.CommitViewMode.TheVariants.{Inline, Adjacent}
 use Rattle.scm_view.specs.declared.ids.ComponentId.{ComponentId}
 use Rattle.scm_view.specs.declared.ids.ComponentId.TheVariants as ids
-use Rattle.scm_view.proofs.ScreenLemmas.{cleared-sight, cleared-rows}
 use Rattle.scm_input.specs.declared.inputs.TerminalKind.{TerminalKind}
 use Rattle.scm_record.specs.declared.frame.Places.{Places}
-use Rattle.scm_record.specs.Frames.{Frame, IsMapOf, KnowsPlaces, columns_of, rows_of, scene_of, frame_of, frame_of_document, frame_of_picture, frame_of_view, is_plain, picture_of, same_id}
+use Rattle.scm_record.specs.Frames.{IsMapOf, KnowsPlaces, columns_of, rows_of, scene_of, frame_of}
 use Rattle.scm_record.specs.Session.{Session}
 
--- the test tells ids apart
-lawful : IsLawful same_id
-lawful = record { same = search rules; self = search rules }
+-- a cleared grid is the screen
+pub cleared-screen : ClearedGridsAreScreens → (w h s : ℕ) → screen_rect (blank_screen w h) (pos 0) (pos s) ≡ screen w h s
+cleared-screen laws w h s = ap (λ (v : Sight). v.rect) (laws.cleared w h s)
 
 module _ {S : Type 0} where
-  view-map : (w h s : ℕ) (a : AppView) (v : Sight) (boxes : HashMap ComponentId DrawnRect S) → (IsLawful same_id → HasLastBoxes same_id is_clickable boxes) → v ≡ sight w h s
+  view-map : (w h s : ℕ) (a : AppView) (v : Sight) (boxes : HashMap ComponentId DrawnRect S) → HasLastBoxes same_id is_clickable boxes → v ≡ sight w h s
       → IsFromIterResult same_id (timed (part ids.App (app_picture a v (pos 0) (pos 0))).boxes) boxes
       → IsMapOf w (frame_of_view w h s a) boxes
   unfolding frame_of_picture
@@ -39,25 +41,32 @@ module _ {S : Type 0} where
       let bs = (part ids.App (picture_of w h s a)).boxes in
       let by : IsFromIterResult same_id (timed bs) boxes = rw e at made in
       record {
-        owner = λ y x p o t. (last lawful).targets (pos y) (pos x) o t bs by;
-        span = λ key. ap (option_map rows_of_box) ((last lawful).rects bs by (ids.SelectableItem key));
-        extent = ap height_of_box ((last lawful).rects bs by ids.App);
+        owner = λ y x p o t. last.targets (pos y) (pos x) o t bs by;
+        span = λ key. ap (option_map rows_of_box) (last.rects bs by (ids.SelectableItem key));
+        extent = ap height_of_box (last.rects bs by ids.App);
       }
 
   -- what drawing a view on a cleared grid answers is the map of its frame
-  pub drawn_is_map : (w h s : ℕ) (a : AppView) (grid : Screen) (y : ℤ) (boxes : HashMap ComponentId DrawnRect S) → (IsLawful same_id → HasLastBoxes same_id is_clickable boxes) → grid ≡ blank_screen w h → y ≡ pos s
+  pub drawn_is_map : ClearedGridsAreScreens → (w h s : ℕ) (a : AppView) (grid : Screen) (y : ℤ) (boxes : HashMap ComponentId DrawnRect S) → HasLastBoxes same_id is_clickable boxes → grid ≡ blank_screen w h → y ≡ pos s
       → IsFromIterResult same_id (timed (part ids.App (app_picture a (whole_sight grid (pos 0) y) (pos 0) (pos 0))).boxes) boxes
       → IsMapOf w (frame_of_view w h s a) boxes
-  drawn_is_map w h s a grid y boxes last cleared place made =
+  drawn_is_map laws w h s a grid y boxes last cleared place made =
       let m = rw (cleared, place) at made in
-      view-map w h s a (whole_sight (blank_screen w h) (pos 0) (pos s)) boxes last (cleared-sight w h s) m
+      view-map w h s a (whole_sight (blank_screen w h) (pos 0) (pos s)) boxes last (laws.cleared w h s) m
 
 -- and what it leaves are the rows
-pub drawn-rows : (w h s : ℕ) (a : AppView) (grid : Screen) (y : ℤ) (rows : List Row) → grid ≡ blank_screen w h → y ≡ pos s
-    → rows ≡ painted (screen_rect grid (pos 0) y) (app_picture a (whole_sight grid (pos 0) y) (pos 0) (pos 0)).puts y grid.rows
+sight-rows : (w h s : ℕ) (a : AppView) (v : Sight) (rows : List Row) → v ≡ sight w h s
+    → rows ≡ painted v.rect (app_picture a v (pos 0) (pos 0)).puts (pos s) (replicate h (blank_row w))
     → rows ≡ (frame_of_view w h s a).rows
 unfolding frame_of_picture
-drawn-rows w h s a grid y rows cleared place drawn = cleared-rows w h s a grid y rows cleared place drawn
+sight-rows w h s a v rows e drawn = rw e at drawn
+
+pub drawn-rows : ClearedGridsAreScreens → (w h s : ℕ) (a : AppView) (grid : Screen) (y : ℤ) (rows : List Row) → grid ≡ blank_screen w h → y ≡ pos s
+    → rows ≡ painted (screen_rect grid (pos 0) y) (app_picture a (whole_sight grid (pos 0) y) (pos 0) (pos 0)).puts y grid.rows
+    → rows ≡ (frame_of_view w h s a).rows
+drawn-rows laws w h s a grid y rows cleared place drawn =
+    let d = rw (cleared, place) at drawn in
+    sight-rows w h s a (whole_sight (blank_screen w h) (pos 0) (pos s)) rows (laws.cleared w h s) d
 
 -- the frame of a view that shows a session is that of the session's view
 view-is : AppsAreDrawnAlike → (w h scroll : ℕ) (a : AppView) (shown : Shown) → ShowsSession a shown → frame_of_view w h scroll a ≡ frame_of_view w h scroll (app_view_of shown)

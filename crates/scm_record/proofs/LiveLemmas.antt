@@ -14,7 +14,8 @@ use Rattle.scm_record.specs.declared.selector.Flow.{Flow}
 use Rattle.scm_record.specs.declared.selector.Flow.TheVariants as flows
 use Rattle.scm_record.specs.Session.{Session, IsDrawable, after_frame, message_of, message_text, start, with_message, without_pending}
 use Rattle.scm_record.specs.declared.frame.DrawnFrame.{DrawnFrame}
-use Rattle.scm_record.specs.Frames.{Frame, HasSize, IsShown, Scene, columns_of, rows_of, scene_of}
+use Rattle.scm_view.specs.Frame.{Frame}
+use Rattle.scm_record.specs.Frames.{HasSize, IsShown, Scene, columns_of, rows_of, scene_of}
 use Rattle.scm_record.specs.Uses.{hit, shot_of}
 use Rattle.scm_record.specs.Step.{Change, change}
 use Rattle.scm_record.specs.Run.{Setting, world_in, with_session, Outcome, Goes, Breaks, Point, Before, Drawn, Within, Accepted, no_such_place, too_long, kept_at, edited, outcome_by, resume, batch, Reaches, here, on, world_at}

@@ -17,7 +17,8 @@ use Rattle.scm_record.specs.declared.selector.Flow.{Flow}
 use Rattle.scm_record.specs.declared.selector.Flow.TheVariants as flows
 use Rattle.scm_input.specs.Script.{Read, Batch, BrokenRead, Edit, Answer, BrokenEdit, Reply, no_more}
 use Rattle.scm_record.specs.Session.{Session, IsDrawable, with_help, message_text, with_message}
-use Rattle.scm_record.specs.Frames.{Frame, Scene, columns_of, rows_of, frame_of_document, scene_of}
+use Rattle.scm_view.specs.Frame.{Frame, frame_of_document}
+use Rattle.scm_record.specs.Frames.{Scene, columns_of, rows_of, scene_of}
 use Rattle.scm_record.specs.Uses.{hit, shot_of}
 use Rattle.scm_record.specs.Clicks.{clicked}
 use Rattle.scm_record.specs.Change.{stays, accepts}

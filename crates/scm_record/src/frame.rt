@@ -1,12 +1,13 @@
 //! The frame last drawn: the screen, and where each thing on it was drawn.
-ghost use Rattle.std.specs.Prelude.{◌≡◌, ℕ, ◌<◌, ◌≤◌, ◌+◌, ◌^◌, IfErr, IfOk, IsTrue, OnOk, length, string_bytes};
+ghost use Rattle.std.specs.Prelude.{◌≡◌, ℕ, ◌<◌, ◌≤◌, ◌+◌, ◌^◌, true, false, IfErr, IfOk, IsTrue, OnOk, length, string_bytes};
 ghost use Rattle.scm_render.specs.Picture.{PictureInRange, part};
 ghost use Rattle.scm_errors.specs.declared.error.RecordError.TheVariants.{OutOfMemory};
 ghost use Rattle.scm_types.specs.Limits.{is_accepted_state, max_scroll};
 ghost use Rattle.scm_view.specs.declared.ids.ComponentId.TheVariants as ids;
 ghost use Rattle.scm_view.specs.Shown.{Shown};
 ghost use Rattle.scm_view.specs.Window.{IsPlain, ShowsInline, rows_of_box, window};
-ghost use Rattle.scm_record.specs.Frames.{HasSize, IsMapOf, IsShown, KnowsPlaces, Scene, frame_of_document, frame_of_view, is_plain, picture_of, scene_of};
+ghost use Rattle.scm_view.specs.Frame.{frame_of_document, frame_of_view, is_plain, picture_of};
+ghost use Rattle.scm_record.specs.Frames.{HasSize, IsMapOf, IsShown, KnowsPlaces, Scene, is_indexed, scene_of};
 ghost use Rattle.scm_record.specs.Session.{Session};
 ghost use Rattle.scm_record.specs.Uses.{ensured, held, hit, rows_above, scrolled_to, shot_of, top_in};
 
@@ -61,7 +62,9 @@ fn render(
     prove!(width <= 65_535);
     prove!(height <= 65_535);
     grid.clear();
+    laws::cleared_grids_are_screens();
     let boxes = Viewport::render_top_level(alloc, grid, 0, scroll as isize, view)?;
+    laws::ids_are_told_apart();
     scm_render::laws::maps_have_last_boxes(&boxes);
     Ok(boxes)
 }
@@ -140,6 +143,7 @@ impl DrawnFrame {
             self.new.grid.rows ≡ window self.old.grid.width (length self.old.grid.rows) scroll shown) }
         ensures places { OnOk result ((shown : Shown) → IsPlain view.now shown self.old.grid.width (length self.old.grid.rows) →
             KnowsPlaces self.old.grid.width (frame_of_document self.old.grid.width (length self.old.grid.rows) scroll shown) self.new.places) }
+        ensures indexed { OnOk result (is_indexed self.new.places ≡ true) }
         ensures width { self.new.grid.width ≡ self.old.grid.width }
         ensures height { length self.new.grid.rows ≡ length self.old.grid.rows }
         ensures err { IfErr result (λ e. e ≡ OutOfMemory) }
@@ -163,6 +167,7 @@ impl DrawnFrame {
         requires in_range { (w h : ℕ) → w ≤ 65535 → h ≤ 65535 → PictureInRange (part ids.App (picture_of w h scroll view.now)) }
         ensures rows { OnOk result (self.new.grid.rows ≡ (frame_of_view self.old.grid.width (length self.old.grid.rows) scroll view.now).rows) }
         ensures places { OnOk result (KnowsPlaces self.old.grid.width (frame_of_view self.old.grid.width (length self.old.grid.rows) scroll view.now) self.new.places) }
+        ensures indexed { OnOk result (is_indexed self.new.places ≡ false) }
         ensures width { self.new.grid.width ≡ self.old.grid.width }
         ensures height { length self.new.grid.rows ≡ length self.old.grid.rows }
         ensures err { IfErr result (λ e. e ≡ OutOfMemory) }
@@ -172,8 +177,8 @@ impl DrawnFrame {
         Ok(())
     }
 
-    /// Draws what a session shows, from a row of the document on. Where memory is refused the frame
-    /// keeps its size.
+    /// Draws what a session shows, from a row of the document on. A plain frame is kept by its index,
+    /// any other by the map of its boxes. Where memory is refused the frame keeps its size.
     pub(crate) fn draw(
         &mut self,
         alloc: Global,
@@ -184,6 +189,7 @@ impl DrawnFrame {
         requires scroll { scroll ≤ max_scroll }
         ensures ok { OnOk result ((kind : TerminalKind) (s : Session) → s.shown ≡ showing.now → s.scroll ≡ scroll
             → HasSize kind self.old → IsShown (scene_of kind s) self.new) }
+        ensures indexed { OnOk result (is_indexed self.new.places ≡ is_plain self.old.grid.width (length self.old.grid.rows) showing.now.view_mode) }
         ensures size { (kind : TerminalKind) → HasSize kind self.old → HasSize kind self.new }
         ensures err { IfErr result (λ e. e ≡ OutOfMemory) }
     {

@@ -11,30 +11,105 @@ pub mod recorder;
 mod runs;
 mod selector;
 
-pub use live::{Editing, LiveSession, Turn};
+pub use live::Editing;
+pub use live::LiveSession;
+pub use live::Turn;
 pub use recorder::Recorder;
-pub use scm_cells::{
-    Clusters, Grid, Line, Mask, Rect, RectSize, ScreenRect, Span, push_spans_from_line,
-    replace_control_character, text_width,
-};
-pub use scm_input::{
-    Event, KeyCode, KeyEvent, KeyEventKind, KeyModifiers, MouseButton, MouseEvent, MouseEventKind,
-    RecordInput, Screens, ScriptEdit, ScriptInput, ScriptRead, TerminalEvent, TerminalKind,
-    TestingInput, TestingScreenshot, events, helpers, inputs, screens, script_input, terminal,
-};
-pub use scm_render::{
-    Clickable, Component, DrawTrace, DrawnRect, DrawnRects, Viewport, centered_rect, find_target,
-};
-pub use scm_selection::{KeySet, counts, key_lists, key_set, moves, toggles};
+pub use scm_cells::Clusters;
+pub use scm_cells::Grid;
+pub use scm_cells::Line;
+pub use scm_cells::Mask;
+pub use scm_cells::Rect;
+pub use scm_cells::RectSize;
+pub use scm_cells::ScreenRect;
+pub use scm_cells::Span;
+pub use scm_cells::push_spans_from_line;
+pub use scm_cells::replace_control_character;
+pub use scm_cells::text_width;
+pub use scm_input::Event;
+pub use scm_input::KeyCode;
+pub use scm_input::KeyEvent;
+pub use scm_input::KeyEventKind;
+pub use scm_input::KeyModifiers;
+pub use scm_input::MouseButton;
+pub use scm_input::MouseEvent;
+pub use scm_input::MouseEventKind;
+pub use scm_input::RecordInput;
+pub use scm_input::Screens;
+pub use scm_input::ScriptEdit;
+pub use scm_input::ScriptInput;
+pub use scm_input::ScriptRead;
+pub use scm_input::TerminalEvent;
+pub use scm_input::TerminalKind;
+pub use scm_input::TestingInput;
+pub use scm_input::TestingScreenshot;
+pub use scm_input::events;
+pub use scm_input::helpers;
+pub use scm_input::inputs;
+pub use scm_input::screens;
+pub use scm_input::script_input;
+pub use scm_input::terminal;
+pub use scm_render::Clickable;
+pub use scm_render::Component;
+pub use scm_render::DrawTrace;
+pub use scm_render::DrawnRect;
+pub use scm_render::DrawnRects;
+pub use scm_render::Viewport;
+pub use scm_render::centered_rect;
+pub use scm_render::find_target;
+pub use scm_selection::KeySet;
+pub use scm_selection::counts;
+pub use scm_selection::key_lists;
+pub use scm_selection::key_set;
+pub use scm_selection::moves;
+pub use scm_selection::steps;
+pub use scm_selection::toggles;
 pub use scm_shown::Showing;
-pub use scm_types::{
-    ChangeType, Commit, File, FileMode, IsizeExt, Items, OwnedText, RecordError, RecordState,
-    Section, SectionChangedLine, SelectedChanges, SelectedContents, Text, Tristate, TryClone,
-    UsizeExt, consts, laws, make_binary_description,
-};
-pub use scm_view::{
-    AppView, Button, CommitMessageView, CommitView, CommitViewMode, ComponentId, Dialog, FileKey,
-    FileView, FileViewHeader, HelpDialog, LineKey, Menu, MenuBar, MenuItem, QuitDialog,
-    QuitDialogButtonId, RowIndex, RowPlace, SectionKey, SectionLineView, SectionLineViewInner,
-    SectionSelection, SectionView, SelectionKey, TristateBox, TristateIconStyle,
-};
+pub use scm_types::ChangeType;
+pub use scm_types::Commit;
+pub use scm_types::File;
+pub use scm_types::FileMode;
+pub use scm_types::IsizeExt;
+pub use scm_types::Items;
+pub use scm_types::OwnedText;
+pub use scm_types::RecordError;
+pub use scm_types::RecordState;
+pub use scm_types::Section;
+pub use scm_types::SectionChangedLine;
+pub use scm_types::SelectedChanges;
+pub use scm_types::SelectedContents;
+pub use scm_types::Text;
+pub use scm_types::Tristate;
+pub use scm_types::TryClone;
+pub use scm_types::UsizeExt;
+pub use scm_types::consts;
+pub use scm_types::laws;
+pub use scm_types::make_binary_description;
+pub use scm_view::AppView;
+pub use scm_view::Button;
+pub use scm_view::CommitMessageView;
+pub use scm_view::CommitView;
+pub use scm_view::CommitViewMode;
+pub use scm_view::ComponentId;
+pub use scm_view::Dialog;
+pub use scm_view::FileKey;
+pub use scm_view::FileView;
+pub use scm_view::FileViewHeader;
+pub use scm_view::FrameIndex;
+pub use scm_view::HelpDialog;
+pub use scm_view::LineKey;
+pub use scm_view::Menu;
+pub use scm_view::MenuBar;
+pub use scm_view::MenuItem;
+pub use scm_view::QuitDialog;
+pub use scm_view::QuitDialogButtonId;
+pub use scm_view::RowIndex;
+pub use scm_view::RowPlace;
+pub use scm_view::SectionKey;
+pub use scm_view::SectionLineView;
+pub use scm_view::SectionLineViewInner;
+pub use scm_view::SectionSelection;
+pub use scm_view::SectionView;
+pub use scm_view::SelectionKey;
+pub use scm_view::TristateBox;
+pub use scm_view::TristateIconStyle;

@@ -1,6 +1,7 @@
 use Rattle.std.proofs.Common.{◌≡◌, ◌∙◌, ◌≤◌, ap, arith, sym, subst, true, false, length}
 use Rattle.scm_view.specs.Shown.{Shown}
-use Rattle.scm_record.specs.Frames.{columns_of, rows_of, is_plain}
+use Rattle.scm_view.specs.Frame.{is_plain}
+use Rattle.scm_record.specs.Frames.{columns_of, rows_of}
 use Rattle.scm_input.specs.declared.inputs.TerminalKind.{TerminalKind}
 use Rattle.scm_input.specs.declared.inputs.TerminalKind.TheVariants.{Testing}
 use Rattle.scm_record.proofs.FrameLemmas.{plain-shows, free-shows}
@@ -43,4 +44,19 @@ returns-clause-ok c = λ kind s same scroll size.
             places = drawn.1;
             open_menu = menu;
           })
+    ]
+
+pub returns-clause-indexed : goal.returns-clause-indexed
+returns-clause-indexed c =
+    let w = c.args.self.now.grid.width in
+    let h = length c.args.self.now.grid.rows in
+    elim c.if-is_plain.branch [
+      | then-is_plain+in_ok-draw_plain b ↦
+          let tested = rw (c.width-width.ensures.value, c.height-height.ensures.value) at (sym c.is_plain.ensures ∙ b.if-is_plain.true) in
+          let plain = subst (λ (shown : Shown). is_plain w h shown.view_mode ≡ true) c.showing.view_is tested in
+          rw b.self-is (b.in_ok-draw_plain.ensures.indexed ∙ sym plain)
+      | else-is_plain+in_ok-draw_free b ↦
+          let tested = rw (c.width-width.ensures.value, c.height-height.ensures.value) at (sym c.is_plain.ensures ∙ b.if-is_plain.false) in
+          let free = subst (λ (shown : Shown). is_plain w h shown.view_mode ≡ false) c.showing.view_is tested in
+          rw b.self-is (b.in_ok-draw_free.ensures.indexed ∙ sym free)
     ]
