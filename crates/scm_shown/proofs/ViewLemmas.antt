@@ -1,5 +1,6 @@
 -- What a session shows, step by step over a file's sections and over the files.
-use Rattle.std.proofs.Common.{◌≡◌, ℕ, zero, suc, ◌+◌, ◌<◌, ◌≤◌, Bool, true, false, ◌&&◌, List, [], ◌∷◌, ◌++◌, length, drop, get_or, refl, ap, add-one, drop-cons, arith}
+use Rattle.std.proofs.Common.{◌≡◌, ℕ, zero, suc, ◌+◌, ◌<◌, ◌≤◌, Bool, true, false, ◌&&◌, List, [], ◌∷◌, ◌++◌, length, drop, get_or, refl, ap, sym, ◌∙◌, add-one, drop-cons, arith}
+use Rattle.std.specs.List.{list_all}
 use Rattle.std.specs.Prelude.{map, sum_by, None, slice_get, unwrap_or, if◌then◌else◌}
 use Rattle.std.proofs.lemmas.List.{drop_all}
 use Rattle.std.proofs.lemmas.List.Sums.{count_by-le-length, sum_by-cons}
@@ -11,7 +12,12 @@ use Rattle.scm_types.specs.Limits.{section_size}
 use Rattle.scm_types.specs.Marks.{is_editable_section}
 use Rattle.scm_types.specs.declared.keys.FileKey.{FileKey}
 use Rattle.scm_types.specs.declared.keys.SelectionKey.TheVariants as keys
+use Rattle.scm_types.specs.declared.keys.SectionKey.{SectionKey}
+use Rattle.scm_types.specs.declared.tristate.Tristate.TheVariants as tristate
 use Rattle.scm_types.specs.Keys.{section_key_of, has_key}
+use Rattle.scm_view.specs.declared.section_view.SectionView.{SectionView}
+use Rattle.scm_shown.specs.Views.{lent_sections}
+use Rattle.scm_shown.specs.Folds.{has_no_fold, is_full}
 use Rattle.scm_view.specs.Shown.{Shown, Totals, are_all_expanded, commit_at, file_view_of, file_views_of, is_changed, is_removed, old_lines, section_view_of, section_views_of}
 
 -- ---- lists
@@ -27,15 +33,30 @@ at_most_one_more false n m h = omega arith
 
 -- ---- folds
 
-pub folds-more : (s : Shown) (k : FileKey) (i : ℕ) (sections : List Section) (d : Section) → i < length sections
-    → are_all_expanded s k i (drop i sections)
-    ≡ ((if is_changed (get_or sections i d) then has_key s.expanded (keys.Section (section_key_of k i)) else true) && are_all_expanded s k (i + 1) (drop (i + 1) sections))
-unfolding are_all_expanded
-folds-more s k i sections d h = rw (add-one, drop-cons sections i d h) refl
+section-fold : (s : Shown) (t : Totals) (k : SectionKey) (editable line : ℕ) (section : Section)
+    → has_no_fold (section_view_of s t k editable line section) ≡ (if is_changed section then has_key s.expanded (keys.Section k) else true)
+section-fold s t k editable line section = go (is_changed section) (has_key s.expanded (keys.Section k))
+  where
+    go : (b c : Bool) → (if b then is_full (if c then tristate.True else tristate.False) else true) ≡ (if b then c else true)
+    go true true = refl
+    go true false = refl
+    go false c = refl
 
-pub folds-end : (s : Shown) (k : FileKey) (i : ℕ) (sections : List Section) → length sections ≤ i → are_all_expanded s k i (drop i sections) ≡ true
-unfolding are_all_expanded
-folds-end s k i sections h = rw (drop_all i sections h) refl
+-- no view of a file's sections shows a fold just where all of changed lines are expanded
+folds-of : (s : Shown) (t : Totals) (k : FileKey) (i editable line : ℕ) (sections : List Section)
+    → list_all has_no_fold (section_views_of s t k i editable line sections) ≡ are_all_expanded s k i sections
+unfolding section_views_of are_all_expanded
+folds-of s t k i editable line [] = refl
+folds-of s t k i editable line (section ∷ more) =
+    rw (section-fold s t (section_key_of k i) editable line section, folds-of s t k (suc i) (if is_editable_section section then editable + 1 else editable) (line + old_lines section) more) refl
+
+folds-lent : (vs : List SectionView) → list_all has_no_fold (lent_sections vs) ≡ list_all has_no_fold vs
+folds-lent [] = refl
+folds-lent (v ∷ vs) = ap (λ b. has_no_fold v && b) (folds-lent vs)
+
+pub folds-are : (s : Shown) (t : Totals) (k : FileKey) (sections : List Section) (vs : List SectionView) → lent_sections vs ≡ section_views_of s t k 0 0 0 sections
+    → list_all has_no_fold vs ≡ are_all_expanded s k 0 sections
+folds-are s t k sections vs e = sym (folds-lent vs) ∙ ap (list_all has_no_fold) e ∙ folds-of s t k 0 0 0 sections
 
 -- ---- sections
 

@@ -4,3 +4,5 @@ pub mod Showing
 pub mod Menus
 -- what is lent of the views
 pub mod Views
+-- the fold of a file, as it is found from the views of its sections; only contracts within this crate cite it
+pub mod Folds

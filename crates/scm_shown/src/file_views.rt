@@ -31,10 +31,11 @@ fn file_view<'a>(
 {
     let header = SelectionKey::File(key);
     let section_views = section_views(showing, alloc, key, file.sections.as_slice())?;
+    let fold = showing.file_fold(key, section_views.as_slice());
     Ok(FileView {
         file_key: key,
         toggle_box: showing.toggle_box(header, file.tristate()),
-        expand_box: showing.expand_box(header, showing.file_fold(key, file)),
+        expand_box: showing.expand_box(header, fold),
         is_header_selected: showing.is_selected(header),
         old_path: old_path(file),
         path: file.path.as_str(),
@@ -53,7 +54,7 @@ pub(crate) fn file_views<'a>(
     ensures ok { IfOk result (λ views. lent_files views ≡ file_views_of showing.now commit_idx 0 files.now) }
     ensures err { IfErr result (λ e. e ≡ OutOfMemory) }
 {
-    let mut views = Vec::new(alloc);
+    let mut views = Vec::with_capacity(alloc, files.len())?;
     for (file_idx, file) in files.iter().enumerate() {
         let key = FileKey {
             commit_idx,

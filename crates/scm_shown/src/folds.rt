@@ -1,33 +1,30 @@
 //! Which sections and files are unfolded.
-ghost use Rattle.std.specs.Prelude.{◌≡◌, true, if◌then◌else◌};
+ghost use Rattle.std.specs.Prelude.{◌≡◌};
+ghost use Rattle.std.specs.List.{list_all};
 ghost use Rattle.scm_types.specs.declared.keys.SelectionKey.TheVariants as keys;
 ghost use Rattle.scm_types.specs.Keys.{has_key};
-ghost use Rattle.scm_view.specs.Shown.{are_all_expanded, file_fold, is_changed, section_fold};
+ghost use Rattle.scm_view.specs.Shown.{section_fold};
+ghost use Rattle.scm_shown.specs.Folds.{fold_of, has_no_fold};
 
 use crate::showing::Showing;
-use scm_types::{File, Section, Tristate};
-use scm_view::{FileKey, SectionKey, SelectionKey};
+use scm_types::{Section, Tristate};
+use scm_view::{FileKey, SectionKey, SectionView, SelectionKey};
 
-/// The section has no changed lines that are folded.
-fn has_no_fold(showing: &Showing<'_>, key: SectionKey, section: &Section<'_>) -> bool
-    ensures { result ≡ (if is_changed section.now then has_key showing.now.expanded (keys.Section key) else true) }
+/// The section that a view shows has no changed lines that are folded.
+fn has_no_fold(view: &SectionView<'_>) -> bool
+    ensures { result ≡ has_no_fold view.now }
 {
-    match section {
-        Section::Changed { .. } => showing.is_expanded(SelectionKey::Section(key)),
+    match view.section {
+        Section::Changed { .. } => view.expand_box.tristate == Tristate::True,
         Section::Unchanged { .. } | Section::FileMode { .. } | Section::Binary { .. } => true,
     }
 }
 
 /// All sections of changed lines are unfolded.
-fn are_all_expanded(showing: &Showing<'_>, key: FileKey, sections: &[Section<'_>]) -> bool
-    ensures { result ≡ are_all_expanded showing.now key 0 sections.now }
+fn have_no_fold(views: &[SectionView<'_>]) -> bool
+    ensures { result ≡ list_all has_no_fold views.now }
 {
-    for (index, section) in sections.iter().enumerate() {
-        if !has_no_fold(showing, key.section(index), section) {
-            return false;
-        }
-    }
-    true
+    views.iter().all(|view| has_no_fold(view))
 }
 
 impl<'state> Showing<'state> {
@@ -42,13 +39,13 @@ impl<'state> Showing<'state> {
         }
     }
 
-    /// The fold of a file: partial where some of its changed lines are folded.
-    pub(crate) fn file_fold(&self, key: FileKey, file: &File<'_>) -> Tristate
-        ensures { result ≡ file_fold self.now key file.now }
+    /// The fold of a file with these sections: partial where some of its changed lines are folded.
+    pub(crate) fn file_fold(&self, key: FileKey, views: &[SectionView<'_>]) -> Tristate
+        ensures { result ≡ fold_of (has_key self.now.expanded (keys.File key)) (list_all has_no_fold views.now) }
     {
         if !self.is_expanded(SelectionKey::File(key)) {
             Tristate::False
-        } else if are_all_expanded(self, key, file.sections.as_slice()) {
+        } else if have_no_fold(views) {
             Tristate::True
         } else {
             Tristate::Partial

@@ -149,7 +149,7 @@ pub(crate) fn section_views<'a>(
     ensures err { IfErr result (λ e. e ≡ OutOfMemory) }
 {
     let totals = totals_of(sections);
-    let mut views = Vec::new(alloc);
+    let mut views = Vec::with_capacity(alloc, sections.len())?;
     let mut before = Before {
         editable: 0,
         lines: 0,
