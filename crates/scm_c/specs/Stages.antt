@@ -7,9 +7,9 @@ use Rattle.scm_types.specs.Limits.{is_accepted_state}
 use Rattle.scm_input.specs.declared.events.Event.{Event}
 use Rattle.scm_input.specs.declared.inputs.TerminalKind.{TerminalKind}
 use Rattle.scm_input.specs.declared.inputs.TerminalKind.TheVariants.{Testing}
-use Rattle.scm_record.specs.Session.{start, after_frame}
-use Rattle.scm_record.specs.Live.{Live, Asking}
-use Rattle.scm_record.specs.Calls.{Handles, Answers, HandleFails, AnswerFails}
+use Rattle.scm_record.specs.Session.{start}
+use Rattle.scm_record.specs.Live.{Live, Asking, on_screen}
+use Rattle.scm_record.specs.Calls.{EventLeads, MessageLeads, EventFails, MessageFails}
 use Rattle.scm_record.specs.declared.live.Turn.{Turn}
 use Rattle.scm_record.specs.declared.live.Turn.TheVariants as turns
 use Rattle.scm_json.specs.Form.{state_of}
@@ -43,17 +43,17 @@ stage_resized (Err error) = Ended error
 
 -- an event leads from stage to stage, as the contract of a live session says
 pub data Presses (event : Event) : Stage → Stage → Type 0 where
-  turned : {l : Live} (turn : Turn) → Handles l event turn → Presses event (Waiting l) (stage_after (Ok turn))
-  failed : {l : Live} {error : RecordError} → HandleFails l event error → Presses event (Waiting l) (Ended error)
+  turned : {l : Live} (turn : Turn) → EventLeads l event turn → Presses event (Waiting l) (stage_after (Ok turn))
+  failed : {l : Live} {error : RecordError} → EventFails l event error → Presses event (Waiting l) (Ended error)
 
 -- a message does
 pub data Says (text : List ℕ) : Stage → Stage → Type 0 where
-  turned : {a : Asking} (turn : Turn) → Answers a text turn → Says text (Editing a) (stage_after (Ok turn))
-  failed : {a : Asking} {error : RecordError} → AnswerFails a text error → Says text (Editing a) (Ended error)
+  turned : {a : Asking} (turn : Turn) → MessageLeads a text turn → Says text (Editing a) (stage_after (Ok turn))
+  failed : {a : Asking} {error : RecordError} → MessageFails a text error → Says text (Editing a) (Ended error)
 
 -- and another screen
 pub data Resizes (kind : TerminalKind) : Stage → Stage → Type 0 where
-  resized : {l : Live} → Resizes kind (Waiting l) (Waiting (record { session = after_frame l.session; kind = kind }))
+  resized : {l : Live} → Resizes kind (Waiting l) (Waiting (on_screen l kind))
   refused : {l : Live} → Resizes kind (Waiting l) (Ended OutOfMemory)
 
 -- a session of the state whose JSON form the text is, drawn on a screen of this size

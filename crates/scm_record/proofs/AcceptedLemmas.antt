@@ -1,5 +1,5 @@
 -- A session that can be drawn stays so: marks and short messages leave a state within the limits, and the scroll is held.
-use Rattle.std.proofs.Common.{◌≡◌, ℕ, zero, suc, ◌+◌, ◌≤◌, ◌&&◌, Bool, true, false, List, [], ◌∷◌, length, map, fold, cond, sym, ap, ◌∙◌, refl, subst}
+use Rattle.std.proofs.Common.{◌≡◌, ℕ, zero, suc, ◌+◌, ◌≤◌, ◌&&◌, Bool, true, false, List, [], ◌∷◌, length, map, fold, cond, sym, ap, ◌∙◌, refl, subst, arith}
 use Rattle.std.specs.Prelude.{IsTrue, nat_le, sum_by}
 use Rattle.std.specs.List.{list_all}
 use Rattle.std.proofs.lemmas.Bool.{and_parts}
@@ -16,7 +16,7 @@ use Rattle.scm_types.proofs.EditLemmas.{length-modify}
 use Rattle.scm_input.specs.declared.events.Event.{Event}
 use Rattle.scm_record.specs.declared.selector.Flow.{Flow}
 use Rattle.scm_selection.specs.Toggle.{with_key_toggled, with_all_inverted, with_all_set}
-use Rattle.scm_record.specs.Session.{Session, IsDrawable, with_message, commit_saying}
+use Rattle.scm_record.specs.Session.{Session, IsDrawable, start, padded, with_message, commit_saying}
 use Rattle.scm_record.specs.Frames.{Scene}
 use Rattle.scm_record.specs.Step.{change}
 use Rattle.scm_record.proofs.KeepingLemmas.{toggle-hidden, marked-hidden, inverted-hidden}
@@ -148,4 +148,27 @@ message-keeps-drawable s commit text e h =
     record {
       accepted = and-true _ _ (and-true _ _ (and-true _ _ few (short-said text s.shown.state.commits commit e said.1)) counted.1) all.1;
       scroll = h.scroll;
+    }
+
+-- ---- the start
+
+padded-few : (commits : List Commit) → nat_le (length commits) 2 ≡ true → nat_le (length (padded commits)) 2 ≡ true
+padded-few [] h = refl
+padded-few (first ∷ []) h = refl
+padded-few (first ∷ second ∷ rest) h = h
+
+padded-short : (commits : List Commit) → IsTrue (list_all (λ (c : Commit). is_short_option c.message) commits) → IsTrue (list_all (λ (c : Commit). is_short_option c.message) (padded commits))
+padded-short [] h = refl
+padded-short (first ∷ []) h = and-true _ _ (and_parts (is_short_option first.message) _ h).0 refl
+padded-short (first ∷ second ∷ rest) h = h
+
+-- the session of an accepted state can be drawn
+pub start-drawable : (given : RecordState) → IsTrue (is_accepted_state given) → IsDrawable (start given)
+start-drawable given h =
+    let all = and_parts _ _ h in
+    let counted = and_parts _ _ all.0 in
+    let said = and_parts _ _ counted.0 in
+    record {
+      accepted = and-true _ _ (and-true _ _ (and-true _ _ (padded-few given.commits said.0) (padded-short given.commits said.1)) counted.1) all.1;
+      scroll = omega arith;
     }

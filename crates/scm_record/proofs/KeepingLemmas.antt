@@ -167,7 +167,7 @@ inverted-hidden files =
     (λ file. repaired-hidden (file_with_marks not file) ∙ ap (λ (list : List Section). record file { sections = list }) (map-hidden bare_section (section_with_marks not) (marks-hidden not) file.sections)) files
 
 -- a state is the padded given one but for marks, and whole where it is read-only
-record Kept (given state : RecordState) : Type 0 where
+pub record Kept (given state : RecordState) : Type 0 where
   same : unmarked (padded_state given) ≡ unmarked state
   commits : map has_message state.commits ≡ map has_message (padded given.commits)
   flag : state.is_read_only ≡ given.is_read_only
@@ -212,7 +212,7 @@ marks-kept given s _ _ toggled h = files_changed-kept given s (with_key_toggled 
 marks-kept given s _ _ inverted h = files_changed-kept given s with_all_inverted inverted-hidden h
 marks-kept given s _ _ all_set h = files_changed-kept given s with_all_set all_set-hidden h
 
-abbrev KeptAt : RecordState → Point → Type 0
+abbrev pub KeptAt : RecordState → Point → Type 0
 KeptAt given p = Kept given (world_at p).session.shown.state
 
 short-kept : (given : RecordState) (drawn : Session) (rest : List Event) (b : Bool) (w v : World) → Kept given v.session.shown.state → Kept given w.session.shown.state → KeptAt given (resume drawn rest (cond b (Goes v) (Breaks too_long w)))
@@ -259,11 +259,12 @@ after-kept given (Within drawn w (event ∷ rest)) h =
 after-kept given (Accepted w) h = h
 after-kept given (Failed fault w) h = h
 
-reaches-kept : (given : RecordState) (p : Point) {q : Point} → Reaches p q → KeptAt given p → KeptAt given q
+-- and so does all that is reached
+pub reaches-kept : (given : RecordState) (p : Point) {q : Point} → Reaches p q → KeptAt given p → KeptAt given q
 reaches-kept given p here h = h
 reaches-kept given p (on {q = q} r) h = after-kept given q (reaches-kept given p r h)
 
-start-kept : (given : RecordState) → Kept given (start given).shown.state
+pub start-kept : (given : RecordState) → Kept given (start given).shown.state
 start-kept given = record { same = refl; commits = refl; flag = refl; files = λ _. refl }
 
 -- an accepted state has at most two commits
@@ -279,14 +280,17 @@ length-mapped : {A B : Type 0} (f : A → B) (xs : List A) → length (map f xs)
 length-mapped f [] = refl
 length-mapped f (x ∷ xs) = ap suc (length-mapped f xs)
 
+-- what is kept of an accepted state
+pub is-kept : (given answer : RecordState) → IsTrue (is_accepted_state given) → Kept given answer → IsKept given answer
+is-kept given answer accepted kept = record {
+  same = kept.same;
+  commits = sym (length-mapped has_message answer.commits) ∙ ap length kept.commits ∙ length-mapped has_message (padded given.commits) ∙ padded-two given.commits (few_commits given accepted);
+  messages = kept.commits;
+  read_only = kept.files;
+}
+
 -- what is reached from the start of an accepted state keeps it
 pub kept-reached : (given answer : RecordState) (s : Session) (w : World) (q : Point) → IsTrue (is_accepted_state given) → s ≡ start given → w.session ≡ s → Reaches (Before w) q → (world_at q).session.shown.state ≡ answer → IsKept given answer
 kept-reached given answer s w q accepted started is_session r returned =
     let begun : Kept given w.session.shown.state = subst (λ (t : Session). Kept given t.shown.state) (sym (is_session ∙ started)) (start-kept given) in
-    let kept : Kept given answer = subst (λ (state : RecordState). Kept given state) returned (reaches-kept given (Before w) r begun) in
-    record {
-      same = kept.same;
-      commits = sym (length-mapped has_message answer.commits) ∙ ap length kept.commits ∙ length-mapped has_message (padded given.commits) ∙ padded-two given.commits (few_commits given accepted);
-      messages = kept.commits;
-      read_only = kept.files;
-    }
+    is-kept given answer accepted (subst (λ (state : RecordState). Kept given state) returned (reaches-kept given (Before w) r begun))

@@ -9,7 +9,7 @@ use Rattle.scm_errors.specs.Fault.{Cancelled, fault_of}
 use Rattle.scm_types.specs.declared.state.RecordState.{RecordState}
 use Rattle.scm_input.specs.declared.events.Event.{Event}
 use Rattle.scm_input.specs.declared.inputs.TerminalKind.{TerminalKind}
-use Rattle.scm_input.specs.Script.{Read, Batch, Reply}
+use Rattle.scm_input.specs.Script.{Read, Batch, Reply, no_events_left}
 use Rattle.scm_record.specs.declared.selector.Flow.{Flow}
 use Rattle.scm_record.specs.declared.selector.Flow.TheVariants as flows
 use Rattle.scm_record.specs.Session.{Session, IsDrawable, after_frame, message_of, message_text, start, with_message, without_pending}
@@ -18,21 +18,24 @@ use Rattle.scm_view.specs.Frame.{Frame}
 use Rattle.scm_record.specs.Frames.{HasSize, IsShown, Scene, columns_of, rows_of, scene_of}
 use Rattle.scm_record.specs.Uses.{hit, shot_of}
 use Rattle.scm_record.specs.Step.{Change, change}
-use Rattle.scm_record.specs.Run.{Setting, world_in, with_session, Outcome, Goes, Breaks, Point, Before, Drawn, Within, Accepted, no_such_place, too_long, kept_at, edited, outcome_by, resume, batch, Reaches, here, on, world_at}
+use Rattle.scm_record.specs.Run.{Setting, World, world_in, with_session, Outcome, Goes, Breaks, Point, Before, Drawn, Within, Accepted, no_such_place, too_long, kept_at, edited, outcome_by, resume, batch, Reaches, here, on, world_at, Stops}
 use Rattle.scm_record.specs.Turn.{IsFault}
-use Rattle.scm_record.specs.Live.{Live, Asking}
+use Rattle.scm_record.specs.Live.{Live, Asking, on_screen}
 use Rattle.scm_record.specs.declared.live.Turn.{Turn}
 use Rattle.scm_record.specs.declared.live.Turn.TheVariants.{Waiting, Editing, Accepted as Done}
-use Rattle.scm_record.specs.Calls.{live, answering, waits, asks, Leads, Fails, Handles, Answers, Call, Path, still, press, say, reads_of, edits_of, beginning, IsRight, IsRun}
+use Rattle.scm_record.specs.Calls.{live, answering, waits, asks, Leads, Fails, EventLeads, MessageLeads, Call, Press, Say, Resize, keep_screen, Path, still, press, say, resize, reads_of, edits_of, beginning, run_of, IsConfirmed, IsRun, AreRuns, last, resized}
 use Rattle.scm_record.specs.Headline.{ConfirmsQuit, IsInline, owner_at, window_of}
-use Rattle.scm_record.proofs.ShotLemmas.{frame-plain, hit-on_screen}
-use Rattle.scm_record.proofs.QuitLemmas.{accepted-confirmed}
-use Rattle.scm_record.proofs.KeepingLemmas.{kept-reached}
+use Rattle.scm_record.specs.Keeping.{IsKept}
+use Rattle.scm_record.proofs.BatchLemmas.{batches-are-handled, batches-begin-as-drawn}
+use Rattle.scm_record.proofs.DrawableLemmas.{reaches-drawable}
+use Rattle.scm_record.proofs.ShotLemmas.{clicks-hit-owners, frame-plain, hit-on_screen}
+use Rattle.scm_record.proofs.QuitLemmas.{accepted-confirmed, failed-unconfirmed, fault-unconfirmed}
+use Rattle.scm_record.proofs.KeepingLemmas.{Kept, is-kept, reaches-kept, start-kept}
 use Rattle.scm_types.specs.Limits.{is_accepted_state, is_short_text, max_scroll}
 use Rattle.scm_record.proofs.Budget.{rank}
 use Rattle.scm_record.proofs.StepLemmas.{Allows, marks-allow, Pushes, nothing, pushed, leads}
 use Rattle.scm_record.proofs.RunLemmas.{reaches-trans, step-of, stops-fault, stops-memory, stops-after}
-use Rattle.scm_record.proofs.AcceptedLemmas.{change-keeps-drawable}
+use Rattle.scm_record.proofs.AcceptedLemmas.{change-keeps-drawable, start-drawable}
 
 -- ---- what an event leaves pending
 
@@ -93,17 +96,21 @@ no-place place = le-ltb place 0 (omega arith)
 
 -- what leads later leads
 pub leads-after : (p q : Point) (kind : TerminalKind) (reads : List Read) (edits : List Reply) (turn : Turn) → Reaches p q → Leads q kind reads edits turn → Leads p kind reads edits turn
-leads-after p q kind reads edits (Waiting l) r h = (h.0, h.1, reaches-trans r h.2)
+leads-after p q kind reads edits (Waiting l) r h = (h.0, h.1, h.2, reaches-trans r h.3)
 leads-after p q kind reads edits (Editing a) r h = (h.0, h.1, h.2, reaches-trans r h.3)
 leads-after p q kind reads edits (Done state) r h = (h.0, h.1, h.2, reaches-trans r h.3)
 
--- and fails
+-- what stops with an error fails with it
+failing : (error : RecordError) (p : Point) (w : World) → Stops error p w → Fails p error
+failing error p w h = (w, h, (tt, failed-unconfirmed error p w h))
+
+-- what fails later fails
 pub fails-after : (p q : Point) (error : RecordError) → Reaches p q → Fails q error → Fails p error
-fails-after p q error r h = (h.0, stops-after error p q h.0 r h.1)
+fails-after p q error r h = failing error p h.0 (stops-after error p q h.0 r h.1)
 
 -- where memory is refused
 pub fails-memory : (p : Point) (error : RecordError) → error ≡ OutOfMemory → Fails p error
-fails-memory p error e = (world_at p, stops-memory error p p (world_at p) (ap fault_of e) here (record { reads = refl; edits = refl; texts = refl; frames = refl }))
+fails-memory p error e = failing error p (world_at p) (stops-memory error p p (world_at p) (ap fault_of e) here (record { reads = refl; edits = refl; texts = refl; frames = refl }))
 
 module _ (a : Setting) (drawn s t : Session) (frames : ℕ) (event : Event) (flow : Flow) (is : change (scene_of a.kind drawn) s event ≡ record { session = t; flow = flow }) where
   abbrev P : Point
@@ -128,7 +135,7 @@ module _ (a : Setting) (drawn s t : Session) (frames : ℕ) (event : Event) (flo
 
   -- the user gives up
   pub gives-up : flow ≡ flows.Cancel → Fails P cancelled
-  gives-up e = (world_in a t frames, stops-fault cancelled Cancelled P (world_in a t frames) (follows flows.Cancel e) refl)
+  gives-up e = failing cancelled P (world_in a t frames) (stops-fault cancelled Cancelled P (world_in a t frames) (follows flows.Cancel e) refl)
 
   -- a screenshot without a store
   pub lacks-place : (place : ℕ) → flow ≡ flows.Shoot place → a.store.texts ≡ [] → (error : RecordError) → IsFault no_such_place error → Fails P error
@@ -136,7 +143,7 @@ module _ (a : Setting) (drawn s t : Session) (frames : ℕ) (event : Event) (flo
       let w = world_in a t frames in
       let lacks : nat_lt place (length w.texts) ≡ false = rw none (no-place place) in
       let broken : kept_at w place (shot_of (scene_of a.kind drawn) t.cleared) ≡ Breaks no_such_place w = rw lacks refl in
-      (w, stops-fault error no_such_place P w (subst (λ (o : Outcome). Reaches P (resume drawn [] o)) broken (follows (flows.Shoot place) e)) f)
+      failing error P w (stops-fault error no_such_place P w (subst (λ (o : Outcome). Reaches P (resume drawn [] o)) broken (follows (flows.Shoot place) e)) f)
 
 -- a frame has the size of the screen whose scene it shows
 pub shown-sized : (kind : TerminalKind) (drawn : Session) (frame : DrawnFrame) → IsShown (scene_of kind drawn) frame → HasSize kind frame
@@ -150,7 +157,7 @@ calm-session t u e f = ap (λ (list : List Event). record t { cleared = false; p
 pub comes-to-wait : (p : Point) (kind : TerminalKind) (reads : List Read) (edits : List Reply) (t u : Session) (frames : ℕ)
     → [] ≡ t.pending → u ≡ without_pending (after_frame t) → Reaches p (Drawn (world_in (live kind reads edits) (after_frame t) frames)) → Leads p kind reads edits (Waiting (record { session = u; kind = kind }))
 comes-to-wait p kind reads edits t u frames e f r =
-    (frames, refl, subst (λ (x : Session). Reaches p (Drawn (world_in (live kind reads edits) x frames))) (calm-session t u e f) r)
+    (frames, refl, ap (λ (s : Session). s.pending) f, subst (λ (x : Session). Reaches p (Drawn (world_in (live kind reads edits) x frames))) (calm-session t u e f) r)
 
 -- a frame with an event pending: it is handled
 pub comes-to-handle : (p : Point) (a : Setting) (t u : Session) (frames : ℕ) (next : Event)
@@ -192,42 +199,105 @@ module _ (a : Asking) (text : List ℕ) (drawn : Session) (reads : List Read) (e
   says-too-long e error f =
       let w = world_in (live a.kind reads edits) a.session frames in
       let long : Reaches Asked (resume drawn [] (cond false (Goes (with_session w said)) (Breaks too_long w))) = subst (λ (b : Bool). Reaches Asked (resume drawn [] (cond b (Goes (with_session w said)) (Breaks too_long w)))) (sym e) here in
-      (w, stops-fault error too_long Asked w long f)
+      failing error Asked w (stops-fault error too_long Asked w long f)
 
 -- ---- any calls
 
 -- from a turn that the steps lead to they lead to the next one
 handles-on : (p : Point) (kind : TerminalKind) (l : Live) (event : Event) (turn : Turn) (reads : List Read) (edits : List Reply)
-    → Handles l event turn → Leads p kind (Batch (event ∷ []) ∷ reads) edits (Waiting l) → Leads p kind reads edits turn
+    → EventLeads l event turn → Leads p kind (Batch (event ∷ []) ∷ reads) edits (Waiting l) → Leads p kind reads edits turn
 handles-on p kind l event turn reads edits g h =
     let q = waits l (Batch (event ∷ []) ∷ reads) edits h.0 in
-    leads-after p q kind reads edits turn h.2 (subst (λ (k : TerminalKind). Leads q k reads edits turn) h.1 (g reads edits h.0))
+    leads-after p q kind reads edits turn h.3 (subst (λ (k : TerminalKind). Leads q k reads edits turn) h.1 (g reads edits h.0))
 
 answers-on : (p : Point) (kind : TerminalKind) (a : Asking) (text : List ℕ) (turn : Turn) (reads : List Read) (edits : List Reply)
-    → Answers a text turn → Leads p kind reads (answering text ∷ edits) (Editing a) → Leads p kind reads edits turn
+    → MessageLeads a text turn → Leads p kind reads (answering text ∷ edits) (Editing a) → Leads p kind reads edits turn
 answers-on p kind a text turn reads edits g h =
     let q = asks h.0 a reads (answering text ∷ edits) h.1 in
     leads-after p q kind reads edits turn h.3 (subst (λ (k : TerminalKind). Leads q k reads edits turn) h.2 (g h.0 reads edits h.1))
 
-path-leads : (reads : List Read) (edits : List Reply) (p : Point) (kind : TerminalKind) {turn last : Turn} {calls : List Call}
-    → Path turn calls last → Leads p kind (reads_of calls ++ reads) (edits_of calls ++ edits) turn → Leads p kind reads edits last
-path-leads reads edits p kind still h = h
-path-leads reads edits p kind (press {l = l} {event = event} {turn = turn} {calls = calls} g path) h =
-    path-leads reads edits p kind path (handles-on p kind l event turn (reads_of calls ++ reads) (edits_of calls ++ edits) g h)
-path-leads reads edits p kind (say {a = a} {text = text} {turn = turn} {calls = calls} g path) h =
-    path-leads reads edits p kind path (answers-on p kind a text turn (reads_of calls ++ reads) (edits_of calls ++ edits) g h)
+-- on one screen, from turn to turn
+path-leads : (reads : List Read) (edits : List Reply) (p : Point) (kind : TerminalKind) {turn end : Turn} {calls : List Call}
+    → IsTrue (keep_screen calls) → Path turn calls end → Leads p kind (reads_of calls ++ reads) (edits_of calls ++ edits) turn → Leads p kind reads edits end
+path-leads reads edits p kind k still h = h
+path-leads reads edits p kind k (press {l = l} {event = event} {turn = turn} {calls = calls} g path) h =
+    path-leads reads edits p kind k path (handles-on p kind l event turn (reads_of calls ++ reads) (edits_of calls ++ edits) g h)
+path-leads reads edits p kind k (say {a = a} {text = text} {turn = turn} {calls = calls} g path) h =
+    path-leads reads edits p kind k path (answers-on p kind a text turn (reads_of calls ++ reads) (edits_of calls ++ edits) g h)
+path-leads reads edits p kind k (resize path) h = cc
 
-is-right : (given : RecordState) (kind : TerminalKind) (calls : List Call) (turn : Turn) → IsTrue (is_accepted_state given) → Leads (beginning given kind calls [] []) kind [] [] turn → IsRight (beginning given kind calls [] []) given turn
-is-right given kind calls (Waiting l) accepted h = tt
-is-right given kind calls (Editing a) accepted h = tt
-is-right given kind calls (Done state) accepted h =
-    let w = world_in (live kind (reads_of calls ++ []) (edits_of calls ++ [])) (start given) 0 in
-    (subst (λ (x : RecordState). ConfirmsQuit (Before w) x) h.2 (accepted-confirmed w _ h.3), kept-reached given state (start given) w _ accepted refl refl h.3 h.2)
+-- with no reads and edits to come a run that waits ends in a fault
+is-confirmed : (w : World) (kind : TerminalKind) (turn : Turn) → Leads (Before w) kind [] [] turn → IsConfirmed (Before w) turn
+is-confirmed w kind (Waiting l) h =
+    let v = world_in (live l.kind [] []) l.session h.0 in
+    fault-unconfirmed (Before w) no_events_left v (subst (λ (list : List Event). Reaches (Before w) (batch v list)) h.2 (on h.3))
+is-confirmed w kind (Editing a) h = fault-unconfirmed (Before w) _ (world_in (live a.kind [] []) a.session h.1) h.3
+is-confirmed w kind (Done state) h = subst (λ (x : RecordState). ConfirmsQuit (Before w) x) h.2 (accepted-confirmed w _ h.3)
 
-pub sessions-are-runs : (given : RecordState) (kind : TerminalKind) (calls : List Call) (turn : Turn) → IsTrue (is_accepted_state given) → Path (Waiting (record { session = start given; kind = kind })) calls turn → IsRun given kind calls turn
-sessions-are-runs given kind calls turn accepted path =
-    let leads : (reads : List Read) (edits : List Reply) → Leads (beginning given kind calls reads edits) kind reads edits turn = λ reads edits. path-leads reads edits (beginning given kind calls reads edits) kind path (1, refl, on here) in
-    record { leads = leads; right = is-right given kind calls turn accepted (leads [] []) }
+module _ (s : Session) (kind : TerminalKind) (drawable : IsDrawable s) (calm : s.pending ≡ []) where
+  -- calls on one screen are a run
+  is-run : (calls : List Call) (turn : Turn) → IsTrue (keep_screen calls) → Path (Waiting (record { session = after_frame s; kind = kind })) calls turn → IsRun s kind calls turn
+  is-run calls turn k path =
+      let w = world_in (live kind (reads_of calls ++ []) (edits_of calls ++ [])) s 0 in
+      let leads : (reads : List Read) (edits : List Reply) → Leads (beginning s kind calls reads edits) kind reads edits turn = λ reads edits. path-leads reads edits (beginning s kind calls reads edits) kind k path (1, refl, calm, on here) in
+      record {
+        leads = leads;
+        handled = batches-are-handled w;
+        begun = batches-begin-as-drawn (Before w);
+        clicks = clicks-hit-owners w drawable;
+        confirmed = is-confirmed w kind turn (leads [] []);
+      }
+
+-- ---- screen by screen
+
+-- a path in parts, each on one screen
+data Parts : Turn → List Call → Turn → Type 0 where
+  one : {turn end : Turn} {calls : List Call} → IsTrue (keep_screen calls) → Path turn calls end → Parts turn calls end
+  more : {turn end : Turn} {l : Live} {other : TerminalKind} {calls later : List Call}
+      → IsTrue (keep_screen calls) → Path turn calls (Waiting l) → Parts (Waiting (on_screen l other)) later end → Parts turn (calls ++ Resize other ∷ later) end
+
+press-first : {l : Live} {event : Event} {turn end : Turn} {calls : List Call} → EventLeads l event turn → Parts turn calls end → Parts (Waiting l) (Press event ∷ calls) end
+press-first g (one k path) = one k (press g path)
+press-first g (more k path parts) = more k (press g path) parts
+
+say-first : {a : Asking} {text : List ℕ} {turn end : Turn} {calls : List Call} → MessageLeads a text turn → Parts turn calls end → Parts (Editing a) (Say text ∷ calls) end
+say-first g (one k path) = one k (say g path)
+say-first g (more k path parts) = more k (say g path) parts
+
+in-parts : {turn end : Turn} {calls : List Call} → Path turn calls end → Parts turn calls end
+in-parts still = one refl still
+in-parts (press g path) = press-first g (in-parts path)
+in-parts (say g path) = say-first g (in-parts path)
+in-parts (resize {l = l} {kind = kind} path) = more {l = l} {other = kind} refl still (in-parts path)
+
+are-runs : (s : Session) (kind : TerminalKind) {calls : List Call} {turn : Turn} → IsDrawable s → s.pending ≡ [] → Parts (Waiting (record { session = after_frame s; kind = kind })) calls turn → AreRuns s kind calls turn
+are-runs s kind drawable calm (one k path) = last k (is-run s kind drawable calm _ _ k path)
+are-runs s kind drawable calm (more {l = l} {other = other} {calls = calls} k path parts) =
+    let run = is-run s kind drawable calm calls (Waiting l) k path in
+    let led = run.leads [] [] in
+    resized k run (are-runs l.session other (reaches-drawable led.3 drawable) led.2 parts)
+
+-- what is accepted is kept
+runs-keep : (given state : RecordState) {s : Session} {kind : TerminalKind} {calls : List Call} → Kept given s.shown.state → AreRuns s kind calls (Done state) → Kept given state
+runs-keep given state h (last {s = s} {kind = kind} {calls = calls} k run) =
+    let led = run.leads [] [] in
+    subst (λ (x : RecordState). Kept given x) led.2 (reaches-kept given (run_of s kind calls) led.3 h)
+runs-keep given state h (resized {s = s} {kind = kind} {calls = calls} k run runs) =
+    let led = run.leads [] [] in
+    runs-keep given state (reaches-kept given (run_of s kind calls) led.3 h) runs
+
+module _ (given : RecordState) (kind : TerminalKind) (calls : List Call) (accepted : IsTrue (is_accepted_state given)) where
+  drawable : IsDrawable (start given)
+  drawable = start-drawable given accepted
+
+  pub session-is-run : (turn : Turn) → IsTrue (keep_screen calls) → Path (Waiting (record { session = start given; kind = kind })) calls turn → IsRun (start given) kind calls turn
+  session-is-run turn k path = is-run (start given) kind drawable refl calls turn k path
+
+  pub sessions-are-runs : (turn : Turn) → Path (Waiting (record { session = start given; kind = kind })) calls turn → AreRuns (start given) kind calls turn
+  sessions-are-runs turn path = are-runs (start given) kind drawable refl (in-parts path)
+
+  pub sessions-keep : (state : RecordState) → Path (Waiting (record { session = start given; kind = kind })) calls (Done state) → IsKept given state
+  sessions-keep state path = is-kept given state accepted (runs-keep given state (start-kept given) (sessions-are-runs (Done state) path))
 
 -- ---- what is seen
 

@@ -152,10 +152,14 @@ pub confirmed-accepts : (p : Point) (state : RecordState) → (quit : ConfirmsQu
 confirmed-accepts p state quit =
     subst (λ (q : Point). Reaches p q) (quit-accepts quit.world quit.drawn quit.left quit.world.session.shown.quit_dialog quit.world.session.shown.is_help_open refl refl quit.no_dialog quit.no_help) (on quit.reached)
 
+-- and a run that reaches a fault confirmed none
+pub fault-unconfirmed : (p : Point) (fault : Fault) (w : World) → Reaches p (Failed fault w) → (state : RecordState) → ConfirmsQuit p state → ⊥
+fault-unconfirmed p fault w r state quit = no-both p quit.world w fault (confirmed-accepts p state quit) r
+
 refuses-by : (f : Option Fault) (p : Point) (w : World) → MatchOption f ((q : Point) × Reaches p q × Shows w (world_at q)) (λ fault. Reaches p (Failed fault w)) → MatchOption f (Unit {0}) (λ fault. (state : RecordState) → ConfirmsQuit p state → ⊥)
 refuses-by None p w h = tt
-refuses-by (Some fault) p w h = λ state quit. no-both p quit.world w fault (confirmed-accepts p state quit) h
+refuses-by (Some fault) p w h = fault-unconfirmed p fault w h
 
--- a run that fails confirmed none
+-- likewise one that fails with an error
 pub failed-unconfirmed : (error : RecordError) (p : Point) (w : World) → Stops error p w → MatchOption (fault_of error) (Unit {0}) (λ fault. (state : RecordState) → ConfirmsQuit p state → ⊥)
 failed-unconfirmed error p w h = refuses-by (fault_of error) p w h

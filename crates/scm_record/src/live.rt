@@ -5,13 +5,18 @@ ghost use Rattle.scm_errors.specs.declared.error.RecordError.TheVariants.{OutOfM
 ghost use Rattle.scm_types.specs.Limits.{is_accepted_state};
 ghost use Rattle.scm_input.specs.declared.inputs.TerminalKind.{TerminalKind};
 ghost use Rattle.scm_input.specs.Script.{Read, Reply};
+ghost use Rattle.scm_input.specs.declared.events.Event.TheVariants.{Click};
 ghost use Rattle.scm_record.specs.Session.{IsDrawable, Session, after_frame, listed, message_of, message_text, start, without_pending};
+ghost use Rattle.scm_record.specs.Live.{on_screen};
 ghost use Rattle.scm_record.specs.Frames.{HasSize, IsShown, columns_of, rows_of, scene_of};
+ghost use Rattle.scm_record.specs.Step.{change};
+ghost use Rattle.scm_record.specs.Clicks.{clicked};
 ghost use Rattle.scm_record.specs.Run.{Within, world_in};
-ghost use Rattle.scm_record.specs.Calls.{AnswerFails, Answers, Call, Fails, HandleFails, Handles, IsRun, Leads, Path, live};
+ghost use Rattle.scm_record.specs.Calls.{AreRuns, Call, EventFails, EventLeads, Fails, IsRun, Leads, MessageFails, MessageLeads, Path, keep_screen, live};
 ghost use Rattle.scm_record.specs.declared.live.Turn.{Turn};
-ghost use Rattle.scm_record.specs.declared.live.Turn.TheVariants.{Waiting};
+ghost use Rattle.scm_record.specs.declared.live.Turn.TheVariants.{Accepted, Waiting};
 ghost use Rattle.scm_record.specs.Headline.{IsInline, owner_at, window_of};
+ghost use Rattle.scm_record.specs.Keeping.{IsKept};
 ghost use Rattle.scm_record.specs.Uses.{hit};
 ghost use Rattle.scm_types.specs.declared.state.RecordState.{RecordState};
 
@@ -179,8 +184,8 @@ impl<'state> LiveSession<'state> {
     /// An error ends the session: `Cancelled` where the user gives up, `Other("no such screenshot
     /// place")` for a screenshot, or `OutOfMemory`.
     pub fn handle(self, event: Event) -> Result<Turn<'state>, RecordError>
-        ensures ok { IfOk result (λ turn. Handles self.entry event turn) }
-        ensures err { IfErr result (λ e. HandleFails self.entry event e) }
+        ensures ok { IfOk result (λ turn. EventLeads self.entry event turn) }
+        ensures err { IfErr result (λ e. EventFails self.entry event e) }
     {
         let LiveSession {
             selector,
@@ -191,8 +196,12 @@ impl<'state> LiveSession<'state> {
     }
 
     /// The same session on another screen.
+    ///
+    /// The scroll stays, also where the document is now shorter: the frame of the next event brings
+    /// it into its bounds. `EnsureSelectionInViewport` brings the selection into view. An error,
+    /// which is `OutOfMemory`, ends the session.
     pub fn resize(self, kind: TerminalKind) -> Result<LiveSession<'state>, RecordError>
-        ensures ok { IfOk result (λ l. l ≡ record { session = after_frame self.entry.session; kind = kind }) }
+        ensures ok { IfOk result (λ l. l ≡ on_screen self.entry kind) }
         ensures err { IfErr result (λ e. e ≡ OutOfMemory) }
     {
         let mut selector = self.selector;
@@ -237,9 +246,13 @@ impl<'state> LiveSession<'state> {
         self.frame.grid()
     }
 
-    /// Whose a row and column of the screen is, if it is anyone's: what a click there acts on.
+    /// Whose a row and column of the screen is, both counted from 0, if it is anyone's: what a click
+    /// there acts on.
     pub fn owner(&self, row: usize, column: usize) -> Option<ComponentId>
         ensures hit { result ≡ hit (scene_of self.now.kind self.now.session) self.now.session.scroll row column }
+        // a click there does what a click on it does
+        ensures acts { change (scene_of self.now.kind self.now.session) self.now.session (Click row column)
+            ≡ clicked self.now.session.shown.open_menu self.now.session result }
         // inline it is the owner of the place in the document
         ensures owner { IsInline self.now.kind self.now.session → row < rows_of self.now.kind → column < columns_of self.now.kind
             → result ≡ owner_at self.now.kind self.now.session (self.now.session.scroll + row) column }
@@ -264,14 +277,13 @@ impl<'state> Editing<'state> {
         self.selector.message(self.commit)
     }
 
-    /// Leaves the message as it stands, and goes on to what follows: what a user does who leaves an
-    /// editor without another message.
+    /// Leaves the message as it stands, and goes on to what follows.
     ///
-    /// It is an answer of the same text, so that it is a step of a run too, and takes memory for that
-    /// text. To end the session in place of this, let go of it.
+    /// This is for a user who closes the editor and changes nothing. It is an answer of the same
+    /// text, and takes memory for that text. To end the session instead, drop it.
     pub fn keep(self) -> Result<Turn<'state>, RecordError>
-        ensures ok { IfOk result (λ turn. Answers self.entry (message_text self.entry.session self.entry.commit) turn) }
-        ensures err { IfErr result (λ e. AnswerFails self.entry (message_text self.entry.session self.entry.commit) e) }
+        ensures ok { IfOk result (λ turn. MessageLeads self.entry (message_text self.entry.session self.entry.commit) turn) }
+        ensures err { IfErr result (λ e. MessageFails self.entry (message_text self.entry.session self.entry.commit) e) }
     {
         let text = copied(self.selector.allocator(), self.message())?;
         self.answer(text)
@@ -282,8 +294,8 @@ impl<'state> Editing<'state> {
     /// An error ends the session: `Other("commit message too long")` for more than 1,000,000
     /// bytes, or as an event's does.
     pub fn answer(self, text: String) -> Result<Turn<'state>, RecordError>
-        ensures ok { IfOk result (λ turn. Answers self.entry (string_bytes text) turn) }
-        ensures err { IfErr result (λ e. AnswerFails self.entry (string_bytes text) e) }
+        ensures ok { IfOk result (λ turn. MessageLeads self.entry (string_bytes text) turn) }
+        ensures err { IfErr result (λ e. MessageFails self.entry (string_bytes text) e) }
     {
         let Editing {
             selector,
@@ -308,13 +320,25 @@ impl<'state> Editing<'state> {
     }
 }
 
-/// Whatever a program does with a session, it goes by the steps of one run: from the session's
-/// first frame they lead, by a read for each event and an edit for each message that the program
-/// handed in, to the turn that it has. What a program is given as accepted is the state of a
-/// confirmed quit, and the state that it began with but for marks and messages.
+/// Whatever a program does with a session, it goes by the steps of runs: of one run as long as the
+/// screen stays, and after each change of the screen of one more, which begins with the session as
+/// the run before left it. From where such a run begins its steps lead, by a read for each event
+/// and an edit for each message that the program handed in, to the turn that it has; and batches,
+/// clicks and confirmed quits are those of any run. What a program is given as accepted is the state
+/// of a confirmed quit, and the state that it began with but for marks and messages.
 ///
 /// It does nothing, and is there for its contract.
 pub fn sessions_are_runs()
-    ensures { (given : RecordState) (kind : TerminalKind) (calls : List Call) (turn : Turn)
-        → IsTrue (is_accepted_state given) → Path (Waiting (record { session = start given; kind = kind })) calls turn → IsRun given kind calls turn }
+    // on one screen
+    ensures one { (given : RecordState) (kind : TerminalKind) (calls : List Call) (turn : Turn)
+        → IsTrue (is_accepted_state given) → Path (Waiting (record { session = start given; kind = kind })) calls turn
+        → IsTrue (keep_screen calls) → IsRun (start given) kind calls turn }
+    // on any screens
+    ensures all { (given : RecordState) (kind : TerminalKind) (calls : List Call) (turn : Turn)
+        → IsTrue (is_accepted_state given) → Path (Waiting (record { session = start given; kind = kind })) calls turn
+        → AreRuns (start given) kind calls turn }
+    // of what is accepted
+    ensures kept { (given : RecordState) (kind : TerminalKind) (calls : List Call) (state : RecordState)
+        → IsTrue (is_accepted_state given) → Path (Waiting (record { session = start given; kind = kind })) calls (Accepted state)
+        → IsKept given state }
 {}

@@ -2,7 +2,7 @@
 use Rattle.std.proofs.Common.{◌≡◌, ℕ, List, [], ◌∷◌, ◌++◌, sym, subst}
 use Rattle.std.specs.Prelude.{Result, Ok, Err, IfOk}
 use Rattle.scm_record.specs.Live.{Asking}
-use Rattle.scm_record.specs.Calls.{Answers, Call, Path, Say, still, press, say}
+use Rattle.scm_record.specs.Calls.{MessageLeads, Call, Path, Say, still, press, say, resize}
 use Rattle.scm_record.specs.declared.live.Turn.{Turn}
 use Rattle.scm_record.specs.declared.live.Turn.TheVariants.{Editing}
 
@@ -11,10 +11,11 @@ pub path-join : {a b c : Turn} {xs ys : List Call} → Path a xs b → Path b ys
 path-join still q = q
 path-join (press h p) q = press h (path-join p q)
 path-join (say h p) q = say h (path-join p q)
+path-join (resize p) q = resize (path-join p q)
 
 -- an answer is one of one call
 pub path-of-answer : {E : Type 0} (r : Result Turn E) (t : Turn) (a : Asking) (text : List ℕ) → t ≡ Editing a
-    → IfOk r (λ next. Answers a text next) → IfOk r (λ next. (calls : List Call) × Path t calls next)
+    → IfOk r (λ next. MessageLeads a text next) → IfOk r (λ next. (calls : List Call) × Path t calls next)
 path-of-answer (Ok next) t a text e h = (Say text ∷ [], subst (λ (x : Turn). Path x (Say text ∷ []) next) (sym e) (say h still))
 path-of-answer (Err error) t a text e h = tt
 

@@ -1,5 +1,9 @@
-use Rattle.scm_record.proofs.LiveLemmas.{sessions-are-runs}
+use Rattle.scm_record.proofs.LiveLemmas.{session-is-run, sessions-are-runs, sessions-keep}
 use Rattle.scm_record.proofs.live.sessions_are_runs.Goals as goal
 
 pub returns : goal.returns
-returns c = sessions-are-runs
+returns c = record {
+  one = λ given kind calls turn accepted path k. session-is-run given kind calls accepted turn k path;
+  all = λ given kind calls turn accepted path. sessions-are-runs given kind calls accepted turn path;
+  kept = λ given kind calls state accepted path. sessions-keep given kind calls accepted state path;
+}
