@@ -5,7 +5,9 @@ use Rattle.scm_errors.specs.Fault.{Fault, fault_of}
 use Rattle.scm_input.specs.declared.events.Event.{Event}
 use Rattle.scm_record.specs.declared.runs.Next.{Next}
 use Rattle.scm_record.specs.declared.runs.Next.TheVariants as nexts
-use Rattle.scm_record.specs.Frames.{Scene, scene_of}
+use Rattle.scm_input.specs.declared.inputs.TerminalKind.{TerminalKind}
+use Rattle.scm_record.specs.declared.frame.DrawnFrame.{DrawnFrame}
+use Rattle.scm_record.specs.Frames.{HasSize, IsShown, Scene, scene_of}
 use Rattle.scm_input.specs.Store.{counted}
 use Rattle.scm_record.specs.Session.{Session}
 use Rattle.scm_record.specs.Run.{Setting, World, world_in, Outcome, Goes, Ends, Breaks, step_in, Point, Before, Within, Accepted, Failed, Reaches, Shows, Stops}
@@ -40,6 +42,10 @@ abbrev pub Refused : (Scene → Type 0) → Event → RecordError → Session �
 Refused IsSeen event error s a t b =
     (scene : Scene) (frames : ℕ) → IsSeen scene
     → Refuses error (world_in a s frames) (step_in scene (world_in a s frames) event) (world_in b t frames)
+
+-- the frame shows the session, and any other that shows the same as far down, on whichever screen has its size
+abbrev pub IsCurrent : Session → DrawnFrame → Type 0
+IsCurrent s frame = (kind : TerminalKind) (t : Session) → t.shown ≡ s.shown → t.scroll ≡ s.scroll → HasSize kind frame → IsShown (scene_of kind t) frame
 
 -- the events of a batch lead on, where the scene of the session last drawn is shown
 abbrev pub Handles : (Scene → Type 0) → List Event → Next → Session → Setting → Session → Setting → Type 0

@@ -8,6 +8,7 @@ ghost use Rattle.scm_input.specs.Script.{Read, Reply};
 ghost use Rattle.scm_input.specs.declared.events.Event.TheVariants.{Click};
 ghost use Rattle.scm_record.specs.Session.{IsDrawable, Session, after_frame, listed, message_of, message_text, start, without_pending};
 ghost use Rattle.scm_record.specs.Live.{on_screen};
+ghost use Rattle.scm_record.specs.Turn.{IsCurrent};
 ghost use Rattle.scm_record.specs.Frames.{HasSize, IsShown, columns_of, rows_of, scene_of};
 ghost use Rattle.scm_record.specs.Step.{change};
 ghost use Rattle.scm_record.specs.Clicks.{clicked};
@@ -21,7 +22,7 @@ ghost use Rattle.scm_record.specs.Uses.{hit};
 ghost use Rattle.scm_types.specs.declared.state.RecordState.{RecordState};
 
 use crate::frame::DrawnFrame;
-use crate::runs::{is_short, no_such_place, too_long};
+use crate::runs::{draw_anew, is_short, no_such_place, too_long};
 use crate::selector::{Flow, Selector};
 use scm_cells::Grid;
 use scm_input::{Event, TerminalKind};
@@ -90,19 +91,21 @@ pub enum Turn<'state> {
     Accepted(RecordState<'state>),
 }
 
-/// Draws the session, and takes the event that is pending, if one is.
+/// Draws the session, unless it is shown, and takes the event that is pending, if one is.
 fn advance(
     selector: &mut Selector<'_>,
     frame: &mut DrawnFrame,
+    is_shown: bool,
 ) -> Result<Option<Event>, RecordError>
     requires drawable { IsDrawable selector.now }
+    requires current { IsTrue is_shown → IsCurrent selector.now frame.now }
     requires few { length selector.now.pending ≤ 1 }
     ensures shown { OnOk result ((kind : TerminalKind) → HasSize kind frame.old → IsShown (scene_of kind (after_frame selector.old)) frame.new) }
     ensures taken { IfOk result (λ next. listed next ≡ selector.old.pending) }
     ensures rest { OnOk result (selector.new ≡ without_pending (after_frame selector.old)) }
     ensures err { IfErr result (λ e. e ≡ OutOfMemory) }
 {
-    frame.draw(selector.allocator(), selector.showing(), selector.scroll())?;
+    draw_anew(selector, frame, is_shown)?;
     selector.begin_frame();
     let next = selector.take_next();
     Ok(next)
@@ -118,6 +121,7 @@ fn settle<'state>(
     requires drawable { IsDrawable selector }
     requires calm { selector.pending ≡ [] }
     requires shown { (drawn : Session) × IsShown (scene_of kind drawn) frame }
+    requires current { IsCurrent selector frame }
     ensures ok { IfOk result (λ turn. (drawn : Session) (reads : List Read) (edits : List Reply) (frames : ℕ) → IsShown (scene_of kind drawn) frame
         → Leads (Within drawn (world_in (live kind reads edits) selector.entry frames) (event ∷ [])) kind reads edits turn) }
     ensures err { IfErr result (λ e. (drawn : Session) (reads : List Read) (edits : List Reply) (frames : ℕ) → IsShown (scene_of kind drawn) frame
@@ -125,8 +129,9 @@ fn settle<'state>(
 {
     let mut selector = selector;
     let mut frame = frame;
+    let is_shown = selector.is_kept_by(&frame, event);
     match selector.change(&frame, event)? {
-        Flow::GoOn => match advance(&mut selector, &mut frame)? {
+        Flow::GoOn => match advance(&mut selector, &mut frame, is_shown)? {
             None => Ok(Turn::Waiting(LiveSession {
                 selector,
                 frame,
@@ -171,7 +176,7 @@ impl<'state> LiveSession<'state> {
     {
         let mut selector = Selector::new(alloc, state)?;
         let mut frame = DrawnFrame::new(alloc, kind)?;
-        advance(&mut selector, &mut frame)?;
+        advance(&mut selector, &mut frame, false)?;
         Ok(LiveSession {
             selector,
             frame,
@@ -206,7 +211,7 @@ impl<'state> LiveSession<'state> {
     {
         let mut selector = self.selector;
         let mut frame = DrawnFrame::new(selector.allocator(), kind)?;
-        advance(&mut selector, &mut frame)?;
+        advance(&mut selector, &mut frame, false)?;
         Ok(LiveSession {
             selector,
             frame,
@@ -309,7 +314,7 @@ impl<'state> Editing<'state> {
             return Err(too_long(selector.allocator()));
         }
         selector.set_message(commit, text);
-        match advance(&mut selector, &mut frame)? {
+        match advance(&mut selector, &mut frame, false)? {
             None => Ok(Turn::Waiting(LiveSession {
                 selector,
                 frame,

@@ -1,5 +1,5 @@
 //! Runs: a session over an input, turn after turn, to its end.
-ghost use Rattle.std.specs.Prelude.{◌≡◌, ℕ, ◌+◌, false, IfErr, IfOk, OnErr, OnOk, string_bytes};
+ghost use Rattle.std.specs.Prelude.{◌≡◌, ℕ, ◌+◌, false, IfErr, IfOk, IsTrue, OnErr, OnOk, string_bytes};
 ghost use Rattle.scm_errors.specs.declared.error.RecordError.TheVariants.{OutOfMemory};
 ghost use Rattle.scm_types.specs.Limits.{is_short_text};
 ghost use Rattle.scm_input.specs.declared.events.Event.{Event};
@@ -9,8 +9,9 @@ ghost use Rattle.scm_input.specs.Store.{Store, count_up, with_frame};
 ghost use Rattle.scm_record.specs.Session.{IsDrawable, Session, after_frame, message_text};
 ghost use Rattle.scm_record.specs.Frames.{HasSize, IsShown, Scene, scene_of};
 ghost use Rattle.scm_record.specs.Uses.{shot_of};
-ghost use Rattle.scm_record.specs.Run.{Before, Within, Goes, World, batch, edited, kept_at, no_such_place, setting, too_long, world_in, Reaches, Stops};
-ghost use Rattle.scm_record.specs.Turn.{BatchStops, Ceases, Follows, Handles, IsFault, Refused, Refuses, TurnStops, point_of};
+ghost use Rattle.scm_record.specs.Run.{Before, Within, Goes, Setting, World, batch, edited, kept_at, no_such_place, setting, too_long, world_in, Reaches, Stops};
+ghost use Rattle.scm_record.specs.Turn.{BatchStops, Ceases, Follows, Handles, IsCurrent, IsFault, Refused, Refuses, TurnStops, point_of};
+ghost use Rattle.scm_record.specs.declared.runs.Next.TheVariants.{GoOn};
 ghost use Rattle.scm_record.specs.Ending.{EndsWith, FailsWith};
 
 use crate::frame::DrawnFrame;
@@ -26,6 +27,15 @@ pub(crate) enum Next {
     GoOn,
     /// The changes are accepted.
     Accept,
+}
+
+/// What follows a turn.
+#[derive(Clone, Copy)]
+struct Turned {
+    /// What follows its events.
+    next: Next,
+    /// The frame shows the session as they left it, so that none has to be drawn.
+    is_shown: bool,
 }
 
 /// The fault of a screenshot to a place that the store lacks.
@@ -173,6 +183,18 @@ fn handle_all(
     Ok(Next::GoOn)
 }
 
+/// Whether the events of a batch leave the session as it is.
+fn are_idle(selector: &Selector<'_>, frame: &DrawnFrame, events: &[Event]) -> bool
+    ensures { IsTrue result → (a : Setting) → Handles (λ scene. IsShown scene frame.now) events.now GoOn selector.now a selector.now a }
+{
+    for event in events {
+        if !selector.is_kept_by(frame, *event) {
+            return false;
+        }
+    }
+    true
+}
+
 /// The next batch: all pending events, or the next read.
 fn next_batch(
     selector: &mut Selector<'_>,
@@ -186,6 +208,8 @@ fn next_batch(
         (world_in (setting (kind input.old) (reads input.old) (edits input.old) store) selector.old frames)
         (world_in (setting (kind input.old) (reads input.new) (edits input.new) store) selector.new frames)) }
     ensures kind { kind input.new ≡ kind input.old }
+    ensures kept { selector.new.shown ≡ selector.old.shown }
+    ensures scroll { selector.new.scroll ≡ selector.old.scroll }
 {
     if selector.has_pending() {
         return Ok(selector.take_pending());
@@ -197,13 +221,35 @@ fn next_batch(
     input.next_events()
 }
 
-/// Draws the session over what was drawn before, and counts the frame.
+/// Draws the session over what was drawn before, unless that shows it already. Where memory is refused the
+/// frame keeps its size.
+pub(crate) fn draw_anew(
+    selector: &Selector<'_>,
+    frame: &mut DrawnFrame,
+    is_shown: bool,
+) -> Result<(), RecordError>
+    requires drawable { IsDrawable selector.now }
+    requires current { IsTrue is_shown → IsCurrent selector.now frame.old }
+    ensures shown { OnOk result ((kind : TerminalKind) (s : Session) → s.shown ≡ selector.now.shown → s.scroll ≡ selector.now.scroll
+        → HasSize kind frame.old → IsShown (scene_of kind s) frame.new) }
+    ensures err { IfErr result (λ e. e ≡ OutOfMemory) }
+    ensures size { (kind : TerminalKind) → HasSize kind frame.old → HasSize kind frame.new }
+{
+    if is_shown {
+        return Ok(());
+    }
+    frame.draw(selector.allocator(), selector.showing(), selector.scroll())
+}
+
+/// Draws the session, unless it is shown, and counts the frame.
 fn draw(
     selector: &mut Selector<'_>,
     frame: &mut DrawnFrame,
     screens: &mut Screens,
+    is_shown: bool,
 ) -> Result<(), RecordError>
     requires drawable { IsDrawable selector.now }
+    requires current { IsTrue is_shown → IsCurrent selector.now frame.now }
     ensures shown { OnOk result ((kind : TerminalKind) → HasSize kind frame.old → IsShown (scene_of kind selector.new) frame.new) }
     ensures drawn { OnOk result (selector.new ≡ after_frame selector.old) }
     ensures counted { OnOk result (screens.new ≡ with_frame screens.old) }
@@ -211,7 +257,7 @@ fn draw(
     ensures unchanged { OnErr result (screens.new ≡ screens.old) }
     ensures size { (kind : TerminalKind) → HasSize kind frame.old → HasSize kind frame.new }
 {
-    frame.draw(selector.allocator(), selector.showing(), selector.scroll())?;
+    draw_anew(selector, frame, is_shown)?;
     selector.begin_frame();
     screens.add_frame();
     Ok(())
@@ -223,12 +269,15 @@ fn turn(
     frame: &mut DrawnFrame,
     input: &mut dyn RecordInput,
     screens: &mut Screens,
-) -> Result<Next, RecordError>
+    is_shown: bool,
+) -> Result<Turned, RecordError>
     requires drawable { IsDrawable selector.now }
     requires sized { HasSize (kind input.now) frame.now }
-    ensures ok { IfOk result (λ next. (frames : ℕ) →
+    requires current { IsTrue is_shown → IsCurrent selector.now frame.now }
+    ensures ok { IfOk result (λ turned. (frames : ℕ) →
         Reaches (Before (world_in (setting (kind input.old) (reads input.old) (edits input.old) screens.old) selector.old frames))
-        (point_of next (world_in (setting (kind input.new) (reads input.new) (edits input.new) screens.new) selector.new (frames + 1)))) }
+        (point_of turned.next (world_in (setting (kind input.new) (reads input.new) (edits input.new) screens.new) selector.new (frames + 1)))) }
+    ensures current { IfOk result (λ turned. IsTrue turned.is_shown → IsCurrent selector.new frame.new) }
     ensures counted { OnOk result (screens.new.frames ≡ count_up screens.old.frames) }
     ensures err { IfErr result (λ e. TurnStops e
         selector.old (setting (kind input.old) (reads input.old) (edits input.old) screens.old)
@@ -236,10 +285,19 @@ fn turn(
     ensures size { (kind : TerminalKind) → HasSize kind frame.old → HasSize kind frame.new }
     ensures kind { kind input.new ≡ kind input.old }
 {
-    draw(selector, frame, screens)?;
+    draw(selector, frame, screens, is_shown)?;
     let batch = next_batch(selector, input)?;
+    if are_idle(selector, frame, &batch) {
+        return Ok(Turned {
+            next: Next::GoOn,
+            is_shown: true,
+        });
+    }
     let next = handle_all(selector, frame, input, screens, &batch)?;
-    Ok(next)
+    Ok(Turned {
+        next,
+        is_shown: false,
+    })
 }
 
 /// Turn after turn, until the user accepts or the run fails.
@@ -262,9 +320,11 @@ pub(crate) fn run_to_end(
         (setting (kind input.new) (reads input.new) (edits input.new) screens.new) e) }
     ensures kind { kind input.new ≡ kind input.old }
 {
+    let mut is_shown = false;
     loop {
-        match turn(selector, frame, input, screens)? {
-            Next::GoOn => {}
+        let turned = turn(selector, frame, input, screens, is_shown)?;
+        match turned.next {
+            Next::GoOn => is_shown = turned.is_shown,
             Next::Accept => return Ok(()),
         }
     }

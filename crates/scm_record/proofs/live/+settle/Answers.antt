@@ -7,6 +7,7 @@ use Rattle.scm_input.specs.Script.{Read, Reply}
 use Rattle.scm_record.specs.Calls.{live}
 use Rattle.scm_record.proofs.Budget.{rank}
 use Rattle.scm_record.proofs.LiveLemmas.{changed-few, changed-said, changed-drawable, changed-falls, drawn-drawable, leads-after, fails-after, fails-memory, goes, ends, edits, gives-up, lacks-place, calm-session, comes-to-wait, comes-to-handle, shown-sized}
+use Rattle.scm_record.proofs.CurrentLemmas.{current-after, current-kept}
 use Rattle.scm_record.proofs.live.+settle.Goals as goal
 
 pub returns-in_err-change-clause-err : goal.returns-in_err-change-clause-err
@@ -21,6 +22,11 @@ advance-requires-clause-drawable t c =
 pub advance-requires-clause-few : goal.advance-requires-clause-few
 advance-requires-clause-few t c =
     changed-few (scene_of c.args.kind c.requires.shown.0) c.args.selector c.change.new.self c.args.event c.in_ok-change.field-0 (c.in_ok-change.ensures.ok (scene_of c.args.kind c.requires.shown.0) c.requires.shown.1) c.requires.calm
+
+pub advance-requires-clause-current : goal.advance-requires-clause-current
+advance-requires-clause-current t c = λ kept.
+    let scene = scene_of c.args.kind c.requires.shown.0 in
+    current-kept c.args.frame scene c.args.selector c.change.new.self c.args.event c.in_ok-change.field-0 (c.is_kept_by.ensures kept scene c.requires.shown.1) (c.in_ok-change.ensures.ok scene c.requires.shown.1) c.requires.current
 
 pub returns-in_err-advance-in-GoOn-clause-err : goal.returns-in_err-advance-in-GoOn-clause-err
 returns-in_err-advance-in-GoOn-clause-err t c =
@@ -53,7 +59,11 @@ settle-requires t c =
         drawn-drawable c.change.new.self c.advance.new.selector rest (changed-drawable (scene_of c.args.kind c.requires.shown.0) c.args.selector c.change.new.self c.args.event c.in_ok-change.field-0 (c.in_ok-change.ensures.ok (scene_of c.args.kind c.requires.shown.0) c.requires.shown.1) c.requires.drawable),
         (
           ap (λ (s : Session). s.pending) rest,
-          (after_frame c.change.new.self, c.in_ok-advance-in-GoOn.ensures.shown c.args.kind (shown-sized c.args.kind c.requires.shown.0 c.args.frame c.requires.shown.1)),
+          (
+            (after_frame c.change.new.self, c.in_ok-advance-in-GoOn.ensures.shown c.args.kind (shown-sized c.args.kind c.requires.shown.0 c.args.frame c.requires.shown.1)),
+            current-after c.advance.new.frame c.args.kind c.change.new.self c.advance.new.selector rest
+                (c.in_ok-advance-in-GoOn.ensures.shown c.args.kind (shown-sized c.args.kind c.requires.shown.0 c.args.frame c.requires.shown.1)),
+          ),
         ),
       ),
     )

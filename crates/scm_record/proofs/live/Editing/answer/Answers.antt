@@ -7,6 +7,7 @@ use Rattle.scm_record.specs.Calls.{live}
 use Rattle.scm_record.specs.Live.{Asking}
 use Rattle.scm_record.proofs.AcceptedLemmas.{message-keeps-drawable}
 use Rattle.scm_record.proofs.LiveLemmas.{leads-after, fails-after, fails-memory, says-drawn, says-too-long, calm-session, drawn-drawable, comes-to-wait, comes-to-handle}
+use Rattle.scm_record.proofs.CurrentLemmas.{current-after}
 use Rattle.scm_record.proofs.live.Editing.answer.Goals as goal
 
 pub returns-then-not-is_short-clause-err : goal.returns-then-not-is_short-clause-err
@@ -41,6 +42,11 @@ settle-requires-clause-drawable c =
 
 pub settle-requires-clause-shown : goal.settle-requires-clause-shown
 settle-requires-clause-shown c = (after_frame c.set_message.new.self, c.in_ok-advance.ensures.shown c.self.inside.kind c.self.invariant.sized)
+
+pub settle-requires-clause-current : goal.settle-requires-clause-current
+settle-requires-clause-current c =
+    current-after c.advance.new.frame c.self.inside.kind c.set_message.new.self c.advance.new.selector c.in_ok-advance.ensures.rest
+    (c.in_ok-advance.ensures.shown c.self.inside.kind c.self.invariant.sized)
 
 pub returns-in-None-clause-ok : goal.returns-in-None-clause-ok
 returns-in-None-clause-ok c =

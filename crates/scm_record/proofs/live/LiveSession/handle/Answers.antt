@@ -1,7 +1,13 @@
 use Rattle.std.proofs.Common.{sym}
 use Rattle.std.proofs.lemmas.Result.{IfOk-weaker, IfErr-weaker}
 use Rattle.scm_record.proofs.LiveLemmas.{leads-after, fails-after, reads-event}
+use Rattle.scm_record.proofs.CurrentLemmas.{shown-current}
 use Rattle.scm_record.proofs.live.LiveSession.handle.Goals as goal
+
+pub settle-requires-clause-current : goal.settle-requires-clause-current
+settle-requires-clause-current c =
+    let h = c.self.invariant.shown in
+    shown-current c.self.inside.frame c.self.inside.kind c.self.inside.selector (record { width = h.width; height = h.height }) h
 
 pub returns-clause-ok : goal.returns-clause-ok
 returns-clause-ok c =
