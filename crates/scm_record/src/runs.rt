@@ -238,7 +238,8 @@ pub(crate) fn draw_anew(
     if is_shown {
         return Ok(());
     }
-    frame.draw(selector.allocator(), selector.showing(), selector.scroll())
+    frame.draw(selector.allocator(), selector.showing(), selector.scroll())?;
+    Ok(())
 }
 
 /// Draws the session, unless it is shown, and counts the frame.
