@@ -1,5 +1,5 @@
 -- What a call on a live session makes of it, as a path of the steps of a run.
-use Rattle.std.specs.Prelude.{◌≡◌, ℕ, Bool, true, false, IsTrue, Ok, Err, List, [], ◌∷◌, ◌++◌}
+use Rattle.std.specs.Prelude.{◌≡◌, ℕ, Bool, true, false, IsTrue, Err, List, [], ◌∷◌, ◌++◌}
 use Rattle.scm_errors.specs.declared.error.RecordError.{RecordError}
 use Rattle.scm_types.specs.declared.state.RecordState.{RecordState}
 use Rattle.scm_input.specs.declared.events.Event.{Event}

@@ -26,7 +26,7 @@ advance-requires-clause-few t c =
 pub advance-requires-clause-current : goal.advance-requires-clause-current
 advance-requires-clause-current t c = λ kept.
     let scene = scene_of c.args.kind c.requires.shown.0 in
-    current-kept c.args.frame scene c.args.selector c.change.new.self c.args.event c.in_ok-change.field-0 (c.is_kept_by.ensures kept scene c.requires.shown.1) (c.in_ok-change.ensures.ok scene c.requires.shown.1) c.requires.current
+    current-kept c.args.frame scene c.args.selector c.change.new.self c.args.event c.in_ok-change.field-0 (c.is_kept_by-is_shown.ensures kept scene c.requires.shown.1) (c.in_ok-change.ensures.ok scene c.requires.shown.1) c.requires.current
 
 pub returns-in_err-advance-in-GoOn-clause-err : goal.returns-in_err-advance-in-GoOn-clause-err
 returns-in_err-advance-in-GoOn-clause-err t c =

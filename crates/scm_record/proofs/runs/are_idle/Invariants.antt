@@ -1,4 +1,4 @@
-use Rattle.std.proofs.Common.{◌≡◌, ℕ, drop}
+use Rattle.std.proofs.Common.{ℕ, drop}
 use Rattle.scm_record.specs.Frames.{IsShown, scene_of}
 use Rattle.scm_record.specs.Session.{Session}
 use Rattle.scm_record.specs.Run.{Setting, world_in, Within, Reaches}
