@@ -1,12 +1,11 @@
-//! A view that is drawn without a recorder: whose each of its places is.
-use crate::given::state_of;
-use scm_record::key_set::{KeySet, key_set_of};
+//! A view of a session, drawn by its components: whose each of its places is.
+use crate::given::{session_of, state_of};
+use crate::painted::draw;
 use scm_record::{
-    ComponentId, DrawnRects, FileKey, Grid, LineKey, RecordError, RecordState, SectionKey,
-    SelectionKey, Showing, Viewport, find_target,
+    ComponentId, DrawnRects, FileKey, Grid, LineKey, RecordError, SectionKey, SelectionKey,
+    TerminalKind, find_target,
 };
 use scm_view::laws;
-use std::alloc::Global;
 use std::process::Abort;
 
 /// The file.
@@ -51,23 +50,6 @@ const OWNERS: [(isize, isize, Option<ComponentId>); 12] = [
     (6, 10, None),
 ];
 
-/// Draws what is shown of a state whose section is selected, on a new grid of 24 columns and 8 rows that shows the document from row 1 on,
-/// and answers the boxes.
-#[tactic(auto, unfolding(scm_types::specs::Limits::max_items, scm_types::specs::Limits::max_scroll))]
-fn draw(
-    rt: &impl Abort,
-    alloc: Global,
-    state: RecordState<'_>,
-    expanded: KeySet,
-) -> Result<DrawnRects<ComponentId>, RecordError> {
-    assert!(rt; state.is_accepted());
-    let mut grid = Grid::new(alloc, 24, 8)?;
-    let showing = Showing::new(state, SECTION, expanded);
-    let view = showing.app_view(alloc)?;
-    laws::apps_are_in_range();
-    Viewport::render_top_level(alloc, &mut grid, 0, 1, &view)
-}
-
 /// Checks whose each place is, among these boxes.
 fn check_owners(rt: &impl Abort, boxes: &DrawnRects<ComponentId>) {
     laws::ids_are_told_apart();
@@ -83,8 +65,13 @@ fn check_owners(rt: &impl Abort, boxes: &DrawnRects<ComponentId>) {
 #[test]
 fn places_have_owners(rt: HostRuntime) -> Result<(), RecordError> {
     let alloc = rt.alloc();
-    let expanded = key_set_of(alloc, &[SelectionKey::File(FILE), SECTION])?;
-    let boxes = draw(&rt, alloc, state_of(alloc, "1h")?, expanded)?;
+    let kind = TerminalKind::Testing {
+        width: 24,
+        height: 8,
+    };
+    let session = session_of(&rt, state_of(alloc, "1h")?, alloc, kind, "l")?;
+    let mut grid = Grid::new(alloc, 24, 8)?;
+    let boxes = draw(&rt, alloc, &session, &mut grid, 1)?;
     check_owners(&rt, &boxes);
     Ok(())
 }

@@ -38,7 +38,7 @@ fn paint(
 
 /// Draws what a session shows by its components, on a cleared grid, and answers their boxes.
 #[tactic(auto, unfolding(scm_types::specs::Limits::max_items, scm_types::specs::Limits::max_scroll))]
-fn draw(
+pub(crate) fn draw(
     rt: &impl Abort,
     alloc: Global,
     session: &LiveSession<'_>,
