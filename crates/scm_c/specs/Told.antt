@@ -24,7 +24,7 @@ event_of_bytes bytes = if is_utf8 bytes then event_of_word bytes else None
 
 -- ---- the codes of calls
 
--- what a code says: nothing of a number that no call answers
+-- what a code says: nothing of a number that no call returns
 abbrev pub words_of_code : ℕ → List ℕ
 words_of_code code =
     if code == 0 then codes "the call is done"
@@ -38,7 +38,7 @@ words_of_code code =
     else if code == 8 then codes "there is not enough memory"
     else []
 
--- a call answers its code or, where it needs memory, that there is not enough
+-- a call returns its code or, where it needs memory, that there is not enough
 pub data IsCode (needs_memory : Bool) (code : ℕ) : ℕ → Type 0 where
   known : IsCode needs_memory code code
   no_memory : IsTrue needs_memory → IsCode needs_memory code 8

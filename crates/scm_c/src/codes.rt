@@ -51,7 +51,7 @@ pub const FOLD: u32 = 7;
 /// A dialog.
 pub const DIALOG: u32 = 8;
 
-/// What the code of a call says: nothing of a number that no call answers.
+/// What the code of a call says: nothing of a number that no call returns.
 pub(crate) fn words(code: u32) -> &'static str
     ensures { result.now ≡ words_of_code code }
 {

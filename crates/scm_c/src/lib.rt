@@ -180,7 +180,7 @@ pub extern "C" fn scm_resize(alloc: Global, session: &mut Session, width: u16, h
     }
 }
 
-/// Writes what there is to read, as far as it fits, and answers how many bytes it has.
+/// Writes what there is to read, as far as it fits, and returns how many bytes it has.
 #[unsafe(no_mangle)]
 pub extern "C" fn scm_text(alloc: Global, session: &mut Session, out: &mut [u8]) -> usize
     ensures text { Writes session.old.handle.value out.old out.new result }
@@ -199,7 +199,7 @@ pub extern "C" fn scm_text(alloc: Global, session: &mut Session, out: &mut [u8])
     }
 }
 
-/// Writes as many of the bytes as fit, and answers how many there are.
+/// Writes as many of the bytes as fit, and returns how many there are.
 fn write_text(bytes: &[u8], out: &mut [u8]) -> usize
     ensures len { result ≡ length bytes.now }
     ensures written { out.new ≡ over bytes.now out.old }
@@ -225,7 +225,7 @@ pub extern "C" fn scm_owner(alloc: Global, session: &mut Session, row: u16, colu
     }
 }
 
-/// Writes the symbol that begins at a place of the screen, as far as it fits, and answers how many bytes it has.
+/// Writes the symbol that begins at a place of the screen, as far as it fits, and returns how many bytes it has.
 #[unsafe(no_mangle)]
 pub extern "C" fn scm_symbol(
     alloc: Global,
@@ -248,7 +248,7 @@ pub extern "C" fn scm_symbol(
     }
 }
 
-/// Writes what a code says, as far as it fits, and answers how many bytes that has.
+/// Writes what a code says, as far as it fits, and returns how many bytes that has.
 #[unsafe(no_mangle)]
 pub extern "C" fn scm_words(code: u32, out: &mut [u8]) -> usize
     ensures len { result ≡ length (words_of_code code) }

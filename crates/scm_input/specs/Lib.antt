@@ -1,4 +1,4 @@
--- what an input answers
+-- what an input gives
 pub mod Script
 -- the event of each key, and of the mouse
 pub mod KeyTable

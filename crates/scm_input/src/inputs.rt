@@ -23,9 +23,9 @@ pub enum TerminalKind {
 /// An input has a script, and keeps to it: each read gives and removes the first of its reads, and
 /// each edit removes the first of its edits, and gives what that makes of the message that the
 /// user is asked with. No fault in a script is `OutOfMemory`: a call for which memory is refused
-/// answers that, and leaves the script as it was.
+/// returns that, and leaves the script as it was.
 pub trait RecordInput {
-    /// The screen that it answers, always the same.
+    /// The screen that it gives, always the same.
     ghost kind: { Self → TerminalKind };
 
     /// The reads that are left.

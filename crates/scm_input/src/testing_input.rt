@@ -16,7 +16,7 @@ pub struct TestingInput {
     pub height: usize,
     /// The events that are left. Past them each batch is one `Event::None`.
     pub events: VecDeque<Event>,
-    /// The messages that edits answer. Past them an edit is a fault.
+    /// The messages that edits return. Past them an edit is a fault.
     pub commit_messages: VecDeque<String>,
 }
 

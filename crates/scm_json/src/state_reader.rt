@@ -15,7 +15,7 @@ use std::alloc::Global;
 
 /// The state of which the text is the JSON form, or nothing: where the text is no JSON, or the value of another shape, with
 /// a member more or less, an unknown variant, or a number that is not read as a whole one from 0 to 2^64 - 1. Of a member
-/// that stands twice the last counts. Refused with `OutOfMemory` alone.
+/// that stands twice the last counts. Fails with `OutOfMemory` alone.
 pub fn read_state(alloc: Global, text: &str) -> Result<Option<RecordState<'static>>, RecordError>
     ensures ok { IfOk result (λ o. o ≡ option_and_then form_of.state_of (read text.now)) }
     ensures err { IfErr result (λ e. e ≡ RecordError.OutOfMemory) }

@@ -127,7 +127,7 @@ pub record ConfirmsQuit (p : Point) (state : RecordState) : Type 0 where
   pub no_help : world.session.shown.is_help_open ≡ false
   pub confirmed : world.session.shown.state ≡ state
 
--- an answer other than refused memory is a state exactly if the steps reach a confirmed quit, and then that session's
+-- a result other than refused memory is a state exactly if the steps reach a confirmed quit, and then that session's
 abbrev pub AcceptsConfirmedQuits : Point → Result RecordState RecordError → Type 0
 AcceptsConfirmedQuits p result =
     IfOk result (λ state. ConfirmsQuit p state)

@@ -79,7 +79,7 @@ too_long = Other (codes "commit message too long")
 abbrev pub kept_at : World → ℕ → List ℕ → Outcome
 kept_at w place text = if nat_lt place (length w.texts) then Goes (with_text w place text) else Breaks no_such_place w
 
--- the answer of an edit becomes the message of a commit
+-- what an edit returns becomes the message of a commit
 abbrev pub answered : World → ℕ → Edit → Outcome
 answered w commit (Answer text) =
     if is_short_text text then Goes (with_session w (with_message w.session commit text)) else Breaks too_long w

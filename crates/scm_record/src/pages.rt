@@ -8,9 +8,9 @@ ghost use Rattle.scm_record.specs.Pages.{is_far, is_page_away, page_key, towards
 
 use crate::frame::DrawnFrame;
 use scm_selection::key_set::KeySet;
-use scm_selection::moves::is_key;
 use scm_selection::steps::{is_among_visible, next_visible, previous_visible};
 use scm_types::File;
+use scm_types::keys::is_key;
 use scm_view::SelectionKey;
 
 /// Which way a page is turned.

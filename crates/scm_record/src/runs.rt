@@ -78,7 +78,7 @@ fn ask(
     input.edit_commit_message(selector.message(commit))
 }
 
-/// Gives a commit the message that the input answers.
+/// Gives a commit the message that the input returns.
 fn edit(
     selector: &mut Selector<'_>,
     input: &mut dyn RecordInput,

@@ -17,7 +17,7 @@ use Rattle.scm_render.proofs.RowsWithin.{put_within}
 use Rattle.scm_render.specs.Drawing.{reach, has_row, text_puts, row_rect, blank_picture, frame_picture, rows_puts, row_text, symbol_at, border_symbol, edge_symbol, fill_puts, frame_puts, title_room, body_room, lines_puts}
 use Rattle.scm_render.proofs.PaintLemmas.{paint-none, int_eq-false}
 use Rattle.scm_render.proofs.DrawLemmas.{off_cases, row_text-more, rows_puts-more, rows_puts-none}
-use Rattle.scm_render.proofs.RowLemmas.{OneRow, Paints, IsReached, not_seen, one_text, one_row_paints, paints_none, paints_more}
+use Rattle.scm_render.proofs.RowLemmas.{OneRow, PutsRows, IsReached, not_seen, one_text, one_row_paints, paints_none, paints_more}
 
 -- the row with a text over the columns of a rectangle, from its first one on
 abbrev pub put_over : Rect → Rect → List ℕ → Row → Row
@@ -35,11 +35,11 @@ one_over : (v seen r : Rect) (y : ℤ) (t : List ℕ) → r.y ≤ℤ y → y <�
 one_over v seen r y t h k = one_text v seen r r.x y t (λ s. in_rect r y h k)
 
 -- a text in a rectangle of its own
-pub text_paints : (v seen r : Rect) (y : ℤ) (t : List ℕ) → r.y ≤ℤ y → y <ℤ end_y_of r → Paints v seen y (text_puts r r.x y t) (put_over v r t ∷ [])
+pub text_paints : (v seen r : Rect) (y : ℤ) (t : List ℕ) → r.y ≤ℤ y → y <ℤ end_y_of r → PutsRows v seen y (text_puts r r.x y t) (put_over v r t ∷ [])
 text_paints v seen r y t h k = one_row_paints v seen y _ _ (one_over v seen r y t h k)
 
 -- texts one below another in a rectangle
-pub lines_paint : (v seen r : Rect) (y : ℤ) (ts : List (List ℕ)) → r.y ≤ℤ y → (y +ℤ pos (length ts)) ≤ℤ end_y_of r → Paints v seen y (lines_puts r r.x y ts) (map (put_over v r) ts)
+pub lines_paint : (v seen r : Rect) (y : ℤ) (ts : List (List ℕ)) → r.y ≤ℤ y → (y +ℤ pos (length ts)) ≤ℤ end_y_of r → PutsRows v seen y (lines_puts r r.x y ts) (map (put_over v r) ts)
 unfolding lines_puts
 lines_paint v seen r y [] h k = paints_none v seen y
 lines_paint v seen r y (t ∷ ts) h k =
@@ -151,11 +151,11 @@ bottom_edges r y h e x =
     let a : int_eq y r.y ≡ false = int_eq-false y r.y (λ q. absurd (omega (arith, ints, q))) in
     rw (a, int_eq-true y (end_y_of r -ℤ pos 1) e) refl
 
-edge_row : (v seen r : Rect) (y : ℤ) (t : List ℕ) → r.y ≤ℤ y → y <ℤ end_y_of r → row_text (Border r) r.x y r.width ≡ t → Paints v seen y (text_puts r r.x y (row_text (Border r) r.x y r.width)) (put_over v r t ∷ [])
+edge_row : (v seen r : Rect) (y : ℤ) (t : List ℕ) → r.y ≤ℤ y → y <ℤ end_y_of r → row_text (Border r) r.x y r.width ≡ t → PutsRows v seen y (text_puts r r.x y (row_text (Border r) r.x y r.width)) (put_over v r t ∷ [])
 edge_row v seen r y t h k e = rw e (text_paints v seen r y t h k)
 
 sides-paint : (v seen r : Rect) (n : ℕ) → r.width ≡ suc (suc n) → (k : ℕ) (y : ℤ) → r.y <ℤ y → y +ℤ pos (suc k) ≡ end_y_of r
-    → Paints v seen y (rows_puts (Border r) r y (suc k)) (replicate k (put_over v r (side_text r.width)) ++ put_over v r (bottom_text r.width) ∷ [])
+    → PutsRows v seen y (rows_puts (Border r) r y (suc k)) (replicate k (put_over v r (side_text r.width)) ++ put_over v r (bottom_text r.width) ∷ [])
 unfolding rows_puts
 sides-paint v seen r n w zero y h e =
     rw (append-nil (text_puts r r.x y (row_text (Border r) r.x y r.width)))
@@ -173,7 +173,7 @@ two_more : (n : ℕ) → 2 ≤ n → (k : ℕ) × (n ≡ suc (suc k))
 two_more n h = (n - 2, omega arith)
 
 border_rows : (v seen r : Rect) (n m k : ℕ) → r.width ≡ suc (suc n) → r.height ≡ suc (suc k) → m ≡ suc (suc k)
-    → Paints v seen r.y (rows_puts (Border r) r r.y m) (put_over v r (top_text r.width) ∷ (replicate (m - 2) (put_over v r (side_text r.width)) ++ put_over v r (bottom_text r.width) ∷ []))
+    → PutsRows v seen r.y (rows_puts (Border r) r r.y m) (put_over v r (top_text r.width) ∷ (replicate (m - 2) (put_over v r (side_text r.width)) ++ put_over v r (bottom_text r.width) ∷ []))
 border_rows v seen r n m k w h e =
     let left : m - 2 ≡ k = omega (arith, e) in
     rw (rows_puts-more (Border r) r r.y m (suc k) e, left)
@@ -182,7 +182,7 @@ border_rows v seen r n m k w h e =
     (sides-paint v seen r n w k (r.y +ℤ pos 1) (omega (arith, ints)) (omega (arith, ints, h))))
 
 pub border_paints : (v seen r : Rect) → 2 ≤ r.width → 2 ≤ r.height
-    → Paints v seen r.y (border_puts r) (put_over v r (top_text r.width) ∷ (replicate (r.height - 2) (put_over v r (side_text r.width)) ++ put_over v r (bottom_text r.width) ∷ []))
+    → PutsRows v seen r.y (border_puts r) (put_over v r (top_text r.width) ∷ (replicate (r.height - 2) (put_over v r (side_text r.width)) ++ put_over v r (bottom_text r.width) ∷ []))
 unfolding border_puts
 border_paints v seen r a b =
     let n = two_more r.width a in

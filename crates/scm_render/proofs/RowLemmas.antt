@@ -30,8 +30,8 @@ abbrev pub OneRow : Rect → Rect → ℤ → List Put → (Row → Row) → Typ
 OneRow v seen y ps f = (z : ℤ) (row : Row) → has_row seen z ≡ true → paint v ps z row ≡ cond (int_eq z y) (f row) row
 
 -- on the rows of `seen` the puts stand on the rows from y on, one row for each function
-abbrev pub Paints : Rect → Rect → ℤ → List Put → List (Row → Row) → Type 0
-Paints v seen y ps fs = (z : ℤ) (row : Row) → has_row seen z ≡ true → paint v ps z row ≡ line (λ r. r) fs y z row
+abbrev pub PutsRows : Rect → Rect → ℤ → List Put → List (Row → Row) → Type 0
+PutsRows v seen y ps fs = (z : ℤ) (row : Row) → has_row seen z ≡ true → paint v ps z row ≡ line (λ r. r) fs y z row
 
 same_either : (b : Bool) (row : Row) → row ≡ cond b row row
 same_either true row = refl
@@ -63,15 +63,15 @@ one_of : (b : Bool) (f : Row → Row) (row : Row) → cond b (f row) row ≡ (co
 one_of true f row = refl
 one_of false f row = refl
 
-pub one_row_paints : (v seen : Rect) (y : ℤ) (ps : List Put) (f : Row → Row) → OneRow v seen y ps f → Paints v seen y ps (f ∷ [])
+pub one_row_paints : (v seen : Rect) (y : ℤ) (ps : List Put) (f : Row → Row) → OneRow v seen y ps f → PutsRows v seen y ps (f ∷ [])
 unfolding line
 one_row_paints v seen y ps f p z row h = p z row h ∙ one_of (int_eq z y) f row
 
-pub paints_none : (v seen : Rect) (y : ℤ) → Paints v seen y [] []
+pub paints_none : (v seen : Rect) (y : ℤ) → PutsRows v seen y [] []
 unfolding line
 paints_none v seen y z row h = paint-none v z row
 
-pub paints_more : (v seen : Rect) (y : ℤ) (ps qs : List Put) (fs gs : List (Row → Row)) → Paints v seen y ps fs → Paints v seen (y +ℤ pos (length fs)) qs gs → Paints v seen y (ps ++ qs) (fs ++ gs)
+pub paints_more : (v seen : Rect) (y : ℤ) (ps qs : List Put) (fs gs : List (Row → Row)) → PutsRows v seen y ps fs → PutsRows v seen (y +ℤ pos (length fs)) qs gs → PutsRows v seen y (ps ++ qs) (fs ++ gs)
 paints_more v seen y ps qs fs gs hp hq z row h =
     paint-append v ps qs z row ∙ ap (λ w. paint v qs z w) (hp z row h) ∙ hq z (line (λ r. r) fs y z row) h
     ∙ ap (λ (f : Row → Row). f row) (line-append (λ r. r) (λ f g r. g (f r)) (λ m. refl) (λ m. refl) fs gs y z)

@@ -34,7 +34,7 @@ pub trait Component: Sized {
     fn id(&self) -> Self::Id
         ensures { result ≡ key self.now };
 
-    /// Draws the component with its corner at a column and a row of the document. Refused with
+    /// Draws the component with its corner at a column and a row of the document. Fails with
     /// `OutOfMemory` alone; the frame is then to be given up, and the viewport's rectangle is as before.
     fn draw(
         &self,

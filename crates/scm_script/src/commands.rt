@@ -11,7 +11,7 @@ use std::alloc::Global;
 pub struct Commands {
     /// What the reads give, in order.
     pub reads: Vec<ScriptRead>,
-    /// What the edits answer, in order.
+    /// What the edits return, in order.
     pub edits: Vec<ScriptEdit>,
     /// The store, with a place for each screenshot.
     pub screens: Screens,
@@ -30,7 +30,7 @@ impl Commands {
         }
     }
 
-    /// Adds the command of a line, and answers whether the line is one.
+    /// Adds the command of a line, and returns whether the line is one.
     pub fn add(&mut self, alloc: Global, line: &str) -> Result<bool, PlayError> {
         let line = line.trim_start_matches(' ');
         if let Some(text) = line.strip_prefix("answer ") {

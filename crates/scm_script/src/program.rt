@@ -22,7 +22,7 @@ const LONGEST_INPUT: u64 = 67_108_864;
 /// The output where memory is refused for any other.
 const OUT_OF_MEMORY: &[u8] = b"fault: out of memory\n";
 
-/// Runs the script that the reader gives, writes what came of it, and answers the program's status: 0 for an accepted
+/// Runs the script that the reader gives, writes what came of it, and returns the program's status: 0 for an accepted
 /// state, 1 for a fault, 2 for a bad input and where the reader or the writer fails.
 pub fn play<R: Read + Drop, W: Write + Drop>(alloc: Global, reader: R, writer: W) -> u8 {
     play_with_hints(alloc, reader, writer, io::sink())
@@ -51,12 +51,12 @@ pub fn play_with_hints<R: Read + Drop, W: Write + Drop, H: Write + Drop>(
     }
 }
 
-/// Writes all bytes in one go, and answers whether the writer took them.
+/// Writes all bytes in one go, and returns whether the writer took them.
 fn write_whole<W: Write + Drop>(mut writer: W, bytes: &[u8]) -> bool {
     writer.write_all(bytes).is_ok() && writer.flush().is_ok()
 }
 
-/// What the program answers to an input.
+/// What the program returns for an input.
 #[derive(Drop)]
 struct Answer {
     /// What it prints.
@@ -67,7 +67,7 @@ struct Answer {
     hint: String,
 }
 
-/// The answer to what the reader gives. It fails only where memory is refused.
+/// What comes of what the reader gives. It fails only where memory is refused.
 fn answer_input<R: Read + Drop>(alloc: Global, reader: R) -> Result<Answer, PlayError> {
     match read_text(alloc, reader) {
         Ok(text) => answer_text(alloc, text.as_str()),
@@ -75,7 +75,7 @@ fn answer_input<R: Read + Drop>(alloc: Global, reader: R) -> Result<Answer, Play
     }
 }
 
-/// The answer to an input.
+/// What comes of an input.
 fn answer_text(alloc: Global, text: &str) -> Result<Answer, PlayError> {
     match prepare(alloc, text) {
         Ok((script, state)) => run(alloc, text, script, state),
@@ -83,7 +83,7 @@ fn answer_text(alloc: Global, text: &str) -> Result<Answer, PlayError> {
     }
 }
 
-/// The answer to an input that is refused.
+/// What comes of an input that is refused.
 fn refuse(alloc: Global, text: &str, refusal: &PlayError) -> Result<Answer, PlayError> {
     Ok(Answer {
         output: format!(in alloc; "{refusal}\n")?,
@@ -134,7 +134,7 @@ fn prepare(alloc: Global, text: &str) -> Result<(Script<'_>, RecordState<'static
     Ok((script, state))
 }
 
-/// The answer of a run of the script of this text on an accepted state: the screens, and the accepted state or the fault.
+/// What comes of a run of the script of this text on an accepted state: the screens, and the accepted state or the fault.
 fn run(
     alloc: Global,
     text: &str,
@@ -170,7 +170,7 @@ fn run(
     Ok(answer)
 }
 
-/// The answer of a run of an input on an accepted state.
+/// What comes of a run of an input on an accepted state.
 fn run_input(
     alloc: Global,
     state: RecordState<'static>,
@@ -190,7 +190,7 @@ fn run_input(
     }
 }
 
-/// The answer with the accepted state behind the screens.
+/// The output with the accepted state behind the screens.
 fn accept(alloc: Global, mut output: String, state: &RecordState<'_>) -> Result<Answer, PlayError> {
     push_accepted(&mut output, alloc, state)?;
     Ok(Answer {
@@ -200,7 +200,7 @@ fn accept(alloc: Global, mut output: String, state: &RecordState<'_>) -> Result<
     })
 }
 
-/// The answer with a fault behind the screens.
+/// The output with a fault behind the screens.
 fn fail(
     alloc: Global,
     mut output: String,

@@ -1,17 +1,9 @@
 //! What a move asks of two keys.
 ghost use Rattle.std.specs.Prelude.{◌≡◌};
-ghost use Rattle.scm_selection.specs.KeySet.{is_key};
 ghost use Rattle.scm_selection.specs.KeyLists.{is_file, is_line, is_section};
 ghost use Rattle.scm_selection.specs.Moves.{is_inside, is_same_kind};
 
 use scm_types::SelectionKey;
-
-/// Whether two keys are the same.
-pub fn is_key(key: SelectionKey, other: SelectionKey) -> bool
-    ensures { result ≡ is_key key other }
-{
-    key == other
-}
 
 /// Whether a key is a file's.
 fn is_file(key: SelectionKey) -> bool

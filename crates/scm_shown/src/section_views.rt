@@ -7,7 +7,7 @@ ghost use Rattle.scm_view.specs.Shown.{is_removed, old_lines, section_view_of, s
 ghost use Rattle.scm_shown.specs.Views.{lent_section, lent_sections, totals_in};
 
 use crate::showing::Showing;
-use scm_selection::moves::is_key;
+use scm_types::keys::is_key;
 use scm_types::{ChangeType, Items, RecordError, Section, SectionChangedLine};
 use scm_view::{FileKey, SectionKey, SectionSelection, SectionView, SelectionKey};
 use std::alloc::Global;

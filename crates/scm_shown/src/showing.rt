@@ -5,7 +5,7 @@ ghost use Rattle.scm_view.specs.Shown.{expand_box_of, toggle_box_of};
 ghost use Rattle.scm_shown.specs.Showing.{shown_alone};
 
 use scm_selection::key_set::KeySet;
-use scm_selection::moves::is_key;
+use scm_types::keys::is_key;
 use scm_types::{Commit, RecordState, Tristate};
 use scm_view::{
     CommitViewMode, ComponentId, QuitDialog, SelectionKey, TristateBox, TristateIconStyle,

@@ -1,6 +1,6 @@
 //! The keys by which files, sections and lines are selected, folded and toggled.
 ghost use Rattle.std.specs.Prelude.{◌≡◌};
-ghost use Rattle.scm_types.specs.Keys.{file_of, file_of_line, file_of_section, section_key_of, section_of_line};
+ghost use Rattle.scm_types.specs.Keys.{file_of, file_of_line, file_of_section, is_key, section_key_of, section_of_line};
 
 /// A file of a commit's view. Both indexes count from 0.
 #[derive(Clone, Copy, Debug, PartialEq, Eq, PartialOrd, Ord, Hash)]
@@ -105,4 +105,11 @@ impl SelectionKey {
             SelectionKey::Line(key) => SelectionKey::File(key.file()),
         }
     }
+}
+
+/// Whether two keys are the same. It is `==`, with a contract that says so in one word.
+pub fn is_key(key: SelectionKey, other: SelectionKey) -> bool
+    ensures { result ≡ is_key key other }
+{
+    key == other
 }

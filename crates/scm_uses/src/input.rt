@@ -1,6 +1,6 @@
 //! An input of one's own: what a caller gives who has events of another source than a list.
 //!
-//! An input is a script that is known before the run: what each read and each edit will answer is
+//! An input is a script that is known before the run: what each read and each edit will return is
 //! settled then, whatever the screens show. The three ghost members say what that script is, and the
 //! methods are held to it, so a run over the input is the run of that script. A source can meet
 //! them honestly if its answers do not depend on what the run does: a list, a file that is read
@@ -34,8 +34,8 @@ impl RecordInput for Keys {
     /// The screen, which stays the same for the whole run.
     ghost kind = { λ _. kind_of 80 24 };
 
-    /// What the reads will answer, in order. A read takes the first of them, and so `batches_left`
-    /// is how many there are; past the last a read may answer what it likes.
+    /// What the reads will return, in order. A read takes the first of them, and so `batches_left`
+    /// is how many there are; past the last a read may return what it likes.
     ghost reads = { λ keys. single_events keys.events.items };
 
     /// What the edits will make of a message, in order. Here there are none, so each edit has to be

@@ -26,7 +26,7 @@ use Rattle.scm_view.specs.Texts.{icon_text, bracketed, box_text}
 use Rattle.scm_view.specs.Rows.{IdBox, Heading, DocRow, HeaderRow, SectionRow, LineRow, MarkRow, ContextRow, DotsRow, BlankRow}
 use Rattle.scm_view.specs.Pictures.{to_end, box_picture, box_part, rest_of_row, whole_row, fold_column, heading_width, title_picture, heading_picture, changed_picture, context_picture, highlight, row_picture, rows_picture}
 use Rattle.scm_view.specs.Strips.{is_whole, is_wide}
-use Rattle.scm_view.proofs.Draws.{HasBox, box-followed, box-part}
+use Rattle.scm_view.proofs.DrawsStrips.{HasBox, box-followed, box-part}
 use Rattle.scm_view.proofs.MenuLemmas.{not-empty, in-nothing, in-row}
 use Rattle.scm_view.proofs.StripLemmas.{open-between, fold-place, heading-columns, heading-between, beside_fold, column_of, AreInner}
 

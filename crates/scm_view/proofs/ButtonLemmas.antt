@@ -24,7 +24,7 @@ use Rattle.scm_view.specs.Texts.{button_text}
 use Rattle.scm_view.specs.Pictures.{button_picture}
 use Rattle.scm_view.specs.Buttons.{button_width, button_part, button_strip}
 use Rattle.scm_view.specs.Screens.{screen, sight}
-use Rattle.scm_view.proofs.Draws.{Draws, at_row, past_row, no_row}
+use Rattle.scm_view.proofs.DrawsStrips.{DrawsStrips, at_row, past_row, no_row}
 
 -- ---- how far drawing reaches
 
@@ -80,7 +80,7 @@ no-owner s y z x e = go (int_eq z y)
 
 -- pictures without boxes that change one row
 pub draws_row : {K : Type 0} (same_id : K → K → Bool) (is_clickable : K → Bool) (v : Rect) (P : K → Type 0) (m : Picture K) (y : ℤ) (f : Row → Row) → m.boxes ≡ [] → OneRow v v y m.puts f
-    → Draws same_id is_clickable v P m y (record { shows = f; owner = λ x. None } ∷ [])
+    → DrawsStrips same_id is_clickable v P m y (record { shows = f; owner = λ x. None } ∷ [])
 unfolding hit
 draws_row same_id is_clickable v P m y f none h = record {
   paints = λ z row p q. h z row p ∙ one-line (record { shows = f; owner = λ x. None }) y z row;
@@ -140,7 +140,7 @@ cell-line i test f y z x = go (int_eq z y)
     go false = refl
 
 pub draws_button : {K : Type 0} (same_id : K → K → Bool) (is_clickable : K → Bool) (w h s : ℕ) (b : Button K) (c y : ℤ) → is_clickable b.id ≡ true
-    → Draws same_id is_clickable (screen w h s) (IsId b.id) (button_part b (sight w h s) c y) y (button_strip w c b ∷ [])
+    → DrawsStrips same_id is_clickable (screen w h s) (IsId b.id) (button_part b (sight w h s) c y) y (button_strip w c b ∷ [])
 unfolding part button_picture button_width span_picture box_rect hit has_id
 draws_button same_id is_clickable w h s b c y click = record {
   paints = λ z row p q. one-text w h s c y (button_text b) z row p ∙ one-line (button_strip w c b) y z row;

@@ -17,7 +17,7 @@ use Rattle.scm_render.specs.Drawing.{row_rect, reach, frame_picture, title_room,
 use Rattle.scm_render.specs.Hits.{hit, IsLawful}
 use Rattle.scm_render.proofs.AroundLemmas.{around-one, join-assoc, join-empty, join-from_empty, is_empty-in}
 use Rattle.scm_render.proofs.LineLemmas.{line-map}
-use Rattle.scm_render.proofs.RowLemmas.{Paints}
+use Rattle.scm_render.proofs.RowLemmas.{PutsRows}
 use Rattle.scm_render.proofs.SpanLemmas.{join-x, join-y, join-end_x, join-end_y}
 use Rattle.scm_render.proofs.FillLemmas.{put_over, top_text, side_text, bottom_text, border_puts, border_paints, frame-puts, text_paints, lines_paint}
 use Rattle.scm_view.specs.Layers.{Strip, laid_over, owned}
@@ -26,7 +26,7 @@ use Rattle.scm_view.specs.Buttons.{button_part, button_strip, button_width, butt
 use Rattle.scm_view.proofs.OwnButtons.{IsOneOf, AreButtons, IsDialog}
 use Rattle.scm_view.specs.Dialogs.{ShownDialog, widest_line, dialog_rect, dialog_picture, put_strip, border_strips, frame_strips, is_dialog_column, dialog_strips, dialog_layer}
 use Rattle.scm_view.specs.Screens.{screen, sight}
-use Rattle.scm_view.proofs.Draws.{Draws, draws_clear, draws_both, draws_over, draws_part, draws_again, box-followed, length-laid_over}
+use Rattle.scm_view.proofs.DrawsStrips.{DrawsStrips, draws_clear, draws_both, draws_over, draws_part, draws_again, box-followed, length-laid_over}
 use Rattle.scm_view.proofs.ButtonLemmas.{Inside, intersect-inside, reach-screen, draws_button, IsId, box-plain_button}
 use Rattle.scm_view.proofs.MenuLemmas.{line-beside, not-empty}
 
@@ -53,7 +53,7 @@ abbrev only : {K : Type 0} → List Put → Picture K
 only ps = record { puts = ps; boxes = []; areas = [] }
 
 module _ {K : Type 0} (same_id : K → K → Bool) (clicks : K → Bool) where
-  draws_plain : (v : Rect) (P : K → Type 0) (m : Picture K) (y : ℤ) (fs : List (Row → Row)) → m.boxes ≡ [] → Paints v v y m.puts fs → Draws same_id clicks v P m y (map plain fs)
+  draws_plain : (v : Rect) (P : K → Type 0) (m : Picture K) (y : ℤ) (fs : List (Row → Row)) → m.boxes ≡ [] → PutsRows v v y m.puts fs → DrawsStrips same_id clicks v P m y (map plain fs)
   unfolding hit
   draws_plain v P m y fs none h = record {
     paints = λ z row p q. h z row p ∙ sym (ap (λ (s : Strip K). s.shows row) (line-map plain (λ (row : Row). row) fs y z));
@@ -62,7 +62,7 @@ module _ {K : Type 0} (same_id : K → K → Bool) (clicks : K → Bool) where
   }
 
   -- the same puts and boxes
-  draws_same : (v : Rect) (P : K → Type 0) (m k : Picture K) (y : ℤ) (ss : List (Strip K)) → k.puts ≡ m.puts → k.boxes ≡ m.boxes → Draws same_id clicks v P m y ss → Draws same_id clicks v P k y ss
+  draws_same : (v : Rect) (P : K → Type 0) (m k : Picture K) (y : ℤ) (ss : List (Strip K)) → k.puts ≡ m.puts → k.boxes ≡ m.boxes → DrawsStrips same_id clicks v P m y ss → DrawsStrips same_id clicks v P k y ss
   draws_same v P m k y ss e f h = record {
     paints = λ z row p q. rw e (h.paints z row p q);
     owns = λ rep live z x p. rw f (h.owns rep live z x p);
@@ -117,7 +117,7 @@ no-frame_boxes K s r t b = refl
 
 module _ {K : Type 0} (same_id : K → K → Bool) (clicks : K → Bool) where
   frame_draws : (w h s c y n m : ℕ) (title : List ℕ) (body : List (List ℕ)) → c + n ≤ w → s ≤ y → y + m ≤ s + h → 2 ≤ n → 2 ≤ m
-      → Draws same_id clicks (screen w h s) (λ i. ⊥) (frame_picture (sight w h s) (at c y n m) title body) (pos y)
+      → DrawsStrips same_id clicks (screen w h s) (λ i. ⊥) (frame_picture (sight w h s) (at c y n m) title body) (pos y)
       (laid_over 1 (map (λ t. put_strip (c + 1) t (c + 1) (c + n - 1)) (take (m - 2) body)) (laid_over 0 (put_strip (c + 1) title (c + 1) (c + n - 1) ∷ []) (border_strips c n m)))
   unfolding followed_by
   frame_draws w h s c y n m title body fits above below wide high =
@@ -126,7 +126,7 @@ module _ {K : Type 0} (same_id : K → K → Bool) (clicks : K → Bool) where
       (omega (arith, length-map ts line_strip, length-laid_over 0 (title_strip ∷ []) (border_strips c n m), length-border K c n m high, length-take (m - 2) body))
       (draws_over same_id clicks v none none none (only (border_puts r)) (only first) (pos y) 0 (border_strips c n m) (title_strip ∷ [])
       (omega (arith, length-border K c n m high))
-      (subst (Draws same_id clicks v none (only (border_puts r)) (pos y)) (border-strips w h s c y n m fits) (draws_plain same_id clicks v none (only (border_puts r)) (pos y) _ refl (border_paints v v r wide high)))
+      (subst (DrawsStrips same_id clicks v none (only (border_puts r)) (pos y)) (border-strips w h s c y n m fits) (draws_plain same_id clicks v none (only (border_puts r)) (pos y) _ refl (border_paints v v r wide high)))
       (rw here titled)
       (λ i j p q. absurd p) (λ i p. p) (λ i p. p))
       lined
@@ -169,15 +169,15 @@ module _ {K : Type 0} (same_id : K → K → Bool) (clicks : K → Bool) where
           (inside-reach w h s (body_room r) (record { left = omega (arith, ints); right = omega (arith, ints); top = omega (arith, ints); bottom = omega (arith, ints) }))
           ∙ sym (append_assoc (border_puts r) first lines)
 
-      titled : Draws same_id clicks v none (only first) (pos y) (title_strip ∷ [])
+      titled : DrawsStrips same_id clicks v none (only first) (pos y) (title_strip ∷ [])
       titled =
-          subst (Draws same_id clicks v none (only first) (pos y))
+          subst (DrawsStrips same_id clicks v none (only first) (pos y))
           (ap (λ f. plain f ∷ []) (within-text w h s (title_room r) (c + 1) (c + n - 1) title refl (omega (arith, ints)) (omega arith) (omega arith)))
           (draws_plain same_id clicks v none (only first) (pos y) _ refl (text_paints v v (title_room r) (pos y) title (omega (arith, ints)) (omega (arith, ints))))
 
-      lined : Draws same_id clicks v none (only lines) (pos y +ℤ pos 1) (map line_strip ts)
+      lined : DrawsStrips same_id clicks v none (only lines) (pos y +ℤ pos 1) (map line_strip ts)
       lined =
-          subst (Draws same_id clicks v none (only lines) (pos y +ℤ pos 1))
+          subst (DrawsStrips same_id clicks v none (only lines) (pos y +ℤ pos 1))
           (map-each (put_over v (body_room r)) plain line_strip ts (λ t. ap plain (within-text w h s (body_room r) (c + 1) (c + n - 1) t refl (omega (arith, ints)) (omega arith) (omega arith))))
           (draws_plain same_id clicks v none (only lines) (pos y +ℤ pos 1) _ refl (lines_paint v v (body_room r) (pos (y + 1)) ts (omega (arith, ints)) (omega (arith, ints, length-take (m - 2) body))))
 
@@ -185,7 +185,7 @@ module _ {K : Type 0} (same_id : K → K → Bool) (clicks : K → Bool) where
 
 module _ {K : Type 0} (same_id : K → K → Bool) (clicks : K → Bool) where
   buttons_draw : (w h s : ℕ) (end y : ℤ) (bs : List (Button K)) → AreButtons same_id clicks bs
-      → Draws same_id clicks (screen w h s) (IsOneOf same_id clicks bs) (buttons_picture (sight w h s) end y bs) y (buttons_strip w end bs ∷ [])
+      → DrawsStrips same_id clicks (screen w h s) (IsOneOf same_id clicks bs) (buttons_picture (sight w h s) end y bs) y (buttons_strip w end bs ∷ [])
   unfolding buttons_picture buttons_strip
   buttons_draw w h s end y [] good = draws_clear same_id clicks (screen w h s) (λ i. ⊥) y
   buttons_draw w h s end y (b ∷ bs) good =
@@ -267,7 +267,7 @@ module _ {K : Type 0} (same_id : K → K → Bool) (law : IsLawful same_id) (cli
       (omega (arith, ints)) (omega (arith, ints)) (omega (arith, ints)))
 
   rows_draw : (w h s c y n m : ℕ) (P : K → Type 0) (d : ShownDialog K) → IsDialog same_id clicks P d → c + n ≤ w → s ≤ y → y + m ≤ s + h → 2 ≤ n → 2 ≤ m
-      → Draws same_id clicks (screen w h s) (IsOneOf same_id clicks d.buttons) (placed_picture d (sight w h s) (at c y n m)) (pos y) (frame_strips w d c n m)
+      → DrawsStrips same_id clicks (screen w h s) (IsOneOf same_id clicks d.buttons) (placed_picture d (sight w h s) (at c y n m)) (pos y) (frame_strips w d c n m)
   rows_draw w h s c y n m P d good fits above below wide high =
       let last : (pos y +ℤ pos m) -ℤ pos 1 ≡ pos y +ℤ pos (m - 1) = omega (arith, ints) in
       let title : Strip K = put_strip (c + 1) d.title (c + 1) (c + n - 1) in
@@ -291,7 +291,7 @@ module _ {K : Type 0} (same_id : K → K → Bool) (law : IsLawful same_id) (cli
   length-dialog w c n m d high = length-map (frame_strips w d c n m) (owned d.id (is_dialog_column d c n)) ∙ length-frame w c n m d high
 
   placed_draws : (w h s c y n m : ℕ) (P : K → Type 0) (d : ShownDialog K) → IsDialog same_id clicks P d → c + n ≤ w → s ≤ y → y + m ≤ s + h → 2 ≤ n → 2 ≤ m
-      → Draws same_id clicks (screen w h s) P (part d.id (placed_picture d (sight w h s) (at c y n m))) (pos y) (dialog_strips w d c n m)
+      → DrawsStrips same_id clicks (screen w h s) P (part d.id (placed_picture d (sight w h s) (at c y n m))) (pos y) (dialog_strips w d c n m)
   placed_draws w h s c y n m P d good fits above below wide high =
       let r = box_rect (placed_picture d (sight w h s) (at c y n m)) in
       let box = box-placed w h s c y n m P d good wide high in
@@ -313,7 +313,7 @@ module _ {K : Type 0} (same_id : K → K → Bool) (law : IsLawful same_id) (cli
   dialog-is w h s d = ap (placed_picture d (sight w h s)) (rect-is w h s d)
 
   pub dialog_draws : (w h s : ℕ) (P : K → Type 0) (d : ShownDialog K) → IsDialog same_id clicks P d → 2 ≤ w → 2 ≤ h
-      → Draws same_id clicks (screen w h s) P (part d.id (part d.id (dialog_picture d (sight w h s)))) (pos (dialog_layer w h s d).first) (dialog_layer w h s d).strips
+      → DrawsStrips same_id clicks (screen w h s) P (part d.id (part d.id (dialog_picture d (sight w h s)))) (pos (dialog_layer w h s d).first) (dialog_layer w h s d).strips
   dialog_draws w h s P d good a b =
       let x = centred_60 w (widest_line d.body + 2) a (omega arith) in
       let y = centred_20 h (length d.body + 2) b (omega arith) in

@@ -28,7 +28,7 @@ use Rattle.scm_view.specs.FilesRows.{files_rows}
 use Rattle.scm_view.specs.Pictures.{to_end, edit_button, button_picture, beside_button, message_picture, shown_file_picture, file_mask, mask_row, pinned_header, pinned_mask, pinned_picture, one_file_picture, files_picture, no_files_picture, document_picture}
 use Rattle.scm_view.specs.Strips.{file_strips, is_over, files_strips, message_strips, no_files_gap, files_layer, document_layers}
 use Rattle.scm_view.specs.Window.{rows_layers}
-use Rattle.scm_view.proofs.Draws.{box-followed, box-part}
+use Rattle.scm_view.proofs.DrawsStrips.{box-followed, box-part}
 use Rattle.scm_view.proofs.MenuLemmas.{not-empty, in-nothing}
 use Rattle.scm_view.proofs.StripLemmas.{under-open, length-file_strips}
 use Rattle.scm_view.proofs.BoxLemmas.{box-none, box-span, box-line, box-cover, span-in, text-in, row-spans}

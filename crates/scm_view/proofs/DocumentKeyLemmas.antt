@@ -22,7 +22,7 @@ use Rattle.scm_view.specs.Pictures.{IdPicture, box_picture, box_part, changed_pi
 use Rattle.scm_view.specs.Strips.{is_over}
 use Rattle.scm_view.specs.Places.{line_places, rows_places, sections_places, files_places, places}
 use Rattle.scm_view.specs.Window.{rows_of_box, rows_of_key}
-use Rattle.scm_view.proofs.Draws.{none_of, box-part}
+use Rattle.scm_view.proofs.DrawsStrips.{none_of, box-part}
 use Rattle.scm_view.proofs.MenuLemmas.{differ}
 use Rattle.scm_view.proofs.StripLemmas.{under-open}
 use Rattle.scm_view.proofs.OwnerLemmas.{is_item, rank_of, IsAmong, IsFrom, IsOf, IsSectionFrom, line_parts, context_parts, line_row, context_row, line_box, context_box, rows-inner, row_owns, rows_own, section_owns, sections_own, index-of}

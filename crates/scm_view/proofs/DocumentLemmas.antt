@@ -12,7 +12,7 @@ use Rattle.scm_render.specs.Centring.{centred, centred_gap}
 use Rattle.scm_render.specs.Lines.{line}
 use Rattle.scm_render.proofs.LineLemmas.{line-append, line-below, line-map}
 use Rattle.scm_render.proofs.PaintLemmas.{paint-none, paint-append}
-use Rattle.scm_render.proofs.RowLemmas.{Paints, one_none, one_more, one_row_paints, paints_none, paints_more}
+use Rattle.scm_render.proofs.RowLemmas.{PutsRows, one_none, one_more, one_row_paints, paints_none, paints_more}
 use Rattle.scm_types.specs.declared.line.SectionChangedLine.{SectionChangedLine}
 use Rattle.scm_types.specs.declared.section.Section.{Section}
 use Rattle.scm_types.specs.declared.section.Section.TheVariants.{Unchanged, Changed, FileMode, Binary}
@@ -120,7 +120,7 @@ files-paint (f ∷ fs) s w m top fits o e inner z row h =
 -- ---- messages
 
 pub message-paints : (commit : ℕ) (message : Option (List ℕ)) (s : Sight) (w : ℕ) (y : ℤ) → 10 ≤ w → IsOpen s w
-    → Paints s.rect (reach s) y (message_picture commit message s (pos 0) y).puts (map shows_of (message_strips w commit message))
+    → PutsRows s.rect (reach s) y (message_picture commit message s (pos 0) y).puts (map shows_of (message_strips w commit message))
 unfolding message_picture message_strips beside_button button_picture span_picture followed_by covering part nothing
 message-paints commit None s w y fits o = paints_none s.rect (reach s) y
 message-paints commit (Some message) s w y fits o =
@@ -157,7 +157,7 @@ zero-more g = omega (arith, ints)
 
 -- the words for no files, in the middle of the columns and rows that the mask lets through
 words-paint : (s : Sight) (w h top : ℕ) → 10 ≤ w → w ≤ 65535 → h ≤ 65535 → IsOpen s w → (reach s).height ≡ h
-    → Paints s.rect (reach s) (pos (top + no_files_gap h)) (no_files_picture s (pos 0) (pos top)).puts (map shows_of (no_files_strip w ∷ []))
+    → PutsRows s.rect (reach s) (pos (top + no_files_gap h)) (no_files_picture s (pos 0) (pos top)).puts (map shows_of (no_files_strip w ∷ []))
 unfolding no_files_picture centred
 words-paint s w h top fits p q o high =
     let width : min (reach s).width 65535 ≡ w = omega (arith, o.columns, p) in
@@ -167,7 +167,7 @@ words-paint s w h top fits p q o high =
     let column : x ≡ pos (0 + centred_gap w 29 50) = ap (λ k. pos 0 +ℤ (pos 0 +ℤ pos (centred_gap k 29 50))) width ∙ from-corner 0 (centred_gap w 29 50) in
     let row : y ≡ pos (top + no_files_gap h) = ap (λ k. pos top +ℤ (pos 0 +ℤ pos (centred_gap k 1 50))) height ∙ from-corner top (no_files_gap h) in
     let said = text-paints (reach s) s w 0 w x y (centred_gap w 29 50) (no_files_text ∷ []) (open-between s w o) (column ∙ zero-more (centred_gap w 29 50)) (λ k. k) in
-    subst (λ k. Paints s.rect (reach s) k (text_picture {K = ComponentId} s x y (no_files_text ∷ [])).puts ((no_files_strip w).shows ∷ [])) row (one_row_paints s.rect (reach s) y _ _ said)
+    subst (λ k. PutsRows s.rect (reach s) k (text_picture {K = ComponentId} s x y (no_files_text ∷ [])).puts ((no_files_strip w).shows ∷ [])) row (one_row_paints s.rect (reach s) y _ _ said)
 
 -- on each row that the mask lets through
 body-paints : (commit : ℕ) (message : Option (List ℕ)) (fs : List ShownFile) (s : Sight) (w h m top : ℕ) → 10 ≤ w → w ≤ 65535 → h ≤ 65535 → IsOpen s w → (reach s).height ≡ h → mask_row s ≡ pos m → AreInnerFiles fs

@@ -27,7 +27,7 @@ use Rattle.scm_view.specs.Pictures.{IdPicture, mask_row, body_picture, files_pic
 use Rattle.scm_view.specs.Strips.{files_strips, pinned_strips, message_strip, message_strips, no_files_gap, no_files_strip, no_files_layers, document_layers, pinned_layer}
 use Rattle.scm_view.specs.Window.{body_layers}
 use Rattle.scm_view.proofs.WindowLemmas.{body_sight, open-below, row-below}
-use Rattle.scm_view.proofs.Draws.{Apart, apart, draws_nothing, draws_still}
+use Rattle.scm_view.proofs.DrawsStrips.{Apart, apart, draws_nothing, draws_still}
 use Rattle.scm_view.proofs.MenuLemmas.{IsPart, differ}
 use Rattle.scm_view.proofs.ButtonLemmas.{holds-text}
 use Rattle.scm_view.proofs.DocumentLemmas.{length-message}

@@ -15,7 +15,7 @@ use Rattle.scm_view.proofs.FilesOf.{HaveRows, IsFileOf}
 use Rattle.scm_view.specs.Rows.{section_id, Heading, DocRow, HeaderRow, ShownSection, ShownFile, sections_rows, file_rows}
 use Rattle.scm_view.specs.Pictures.{row_picture, rows_picture, sections_picture, shown_file_picture}
 use Rattle.scm_view.specs.Strips.{is_wide}
-use Rattle.scm_view.proofs.Draws.{box-followed, box-part}
+use Rattle.scm_view.proofs.DrawsStrips.{box-followed, box-part}
 use Rattle.scm_view.proofs.StripLemmas.{AreInner}
 use Rattle.scm_view.proofs.BoxLemmas.{left_of, left-fits, both-left, or-none, spans-as, box-none, row-spans, rows-span}
 use Rattle.scm_view.proofs.OwnerLemmas.{rows-inner}

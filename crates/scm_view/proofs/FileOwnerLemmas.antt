@@ -27,7 +27,7 @@ use Rattle.scm_view.proofs.FilesOf.{IsHeadingOf, IsFileOf, AreFilesOf}
 use Rattle.scm_view.specs.Rows.{file_id, Heading, HeaderRow, ShownFile, file_rows}
 use Rattle.scm_view.specs.Pictures.{box_picture, heading_picture, row_picture, sections_picture, shown_file_picture, file_mask, pinned_mask, mask_row, pinned_header, pinned_picture, one_file_picture, files_picture}
 use Rattle.scm_view.specs.Strips.{everywhere, heading_strip, row_strip, header_strip, sections_strips, file_strips, is_over, files_strips, pinned_strips}
-use Rattle.scm_view.proofs.Draws.{Apart, none_of, apart, line-more, line-owned, draws_nothing, draws_part, box-part}
+use Rattle.scm_view.proofs.DrawsStrips.{Apart, none_of, apart, line-more, line-owned, draws_nothing, draws_part, box-part}
 use Rattle.scm_view.proofs.MenuLemmas.{differ}
 use Rattle.scm_view.proofs.StripLemmas.{under-open, length-file_strips}
 use Rattle.scm_view.proofs.BoxLemmas.{row-spans, has_box}

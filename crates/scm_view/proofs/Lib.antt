@@ -25,7 +25,7 @@ pub mod StripLemmas
 pub mod ButtonRowLemmas
 pub mod DialogPlaceLemmas
 pub mod MenuPartsLemmas
-pub mod Draws
+pub mod DrawsStrips
 pub mod ButtonLemmas
 pub mod MenuLemmas
 pub mod DialogLemmas

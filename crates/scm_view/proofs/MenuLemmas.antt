@@ -35,7 +35,7 @@ use Rattle.scm_view.specs.Menus.{header_button, header_step, item_button, widest
 use Rattle.scm_view.proofs.OpenMenus.{HasColumns, IsOpenWide}
 use Rattle.scm_view.specs.Screens.{screen, sight}
 use Rattle.scm_cells.proofs.PutLemmas.{put-empty}
-use Rattle.scm_view.proofs.Draws.{Draws, Apart, HasBox, over-clear, draws_nothing, draws_clear, draws_both, draws_below, draws_part, draws_still, box-followed, box-part}
+use Rattle.scm_view.proofs.DrawsStrips.{DrawsStrips, Apart, HasBox, over-clear, draws_nothing, draws_clear, draws_both, draws_below, draws_part, draws_still, box-followed, box-part}
 use Rattle.scm_view.proofs.ButtonLemmas.{reach-screen, draws_row, draws_button, IsId}
 
 -- ---- blanks
@@ -74,7 +74,7 @@ no_boxes K s r = refl
 
 module _ {K : Type 0} where
   pub blank_draws : (same_id : K → K → Bool) (clicks : K → Bool) (w h s c n : ℕ) (y : ℤ) (P : K → Type 0)
-      → Draws same_id clicks (screen w h s) P (blank_picture (sight w h s) (row_rect (pos c) y n)) y (record { shows = blanked c (min w (c + n)); owner = λ x. None } ∷ [])
+      → DrawsStrips same_id clicks (screen w h s) P (blank_picture (sight w h s) (row_rect (pos c) y n)) y (record { shows = blanked c (min w (c + n)); owner = λ x. None } ∷ [])
   blank_draws same_id clicks w h s c n y P =
       let one = rw (reach-screen w h s) at (one_blank K (screen w h s) (screen w h s) (sight w h s) (pos c) y n (rw (reach-screen w h s) (λ p. p))) in
       draws_row same_id clicks (screen w h s) P (blank_picture (sight w h s) (row_rect (pos c) y n)) y (blanked c (min w (c + n))) (no_boxes K (sight w h s) (row_rect (pos c) y n))
@@ -108,7 +108,7 @@ module _ (same_id : ComponentId → ComponentId → Bool) (law : IsLawful same_i
   item_before : (k : ℕ) → Apart same_id is_clickable (IsId (ids.MenuItem k)) (IsItem (suc k))
   item_before k i j p q = differ i j (λ e. let same : ids.MenuItem k ≡ ids.MenuItem q.0 = cc (p, q.1, e) in let n : k ≡ q.0 = cc same in absurd (omega (arith, n, q.2)))
 
-  pub headers_draw : (w h s c k : ℕ) (y : ℤ) (ms : List Menu) → Draws same_id is_clickable (screen w h s) (IsHead k) (headers_picture (sight w h s) (pos c) y k ms) y (headers_strip w c k ms ∷ [])
+  pub headers_draw : (w h s c k : ℕ) (y : ℤ) (ms : List Menu) → DrawsStrips same_id is_clickable (screen w h s) (IsHead k) (headers_picture (sight w h s) (pos c) y k ms) y (headers_strip w c k ms ∷ [])
   unfolding headers_picture headers_strip
   headers_draw w h s c k y [] = draws_clear same_id is_clickable (screen w h s) (IsHead k) y
   headers_draw w h s c k y (m ∷ ms) =
@@ -118,7 +118,7 @@ module _ (same_id : ComponentId → ComponentId → Bool) (law : IsLawful same_i
       (head_before k) (λ i e. (k, e, omega arith)) (λ i p. (p.0, p.1, omega (arith, p.2)))
       (λ z. line-beside (headers_strip w (c + header_step m) (suc k) ms) (button_strip w (pos c) (header_button k m)) [] y z)
 
-  pub items_draw : (w h s n c k : ℕ) (y : ℤ) (ts : List MenuItem) → Draws same_id is_clickable (screen w h s) (IsItem k) (items_picture n (sight w h s) (pos c) y k ts) y (items_strips w n c k ts)
+  pub items_draw : (w h s n c k : ℕ) (y : ℤ) (ts : List MenuItem) → DrawsStrips same_id is_clickable (screen w h s) (IsItem k) (items_picture n (sight w h s) (pos c) y k ts) y (items_strips w n c k ts)
   unfolding items_picture items_strips
   items_draw w h s n c k y [] = draws_nothing same_id is_clickable (screen w h s) (IsItem k) y
   items_draw w h s n c k y (t ∷ ts) =
@@ -259,11 +259,11 @@ in_menus i (inr (inl p)) = ap part_of p
 in_menus i (inr (inr p)) = ap part_of p.1
 
 module _ (same_id : ComponentId → ComponentId → Bool) (law : IsLawful same_id) where
-  menu_draws : (w h s c : ℕ) (y : ℤ) (ts : List MenuItem) → Draws same_id is_clickable (screen w h s) (IsItem 0) (menu_picture ts (sight w h s) (pos c) y) y (items_strips w (widest_item ts) c 0 ts)
+  menu_draws : (w h s c : ℕ) (y : ℤ) (ts : List MenuItem) → DrawsStrips same_id is_clickable (screen w h s) (IsItem 0) (menu_picture ts (sight w h s) (pos c) y) y (items_strips w (widest_item ts) c 0 ts)
   unfolding menu_picture
   menu_draws w h s c y ts = items_draw same_id law w h s (widest_item ts) c 0 y ts
 
-  open_draws : (w h s : ℕ) (ms : Option (ℕ × Menu)) → Draws same_id is_clickable (screen w h s) IsOpen (open_picture ms (sight w h s) (pos 0) (pos s)) (pos s +ℤ pos 1) (open_strips w ms)
+  open_draws : (w h s : ℕ) (ms : Option (ℕ × Menu)) → DrawsStrips same_id is_clickable (screen w h s) IsOpen (open_picture ms (sight w h s) (pos 0) (pos s)) (pos s +ℤ pos 1) (open_strips w ms)
   open_draws w h s None = draws_nothing same_id is_clickable (screen w h s) IsOpen (pos s +ℤ pos 1)
   open_draws w h s (Some m) =
       let column : 0 + m.0 ≡ m.0 = omega arith in
@@ -279,7 +279,7 @@ module _ (same_id : ComponentId → ComponentId → Bool) (law : IsLawful same_i
   bar_itself j (inr (inr p)) = differ same_id law ids.MenuBar j (λ e. cc (p.1, e))
 
   bar_rows : (w h s : ℕ) (b : MenuBar)
-      → Draws same_id is_clickable (screen w h s) IsInBar (menu_bar_picture b (sight w h s) (pos 0) (pos s)) (pos s) (over (headers_strip w 0 0 b.menus) (blank_strip 0 w) ∷ open_strips w (opened 0 b.menus b.expanded_menu_idx))
+      → DrawsStrips same_id is_clickable (screen w h s) IsInBar (menu_bar_picture b (sight w h s) (pos 0) (pos s)) (pos s) (over (headers_strip w 0 0 b.menus) (blank_strip 0 w) ∷ open_strips w (opened 0 b.menus b.expanded_menu_idx))
   unfolding menu_bar_picture
   bar_rows w h s b =
       let all : min w (0 + w) ≡ w = omega arith in
@@ -291,7 +291,7 @@ module _ (same_id : ComponentId → ComponentId → Bool) (law : IsLawful same_i
       (λ z. line-beside (headers_strip w 0 0 b.menus) (blank_strip 0 w) (open_strips w (opened 0 b.menus b.expanded_menu_idx)) (pos s) z)
 
   pub menus_draw : (w h s : ℕ) (b : MenuBar) → 0 < w → IsOpenWide (opened 0 b.menus b.expanded_menu_idx)
-      → Draws same_id is_clickable (screen w h s) (IsPart Menus) (part ids.MenuBar (menu_bar_picture b (sight w h s) (pos 0) (pos s))) (pos s) (menu_strips w b)
+      → DrawsStrips same_id is_clickable (screen w h s) (IsPart Menus) (part ids.MenuBar (menu_bar_picture b (sight w h s) (pos 0) (pos s))) (pos s) (menu_strips w b)
   menus_draw w h s b some wide =
       let inner = over (headers_strip w 0 0 b.menus) (blank_strip 0 w) ∷ open_strips w (opened 0 b.menus b.expanded_menu_idx) in
       let count : length (menu_strips w b) ≡ length inner = length-map inner (owned ids.MenuBar (λ x. true)) in

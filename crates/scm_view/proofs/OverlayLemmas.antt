@@ -22,7 +22,7 @@ use Rattle.scm_view.specs.Tables.{menus_with, quit_dialog, help_dialog, named_di
 use Rattle.scm_view.specs.Screens.{screen, sight}
 use Rattle.scm_view.specs.Overlays.{quit_picture, help_picture, quit_layers, help_layers, overlays}
 use Rattle.scm_view.proofs.OverlaysPicture.{overlays_picture}
-use Rattle.scm_view.proofs.Draws.{Draws, Apart, apart, length-paint}
+use Rattle.scm_view.proofs.DrawsStrips.{DrawsStrips, Apart, apart, length-paint}
 use Rattle.scm_view.proofs.MenuLemmas.{IsPart, differ, menus_draw}
 use Rattle.scm_view.proofs.DialogLemmas.{dialog_draws}
 use Rattle.scm_view.proofs.FixedLemmas.{open_is_wide, quit_is_dialog, help_is_dialog}
@@ -46,7 +46,7 @@ module _ {K : Type 0} (same_id : K → K → Bool) (clicks : K → Bool) where
   owned-append [] ks z x = sym (two_none (owned_by ks z x))
   owned-append (l ∷ ls) ks z x = ap (λ o. first_of_two o ((strip_at z l).owner x)) (owned-append ls ks z x) ∙ two_assoc (owned_by ks z x) (owned_by ls z x) ((strip_at z l).owner x)
 
-  one_layer : (w h s first : ℕ) (P : K → Type 0) (m : Picture K) (ss : List (Strip K)) → Draws same_id clicks (screen w h s) P m (pos first) ss → DrawsLayers w h s P m (record { first = first; strips = ss } ∷ [])
+  one_layer : (w h s first : ℕ) (P : K → Type 0) (m : Picture K) (ss : List (Strip K)) → DrawsStrips same_id clicks (screen w h s) P m (pos first) ss → DrawsLayers w h s P m (record { first = first; strips = ss } ∷ [])
   unfolding shown_by owned_by
   one_layer w h s first P m ss d = record {
     paints = λ z row p q. d.paints (pos z) row p q;

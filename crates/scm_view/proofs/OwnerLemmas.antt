@@ -28,7 +28,7 @@ use Rattle.scm_view.specs.Texts.{box_text}
 use Rattle.scm_view.specs.Rows.{IdBox, section_id, line_id, Heading, DocRow, HeaderRow, SectionRow, LineRow, MarkRow, ContextRow, DotsRow, BlankRow, ShownSection}
 use Rattle.scm_view.specs.Pictures.{IdPicture, box_picture, box_part, heading_width, title_picture, heading_picture, changed_picture, context_picture, highlight, row_picture, rows_picture, sections_picture}
 use Rattle.scm_view.specs.Strips.{box_strip, heading_strip, row_strip, is_wide, is_of_section, everywhere, section_strips, sections_strips}
-use Rattle.scm_view.proofs.Draws.{Draws, HasBox, draws_nothing, draws_both, draws_below, draws_part, box-part}
+use Rattle.scm_view.proofs.DrawsStrips.{DrawsStrips, HasBox, draws_nothing, draws_both, draws_below, draws_part, box-part}
 use Rattle.scm_view.proofs.ButtonLemmas.{IsId, holds-text, holds-nothing}
 use Rattle.scm_view.proofs.MenuLemmas.{differ, line-beside}
 use Rattle.scm_view.proofs.StripLemmas.{fold-place, beside_fold, AreInner}
@@ -40,7 +40,7 @@ no_rows w = record { x = pos 0; y = pos 0; width = w; height = 0 }
 
 -- the boxes of a picture, whose ids are all of a kind, own what the strips say, on a screen of w columns, and nothing else
 abbrev pub Owns : (ComponentId → ComponentId → Bool) → ℕ → (ComponentId → Type 0) → IdPicture → ℤ → List (Strip ComponentId) → Type 0
-Owns same w P m y ss = Draws same is_clickable (no_rows w) P m y ss
+Owns same w P m y ss = DrawsStrips same is_clickable (no_rows w) P m y ss
 
 pub none-seen : (w : ℕ) (z : ℤ) → has_row (no_rows w) z ≡ true → ⊥
 none-seen w z h =

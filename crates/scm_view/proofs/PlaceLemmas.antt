@@ -12,7 +12,7 @@ use Rattle.scm_types.specs.Keys.{numbers_of, is_key}
 use Rattle.scm_view.specs.Pictures.{IdPicture}
 use Rattle.scm_view.specs.Places.{Place}
 use Rattle.scm_view.specs.Window.{rows_of_box, rows_of_place, rows_of_key}
-use Rattle.scm_view.proofs.Draws.{none_of}
+use Rattle.scm_view.proofs.DrawsStrips.{none_of}
 use Rattle.scm_view.proofs.MenuLemmas.{differ}
 use Rattle.scm_view.proofs.OwnerLemmas.{is_item}
 use Rattle.scm_view.proofs.SameLemmas.{numbers-same, numbers-self, key_at, key-back}

@@ -26,7 +26,7 @@ use Rattle.scm_view.specs.Index.{box_owner, line_owner, context_line, part_owner
 use Rattle.scm_view.specs.Tops.{context_kinds, kinds_of, is_wide_of, section_top_of}
 use Rattle.scm_view.proofs.RowsLemmas.{length-numbered, length-taken}
 use Rattle.scm_view.proofs.SectionsLemmas.{height-of}
-use Rattle.scm_view.proofs.Draws.{line-owned}
+use Rattle.scm_view.proofs.DrawsStrips.{line-owned}
 
 -- ---- who owns a row's columns
 

@@ -16,7 +16,7 @@ use Rattle.scm_render.proofs.PaintLemmas.{paint-none}
 use Rattle.scm_render.specs.Drawing.{reach, has_row, mask_or, row_rect, text_puts, text_picture, span_picture, blank_picture}
 use Rattle.scm_render.specs.Rows.{say_texts, limit}
 use Rattle.scm_render.proofs.RowsWithin.{put_within, say_within}
-use Rattle.scm_render.proofs.RowLemmas.{OneRow, Paints, IsReached, one_none, one_more, one_same, one_text, one_said, one_row_paints, paints_none, paints_more}
+use Rattle.scm_render.proofs.RowLemmas.{OneRow, PutsRows, IsReached, one_none, one_more, one_same, one_text, one_said, one_row_paints, paints_none, paints_more}
 use Rattle.scm_render.proofs.FillLemmas.{one_blank, blank_over}
 use Rattle.scm_view.specs.declared.ids.ComponentId.{ComponentId}
 use Rattle.scm_view.specs.Laws.{IsOpen}
@@ -235,7 +235,7 @@ later : (y : ℤ) (n : ℕ) (seen m : Rect) → IsReachedFrom y seen m → IsRea
 later y n seen m r z h = r z (omega (arith, ints, h))
 
 pub rows-paint : (ds : List DocRow) (seen : Rect) (s : Sight) (w : ℕ) (y : ℤ) → 10 ≤ w → IsOpen s w → IsOnScreen seen s.rect → IsReachedFrom y seen (reach s) → AreInner ds
-    → Paints s.rect seen y (rows_picture ds s (pos 2) y).puts (map shows_of (map (row_strip w) ds))
+    → PutsRows s.rect seen y (rows_picture ds s (pos 2) y).puts (map shows_of (map (row_strip w) ds))
 unfolding rows_picture followed_by nothing
 rows-paint [] seen s w y fits o on r inner = paints_none s.rect seen y
 rows-paint (d ∷ ds) seen s w y fits o on r inner =
@@ -256,7 +256,7 @@ unfolding section_strips
 section-shows w p = shows-owned (section_id p.key) (is_of_section p.rows) (map (row_strip w) p.rows)
 
 pub sections-paint : (ps : List ShownSection) (seen : Rect) (s : Sight) (w : ℕ) (y : ℤ) → 10 ≤ w → IsOpen s w → IsOnScreen seen s.rect → IsReachedFrom y seen (reach s) → AreInnerSections ps
-    → Paints s.rect seen y (sections_picture ps s (pos 2) y).puts (map shows_of (sections_strips w ps))
+    → PutsRows s.rect seen y (sections_picture ps s (pos 2) y).puts (map shows_of (sections_strips w ps))
 unfolding sections_picture sections_strips followed_by part nothing
 sections-paint [] seen s w y fits o on r inner = paints_none s.rect seen y
 sections-paint (p ∷ ps) seen s w y fits o on r inner =
@@ -293,7 +293,7 @@ unfolding file_strips file_rows
 length-file_strips w pinned f = ap suc (length-map (sections_strips w f.sections) (owned (file_id f.key) everywhere) ∙ length-sections_strips w f.sections)
 
 pub file-paints : (f : ShownFile) (pinned : Bool) (seen : Rect) (s : Sight) (w : ℕ) (y : ℤ) → 10 ≤ w → IsOpen s w → IsOnScreen seen s.rect → IsReachedFrom y seen (reach s) → AreInnerSections f.sections
-    → Paints s.rect seen y (shown_file_picture f s (pos 0) y).puts (map shows_of (file_strips w pinned f))
+    → PutsRows s.rect seen y (shown_file_picture f s (pos 0) y).puts (map shows_of (file_strips w pinned f))
 unfolding shown_file_picture followed_by
 file-paints f pinned seen s w y fits o on r inner =
     rw (file-shows w pinned f)
@@ -385,7 +385,7 @@ file-reached s x y z h on =
 -- ---- files and pinned headers, on the rows that the mask lets through
 
 pub whole_file-paints : (f : ShownFile) (pinned : Bool) (s : Sight) (w : ℕ) (y : ℤ) → 10 ≤ w → IsOpen s w → AreInnerSections f.sections
-    → Paints s.rect (reach s) y (shown_file_picture f (under (file_mask s (pos 0) y) s) (pos 0) y).puts (map shows_of (file_strips w pinned f))
+    → PutsRows s.rect (reach s) y (shown_file_picture f (under (file_mask s (pos 0) y) s) (pos 0) y).puts (map shows_of (file_strips w pinned f))
 whole_file-paints f pinned s w y fits o inner =
     file-paints f pinned (reach s) (under (file_mask s (pos 0) y) s) w y fits (under-open s w y None o) (reach-on_screen s) (file-reached s (pos 0) y) inner
 

@@ -22,7 +22,7 @@ use Rattle.scm_view.specs.Rows.{file_id, section_id, section_height, section_row
 use Rattle.scm_view.specs.Strips.{is_among, everywhere, is_of_section, row_strip, section_strips, sections_strips, header_strip, file_strips, is_over, files_strips}
 use Rattle.scm_view.specs.Index.{is_from, section_owner, sections_owner, header_owner, file_owner, files_owner, rows_owner}
 use Rattle.scm_view.specs.Tops.{section_top_of, height_where, top_where, sections_height, section_tops, file_height, tops_in_file, file_top_of, file_tops, tops_in_files}
-use Rattle.scm_view.proofs.Draws.{line-owned}
+use Rattle.scm_view.proofs.DrawsStrips.{line-owned}
 use Rattle.scm_view.proofs.FilesOf.{IsHeadingOf, IsFileOf, AreFilesOf}
 use Rattle.scm_view.proofs.SectionTopLemmas.{shown_of_view, section-height, length-section, section-owner, row-within, two_boxes}
 

@@ -27,7 +27,7 @@ use Rattle.scm_view.specs.Screens.{sight}
 use Rattle.scm_view.specs.Shown.{Shown}
 use Rattle.scm_view.specs.AppView.{app_picture}
 use Rattle.scm_view.specs.Window.{inline_document, rows_layers, height_of_box, extent, IsPlain, AppsHaveExtents}
-use Rattle.scm_view.proofs.Draws.{none_of, box-followed, box-part}
+use Rattle.scm_view.proofs.DrawsStrips.{none_of, box-followed, box-part}
 use Rattle.scm_view.proofs.DialogLemmas.{centred_60, centred_20, join-none, box-none, box-placed, length-dialog, dialog-is}
 use Rattle.scm_view.proofs.FixedLemmas.{open_is_wide, quit_is_dialog, help_is_dialog}
 use Rattle.scm_view.proofs.RunLemmas.{Runs, runs_more, runs_as, runs_of, lowest, highest}

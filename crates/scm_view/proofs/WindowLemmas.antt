@@ -35,7 +35,7 @@ use Rattle.scm_view.specs.Laws.{IsOpen}
 use Rattle.scm_view.specs.Window.{inline_document, rows_layers, body_layers, layers, rows_from, window, IsPlain, AppsShowWindows}
 use Rattle.scm_view.proofs.AppShapeLemmas.{below_bar, app-inline}
 use Rattle.scm_view.proofs.AlikeLemmas.{app-alike, view-shows}
-use Rattle.scm_view.proofs.Draws.{length-paint}
+use Rattle.scm_view.proofs.DrawsStrips.{length-paint}
 use Rattle.scm_view.proofs.DocumentLemmas.{commits-painted}
 use Rattle.scm_view.proofs.KeepLemmas.{document-keeps}
 use Rattle.scm_view.proofs.OverlayLemmas.{shown-append, overlays_draw, bar_at}

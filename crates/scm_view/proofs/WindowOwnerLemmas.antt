@@ -17,7 +17,7 @@ use Rattle.scm_view.specs.Screens.{sight}
 use Rattle.scm_view.specs.Shown.{Shown}
 use Rattle.scm_view.specs.AppView.{app_picture}
 use Rattle.scm_view.specs.Window.{inline_document, body_layers, owner, rows_of_box, rows_of_key, span, IsPlain, ClicksFindOwners, KeysHaveRows}
-use Rattle.scm_view.proofs.Draws.{none_of, apart}
+use Rattle.scm_view.proofs.DrawsStrips.{none_of, apart}
 use Rattle.scm_view.proofs.IdBoxLemmas.{box_of-other, box_of-before}
 use Rattle.scm_view.proofs.MenuLemmas.{IsPart, differ}
 use Rattle.scm_view.proofs.OverlayLemmas.{DrawsLayers, owned-append, IsOver, body_or_over, overlays_draw}

@@ -7,14 +7,8 @@ ghost use Rattle.scm_view.specs.Window.{rows_of_key};
 ghost use Rattle.scm_view.specs.Pieces.{first_at_end, key_row, line_row, lines_at_end, lines_on_top, piece_places, run_row, section_places};
 
 use crate::tops::{Piece, RowKinds, SectionTop};
+use scm_types::keys::is_key;
 use scm_types::{LineKey, SelectionKey};
-
-/// Whether two keys are the same.
-fn is_same(key: SelectionKey, other: SelectionKey) -> bool
-    ensures { result ≡ is_key key other }
-{
-    key == other
-}
 
 /// The row of a line among so many from one on, which stand on rows from one on.
 fn run_row(row: usize, first: usize, count: usize, index: usize) -> Option<usize>
@@ -89,7 +83,7 @@ impl SectionTop {
     fn line_row(&self, line: LineKey) -> Option<usize>
         ensures { result ≡ line_row self.now line }
     {
-        if !is_same(
+        if !is_key(
             SelectionKey::Section(line.section()),
             SelectionKey::Section(self.key),
         ) {
@@ -122,7 +116,7 @@ impl SectionTop {
     fn has(&self, key: SelectionKey) -> bool
         ensures { result ≡ list_any (λ (p : Place). is_key key p.key) (section_places self.now) }
     {
-        let is_own = is_same(key, SelectionKey::Section(self.key));
+        let is_own = is_key(key, SelectionKey::Section(self.key));
         let is_line = self.key_row(key).is_some();
         is_own | is_line
     }
@@ -131,7 +125,7 @@ impl SectionTop {
     fn find(&self, key: SelectionKey) -> Option<(usize, usize)>
         ensures { result ≡ rows_of_key key (section_places self.now) }
     {
-        if is_same(key, SelectionKey::Section(self.key)) {
+        if is_key(key, SelectionKey::Section(self.key)) {
             some_rows(self.top, self.end.saturating_sub(self.top))
         } else {
             match self.key_row(key) {
@@ -148,7 +142,7 @@ impl Piece {
         ensures { result ≡ list_any (λ (p : Place). is_key key p.key) (piece_places self.now) }
     {
         match self {
-            Piece::File(file) => is_same(key, SelectionKey::File(file.key)),
+            Piece::File(file) => is_key(key, SelectionKey::File(file.key)),
             Piece::Section(section) => section.has(key),
         }
     }
@@ -159,7 +153,7 @@ impl Piece {
     {
         match self {
             Piece::File(file) => {
-                if is_same(key, SelectionKey::File(file.key)) {
+                if is_key(key, SelectionKey::File(file.key)) {
                     some_rows(file.top, file.end.saturating_sub(file.top))
                 } else {
                     None

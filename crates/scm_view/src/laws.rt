@@ -64,7 +64,7 @@ pub fn components_are_in_range()
 {}
 
 /// `==` tells ids apart: of two ids it says `true` just if they are the same. So laws on boxes hold of
-/// the map that `render_top_level` answers.
+/// the map that `render_top_level` returns.
 pub fn ids_are_told_apart()
     ensures { IdsAreToldApart }
 {}

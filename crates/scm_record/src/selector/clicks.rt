@@ -3,9 +3,9 @@
 use super::{Flow, Selector};
 use crate::frame::DrawnFrame;
 use scm_input::Event;
-use scm_selection::moves::is_key;
 use scm_shown::menus::event_of_item;
 use scm_types::RecordError;
+use scm_types::keys::is_key;
 use scm_view::{ComponentId, SelectionKey};
 
 impl<'state> Selector<'state> {

@@ -4,20 +4,20 @@ use Rattle.scm_view.specs.Window.{rows_of_key}
 use Rattle.scm_view.proofs.IndexLemmas.{lines-rows}
 use Rattle.scm_view.proofs.tops.SectionTop.find.Goals as goal
 
-pub returns-then-is_same : goal.returns-then-is_same
+pub returns-then-is_key : goal.returns-then-is_key
 unfolding rows_of_key
-returns-then-is_same c =
-    let own = sym c.is_same.ensures ∙ c.if-is_same.true in
+returns-then-is_key c =
+    let own = sym c.is_key.ensures ∙ c.if-is_key.true in
     rw (own, c.some_rows.ensures, c.saturating_sub.ensures) refl
 
 pub returns-in-Some : goal.returns-in-Some
 unfolding rows_of_key
 returns-in-Some c =
-    let other = sym c.is_same.ensures ∙ c.if-is_same.false in
+    let other = sym c.is_key.ensures ∙ c.if-is_key.false in
     rw other (ap (option_map (λ t. (t, 1))) (sym c.in-Some.is ∙ c.key_row.ensures) ∙ sym (lines-rows c.args.self.now c.args.key))
 
 pub returns-in-None : goal.returns-in-None
 unfolding rows_of_key
 returns-in-None c =
-    let other = sym c.is_same.ensures ∙ c.if-is_same.false in
+    let other = sym c.is_key.ensures ∙ c.if-is_key.false in
     rw other (ap (option_map (λ t. (t, 1))) (sym c.in-None.is ∙ c.key_row.ensures) ∙ sym (lines-rows c.args.self.now c.args.key))

@@ -6,4 +6,4 @@ use Rattle.scm_view.proofs.IndexLemmas.{lines-any}
 use Rattle.scm_view.proofs.tops.SectionTop.has.Goals as goal
 
 pub returns : goal.returns
-returns c = rw (c.is_same-is_own.ensures, c.is_some-is_line.ensures, c.key_row.ensures) (ap (λ b. is_key c.args.key (selection.Section c.args.self.now.key) || b) (sym (lines-any c.args.self.now c.args.key)))
+returns c = rw (c.is_key-is_own.ensures, c.is_some-is_line.ensures, c.key_row.ensures) (ap (λ b. is_key c.args.key (selection.Section c.args.self.now.key) || b) (sym (lines-any c.args.self.now c.args.key)))

@@ -166,7 +166,7 @@ module _ {K : Type 0} where
 
 module _ {K : Type 0} (same_id : K → K → Bool) (is_clickable : K → Bool) where
   -- pictures whose ids are all of a kind draw strips on the rows from y on, and nothing else
-  pub record Draws (v : Rect) (P : K → Type 0) (m : Picture K) (y : ℤ) (ss : List (Strip K)) : Type 0 where
+  pub record DrawsStrips (v : Rect) (P : K → Type 0) (m : Picture K) (y : ℤ) (ss : List (Strip K)) : Type 0 where
     pub paints : (z : ℤ) (row : Row) → has_row v z ≡ true → length row ≡ v.width → paint v m.puts z row ≡ (line clear ss y z).shows row
     pub owns : (rep : K → Bool) → ((i : K) → P i → rep i ≡ false) → (z : ℤ) (x : ℕ) → x < v.width → hit same_id is_clickable rep m.boxes z (pos x) ≡ (line clear ss y z).owner x
     pub ids : Each P m.boxes
@@ -184,13 +184,13 @@ module _ {K : Type 0} (same_id : K → K → Bool) (is_clickable : K → Bool) w
   apart P Q [] bs differ h k = tt
   apart P Q (a ∷ cs) bs differ h k = (none_of Q a.0 bs (λ j q. differ a.0 j h.0 q) k, apart P Q cs bs differ h.1 k)
 
-  pub draws_nothing : (v : Rect) (P : K → Type 0) (y : ℤ) → Draws v P nothing y []
+  pub draws_nothing : (v : Rect) (P : K → Type 0) (y : ℤ) → DrawsStrips v P nothing y []
   unfolding nothing line hit
   draws_nothing v P y = record { paints = λ z row h k. paint-none v z row; owns = λ rep live z x h. refl; ids = tt }
 
   -- one after another, the second over the first
-  pub draws_both : (v : Rect) (P Q R : K → Type 0) (a b : Picture K) (y y' : ℤ) (ss ts us : List (Strip K)) → Draws v P a y ss → Draws v Q b y' ts
-      → Apart P Q → ((i : K) → P i → R i) → ((i : K) → Q i → R i) → ((z : ℤ) → over (line clear ts y' z) (line clear ss y z) ≡ line clear us y z) → Draws v R (followed_by a b) y us
+  pub draws_both : (v : Rect) (P Q R : K → Type 0) (a b : Picture K) (y y' : ℤ) (ss ts us : List (Strip K)) → DrawsStrips v P a y ss → DrawsStrips v Q b y' ts
+      → Apart P Q → ((i : K) → P i → R i) → ((i : K) → Q i → R i) → ((z : ℤ) → over (line clear ts y' z) (line clear ss y z) ≡ line clear us y z) → DrawsStrips v R (followed_by a b) y us
   unfolding followed_by
   draws_both v P Q R a b y y' ss ts us ha hb differ p q e = record {
     paints = λ z row h k.
@@ -204,18 +204,18 @@ module _ {K : Type 0} (same_id : K → K → Bool) (is_clickable : K → Bool) w
   }
 
   -- the second below the first
-  pub draws_below : (v : Rect) (P Q R : K → Type 0) (a b : Picture K) (y : ℤ) (ss ts : List (Strip K)) → Draws v P a y ss → Draws v Q b (y +ℤ pos (length ss)) ts
-      → Apart P Q → ((i : K) → P i → R i) → ((i : K) → Q i → R i) → Draws v R (followed_by a b) y (ss ++ ts)
+  pub draws_below : (v : Rect) (P Q R : K → Type 0) (a b : Picture K) (y : ℤ) (ss ts : List (Strip K)) → DrawsStrips v P a y ss → DrawsStrips v Q b (y +ℤ pos (length ss)) ts
+      → Apart P Q → ((i : K) → P i → R i) → ((i : K) → Q i → R i) → DrawsStrips v R (followed_by a b) y (ss ++ ts)
   draws_below v P Q R a b y ss ts ha hb differ p q = draws_both v P Q R a b y (y +ℤ pos (length ss)) ss ts (ss ++ ts) ha hb differ p q (λ z. line-more ss ts y z)
 
   -- the second over the rows of the first, from its k-th on
-  pub draws_over : (v : Rect) (P Q R : K → Type 0) (a b : Picture K) (y : ℤ) (k : ℕ) (ss ts : List (Strip K)) → k + length ts ≤ length ss → Draws v P a y ss → Draws v Q b (y +ℤ pos k) ts
-      → Apart P Q → ((i : K) → P i → R i) → ((i : K) → Q i → R i) → Draws v R (followed_by a b) y (laid_over k ts ss)
+  pub draws_over : (v : Rect) (P Q R : K → Type 0) (a b : Picture K) (y : ℤ) (k : ℕ) (ss ts : List (Strip K)) → k + length ts ≤ length ss → DrawsStrips v P a y ss → DrawsStrips v Q b (y +ℤ pos k) ts
+      → Apart P Q → ((i : K) → P i → R i) → ((i : K) → Q i → R i) → DrawsStrips v R (followed_by a b) y (laid_over k ts ss)
   draws_over v P Q R a b y k ss ts fits ha hb differ p q = draws_both v P Q R a b y (y +ℤ pos k) ss ts (laid_over k ts ss) ha hb differ p q (λ z. line-over k ts ss y z fits)
 
   -- a component around what its parts draw, which owns what they don't
-  pub draws_part : (v : Rect) (P R : K → Type 0) (i : K) (m : Picture K) (y : ℤ) (ss : List (Strip K)) (test : ℕ → Bool) → Draws v P m y ss → HasBox (box_rect m) y (length ss) v.width test
-      → is_clickable i ≡ true → ((j : K) → P j → same_id i j ≡ false) → R i → ((j : K) → P j → R j) → Draws v R (part i m) y (map (owned i test) ss)
+  pub draws_part : (v : Rect) (P R : K → Type 0) (i : K) (m : Picture K) (y : ℤ) (ss : List (Strip K)) (test : ℕ → Bool) → DrawsStrips v P m y ss → HasBox (box_rect m) y (length ss) v.width test
+      → is_clickable i ≡ true → ((j : K) → P j → same_id i j ≡ false) → R i → ((j : K) → P j → R j) → DrawsStrips v R (part i m) y (map (owned i test) ss)
   unfolding part holds
   draws_part v P R i m y ss test hm hr click differ r p = record {
     paints = λ z row h k. hm.paints z row h k ∙ sym (line-shows i test ss y z row);
@@ -226,8 +226,8 @@ module _ {K : Type 0} (same_id : K → K → Bool) (is_clickable : K → Bool) w
   }
 
   -- a component that no click acts on
-  pub draws_still : (v : Rect) (P R : K → Type 0) (i : K) (m : Picture K) (y : ℤ) (ss : List (Strip K)) → Draws v P m y ss
-      → is_clickable i ≡ false → R i → ((j : K) → P j → R j) → Draws v R (part i m) y ss
+  pub draws_still : (v : Rect) (P R : K → Type 0) (i : K) (m : Picture K) (y : ℤ) (ss : List (Strip K)) → DrawsStrips v P m y ss
+      → is_clickable i ≡ false → R i → ((j : K) → P j → R j) → DrawsStrips v R (part i m) y ss
   unfolding part
   draws_still v P R i m y ss hm still r p = record {
     paints = hm.paints;
@@ -236,7 +236,7 @@ module _ {K : Type 0} (same_id : K → K → Bool) (is_clickable : K → Bool) w
   }
 
   -- a component that draws one of its own id, whose box takes the place of its own
-  pub draws_again : (v : Rect) (P : K → Type 0) (i : K) (m : Picture K) (y : ℤ) (ss : List (Strip K)) → same_id i i ≡ true → P i → Draws v P (part i m) y ss → Draws v P (part i (part i m)) y ss
+  pub draws_again : (v : Rect) (P : K → Type 0) (i : K) (m : Picture K) (y : ℤ) (ss : List (Strip K)) → same_id i i ≡ true → P i → DrawsStrips v P (part i m) y ss → DrawsStrips v P (part i (part i m)) y ss
   unfolding part hit has_id
   draws_again v P i m y ss self p h = record {
     paints = h.paints;
@@ -249,7 +249,7 @@ module _ {K : Type 0} (same_id : K → K → Bool) (is_clickable : K → Bool) w
       gone false o = two_none o
 
   -- the same strips
-  pub draws_as : (v : Rect) (P : K → Type 0) (m : Picture K) (y : ℤ) (ss ts : List (Strip K)) → ((z : ℤ) → line clear ss y z ≡ line clear ts y z) → Draws v P m y ss → Draws v P m y ts
+  pub draws_as : (v : Rect) (P : K → Type 0) (m : Picture K) (y : ℤ) (ss ts : List (Strip K)) → ((z : ℤ) → line clear ss y z ≡ line clear ts y z) → DrawsStrips v P m y ss → DrawsStrips v P m y ts
   draws_as v P m y ss ts e h = record {
     paints = λ z row p q. h.paints z row p q ∙ ap (λ (s : Strip K). s.shows row) (e z);
     owns = λ rep live z x p. h.owns rep live z x p ∙ ap (λ (s : Strip K). s.owner x) (e z);
@@ -265,7 +265,7 @@ module _ {K : Type 0} (same_id : K → K → Bool) (is_clickable : K → Bool) w
       go false = refl
 
   -- a row on which nothing stands
-  pub draws_clear : (v : Rect) (P : K → Type 0) (y : ℤ) → Draws v P nothing y (clear ∷ [])
+  pub draws_clear : (v : Rect) (P : K → Type 0) (y : ℤ) → DrawsStrips v P nothing y (clear ∷ [])
   draws_clear v P y = draws_as v P nothing y [] (clear ∷ []) (clear-line y) (draws_nothing v P y)
 
 -- ---- strips as what they show and who owns them
