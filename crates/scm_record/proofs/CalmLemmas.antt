@@ -11,20 +11,22 @@ use Rattle.scm_view.specs.declared.quit_dialog.QuitDialogButtonId.TheVariants.{Q
 use Rattle.scm_input.specs.declared.events.Event.{Event}
 use Rattle.scm_input.specs.declared.events.Event.TheVariants as events
 use Rattle.scm_record.specs.declared.pages.Way.TheVariants.{Up, Down}
+use Rattle.scm_record.specs.declared.selector.moves.Stops.TheVariants.{Visible, SameKind}
 use Rattle.scm_record.specs.declared.selector.Flow.{Flow}
 use Rattle.scm_record.specs.declared.selector.Flow.TheVariants as flows
 use Rattle.scm_types.specs.Keys.{file_of, file_of_section}
 use Rattle.scm_selection.specs.KeyLists.{all_keys}
 use Rattle.scm_selection.specs.KeySet.{is_key, key_set, same_set}
 use Rattle.scm_selection.specs.Counts.{message_count, changed_count}
-use Rattle.scm_record.specs.Session.{Session, with_pushed, with_dialog, with_help, with_scroll, at_key, after_item, after_select, after_fold, after_next, after_previous, after_next_same_kind, after_previous_same_kind, after_advance, after_inner, after_outer, outside_of, after_expand, after_expand_all, with_files_changed, after_toggle, after_toggle_all, after_toggle_all_uniform, message_of}
+use Rattle.scm_record.specs.Session.{Session, with_pushed, with_dialog, with_help, with_scroll, at_key, after_item, after_select, after_fold, after_move, after_advance, after_inner, after_outer, outside_of, after_expand, after_expand_all, with_files_changed, after_toggle, after_toggle_all, after_toggle_all_uniform, message_of}
 use Rattle.scm_selection.specs.Toggle.{with_key_toggled, with_all_inverted, with_all_set}
 use Rattle.scm_record.specs.Frames.{Scene}
 use Rattle.scm_record.specs.Uses.{held, hit}
 use Rattle.scm_record.specs.Change.{Change, stays, cancels}
 use Rattle.scm_record.specs.Dialogs.{pressed, focused, button_of, opened, asked, unless_asked, help_closed_or, dialog_closed_or, dialog_pressed_or}
 use Rattle.scm_record.specs.Pages.{after_page}
-use Rattle.scm_record.specs.Clicks.{edit_of, edit_of_message, item_event, clicked_on, clicked}
+use Rattle.scm_record.specs.Messages.{edit_asked, edit_if}
+use Rattle.scm_record.specs.Clicks.{item_event, clicked_on, clicked}
 use Rattle.scm_record.specs.Step.{change}
 
 -- whether a run just goes on or is given up, or goes on once a message is edited
@@ -74,7 +76,7 @@ module _ (s : Session) where
   presses Quit = gives_up
   presses GoBack = idle (with_dialog s None) refl
 
-  edits_message : (commit : ℕ) (message : Option (List ℕ)) → Calm s (edit_of_message commit (with_pushed s events.Redraw) message)
+  edits_message : (commit : ℕ) (message : Option (List ℕ)) → Calm s (edit_if commit (with_pushed s events.Redraw) message)
   edits_message commit None = record { flow = refl; cleared = refl }
   edits_message commit (Some text) = record { flow = refl; cleared = refl }
 
@@ -152,14 +154,14 @@ module _ (s : Session) where
   calm scene events.ScrollDown e = unless (stays (with_scroll s (held scene (s.scroll + 1)))) (idle (with_scroll s (held scene (s.scroll + 1))) refl)
   calm scene events.PageUp e = unless (stays (with_scroll s (held scene (s.scroll - scene.height)))) (idle (with_scroll s (held scene (s.scroll - scene.height))) refl)
   calm scene events.PageDown e = unless (stays (with_scroll s (held scene (s.scroll + scene.height)))) (idle (with_scroll s (held scene (s.scroll + scene.height))) refl)
-  calm scene events.FocusPrev e = unless (stays (after_previous s)) (idle (after_previous s) refl)
-  calm scene events.FocusPrevSameKind e = unless (stays (after_previous_same_kind s)) (idle (after_previous_same_kind s) refl)
+  calm scene events.FocusPrev e = unless (stays (after_move Up Visible s)) (idle (after_move Up Visible s) refl)
+  calm scene events.FocusPrevSameKind e = unless (stays (after_move Up SameKind s)) (idle (after_move Up SameKind s) refl)
   calm scene events.FocusPrevPage e = unless (stays (after_page scene Up s)) (idle (after_page scene Up s) refl)
-  calm scene events.FocusNext e = unless (stays (after_next s)) (idle (after_next s) refl)
-  calm scene events.FocusNextSameKind e = unless (stays (after_next_same_kind s)) (idle (after_next_same_kind s) refl)
+  calm scene events.FocusNext e = unless (stays (after_move Down Visible s)) (idle (after_move Down Visible s) refl)
+  calm scene events.FocusNextSameKind e = unless (stays (after_move Down SameKind s)) (idle (after_move Down SameKind s) refl)
   calm scene events.FocusNextPage e = unless (stays (after_page scene Down s)) (idle (after_page scene Down s) refl)
   calm scene events.ToggleAll e = unless (stays (after_toggle_all s)) (idle (after_toggle_all s) (files_change with_all_inverted))
   calm scene events.ToggleAllUniform e = unless (stays (after_toggle_all_uniform s)) (idle (after_toggle_all_uniform s) (files_change with_all_set))
   calm scene events.ExpandItem e = unless (stays (after_expand s)) (idle (after_expand s) refl)
   calm scene events.ExpandAll e = unless (stays (after_expand_all s)) (flips_all (same_set s.shown.expanded (key_set (all_keys s.shown.state.files))))
-  calm scene events.EditCommitMessage e = unless (edit_of s 0) (edits_message 0 (message_of s 0))
+  calm scene events.EditCommitMessage e = unless (edit_asked s 0) (edits_message 0 (message_of s 0))

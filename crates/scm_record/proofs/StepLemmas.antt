@@ -14,20 +14,22 @@ use Rattle.scm_view.specs.declared.quit_dialog.QuitDialogButtonId.TheVariants.{Q
 use Rattle.scm_input.specs.declared.events.Event.{Event}
 use Rattle.scm_input.specs.declared.events.Event.TheVariants as events
 use Rattle.scm_record.specs.declared.pages.Way.TheVariants.{Up, Down}
+use Rattle.scm_record.specs.declared.selector.moves.Stops.TheVariants.{Visible, SameKind}
 use Rattle.scm_record.specs.declared.selector.Flow.{Flow}
 use Rattle.scm_record.specs.declared.selector.Flow.TheVariants as flows
 use Rattle.scm_types.specs.Keys.{file_of, file_of_section}
 use Rattle.scm_selection.specs.KeyLists.{all_keys}
 use Rattle.scm_selection.specs.KeySet.{is_key, key_set, same_set}
 use Rattle.scm_selection.specs.Counts.{message_count, changed_count}
-use Rattle.scm_record.specs.Session.{Session, with_pushed, with_dialog, with_help, at_key, after_item, after_select, after_fold, after_next, after_previous, after_next_same_kind, after_previous_same_kind, after_advance, after_inner, after_outer, outside_of, after_expand, after_expand_all, with_files_changed, after_toggle, after_toggle_all, after_toggle_all_uniform, message_of}
+use Rattle.scm_record.specs.Session.{Session, with_pushed, with_dialog, with_help, at_key, after_item, after_select, after_fold, after_move, after_advance, after_inner, after_outer, outside_of, after_expand, after_expand_all, with_files_changed, after_toggle, after_toggle_all, after_toggle_all_uniform, message_of}
 use Rattle.scm_selection.specs.Toggle.{with_key_toggled}
 use Rattle.scm_record.specs.Frames.{Scene}
 use Rattle.scm_record.specs.Uses.{hit}
 use Rattle.scm_record.specs.Change.{Change, stays, accepts, cancels}
 use Rattle.scm_record.specs.Dialogs.{pressed, focused, button_of, opened, asked, unless_asked, help_closed_or, dialog_closed_or, dialog_pressed_or}
 use Rattle.scm_record.specs.Pages.{after_scroll, after_page}
-use Rattle.scm_record.specs.Clicks.{edit_of, edit_of_message, item_event, clicked_on, clicked}
+use Rattle.scm_record.specs.Messages.{edit_asked, edit_if}
+use Rattle.scm_record.specs.Clicks.{item_event, clicked_on, clicked}
 use Rattle.scm_record.specs.Step.{change}
 use Rattle.scm_record.proofs.Budget.{rank}
 use Rattle.scm_record.proofs.MenuLemmas.{IsLow, item-low}
@@ -109,7 +111,7 @@ module _ (event : Event) (s : Session) where
   presses Quit = ends flows.Cancel tt
   presses GoBack = closes
 
-  edits_message : 1 ≤ rank event → (commit : ℕ) (message : Option (List ℕ)) → message_of s commit ≡ message → Leads event s (edit_of_message commit (with_pushed s events.Redraw) message)
+  edits_message : 1 ≤ rank event → (commit : ℕ) (message : Option (List ℕ)) → message_of s commit ≡ message → Leads event s (edit_if commit (with_pushed s events.Redraw) message)
   edits_message k commit None e = record { marks = unmarked tt; pushes = pushed events.Redraw k; scrolls = unscrolled }
   edits_message k commit (Some text) e = record { marks = unmarked (ap is_some e); pushes = pushed events.Redraw k; scrolls = unscrolled }
 
@@ -210,17 +212,17 @@ leads scene s events.ScrollUp = holds _ s scene (s.scroll - 1)
 leads scene s events.ScrollDown = holds _ s scene (s.scroll + 1)
 leads scene s events.PageUp = holds _ s scene (s.scroll - scene.height)
 leads scene s events.PageDown = holds _ s scene (s.scroll + scene.height)
-leads scene s events.FocusPrev = unless _ s (stays (after_previous s)) (selects _ s (omega arith) _)
-leads scene s events.FocusPrevSameKind = unless _ s (stays (after_previous_same_kind s)) (selects _ s (omega arith) _)
+leads scene s events.FocusPrev = unless _ s (stays (after_move Up Visible s)) (selects _ s (omega arith) _)
+leads scene s events.FocusPrevSameKind = unless _ s (stays (after_move Up SameKind s)) (selects _ s (omega arith) _)
 leads scene s events.FocusPrevPage = unless _ s (stays (after_page scene Up s)) (selects _ s (omega arith) _)
-leads scene s events.FocusNext = unless _ s (stays (after_next s)) (selects _ s (omega arith) _)
-leads scene s events.FocusNextSameKind = unless _ s (stays (after_next_same_kind s)) (selects _ s (omega arith) _)
+leads scene s events.FocusNext = unless _ s (stays (after_move Down Visible s)) (selects _ s (omega arith) _)
+leads scene s events.FocusNextSameKind = unless _ s (stays (after_move Down SameKind s)) (selects _ s (omega arith) _)
 leads scene s events.FocusNextPage = unless _ s (stays (after_page scene Down s)) (selects _ s (omega arith) _)
 leads scene s events.ToggleAll = unless _ s (stays (after_toggle_all s)) (record { marks = inverted; pushes = rw (files_change events.ToggleAll s _) nothing; scrolls = rw (files_scroll events.ToggleAll s _) unscrolled })
 leads scene s events.ToggleAllUniform = unless _ s (stays (after_toggle_all_uniform s)) (record { marks = all_set; pushes = rw (files_change events.ToggleAllUniform s _) nothing; scrolls = rw (files_scroll events.ToggleAllUniform s _) unscrolled })
 leads scene s events.ExpandItem = unless _ s (stays (after_expand s)) (record { marks = unmarked tt; pushes = pushed events.EnsureSelectionInViewport (omega arith); scrolls = unscrolled })
 leads scene s events.ExpandAll = unless _ s (stays (after_expand_all s)) (flips_all _ s (omega arith) (same_set s.shown.expanded (key_set (all_keys s.shown.state.files))))
-leads scene s events.EditCommitMessage = unless _ s (edit_of s 0) (edits_message _ s (omega arith) 0 (message_of s 0) refl)
+leads scene s events.EditCommitMessage = unless _ s (edit_asked s 0) (edits_message _ s (omega arith) 0 (message_of s 0) refl)
 
 allows-same : (s t : Session) (flow : Flow) → s.shown.state ≡ t.shown.state → Allows s flow → Allows t flow
 allows-same s t flows.GoOn e h = tt

@@ -1,29 +1,16 @@
 -- What a click makes of a session, by what it hits.
-use Rattle.std.specs.Prelude.{ℕ, false, List, Option, Some, None, option_and_then, if◌then◌else◌}
+use Rattle.std.specs.Prelude.{ℕ, false, Option, Some, None, option_and_then, if◌then◌else◌}
 use Rattle.scm_types.specs.declared.keys.SelectionKey.{SelectionKey}
 use Rattle.scm_types.specs.declared.keys.SelectionKey.TheVariants as keys
 use Rattle.scm_view.specs.declared.ids.ComponentId.{ComponentId}
 use Rattle.scm_view.specs.declared.ids.ComponentId.TheVariants as ids
 use Rattle.scm_input.specs.declared.events.Event.{Event}
-use Rattle.scm_input.specs.declared.events.Event.TheVariants as events
 use Rattle.scm_selection.specs.KeySet.{is_key}
-use Rattle.scm_record.specs.Session.{Session, at_key, with_pushed, with_menu, with_help, after_menu, after_item, after_toggle, after_expand, message_of}
+use Rattle.scm_record.specs.Session.{Session, at_key, with_menu, with_help, after_menu, after_item, after_toggle, after_expand}
 use Rattle.scm_shown.specs.Menus.{event_of_item}
-use Rattle.scm_record.specs.Change.{Change, stays, edits}
+use Rattle.scm_record.specs.Change.{Change, stays}
 use Rattle.scm_record.specs.Dialogs.{pressed}
-
--- ---- edits, by the key or by a click
-
--- without a message there is nothing to edit
-abbrev pub edit_of_message : ℕ → Session → Option (List ℕ) → Change
-edit_of_message commit s None = stays s
-edit_of_message commit s (Some text) = edits commit s
-
--- the screen is to be cleared, and a message is edited
-abbrev pub edit_of : Session → ℕ → Change
-edit_of s commit = edit_of_message commit (with_pushed s events.Redraw) (message_of s commit)
-
--- ---- clicks
+use Rattle.scm_record.specs.Messages.{edit_asked}
 
 -- the event of an item of the menu that was open, if one was
 abbrev pub item_event : Option ℕ → ℕ → Option Event
@@ -40,7 +27,7 @@ clicked_on open_menu s (ids.ToggleBox key) = stays (box_clicked s key (after_tog
 clicked_on open_menu s (ids.ExpandBox key) = stays (box_clicked s key (after_expand s))
 clicked_on open_menu s (ids.FileViewHeader key) = stays (at_key s (keys.File key))
 clicked_on open_menu s (ids.SelectableItem key) = stays (at_key s key)
-clicked_on open_menu s (ids.CommitEditMessageButton commit) = edit_of s commit
+clicked_on open_menu s (ids.CommitEditMessageButton commit) = edit_asked s commit
 -- the menus
 clicked_on open_menu s ids.MenuBar = stays (with_menu s None)
 clicked_on open_menu s (ids.Menu menu) = stays (after_menu s menu)

@@ -10,6 +10,8 @@ pub mod Change
 pub mod Dialogs
 -- how a page is turned
 pub mod Pages
+-- how a message comes to be edited
+pub mod Messages
 -- what a click makes of a session
 pub mod Clicks
 -- what an event makes of a session: begin here

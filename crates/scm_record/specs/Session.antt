@@ -20,6 +20,10 @@ use Rattle.scm_types.specs.Keys.{file_of, file_of_section, file_of_line, section
 use Rattle.scm_selection.specs.KeyLists.{all_keys, visible_keys, first_key, is_section}
 use Rattle.scm_selection.specs.KeySet.{has_key, same_set, with_key, without_key, with_key_flipped, key_set}
 use Rattle.scm_selection.specs.Moves.{next_key, previous_key, inner_key, of_kind}
+use Rattle.scm_record.specs.declared.pages.Way.{Way}
+use Rattle.scm_record.specs.declared.pages.Way.TheVariants.{Up, Down}
+use Rattle.scm_record.specs.declared.selector.moves.Stops.{Stops}
+use Rattle.scm_record.specs.declared.selector.moves.Stops.TheVariants.{Visible, SameKind}
 use Rattle.scm_selection.specs.Toggle.{with_key_toggled, with_all_inverted, with_all_set}
 
 pub record Session : Type 0 where
@@ -140,18 +144,19 @@ at_key s key = record s { shown = record s.shown { selection = key; expanded = w
 abbrev pub after_select : Session → SelectionKey → Session
 after_select s key = with_ensure (at_key s key)
 
--- where the selection isn't visible these four go to the first file
-abbrev pub after_next : Session → Session
-after_next s = after_select s (next_key (visible s) s.shown.selection (first_key s.shown.state.files))
+-- the visible keys at which a move stops
+abbrev pub stopping : Stops → Session → List SelectionKey
+stopping Visible s = visible s
+stopping SameKind s = visible_of_kind s
 
-abbrev pub after_previous : Session → Session
-after_previous s = after_select s (previous_key (visible s) s.shown.selection (first_key s.shown.state.files))
+-- the one beside the selection that way; where the selection isn't visible, the first file
+abbrev pub neighbour : Way → Stops → Session → SelectionKey
+neighbour Up stops s = previous_key (stopping stops s) s.shown.selection (first_key s.shown.state.files)
+neighbour Down stops s = next_key (stopping stops s) s.shown.selection (first_key s.shown.state.files)
 
-abbrev pub after_next_same_kind : Session → Session
-after_next_same_kind s = after_select s (next_key (visible_of_kind s) s.shown.selection (first_key s.shown.state.files))
-
-abbrev pub after_previous_same_kind : Session → Session
-after_previous_same_kind s = after_select s (previous_key (visible_of_kind s) s.shown.selection (first_key s.shown.state.files))
+-- it is selected
+abbrev pub after_move : Way → Stops → Session → Session
+after_move way stops s = after_select s (neighbour way stops s)
 
 -- the next key of the kind is selected, and nothing where the selection isn't visible
 abbrev pub after_advance : Session → Session

@@ -4,13 +4,15 @@ use Rattle.scm_view.specs.declared.quit_dialog.QuitDialogButtonId.TheVariants.{Q
 use Rattle.scm_input.specs.declared.events.Event.{Event}
 use Rattle.scm_input.specs.declared.events.Event.TheVariants as events
 use Rattle.scm_record.specs.declared.pages.Way.TheVariants.{Up, Down}
-use Rattle.scm_record.specs.Session.{Session, with_dialog, with_help, with_scroll, in_other_mode, after_redraw, after_next, after_previous, after_next_same_kind, after_previous_same_kind, after_advance, after_inner, after_outer, after_expand, after_expand_all, after_toggle, after_toggle_all, after_toggle_all_uniform}
+use Rattle.scm_record.specs.declared.selector.moves.Stops.TheVariants.{Visible, SameKind}
+use Rattle.scm_record.specs.Session.{Session, with_dialog, with_help, with_scroll, in_other_mode, after_redraw, after_move, after_advance, after_inner, after_outer, after_expand, after_expand_all, after_toggle, after_toggle_all, after_toggle_all_uniform}
 use Rattle.scm_record.specs.Frames.{Scene}
 use Rattle.scm_record.specs.Uses.{ensured, hit}
 use Rattle.scm_record.specs.Change.{stays, accepts, cancels, shoots}
 use Rattle.scm_record.specs.Dialogs.{is_asked, asked, unless_asked, help_closed_or, dialog_closed_or, dialog_focused_or, dialog_pressed_or}
 use Rattle.scm_record.specs.Pages.{after_scroll, after_page}
-use Rattle.scm_record.specs.Clicks.{clicked, edit_of}
+use Rattle.scm_record.specs.Clicks.{clicked}
+use Rattle.scm_record.specs.Messages.{edit_asked}
 pub use Rattle.scm_record.specs.Change.{Change}
 
 abbrev pub change : Scene → Session → Event → Change
@@ -37,14 +39,14 @@ change scene s events.ScrollUp = unless_asked s (stays (after_scroll scene s (s.
 change scene s events.ScrollDown = unless_asked s (stays (after_scroll scene s (s.scroll + 1)))
 change scene s events.PageUp = unless_asked s (stays (after_scroll scene s (s.scroll - scene.height)))
 change scene s events.PageDown = unless_asked s (stays (after_scroll scene s (s.scroll + scene.height)))
-change scene s events.FocusPrev = unless_asked s (stays (after_previous s))
-change scene s events.FocusPrevSameKind = unless_asked s (stays (after_previous_same_kind s))
+change scene s events.FocusPrev = unless_asked s (stays (after_move Up Visible s))
+change scene s events.FocusPrevSameKind = unless_asked s (stays (after_move Up SameKind s))
 change scene s events.FocusPrevPage = unless_asked s (stays (after_page scene Up s))
-change scene s events.FocusNext = unless_asked s (stays (after_next s))
-change scene s events.FocusNextSameKind = unless_asked s (stays (after_next_same_kind s))
+change scene s events.FocusNext = unless_asked s (stays (after_move Down Visible s))
+change scene s events.FocusNextSameKind = unless_asked s (stays (after_move Down SameKind s))
 change scene s events.FocusNextPage = unless_asked s (stays (after_page scene Down s))
 change scene s events.ToggleAll = unless_asked s (stays (after_toggle_all s))
 change scene s events.ToggleAllUniform = unless_asked s (stays (after_toggle_all_uniform s))
 change scene s events.ExpandItem = unless_asked s (stays (after_expand s))
 change scene s events.ExpandAll = unless_asked s (stays (after_expand_all s))
-change scene s events.EditCommitMessage = unless_asked s (edit_of s 0)
+change scene s events.EditCommitMessage = unless_asked s (edit_asked s 0)

@@ -10,10 +10,11 @@ mod marks;
 mod messages;
 mod moves;
 mod scrolling;
-mod views;
+mod view_mode;
 
 use crate::frame::DrawnFrame;
 use crate::pages::Way;
+use moves::Stops;
 use scm_input::Event;
 use scm_selection::key_lists::{first_key, section_keys};
 use scm_selection::key_set::{KeySet, key_set_of};
@@ -67,7 +68,7 @@ impl<'state> Selector<'state> {
     ghost use Rattle.scm_errors.specs.declared.error.RecordError.TheVariants.{OutOfMemory};
     ghost use Rattle.scm_types.specs.Limits.{is_accepted_state};
     ghost use Rattle.scm_record.specs.Frames.{IsShown, Scene};
-    ghost use Rattle.scm_record.specs.Session.{after_select, at_key, listed, start, with_ensure, with_pushed, without_pending};
+    ghost use Rattle.scm_record.specs.Session.{after_frame, after_redraw, after_select, at_key, listed, start, with_ensure, with_pushed, without_pending};
     ghost use Rattle.scm_record.specs.Step.{change};
 
     /// A session over the state, to which commits without a message are added up to two.
@@ -128,6 +129,27 @@ impl<'state> Selector<'state> {
     {
         self.pending.push(event)?;
         Ok(())
+    }
+
+    /// Clears the screen, until the next frame.
+    fn clear(&mut self)
+        ensures { self.new ≡ after_redraw self.old }
+    {
+        self.cleared = true;
+    }
+
+    /// Whether the screen was cleared since the last frame.
+    pub(crate) fn is_cleared(&self) -> bool
+        ensures { result ≡ self.now.cleared }
+    {
+        self.cleared
+    }
+
+    /// A frame is drawn over what was cleared.
+    pub(crate) fn begin_frame(&mut self)
+        ensures { self.new ≡ after_frame self.old }
+    {
+        self.cleared = false;
     }
 
     /// Asks that the selection be brought onto the screen.
@@ -192,11 +214,11 @@ impl<'state> Selector<'state> {
             Event::ScrollDown => self.scroll_down(frame, 1),
             Event::PageUp => self.page_up(frame),
             Event::PageDown => self.page_down(frame),
-            Event::FocusPrev => self.select(self.previous_key())?,
-            Event::FocusPrevSameKind => self.select(self.previous_key_of_kind())?,
+            Event::FocusPrev => self.select(self.neighbour(Way::Up, Stops::Visible))?,
+            Event::FocusPrevSameKind => self.select(self.neighbour(Way::Up, Stops::SameKind))?,
             Event::FocusPrevPage => self.select(self.page_key(frame, Way::Up))?,
-            Event::FocusNext => self.select(self.next_key())?,
-            Event::FocusNextSameKind => self.select(self.next_key_of_kind())?,
+            Event::FocusNext => self.select(self.neighbour(Way::Down, Stops::Visible))?,
+            Event::FocusNextSameKind => self.select(self.neighbour(Way::Down, Stops::SameKind))?,
             Event::FocusNextPage => self.select(self.page_key(frame, Way::Down))?,
             Event::ToggleAll => self.toggle_all(),
             Event::ToggleAllUniform => self.toggle_all_uniform(),

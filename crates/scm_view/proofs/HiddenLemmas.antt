@@ -6,7 +6,7 @@ use Rattle.scm_cells.specs.Clusters.{text_width}
 use Rattle.scm_cells.specs.Counts.{Counts, no_counts, added}
 use Rattle.scm_cells.specs.declared.rect.Rect.{Rect}
 use Rattle.scm_render.specs.Around.{around}
-use Rattle.scm_render.specs.Picture.{Put, nothing, covering, part, box_rect}
+use Rattle.scm_render.specs.Picture.{Put, covering, part, box_rect}
 use Rattle.scm_render.specs.Canvas.{Row, Canvas, paint, painted, with_picture}
 use Rattle.scm_render.specs.Drawing.{reach, has_row, row_rect, span_picture, blank_picture}
 use Rattle.scm_render.proofs.CanvasLemmas.{canvas-same}

@@ -11,8 +11,8 @@ ghost use Rattle.scm_render.specs.Draws.{Draws};
 
 use crate::button::Button;
 use crate::ids::ComponentId;
+use crate::noting::{begin_row, show_button, show_span, show_text};
 use crate::reach::{cover_rect, to_end};
-use crate::shown::{begin_row, show_button, show_span, show_text};
 use crate::spots::{Spot, far, row_spot};
 use crate::texts::{divider_text, message_text};
 use scm_cells::{Rect, Span};

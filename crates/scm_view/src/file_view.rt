@@ -14,9 +14,9 @@ ghost use Rattle.scm_view.specs.Paints.{Paints};
 
 use crate::file_view_header::FileViewHeader;
 use crate::ids::ComponentId;
+use crate::noting::is_seen;
 use crate::reach::columns;
 use crate::section_view::SectionView;
-use crate::shown::is_seen;
 use crate::tops::{FileTop, Piece};
 use crate::tristate_box::TristateBox;
 use scm_render::{Component, Viewport};

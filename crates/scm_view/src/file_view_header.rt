@@ -2,7 +2,7 @@
 
 use crate::heading::draw_heading;
 use crate::ids::ComponentId;
-use crate::shown::begin_row;
+use crate::noting::begin_row;
 use crate::title::Title;
 use crate::tristate_box::TristateBox;
 use scm_render::{Component, Viewport};

@@ -6,8 +6,8 @@ ghost use Rattle.scm_view.specs.Titles.{title_text};
 ghost use Rattle.scm_render.specs.Draws.{Draws};
 
 use crate::ids::ComponentId;
+use crate::noting::{show_blank, show_box, show_title};
 use crate::reach::{columns, fold_column};
-use crate::shown::{show_blank, show_box, show_title};
 use crate::title::Title;
 use crate::tristate_box::TristateBox;
 use scm_cells::Mask;

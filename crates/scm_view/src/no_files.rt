@@ -6,7 +6,7 @@ ghost use Rattle.scm_view.specs.Pictures.{no_files_place, no_files_picture};
 ghost use Rattle.scm_render.specs.Draws.{Draws};
 
 use crate::ids::ComponentId;
-use crate::shown::{begin_row, show_text};
+use crate::noting::{begin_row, show_text};
 use crate::texts::no_files_text;
 use scm_cells::{Rect, RectSize, Span};
 use scm_render::{Viewport, centered_rect};

@@ -14,8 +14,8 @@ ghost use Rattle.scm_view.specs.Texts.{number_text, sign_text};
 ghost use Rattle.scm_render.specs.Draws.{Draws};
 
 use crate::ids::ComponentId;
+use crate::noting::{begin_row, cover_texts, is_on_screen, show_box, show_text};
 use crate::reach::cover_row;
-use crate::shown::{begin_row, cover_texts, is_on_screen, show_box, show_text};
 use crate::texts::{number_text, sign_text};
 use crate::tristate_box::TristateBox;
 use crate::widths::{number_width, pieces_width};

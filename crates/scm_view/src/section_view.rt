@@ -13,9 +13,9 @@ ghost use Rattle.scm_view.specs.Paints.{Paints};
 
 use crate::heading::draw_heading;
 use crate::ids::ComponentId;
+use crate::noting::{begin_row, is_seen, rows_above, show_box, show_span, show_text};
 use crate::reach::{cover_rest, highlight};
 use crate::section_line_view::{SectionLineView, SectionLineViewInner};
-use crate::shown::{begin_row, is_seen, rows_above, show_box, show_span, show_text};
 use crate::texts::{binary_text, dots_text, mode_change_text};
 use crate::title::Title;
 use crate::tops::{RowKinds, SectionTop};

@@ -20,7 +20,7 @@ impl<'state> Selector<'state> {
     ghost use Rattle.std.specs.Prelude.{◌≡◌, IfErr, IfOk, is_some, string_bytes};
     ghost use Rattle.scm_errors.specs.declared.error.RecordError.TheVariants.{OutOfMemory};
     ghost use Rattle.scm_record.specs.Session.{message_of, message_text, with_message};
-    ghost use Rattle.scm_record.specs.Clicks.{edit_of};
+    ghost use Rattle.scm_record.specs.Messages.{edit_asked};
 
     /// The message of a commit, empty where there is none.
     pub(crate) fn message(&self, commit: usize) -> &str
@@ -57,7 +57,7 @@ impl<'state> Selector<'state> {
 
     /// Asks that a commit's message be edited, if it has one.
     pub(super) fn edit_message(&mut self, commit: usize) -> Result<Flow, RecordError>
-        ensures ok { IfOk result (λ flow. edit_of self.old commit ≡ record { session = self.new; flow = flow }) }
+        ensures ok { IfOk result (λ flow. edit_asked self.old commit ≡ record { session = self.new; flow = flow }) }
         ensures err { IfErr result (λ e. e ≡ OutOfMemory) }
     {
         self.push(Event::Redraw)?;

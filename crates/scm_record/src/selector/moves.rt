@@ -10,69 +10,43 @@ use scm_selection::steps::{
 use scm_types::RecordError;
 use scm_view::{QuitDialogButtonId, SelectionKey};
 
+/// At which of the visible keys a move stops.
+#[derive(Clone, Copy)]
+pub(crate) enum Stops {
+    /// At each of them.
+    Visible,
+    /// At those of the selection's kind.
+    SameKind,
+}
+
 impl<'state> Selector<'state> {
     ghost use Rattle.std.specs.Prelude.{◌≡◌, IfErr, IfOk, OnOk};
     ghost use Rattle.scm_errors.specs.declared.error.RecordError.TheVariants.{OutOfMemory};
     ghost use Rattle.scm_view.specs.declared.quit_dialog.QuitDialogButtonId.TheVariants.{Quit, GoBack};
-    ghost use Rattle.scm_selection.specs.KeyLists.{all_keys, first_key};
-    ghost use Rattle.scm_selection.specs.Moves.{inner_key, next_key, previous_key};
+    ghost use Rattle.scm_selection.specs.KeyLists.{all_keys};
+    ghost use Rattle.scm_selection.specs.Moves.{inner_key, next_key};
     ghost use Rattle.scm_types.specs.declared.keys.SelectionKey.TheVariants as keys;
     ghost use Rattle.scm_record.specs.Frames.{IsShown, Scene};
-    ghost use Rattle.scm_record.specs.Session.{after_advance, after_inner, after_outer, visible, visible_of_kind};
+    ghost use Rattle.scm_record.specs.Session.{after_advance, after_inner, after_outer, neighbour, visible, visible_of_kind};
     ghost use Rattle.scm_record.specs.Change.{stays};
     ghost use Rattle.scm_record.specs.Dialogs.{dialog_focused_or};
     ghost use Rattle.scm_record.specs.Pages.{page_key, towards};
 
-    /// The visible key after the selection.
-    pub(super) fn next_key(&self) -> SelectionKey
-        ensures { result ≡ next_key (visible self.now) self.now.shown.selection (first_key self.now.shown.state.files) }
+    /// The visible key beside the selection that way, or the nearest of its kind. The first file
+    /// where the selection isn't visible.
+    pub(super) fn neighbour(&self, way: Way, stops: Stops) -> SelectionKey
+        ensures { result ≡ neighbour way stops self.now }
     {
+        let expanded = &self.showing.expanded;
         let files = self.showing.state.files.as_slice();
-        next_visible(
-            &self.showing.expanded,
-            files,
-            self.showing.selection,
-            first_key(files),
-        )
-    }
-
-    /// The visible key before the selection.
-    pub(super) fn previous_key(&self) -> SelectionKey
-        ensures { result ≡ previous_key (visible self.now) self.now.shown.selection (first_key self.now.shown.state.files) }
-    {
-        let files = self.showing.state.files.as_slice();
-        previous_visible(
-            &self.showing.expanded,
-            files,
-            self.showing.selection,
-            first_key(files),
-        )
-    }
-
-    /// The next visible key of the selection's kind.
-    pub(super) fn next_key_of_kind(&self) -> SelectionKey
-        ensures { result ≡ next_key (visible_of_kind self.now) self.now.shown.selection (first_key self.now.shown.state.files) }
-    {
-        let files = self.showing.state.files.as_slice();
-        next_of_kind(
-            &self.showing.expanded,
-            files,
-            self.showing.selection,
-            first_key(files),
-        )
-    }
-
-    /// The visible key of the selection's kind before it.
-    pub(super) fn previous_key_of_kind(&self) -> SelectionKey
-        ensures { result ≡ previous_key (visible_of_kind self.now) self.now.shown.selection (first_key self.now.shown.state.files) }
-    {
-        let files = self.showing.state.files.as_slice();
-        previous_of_kind(
-            &self.showing.expanded,
-            files,
-            self.showing.selection,
-            first_key(files),
-        )
+        let selection = self.showing.selection;
+        let otherwise = first_key(files);
+        match (way, stops) {
+            (Way::Up, Stops::Visible) => previous_visible(expanded, files, selection, otherwise),
+            (Way::Up, Stops::SameKind) => previous_of_kind(expanded, files, selection, otherwise),
+            (Way::Down, Stops::Visible) => next_visible(expanded, files, selection, otherwise),
+            (Way::Down, Stops::SameKind) => next_of_kind(expanded, files, selection, otherwise),
+        }
     }
 
     /// The next visible key of the selection's kind, and none where the selection isn't visible.

@@ -5,7 +5,7 @@ use Rattle.scm_cells.specs.Rect.{RectInRange, end_x_of}
 use Rattle.scm_cells.proofs.RectLemmas.{places}
 use Rattle.scm_render.specs.Drawing.{reach, row_rect}
 use Rattle.scm_view.proofs.CoverLemmas.{texts_cover-first, texts_cover-end, covered-fitting, covered-past}
-use Rattle.scm_view.proofs.shown.cover_texts.Goals as goal
+use Rattle.scm_view.proofs.noting.cover_texts.Goals as goal
 
 pub cover_rect-requires : goal.cover_rect-requires
 cover_rect-requires c =

@@ -1,6 +1,6 @@
 use Rattle.std.proofs.Common.{arith}
 use Rattle.scm_render.proofs.DrawLemmas.{spans_width-step, spans_width-fits, texts_width-none, spans-none}
-use Rattle.scm_view.proofs.shown.spans_width.Goals as goal
+use Rattle.scm_view.proofs.noting.spans_width.Goals as goal
 
 pub overflow_add-columns : goal.overflow_add-columns
 overflow_add-columns c =

@@ -3,7 +3,7 @@ use Rattle.std.proofs.lemmas.Int.{to_z-of_z}
 use Rattle.scm_render.proofs.DrawLemmas.{span_in_range}
 use Rattle.scm_view.specs.declared.ids.ComponentId.{ComponentId}
 use Rattle.scm_view.proofs.HiddenLemmas.{span-hidden, counted-shown, counted-hidden}
-use Rattle.scm_view.proofs.shown.show_span.Goals as goal
+use Rattle.scm_view.proofs.noting.show_span.Goals as goal
 
 pub cover_rect-requires : goal.cover_rect-requires
 cover_rect-requires c =

@@ -1,7 +1,7 @@
 use Rattle.std.proofs.Common.{◌∙◌, sym, refl, FitsSigned, w64}
 use Rattle.std.proofs.lemmas.Int.{to_z-of_z}
 use Rattle.scm_view.proofs.HiddenLemmas.{counted-shown, counted-hidden}
-use Rattle.scm_view.proofs.shown.begin_row.Goals as goal
+use Rattle.scm_view.proofs.noting.begin_row.Goals as goal
 
 pub returns-then-is_on_screen-clause-counts : goal.returns-then-is_on_screen-clause-counts
 returns-then-is_on_screen-clause-counts c =

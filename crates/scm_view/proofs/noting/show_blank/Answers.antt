@@ -3,7 +3,7 @@ use Rattle.std.proofs.lemmas.Int.{to_z-of_z}
 use Rattle.scm_render.proofs.DrawLemmas.{blank_in_range}
 use Rattle.scm_view.specs.declared.ids.ComponentId.{ComponentId}
 use Rattle.scm_view.proofs.HiddenLemmas.{blank-hidden, counted-shown, counted-hidden}
-use Rattle.scm_view.proofs.shown.show_blank.Goals as goal
+use Rattle.scm_view.proofs.noting.show_blank.Goals as goal
 
 pub draw_blank-requires : goal.draw_blank-requires
 draw_blank-requires c =

@@ -5,7 +5,7 @@ use Rattle.scm_render.proofs.DrawLemmas.{line_in_range, text_picture-line}
 use Rattle.scm_view.specs.declared.ids.ComponentId.{ComponentId}
 use Rattle.scm_view.proofs.HiddenLemmas.{counted-shown, counted-hidden}
 use Rattle.scm_view.proofs.CoverLemmas.{narrow, cover-in-range, cover-hidden}
-use Rattle.scm_view.proofs.shown.show_text.Goals as goal
+use Rattle.scm_view.proofs.noting.show_text.Goals as goal
 
 pub spans_width-requires : goal.spans_width-requires
 spans_width-requires c = narrow _ _ _ (line_in_range {K = ComponentId} _ _ _ _ (text_picture-line _ _ _ _ c.requires))

@@ -3,7 +3,7 @@ use Rattle.std.proofs.lemmas.Int.{to_z-of_z}
 use Rattle.scm_view.specs.Titles.{title_text}
 use Rattle.scm_view.proofs.HiddenLemmas.{counted-hidden}
 use Rattle.scm_view.proofs.CoverLemmas.{texts_width-one, cover-in-range, cover-hidden}
-use Rattle.scm_view.proofs.shown.show_title.Goals as goal
+use Rattle.scm_view.proofs.noting.show_title.Goals as goal
 
 pub show_text-requires : goal.show_text-requires
 show_text-requires c =

@@ -5,7 +5,7 @@ use Rattle.scm_render.proofs.DrawLemmas.{span_in_range}
 use Rattle.scm_view.specs.Pictures.{button_picture}
 use Rattle.scm_view.specs.Buttons.{button_width}
 use Rattle.scm_view.proofs.HiddenLemmas.{button-hidden, counted-shown, counted-hidden}
-use Rattle.scm_view.proofs.shown.show_button.Goals as goal
+use Rattle.scm_view.proofs.noting.show_button.Goals as goal
 
 pub note_box-requires : goal.note_box-requires
 unfolding button_picture button_width

@@ -5,7 +5,7 @@ use Rattle.scm_render.proofs.DrawLemmas.{span_in_range}
 use Rattle.scm_view.specs.Pictures.{box_picture}
 use Rattle.scm_view.proofs.BoxLemmas.{box-width}
 use Rattle.scm_view.proofs.HiddenLemmas.{box-hidden, counted-shown, counted-hidden}
-use Rattle.scm_view.proofs.shown.show_box.Goals as goal
+use Rattle.scm_view.proofs.noting.show_box.Goals as goal
 
 pub note_box-requires : goal.note_box-requires
 unfolding box_picture
