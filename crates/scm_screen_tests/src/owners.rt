@@ -1,11 +1,12 @@
-//! A view of a session, drawn by its components: whose each of its places is.
-use crate::given::{session_of, state_of};
+//! A view of a state, drawn without a recorder: whose each of its places is.
+use crate::given::state_of;
 use crate::painted::draw;
 use scm_record::{
-    ComponentId, DrawnRects, FileKey, Grid, LineKey, RecordError, SectionKey, SelectionKey,
-    TerminalKind, find_target,
+    ComponentId, DrawnRects, FileKey, Grid, KeySet, LineKey, RecordError, RecordState, SectionKey,
+    SelectionKey, Showing, find_target,
 };
 use scm_view::laws;
+use std::alloc::Global;
 use std::process::Abort;
 
 /// The file.
@@ -62,16 +63,20 @@ fn check_owners(rt: &impl Abort, boxes: &DrawnRects<ComponentId>) {
     }
 }
 
+/// What is shown of a state in which the file and the section are unfolded, and nothing is selected.
+fn showing_of(alloc: Global, state: RecordState<'static>) -> Result<Showing<'static>, RecordError> {
+    let mut expanded = KeySet::new(alloc);
+    expanded.insert(SelectionKey::File(FILE))?;
+    expanded.insert(SECTION)?;
+    Ok(Showing::new(state, SelectionKey::None, expanded))
+}
+
 #[test]
 fn places_have_owners(rt: HostRuntime) -> Result<(), RecordError> {
     let alloc = rt.alloc();
-    let kind = TerminalKind::Testing {
-        width: 24,
-        height: 8,
-    };
-    let session = session_of(&rt, state_of(alloc, "1h")?, alloc, kind, "l")?;
+    let showing = showing_of(alloc, state_of(alloc, "1h")?)?;
     let mut grid = Grid::new(alloc, 24, 8)?;
-    let boxes = draw(&rt, alloc, &session, &mut grid, 1)?;
+    let boxes = draw(&rt, alloc, &showing, &mut grid, 1)?;
     check_owners(&rt, &boxes);
     Ok(())
 }

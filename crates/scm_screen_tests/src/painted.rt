@@ -1,7 +1,7 @@
 //! What is painted of a frame is what its components draw, with as many rows and calls, from whatever row on.
 use crate::given::{number_of, session_of, state_of};
 use scm_record::{
-    CommitViewMode, ComponentId, DrawnRects, Grid, LiveSession, RecordError, RecordState,
+    CommitViewMode, ComponentId, DrawnRects, Grid, LiveSession, RecordError, RecordState, Showing,
     TerminalKind, Viewport,
 };
 use scm_view::laws;
@@ -36,17 +36,17 @@ fn paint(
     view.paint(alloc, grid, scroll)
 }
 
-/// Draws what a session shows by its components, on a cleared grid, and answers their boxes.
+/// Draws what is shown of one commit by its components, on a cleared grid, and returns their boxes.
 #[tactic(auto, unfolding(scm_types::specs::Limits::max_items, scm_types::specs::Limits::max_scroll))]
 pub(crate) fn draw(
     rt: &impl Abort,
     alloc: Global,
-    session: &LiveSession<'_>,
+    showing: &Showing<'_>,
     grid: &mut Grid,
     scroll: usize,
 ) -> Result<DrawnRects<ComponentId>, RecordError> {
     assert!(rt; scroll <= RecordState::MAX_SCROLL);
-    let showing = session.showing();
+    assert!(rt; showing.state.is_accepted());
     let view = showing.app_view(alloc)?;
     laws::apps_are_in_range();
     assert!(rt; grid.width() <= 65_535);
@@ -78,7 +78,7 @@ fn check_session(
     let mut drawn = Grid::new(alloc, size.0, size.1)?;
     for scroll in 0..count {
         paint(rt, alloc, session, &mut painted, scroll)?;
-        let _ = draw(rt, alloc, session, &mut drawn, scroll)?;
+        let _ = draw(rt, alloc, session.showing(), &mut drawn, scroll)?;
         check_alike(rt, &painted, &drawn)?;
     }
     Ok(())
