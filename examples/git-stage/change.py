@@ -62,7 +62,7 @@ class Change:
 
 
 def store(path, mode):
-    """Puts what the working tree has into git's store of objects, and answers its name there: None where nothing is there."""
+    """Puts what the working tree has into git's store of objects, and returns its name there: None where nothing is there."""
     if mode == ABSENT:
         return None
     if mode == LINK:

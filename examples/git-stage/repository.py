@@ -17,7 +17,7 @@ def stop(text):
 
 
 def git(*words, given=None, folder=None):
-    """What git answers, as bytes. Where it refuses, its own words are said."""
+    """What git prints, as bytes. Where it fails, its own words are said."""
     try:
         done = subprocess.run(["git", *words], input=given, cwd=folder, capture_output=True)
     except FileNotFoundError:

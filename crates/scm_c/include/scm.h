@@ -23,7 +23,7 @@ typedef struct {
     void *at;
 } scm_session;
 
-/* What a call answers; `scm_words` has a sentence for each. Where it is not SCM_DONE, the call has left the session as
+/* What a call returns; `scm_words` has a sentence for each. Where it is not SCM_DONE, the call has left the session as
  * it was, and `scm_new` has left it closed. */
 enum {
     SCM_DONE = 0,         /* the call is done */
@@ -65,38 +65,38 @@ enum {
 };
 
 /* Begins a session over a state, on a screen of so many columns and rows. One that was open is closed first. Where
- * it fails it answers the first of SCM_NOT_TEXT, SCM_BAD_STATE and SCM_NOT_ACCEPTED that holds, or SCM_NO_MEMORY. */
+ * it fails it returns the first of SCM_NOT_TEXT, SCM_BAD_STATE and SCM_NOT_ACCEPTED that holds, or SCM_NO_MEMORY. */
 uint32_t scm_new(scm_session *session, const char *json, size_t length, uint16_t width, uint16_t height);
 
 /* Where a session stands. */
 uint32_t scm_stage(scm_session *session);
 
-/* Hands in a word of a script, but not "shot". Where it fails it answers the first of SCM_NO_WORD, SCM_CLOSED and
+/* Hands in a word of a script, but not "shot". Where it fails it returns the first of SCM_NO_WORD, SCM_CLOSED and
  * SCM_NOT_NOW that holds. */
 uint32_t scm_press(scm_session *session, const char *word, size_t length);
 
-/* Hands in a click on a row and column of the screen, from 0. Where it fails it answers SCM_CLOSED or SCM_NOT_NOW. */
+/* Hands in a click on a row and column of the screen, from 0. Where it fails it returns SCM_CLOSED or SCM_NOT_NOW. */
 uint32_t scm_click(scm_session *session, uint16_t row, uint16_t column);
 
-/* Hands in the message that it waits for. Where it fails it answers the first of SCM_TOO_LONG, SCM_NOT_TEXT, SCM_CLOSED and
+/* Hands in the message that it waits for. Where it fails it returns the first of SCM_TOO_LONG, SCM_NOT_TEXT, SCM_CLOSED and
  * SCM_NOT_NOW that holds, or SCM_NO_MEMORY: never for a text that is too long or no UTF-8. */
 uint32_t scm_answer(scm_session *session, const char *text, size_t length);
 
-/* Goes on to a screen of another size, where it waits for an event. Where it fails it answers SCM_CLOSED or SCM_NOT_NOW.
+/* Goes on to a screen of another size, where it waits for an event. Where it fails it returns SCM_CLOSED or SCM_NOT_NOW.
  * The document stays scrolled as it was: the word "ensure" brings what is selected onto the new screen. */
 uint32_t scm_resize(scm_session *session, uint16_t width, uint16_t height);
 
-/* Writes what there is to read, as far as it fits, and answers how many bytes it has: 0 too where memory is refused. */
+/* Writes what there is to read, as far as it fits, and returns how many bytes it has: 0 too where memory is refused. */
 size_t scm_text(scm_session *session, char *out, size_t length);
 
 /* Whose a place of the screen is, by rows and columns from 0: what a click there acts on. */
 uint32_t scm_owner(scm_session *session, uint16_t row, uint16_t column);
 
-/* Writes the symbol that begins at a row and column of the screen, from 0, as far as it fits, and answers how many bytes
+/* Writes the symbol that begins at a row and column of the screen, from 0, as far as it fits, and returns how many bytes
  * of UTF-8 it has: 0 at a later column of a wide symbol, past the screen, and while the session waits for no event. */
 size_t scm_symbol(scm_session *session, uint16_t row, uint16_t column, char *out, size_t length);
 
-/* Writes what a code says, as far as it fits, and answers how many bytes that has: 0 for what no call answers. The words
+/* Writes what a code says, as far as it fits, and returns how many bytes that has: 0 for what no call returns. The words
  * are ASCII. No zero is written behind a text, here or elsewhere. */
 size_t scm_words(uint32_t code, char *out, size_t length);
 

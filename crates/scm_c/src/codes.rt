@@ -1,4 +1,4 @@
-//! The numbers by which a C program is answered.
+//! The numbers that a call returns to a C program.
 ghost use Rattle.std.specs.Prelude.{◌≡◌};
 ghost use Rattle.scm_c.specs.Told.{words_of_code};
 

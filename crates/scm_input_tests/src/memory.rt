@@ -1,4 +1,4 @@
-//! Memory, of which no contract can say that it is asked for only where it is needed: calls that take it answer with ample
+//! Memory, of which no contract can say that it is asked for only where it is needed: calls that take it return with ample
 //! memory, however small or large their arguments are, and the other calls succeed where a request is refused. `tools/refuse-memory`
 //! runs the tests that are named for refused memory with each of their requests refused: what is checked there holds, and the test
 //! passes or ends in `OutOfMemory`.
@@ -21,7 +21,7 @@ fn check_events_left(rt: &impl Abort, alloc: Global, count: usize) -> Result<(),
     Ok(())
 }
 
-/// An edit that is answered in so many bytes.
+/// An edit that returns so many bytes.
 fn check_edit(rt: &impl Abort, alloc: Global, count: usize) -> Result<(), RecordError> {
     let mut input = TestingInput::new(alloc, 80, 24, Vec::new(alloc))?;
     input.commit_messages.push_back(text_of(alloc, count)?)?;

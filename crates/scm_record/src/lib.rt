@@ -83,6 +83,7 @@ pub use scm_types::Tristate;
 pub use scm_types::TryClone;
 pub use scm_types::UsizeExt;
 pub use scm_types::consts;
+pub use scm_types::keys;
 pub use scm_types::laws;
 pub use scm_types::make_binary_description;
 pub use scm_view::AppView;

@@ -1,4 +1,4 @@
-//! Memory, of which no contract can say that it is asked for only where it is needed: a run answers with ample memory, however
+//! Memory, of which no contract can say that it is asked for only where it is needed: a run returns with ample memory, however
 //! small or large its state is.
 use scm_record::{
     Event, File, RecordError, RecordState, Recorder, Screens, ScriptInput, ScriptRead,

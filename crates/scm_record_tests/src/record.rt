@@ -132,7 +132,7 @@ fn edits(alloc: Global) -> Result<Vec<ScriptEdit>, RecordError> {
     Ok(edits)
 }
 
-/// What the next edit answers, or the words of its error.
+/// What the next edit returns, or the words of its error.
 fn edit_words(alloc: Global, input: &mut dyn RecordInput) -> Result<String, AllocError> {
     match input.edit_commit_message("hello") {
         Ok(answer) => Ok(answer),
@@ -255,7 +255,7 @@ const ROWS: [Row; 9] = [
     ),
 ];
 
-/// Checks what the next edit of the input answers.
+/// Checks what the next edit of the input returns.
 fn check_next(
     rt: &impl Abort,
     alloc: Global,

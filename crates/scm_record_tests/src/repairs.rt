@@ -127,7 +127,7 @@ const INVERSIONS: [Inversion; 3] = [
     },
 ];
 
-/// The state that a run answers of such a file: with two commits.
+/// The state that a run returns of such a file: with two commits.
 fn answer_of(alloc: Global, file: File<'static>) -> Result<RecordState<'static>, RecordError> {
     let mut state = state_of(alloc, file)?;
     state.commits.push(Commit::default())?;

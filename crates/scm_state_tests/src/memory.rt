@@ -1,4 +1,4 @@
-//! Memory, of which no contract can say that it is asked for only where it is needed: calls that take it answer with ample
+//! Memory, of which no contract can say that it is asked for only where it is needed: calls that take it return with ample
 //! memory, however small or large their arguments are, and the other calls succeed where a request is refused. `tools/refuse-memory`
 //! runs the tests that are named for refused memory with each of their requests refused.
 use scm_samples::{ADDED, DEFAULT, binary, changed, context, file_of, owned, text_of};
