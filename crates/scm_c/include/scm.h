@@ -32,8 +32,7 @@ enum {
     SCM_NO_WORD = 3,      /* the bytes are no word of an event */
     SCM_NOT_TEXT = 4,     /* the bytes are no UTF-8 */
     SCM_BAD_STATE = 5,    /* the text is no state's JSON form */
-    SCM_NOT_ACCEPTED = 6, /* the state has more than 2 commits, 16,000,000 files, sections and lines, or 1,000,000 bytes in a
-                             text */
+    SCM_NOT_ACCEPTED = 6, /* the state passes a limit; docs/RULES.md has them, under "Limits" */
     SCM_TOO_LONG = 7,     /* the message has more than 1,000,000 bytes */
     SCM_NO_MEMORY = 8,    /* there is not enough memory */
 };

@@ -33,7 +33,7 @@ words_of_code code =
     else if code == 3 then codes "the bytes are no word of an event"
     else if code == 4 then codes "the bytes are no UTF-8"
     else if code == 5 then codes "the text is no state's JSON form"
-    else if code == 6 then codes "the state has more than 2 commits, 16,000,000 files, sections and lines, or 1,000,000 bytes in a text"
+    else if code == 6 then codes "the state passes a limit: of commits, of files, sections and lines together, or of a text's bytes"
     else if code == 7 then codes "the message has more than 1,000,000 bytes"
     else if code == 8 then codes "there is not enough memory"
     else []

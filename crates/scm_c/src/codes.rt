@@ -63,7 +63,7 @@ pub(crate) fn words(code: u32) -> &'static str
         NOT_TEXT => "the bytes are no UTF-8",
         BAD_STATE => "the text is no state's JSON form",
         NOT_ACCEPTED =>
-            "the state has more than 2 commits, 16,000,000 files, sections and lines, or 1,000,000 bytes in a text",
+            "the state passes a limit: of commits, of files, sections and lines together, or of a text's bytes",
         TOO_LONG => "the message has more than 1,000,000 bytes",
         NO_MEMORY => "there is not enough memory",
         _ => "",
