@@ -1,4 +1,4 @@
--- What drawing a view answers is its frame.
+-- What drawing a view returns is its frame.
 use Rattle.std.proofs.Common.{◌≡◌, ℕ, ◌≤◌, true, false, replicate, refl, sym, ap, subst, ◌∙◌, arith}
 use Rattle.std.proofs.lemmas.Bool.Decides.{nat_tests}
 use Rattle.std.specs.Prelude.{ℤ, pos, option_map, List}
@@ -46,7 +46,7 @@ module _ {S : Type 0} where
         extent = ap height_of_box (last.rects bs by ids.App);
       }
 
-  -- what drawing a view on a cleared grid answers is the map of its frame
+  -- what drawing a view on a cleared grid returns is the map of its frame
   pub drawn_is_map : ClearedGridsAreScreens → (w h s : ℕ) (a : AppView) (grid : Screen) (y : ℤ) (boxes : HashMap ComponentId DrawnRect S) → HasLastBoxes same_id is_clickable boxes → grid ≡ blank_screen w h → y ≡ pos s
       → IsFromIterResult same_id (timed (part ids.App (app_picture a (whole_sight grid (pos 0) y) (pos 0) (pos 0))).boxes) boxes
       → IsMapOf w (frame_of_view w h s a) boxes

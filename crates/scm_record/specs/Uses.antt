@@ -23,11 +23,11 @@ abbrev pub held : Scene → ℕ → ℕ
 held scene s = min s (min max_scroll (scene.frame.extent - 1))
 
 -- the rows that stay free above a key: below the menu bar, and below a pinned header
-abbrev pub rows_above : SelectionKey → ℕ
-rows_above keys.None = 2
-rows_above (keys.File key) = 1
-rows_above (keys.Section key) = 2
-rows_above (keys.Line key) = 2
+abbrev pub free_rows_above : SelectionKey → ℕ
+free_rows_above keys.None = 2
+free_rows_above (keys.File key) = 1
+free_rows_above (keys.Section key) = 2
+free_rows_above (keys.Line key) = 2
 
 -- the scroll s, or the one that brings rows t to before b of the document onto a screen of h rows, m of which stay free
 abbrev pub scrolled_to : ℕ → ℕ → ℕ → ℕ → ℕ → ℕ
@@ -42,7 +42,7 @@ scrolled_to_span h s m (Some span) = scrolled_to h s m span.0 (span.0 + span.1)
 
 -- the scroll that brings a key onto the screen, if it was drawn
 abbrev pub ensured : Scene → ℕ → SelectionKey → ℕ
-ensured scene s key = min max_scroll (scrolled_to_span scene.height s (rows_above key) (scene.frame.span key))
+ensured scene s key = min max_scroll (scrolled_to_span scene.height s (free_rows_above key) (scene.frame.span key))
 
 -- the first row of a key, if it was drawn
 abbrev pub top_in : Scene → SelectionKey → Option ℕ

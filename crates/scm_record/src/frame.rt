@@ -9,7 +9,7 @@ ghost use Rattle.scm_view.specs.Window.{IsPlain, ShowsInline, rows_of_box, windo
 ghost use Rattle.scm_view.specs.Frame.{frame_of_document, frame_of_view, is_plain, picture_of};
 ghost use Rattle.scm_record.specs.Frames.{HasSize, IsMapOf, IsShown, KnowsPlaces, Scene, is_indexed, scene_of};
 ghost use Rattle.scm_record.specs.Session.{Session};
-ghost use Rattle.scm_record.specs.Uses.{ensured, held, hit, rows_above, scrolled_to, shot_of, top_in};
+ghost use Rattle.scm_record.specs.Uses.{ensured, held, hit, free_rows_above, scrolled_to, shot_of, top_in};
 
 use scm_cells::{Grid, Rect};
 use scm_input::TerminalKind;
@@ -77,8 +77,8 @@ fn rows_of(rect: Rect) -> (usize, usize)
 }
 
 /// The rows that stay free above a key on the screen: below the menu bar, and below a pinned header.
-fn rows_above(key: SelectionKey) -> usize
-    ensures { result ≡ rows_above key }
+fn free_rows_above(key: SelectionKey) -> usize
+    ensures { result ≡ free_rows_above key }
 {
     match key {
         SelectionKey::None => 2,
@@ -270,7 +270,7 @@ impl DrawnFrame {
     {
         match self.span(key) {
             Some((top, rows)) => {
-                scrolled_to(self.grid.height(), scroll, rows_above(key), top, rows).min(
+                scrolled_to(self.grid.height(), scroll, free_rows_above(key), top, rows).min(
                     RecordState::MAX_SCROLL,
                 )
             }
