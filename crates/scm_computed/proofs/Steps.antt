@@ -1,5 +1,5 @@
 -- Steps that are easily taken for others, computed from the definitions.
-use Rattle.std.proofs.Common.{◌≡◌, ℕ, ◌+◌, ◌∷◌, [], List, Option, Some, None, true, false, cond, nat_eq, replicate, refl}
+use Rattle.std.proofs.Common.{◌≡◌, ℕ, ◌+◌, ◌-◌, ◌∷◌, [], List, Option, Some, None, true, false, cond, nat_eq, replicate, refl}
 use Rattle.scm_types.specs.Limits.{max_items, max_scroll}
 use Rattle.scm_types.specs.declared.file_mode.FileMode.TheVariants.{Unix}
 use Rattle.scm_types.specs.declared.line.SectionChangedLine.{SectionChangedLine}
@@ -197,20 +197,20 @@ unfolding max_items max_scroll
 page_down-is_held = refl
 
 -- as far down as one may scroll, of a document that goes on
-scroll-ends : change (scene_with None 40000000 None) (with_scroll begun 32000000) events.PageDown ≡ stays (with_scroll begun 32000000)
+scroll-ends : change (scene_with None (max_scroll + 8000000) None) (with_scroll begun max_scroll) events.PageDown ≡ stays (with_scroll begun max_scroll)
 unfolding max_items max_scroll
 scroll-ends = refl
 
-scroll-comes_to_end : change (scene_with None 40000000 None) (with_scroll begun 31999993) events.PageDown ≡ stays (with_scroll begun 32000000)
+scroll-comes_to_end : change (scene_with None (max_scroll + 8000000) None) (with_scroll begun (max_scroll - 7)) events.PageDown ≡ stays (with_scroll begun max_scroll)
 unfolding max_items max_scroll
 scroll-comes_to_end = refl
 
 -- there a click hits, and a row further down it would not
-click-at_end : change (hit_of (ids.QuitDialogButton Quit)) (with_scroll begun 32000000) click ≡ cancels (with_scroll begun 32000000)
+click-at_end : change (hit_of (ids.QuitDialogButton Quit)) (with_scroll begun max_scroll) click ≡ cancels (with_scroll begun max_scroll)
 unfolding max_items max_scroll
 click-at_end = refl
 
-click-past_end : change (hit_of (ids.QuitDialogButton Quit)) (with_scroll begun 32000001) click ≡ stays (with_scroll begun 32000001)
+click-past_end : change (hit_of (ids.QuitDialogButton Quit)) (with_scroll begun (max_scroll + 1)) click ≡ stays (with_scroll begun (max_scroll + 1))
 unfolding max_items max_scroll
 click-past_end = refl
 

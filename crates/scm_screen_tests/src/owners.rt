@@ -71,12 +71,23 @@ fn showing_of(alloc: Global, state: RecordState<'static>) -> Result<Showing<'sta
     Ok(Showing::new(state, SelectionKey::None, expanded))
 }
 
+/// Draws it from its row 1 on.
+fn draw_alone(
+    rt: &impl Abort,
+    alloc: Global,
+    showing: &Showing<'_>,
+    grid: &mut Grid,
+) -> Result<DrawnRects<ComponentId>, RecordError> {
+    assert!(rt; showing.state.is_accepted());
+    draw(rt, alloc, showing, grid, 1)
+}
+
 #[test]
 fn places_have_owners(rt: HostRuntime) -> Result<(), RecordError> {
     let alloc = rt.alloc();
     let showing = showing_of(alloc, state_of(alloc, "1h")?)?;
     let mut grid = Grid::new(alloc, 24, 8)?;
-    let boxes = draw(&rt, alloc, &showing, &mut grid, 1)?;
+    let boxes = draw_alone(&rt, alloc, &showing, &mut grid)?;
     check_owners(&rt, &boxes);
     Ok(())
 }

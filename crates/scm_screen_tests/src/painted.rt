@@ -1,4 +1,7 @@
 //! What is painted of a frame is what its components draw, with as many rows and calls, from whatever row on.
+ghost use Rattle.std.specs.Prelude.{IsTrue};
+ghost use Rattle.scm_types.specs.Limits.{is_accepted_state};
+
 use crate::given::{number_of, session_of, state_of};
 use scm_record::{
     CommitViewMode, ComponentId, DrawnRects, Grid, LiveSession, RecordError, RecordState, Showing,
@@ -44,9 +47,10 @@ pub(crate) fn draw(
     showing: &Showing<'_>,
     grid: &mut Grid,
     scroll: usize,
-) -> Result<DrawnRects<ComponentId>, RecordError> {
+) -> Result<DrawnRects<ComponentId>, RecordError>
+    requires { IsTrue (is_accepted_state showing.now.state) }
+{
     assert!(rt; scroll <= RecordState::MAX_SCROLL);
-    assert!(rt; showing.state.is_accepted());
     let view = showing.app_view(alloc)?;
     laws::apps_are_in_range();
     assert!(rt; grid.width() <= 65_535);
