@@ -1,5 +1,5 @@
 -- A repair makes the marks of a file fit each other, and leaves those that fit.
-use Rattle.std.proofs.Common.{◌≡◌, Bool, true, false, not, cond, ◌&&◌, ◌||◌, List, [], ◌∷◌, map, refl, ap, sym, ◌∙◌}
+use Rattle.std.proofs.Common.{◌≡◌, Bool, true, false, not, cond, ◌&&◌, ◌||◌, List, [], ◌∷◌, map, refl, ap, ◌∙◌}
 use Rattle.std.specs.Prelude.{IsTrue}
 use Rattle.std.specs.List.{list_any, list_all}
 use Rattle.scm_types.specs.declared.line.SectionChangedLine.{SectionChangedLine}
@@ -10,7 +10,7 @@ use Rattle.scm_types.specs.declared.section.Section.TheVariants as sections
 use Rattle.scm_types.specs.declared.file.File.{File}
 use Rattle.scm_types.specs.Mode.{is_absent}
 use Rattle.scm_types.specs.Repair.{RepairMakesCoherent, is_deletion, is_new_and_deleted, repaired, some_line, with_creation, with_deletion_unchecked, with_mode_checked, without_deletion}
-use Rattle.scm_types.specs.Same.{IsCoherent, is_checked_deletion, is_unchecked_creation, line_marks}
+use Rattle.scm_types.specs.Same.{is_checked_deletion, is_unchecked_creation, line_marks}
 use Rattle.scm_types.proofs.FitLemmas.{any_map, none_map, every_line, is_on, Fits, FitsFile, fits_from, coherent_from, deletion_gone, creation_checked, deletion_before}
 
 -- tests of lists against each other

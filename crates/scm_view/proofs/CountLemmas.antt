@@ -13,10 +13,14 @@ use Rattle.scm_view.specs.declared.commit_view.CommitView.{CommitView}
 use Rattle.scm_view.specs.declared.menu.Menu.{Menu}
 use Rattle.scm_view.specs.declared.menu_bar.MenuBar.{MenuBar}
 use Rattle.scm_view.specs.Menus.{menus_before}
-use Rattle.scm_view.specs.Rows.{DocRow, ShownSection, shown_file, file_rows, sections_rows, document_of}
+use Rattle.scm_types.specs.declared.keys.LineKey.{LineKey}
+use Rattle.scm_view.specs.declared.section_line_view.SectionLineView.{SectionLineView}
+use Rattle.scm_view.specs.declared.section_line_view.SectionLineViewInner.{SectionLineViewInner}
+use Rattle.scm_view.specs.declared.section_line_view.SectionLineViewInner.TheVariants as inner
+use Rattle.scm_view.specs.Rows.{DocRow, view_row, ShownSection, shown_file, file_rows, sections_rows, document_of}
 use Rattle.scm_view.specs.declared.app_view.AppView.{AppView}
 use Rattle.scm_view.specs.AppView.{shown_views, view_width, view_mask, next_view, views_counts, has_help, app_counts}
-use Rattle.scm_view.specs.Counts.{drawn, on_row, row_counts, rows_counts, sections_counts, file_counts, pinned_counts, files_counts, message_counts, document_counts, first_calls, bar_calls, quit_calls, help_calls}
+use Rattle.scm_view.specs.Counts.{drawn, on_row, row_calls, row_counts, rows_counts, line_calls, line_counts, sections_counts, file_counts, pinned_counts, files_counts, message_counts, document_counts, first_calls, bar_calls, quit_calls, help_calls}
 
 pub counts-same : (a b : Counts) → a.rows ≡ b.rows → a.calls ≡ b.calls → a ≡ b
 counts-same a b p q = let e : ◌≡◌ {A = Counts} (record { rows = a.rows; calls = a.calls }) (record { rows = b.rows; calls = b.calls }) = cc (p, q) in e
@@ -57,6 +61,17 @@ rows_counts-more rows r rs v y e = rw e refl
 pub rows_counts-end : (rows : List DocRow) (v : Rect) (y : ℤ) → rows ≡ [] → rows_counts rows v y ≡ no_counts
 unfolding rows_counts
 rows_counts-end rows v y e = rw e refl
+
+-- the row of a line counts what the line's component does
+view_row-calls : (w : SectionLineView) → row_calls (view_row w) ≡ line_calls w.inner
+view_row-calls w = go w.line_key w.inner
+  where
+    go : (k : LineKey) (i : SectionLineViewInner) → row_calls (view_row (record { line_key = k; inner = i })) ≡ line_calls i
+    go k (inner.Unchanged l n) = refl
+    go k (inner.Changed b change l) = refl
+
+pub view_row-counts : (w : SectionLineView) (v : Rect) (y : ℤ) → row_counts (view_row w) v y ≡ line_counts w.inner v y
+view_row-counts w v y = ap (λ n. on_row v y (drawn 1 n)) (view_row-calls w)
 
 pub rows_counts-one : (r : DocRow) (v : Rect) (y : ℤ) → rows_counts (r ∷ []) v y ≡ row_counts r v y
 unfolding rows_counts

@@ -77,6 +77,9 @@ pub record IsToPaint (c d : Canvas ComponentId) (left whole : IdPicture) : Type 
   pub in_range : PictureInRange left
   pub rows : painted c.sight.rect left.puts c.sight.rect.y d.rows ≡ painted c.sight.rect whole.puts c.sight.rect.y c.rows
 
+pub to-first : (c : Canvas ComponentId) (whole : IdPicture) → PictureInRange whole → IsToPaint c c whole whole
+to-first c whole r = record { sight = refl; in_range = r; rows = refl }
+
 pub to-part : (c d : Canvas ComponentId) (a : Sight → IdPicture) (left more whole : IdPicture) → left ≡ followed_by (a c.sight) more → IsToPaint c d left whole → PictureInRange (a d.sight)
 to-part c d a left more whole e l = rw l.sight (PictureInRange-left _ _ (rw e at l.in_range))
 
@@ -325,12 +328,6 @@ lines-counted c d r v ls y first end p q h =
     h ∙ ap (added c) (sym all)
 
 -- ---- rows, sections and files
-
--- a row that was drawn, and below it others
-pub row-painted : (c d e : Canvas ComponentId) (r : DocRow) (rs : List DocRow) (x y : ℤ) → d ≡ with_picture c (row_picture r c.sight x y) → IsPainted d e (rows_picture rs d.sight x (y +ℤ pos 1))
-    → IsPainted c e (rows_picture (r ∷ rs) c.sight x y)
-unfolding rows_picture
-row-painted c d e r rs x y h p = painted-step c d e (row_picture r c.sight x y) (λ s. rows_picture rs s x (y +ℤ pos 1)) (drawn-painted c d _ h) p
 
 -- a section off the screen
 pub section-off : (v : SectionView) (r : Rect) (y : ℤ) → is_seen r y (y +ℤ pos (section_height v v.section.now)) ≡ false → AreOff r y (length (section_rows v))

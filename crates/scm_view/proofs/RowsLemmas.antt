@@ -5,13 +5,19 @@ use Rattle.std.specs.Prelude.{Result, Ok, Err, OnOk, take, ◌-◌}
 use Rattle.std.proofs.lemmas.Int.{ints}
 use Rattle.scm_cells.specs.Rect.{InRange}
 use Rattle.scm_types.specs.declared.line.SectionChangedLine.{SectionChangedLine}
-use Rattle.scm_render.specs.Picture.{PictureInRange, nothing, followed_by}
+use Rattle.scm_render.specs.Picture.{PictureInRange, nothing, followed_by, part}
 use Rattle.scm_render.specs.Canvas.{Sight, Canvas, with_picture}
 use Rattle.scm_render.proofs.PictureLemmas.{PictureInRange-left, PictureInRange-right, PictureInRange-part, RectInRange-covering}
 use Rattle.scm_view.specs.declared.ids.ComponentId.{ComponentId}
+use Rattle.scm_types.specs.declared.keys.LineKey.{LineKey}
 use Rattle.scm_view.specs.declared.section_view.SectionView.{SectionView}
-use Rattle.scm_view.specs.Rows.{IdBox, DocRow, HeaderRow, SectionRow, LineRow, MarkRow, ContextRow, DotsRow, BlankRow, changed_row, changed_rows, numbered_row, numbered_rows}
-use Rattle.scm_view.specs.Pictures.{IdPicture, row_picture, rows_picture, box_picture, changed_picture, context_picture}
+use Rattle.scm_view.specs.declared.section_view.Lines.{Lines}
+use Rattle.scm_view.specs.declared.section_view.Lines.TheVariants as lines
+use Rattle.scm_view.specs.declared.section_line_view.SectionLineView.{SectionLineView}
+use Rattle.scm_view.specs.declared.section_line_view.SectionLineViewInner.{SectionLineViewInner}
+use Rattle.scm_view.specs.declared.section_line_view.SectionLineViewInner.TheVariants as inner
+use Rattle.scm_view.specs.Rows.{IdBox, DocRow, HeaderRow, SectionRow, LineRow, MarkRow, ContextRow, DotsRow, BlankRow, changed_row, changed_rows, numbered_row, numbered_rows, lines_count, line_rows, rows_from, view_row, line_id}
+use Rattle.scm_view.specs.Pictures.{IdPicture, inner_picture, line_picture, row_picture, rows_picture, box_picture, changed_picture, context_picture}
 use Rattle.scm_render.proofs.StepLemmas.{step, rest, span-place, text-place, InRange-fits}
 use Rattle.scm_view.proofs.HeadingLemmas.{heading-rect}
 
@@ -64,6 +70,32 @@ changed-place b ts s x y r = (span-place s x y _ (PictureInRange-part _ _ (Pictu
 pub context-place : (ts : List (List ℕ)) (s : Sight) (x y : ℤ) → PictureInRange (context_picture ts s x y) → InRange x
 unfolding context_picture
 context-place ts s x y r = (text-place s x y ts (PictureInRange-right _ _ r)).0
+
+-- ---- lines of either kind
+
+pub from-first : (v : SectionView) (first : ℕ) (ls : Lines) → rows_from v first ls 0 ≡ line_rows v first ls
+from-first v first (lines.Context ls) = let same : first + 0 ≡ first = omega arith in ap (λ n. numbered_rows v n ls.now) same
+from-first v first (lines.Changed ls) = let same : first + 0 ≡ first = omega arith in ap (λ n. changed_rows v n ls.now) same
+
+pub from-end : (v : SectionView) (first : ℕ) (ls : Lines) (i : ℕ) → lines_count ls ≤ i → rows_from v first ls i ≡ []
+from-end v first (lines.Context ls) i h = numbered_rows-end v first ls.now i h
+from-end v first (lines.Changed ls) i h = changed_rows-end v first ls.now i h
+
+inner-picture : (k : LineKey) (i : SectionLineViewInner) (s : Sight) (x y : ℤ) → row_picture (view_row (record { line_key = k; inner = i })) s x y ≡ part (line_id k) (inner_picture i s (x +ℤ pos 2) y)
+unfolding row_picture
+inner-picture k (inner.Unchanged l n) s x y = refl
+inner-picture k (inner.Changed b change l) s x y = refl
+
+pub view_row-picture : (w : SectionLineView) (s : Sight) (x y : ℤ) → row_picture (view_row w) s x y ≡ part (line_id w.line_key) (line_picture w s (x +ℤ pos 2) y)
+unfolding line_picture
+view_row-picture w s x y = inner-picture w.line_key w.inner s x y
+
+inner-place : (i : SectionLineViewInner) (s : Sight) (x y : ℤ) → PictureInRange (inner_picture i s x y) → InRange x
+inner-place (inner.Unchanged l n) s x y r = context-place _ s x y r
+inner-place (inner.Changed b change l) s x y r = changed-place b _ s x y r
+
+pub view-place : (w : SectionLineView) (s : Sight) (x y : ℤ) → PictureInRange (row_picture (view_row w) s x y) → InRange (x +ℤ pos 2)
+view-place w s x y r = inner-place w.inner s (x +ℤ pos 2) y (PictureInRange-part _ _ (rw (inner-picture w.line_key w.inner s x y) at r))
 
 -- ---- lists of rows
 

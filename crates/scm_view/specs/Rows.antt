@@ -20,6 +20,11 @@ use Rattle.scm_view.specs.declared.file_view_header.FileViewHeader.{FileViewHead
 use Rattle.scm_view.specs.declared.section_view.SectionSelection.{SectionSelection}
 use Rattle.scm_view.specs.declared.section_view.SectionSelection.TheVariants.{SectionHeader, ChangedLine}
 use Rattle.scm_view.specs.declared.section_view.SectionView.{SectionView}
+use Rattle.scm_view.specs.declared.section_view.Lines.{Lines}
+use Rattle.scm_view.specs.declared.section_view.Lines.TheVariants as lines
+use Rattle.scm_view.specs.declared.section_line_view.SectionLineView.{SectionLineView}
+use Rattle.scm_view.specs.declared.section_line_view.SectionLineViewInner.{SectionLineViewInner}
+use Rattle.scm_view.specs.declared.section_line_view.SectionLineViewInner.TheVariants as inner
 use Rattle.scm_view.specs.declared.file_view.FileView.{FileView}
 use Rattle.scm_view.specs.declared.commit_view.CommitView.{CommitView}
 use Rattle.scm_view.specs.Texts.{path_text, section_text, mode_change_text, binary_text, number_text, sign_text, dots_text}
@@ -129,6 +134,27 @@ numbered_row v i l = ContextRow (line_key_of v.section_key i) (line_texts (numbe
 unfoldable pub numbered_rows : SectionView → ℕ → List (List ℕ) → List DocRow
 numbered_rows v i [] = []
 numbered_rows v i (l ∷ ls) = numbered_row v i l ∷ numbered_rows v (suc i) ls
+
+-- lines of either kind: how many there are, their rows, the first of which has this index, and the rows from the i-th on
+abbrev pub lines_count : Lines → ℕ
+lines_count (lines.Context ls) = length ls.now
+lines_count (lines.Changed ls) = length ls.now
+
+abbrev pub line_rows : SectionView → ℕ → Lines → List DocRow
+line_rows v first (lines.Context ls) = numbered_rows v first ls.now
+line_rows v first (lines.Changed ls) = changed_rows v first ls.now
+
+abbrev pub rows_from : SectionView → ℕ → Lines → ℕ → List DocRow
+rows_from v first (lines.Context ls) i = numbered_rows v (first + i) (drop i ls.now)
+rows_from v first (lines.Changed ls) i = changed_rows v (first + i) (drop i ls.now)
+
+-- the row of a line
+abbrev pub view_row : SectionLineView → DocRow
+view_row w = inner_row w.line_key w.inner
+  where
+    inner_row : LineKey → SectionLineViewInner → DocRow
+    inner_row k (inner.Unchanged l number) = ContextRow k (line_texts (number_text number) l.now)
+    inner_row k (inner.Changed b change l) = LineRow k b (line_texts (sign_text change) l.now)
 
 abbrev pub is_first : SectionView → Bool
 is_first v = v.section_key.section_idx == 0

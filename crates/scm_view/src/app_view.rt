@@ -17,6 +17,7 @@ ghost use Rattle.scm_render.specs.Draws.{Draws};
 ghost use Rattle.scm_view.specs.Paints.{Paints};
 
 use crate::commit_view::{CommitView, CommitViewMode};
+use crate::extent::Extent;
 use crate::help_dialog::HelpDialog;
 use crate::ids::ComponentId;
 use crate::menu_bar::MenuBar;
@@ -194,7 +195,7 @@ fn paint_view(
 {
     let mask = view_mask(viewport, x, width);
     let outer = viewport.swap_mask(Some(mask));
-    view.paint(alloc, viewport, x, 1)?;
+    view.draw_rows(alloc, viewport, x, 1, Extent::Screen)?;
     viewport.swap_mask(outer);
     Ok(())
 }

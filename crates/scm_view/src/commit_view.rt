@@ -2,19 +2,19 @@
 ghost use Rattle.std.specs.Prelude.{◌≡◌, ◌+◌, ◌<◌, ◌^◌, ◌++◌, ◌&&◌, int_lt, ℤ, pos, ◌+ℤ◌, Some, None, map, OnOk, IfOk, IfErr, length};
 ghost use Rattle.scm_cells.specs.Rect.{InRange};
 ghost use Rattle.scm_cells.specs.Mask.{MaskInRange};
-ghost use Rattle.scm_render.specs.Picture.{PictureInRange};
-ghost use Rattle.scm_render.specs.Canvas.{under};
+ghost use Rattle.scm_render.specs.Picture.{PictureInRange, part};
 ghost use Rattle.scm_cells.specs.Counts.{plus};
 ghost use Rattle.scm_view.specs.Counts.{header_counts, file_counts, pinned_counts, files_counts, body_counts, document_counts};
 ghost use Rattle.scm_errors.specs.declared.error.RecordError.TheVariants.{OutOfMemory};
-ghost use Rattle.scm_view.specs.Rows.{shown_file, file_rows, document_of};
+ghost use Rattle.scm_view.specs.Rows.{shown_file, file_id, file_rows, document_of};
 ghost use Rattle.scm_view.specs.Tops.{files_height};
 ghost use Rattle.scm_view.specs.Pieces.{files_pieces};
-ghost use Rattle.scm_view.specs.Pictures.{mask_row, file_mask, pinned_mask, pinned_header, one_file_picture, files_picture, body_picture, file_picture, commit_picture};
+ghost use Rattle.scm_view.specs.Pictures.{mask_row, file_mask, pinned_mask, pinned_header, pinned_picture, one_file_picture, files_picture, body_picture, file_picture, commit_picture};
 ghost use Rattle.scm_render.specs.Draws.{Draws};
-ghost use Rattle.scm_view.specs.Paints.{Paints};
+ghost use Rattle.scm_view.specs.Paints.{DrawsTo};
 
 use crate::commit_message_view::CommitMessageView;
+use crate::extent::Extent;
 use crate::file_view::FileView;
 use crate::ids::ComponentId;
 use crate::no_files::draw_no_files;
@@ -93,7 +93,7 @@ fn is_between(above: isize, row: isize, below: isize) -> bool
 }
 
 /// Draws the header of a file under a mask of one row.
-fn draw_pinned(
+fn draw_header(
     viewport: &mut Viewport<ComponentId>,
     x: isize,
     y: isize,
@@ -107,61 +107,109 @@ fn draw_pinned(
     draw_under(viewport, row, x, y, &header)
 }
 
-/// Draws a file, and its header once more on the first row that the mask lets through, if the file
+/// Draws the header of a file once more, on the first row that the mask lets through, if the file
 /// begins above that row and ends below.
-fn draw_file(
+fn draw_pinned(
     viewport: &mut Viewport<ComponentId>,
     x: isize,
     y: isize,
+    below: isize,
     file: &FileView<'_>,
 ) -> Result<(), RecordError>
-    requires { PictureInRange (one_file_picture (shown_file file.now) viewport.old.canvas.sight x y) }
-    ensures { Draws viewport.old viewport.new result (one_file_picture (shown_file file.now) viewport.old.canvas.sight x y) (plus (file_counts (shown_file file.now) viewport.old.canvas.sight.rect y) (pinned_counts (shown_file file.now) viewport.old.canvas.sight.rect (mask_row viewport.old.canvas.sight) y)) }
+    requires below { below ≡ y +ℤ pos (length (file_rows (shown_file file.now))) }
+    requires picture { PictureInRange (pinned_picture (shown_file file.now) viewport.old.canvas.sight x y) }
+    ensures { Draws viewport.old viewport.new result (pinned_picture (shown_file file.now) viewport.old.canvas.sight x y) (pinned_counts (shown_file file.now) viewport.old.canvas.sight.rect (mask_row viewport.old.canvas.sight) y) }
 {
-    let top = mask_row(viewport);
-    let below = file.row_below(y);
-    let rows = file_mask(viewport, x, y);
-    draw_under(viewport, rows, x, y, file)?;
-    if is_between(y, top, below) {
-        draw_pinned(viewport, x, top, file)
+    let row = mask_row(viewport);
+    if is_between(y, row, below) {
+        draw_header(viewport, x, row, file)
     } else {
         Ok(())
     }
 }
 
-/// Draws files one below another.
+/// Draws the rows of a file to this extent.
+fn draw_rows(
+    alloc: Global,
+    viewport: &mut Viewport<ComponentId>,
+    x: isize,
+    y: isize,
+    below: isize,
+    file: &FileView<'_>,
+    extent: Extent,
+) -> Result<(), RecordError>
+    requires below { below ≡ y +ℤ pos (length (file_rows (shown_file file.now))) }
+    requires picture { PictureInRange (part (file_id file.now.file_key) (file_picture file.now viewport.old.canvas.sight x y)) }
+    ensures { DrawsTo extent viewport.old viewport.new result (part (file_id file.now.file_key) (file_picture file.now viewport.old.canvas.sight x y)) (file_counts (shown_file file.now) viewport.old.canvas.sight.rect y) }
+{
+    match extent {
+        Extent::Whole => {
+            viewport.draw_component(x, y, file)?;
+            Ok(())
+        }
+        Extent::Screen => file.paint(alloc, viewport, x, y, below),
+    }
+}
+
+/// Draws a file to this extent and its pinned header, and gives the row below the file.
+fn draw_file(
+    alloc: Global,
+    viewport: &mut Viewport<ComponentId>,
+    x: isize,
+    y: isize,
+    file: &FileView<'_>,
+    extent: Extent,
+) -> Result<isize, RecordError>
+    requires { PictureInRange (one_file_picture (shown_file file.now) viewport.old.canvas.sight x y) }
+    ensures draws { DrawsTo extent viewport.old viewport.new result (one_file_picture (shown_file file.now) viewport.old.canvas.sight x y) (plus (file_counts (shown_file file.now) viewport.old.canvas.sight.rect y) (pinned_counts (shown_file file.now) viewport.old.canvas.sight.rect (mask_row viewport.old.canvas.sight) y)) }
+    ensures below { IfOk result (λ row. row ≡ y +ℤ pos (length (file_rows (shown_file file.now)))) }
+{
+    let below = file.row_below(y);
+    let rows = file_mask(viewport, x, y);
+    let outer = viewport.swap_mask(Some(rows));
+    draw_rows(alloc, viewport, x, y, below, file, extent)?;
+    viewport.swap_mask(outer);
+    draw_pinned(viewport, x, y, below, file)?;
+    Ok(below)
+}
+
+/// Draws files to this extent, one below another.
 fn draw_files(
+    alloc: Global,
     viewport: &mut Viewport<ComponentId>,
     x: isize,
     y: isize,
     files: &[FileView<'_>],
+    extent: Extent,
 ) -> Result<(), RecordError>
     requires { PictureInRange (files_picture (map shown_file files.now) viewport.old.canvas.sight x y) }
-    ensures { Draws viewport.old viewport.new result (files_picture (map shown_file files.now) viewport.old.canvas.sight x y) (files_counts (map shown_file files.now) viewport.old.canvas.sight.rect (mask_row viewport.old.canvas.sight) y) }
+    ensures { DrawsTo extent viewport.old viewport.new result (files_picture (map shown_file files.now) viewport.old.canvas.sight x y) (files_counts (map shown_file files.now) viewport.old.canvas.sight.rect (mask_row viewport.old.canvas.sight) y) }
 {
     let mut row = y;
     for file in files {
-        draw_file(viewport, x, row, file)?;
-        row = file.row_below(row);
+        row = draw_file(alloc, viewport, x, row, file, extent)?;
     }
     Ok(())
 }
 
-/// Draws what stands below a message of so many rows.
+/// Draws to this extent what stands below a message of so many rows.
 fn draw_body(
+    alloc: Global,
     viewport: &mut Viewport<ComponentId>,
     x: isize,
     y: isize,
     height: usize,
     files: &[FileView<'_>],
+    extent: Extent,
 ) -> Result<(), RecordError>
     requires { PictureInRange (body_picture (map shown_file files.now) viewport.old.canvas.sight x y (y +ℤ pos height)) }
-    ensures { Draws viewport.old viewport.new result (body_picture (map shown_file files.now) viewport.old.canvas.sight x y (y +ℤ pos height)) (body_counts (map shown_file files.now) viewport.old.canvas.sight y (y +ℤ pos height)) }
+    ensures { DrawsTo extent viewport.old viewport.new result (body_picture (map shown_file files.now) viewport.old.canvas.sight x y (y +ℤ pos height)) (body_counts (map shown_file files.now) viewport.old.canvas.sight y (y +ℤ pos height)) }
 {
     if files.is_empty() {
         draw_no_files(viewport, x, y)
     } else {
-        draw_files(viewport, x, y.strict_add_unsigned(height), files)
+        let first = y.strict_add_unsigned(height);
+        draw_files(alloc, viewport, x, first, files, extent)
     }
 }
 
@@ -185,102 +233,23 @@ pub(crate) fn push_pieces(
     Ok(row)
 }
 
-/// Paints what the screen shows of a file under a mask.
-fn paint_under(
-    alloc: Global,
-    viewport: &mut Viewport<ComponentId>,
-    mask: Mask,
-    x: isize,
-    y: isize,
-    below: isize,
-    file: &FileView<'_>,
-) -> Result<(), RecordError>
-    requires mask { MaskInRange mask }
-    requires below { below ≡ y +ℤ pos (length (file_rows (shown_file file.now))) }
-    requires picture { PictureInRange (file_picture file.now (under mask viewport.old.canvas.sight) x y) }
-    ensures { Paints viewport.old viewport.new result (file_picture file.now (under mask viewport.old.canvas.sight) x y) (file_counts (shown_file file.now) viewport.old.canvas.sight.rect y) }
-{
-    let outer = viewport.swap_mask(Some(mask));
-    file.paint(alloc, viewport, x, y, below)?;
-    viewport.swap_mask(outer);
-    Ok(())
-}
-
-/// Paints what the screen shows of a file, and of its pinned header.
-fn paint_file(
-    alloc: Global,
-    viewport: &mut Viewport<ComponentId>,
-    x: isize,
-    y: isize,
-    file: &FileView<'_>,
-) -> Result<(), RecordError>
-    requires { PictureInRange (one_file_picture (shown_file file.now) viewport.old.canvas.sight x y) }
-    ensures { Paints viewport.old viewport.new result (one_file_picture (shown_file file.now) viewport.old.canvas.sight x y) (plus (file_counts (shown_file file.now) viewport.old.canvas.sight.rect y) (pinned_counts (shown_file file.now) viewport.old.canvas.sight.rect (mask_row viewport.old.canvas.sight) y)) }
-{
-    let first = mask_row(viewport);
-    let below = file.row_below(y);
-    let rows = file_mask(viewport, x, y);
-    paint_under(alloc, viewport, rows, x, y, below, file)?;
-    if is_between(y, first, below) {
-        draw_pinned(viewport, x, first, file)
-    } else {
-        Ok(())
-    }
-}
-
-/// Paints what the screen shows of files one below another.
-fn paint_files(
-    alloc: Global,
-    viewport: &mut Viewport<ComponentId>,
-    x: isize,
-    y: isize,
-    files: &[FileView<'_>],
-) -> Result<(), RecordError>
-    requires { PictureInRange (files_picture (map shown_file files.now) viewport.old.canvas.sight x y) }
-    ensures { Paints viewport.old viewport.new result (files_picture (map shown_file files.now) viewport.old.canvas.sight x y) (files_counts (map shown_file files.now) viewport.old.canvas.sight.rect (mask_row viewport.old.canvas.sight) y) }
-{
-    let mut row = y;
-    for file in files {
-        paint_file(alloc, viewport, x, row, file)?;
-        row = file.row_below(row);
-    }
-    Ok(())
-}
-
-/// Paints what the screen shows below a message of so many rows.
-fn paint_body(
-    alloc: Global,
-    viewport: &mut Viewport<ComponentId>,
-    x: isize,
-    y: isize,
-    height: usize,
-    files: &[FileView<'_>],
-) -> Result<(), RecordError>
-    requires { PictureInRange (body_picture (map shown_file files.now) viewport.old.canvas.sight x y (y +ℤ pos height)) }
-    ensures { Paints viewport.old viewport.new result (body_picture (map shown_file files.now) viewport.old.canvas.sight x y (y +ℤ pos height)) (body_counts (map shown_file files.now) viewport.old.canvas.sight y (y +ℤ pos height)) }
-{
-    if files.is_empty() {
-        draw_no_files(viewport, x, y)
-    } else {
-        paint_files(alloc, viewport, x, y.strict_add_unsigned(height), files)
-    }
-}
-
 impl<'a> CommitView<'a> {
-    /// Paints what the screen shows of the document.
-    pub(crate) fn paint(
+    /// Draws the document to this extent.
+    pub(crate) fn draw_rows(
         &self,
         alloc: Global,
         viewport: &mut Viewport<ComponentId>,
         x: isize,
         y: isize,
+        extent: Extent,
     ) -> Result<(), RecordError>
         requires { PictureInRange (commit_picture self.now viewport.old.canvas.sight x y) }
-        ensures { Paints viewport.old viewport.new result (commit_picture self.now viewport.old.canvas.sight x y) (document_counts (document_of self.now) viewport.old.canvas.sight y) }
+        ensures { DrawsTo extent viewport.old viewport.new result (commit_picture self.now viewport.old.canvas.sight x y) (document_counts (document_of self.now) viewport.old.canvas.sight y) }
     {
         let height = self.commit_message_view.height();
+        let files = self.file_views.as_slice();
         viewport.draw_component(x, y, &self.commit_message_view)?;
-        paint_body(alloc, viewport, x, y, height, self.file_views.as_slice())
+        draw_body(alloc, viewport, x, y, height, files, extent)
     }
 }
 
@@ -303,13 +272,11 @@ impl<'a> Component for CommitView<'a> {
 
     fn draw(
         &self,
-        _alloc: Global,
+        alloc: Global,
         viewport: &mut Viewport<ComponentId>,
         x: isize,
         y: isize,
     ) -> Result<(), RecordError> {
-        let height = self.commit_message_view.height();
-        viewport.draw_component(x, y, &self.commit_message_view)?;
-        draw_body(viewport, x, y, height, self.file_views.as_slice())
+        self.draw_rows(alloc, viewport, x, y, Extent::Whole)
     }
 }

@@ -9,9 +9,9 @@ ghost use Rattle.scm_view.specs.Pictures.{sections_picture, file_picture};
 ghost use Rattle.scm_view.specs.Tops.{file_height, file_top_of, section_tops, sections_height};
 ghost use Rattle.scm_view.specs.Pieces.{file_pieces};
 ghost use Rattle.scm_view.specs.declared.tops.Piece.TheVariants.{Section as PieceSection};
-ghost use Rattle.scm_render.specs.Draws.{Draws};
-ghost use Rattle.scm_view.specs.Paints.{Paints};
+ghost use Rattle.scm_view.specs.Paints.{DrawsTo, Paints};
 
+use crate::extent::Extent;
 use crate::file_view_header::FileViewHeader;
 use crate::ids::ComponentId;
 use crate::noting::is_seen;
@@ -60,20 +60,28 @@ pub(crate) fn is_shown(before: bool, view: &SectionView<'_>, after: bool) -> boo
     is_editable | (before | after)
 }
 
-/// Draws a section, if it is shown.
+/// Draws a section to this extent, if the section is shown.
 fn draw_section(
+    alloc: Global,
     viewport: &mut Viewport<ComponentId>,
     x: isize,
     y: isize,
     view: &SectionView<'_>,
     is_shown: bool,
+    extent: Extent,
 ) -> Result<(), RecordError>
-    requires { PictureInRange (sections_picture (shown_section is_shown view.now) viewport.old.canvas.sight x y) }
-    ensures { Draws viewport.old viewport.new result (sections_picture (shown_section is_shown view.now) viewport.old.canvas.sight x y) (sections_counts (shown_section is_shown view.now) viewport.old.canvas.sight.rect y) }
+    requires y { InRange y }
+    requires picture { PictureInRange (sections_picture (shown_section is_shown view.now) viewport.old.canvas.sight x y) }
+    ensures { DrawsTo extent viewport.old viewport.new result (sections_picture (shown_section is_shown view.now) viewport.old.canvas.sight x y) (sections_counts (shown_section is_shown view.now) viewport.old.canvas.sight.rect y) }
 {
     if is_shown {
-        viewport.draw_component(x, y, view)?;
-        Ok(())
+        match extent {
+            Extent::Whole => {
+                viewport.draw_component(x, y, view)?;
+                Ok(())
+            }
+            Extent::Screen => view.paint(alloc, viewport, x, y),
+        }
     } else {
         Ok(())
     }
@@ -88,65 +96,24 @@ fn row_below(y: isize, view: &SectionView<'_>, is_shown: bool) -> isize
     if is_shown { view.row_below(y) } else { y }
 }
 
-/// Draws the sections that are shown, one below another.
+/// Draws the sections that are shown to this extent, one below another.
 fn draw_sections(
-    viewport: &mut Viewport<ComponentId>,
-    x: isize,
-    y: isize,
-    views: &[SectionView<'_>],
-) -> Result<(), RecordError>
-    requires y { InRange y }
-    requires picture { PictureInRange (sections_picture (shown_sections false views.now) viewport.old.canvas.sight x y) }
-    ensures { Draws viewport.old viewport.new result (sections_picture (shown_sections false views.now) viewport.old.canvas.sight x y) (sections_counts (shown_sections false views.now) viewport.old.canvas.sight.rect y) }
-{
-    let mut row = y;
-    let mut before = false;
-    for (index, view) in views.iter().enumerate() {
-        let shown = is_shown(before, view, is_open_at(views, index + 1));
-        draw_section(viewport, x, row, view, shown)?;
-        row = row_below(row, view, shown);
-        before = view.is_open();
-    }
-    Ok(())
-}
-
-/// Paints what the screen shows of a section, if the section is shown.
-fn paint_section(
-    alloc: Global,
-    viewport: &mut Viewport<ComponentId>,
-    x: isize,
-    y: isize,
-    view: &SectionView<'_>,
-    is_shown: bool,
-) -> Result<(), RecordError>
-    requires y { InRange y }
-    requires picture { PictureInRange (sections_picture (shown_section is_shown view.now) viewport.old.canvas.sight x y) }
-    ensures { Paints viewport.old viewport.new result (sections_picture (shown_section is_shown view.now) viewport.old.canvas.sight x y) (sections_counts (shown_section is_shown view.now) viewport.old.canvas.sight.rect y) }
-{
-    if is_shown {
-        view.paint(alloc, viewport, x, y)
-    } else {
-        Ok(())
-    }
-}
-
-/// Paints what the screen shows of the sections that are shown.
-fn paint_sections(
     alloc: Global,
     viewport: &mut Viewport<ComponentId>,
     x: isize,
     y: isize,
     views: &[SectionView<'_>],
+    extent: Extent,
 ) -> Result<(), RecordError>
     requires y { InRange y }
     requires picture { PictureInRange (sections_picture (shown_sections false views.now) viewport.old.canvas.sight x y) }
-    ensures { Paints viewport.old viewport.new result (sections_picture (shown_sections false views.now) viewport.old.canvas.sight x y) (sections_counts (shown_sections false views.now) viewport.old.canvas.sight.rect y) }
+    ensures { DrawsTo extent viewport.old viewport.new result (sections_picture (shown_sections false views.now) viewport.old.canvas.sight x y) (sections_counts (shown_sections false views.now) viewport.old.canvas.sight.rect y) }
 {
     let mut row = y;
     let mut before = false;
     for (index, view) in views.iter().enumerate() {
         let shown = is_shown(before, view, is_open_at(views, index + 1));
-        paint_section(alloc, viewport, x, row, view, shown)?;
+        draw_section(alloc, viewport, x, row, view, shown, extent)?;
         row = row_below(row, view, shown);
         before = view.is_open();
     }
@@ -271,21 +238,23 @@ impl<'a> FileView<'a> {
 }
 
 impl<'a> FileView<'a> {
-    /// Paints the file's header, and what the screen shows of its sections.
-    fn paint_parts(
+    /// Draws the file's header, and its sections to this extent.
+    fn draw_parts(
         &self,
         alloc: Global,
         viewport: &mut Viewport<ComponentId>,
         x: isize,
         y: isize,
+        extent: Extent,
     ) -> Result<(), RecordError>
         requires { PictureInRange (file_picture self.now viewport.old.canvas.sight x y) }
-        ensures { Paints viewport.old viewport.new result (file_picture self.now viewport.old.canvas.sight x y) (file_counts (shown_file self.now) viewport.old.canvas.sight.rect y) }
+        ensures { DrawsTo extent viewport.old viewport.new result (file_picture self.now viewport.old.canvas.sight x y) (file_counts (shown_file self.now) viewport.old.canvas.sight.rect y) }
     {
         let header = self.header();
         viewport.draw_component(x, y, &header)?;
         if self.expand_box.is_open() {
-            paint_sections(alloc, viewport, x + 2, y + 1, self.section_views.as_slice())
+            let views = self.section_views.as_slice();
+            draw_sections(alloc, viewport, x + 2, y + 1, views, extent)
         } else {
             Ok(())
         }
@@ -305,7 +274,7 @@ impl<'a> FileView<'a> {
         ensures { Paints viewport.old viewport.new result (file_picture self.now viewport.old.canvas.sight x y) (file_counts (shown_file self.now) viewport.old.canvas.sight.rect y) }
     {
         if is_seen(viewport, y, below) {
-            self.paint_parts(alloc, viewport, x, y)
+            self.draw_parts(alloc, viewport, x, y, Extent::Screen)
         } else {
             Ok(())
         }
@@ -331,17 +300,11 @@ impl<'a> Component for FileView<'a> {
 
     fn draw(
         &self,
-        _alloc: Global,
+        alloc: Global,
         viewport: &mut Viewport<ComponentId>,
         x: isize,
         y: isize,
     ) -> Result<(), RecordError> {
-        let header = self.header();
-        viewport.draw_component(x, y, &header)?;
-        if self.expand_box.is_open() {
-            draw_sections(viewport, x + 2, y + 1, self.section_views.as_slice())
-        } else {
-            Ok(())
-        }
+        self.draw_parts(alloc, viewport, x, y, Extent::Whole)
     }
 }

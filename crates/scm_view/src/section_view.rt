@@ -5,12 +5,13 @@ ghost use Rattle.scm_render.specs.Picture.{PictureInRange};
 ghost use Rattle.scm_view.specs.Counts.{row_counts, rows_counts};
 ghost use Rattle.scm_types.specs.declared.section.Section.TheVariants.{Changed};
 ghost use Rattle.scm_view.specs.Texts.{mode_change_text, binary_text, dots_text};
-ghost use Rattle.scm_view.specs.Rows.{SectionRow, MarkRow, DotsRow, mark_of, line_key_of, section_box, line_box, section_heading, is_fold_open, line_number, numbered_row, numbered_rows, changed_row, changed_rows, context_rows, section_rows, is_selected, is_line_selected, is_first, is_last, is_open, are_all_shown, lines_above, has_dots, first_below, rows_below, shown_lines, rows_of, dots_height, lines_height, context_height, changed_height, section_height};
+ghost use Rattle.scm_view.specs.Rows.{SectionRow, MarkRow, DotsRow, mark_of, line_key_of, section_box, line_box, section_heading, is_fold_open, line_number, changed_rows, lines_count, line_rows, rows_from, view_row, context_rows, section_rows, is_selected, is_line_selected, is_first, is_last, is_open, are_all_shown, lines_above, has_dots, first_below, rows_below, shown_lines, rows_of, dots_height, lines_height, context_height, changed_height, section_height};
 ghost use Rattle.scm_view.specs.Pictures.{row_picture, rows_picture, section_picture};
 ghost use Rattle.scm_view.specs.Tops.{context_kinds, has_context_row, is_wide_of, kinds_of, section_top_of};
 ghost use Rattle.scm_render.specs.Draws.{Draws};
-ghost use Rattle.scm_view.specs.Paints.{Paints};
+ghost use Rattle.scm_view.specs.Paints.{DrawsTo, Paints};
 
+use crate::extent::Extent;
 use crate::heading::draw_heading;
 use crate::ids::ComponentId;
 use crate::noting::{begin_row, is_seen, rows_above, show_box, show_span, show_text};
@@ -35,6 +36,27 @@ pub enum SectionSelection {
     SectionHeader,
     /// One of its changed lines, counted from 0.
     ChangedLine(usize),
+}
+
+/// Lines of a section, each of which has a row of its own.
+#[derive(Clone, Copy)]
+enum Lines<'l, 'a> {
+    /// Lines of context.
+    Context(&'l [Text<'a>]),
+    /// Changed lines.
+    Changed(&'l [SectionChangedLine<'a>]),
+}
+
+impl<'l, 'a> Lines<'l, 'a> {
+    /// How many there are.
+    fn len(self) -> usize
+        ensures { result ≡ lines_count self.entry }
+    {
+        match self {
+            Lines::Context(lines) => lines.len(),
+            Lines::Changed(lines) => lines.len(),
+        }
+    }
 }
 
 /// A section of a file.
@@ -152,90 +174,53 @@ impl<'a> SectionView<'a> {
         }
     }
 
-    /// Draws a line of context.
-    fn draw_numbered_row(
-        &self,
-        viewport: &mut Viewport<ComponentId>,
-        x: isize,
-        y: isize,
-        index: usize,
-        line: &Text<'_>,
-    ) -> Result<(), RecordError>
-        requires { PictureInRange (row_picture (numbered_row self.now index line.now) viewport.old.canvas.sight x y) }
-        ensures { Draws viewport.old viewport.new result (row_picture (numbered_row self.now index line.now) viewport.old.canvas.sight x y) (row_counts (numbered_row self.now index line.now) viewport.old.canvas.sight.rect y) }
+    /// What is drawn of one of these lines, the first of which has this index.
+    fn line_view<'l>(&self, first: usize, lines: Lines<'l, 'a>, index: usize) -> SectionLineView<'l>
+        requires index { index < lines_count lines }
+        requires last { first + lines_count lines ≤ 2 ^ 64 - 1 }
+        ensures { rows_from self.now first lines.entry index ≡ view_row result ∷ rows_from self.now first lines.entry (index + 1) }
     {
-        let view = SectionLineView {
-            line_key: self.line_key(index),
-            inner: SectionLineViewInner::Unchanged {
-                line: line.as_str(),
-                line_num: line_number(self.line_start_num, index),
+        let at = first + index;
+        let line_key = self.line_key(at);
+        match lines {
+            Lines::Context(lines) => SectionLineView {
+                line_key,
+                inner: SectionLineViewInner::Unchanged {
+                    line: lines[index].as_str(),
+                    line_num: line_number(self.line_start_num, at),
+                },
             },
-        };
-        viewport.draw_component(x + 2, y, &view)?;
-        Ok(())
-    }
-
-    /// Draws lines of context, the first of which has this index.
-    fn draw_numbered(
-        &self,
-        viewport: &mut Viewport<ComponentId>,
-        x: isize,
-        y: isize,
-        first: usize,
-        lines: &[Text<'a>],
-    ) -> Result<(), RecordError>
-        requires index { first + length lines.now ≤ 2 ^ 64 - 1 }
-        requires picture { PictureInRange (rows_picture (numbered_rows self.now first lines.now) viewport.old.canvas.sight x y) }
-        ensures { Draws viewport.old viewport.new result (rows_picture (numbered_rows self.now first lines.now) viewport.old.canvas.sight x y) (rows_counts (numbered_rows self.now first lines.now) viewport.old.canvas.sight.rect y) }
-    {
-        let mut row = y;
-        for (index, line) in lines.iter().enumerate() {
-            self.draw_numbered_row(viewport, x, row, first + index, line)?;
-            row += 1;
+            Lines::Changed(lines) => {
+                let line = &lines[index];
+                SectionLineView {
+                    line_key,
+                    inner: SectionLineViewInner::Changed {
+                        toggle_box: self.line_box(at, line.is_checked),
+                        change_type: line.change_type,
+                        line: line.line.as_str(),
+                    },
+                }
+            }
         }
-        Ok(())
     }
 
-    /// Draws a changed line.
-    fn draw_changed_row(
-        &self,
-        viewport: &mut Viewport<ComponentId>,
-        x: isize,
-        y: isize,
-        index: usize,
-        line: &SectionChangedLine<'_>,
-    ) -> Result<(), RecordError>
-        requires { PictureInRange (row_picture (changed_row self.now index line.now) viewport.old.canvas.sight x y) }
-        ensures { Draws viewport.old viewport.new result (row_picture (changed_row self.now index line.now) viewport.old.canvas.sight x y) (row_counts (changed_row self.now index line.now) viewport.old.canvas.sight.rect y) }
-    {
-        let view = SectionLineView {
-            line_key: self.line_key(index),
-            inner: SectionLineViewInner::Changed {
-                toggle_box: self.line_box(index, line.is_checked),
-                change_type: line.change_type,
-                line: line.line.as_str(),
-            },
-        };
-        viewport.draw_component(x + 2, y, &view)?;
-        Ok(())
-    }
-
-    /// Draws changed lines, the first of which has this index.
-    fn draw_changed_lines(
+    /// Draws lines one below another, the first of which has this index.
+    fn draw_lines(
         &self,
         viewport: &mut Viewport<ComponentId>,
         x: isize,
         y: isize,
         first: usize,
-        lines: &[SectionChangedLine<'a>],
+        lines: Lines<'_, 'a>,
     ) -> Result<(), RecordError>
-        requires index { first + length lines.now ≤ 2 ^ 64 - 1 }
-        requires picture { PictureInRange (rows_picture (changed_rows self.now first lines.now) viewport.old.canvas.sight x y) }
-        ensures { Draws viewport.old viewport.new result (rows_picture (changed_rows self.now first lines.now) viewport.old.canvas.sight x y) (rows_counts (changed_rows self.now first lines.now) viewport.old.canvas.sight.rect y) }
+        requires last { first + lines_count lines ≤ 2 ^ 64 - 1 }
+        requires picture { PictureInRange (rows_picture (line_rows self.now first lines) viewport.old.canvas.sight x y) }
+        ensures { Draws viewport.old viewport.new result (rows_picture (line_rows self.now first lines.entry) viewport.old.canvas.sight x y) (rows_counts (line_rows self.now first lines.entry) viewport.old.canvas.sight.rect y) }
     {
         let mut row = y;
-        for (index, line) in lines.iter().enumerate() {
-            self.draw_changed_row(viewport, x, row, first + index, line)?;
+        for index in 0..lines.len() {
+            let view = self.line_view(first, lines, index);
+            viewport.draw_component(x + 2, row, &view)?;
             row += 1;
         }
         Ok(())
@@ -256,13 +241,26 @@ impl<'a> SectionView<'a> {
         let first = rows_above(y, screen.y, lines.len());
         let end = rows_above(y, screen.end_y(), lines.len());
         let upper = &lines[..end];
-        self.draw_changed_lines(
-            viewport,
-            x,
-            y.strict_add_unsigned(first),
-            first,
-            &upper[first..],
-        )
+        let seen = Lines::Changed(&upper[first..]);
+        self.draw_lines(viewport, x, y.strict_add_unsigned(first), first, seen)
+    }
+
+    /// Draws the changed lines to this extent.
+    fn draw_changed_lines(
+        &self,
+        viewport: &mut Viewport<ComponentId>,
+        x: isize,
+        y: isize,
+        lines: &[SectionChangedLine<'a>],
+        extent: Extent,
+    ) -> Result<(), RecordError>
+        requires { PictureInRange (rows_picture (changed_rows self.now 0 lines.now) viewport.old.canvas.sight x y) }
+        ensures { DrawsTo extent viewport.old viewport.new result (rows_picture (changed_rows self.now 0 lines.now) viewport.old.canvas.sight x y) (rows_counts (changed_rows self.now 0 lines.now) viewport.old.canvas.sight.rect y) }
+    {
+        match extent {
+            Extent::Whole => self.draw_lines(viewport, x, y, 0, Lines::Changed(lines)),
+            Extent::Screen => self.paint_changed_lines(viewport, x, y, lines),
+        }
     }
 
     /// Draws the first row of a section of changed lines.
@@ -576,11 +574,12 @@ impl<'a> SectionView<'a> {
         ensures { Draws viewport.old viewport.new result (rows_picture (rows_below self.now lines.now) viewport.old.canvas.sight x y) (rows_counts (rows_below self.now lines.now) viewport.old.canvas.sight.rect y) }
     {
         let first = self.first_below(lines.len());
+        let below = Lines::Context(&lines[first..]);
         if self.has_dots(lines.len()) {
             self.draw_dots(viewport, x, y)?;
-            self.draw_numbered(viewport, x, y + 1, first, &lines[first..])
+            self.draw_lines(viewport, x, y + 1, first, below)
         } else {
-            self.draw_numbered(viewport, x, y, first, &lines[first..])
+            self.draw_lines(viewport, x, y, first, below)
         }
     }
 
@@ -596,7 +595,7 @@ impl<'a> SectionView<'a> {
         ensures { Draws viewport.old viewport.new result (rows_picture (shown_lines self.now lines.now) viewport.old.canvas.sight x y) (rows_counts (shown_lines self.now lines.now) viewport.old.canvas.sight.rect y) }
     {
         let above = self.lines_above(lines.len());
-        self.draw_numbered(viewport, x, y, 0, &lines[..above])?;
+        self.draw_lines(viewport, x, y, 0, Lines::Context(&lines[..above]))?;
         self.draw_below(viewport, x, y.strict_add_unsigned(above), lines)
     }
 
@@ -620,7 +619,7 @@ impl<'a> SectionView<'a> {
         }
     }
 
-    /// Draws a section of changed lines.
+    /// Draws a section of changed lines to this extent.
     fn draw_changed(
         &self,
         alloc: Global,
@@ -628,58 +627,48 @@ impl<'a> SectionView<'a> {
         x: isize,
         y: isize,
         lines: &[SectionChangedLine<'a>],
+        extent: Extent,
     ) -> Result<(), RecordError>
         requires { PictureInRange (rows_picture (rows_of self.now (Changed lines.now)) viewport.old.canvas.sight x y) }
-        ensures { Draws viewport.old viewport.new result (rows_picture (rows_of self.now (Changed lines.now)) viewport.old.canvas.sight x y) (rows_counts (rows_of self.now (Changed lines.now)) viewport.old.canvas.sight.rect y) }
+        ensures { DrawsTo extent viewport.old viewport.new result (rows_picture (rows_of self.now (Changed lines.now)) viewport.old.canvas.sight x y) (rows_counts (rows_of self.now (Changed lines.now)) viewport.old.canvas.sight.rect y) }
     {
         self.draw_header(alloc, viewport, x, y)?;
         if self.expand_box.is_open() {
-            self.draw_changed_lines(viewport, x, y + 1, 0, lines)
-        } else {
-            Ok(())
-        }
-    }
-}
-
-impl<'a> SectionView<'a> {
-    /// Paints a section of changed lines.
-    fn paint_changed(
-        &self,
-        alloc: Global,
-        viewport: &mut Viewport<ComponentId>,
-        x: isize,
-        y: isize,
-        lines: &[SectionChangedLine<'a>],
-    ) -> Result<(), RecordError>
-        requires { PictureInRange (rows_picture (rows_of self.now (Changed lines.now)) viewport.old.canvas.sight x y) }
-        ensures { Paints viewport.old viewport.new result (rows_picture (rows_of self.now (Changed lines.now)) viewport.old.canvas.sight x y) (rows_counts (rows_of self.now (Changed lines.now)) viewport.old.canvas.sight.rect y) }
-    {
-        self.draw_header(alloc, viewport, x, y)?;
-        if self.expand_box.is_open() {
-            self.paint_changed_lines(viewport, x, y + 1, lines)
+            self.draw_changed_lines(viewport, x, y + 1, lines, extent)
         } else {
             Ok(())
         }
     }
 
-    /// Paints the section, some of whose rows are on the screen.
-    fn paint_rows(
+    /// Draws the section to this extent.
+    fn draw_rows(
         &self,
         alloc: Global,
         viewport: &mut Viewport<ComponentId>,
         x: isize,
         y: isize,
+        extent: Extent,
     ) -> Result<(), RecordError>
         requires { PictureInRange (section_picture self.now viewport.old.canvas.sight x y) }
-        ensures { Paints viewport.old viewport.new result (section_picture self.now viewport.old.canvas.sight x y) (rows_counts (section_rows self.now) viewport.old.canvas.sight.rect y) }
+        ensures { DrawsTo extent viewport.old viewport.new result (section_picture self.now viewport.old.canvas.sight x y) (rows_counts (section_rows self.now) viewport.old.canvas.sight.rect y) }
     {
         match self.section {
-            Section::Unchanged { .. } => self.draw(alloc, viewport, x, y),
+            Section::Unchanged { lines } => self.draw_context(viewport, x, y, lines.as_slice()),
             Section::Changed { lines } => {
-                self.paint_changed(alloc, viewport, x, y, lines.as_slice())
+                self.draw_changed(alloc, viewport, x, y, lines.as_slice(), extent)
             }
-            Section::FileMode { .. } => self.draw(alloc, viewport, x, y),
-            Section::Binary { .. } => self.draw(alloc, viewport, x, y),
+            Section::FileMode { is_checked, mode } => {
+                let text = mode_change_text(alloc, *mode)?;
+                self.draw_mark(viewport, x, y, *is_checked, text.as_str())
+            }
+            Section::Binary {
+                is_checked,
+                old_description,
+                new_description,
+            } => {
+                let text = binary_text(alloc, old_description, new_description)?;
+                self.draw_mark(viewport, x, y, *is_checked, text.as_str())
+            }
         }
     }
 
@@ -697,7 +686,7 @@ impl<'a> SectionView<'a> {
         ensures { Paints viewport.old viewport.new result (section_picture self.now viewport.old.canvas.sight x y) (rows_counts (section_rows self.now) viewport.old.canvas.sight.rect y) }
     {
         if is_seen(viewport, y, self.row_below(y)) {
-            self.paint_rows(alloc, viewport, x, y)
+            self.draw_rows(alloc, viewport, x, y, Extent::Screen)
         } else {
             Ok(())
         }
@@ -728,23 +717,6 @@ impl<'a> Component for SectionView<'a> {
         x: isize,
         y: isize,
     ) -> Result<(), RecordError> {
-        match self.section {
-            Section::Unchanged { lines } => self.draw_context(viewport, x, y, lines.as_slice()),
-            Section::Changed { lines } => {
-                self.draw_changed(alloc, viewport, x, y, lines.as_slice())
-            }
-            Section::FileMode { is_checked, mode } => {
-                let text = mode_change_text(alloc, *mode)?;
-                self.draw_mark(viewport, x, y, *is_checked, text.as_str())
-            }
-            Section::Binary {
-                is_checked,
-                old_description,
-                new_description,
-            } => {
-                let text = binary_text(alloc, old_description, new_description)?;
-                self.draw_mark(viewport, x, y, *is_checked, text.as_str())
-            }
-        }
+        self.draw_rows(alloc, viewport, x, y, Extent::Whole)
     }
 }

@@ -1,4 +1,4 @@
-use Rattle.std.proofs.Common.{not, ◌∙◌}
+use Rattle.std.proofs.Common.{◌∙◌}
 use Rattle.scm_types.proofs.RepairLemmas.{any_mark}
 use Rattle.scm_types.proofs.repair.has_checked_line.Goals as goal
 

@@ -11,8 +11,8 @@ use Rattle.scm_view.proofs.app_view.paint_view.Goals as goal
 abbrev one : CommitView → ℤ → Sight → IdPicture
 one v x s = commit_picture v s x (pos 1)
 
-pub paint-requires : goal.paint-requires
-paint-requires c =
+pub draw_rows-requires : goal.draw_rows-requires
+draw_rows-requires c =
     let fx : FitsSigned w64 c.args.x = c.ranges.x in
     let s = c.args.viewport.now.canvas.sight in
     let mask = simp to_z-of_z at c.view_mask-mask.ensures.mask in
@@ -25,11 +25,11 @@ returns c =
     let s = c.args.viewport.now.canvas.sight in
     let mask = simp to_z-of_z at c.view_mask-mask.ensures.mask in
     let seen : c.swap_mask-outer.new.self.canvas.sight ≡ under (view_mask s c.args.x c.args.width) s = ap (λ v. v.sight) c.swap_mask-outer.ensures.new ∙ ap (λ m. under m s) mask in
-    let painted = rw c.swap_mask-outer.ensures.counts at (rw seen at c.in_ok-paint.ensures.counts) in
+    let painted = rw c.swap_mask-outer.ensures.counts at (rw seen at c.in_ok-draw_rows.ensures.counts) in
     record {
       ok =
-          rw mask at (painted-masked _ c.swap_mask-outer.new.self.canvas c.paint.new.viewport.canvas _ c.view_mask-mask.result (one c.args.view.now c.args.x) c.swap_mask-outer.ensures.new
-          (simp to_z-of_z at c.in_ok-paint.ensures.ok) (rw c.swap_mask-outer.ensures.old at c.swap_mask.ensures.new));
+          rw mask at (painted-masked _ c.swap_mask-outer.new.self.canvas c.draw_rows.new.viewport.canvas _ c.view_mask-mask.result (one c.args.view.now c.args.x) c.swap_mask-outer.ensures.new
+          (simp to_z-of_z at c.in_ok-draw_rows.ensures.ok) (rw c.swap_mask-outer.ensures.old at c.swap_mask.ensures.new));
       counts = c.swap_mask.ensures.counts ∙ painted;
       rect = search rules;
       err = search rules;

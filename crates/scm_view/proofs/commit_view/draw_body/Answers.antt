@@ -3,6 +3,8 @@ use Rattle.std.specs.Prelude.{pos, ◌+ℤ◌}
 use Rattle.std.proofs.lemmas.Int.{to_z-of_z}
 use Rattle.scm_view.specs.Rows.{shown_file}
 use Rattle.scm_render.proofs.StepLemmas.{InRange-fits}
+use Rattle.scm_view.proofs.RowsLemmas.{on-ok}
+use Rattle.scm_view.proofs.ExtentLemmas.{drawn-to}
 use Rattle.scm_view.proofs.FilesLemmas.{length-shown, files-top}
 use Rattle.scm_view.proofs.commit_view.draw_body.Goals as goal
 
@@ -13,8 +15,8 @@ draw_no_files-requires c =
     let none : (length (map shown_file c.args.files.now) == 0) ≡ true = ap (λ n. n == 0) (length-shown c.args.files.now) ∙ sym c.is_empty.ensures ∙ c.if-is_empty.true in
     simp to_z-of_z (rw none at c.requires)
 
-pub strict_add_unsigned-requires : goal.strict_add_unsigned-requires
-strict_add_unsigned-requires c =
+pub strict_add_unsigned-first-requires : goal.strict_add_unsigned-first-requires
+strict_add_unsigned-first-requires c =
     let fx : FitsSigned w64 c.args.x = c.ranges.x in
     let fy : FitsSigned w64 c.args.y = c.ranges.y in
     let some : (length (map shown_file c.args.files.now) == 0) ≡ false = ap (λ n. n == 0) (length-shown c.args.files.now) ∙ sym c.is_empty.ensures ∙ c.if-is_empty.false in
@@ -26,7 +28,7 @@ draw_files-requires c =
     let fy : FitsSigned w64 c.args.y = c.ranges.y in
     let some : (length (map shown_file c.args.files.now) == 0) ≡ false = ap (λ n. n == 0) (length-shown c.args.files.now) ∙ sym c.is_empty.ensures ∙ c.if-is_empty.false in
     let fits : FitsSigned w64 (c.args.y +ℤ pos c.args.height) = InRange-fits _ (files-top _ _ _ _ some (rw some at c.requires)) in
-    let row = simp to_z-of_z at c.strict_add_unsigned.ensures in
+    let row = simp to_z-of_z at c.strict_add_unsigned-first.ensures in
     rw row (simp to_z-of_z (rw some at c.requires))
 
 pub returns-then-is_empty : goal.returns-then-is_empty
@@ -35,7 +37,7 @@ returns-then-is_empty c =
     let fy : FitsSigned w64 c.args.y = c.ranges.y in
     let none : (length (map shown_file c.args.files.now) == 0) ≡ true = ap (λ n. n == 0) (length-shown c.args.files.now) ∙ sym c.is_empty.ensures ∙ c.if-is_empty.true in
     record {
-      ok = rw none (simp to_z-of_z at c.draw_no_files.ensures.ok);
+      ok = rw none (on-ok _ (drawn-to c.args.extent _ _ _) (simp to_z-of_z at c.draw_no_files.ensures.ok));
       counts = rw none (simp to_z-of_z at c.draw_no_files.ensures.counts);
       rect = search rules;
       err = search rules;
@@ -47,7 +49,7 @@ returns-else-is_empty c =
     let fy : FitsSigned w64 c.args.y = c.ranges.y in
     let some : (length (map shown_file c.args.files.now) == 0) ≡ false = ap (λ n. n == 0) (length-shown c.args.files.now) ∙ sym c.is_empty.ensures ∙ c.if-is_empty.false in
     let fits : FitsSigned w64 (c.args.y +ℤ pos c.args.height) = InRange-fits _ (files-top _ _ _ _ some (rw some at c.requires)) in
-    let row = simp to_z-of_z at c.strict_add_unsigned.ensures in
+    let row = simp to_z-of_z at c.strict_add_unsigned-first.ensures in
     record {
       ok = rw some (simp to_z-of_z at (rw row at c.draw_files.ensures.ok));
       counts = rw some (simp to_z-of_z at (rw row at c.draw_files.ensures.counts));

@@ -1,18 +1,23 @@
-use Rattle.std.proofs.Common.{rules, ◌≡◌, ◌∙◌, ap, sym, length, true, false, FitsSigned, w64}
-use Rattle.std.specs.Prelude.{pos, ◌+ℤ◌}
+use Rattle.std.proofs.Common.{rules, ◌≡◌, ◌∙◌, refl, ap, length, FitsSigned, w64}
+use Rattle.std.specs.Prelude.{ℤ, pos, ◌+ℤ◌}
 use Rattle.std.proofs.lemmas.Int.{to_z-of_z}
-use Rattle.scm_render.proofs.PictureLemmas.{PictureInRange-left, PictureInRange-right, PictureInRange-part}
-use Rattle.scm_render.proofs.CanvasLemmas.{with_picture-twice, with_picture-nothing}
-use Rattle.scm_view.specs.Rows.{shown_file, file_rows}
-use Rattle.scm_view.specs.Pictures.{mask_row, is_pinned, pinned_header, file_picture, pinned_picture, one_file_picture}
-use Rattle.scm_render.proofs.StepLemmas.{step, sight-after, InRange-fits}
-use Rattle.scm_view.proofs.RowsLemmas.{on-ok}
-use Rattle.scm_view.proofs.SectionsLemmas.{file-fits}
-use Rattle.scm_cells.specs.Counts.{added}
-use Rattle.scm_view.specs.Counts.{file_counts, pinned_counts}
+use Rattle.scm_render.specs.Picture.{part}
+use Rattle.scm_render.specs.Canvas.{Sight, under}
+use Rattle.scm_render.proofs.PictureLemmas.{PictureInRange-left, PictureInRange-part}
+use Rattle.scm_render.proofs.StepLemmas.{InRange-fits}
 use Rattle.scm_render.proofs.CountLemmas.{counts-then}
-use Rattle.scm_view.proofs.CountLemmas.{plus-none}
+use Rattle.scm_view.specs.declared.file_view.FileView.{FileView}
+use Rattle.scm_view.specs.Rows.{file_id, shown_file, file_rows}
+use Rattle.scm_view.specs.Pictures.{IdPicture, file_mask, file_picture, pinned_picture, one_file_picture}
+use Rattle.scm_view.proofs.SectionsLemmas.{file-fits}
+use Rattle.scm_view.proofs.ExtentLemmas.{sight-to, then-drawn, rest-to, masked-to}
 use Rattle.scm_view.proofs.commit_view.draw_file.Goals as goal
+
+abbrev one : FileView → ℤ → ℤ → Sight → IdPicture
+one v x y s = part (file_id v.file_key) (file_picture v s x y)
+
+abbrev pinned : FileView → ℤ → ℤ → Sight → IdPicture
+pinned v x y s = pinned_picture (shown_file v) s x y
 
 pub row_below-below-requires-clause-y : goal.row_below-below-requires-clause-y
 unfolding one_file_picture
@@ -38,72 +43,86 @@ file_mask-rows-requires-clause-y c =
     let fy : FitsSigned w64 c.args.y = c.ranges.y in
     simp to_z-of_z (file-fits (shown_file c.args.file.now) _ _ _ (PictureInRange-part _ _ (PictureInRange-left _ _ c.requires))).top
 
-pub draw_under-requires-clause-picture : goal.draw_under-requires-clause-picture
+pub draw_rows-requires-clause-below : goal.draw_rows-requires-clause-below
+unfolding one_file_picture
+draw_rows-requires-clause-below c =
+    let fy : FitsSigned w64 c.args.y = c.ranges.y in
+    let f = shown_file c.args.file.now in
+    let fits = file-fits f _ _ _ (PictureInRange-part _ _ (PictureInRange-left _ _ c.requires)) in
+    let fb : FitsSigned w64 (c.args.y +ℤ pos (length (file_rows f))) = InRange-fits _ fits.end in
+    let below = simp to_z-of_z at c.row_below-below.ensures in
+    rw below (simp to_z-of_z refl)
+
+pub draw_rows-requires-clause-picture : goal.draw_rows-requires-clause-picture
 unfolding one_file_picture file_picture shown_file
-draw_under-requires-clause-picture c =
+draw_rows-requires-clause-picture c =
     let fx : FitsSigned w64 c.args.x = c.ranges.x in
     let fy : FitsSigned w64 c.args.y = c.ranges.y in
-    rw c.file_mask-rows.ensures.mask (simp to_z-of_z (PictureInRange-left _ _ c.requires))
-
-pub draw_pinned-requires : goal.draw_pinned-requires
-unfolding one_file_picture pinned_picture
-draw_pinned-requires c =
-    let fx : FitsSigned w64 c.args.x = c.ranges.x in
-    let fy : FitsSigned w64 c.args.y = c.ranges.y in
-    let s = c.args.viewport.now.canvas.sight in
     let f = shown_file c.args.file.now in
     let fits = file-fits f _ _ _ (PictureInRange-part _ _ (PictureInRange-left _ _ c.requires)) in
-    let ft : FitsSigned w64 (mask_row s) = InRange-fits _ (rw c.mask_row-top.ensures.row at c.mask_row-top.ensures.in_range) in
     let fb : FitsSigned w64 (c.args.y +ℤ pos (length (file_rows f))) = InRange-fits _ fits.end in
     let below = simp to_z-of_z at c.row_below-below.ensures in
-    let between = simp to_z-of_z at (rw (c.mask_row-top.ensures.row, below) at c.is_between.ensures) in
-    let test : is_pinned (mask_row s) c.args.y (length (file_rows f)) ≡ true = sym between ∙ c.if-is_between.true in
-    let drawn = simp to_z-of_z at (rw c.file_mask-rows.ensures.mask at c.in_ok-draw_under.ensures.ok) in
-    let same = sight-after _ _ _ drawn in
-    rw (c.mask_row-top.ensures.row, same) (simp to_z-of_z (rw test at (PictureInRange-right _ _ c.requires)))
-
-pub returns-then-is_between : goal.returns-then-is_between
-unfolding one_file_picture pinned_picture file_picture shown_file pinned_counts
-returns-then-is_between c =
-    let fx : FitsSigned w64 c.args.x = c.ranges.x in
-    let fy : FitsSigned w64 c.args.y = c.ranges.y in
     let s = c.args.viewport.now.canvas.sight in
+    let mask = simp to_z-of_z at c.file_mask-rows.ensures.mask in
+    let seen : c.swap_mask-outer.new.self.canvas.sight ≡ under (file_mask s c.args.x c.args.y) s = ap (λ v. v.sight) c.swap_mask-outer.ensures.new ∙ ap (λ m. under m s) mask in
+    rw seen (simp to_z-of_z (PictureInRange-left _ _ c.requires))
+
+pub draw_pinned-requires-clause-below : goal.draw_pinned-requires-clause-below
+unfolding one_file_picture
+draw_pinned-requires-clause-below c =
+    let fy : FitsSigned w64 c.args.y = c.ranges.y in
     let f = shown_file c.args.file.now in
     let fits = file-fits f _ _ _ (PictureInRange-part _ _ (PictureInRange-left _ _ c.requires)) in
-    let ft : FitsSigned w64 (mask_row s) = InRange-fits _ (rw c.mask_row-top.ensures.row at c.mask_row-top.ensures.in_range) in
     let fb : FitsSigned w64 (c.args.y +ℤ pos (length (file_rows f))) = InRange-fits _ fits.end in
     let below = simp to_z-of_z at c.row_below-below.ensures in
-    let between = simp to_z-of_z at (rw (c.mask_row-top.ensures.row, below) at c.is_between.ensures) in
-    let test : is_pinned (mask_row s) c.args.y (length (file_rows f)) ≡ true = sym between ∙ c.if-is_between.true in
-    let drawn = simp to_z-of_z at (rw c.file_mask-rows.ensures.mask at c.in_ok-draw_under.ensures.ok) in
-    let same = sight-after _ _ _ drawn in
-    let counted = simp to_z-of_z at c.in_ok-draw_under.ensures.counts in
+    rw below (simp to_z-of_z refl)
+
+pub draw_pinned-requires-clause-picture : goal.draw_pinned-requires-clause-picture
+unfolding one_file_picture file_picture shown_file
+draw_pinned-requires-clause-picture c =
+    let fx : FitsSigned w64 c.args.x = c.ranges.x in
+    let fy : FitsSigned w64 c.args.y = c.ranges.y in
+    let f = shown_file c.args.file.now in
+    let fits = file-fits f _ _ _ (PictureInRange-part _ _ (PictureInRange-left _ _ c.requires)) in
+    let fb : FitsSigned w64 (c.args.y +ℤ pos (length (file_rows f))) = InRange-fits _ fits.end in
+    let below = simp to_z-of_z at c.row_below-below.ensures in
+    let s = c.args.viewport.now.canvas.sight in
+    let mask = simp to_z-of_z at c.file_mask-rows.ensures.mask in
+    let seen : c.swap_mask-outer.new.self.canvas.sight ≡ under (file_mask s c.args.x c.args.y) s = ap (λ v. v.sight) c.swap_mask-outer.ensures.new ∙ ap (λ m. under m s) mask in
+    let drawn = rw mask at (masked-to c.args.extent _ c.swap_mask-outer.new.self.canvas c.draw_rows.new.viewport.canvas _ c.file_mask-rows.result (one c.args.file.now c.args.x c.args.y) c.swap_mask-outer.ensures.new
+    (simp to_z-of_z at c.in_ok-draw_rows.ensures.ok) (rw c.swap_mask-outer.ensures.old at c.swap_mask.ensures.new)) in
+    let same = sight-to c.args.extent _ _ _ drawn in
+    simp to_z-of_z (rest-to c.args.extent _ _ _ (pinned c.args.file.now c.args.x c.args.y) drawn c.requires)
+
+pub returns-clause-draws : goal.returns-clause-draws
+unfolding one_file_picture file_picture shown_file
+returns-clause-draws c =
+    let fx : FitsSigned w64 c.args.x = c.ranges.x in
+    let fy : FitsSigned w64 c.args.y = c.ranges.y in
+    let f = shown_file c.args.file.now in
+    let fits = file-fits f _ _ _ (PictureInRange-part _ _ (PictureInRange-left _ _ c.requires)) in
+    let fb : FitsSigned w64 (c.args.y +ℤ pos (length (file_rows f))) = InRange-fits _ fits.end in
+    let below = simp to_z-of_z at c.row_below-below.ensures in
+    let s = c.args.viewport.now.canvas.sight in
+    let mask = simp to_z-of_z at c.file_mask-rows.ensures.mask in
+    let seen : c.swap_mask-outer.new.self.canvas.sight ≡ under (file_mask s c.args.x c.args.y) s = ap (λ v. v.sight) c.swap_mask-outer.ensures.new ∙ ap (λ m. under m s) mask in
+    let drawn = rw mask at (masked-to c.args.extent _ c.swap_mask-outer.new.self.canvas c.draw_rows.new.viewport.canvas _ c.file_mask-rows.result (one c.args.file.now c.args.x c.args.y) c.swap_mask-outer.ensures.new
+    (simp to_z-of_z at c.in_ok-draw_rows.ensures.ok) (rw c.swap_mask-outer.ensures.old at c.swap_mask.ensures.new)) in
+    let same = sight-to c.args.extent _ _ _ drawn in
+    let counted = c.swap_mask.ensures.counts ∙ rw c.swap_mask-outer.ensures.counts at (rw seen at (simp to_z-of_z at c.in_ok-draw_rows.ensures.counts)) in
     record {
-      ok = rw test (on-ok _ (step _ _ _ _ (λ t. pinned_header f t c.args.x (mask_row s)) drawn) (simp to_z-of_z at (rw c.mask_row-top.ensures.row at c.draw_pinned.ensures.ok)));
-      counts = rw test (on-ok _ (counts-then _ _ _ _ _ counted) (rw c.in_ok-draw_under.ensures.rect at (simp to_z-of_z at (rw c.mask_row-top.ensures.row at c.draw_pinned.ensures.counts))));
+      ok = then-drawn c.args.extent _ _ _ _ (pinned c.args.file.now c.args.x c.args.y) drawn (simp to_z-of_z at c.in_ok-draw_pinned.ensures.ok);
+      counts = counts-then _ _ _ _ _ counted (rw same at (simp to_z-of_z at c.in_ok-draw_pinned.ensures.counts));
       rect = search rules;
       err = search rules;
     }
 
-pub returns-else-is_between : goal.returns-else-is_between
-unfolding one_file_picture pinned_picture file_picture shown_file pinned_counts
-returns-else-is_between c =
-    let fx : FitsSigned w64 c.args.x = c.ranges.x in
+pub returns-clause-below : goal.returns-clause-below
+unfolding one_file_picture
+returns-clause-below c =
     let fy : FitsSigned w64 c.args.y = c.ranges.y in
-    let s = c.args.viewport.now.canvas.sight in
     let f = shown_file c.args.file.now in
     let fits = file-fits f _ _ _ (PictureInRange-part _ _ (PictureInRange-left _ _ c.requires)) in
-    let ft : FitsSigned w64 (mask_row s) = InRange-fits _ (rw c.mask_row-top.ensures.row at c.mask_row-top.ensures.in_range) in
     let fb : FitsSigned w64 (c.args.y +ℤ pos (length (file_rows f))) = InRange-fits _ fits.end in
     let below = simp to_z-of_z at c.row_below-below.ensures in
-    let between = simp to_z-of_z at (rw (c.mask_row-top.ensures.row, below) at c.is_between.ensures) in
-    let test : is_pinned (mask_row s) c.args.y (length (file_rows f)) ≡ false = sym between ∙ c.if-is_between.false in
-    let drawn = simp to_z-of_z at (rw c.file_mask-rows.ensures.mask at c.in_ok-draw_under.ensures.ok) in
-    let same = sight-after _ _ _ drawn in
-    let counted = simp to_z-of_z at c.in_ok-draw_under.ensures.counts in
-    record {
-      ok = rw test (with_picture-twice _ _ _ _ _ drawn (sym (with_picture-nothing _)));
-      counts = rw test (counted ∙ ap (added c.args.viewport.now.counts) (sym (plus-none (file_counts f s.rect c.args.y))));
-      rect = search rules;
-      err = search rules;
-    }
+    rw below (simp to_z-of_z refl)

@@ -1,40 +1,54 @@
-use Rattle.std.proofs.Common.{rules, FitsSigned, w64}
+use Rattle.std.proofs.Common.{rules, ◌≡◌, ◌∙◌, sym, length, true, false, FitsSigned, w64}
 use Rattle.std.proofs.lemmas.Int.{to_z-of_z}
-use Rattle.scm_view.specs.Rows.{shown_file}
-use Rattle.scm_view.specs.Pictures.{row_picture, header_picture}
-use Rattle.scm_view.proofs.SectionsLemmas.{header-fits}
+use Rattle.scm_render.proofs.CanvasLemmas.{with_picture-nothing}
+use Rattle.scm_render.proofs.CountLemmas.{added-none}
+use Rattle.scm_render.proofs.StepLemmas.{InRange-fits}
+use Rattle.scm_view.specs.Rows.{shown_file, file_rows}
+use Rattle.scm_view.specs.Pictures.{mask_row, is_pinned, pinned_picture}
+use Rattle.scm_view.specs.Counts.{pinned_counts}
 use Rattle.scm_view.proofs.commit_view.draw_pinned.Goals as goal
 
-pub pinned_mask-row-requires-clause-x : goal.pinned_mask-row-requires-clause-x
-pinned_mask-row-requires-clause-x c =
-    let fx : FitsSigned w64 c.args.x = c.ranges.x in
-    simp to_z-of_z (header-fits (shown_file c.args.file.now) _ _ _ c.requires).0
-
-pub pinned_mask-row-requires-clause-y : goal.pinned_mask-row-requires-clause-y
-pinned_mask-row-requires-clause-y c =
-    let fy : FitsSigned w64 c.args.y = c.ranges.y in
-    simp to_z-of_z (header-fits (shown_file c.args.file.now) _ _ _ c.requires).1
-
-pub pinned_mask-row-requires-clause-end : goal.pinned_mask-row-requires-clause-end
-pinned_mask-row-requires-clause-end c =
-    let fy : FitsSigned w64 c.args.y = c.ranges.y in
-    simp to_z-of_z (header-fits (shown_file c.args.file.now) _ _ _ c.requires).2
-
-pub draw_under-requires-clause-picture : goal.draw_under-requires-clause-picture
-unfolding row_picture header_picture shown_file
-draw_under-requires-clause-picture c =
+pub draw_header-requires : goal.draw_header-requires
+unfolding pinned_picture
+draw_header-requires c =
     let fx : FitsSigned w64 c.args.x = c.ranges.x in
     let fy : FitsSigned w64 c.args.y = c.ranges.y in
-    rw (c.header-header.ensures.key, c.header-header.ensures.heading, c.pinned_mask-row.ensures.mask) (simp to_z-of_z c.requires)
+    let s = c.args.viewport.now.canvas.sight in
+    let ft : FitsSigned w64 (mask_row s) = InRange-fits _ (rw c.mask_row-row.ensures.row at c.mask_row-row.ensures.in_range) in
+    let fb : FitsSigned w64 c.args.below = c.ranges.below in
+    let between = rw c.requires.below at (simp to_z-of_z at (rw c.mask_row-row.ensures.row at c.is_between.ensures)) in
+    let test : is_pinned (mask_row s) c.args.y (length (file_rows (shown_file c.args.file.now))) ≡ true = sym between ∙ c.if-is_between.true in
+    rw c.mask_row-row.ensures.row (simp to_z-of_z (rw test at c.requires.picture))
 
-pub returns : goal.returns
-unfolding row_picture header_picture shown_file
-returns c =
+pub returns-then-is_between : goal.returns-then-is_between
+unfolding pinned_picture pinned_counts
+returns-then-is_between c =
     let fx : FitsSigned w64 c.args.x = c.ranges.x in
     let fy : FitsSigned w64 c.args.y = c.ranges.y in
+    let s = c.args.viewport.now.canvas.sight in
+    let ft : FitsSigned w64 (mask_row s) = InRange-fits _ (rw c.mask_row-row.ensures.row at c.mask_row-row.ensures.in_range) in
+    let fb : FitsSigned w64 c.args.below = c.ranges.below in
+    let between = rw c.requires.below at (simp to_z-of_z at (rw c.mask_row-row.ensures.row at c.is_between.ensures)) in
+    let test : is_pinned (mask_row s) c.args.y (length (file_rows (shown_file c.args.file.now))) ≡ true = sym between ∙ c.if-is_between.true in
     record {
-      ok = simp to_z-of_z at (rw (c.header-header.ensures.key, c.header-header.ensures.heading, c.pinned_mask-row.ensures.mask) at c.draw_under.ensures.ok);
-      counts = simp to_z-of_z at c.draw_under.ensures.counts;
+      ok = rw test (simp to_z-of_z at (rw c.mask_row-row.ensures.row at c.draw_header.ensures.ok));
+      counts = rw test (simp to_z-of_z at (rw c.mask_row-row.ensures.row at c.draw_header.ensures.counts));
+      rect = search rules;
+      err = search rules;
+    }
+
+pub returns-else-is_between : goal.returns-else-is_between
+unfolding pinned_picture pinned_counts
+returns-else-is_between c =
+    let fy : FitsSigned w64 c.args.y = c.ranges.y in
+    let s = c.args.viewport.now.canvas.sight in
+    let ft : FitsSigned w64 (mask_row s) = InRange-fits _ (rw c.mask_row-row.ensures.row at c.mask_row-row.ensures.in_range) in
+    let fb : FitsSigned w64 c.args.below = c.ranges.below in
+    let between = rw c.requires.below at (simp to_z-of_z at (rw c.mask_row-row.ensures.row at c.is_between.ensures)) in
+    let test : is_pinned (mask_row s) c.args.y (length (file_rows (shown_file c.args.file.now))) ≡ false = sym between ∙ c.if-is_between.false in
+    record {
+      ok = rw test (sym (with_picture-nothing _));
+      counts = rw test (sym (added-none _));
       rect = search rules;
       err = search rules;
     }

@@ -1,11 +1,14 @@
 use Rattle.std.proofs.Common.{rules, ◌∙◌, [], refl, ap, sym, FitsSigned, w64}
 use Rattle.std.proofs.lemmas.Int.{to_z-of_z}
 use Rattle.scm_cells.specs.Counts.{added}
-use Rattle.scm_render.proofs.CanvasLemmas.{with_picture-nothing}
 use Rattle.scm_render.proofs.CountLemmas.{added-none}
+use Rattle.scm_render.proofs.PictureLemmas.{PictureInRange-part}
 use Rattle.scm_view.specs.Pictures.{section_picture, sections_picture}
-use Rattle.scm_view.proofs.SectionsLemmas.{one-first, one-alone}
+use Rattle.scm_view.proofs.RowsLemmas.{on-ok}
+use Rattle.scm_view.proofs.SectionsLemmas.{one-first, one-alone, one-height, sections-in}
 use Rattle.scm_view.proofs.CountLemmas.{sections_counts-one, sections_counts-none}
+use Rattle.scm_view.proofs.PaintsLemmas.{one-painted, one-counted}
+use Rattle.scm_view.proofs.ExtentLemmas.{nothing-to}
 use Rattle.scm_view.proofs.file_view.draw_section.Goals as goal
 
 pub draw_component-requires : goal.draw_component-requires
@@ -13,16 +16,41 @@ unfolding section_picture
 draw_component-requires c =
     let fx : FitsSigned w64 c.args.x = c.ranges.x in
     let fy : FitsSigned w64 c.args.y = c.ranges.y in
-    simp to_z-of_z (one-first _ _ _ _ (rw c.if-is_shown.true at c.requires))
+    simp to_z-of_z (one-first _ _ _ _ (rw c.if-is_shown.true at c.requires.picture))
 
-pub returns-in_ok-draw_component : goal.returns-in_ok-draw_component
+pub paint-requires-clause-end : goal.paint-requires-clause-end
+paint-requires-clause-end c =
+    let fx : FitsSigned w64 c.args.x = c.ranges.x in
+    let fy : FitsSigned w64 c.args.y = c.ranges.y in
+    simp to_z-of_z (rw (one-height c.args.view.now) at (sections-in _ _ _ _ c.requires.y (rw c.if-is_shown.true at c.requires.picture)))
+
+pub paint-requires-clause-picture : goal.paint-requires-clause-picture
 unfolding section_picture
-returns-in_ok-draw_component c =
+paint-requires-clause-picture c =
+    let fx : FitsSigned w64 c.args.x = c.ranges.x in
+    let fy : FitsSigned w64 c.args.y = c.ranges.y in
+    simp to_z-of_z (PictureInRange-part _ _ (one-first _ _ _ _ (rw c.if-is_shown.true at c.requires.picture)))
+
+pub returns-in_ok-draw_component-in-Whole : goal.returns-in_ok-draw_component-in-Whole
+unfolding section_picture
+returns-in_ok-draw_component-in-Whole c =
     let fx : FitsSigned w64 c.args.x = c.ranges.x in
     let fy : FitsSigned w64 c.args.y = c.ranges.y in
     record {
-      ok = rw c.if-is_shown.true (one-alone _ _ _ _ _ (simp to_z-of_z at c.in_ok-draw_component.ensures.draws.ok));
-      counts = rw c.if-is_shown.true (simp to_z-of_z at c.in_ok-draw_component.ensures.draws.counts ∙ ap (added c.args.viewport.now.counts) (sym (sections_counts-one _ _ _)));
+      ok = rw (c.in-Whole.is, c.if-is_shown.true) (one-alone _ _ _ _ _ (simp to_z-of_z at c.in_ok-draw_component-in-Whole.ensures.draws.ok));
+      counts = rw c.if-is_shown.true (simp to_z-of_z at c.in_ok-draw_component-in-Whole.ensures.draws.counts ∙ ap (added c.args.viewport.now.counts) (sym (sections_counts-one _ _ _)));
+      rect = search rules;
+      err = search rules;
+    }
+
+pub returns-in-Screen : goal.returns-in-Screen
+unfolding section_picture
+returns-in-Screen c =
+    let fx : FitsSigned w64 c.args.x = c.ranges.x in
+    let fy : FitsSigned w64 c.args.y = c.ranges.y in
+    record {
+      ok = rw (c.in-Screen.is, c.if-is_shown.true) (on-ok _ (one-painted _ _ _ _ _) (simp to_z-of_z at c.paint.ensures.ok));
+      counts = rw c.if-is_shown.true (on-ok _ (one-counted _ _ _ _ _) (simp to_z-of_z at c.paint.ensures.counts));
       rect = search rules;
       err = search rules;
     }
@@ -31,7 +59,7 @@ pub returns-else-is_shown : goal.returns-else-is_shown
 unfolding sections_picture
 returns-else-is_shown c =
     record {
-      ok = rw c.if-is_shown.false (sym (with_picture-nothing _));
+      ok = rw c.if-is_shown.false (nothing-to c.args.extent _);
       counts = rw c.if-is_shown.false (sym (added-none _) ∙ ap (added c.args.viewport.now.counts) (sym (sections_counts-none [] _ _ refl)));
       rect = search rules;
       err = search rules;

@@ -1,21 +1,19 @@
 use Rattle.std.proofs.Common.{◌≡◌, drop, false}
 use Rattle.scm_cells.specs.Rect.{InRange}
-use Rattle.scm_render.specs.Picture.{PictureInRange}
-use Rattle.scm_render.specs.Canvas.{with_picture}
-use Rattle.scm_view.specs.Rows.{shown_sections}
 use Rattle.scm_cells.specs.Counts.{added}
+use Rattle.scm_view.specs.Rows.{shown_sections}
 use Rattle.scm_view.specs.Pictures.{sections_picture}
 use Rattle.scm_view.specs.Counts.{sections_counts}
+use Rattle.scm_view.proofs.ExtentLemmas.{IsToDraw}
 use Rattle.scm_view.proofs.file_view.draw_sections.Given as goal
 
 abbrev pub invariant-loop-index : goal.invariant-loop-index
 invariant-loop-index l =
-    let rest = sections_picture (shown_sections l.before (drop l.index l.views)) l.fn.viewport.canvas.sight l.x l.row in
     record {
       row : InRange l.row;
-      sight : l.viewport.canvas.sight ≡ l.fn.viewport.canvas.sight;
-      in_range : PictureInRange rest;
       counts : added l.viewport.counts (sections_counts (shown_sections l.before (drop l.index l.views)) l.fn.viewport.canvas.sight.rect l.row)
           ≡ added l.fn.viewport.counts (sections_counts (shown_sections false l.views) l.fn.viewport.canvas.sight.rect l.fn.y);
-      whole : with_picture l.viewport.canvas rest ≡ with_picture l.fn.viewport.canvas (sections_picture (shown_sections false l.views) l.fn.viewport.canvas.sight l.fn.x l.fn.y);
+      left : IsToDraw l.extent l.fn.viewport.canvas l.viewport.canvas
+          (sections_picture (shown_sections l.before (drop l.index l.views)) l.fn.viewport.canvas.sight l.x l.row)
+          (sections_picture (shown_sections false l.views) l.fn.viewport.canvas.sight l.fn.x l.fn.y);
     }

@@ -20,8 +20,8 @@ overflow_add-y c =
     let some = sym c.has_dots.ensures ∙ c.if-has_dots.true in
     simp to_z-of_z (InRange-fits _ (row-end _ _ _ _ (row-first _ _ _ _ _ (rw some at c.requires))))
 
-pub draw_numbered-requires-clause-picture : goal.draw_numbered-requires-clause-picture
-draw_numbered-requires-clause-picture c =
+pub draw_lines-requires-clause-picture : goal.draw_lines-requires-clause-picture
+draw_lines-requires-clause-picture c =
     let fx : FitsSigned w64 c.args.x = c.ranges.x in
     let fy : FitsSigned w64 c.args.y = c.ranges.y in
     let some = sym c.has_dots.ensures ∙ c.if-has_dots.true in
@@ -41,11 +41,11 @@ returns-in_ok-draw_dots c =
       ok =
           let dots = simp to_z-of_z at c.in_ok-draw_dots.ensures.ok in
           rw some (on-ok _ (row-then _ _ _ _ _ _ _ dots)
-          (rw (take-rest c.first_below-first.result c.args.lines.now, c.first_below-first.ensures.line) at (simp to_z-of_z at c.draw_numbered.ensures.ok)));
+          (rw (take-rest c.first_below-first.result c.args.lines.now, c.first_below-first.ensures.line) at (simp to_z-of_z at c.draw_lines.ensures.ok)));
       counts =
           let dots = simp to_z-of_z at c.in_ok-draw_dots.ensures.counts in
           rw some (on-ok _ (row-counted _ _ _ _ _ _ _ _ c.in_ok-draw_dots.ensures.rect dots)
-          (rw (take-rest c.first_below-first.result c.args.lines.now, c.first_below-first.ensures.line) at (simp to_z-of_z at c.draw_numbered.ensures.counts)));
+          (rw (take-rest c.first_below-first.result c.args.lines.now, c.first_below-first.ensures.line) at (simp to_z-of_z at c.draw_lines.ensures.counts)));
       rect = search rules;
       err = search rules;
     }

@@ -2,7 +2,8 @@ use Rattle.std.proofs.Common.{rules, ◌∙◌, sym, FitsSigned, w64}
 use Rattle.std.specs.Prelude.{pos, ◌+ℤ◌}
 use Rattle.std.proofs.lemmas.Int.{to_z-of_z}
 use Rattle.scm_render.proofs.StepLemmas.{InRange-fits}
-use Rattle.scm_view.proofs.RowsLemmas.{row-first, row-rest, row-then, row-alone, row-end, on-ok}
+use Rattle.scm_view.proofs.RowsLemmas.{row-first, row-rest, row-end, on-ok}
+use Rattle.scm_view.proofs.ExtentLemmas.{row-to, row-alone-to}
 use Rattle.scm_view.proofs.CountLemmas.{row-counted, row-counted-alone}
 use Rattle.scm_view.proofs.section_view.SectionView.draw_changed.Goals as goal
 
@@ -18,8 +19,8 @@ overflow_add-y c =
     let fy : FitsSigned w64 c.args.y = c.ranges.y in
     simp to_z-of_z (InRange-fits _ (row-end _ _ _ _ (row-first _ _ _ _ _ c.requires)))
 
-pub draw_changed_lines-requires-clause-picture : goal.draw_changed_lines-requires-clause-picture
-draw_changed_lines-requires-clause-picture c =
+pub draw_changed_lines-requires : goal.draw_changed_lines-requires
+draw_changed_lines-requires c =
     let fx : FitsSigned w64 c.args.x = c.ranges.x in
     let fy : FitsSigned w64 c.args.y = c.ranges.y in
     let next : FitsSigned w64 (c.args.y +ℤ pos 1) = InRange-fits _ (row-end _ _ _ _ (row-first _ _ _ _ _ c.requires)) in
@@ -36,7 +37,7 @@ returns-then-is_open c =
       ok =
           let header = simp to_z-of_z at c.in_ok-draw_header.ensures.ok in
           let shown = sym c.is_open.ensures ∙ c.if-is_open.true in
-          rw shown (on-ok _ (row-then _ _ _ _ _ _ _ header) (simp to_z-of_z at c.draw_changed_lines.ensures.ok));
+          rw shown (on-ok _ (row-to c.args.extent _ _ _ _ _ _ _ header) (simp to_z-of_z at c.draw_changed_lines.ensures.ok));
       counts =
           let header = simp to_z-of_z at c.in_ok-draw_header.ensures.counts in
           let shown = sym c.is_open.ensures ∙ c.if-is_open.true in
@@ -51,7 +52,7 @@ returns-else-is_open c =
     let fy : FitsSigned w64 c.args.y = c.ranges.y in
     let folded = sym c.is_open.ensures ∙ c.if-is_open.false in
     record {
-      ok = rw folded (row-alone _ _ _ _ _ (simp to_z-of_z at c.in_ok-draw_header.ensures.ok));
+      ok = rw folded (row-alone-to c.args.extent _ _ _ _ _ (simp to_z-of_z at c.in_ok-draw_header.ensures.ok));
       counts = rw folded (row-counted-alone _ _ _ _ _ (simp to_z-of_z at c.in_ok-draw_header.ensures.counts));
       rect = search rules;
       err = search rules;

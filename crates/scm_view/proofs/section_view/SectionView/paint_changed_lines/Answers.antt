@@ -8,8 +8,8 @@ use Rattle.scm_view.proofs.RowsLemmas.{on-ok, take-rest}
 use Rattle.scm_view.proofs.PaintsLemmas.{cut-at, lines-in, lines-fit, lines-painted, lines-counted}
 use Rattle.scm_view.proofs.section_view.SectionView.paint_changed_lines.Goals as goal
 
-pub draw_changed_lines-requires-clause-picture : goal.draw_changed_lines-requires-clause-picture
-draw_changed_lines-requires-clause-picture c =
+pub draw_lines-requires-clause-picture : goal.draw_lines-requires-clause-picture
+draw_lines-requires-clause-picture c =
     let fx : FitsSigned w64 c.args.x = c.ranges.x in
     let fy : FitsSigned w64 c.args.y = c.ranges.y in
     let s = c.args.viewport.now.canvas.sight in
@@ -41,10 +41,10 @@ returns c =
     record {
       ok =
           on-ok _ (lines-painted c.args.viewport.now.canvas _ c.args.self.now ls c.args.x c.args.y _ _ (rw c.rect-screen.ensures.value at c.rect-screen.ensures.rows) first end)
-          (simp to_z-of_z at (rw (take-rest c.rows_above-first.result (take c.rows_above-end.result ls), row) at c.draw_changed_lines.ensures.ok));
+          (simp to_z-of_z at (rw (take-rest c.rows_above-first.result (take c.rows_above-end.result ls), row) at c.draw_lines.ensures.ok));
       counts =
           on-ok _ (lines-counted _ _ s.rect c.args.self.now ls c.args.y _ _ first end)
-          (simp to_z-of_z at (rw (take-rest c.rows_above-first.result (take c.rows_above-end.result ls), row) at c.draw_changed_lines.ensures.counts));
+          (simp to_z-of_z at (rw (take-rest c.rows_above-first.result (take c.rows_above-end.result ls), row) at c.draw_lines.ensures.counts));
       rect = search rules;
       err = search rules;
     }

@@ -5,12 +5,13 @@ use Rattle.scm_render.specs.Canvas.{Sight}
 use Rattle.scm_render.proofs.PictureLemmas.{PictureInRange-left}
 use Rattle.scm_view.specs.Rows.{ShownFile, shown_file, message_height}
 use Rattle.scm_view.specs.Pictures.{IdPicture, commit_message_picture, body_picture, document_picture, commit_picture}
-use Rattle.scm_view.proofs.PaintsLemmas.{drawn-painted, painted-step, rest-in}
+use Rattle.scm_render.proofs.StepLemmas.{rest}
 use Rattle.scm_view.proofs.RowsLemmas.{on-ok}
 use Rattle.scm_view.specs.Counts.{document_counts}
+use Rattle.scm_view.proofs.ExtentLemmas.{drawn-then}
 use Rattle.scm_render.proofs.CountLemmas.{counts-then}
 use Rattle.scm_render.proofs.StepLemmas.{sight-after}
-use Rattle.scm_view.proofs.commit_view.CommitView.paint.Goals as goal
+use Rattle.scm_view.proofs.commit_view.CommitView.draw_rows.Goals as goal
 
 abbrev body : List ShownFile → ℕ → ℤ → ℤ → Sight → IdPicture
 body fs n x y s = body_picture fs s x y (y +ℤ pos n)
@@ -22,14 +23,14 @@ draw_component-requires c =
     let fy : FitsSigned w64 c.args.y = c.ranges.y in
     simp to_z-of_z (PictureInRange-left _ _ c.requires)
 
-pub paint_body-requires : goal.paint_body-requires
+pub draw_body-requires : goal.draw_body-requires
 unfolding commit_picture document_picture commit_message_picture
-paint_body-requires c =
+draw_body-requires c =
     let fx : FitsSigned w64 c.args.x = c.ranges.x in
     let fy : FitsSigned w64 c.args.y = c.ranges.y in
     let v = c.args.self.now in
     let message = simp to_z-of_z at c.in_ok-draw_component.ensures.draws.ok in
-    rw (c.as_slice.ensures, c.height-height.ensures) (simp to_z-of_z (rest-in _ _ _ (body (map shown_file v.file_views) (message_height v.commit_message_view.commit.now.message) c.args.x c.args.y) (drawn-painted _ _ _ message) c.requires))
+    rw (c.as_slice-files.ensures, c.height-height.ensures) (simp to_z-of_z (rest _ _ _ (body (map shown_file v.file_views) (message_height v.commit_message_view.commit.now.message) c.args.x c.args.y) message c.requires))
 
 pub returns : goal.returns
 unfolding commit_picture document_picture commit_message_picture document_counts
@@ -41,11 +42,11 @@ returns c =
     let counted = simp to_z-of_z at c.in_ok-draw_component.ensures.draws.counts in
     record {
       ok =
-          on-ok _ (painted-step _ _ _ _ (body (map shown_file v.file_views) (message_height v.commit_message_view.commit.now.message) c.args.x c.args.y) (drawn-painted _ _ _ message))
-          (rw (c.as_slice.ensures, c.height-height.ensures) at (simp to_z-of_z at c.paint_body.ensures.ok));
+          on-ok _ (drawn-then c.args.extent _ _ _ _ (body (map shown_file v.file_views) (message_height v.commit_message_view.commit.now.message) c.args.x c.args.y) message)
+          (rw (c.as_slice-files.ensures, c.height-height.ensures) at (simp to_z-of_z at c.draw_body.ensures.ok));
       counts =
           on-ok _ (counts-then _ _ _ _ _ counted)
-          (rw (c.as_slice.ensures, c.height-height.ensures, sight-after _ _ _ message) at (simp to_z-of_z at c.paint_body.ensures.counts));
+          (rw (c.as_slice-files.ensures, c.height-height.ensures, sight-after _ _ _ message) at (simp to_z-of_z at c.draw_body.ensures.counts));
       rect = search rules;
       err = search rules;
     }

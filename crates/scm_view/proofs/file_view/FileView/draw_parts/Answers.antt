@@ -9,13 +9,13 @@ use Rattle.scm_cells.specs.Counts.{added, plus}
 use Rattle.scm_view.specs.Counts.{file_counts, header_counts}
 use Rattle.scm_view.specs.Rows.{ShownSection, shown_file, shown_sections}
 use Rattle.scm_view.specs.Pictures.{IdPicture, row_picture, header_picture, sections_picture, shown_file_picture, file_picture}
-use Rattle.scm_render.proofs.StepLemmas.{InRange-fits}
-use Rattle.scm_view.proofs.PaintsLemmas.{drawn-painted, painted-step, rest-in}
+use Rattle.scm_render.proofs.StepLemmas.{rest, InRange-fits}
+use Rattle.scm_view.proofs.ExtentLemmas.{drawn-to, drawn-then}
 use Rattle.scm_view.proofs.HeadingLemmas.{heading-rect}
 use Rattle.scm_view.proofs.RowsLemmas.{row-end, on-ok, followed-nothing}
 use Rattle.scm_render.proofs.CountLemmas.{counts-then}
 use Rattle.scm_view.proofs.CountLemmas.{plus-none, sections_counts-none}
-use Rattle.scm_view.proofs.file_view.FileView.paint_parts.Goals as goal
+use Rattle.scm_view.proofs.file_view.FileView.draw_parts.Goals as goal
 
 two-more : (z : ℤ) → InRange z → FitsSigned w64 (z +ℤ pos 2)
 two-more z r = omega (arith, places)
@@ -42,17 +42,17 @@ overflow_add-y c =
     let fy : FitsSigned w64 c.args.y = c.ranges.y in
     simp to_z-of_z (InRange-fits _ (row-end _ _ _ _ (PictureInRange-left _ _ c.requires)))
 
-pub paint_sections-requires-clause-y : goal.paint_sections-requires-clause-y
+pub draw_sections-requires-clause-y : goal.draw_sections-requires-clause-y
 unfolding file_picture shown_file_picture
-paint_sections-requires-clause-y c =
+draw_sections-requires-clause-y c =
     let fy : FitsSigned w64 c.args.y = c.ranges.y in
     let next : InRange (c.args.y +ℤ pos 1) = row-end _ _ _ _ (PictureInRange-left _ _ c.requires) in
     let fits : FitsSigned w64 (c.args.y +ℤ pos 1) = InRange-fits _ next in
     simp to_z-of_z next
 
-pub paint_sections-requires-clause-picture : goal.paint_sections-requires-clause-picture
+pub draw_sections-requires-clause-picture : goal.draw_sections-requires-clause-picture
 unfolding file_picture shown_file_picture shown_file row_picture header_picture
-paint_sections-requires-clause-picture c =
+draw_sections-requires-clause-picture c =
     let fx : FitsSigned w64 c.args.x = c.ranges.x in
     let fy : FitsSigned w64 c.args.y = c.ranges.y in
     let shown = sym c.is_open.ensures ∙ c.if-is_open.true in
@@ -60,7 +60,7 @@ paint_sections-requires-clause-picture c =
     let wide : FitsSigned w64 (c.args.x +ℤ pos 2) = two-more _ (heading-rect _ _ _ _ (PictureInRange-part _ _ (PictureInRange-left _ _ all))).x in
     let fits : FitsSigned w64 (c.args.y +ℤ pos 1) = InRange-fits _ (heading-rect _ _ _ _ (PictureInRange-part _ _ (PictureInRange-left _ _ all))).end_y in
     let header = rw (c.header-header.ensures.key, c.header-header.ensures.heading) at (simp to_z-of_z at c.in_ok-draw_component.ensures.draws.ok) in
-    rw c.as_slice.ensures (simp to_z-of_z (rest-in _ _ _ (below (shown_sections false c.args.self.now.section_views) c.args.x c.args.y) (drawn-painted _ _ _ header) all))
+    rw c.as_slice-views.ensures (simp to_z-of_z (rest _ _ _ (below (shown_sections false c.args.self.now.section_views) c.args.x c.args.y) header all))
 
 pub returns-then-is_open : goal.returns-then-is_open
 unfolding file_picture shown_file_picture shown_file row_picture header_picture file_counts
@@ -74,12 +74,12 @@ returns-then-is_open c =
     record {
       ok =
           let header = rw (c.header-header.ensures.key, c.header-header.ensures.heading) at (simp to_z-of_z at c.in_ok-draw_component.ensures.draws.ok) in
-          rw shown (on-ok _ (painted-step _ _ _ _ (below (shown_sections false c.args.self.now.section_views) c.args.x c.args.y) (drawn-painted _ _ _ header))
-          (rw c.as_slice.ensures at (simp to_z-of_z at c.paint_sections.ensures.ok)));
+          rw shown (on-ok _ (drawn-then c.args.extent _ _ _ _ (below (shown_sections false c.args.self.now.section_views) c.args.x c.args.y) header)
+          (rw c.as_slice-views.ensures at (simp to_z-of_z at c.draw_sections.ensures.ok)));
       counts =
           let header = simp to_z-of_z at c.in_ok-draw_component.ensures.draws.counts in
           rw shown (on-ok _ (counts-then _ _ _ _ _ header)
-          (rw (c.as_slice.ensures, c.in_ok-draw_component.ensures.draws.rect) at (simp to_z-of_z at c.paint_sections.ensures.counts)));
+          (rw (c.as_slice-views.ensures, c.in_ok-draw_component.ensures.draws.rect) at (simp to_z-of_z at c.draw_sections.ensures.counts)));
       rect = search rules;
       err = search rules;
     }
@@ -93,7 +93,7 @@ returns-else-is_open c =
     record {
       ok =
           let header = rw (c.header-header.ensures.key, c.header-header.ensures.heading) at (simp to_z-of_z at c.in_ok-draw_component.ensures.draws.ok) in
-          rw folded (drawn-painted _ _ _ (header ∙ ap (with_picture c.args.viewport.now.canvas) (sym (followed-nothing _))));
+          rw folded (drawn-to c.args.extent _ _ _ (header ∙ ap (with_picture c.args.viewport.now.canvas) (sym (followed-nothing _))));
       counts =
           let header = simp to_z-of_z at c.in_ok-draw_component.ensures.draws.counts in
           rw folded (header ∙ ap (added c.args.viewport.now.counts) (sym (plus-none (header_counts c.args.viewport.now.canvas.sight.rect c.args.y))
