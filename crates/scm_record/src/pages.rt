@@ -13,7 +13,7 @@ use scm_types::File;
 use scm_types::keys::is_key;
 use scm_view::SelectionKey;
 
-/// Which way a page is turned.
+/// Which way the selection moves, by a key or by a page.
 #[derive(Clone, Copy)]
 pub(crate) enum Way {
     /// Towards the document's first row.

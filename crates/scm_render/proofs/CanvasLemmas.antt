@@ -50,10 +50,6 @@ module _ {K : Type 0} where
   pub with_picture-twice : (c d e : Canvas K) (a b : Picture K) → d ≡ with_picture c a → e ≡ with_picture d b → e ≡ with_picture c (followed_by a b)
   with_picture-twice c d e a b p q = q ∙ ap (λ v. with_picture v b) p ∙ with_picture-then c a b
 
-  -- a picture after others: a step of a loop of parts
-  pub with_picture-after : (c d : Canvas K) (a b : Picture K) → d ≡ with_picture c a → with_picture d b ≡ with_picture c (followed_by a b)
-  with_picture-after c d a b p = ap (λ v. with_picture v b) p ∙ with_picture-then c a b
-
   -- a mask is set, a picture is made under it, and the mask before is put back
   pub with_picture-masked : (c d e f : Canvas K) (mask : Mask) (m : Picture K) → d ≡ with_mask (Some mask) c → e ≡ with_picture d m → f ≡ with_mask c.sight.mask e → f ≡ with_picture c m
   unfolding with_picture

@@ -7,7 +7,7 @@ use Rattle.scm_render.specs.Canvas.{Sight, Canvas, with_mask, with_picture, unde
 use Rattle.scm_render.specs.Left.{IsLeft}
 use Rattle.scm_render.proofs.CanvasLemmas.{with_picture-nothing}
 use Rattle.scm_render.proofs.PictureLemmas.{PictureInRange-right}
-use Rattle.scm_render.proofs.StepLemmas.{sight-after, step, masked, left-first, left-part, left-more, left-none}
+use Rattle.scm_render.proofs.StepLemmas.{sight-after, step, masked, left-part, left-more, left-none}
 use Rattle.scm_view.specs.declared.ids.ComponentId.{ComponentId}
 use Rattle.scm_view.specs.declared.extent.Extent.{Extent}
 use Rattle.scm_view.specs.declared.extent.Extent.TheVariants.{Whole, Screen}
@@ -15,7 +15,7 @@ use Rattle.scm_view.specs.Rows.{DocRow}
 use Rattle.scm_view.specs.Pictures.{IdPicture, row_picture, rows_picture}
 use Rattle.scm_view.specs.Paints.{IsDrawn}
 use Rattle.scm_view.proofs.RowsLemmas.{row-alone}
-use Rattle.scm_view.proofs.PaintsLemmas.{IsToPaint, drawn-painted, painted-step, painted-nothing, painted-masked, to-first, to-part, to-more, to-none}
+use Rattle.scm_view.proofs.PaintsLemmas.{IsToPaint, drawn-painted, painted-step, painted-nothing, painted-masked, to-part, to-more, to-none}
 
 -- ---- one picture after another
 
@@ -59,10 +59,6 @@ masked-to Screen c d f g mask n p q r = painted-masked c d f g mask n p q r
 abbrev pub IsToDraw : Extent → Canvas ComponentId → Canvas ComponentId → IdPicture → IdPicture → Type 0
 IsToDraw Whole c d left whole = IsLeft c d left whole
 IsToDraw Screen c d left whole = IsToPaint c d left whole
-
-pub first-left : (e : Extent) (c : Canvas ComponentId) (whole : IdPicture) → PictureInRange whole → IsToDraw e c c whole whole
-first-left Whole c whole r = left-first c whole r
-first-left Screen c whole r = to-first c whole r
 
 pub sight-left : (e : Extent) (c d : Canvas ComponentId) (left whole : IdPicture) → IsToDraw e c d left whole → d.sight ≡ c.sight
 sight-left Whole c d left whole h = h.sight

@@ -77,9 +77,6 @@ pub record IsToPaint (c d : Canvas ComponentId) (left whole : IdPicture) : Type 
   pub in_range : PictureInRange left
   pub rows : painted c.sight.rect left.puts c.sight.rect.y d.rows ≡ painted c.sight.rect whole.puts c.sight.rect.y c.rows
 
-pub to-first : (c : Canvas ComponentId) (whole : IdPicture) → PictureInRange whole → IsToPaint c c whole whole
-to-first c whole r = record { sight = refl; in_range = r; rows = refl }
-
 pub to-part : (c d : Canvas ComponentId) (a : Sight → IdPicture) (left more whole : IdPicture) → left ≡ followed_by (a c.sight) more → IsToPaint c d left whole → PictureInRange (a d.sight)
 to-part c d a left more whole e l = rw l.sight (PictureInRange-left _ _ (rw e at l.in_range))
 
