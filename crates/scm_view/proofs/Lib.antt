@@ -15,8 +15,8 @@ pub mod WidthLemmas
 pub mod CountLemmas
 pub mod FewLemmas
 pub mod PaintsLemmas
--- Drawing to an extent: one picture after another, under a mask, and a loop of parts.
-pub mod ExtentLemmas
+-- Drawing in either pass: one picture after another, under a mask, and a loop of parts.
+pub mod PassLemmas
 pub mod PaintsAppLemmas
 pub mod RowsLemmas
 pub mod SectionsLemmas

@@ -17,10 +17,10 @@ ghost use Rattle.scm_render.specs.Draws.{Draws};
 ghost use Rattle.scm_view.specs.Paints.{Paints};
 
 use crate::commit_view::{CommitView, CommitViewMode};
-use crate::extent::Extent;
 use crate::help_dialog::HelpDialog;
 use crate::ids::ComponentId;
 use crate::menu_bar::MenuBar;
+use crate::pass::Pass;
 use crate::quit_dialog::QuitDialog;
 use crate::reach::columns;
 use scm_cells::{Grid, Mask, Rect};
@@ -195,7 +195,7 @@ fn paint_view(
 {
     let mask = view_mask(viewport, x, width);
     let outer = viewport.swap_mask(Some(mask));
-    view.draw_rows(alloc, viewport, x, 1, Extent::Screen)?;
+    view.draw_rows(alloc, viewport, x, 1, Pass::Paint)?;
     viewport.swap_mask(outer);
     Ok(())
 }

@@ -11,13 +11,13 @@ ghost use Rattle.scm_view.specs.Tops.{files_height};
 ghost use Rattle.scm_view.specs.Pieces.{files_pieces};
 ghost use Rattle.scm_view.specs.Pictures.{mask_row, file_mask, pinned_mask, pinned_header, pinned_picture, one_file_picture, files_picture, body_picture, file_picture, commit_picture};
 ghost use Rattle.scm_render.specs.Draws.{Draws};
-ghost use Rattle.scm_view.specs.Paints.{DrawsTo};
+ghost use Rattle.scm_view.specs.Paints.{DrawsIn};
 
 use crate::commit_message_view::CommitMessageView;
-use crate::extent::Extent;
 use crate::file_view::FileView;
 use crate::ids::ComponentId;
 use crate::no_files::draw_no_files;
+use crate::pass::Pass;
 use crate::reach::{draw_under, to_end};
 use crate::tops::Piece;
 use scm_cells::Mask;
@@ -128,7 +128,7 @@ fn draw_pinned(
     }
 }
 
-/// Draws the rows of a file to this extent.
+/// Draws the rows of a file in this pass.
 fn draw_rows(
     alloc: Global,
     viewport: &mut Viewport<ComponentId>,
@@ -136,63 +136,63 @@ fn draw_rows(
     y: isize,
     below: isize,
     file: &FileView<'_>,
-    extent: Extent,
+    pass: Pass,
 ) -> Result<(), RecordError>
     requires below { below ≡ y +ℤ pos (length (file_rows (shown_file file.now))) }
     requires picture { PictureInRange (part (file_id file.now.file_key) (file_picture file.now viewport.old.canvas.sight x y)) }
-    ensures { DrawsTo extent viewport.old viewport.new result (part (file_id file.now.file_key) (file_picture file.now viewport.old.canvas.sight x y)) (file_counts (shown_file file.now) viewport.old.canvas.sight.rect y) }
+    ensures { DrawsIn pass viewport.old viewport.new result (part (file_id file.now.file_key) (file_picture file.now viewport.old.canvas.sight x y)) (file_counts (shown_file file.now) viewport.old.canvas.sight.rect y) }
 {
-    match extent {
-        Extent::Whole => {
+    match pass {
+        Pass::Draw => {
             viewport.draw_component(x, y, file)?;
             Ok(())
         }
-        Extent::Screen => file.paint(alloc, viewport, x, y, below),
+        Pass::Paint => file.paint(alloc, viewport, x, y, below),
     }
 }
 
-/// Draws a file to this extent and its pinned header, and gives the row below the file.
+/// Draws a file in this pass, with its pinned header, and gives the row below the file.
 fn draw_file(
     alloc: Global,
     viewport: &mut Viewport<ComponentId>,
     x: isize,
     y: isize,
     file: &FileView<'_>,
-    extent: Extent,
+    pass: Pass,
 ) -> Result<isize, RecordError>
     requires { PictureInRange (one_file_picture (shown_file file.now) viewport.old.canvas.sight x y) }
-    ensures draws { DrawsTo extent viewport.old viewport.new result (one_file_picture (shown_file file.now) viewport.old.canvas.sight x y) (plus (file_counts (shown_file file.now) viewport.old.canvas.sight.rect y) (pinned_counts (shown_file file.now) viewport.old.canvas.sight.rect (mask_row viewport.old.canvas.sight) y)) }
+    ensures draws { DrawsIn pass viewport.old viewport.new result (one_file_picture (shown_file file.now) viewport.old.canvas.sight x y) (plus (file_counts (shown_file file.now) viewport.old.canvas.sight.rect y) (pinned_counts (shown_file file.now) viewport.old.canvas.sight.rect (mask_row viewport.old.canvas.sight) y)) }
     ensures below { IfOk result (λ row. row ≡ y +ℤ pos (length (file_rows (shown_file file.now)))) }
 {
     let below = file.row_below(y);
     let rows = file_mask(viewport, x, y);
     let outer = viewport.swap_mask(Some(rows));
-    draw_rows(alloc, viewport, x, y, below, file, extent)?;
+    draw_rows(alloc, viewport, x, y, below, file, pass)?;
     viewport.swap_mask(outer);
     draw_pinned(viewport, x, y, below, file)?;
     Ok(below)
 }
 
-/// Draws files to this extent, one below another.
+/// Draws files in this pass, one below another.
 fn draw_files(
     alloc: Global,
     viewport: &mut Viewport<ComponentId>,
     x: isize,
     y: isize,
     files: &[FileView<'_>],
-    extent: Extent,
+    pass: Pass,
 ) -> Result<(), RecordError>
     requires { PictureInRange (files_picture (map shown_file files.now) viewport.old.canvas.sight x y) }
-    ensures { DrawsTo extent viewport.old viewport.new result (files_picture (map shown_file files.now) viewport.old.canvas.sight x y) (files_counts (map shown_file files.now) viewport.old.canvas.sight.rect (mask_row viewport.old.canvas.sight) y) }
+    ensures { DrawsIn pass viewport.old viewport.new result (files_picture (map shown_file files.now) viewport.old.canvas.sight x y) (files_counts (map shown_file files.now) viewport.old.canvas.sight.rect (mask_row viewport.old.canvas.sight) y) }
 {
     let mut row = y;
     for file in files {
-        row = draw_file(alloc, viewport, x, row, file, extent)?;
+        row = draw_file(alloc, viewport, x, row, file, pass)?;
     }
     Ok(())
 }
 
-/// Draws to this extent what stands below a message of so many rows.
+/// Draws in this pass what stands below a message of so many rows.
 fn draw_body(
     alloc: Global,
     viewport: &mut Viewport<ComponentId>,
@@ -200,16 +200,16 @@ fn draw_body(
     y: isize,
     height: usize,
     files: &[FileView<'_>],
-    extent: Extent,
+    pass: Pass,
 ) -> Result<(), RecordError>
     requires { PictureInRange (body_picture (map shown_file files.now) viewport.old.canvas.sight x y (y +ℤ pos height)) }
-    ensures { DrawsTo extent viewport.old viewport.new result (body_picture (map shown_file files.now) viewport.old.canvas.sight x y (y +ℤ pos height)) (body_counts (map shown_file files.now) viewport.old.canvas.sight y (y +ℤ pos height)) }
+    ensures { DrawsIn pass viewport.old viewport.new result (body_picture (map shown_file files.now) viewport.old.canvas.sight x y (y +ℤ pos height)) (body_counts (map shown_file files.now) viewport.old.canvas.sight y (y +ℤ pos height)) }
 {
     if files.is_empty() {
         draw_no_files(viewport, x, y)
     } else {
         let first = y.strict_add_unsigned(height);
-        draw_files(alloc, viewport, x, first, files, extent)
+        draw_files(alloc, viewport, x, first, files, pass)
     }
 }
 
@@ -234,22 +234,22 @@ pub(crate) fn push_pieces(
 }
 
 impl<'a> CommitView<'a> {
-    /// Draws the document to this extent.
+    /// Draws the document in this pass.
     pub(crate) fn draw_rows(
         &self,
         alloc: Global,
         viewport: &mut Viewport<ComponentId>,
         x: isize,
         y: isize,
-        extent: Extent,
+        pass: Pass,
     ) -> Result<(), RecordError>
         requires { PictureInRange (commit_picture self.now viewport.old.canvas.sight x y) }
-        ensures { DrawsTo extent viewport.old viewport.new result (commit_picture self.now viewport.old.canvas.sight x y) (document_counts (document_of self.now) viewport.old.canvas.sight y) }
+        ensures { DrawsIn pass viewport.old viewport.new result (commit_picture self.now viewport.old.canvas.sight x y) (document_counts (document_of self.now) viewport.old.canvas.sight y) }
     {
         let height = self.commit_message_view.height();
         let files = self.file_views.as_slice();
         viewport.draw_component(x, y, &self.commit_message_view)?;
-        draw_body(alloc, viewport, x, y, height, files, extent)
+        draw_body(alloc, viewport, x, y, height, files, pass)
     }
 }
 
@@ -277,6 +277,6 @@ impl<'a> Component for CommitView<'a> {
         x: isize,
         y: isize,
     ) -> Result<(), RecordError> {
-        self.draw_rows(alloc, viewport, x, y, Extent::Whole)
+        self.draw_rows(alloc, viewport, x, y, Pass::Draw)
     }
 }

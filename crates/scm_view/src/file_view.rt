@@ -9,12 +9,12 @@ ghost use Rattle.scm_view.specs.Pictures.{sections_picture, file_picture};
 ghost use Rattle.scm_view.specs.Tops.{file_height, file_top_of, section_tops, sections_height};
 ghost use Rattle.scm_view.specs.Pieces.{file_pieces};
 ghost use Rattle.scm_view.specs.declared.tops.Piece.TheVariants.{Section as PieceSection};
-ghost use Rattle.scm_view.specs.Paints.{DrawsTo, Paints};
+ghost use Rattle.scm_view.specs.Paints.{DrawsIn, Paints};
 
-use crate::extent::Extent;
 use crate::file_view_header::FileViewHeader;
 use crate::ids::ComponentId;
 use crate::noting::is_seen;
+use crate::pass::Pass;
 use crate::reach::columns;
 use crate::section_view::SectionView;
 use crate::tops::{FileTop, Piece};
@@ -60,7 +60,7 @@ pub(crate) fn is_shown(before: bool, view: &SectionView<'_>, after: bool) -> boo
     is_editable | (before | after)
 }
 
-/// Draws a section to this extent, if the section is shown.
+/// Draws a section in this pass, if the section is shown.
 fn draw_section(
     alloc: Global,
     viewport: &mut Viewport<ComponentId>,
@@ -68,19 +68,19 @@ fn draw_section(
     y: isize,
     view: &SectionView<'_>,
     is_shown: bool,
-    extent: Extent,
+    pass: Pass,
 ) -> Result<(), RecordError>
     requires y { InRange y }
     requires picture { PictureInRange (sections_picture (shown_section is_shown view.now) viewport.old.canvas.sight x y) }
-    ensures { DrawsTo extent viewport.old viewport.new result (sections_picture (shown_section is_shown view.now) viewport.old.canvas.sight x y) (sections_counts (shown_section is_shown view.now) viewport.old.canvas.sight.rect y) }
+    ensures { DrawsIn pass viewport.old viewport.new result (sections_picture (shown_section is_shown view.now) viewport.old.canvas.sight x y) (sections_counts (shown_section is_shown view.now) viewport.old.canvas.sight.rect y) }
 {
     if is_shown {
-        match extent {
-            Extent::Whole => {
+        match pass {
+            Pass::Draw => {
                 viewport.draw_component(x, y, view)?;
                 Ok(())
             }
-            Extent::Screen => view.paint(alloc, viewport, x, y),
+            Pass::Paint => view.paint(alloc, viewport, x, y),
         }
     } else {
         Ok(())
@@ -96,24 +96,24 @@ fn row_below(y: isize, view: &SectionView<'_>, is_shown: bool) -> isize
     if is_shown { view.row_below(y) } else { y }
 }
 
-/// Draws the sections that are shown to this extent, one below another.
+/// In this pass, draws the sections that are shown, one below another.
 fn draw_sections(
     alloc: Global,
     viewport: &mut Viewport<ComponentId>,
     x: isize,
     y: isize,
     views: &[SectionView<'_>],
-    extent: Extent,
+    pass: Pass,
 ) -> Result<(), RecordError>
     requires y { InRange y }
     requires picture { PictureInRange (sections_picture (shown_sections false views.now) viewport.old.canvas.sight x y) }
-    ensures { DrawsTo extent viewport.old viewport.new result (sections_picture (shown_sections false views.now) viewport.old.canvas.sight x y) (sections_counts (shown_sections false views.now) viewport.old.canvas.sight.rect y) }
+    ensures { DrawsIn pass viewport.old viewport.new result (sections_picture (shown_sections false views.now) viewport.old.canvas.sight x y) (sections_counts (shown_sections false views.now) viewport.old.canvas.sight.rect y) }
 {
     let mut row = y;
     let mut before = false;
     for (index, view) in views.iter().enumerate() {
         let shown = is_shown(before, view, is_open_at(views, index + 1));
-        draw_section(alloc, viewport, x, row, view, shown, extent)?;
+        draw_section(alloc, viewport, x, row, view, shown, pass)?;
         row = row_below(row, view, shown);
         before = view.is_open();
     }
@@ -238,23 +238,23 @@ impl<'a> FileView<'a> {
 }
 
 impl<'a> FileView<'a> {
-    /// Draws the file's header, and its sections to this extent.
+    /// Draws the file's header, and its sections in this pass.
     fn draw_parts(
         &self,
         alloc: Global,
         viewport: &mut Viewport<ComponentId>,
         x: isize,
         y: isize,
-        extent: Extent,
+        pass: Pass,
     ) -> Result<(), RecordError>
         requires { PictureInRange (file_picture self.now viewport.old.canvas.sight x y) }
-        ensures { DrawsTo extent viewport.old viewport.new result (file_picture self.now viewport.old.canvas.sight x y) (file_counts (shown_file self.now) viewport.old.canvas.sight.rect y) }
+        ensures { DrawsIn pass viewport.old viewport.new result (file_picture self.now viewport.old.canvas.sight x y) (file_counts (shown_file self.now) viewport.old.canvas.sight.rect y) }
     {
         let header = self.header();
         viewport.draw_component(x, y, &header)?;
         if self.expand_box.is_open() {
             let views = self.section_views.as_slice();
-            draw_sections(alloc, viewport, x + 2, y + 1, views, extent)
+            draw_sections(alloc, viewport, x + 2, y + 1, views, pass)
         } else {
             Ok(())
         }
@@ -274,7 +274,7 @@ impl<'a> FileView<'a> {
         ensures { Paints viewport.old viewport.new result (file_picture self.now viewport.old.canvas.sight x y) (file_counts (shown_file self.now) viewport.old.canvas.sight.rect y) }
     {
         if is_seen(viewport, y, below) {
-            self.draw_parts(alloc, viewport, x, y, Extent::Screen)
+            self.draw_parts(alloc, viewport, x, y, Pass::Paint)
         } else {
             Ok(())
         }
@@ -305,6 +305,6 @@ impl<'a> Component for FileView<'a> {
         x: isize,
         y: isize,
     ) -> Result<(), RecordError> {
-        self.draw_parts(alloc, viewport, x, y, Extent::Whole)
+        self.draw_parts(alloc, viewport, x, y, Pass::Draw)
     }
 }

@@ -9,12 +9,12 @@ ghost use Rattle.scm_view.specs.Rows.{SectionRow, MarkRow, DotsRow, mark_of, lin
 ghost use Rattle.scm_view.specs.Pictures.{row_picture, rows_picture, section_picture};
 ghost use Rattle.scm_view.specs.Tops.{context_kinds, has_context_row, is_wide_of, kinds_of, section_top_of};
 ghost use Rattle.scm_render.specs.Draws.{Draws};
-ghost use Rattle.scm_view.specs.Paints.{DrawsTo, Paints};
+ghost use Rattle.scm_view.specs.Paints.{DrawsIn, Paints};
 
-use crate::extent::Extent;
 use crate::heading::draw_heading;
 use crate::ids::ComponentId;
 use crate::noting::{begin_row, is_seen, rows_above, show_box, show_span, show_text};
+use crate::pass::Pass;
 use crate::reach::{cover_rest, highlight};
 use crate::section_line_view::{SectionLineView, SectionLineViewInner};
 use crate::texts::{binary_text, dots_text, mode_change_text};
@@ -245,21 +245,21 @@ impl<'a> SectionView<'a> {
         self.draw_lines(viewport, x, y.strict_add_unsigned(first), first, seen)
     }
 
-    /// Draws the changed lines to this extent.
+    /// Draws the changed lines in this pass.
     fn draw_changed_lines(
         &self,
         viewport: &mut Viewport<ComponentId>,
         x: isize,
         y: isize,
         lines: &[SectionChangedLine<'a>],
-        extent: Extent,
+        pass: Pass,
     ) -> Result<(), RecordError>
         requires { PictureInRange (rows_picture (changed_rows self.now 0 lines.now) viewport.old.canvas.sight x y) }
-        ensures { DrawsTo extent viewport.old viewport.new result (rows_picture (changed_rows self.now 0 lines.now) viewport.old.canvas.sight x y) (rows_counts (changed_rows self.now 0 lines.now) viewport.old.canvas.sight.rect y) }
+        ensures { DrawsIn pass viewport.old viewport.new result (rows_picture (changed_rows self.now 0 lines.now) viewport.old.canvas.sight x y) (rows_counts (changed_rows self.now 0 lines.now) viewport.old.canvas.sight.rect y) }
     {
-        match extent {
-            Extent::Whole => self.draw_lines(viewport, x, y, 0, Lines::Changed(lines)),
-            Extent::Screen => self.paint_changed_lines(viewport, x, y, lines),
+        match pass {
+            Pass::Draw => self.draw_lines(viewport, x, y, 0, Lines::Changed(lines)),
+            Pass::Paint => self.paint_changed_lines(viewport, x, y, lines),
         }
     }
 
@@ -619,7 +619,7 @@ impl<'a> SectionView<'a> {
         }
     }
 
-    /// Draws a section of changed lines to this extent.
+    /// Draws a section of changed lines in this pass.
     fn draw_changed(
         &self,
         alloc: Global,
@@ -627,35 +627,35 @@ impl<'a> SectionView<'a> {
         x: isize,
         y: isize,
         lines: &[SectionChangedLine<'a>],
-        extent: Extent,
+        pass: Pass,
     ) -> Result<(), RecordError>
         requires { PictureInRange (rows_picture (rows_of self.now (Changed lines.now)) viewport.old.canvas.sight x y) }
-        ensures { DrawsTo extent viewport.old viewport.new result (rows_picture (rows_of self.now (Changed lines.now)) viewport.old.canvas.sight x y) (rows_counts (rows_of self.now (Changed lines.now)) viewport.old.canvas.sight.rect y) }
+        ensures { DrawsIn pass viewport.old viewport.new result (rows_picture (rows_of self.now (Changed lines.now)) viewport.old.canvas.sight x y) (rows_counts (rows_of self.now (Changed lines.now)) viewport.old.canvas.sight.rect y) }
     {
         self.draw_header(alloc, viewport, x, y)?;
         if self.expand_box.is_open() {
-            self.draw_changed_lines(viewport, x, y + 1, lines, extent)
+            self.draw_changed_lines(viewport, x, y + 1, lines, pass)
         } else {
             Ok(())
         }
     }
 
-    /// Draws the section to this extent.
+    /// Draws the section in this pass.
     fn draw_rows(
         &self,
         alloc: Global,
         viewport: &mut Viewport<ComponentId>,
         x: isize,
         y: isize,
-        extent: Extent,
+        pass: Pass,
     ) -> Result<(), RecordError>
         requires { PictureInRange (section_picture self.now viewport.old.canvas.sight x y) }
-        ensures { DrawsTo extent viewport.old viewport.new result (section_picture self.now viewport.old.canvas.sight x y) (rows_counts (section_rows self.now) viewport.old.canvas.sight.rect y) }
+        ensures { DrawsIn pass viewport.old viewport.new result (section_picture self.now viewport.old.canvas.sight x y) (rows_counts (section_rows self.now) viewport.old.canvas.sight.rect y) }
     {
         match self.section {
             Section::Unchanged { lines } => self.draw_context(viewport, x, y, lines.as_slice()),
             Section::Changed { lines } => {
-                self.draw_changed(alloc, viewport, x, y, lines.as_slice(), extent)
+                self.draw_changed(alloc, viewport, x, y, lines.as_slice(), pass)
             }
             Section::FileMode { is_checked, mode } => {
                 let text = mode_change_text(alloc, *mode)?;
@@ -686,7 +686,7 @@ impl<'a> SectionView<'a> {
         ensures { Paints viewport.old viewport.new result (section_picture self.now viewport.old.canvas.sight x y) (rows_counts (section_rows self.now) viewport.old.canvas.sight.rect y) }
     {
         if is_seen(viewport, y, self.row_below(y)) {
-            self.draw_rows(alloc, viewport, x, y, Extent::Screen)
+            self.draw_rows(alloc, viewport, x, y, Pass::Paint)
         } else {
             Ok(())
         }
@@ -717,6 +717,6 @@ impl<'a> Component for SectionView<'a> {
         x: isize,
         y: isize,
     ) -> Result<(), RecordError> {
-        self.draw_rows(alloc, viewport, x, y, Extent::Whole)
+        self.draw_rows(alloc, viewport, x, y, Pass::Draw)
     }
 }

@@ -10,7 +10,7 @@ use Rattle.scm_view.specs.declared.file_view.FileView.{FileView}
 use Rattle.scm_view.specs.Rows.{file_id, shown_file, file_rows}
 use Rattle.scm_view.specs.Pictures.{IdPicture, file_mask, file_picture, pinned_picture, one_file_picture}
 use Rattle.scm_view.proofs.SectionsLemmas.{file-fits}
-use Rattle.scm_view.proofs.ExtentLemmas.{sight-to, then-drawn, rest-to, masked-to}
+use Rattle.scm_view.proofs.PassLemmas.{sight-pass, then-drawn, rest-pass, masked-pass}
 use Rattle.scm_view.proofs.commit_view.draw_file.Goals as goal
 
 abbrev one : FileView → ℤ → ℤ → Sight → IdPicture
@@ -89,10 +89,10 @@ draw_pinned-requires-clause-picture c =
     let s = c.args.viewport.now.canvas.sight in
     let mask = simp to_z-of_z at c.file_mask-rows.ensures.mask in
     let seen : c.swap_mask-outer.new.self.canvas.sight ≡ under (file_mask s c.args.x c.args.y) s = ap (λ v. v.sight) c.swap_mask-outer.ensures.new ∙ ap (λ m. under m s) mask in
-    let drawn = rw mask at (masked-to c.args.extent _ c.swap_mask-outer.new.self.canvas c.draw_rows.new.viewport.canvas _ c.file_mask-rows.result (one c.args.file.now c.args.x c.args.y) c.swap_mask-outer.ensures.new
+    let drawn = rw mask at (masked-pass c.args.pass _ c.swap_mask-outer.new.self.canvas c.draw_rows.new.viewport.canvas _ c.file_mask-rows.result (one c.args.file.now c.args.x c.args.y) c.swap_mask-outer.ensures.new
     (simp to_z-of_z at c.in_ok-draw_rows.ensures.ok) (rw c.swap_mask-outer.ensures.old at c.swap_mask.ensures.new)) in
-    let same = sight-to c.args.extent _ _ _ drawn in
-    simp to_z-of_z (rest-to c.args.extent _ _ _ (pinned c.args.file.now c.args.x c.args.y) drawn c.requires)
+    let same = sight-pass c.args.pass _ _ _ drawn in
+    simp to_z-of_z (rest-pass c.args.pass _ _ _ (pinned c.args.file.now c.args.x c.args.y) drawn c.requires)
 
 pub returns-clause-draws : goal.returns-clause-draws
 unfolding one_file_picture file_picture shown_file
@@ -106,12 +106,12 @@ returns-clause-draws c =
     let s = c.args.viewport.now.canvas.sight in
     let mask = simp to_z-of_z at c.file_mask-rows.ensures.mask in
     let seen : c.swap_mask-outer.new.self.canvas.sight ≡ under (file_mask s c.args.x c.args.y) s = ap (λ v. v.sight) c.swap_mask-outer.ensures.new ∙ ap (λ m. under m s) mask in
-    let drawn = rw mask at (masked-to c.args.extent _ c.swap_mask-outer.new.self.canvas c.draw_rows.new.viewport.canvas _ c.file_mask-rows.result (one c.args.file.now c.args.x c.args.y) c.swap_mask-outer.ensures.new
+    let drawn = rw mask at (masked-pass c.args.pass _ c.swap_mask-outer.new.self.canvas c.draw_rows.new.viewport.canvas _ c.file_mask-rows.result (one c.args.file.now c.args.x c.args.y) c.swap_mask-outer.ensures.new
     (simp to_z-of_z at c.in_ok-draw_rows.ensures.ok) (rw c.swap_mask-outer.ensures.old at c.swap_mask.ensures.new)) in
-    let same = sight-to c.args.extent _ _ _ drawn in
+    let same = sight-pass c.args.pass _ _ _ drawn in
     let counted = c.swap_mask.ensures.counts ∙ rw c.swap_mask-outer.ensures.counts at (rw seen at (simp to_z-of_z at c.in_ok-draw_rows.ensures.counts)) in
     record {
-      ok = then-drawn c.args.extent _ _ _ _ (pinned c.args.file.now c.args.x c.args.y) drawn (simp to_z-of_z at c.in_ok-draw_pinned.ensures.ok);
+      ok = then-drawn c.args.pass _ _ _ _ (pinned c.args.file.now c.args.x c.args.y) drawn (simp to_z-of_z at c.in_ok-draw_pinned.ensures.ok);
       counts = counts-then _ _ _ _ _ counted (rw same at (simp to_z-of_z at c.in_ok-draw_pinned.ensures.counts));
       rect = search rules;
       err = search rules;

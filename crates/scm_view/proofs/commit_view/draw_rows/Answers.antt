@@ -24,24 +24,24 @@ paint-requires-clause-picture c =
     let fy : FitsSigned w64 c.args.y = c.ranges.y in
     simp to_z-of_z (PictureInRange-part _ _ c.requires.picture)
 
-pub returns-in_ok-draw_component-in-Whole : goal.returns-in_ok-draw_component-in-Whole
-returns-in_ok-draw_component-in-Whole c =
+pub returns-in_ok-draw_component-in-Draw : goal.returns-in_ok-draw_component-in-Draw
+returns-in_ok-draw_component-in-Draw c =
     let fx : FitsSigned w64 c.args.x = c.ranges.x in
     let fy : FitsSigned w64 c.args.y = c.ranges.y in
     record {
-      ok = rw c.in-Whole.is (simp to_z-of_z at c.in_ok-draw_component-in-Whole.ensures.draws.ok);
-      counts = simp to_z-of_z at c.in_ok-draw_component-in-Whole.ensures.draws.counts;
+      ok = rw c.in-Draw.is (simp to_z-of_z at c.in_ok-draw_component-in-Draw.ensures.draws.ok);
+      counts = simp to_z-of_z at c.in_ok-draw_component-in-Draw.ensures.draws.counts;
       rect = search rules;
       err = search rules;
     }
 
-pub returns-in-Screen : goal.returns-in-Screen
+pub returns-in-Paint : goal.returns-in-Paint
 unfolding part
-returns-in-Screen c =
+returns-in-Paint c =
     let fx : FitsSigned w64 c.args.x = c.ranges.x in
     let fy : FitsSigned w64 c.args.y = c.ranges.y in
     record {
-      ok = rw c.in-Screen.is (on-ok _ (painted-as _ _ _ _ refl) (simp to_z-of_z at c.paint.ensures.ok));
+      ok = rw c.in-Paint.is (on-ok _ (painted-as _ _ _ _ refl) (simp to_z-of_z at c.paint.ensures.ok));
       counts = simp to_z-of_z at c.paint.ensures.counts;
       rect = search rules;
       err = search rules;

@@ -8,7 +8,7 @@ use Rattle.scm_view.proofs.RowsLemmas.{on-ok}
 use Rattle.scm_view.proofs.SectionsLemmas.{one-first, one-alone, one-height, sections-in}
 use Rattle.scm_view.proofs.CountLemmas.{sections_counts-one, sections_counts-none}
 use Rattle.scm_view.proofs.PaintsLemmas.{one-painted, one-counted}
-use Rattle.scm_view.proofs.ExtentLemmas.{nothing-to}
+use Rattle.scm_view.proofs.PassLemmas.{nothing-pass}
 use Rattle.scm_view.proofs.file_view.draw_section.Goals as goal
 
 pub draw_component-requires : goal.draw_component-requires
@@ -31,25 +31,25 @@ paint-requires-clause-picture c =
     let fy : FitsSigned w64 c.args.y = c.ranges.y in
     simp to_z-of_z (PictureInRange-part _ _ (one-first _ _ _ _ (rw c.if-is_shown.true at c.requires.picture)))
 
-pub returns-in_ok-draw_component-in-Whole : goal.returns-in_ok-draw_component-in-Whole
+pub returns-in_ok-draw_component-in-Draw : goal.returns-in_ok-draw_component-in-Draw
 unfolding section_picture
-returns-in_ok-draw_component-in-Whole c =
+returns-in_ok-draw_component-in-Draw c =
     let fx : FitsSigned w64 c.args.x = c.ranges.x in
     let fy : FitsSigned w64 c.args.y = c.ranges.y in
     record {
-      ok = rw (c.in-Whole.is, c.if-is_shown.true) (one-alone _ _ _ _ _ (simp to_z-of_z at c.in_ok-draw_component-in-Whole.ensures.draws.ok));
-      counts = rw c.if-is_shown.true (simp to_z-of_z at c.in_ok-draw_component-in-Whole.ensures.draws.counts ∙ ap (added c.args.viewport.now.counts) (sym (sections_counts-one _ _ _)));
+      ok = rw (c.in-Draw.is, c.if-is_shown.true) (one-alone _ _ _ _ _ (simp to_z-of_z at c.in_ok-draw_component-in-Draw.ensures.draws.ok));
+      counts = rw c.if-is_shown.true (simp to_z-of_z at c.in_ok-draw_component-in-Draw.ensures.draws.counts ∙ ap (added c.args.viewport.now.counts) (sym (sections_counts-one _ _ _)));
       rect = search rules;
       err = search rules;
     }
 
-pub returns-in-Screen : goal.returns-in-Screen
+pub returns-in-Paint : goal.returns-in-Paint
 unfolding section_picture
-returns-in-Screen c =
+returns-in-Paint c =
     let fx : FitsSigned w64 c.args.x = c.ranges.x in
     let fy : FitsSigned w64 c.args.y = c.ranges.y in
     record {
-      ok = rw (c.in-Screen.is, c.if-is_shown.true) (on-ok _ (one-painted _ _ _ _ _) (simp to_z-of_z at c.paint.ensures.ok));
+      ok = rw (c.in-Paint.is, c.if-is_shown.true) (on-ok _ (one-painted _ _ _ _ _) (simp to_z-of_z at c.paint.ensures.ok));
       counts = rw c.if-is_shown.true (on-ok _ (one-counted _ _ _ _ _) (simp to_z-of_z at c.paint.ensures.counts));
       rect = search rules;
       err = search rules;
@@ -59,7 +59,7 @@ pub returns-else-is_shown : goal.returns-else-is_shown
 unfolding sections_picture
 returns-else-is_shown c =
     record {
-      ok = rw c.if-is_shown.false (nothing-to c.args.extent _);
+      ok = rw c.if-is_shown.false (nothing-pass c.args.pass _);
       counts = rw c.if-is_shown.false (sym (added-none _) ∙ ap (added c.args.viewport.now.counts) (sym (sections_counts-none [] _ _ refl)));
       rect = search rules;
       err = search rules;

@@ -11,7 +11,7 @@ use Rattle.scm_view.specs.Pictures.{IdPicture, sections_picture}
 use Rattle.scm_view.specs.Counts.{sections_counts}
 use Rattle.scm_view.proofs.SectionsLemmas.{sections_picture-append, sections-in, shown_sections-more, shown_sections-end, shown_sections-none}
 use Rattle.scm_view.proofs.CountLemmas.{sections_counts-append, sections_counts-none}
-use Rattle.scm_view.proofs.ExtentLemmas.{sight-left, part-left, more-left, none-left}
+use Rattle.scm_view.proofs.PassLemmas.{pass-sight, pass-part, pass-more, pass-none}
 use Rattle.scm_view.proofs.file_view.draw_sections.Goals as goal
 
 abbrev one : List ShownSection → ℤ → ℤ → Sight → IdPicture
@@ -32,7 +32,7 @@ draw_section-requires-clause-picture c =
     ap (λ ps. sections_picture ps c.args.viewport.now.canvas.sight c.args.x c.loop-index.row) more
     ∙ sections_picture-append (shown_section c.is_shown-shown.result v) (shown_sections (is_open v) (drop (i + 1) views)) c.args.viewport.now.canvas.sight c.args.x c.loop-index.row in
     let left = simp (to_z-of_z, c.loop-index.row-is) at c.loop-index.invariant.left in
-    let one_in = part-left c.args.extent _ _ (one (shown_section c.is_shown-shown.result v) c.args.x c.loop-index.row) _ _ _ all left in
+    let one_in = pass-part c.args.pass _ _ (one (shown_section c.is_shown-shown.result v) c.args.x c.loop-index.row) _ _ _ all left in
     simp (to_z-of_z, c.loop-index.row-is) one_in
 
 pub row_below-row-requires-clause-end : goal.row_below-row-requires-clause-end
@@ -50,7 +50,7 @@ row_below-row-requires-clause-end c =
     ap (λ ps. sections_picture ps c.args.viewport.now.canvas.sight c.args.x c.loop-index.row) more
     ∙ sections_picture-append (shown_section c.is_shown-shown.result v) (shown_sections (is_open v) (drop (i + 1) views)) c.args.viewport.now.canvas.sight c.args.x c.loop-index.row in
     let left = simp (to_z-of_z, c.loop-index.row-is) at c.loop-index.invariant.left in
-    let one_in = part-left c.args.extent _ _ (one (shown_section c.is_shown-shown.result v) c.args.x c.loop-index.row) _ _ _ all left in
+    let one_in = pass-part c.args.pass _ _ (one (shown_section c.is_shown-shown.result v) c.args.x c.loop-index.row) _ _ _ all left in
     let at_row : InRange c.loop-index.row = simp c.loop-index.row-is at c.loop-index.invariant.row in
     simp c.loop-index.row-is (sections-in _ _ _ _ at_row one_in)
 
@@ -69,7 +69,7 @@ loop-index-preserved c =
     ap (λ ps. sections_picture ps c.args.viewport.now.canvas.sight c.args.x c.loop-index.row) more
     ∙ sections_picture-append (shown_section c.is_shown-shown.result v) (shown_sections (is_open v) (drop (i + 1) views)) c.args.viewport.now.canvas.sight c.args.x c.loop-index.row in
     let left = simp (to_z-of_z, c.loop-index.row-is) at c.loop-index.invariant.left in
-    let one_in = part-left c.args.extent _ _ (one (shown_section c.is_shown-shown.result v) c.args.x c.loop-index.row) _ _ _ all left in
+    let one_in = pass-part c.args.pass _ _ (one (shown_section c.is_shown-shown.result v) c.args.x c.loop-index.row) _ _ _ all left in
     let at_row : InRange c.loop-index.row = simp c.loop-index.row-is at c.loop-index.invariant.row in
     let next = sections-in _ _ _ _ at_row one_in in
     let fits : FitsSigned w64 (c.loop-index.row +ℤ pos (length (sections_rows (shown_section c.is_shown-shown.result v)))) = InRange-fits _ next in
@@ -78,11 +78,11 @@ loop-index-preserved c =
     let count = ap (λ ps. sections_counts ps c.args.viewport.now.canvas.sight.rect c.loop-index.row) more
     ∙ sections_counts-append (shown_section c.is_shown-shown.result v) (shown_sections (is_open v) (drop (i + 1) views)) c.args.viewport.now.canvas.sight.rect c.loop-index.row in
     let so_far = simp (to_z-of_z, c.loop-index.row-is) at c.loop-index.invariant.counts in
-    let counted = simp (sight-left c.args.extent _ _ _ _ left) at (simp (to_z-of_z, c.loop-index.row-is) at c.in_ok-draw_section.ensures.counts) in
+    let counted = simp (pass-sight c.args.pass _ _ _ _ left) at (simp (to_z-of_z, c.loop-index.row-is) at c.in_ok-draw_section.ensures.counts) in
     rw (row, c.is_open-before.ensures) (simp to_z-of_z (record {
       row = next;
       counts = counts-more _ _ _ _ _ _ _ count so_far counted;
-      left = more-left c.args.extent _ _ _ (one (shown_section c.is_shown-shown.result v) c.args.x c.loop-index.row) _ _ _ all left drawn;
+      left = pass-more c.args.pass _ _ _ (one (shown_section c.is_shown-shown.result v) c.args.x c.loop-index.row) _ _ _ all left drawn;
     }))
 
 pub returns : goal.returns
@@ -92,7 +92,7 @@ returns c =
     record {
       ok =
           let left = simp (to_z-of_z, c.loop-index.row-is) at c.loop-index.invariant.left in
-          none-left c.args.extent _ _ _ _ (shown_sections-end c.loop-index.before c.args.views.now c.loop-index.index c.args.viewport.now.canvas.sight c.args.x c.loop-index.row c.loop-index-test.false) left;
+          pass-none c.args.pass _ _ _ _ (shown_sections-end c.loop-index.before c.args.views.now c.loop-index.index c.args.viewport.now.canvas.sight c.args.x c.loop-index.row c.loop-index-test.false) left;
       counts =
           let left = simp (to_z-of_z, c.loop-index.row-is) at c.loop-index.invariant.counts in
           counts-end _ _ _ _ (sections_counts-none _ c.args.viewport.now.canvas.sight.rect c.loop-index.row (shown_sections-none c.loop-index.before c.args.views.now c.loop-index.index c.loop-index-test.false)) left;

@@ -4,7 +4,7 @@ use Rattle.scm_cells.specs.Counts.{added}
 use Rattle.scm_view.specs.Rows.{shown_sections}
 use Rattle.scm_view.specs.Pictures.{sections_picture}
 use Rattle.scm_view.specs.Counts.{sections_counts}
-use Rattle.scm_view.proofs.ExtentLemmas.{IsToDraw}
+use Rattle.scm_view.proofs.PassLemmas.{IsToDraw}
 use Rattle.scm_view.proofs.file_view.draw_sections.Given as goal
 
 abbrev pub invariant-loop-index : goal.invariant-loop-index
@@ -13,7 +13,7 @@ invariant-loop-index l =
       row : InRange l.row;
       counts : added l.viewport.counts (sections_counts (shown_sections l.before (drop l.index l.views)) l.fn.viewport.canvas.sight.rect l.row)
           ≡ added l.fn.viewport.counts (sections_counts (shown_sections false l.views) l.fn.viewport.canvas.sight.rect l.fn.y);
-      left : IsToDraw l.extent l.fn.viewport.canvas l.viewport.canvas
+      left : IsToDraw l.pass l.fn.viewport.canvas l.viewport.canvas
           (sections_picture (shown_sections l.before (drop l.index l.views)) l.fn.viewport.canvas.sight l.x l.row)
           (sections_picture (shown_sections false l.views) l.fn.viewport.canvas.sight l.fn.x l.fn.y);
     }

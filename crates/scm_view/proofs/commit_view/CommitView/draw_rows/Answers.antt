@@ -8,7 +8,7 @@ use Rattle.scm_view.specs.Pictures.{IdPicture, commit_message_picture, body_pict
 use Rattle.scm_render.proofs.StepLemmas.{rest}
 use Rattle.scm_view.proofs.RowsLemmas.{on-ok}
 use Rattle.scm_view.specs.Counts.{document_counts}
-use Rattle.scm_view.proofs.ExtentLemmas.{drawn-then}
+use Rattle.scm_view.proofs.PassLemmas.{drawn-then}
 use Rattle.scm_render.proofs.CountLemmas.{counts-then}
 use Rattle.scm_render.proofs.StepLemmas.{sight-after}
 use Rattle.scm_view.proofs.commit_view.CommitView.draw_rows.Goals as goal
@@ -42,7 +42,7 @@ returns c =
     let counted = simp to_z-of_z at c.in_ok-draw_component.ensures.draws.counts in
     record {
       ok =
-          on-ok _ (drawn-then c.args.extent _ _ _ _ (body (map shown_file v.file_views) (message_height v.commit_message_view.commit.now.message) c.args.x c.args.y) message)
+          on-ok _ (drawn-then c.args.pass _ _ _ _ (body (map shown_file v.file_views) (message_height v.commit_message_view.commit.now.message) c.args.x c.args.y) message)
           (rw (c.as_slice-files.ensures, c.height-height.ensures) at (simp to_z-of_z at c.draw_body.ensures.ok));
       counts =
           on-ok _ (counts-then _ _ _ _ _ counted)

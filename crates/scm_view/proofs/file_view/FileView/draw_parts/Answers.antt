@@ -10,7 +10,7 @@ use Rattle.scm_view.specs.Counts.{file_counts, header_counts}
 use Rattle.scm_view.specs.Rows.{ShownSection, shown_file, shown_sections}
 use Rattle.scm_view.specs.Pictures.{IdPicture, row_picture, header_picture, sections_picture, shown_file_picture, file_picture}
 use Rattle.scm_render.proofs.StepLemmas.{rest, InRange-fits}
-use Rattle.scm_view.proofs.ExtentLemmas.{drawn-to, drawn-then}
+use Rattle.scm_view.proofs.PassLemmas.{drawn-pass, drawn-then}
 use Rattle.scm_view.proofs.HeadingLemmas.{heading-rect}
 use Rattle.scm_view.proofs.RowsLemmas.{row-end, on-ok, followed-nothing}
 use Rattle.scm_render.proofs.CountLemmas.{counts-then}
@@ -74,7 +74,7 @@ returns-then-is_open c =
     record {
       ok =
           let header = rw (c.header-header.ensures.key, c.header-header.ensures.heading) at (simp to_z-of_z at c.in_ok-draw_component.ensures.draws.ok) in
-          rw shown (on-ok _ (drawn-then c.args.extent _ _ _ _ (below (shown_sections false c.args.self.now.section_views) c.args.x c.args.y) header)
+          rw shown (on-ok _ (drawn-then c.args.pass _ _ _ _ (below (shown_sections false c.args.self.now.section_views) c.args.x c.args.y) header)
           (rw c.as_slice-views.ensures at (simp to_z-of_z at c.draw_sections.ensures.ok)));
       counts =
           let header = simp to_z-of_z at c.in_ok-draw_component.ensures.draws.counts in
@@ -93,7 +93,7 @@ returns-else-is_open c =
     record {
       ok =
           let header = rw (c.header-header.ensures.key, c.header-header.ensures.heading) at (simp to_z-of_z at c.in_ok-draw_component.ensures.draws.ok) in
-          rw folded (drawn-to c.args.extent _ _ _ (header ∙ ap (with_picture c.args.viewport.now.canvas) (sym (followed-nothing _))));
+          rw folded (drawn-pass c.args.pass _ _ _ (header ∙ ap (with_picture c.args.viewport.now.canvas) (sym (followed-nothing _))));
       counts =
           let header = simp to_z-of_z at c.in_ok-draw_component.ensures.draws.counts in
           rw folded (header ∙ ap (added c.args.viewport.now.counts) (sym (plus-none (header_counts c.args.viewport.now.canvas.sight.rect c.args.y))

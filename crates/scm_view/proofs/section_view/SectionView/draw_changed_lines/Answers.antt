@@ -14,23 +14,23 @@ paint_changed_lines-requires c =
     let fy : FitsSigned w64 c.args.y = c.ranges.y in
     simp to_z-of_z c.requires
 
-pub returns-in-Whole : goal.returns-in-Whole
-returns-in-Whole c =
+pub returns-in-Draw : goal.returns-in-Draw
+returns-in-Draw c =
     let fx : FitsSigned w64 c.args.x = c.ranges.x in
     let fy : FitsSigned w64 c.args.y = c.ranges.y in
     record {
-      ok = rw c.in-Whole.is (simp to_z-of_z at c.draw_lines.ensures.ok);
+      ok = rw c.in-Draw.is (simp to_z-of_z at c.draw_lines.ensures.ok);
       counts = simp to_z-of_z at c.draw_lines.ensures.counts;
       rect = search rules;
       err = search rules;
     }
 
-pub returns-in-Screen : goal.returns-in-Screen
-returns-in-Screen c =
+pub returns-in-Paint : goal.returns-in-Paint
+returns-in-Paint c =
     let fx : FitsSigned w64 c.args.x = c.ranges.x in
     let fy : FitsSigned w64 c.args.y = c.ranges.y in
     record {
-      ok = rw c.in-Screen.is (simp to_z-of_z at c.paint_changed_lines.ensures.ok);
+      ok = rw c.in-Paint.is (simp to_z-of_z at c.paint_changed_lines.ensures.ok);
       counts = simp to_z-of_z at c.paint_changed_lines.ensures.counts;
       rect = search rules;
       err = search rules;

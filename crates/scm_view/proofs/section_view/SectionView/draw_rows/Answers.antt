@@ -4,7 +4,7 @@ use Rattle.scm_view.specs.Rows.{section_rows}
 use Rattle.scm_view.specs.Pictures.{section_picture}
 use Rattle.scm_view.proofs.RowsLemmas.{row-first, on-ok}
 use Rattle.scm_view.proofs.CountLemmas.{row-counted-alone}
-use Rattle.scm_view.proofs.ExtentLemmas.{drawn-to, row-alone-to}
+use Rattle.scm_view.proofs.PassLemmas.{drawn-pass, row-alone-pass}
 use Rattle.scm_view.proofs.section_view.SectionView.draw_rows.Goals as goal
 
 pub draw_context-requires : goal.draw_context-requires
@@ -41,7 +41,7 @@ returns-in-Unchanged c =
     let fx : FitsSigned w64 c.args.x = c.ranges.x in
     let fy : FitsSigned w64 c.args.y = c.ranges.y in
     record {
-      ok = rw c.in-Unchanged.is (on-ok _ (drawn-to c.args.extent _ _ _) (rw c.as_slice.ensures at (simp to_z-of_z at c.draw_context.ensures.ok)));
+      ok = rw c.in-Unchanged.is (on-ok _ (drawn-pass c.args.pass _ _ _) (rw c.as_slice.ensures at (simp to_z-of_z at c.draw_context.ensures.ok)));
       counts = rw c.in-Unchanged.is (rw c.as_slice.ensures at (simp to_z-of_z at c.draw_context.ensures.counts));
       rect = search rules;
       err = search rules;
@@ -65,7 +65,7 @@ returns-in_ok-text-in-FileMode c =
     let fx : FitsSigned w64 c.args.x = c.ranges.x in
     let fy : FitsSigned w64 c.args.y = c.ranges.y in
     record {
-      ok = rw c.in-FileMode.is (on-ok _ (row-alone-to c.args.extent _ _ _ _ _) (rw (c.as_str.ensures.value, c.in_ok-text-in-FileMode.ensures.ok) at (simp to_z-of_z at c.draw_mark.ensures.ok)));
+      ok = rw c.in-FileMode.is (on-ok _ (row-alone-pass c.args.pass _ _ _ _ _) (rw (c.as_str.ensures.value, c.in_ok-text-in-FileMode.ensures.ok) at (simp to_z-of_z at c.draw_mark.ensures.ok)));
       counts = rw c.in-FileMode.is (on-ok _ (row-counted-alone _ _ _ _ _) (simp to_z-of_z at c.draw_mark.ensures.counts));
       rect = search rules;
       err = search rules;
@@ -77,7 +77,7 @@ returns-in_ok-text-in-Binary c =
     let fx : FitsSigned w64 c.args.x = c.ranges.x in
     let fy : FitsSigned w64 c.args.y = c.ranges.y in
     record {
-      ok = rw c.in-Binary.is (on-ok _ (row-alone-to c.args.extent _ _ _ _ _) (rw (c.as_str-in-Binary.ensures.value, c.in_ok-text-in-Binary.ensures.ok) at (simp to_z-of_z at c.draw_mark-in-Binary.ensures.ok)));
+      ok = rw c.in-Binary.is (on-ok _ (row-alone-pass c.args.pass _ _ _ _ _) (rw (c.as_str-in-Binary.ensures.value, c.in_ok-text-in-Binary.ensures.ok) at (simp to_z-of_z at c.draw_mark-in-Binary.ensures.ok)));
       counts = rw c.in-Binary.is (on-ok _ (row-counted-alone _ _ _ _ _) (simp to_z-of_z at c.draw_mark-in-Binary.ensures.counts));
       rect = search rules;
       err = search rules;
