@@ -44,6 +44,7 @@ mod quit_dialog;
 mod reach;
 mod row_index;
 mod section_line_view;
+mod section_rows;
 mod section_view;
 mod spots;
 mod texts;
