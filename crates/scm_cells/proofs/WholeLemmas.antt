@@ -3,6 +3,7 @@ use Rattle.std.proofs.Common.{◌≡◌, ℕ, zero, suc, ◌+◌, ◌-◌, ◌<�
 use Rattle.std.specs.Prelude.{ℤ, pos, ◌+ℤ◌, ◌-ℤ◌, int_le, int_lt, if◌then◌else◌}
 use Rattle.std.specs.Int.{int_min, int_max}
 use Rattle.std.specs.List.{All, flat_map}
+use Rattle.std.specs.Str.{IsUtf8}
 use Rattle.std.proofs.lemmas.Bool.{cases_lt}
 use Rattle.std.proofs.lemmas.Bool.Decides.{nat_tests}
 use Rattle.std.proofs.lemmas.List.{take-append-le, drop-append-le}
@@ -10,12 +11,13 @@ use Rattle.std.proofs.lemmas.List.Concat.{flat_map-append}
 use Rattle.std.proofs.lemmas.List.Elements.{All-nil, All-cons, All-head, All-tail, All-append}
 use Rattle.scm_cells.specs.Rect.{or_zero}
 use Rattle.scm_cells.specs.Cluster.{Cluster}
-use Rattle.scm_cells.specs.Clusters.{clusters}
+use Rattle.scm_cells.specs.Clusters.{clusters, IsMeasured}
 use Rattle.scm_cells.specs.Cell.{Cell, blank}
 use Rattle.scm_cells.specs.Row.{IsWhole, cells_of, later_cells, whole_before, whole_after, written, passes, cells_past, overlay, put}
+use Rattle.scm_cells.proofs.PrintableLemmas.{printable-kept}
 use Rattle.scm_cells.proofs.PutLemmas.{length-later, length-cells}
 use Rattle.scm_cells.proofs.SpaceLemmas.{space, cells-space}
-use Rattle.scm_cells.proofs.WrittenLemmas.{AllKept, AllKept-clusters, by_stop, written-none, written-cons, written-stop}
+use Rattle.scm_cells.proofs.WrittenLemmas.{AllKept, AllKept-clusters, AllMeasured-clusters, measured, utf8-ascii, by_stop, written-none, written-cons, written-stop}
 
 abbrev pub HasColumn : Cluster → Type 0
 HasColumn c = 0 < c.1
@@ -23,23 +25,24 @@ HasColumn c = 0 < c.1
 -- ---- rows of whole symbols
 
 IsWhole-none : IsWhole []
-IsWhole-none = record { symbols = []; wide = All-nil HasColumn; cells = refl }
+IsWhole-none = record { symbols = []; wide = All-nil HasColumn; kept = All-nil IsMeasured; cells = refl }
 
-IsWhole-one : (c : Cluster) → 0 < c.1 → IsWhole (cells_of c)
-IsWhole-one c h = record { symbols = c ∷ []; wide = All-cons HasColumn c [] h (All-nil HasColumn); cells = sym (append-nil (cells_of c)) }
+IsWhole-one : (c : Cluster) → 0 < c.1 → IsMeasured c → IsWhole (cells_of c)
+IsWhole-one c h m = record { symbols = c ∷ []; wide = All-cons HasColumn c [] h (All-nil HasColumn); kept = All-cons IsMeasured c [] m (All-nil IsMeasured); cells = sym (append-nil (cells_of c)) }
 
 IsWhole-append : (xs ys : List Cell) → IsWhole xs → IsWhole ys → IsWhole (xs ++ ys)
 IsWhole-append xs ys h g = record {
   symbols = h.symbols ++ g.symbols;
   wide = All-append HasColumn h.symbols g.symbols h.wide g.wide;
+  kept = All-append IsMeasured h.symbols g.symbols h.kept g.kept;
   cells = ap₂ (λ a b. a ++ b) h.cells g.cells ∙ sym (flat_map-append cells_of h.symbols g.symbols);
 }
 
-IsWhole-symbols : (cs : List Cluster) → All HasColumn cs → IsWhole (flat_map cells_of cs)
-IsWhole-symbols cs h = record { symbols = cs; wide = h; cells = refl }
+IsWhole-symbols : (cs : List Cluster) → All HasColumn cs → All IsMeasured cs → IsWhole (flat_map cells_of cs)
+IsWhole-symbols cs h m = record { symbols = cs; wide = h; kept = m; cells = refl }
 
 IsWhole-blank : IsWhole (blank ∷ [])
-IsWhole-blank = subst IsWhole cells-space (IsWhole-one space (omega arith))
+IsWhole-blank = subst IsWhole cells-space (IsWhole-one space (omega arith) (measured space (printable-kept 32 refl) (utf8-ascii 32 (omega arith)) (λ h. refl)))
 
 pub IsWhole-blanks : (n : ℕ) → IsWhole (replicate n blank)
 IsWhole-blanks zero = IsWhole-none
@@ -97,13 +100,13 @@ no_cells zero = IsWhole-none
 no_cells (suc n) = IsWhole-none
 
 -- what is left of whole symbols before a column
-IsWhole-before : (cs : List Cluster) → All HasColumn cs → (n : ℕ) → IsWhole (whole_before (take n (flat_map cells_of cs)))
-IsWhole-before [] all n = no_cells n
-IsWhole-before (c ∷ cs) all n =
+IsWhole-before : (cs : List Cluster) → All HasColumn cs → All IsMeasured cs → (n : ℕ) → IsWhole (whole_before (take n (flat_map cells_of cs)))
+IsWhole-before [] all kept n = no_cells n
+IsWhole-before (c ∷ cs) all kept n =
     let some = All-head HasColumn c cs all in
     let more = flat_map cells_of cs in
     let size = length-cells c some in
-    let rest = IsWhole-before cs (All-tail HasColumn c cs all) (n - length (cells_of c)) in
+    let rest = IsWhole-before cs (All-tail HasColumn c cs all) (All-tail IsMeasured c cs kept) (n - length (cells_of c)) in
     ⊎_elim
     (λ (cut : n < c.1).
     let e : whole_before (take n (cells_of c ++ more)) ≡ replicate n blank = ap whole_before (take-append-le n (cells_of c) more (omega arith)) ∙ before-cells_cut c n cut in
@@ -111,7 +114,7 @@ IsWhole-before (c ∷ cs) all n =
     (λ (whole : c.1 ≤ n).
     let e : whole_before (take n (cells_of c ++ more)) ≡ cells_of c ++ whole_before (take (n - length (cells_of c)) more) =
     ap whole_before (take-past n (cells_of c) more (omega arith)) ∙ before-cells c (take (n - length (cells_of c)) more) some in
-    subst IsWhole (sym e) (IsWhole-append (cells_of c) (whole_before (take (n - length (cells_of c)) more)) (IsWhole-one c some) rest))
+    subst IsWhole (sym e) (IsWhole-append (cells_of c) (whole_before (take (n - length (cells_of c)) more)) (IsWhole-one c some (All-head IsMeasured c cs kept)) rest))
     (cases_lt n c.1)
 
 -- ---- a row's end
@@ -171,34 +174,35 @@ no_later_cells zero = IsWhole-none
 no_later_cells (suc n) = IsWhole-none
 
 -- what is left of whole symbols from a column on
-IsWhole-after : (cs : List Cluster) → All HasColumn cs → (n : ℕ) → IsWhole (whole_after 0 (drop n (flat_map cells_of cs)))
-IsWhole-after [] all n = no_later_cells n
-IsWhole-after (c ∷ cs) all zero = subst IsWhole (sym (after-all 0 (c ∷ cs) all)) (IsWhole-symbols (c ∷ cs) all)
-IsWhole-after (c ∷ cs) all (suc n) =
+IsWhole-after : (cs : List Cluster) → All HasColumn cs → All IsMeasured cs → (n : ℕ) → IsWhole (whole_after 0 (drop n (flat_map cells_of cs)))
+IsWhole-after [] all kept n = no_later_cells n
+IsWhole-after (c ∷ cs) all kept zero = subst IsWhole (sym (after-all 0 (c ∷ cs) all)) (IsWhole-symbols (c ∷ cs) all kept)
+IsWhole-after (c ∷ cs) all kept (suc n) =
     let some = All-head HasColumn c cs all in
     let others = All-tail HasColumn c cs all in
     let more = flat_map cells_of cs in
     let size = length-cells c some in
-    let rest = IsWhole-after cs others (suc n - length (cells_of c)) in
+    let measures = All-tail IsMeasured c cs kept in
+    let rest = IsWhole-after cs others measures (suc n - length (cells_of c)) in
     ⊎_elim
     (λ (cut : suc n < c.1).
     let left = c.1 - suc n in
     let e : whole_after 0 (drop (suc n) (cells_of c ++ more)) ≡ replicate left blank ++ more =
     ap (whole_after 0) (drop-append-le (suc n) (cells_of c) more (omega arith) ∙ ap (λ t. t ++ more) (drop-cells (suc n) c (omega arith) (omega arith)))
     ∙ after-later_cut 0 c.1 (suc n) left more (omega arith) ∙ ap (λ t. replicate left blank ++ t) (after-all (0 + left) cs others) in
-    subst IsWhole (sym e) (IsWhole-append (replicate left blank) more (IsWhole-blanks left) (IsWhole-symbols cs others)))
+    subst IsWhole (sym e) (IsWhole-append (replicate left blank) more (IsWhole-blanks left) (IsWhole-symbols cs others measures)))
     (λ (whole : c.1 ≤ suc n). subst IsWhole (sym (ap (whole_after 0) (drop-past (suc n) (cells_of c) more (omega arith)))) rest)
     (cases_lt (suc n) c.1)
 
 -- ---- a text put on a row
 
-IsWhole-written : (cs : List Cluster) (column : ℤ) (low high : ℕ) → AllKept cs → IsWhole (written column cs low high)
-IsWhole-written [] column low high kept = subst IsWhole (sym (written-none column low high)) IsWhole-none
-IsWhole-written (c ∷ cs) column low high kept =
-    let rest = IsWhole-written cs (column +ℤ pos c.1) low high kept.1 in
+IsWhole-written : (cs : List Cluster) (column : ℤ) (low high : ℕ) → AllKept cs → All IsMeasured cs → IsWhole (written column cs low high)
+IsWhole-written [] column low high kept all = subst IsWhole (sym (written-none column low high)) IsWhole-none
+IsWhole-written (c ∷ cs) column low high kept all =
+    let rest = IsWhole-written cs (column +ℤ pos c.1) low high kept.1 (All-tail IsMeasured c cs all) in
     let first : IsWhole (cells_past low high (column, c)) =
     IsWhole-if (int_le (column +ℤ pos c.1) (pos low)) [] _ IsWhole-none
-    (IsWhole-if (int_lt column (pos low)) (replicate (or_zero (int_min (pos high) (column +ℤ pos c.1) -ℤ pos low)) blank) (cells_of c) (IsWhole-blanks _) (IsWhole-one c kept.0.columns)) in
+    (IsWhole-if (int_lt column (pos low)) (replicate (or_zero (int_min (pos high) (column +ℤ pos c.1) -ℤ pos low)) blank) (cells_of c) (IsWhole-blanks _) (IsWhole-one c kept.0.columns (All-head IsMeasured c cs all))) in
     by_stop (passes low high (column, c)) refl
     (λ stops. subst IsWhole (sym (written-stop column c cs low high stops)) IsWhole-none)
     (λ stays. subst IsWhole (sym (written-cons column c cs low high stays)) (IsWhole-append (cells_past low high (column, c)) (written (column +ℤ pos c.1) cs low high) first rest))
@@ -209,10 +213,10 @@ IsWhole-overlay row from [] h g = h
 IsWhole-overlay row from (c ∷ cs) h g =
     let end = from + length (c ∷ cs) in
     IsWhole-append (whole_before (take from row)) ((c ∷ cs) ++ whole_after 0 (drop end row))
-    (subst (λ r. IsWhole (whole_before (take from r))) (sym h.cells) (IsWhole-before h.symbols h.wide from))
-    (IsWhole-append (c ∷ cs) (whole_after 0 (drop end row)) g (subst (λ r. IsWhole (whole_after 0 (drop end r))) (sym h.cells) (IsWhole-after h.symbols h.wide end)))
+    (subst (λ r. IsWhole (whole_before (take from r))) (sym h.cells) (IsWhole-before h.symbols h.wide h.kept from))
+    (IsWhole-append (c ∷ cs) (whole_after 0 (drop end row)) g (subst (λ r. IsWhole (whole_after 0 (drop end r))) (sym h.cells) (IsWhole-after h.symbols h.wide h.kept end)))
 
-pub IsWhole-put : (row : List Cell) (column : ℤ) (text : List ℕ) (low high : ℕ) → IsWhole row → IsWhole (put row column text low high)
+pub IsWhole-put : (row : List Cell) (column : ℤ) (text : List ℕ) (low high : ℕ) → IsUtf8 text → IsWhole row → IsWhole (put row column text low high)
 unfolding put
-IsWhole-put row column text low high h =
-    IsWhole-overlay row (or_zero (int_max column (pos low))) (written column (clusters text) low high) h (IsWhole-written (clusters text) column low high (AllKept-clusters text))
+IsWhole-put row column text low high u h =
+    IsWhole-overlay row (or_zero (int_max column (pos low))) (written column (clusters text) low high) h (IsWhole-written (clusters text) column low high (AllKept-clusters text) (AllMeasured-clusters text u))

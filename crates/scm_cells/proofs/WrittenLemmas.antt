@@ -1,23 +1,29 @@
 -- What clusters laid on a row write, step by step.
-use Rattle.std.proofs.Common.{◌≡◌, ℕ, suc, ◌+◌, ◌-◌, ◌<◌, ◌≤◌, min, Bool, true, false, not, ◌&&◌, nat_le, List, [], ◌∷◌, ◌++◌, length, take, drop, map, slice_range, append-nil, append_assoc, length-append, length-take, length-drop, take-append-drop, replicate, refl, sym, ap, ap₂, subst, ◌∙◌, arith, ⊎_elim, Option, Some, None, Result, Ok, Err, length-take-le, take_at, drop_at}
-use Rattle.std.specs.Prelude.{ℤ, pos, ◌+ℤ◌, ◌-ℤ◌, ◌≤ℤ◌, ◌<ℤ◌, int_le, int_lt, take_while}
+use Rattle.std.proofs.Common.{◌≡◌, ℕ, suc, ◌+◌, ◌-◌, ◌<◌, ◌≤◌, min, Bool, true, false, not, ◌&&◌, nat_le, List, [], ◌∷◌, ◌++◌, length, get_or, take, drop, map, slice_range, append-nil, append_assoc, length-append, length-take, length-drop, take-append-drop, replicate, refl, sym, ap, ap₂, subst, ◌∙◌, arith, ⊎_elim, Option, Some, None, Result, Ok, Err, length-take-le, take_at, drop_at}
+use Rattle.std.specs.Prelude.{option_map, encode_utf8_all, if◌then◌else◌, ℤ, pos, ◌+ℤ◌, ◌-ℤ◌, ◌≤ℤ◌, ◌<ℤ◌, int_le, int_lt, take_while}
 use Rattle.std.specs.Int.{int_min, int_max}
-use Rattle.std.specs.List.{flat_map, filter_map, prefix_len}
+use Rattle.std.specs.List.{All, flat_map, filter_map, prefix_len}
 use Rattle.std.specs.Result.{OnErr, IfOk}
 use Rattle.std.proofs.lemmas.Result.{IfOk-weaker}
 use Rattle.std.proofs.lemmas.Bool.{cases_lt}
 use Rattle.std.proofs.lemmas.Bool.Decides.{nat_tests}
 use Rattle.std.proofs.lemmas.List.{map-append, take-append-le}
+use Rattle.std.proofs.lemmas.List.Elements.{All-nil, All-cons, All-head, All-tail, All-map}
+use Rattle.std.proofs.lemmas.Bool.{and_parts}
+use Rattle.std.proofs.lemmas.Str.Ascii.{IsAscii-nil, IsAscii-cons}
+use Rattle.std.specs.Str.{chars, is_utf8, IsUtf8}
+use lib.Utf8.{scalar, scalars}
+use Rattle.unicode_segmentation.specs.Segments.{Rule, cut, prepend, segments}
 use Rattle.std.proofs.lemmas.List.Sums.{sum_by-cons}
 use Rattle.std.proofs.lemmas.Slice.{take-put_mid}
 use borrow.Rule.Slice.PartMut.{put_mid}
 use Rattle.std.proofs.lemmas.Int.{ints, by_lt_z}
-use Rattle.std.proofs.lemmas.Str.{chars-nil, length-encode}
-use Rattle.unicode_segmentation.specs.Grapheme.{graphemes}
+use Rattle.std.proofs.lemmas.Str.{chars-nil, length-encode, scalars-chars, is_utf8-from_IsUtf8, IsUtf8-from_ascii}
+use Rattle.unicode_segmentation.specs.Grapheme.{graphemes, is_grapheme_break}
 use Rattle.unicode_width.specs.Width.{str_width}
 use Rattle.scm_cells.specs.Rect.{or_zero}
 use Rattle.scm_cells.specs.Cluster.{Cluster, bytes_as_clusters}
-use Rattle.scm_cells.specs.Clusters.{clusters, text_width, clusters_left, rest_left, kept, with_width, kept_width, has_control}
+use Rattle.scm_cells.specs.Clusters.{clusters, text_width, clusters_left, rest_left, kept, with_width, kept_width, has_control, IsMeasured}
 use Rattle.scm_cells.specs.declared.text.Clusters.{Clusters}
 use Rattle.scm_cells.specs.declared.text.Rest.{Rest}
 use Rattle.scm_cells.specs.declared.text.Rest.TheVariants.{Bytes, Graphemes}
@@ -29,6 +35,7 @@ use Rattle.scm_cells.specs.declared.cutting.Cut.{Cut}
 use Rattle.scm_cells.specs.declared.cutting.Cut.TheVariants as cuts
 use Rattle.scm_cells.specs.declared.row.Laid.{Laid}
 use Rattle.scm_cells.proofs.RectLemmas.{places}
+use Rattle.scm_cells.proofs.SingleLemmas.{IsSingle, single-graphemes}
 
 -- ---- clusters have bytes and columns
 
@@ -87,6 +94,66 @@ AllKept-cut (cuts.Clusters text) = AllKept-left text
 pub AllKept-clusters : (text : List ℕ) → AllKept (clusters text)
 unfolding clusters kept
 AllKept-clusters text = AllKept-pieces (graphemes true text)
+
+-- ---- clusters have the columns that are measured of them, and are UTF-8
+
+abbrev IsScalars : List ℕ → Type 0
+IsScalars cs = scalars cs ≡ true
+
+abbrev IsText : List ℕ → Type 0
+IsText piece = is_utf8 piece ≡ true
+
+both : (a b : Bool) → a ≡ true → b ≡ true → (a && b) ≡ true
+both a b h g = rw (h, g) refl
+
+scalars-prepend : (c : ℕ) (ps : List (List ℕ)) → scalar c ≡ true → All IsScalars ps → All IsScalars (prepend (c ∷ []) ps)
+scalars-prepend c [] h all = All-cons IsScalars (c ∷ []) [] (both (scalar c) true h refl) (All-nil IsScalars)
+scalars-prepend c (p ∷ ps) h all = All-cons IsScalars (c ∷ p) ps (both (scalar c) (scalars p) h (All-head IsScalars p ps all)) (All-tail IsScalars p ps all)
+
+scalars-if : (b : Bool) (xs ys : List (List ℕ)) → All IsScalars xs → All IsScalars ys → All IsScalars (if b then xs else ys)
+scalars-if true xs ys h g = h
+scalars-if false xs ys h g = g
+
+scalars-cut : (rule : Rule) (before cs after : List ℕ) → scalars cs ≡ true → All IsScalars (cut rule before cs after)
+unfolding cut
+scalars-cut rule before [] after h = All-nil IsScalars
+scalars-cut rule before (c ∷ cs) after h =
+    let parts = and_parts (scalar c) (scalars cs) h in
+    let rest = scalars-cut rule (c ∷ before) cs after parts.1 in
+    scalars-if (rule (c ∷ before) (cs ++ after)) ((c ∷ []) ∷ cut rule (c ∷ before) cs after) (prepend (c ∷ []) (cut rule (c ∷ before) cs after))
+    (All-cons IsScalars (c ∷ []) (cut rule (c ∷ before) cs after) (both (scalar c) true parts.0 refl) rest) (scalars-prepend c (cut rule (c ∷ before) cs after) parts.0 rest)
+
+texts-segments : (rule : Rule) (text : List ℕ) → IsUtf8 text → All IsText (segments rule text)
+unfolding segments
+texts-segments rule text u =
+    let all = scalars-cut rule [] (chars text) [] (scalars-chars text u) in
+    All-map IsText encode_utf8_all (cut rule [] (chars text) []) (λ k d h. is_utf8-from_IsUtf8 _ (get_or (cut rule [] (chars text) []) k d, (all k d h, refl)))
+
+AllMeasured-cons : (piece : List ℕ) (pieces : List (List ℕ)) (width : Option ℕ) → kept_width piece ≡ width → IsText piece → IsSingle piece
+    → All IsMeasured (filter_map with_width pieces) → All IsMeasured (filter_map with_width (piece ∷ pieces))
+unfolding with_width
+AllMeasured-cons piece pieces None e u s h = rw e h
+AllMeasured-cons piece pieces (Some width) e u s h = rw e (All-cons IsMeasured (piece, width) (filter_map with_width pieces) (record { columns = e; utf8 = u; single = s }) h)
+
+AllMeasured-pieces : (pieces : List (List ℕ)) → All IsText pieces → All IsSingle pieces → All IsMeasured (filter_map with_width pieces)
+AllMeasured-pieces [] all single = All-nil IsMeasured
+AllMeasured-pieces (p ∷ ps) all single =
+    AllMeasured-cons p ps (kept_width p) refl (All-head IsText p ps all) (All-head IsSingle p ps single) (AllMeasured-pieces ps (All-tail IsText p ps all) (All-tail IsSingle p ps single))
+
+pub AllMeasured-clusters : (text : List ℕ) → IsUtf8 text → All IsMeasured (clusters text)
+unfolding clusters kept
+AllMeasured-clusters text u = AllMeasured-pieces (graphemes true text) (texts-segments (is_grapheme_break true) text u) (single-graphemes text)
+
+measured-from : (piece : List ℕ) (width : Option ℕ) (n : ℕ) → option_map {U = Cluster} (λ w. (piece, w)) width ≡ Some (piece, n) → width ≡ Some n
+measured-from piece None n e = cc
+measured-from piece (Some w) n e = let same : ◌≡◌ {A = Cluster} (piece, w) (piece, n) = cc in ap (λ (c : Cluster). Some c.1) same
+
+pub measured : (c : Cluster) → with_width c.0 ≡ Some c → is_utf8 c.0 ≡ true → IsSingle c.0 → IsMeasured c
+unfolding with_width
+measured c e u s = record { columns = measured-from c.0 (kept_width c.0) c.1 e; utf8 = u; single = s }
+
+pub utf8-ascii : (b : ℕ) → b < 128 → is_utf8 (b ∷ []) ≡ true
+utf8-ascii b h = is_utf8-from_IsUtf8 (b ∷ []) (IsUtf8-from_ascii (b ∷ []) (IsAscii-cons b [] h IsAscii-nil))
 
 -- ---- a cluster at a time
 

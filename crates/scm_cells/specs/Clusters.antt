@@ -1,12 +1,12 @@
 -- The clusters of a text that a screen shows, and their columns.
-use Rattle.std.specs.Prelude.{ℕ, List, Bool, true, false, ◌==◌, if◌then◌else◌, Option, Some, None, option_map, sum_by}
+use Rattle.std.specs.Prelude.{◌≡◌, ℕ, List, Bool, true, false, ◌==◌, if◌then◌else◌, Option, Some, None, option_map, sum_by, length}
 use Rattle.std.specs.List.{list_any, filter_map}
 use Rattle.std.specs.Char.{is_control}
-use Rattle.std.specs.Str.{chars}
+use Rattle.std.specs.Str.{chars, is_utf8}
 use Rattle.unicode_segmentation.specs.Grapheme.{graphemes}
 use Rattle.unicode_segmentation.specs.Iter.{graphemes_left}
 use Rattle.unicode_width.specs.Width.{str_width}
-use Rattle.scm_cells.specs.Cluster.{Cluster, bytes_as_clusters}
+use Rattle.scm_cells.specs.Cluster.{Cluster, bytes_as_clusters, is_printable}
 use Rattle.scm_cells.specs.declared.text.Clusters.{Clusters}
 use Rattle.scm_cells.specs.declared.text.Rest.{Rest}
 use Rattle.scm_cells.specs.declared.text.Rest.TheVariants.{Bytes, Graphemes}
@@ -31,6 +31,13 @@ kept pieces = filter_map with_width pieces
 -- the clusters of a text: its extended grapheme clusters that are kept
 unfoldable pub clusters : List ℕ → List Cluster
 clusters text = kept (graphemes true text)
+
+-- a cluster that is kept, with the columns that it has: it is UTF-8, holds no control character, and is one byte if its bytes are
+-- printable ASCII
+pub record IsMeasured (c : Cluster) : Type 0 where
+  pub columns : kept_width c.0 ≡ Some c.1
+  pub utf8 : is_utf8 c.0 ≡ true
+  pub single : is_printable c.0 ≡ true → length c.0 ≡ 1
 
 -- the columns that a text takes
 unfoldable pub text_width : List ℕ → ℕ

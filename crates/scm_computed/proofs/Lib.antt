@@ -12,7 +12,13 @@ pub mod Counted
 pub mod Windows
 -- screens that are scrolled, or that have dialogs
 pub mod Screens
+-- styles of small sessions
+pub mod Styles
 -- what events make of small sessions
 pub mod Steps
 -- the largest states that are accepted
 pub mod Limits
+-- what a terminal sends
+pub mod Sequences
+-- what a terminal is sent, read as commands
+pub mod Commands

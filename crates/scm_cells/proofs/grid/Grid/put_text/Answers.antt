@@ -49,7 +49,7 @@ invariant_of-self-2 c =
     IsScreen-same _ _ (ap (λ (rs : List (List Cell)). record { width = c.self.inside.width; rows = rs; counts = record { rows = c.self.inside.rows_drawn; calls = c.self.inside.calls } })
     (rows-set rows c.args.row c.index_mut-columns.result.now c.put_row.new.columns (c.put_row.auto.columns ∙ c.as_mut_slice.ensures.len)))
     (IsScreen-set _ c.args.row (map shown c.put_row.new.columns) c.self.invariant (length-map c.put_row.new.columns shown ∙ c.put_row.auto.columns ∙ size)
-    (subst IsWhole (sym (simp to_z-of_z at c.in_ok-rest.ensures.ok)) (IsWhole-put _ c.args.column c.args.text.now c.args.low c.args.high whole)))
+    (subst IsWhole (sym (simp to_z-of_z at c.in_ok-rest.ensures.ok)) (IsWhole-put _ c.args.column c.args.text.now c.args.low c.args.high c.utf8.text whole)))
 
 pub returns-in_err-rest-clause-unchanged : goal.returns-in_err-rest-clause-unchanged
 returns-in_err-rest-clause-unchanged c =

@@ -1,0 +1,105 @@
+-- A screen of 3 by 2, computed from the definitions: what it showed is not known, a byte and a wide symbol are written on the first
+-- row, and the second is left out. And bytes, read as commands.
+use Rattle.std.proofs.Common.{◌≡◌, ℕ, true, false, List, [], ◌∷◌, ◌++◌, codes, refl, arith, Some, None}
+use Rattle.scm_terminal.specs.declared.style.Colour.TheVariants.{Red, Green}
+use Rattle.scm_terminal.specs.declared.style.Style.{Style}
+use Rattle.scm_terminal.specs.Place.{Place, First, Later}
+use Rattle.scm_terminal.specs.Reading.{parts_of, read_commands, text_commands}
+use Rattle.scm_terminal.specs.Style.{style_code, style_of}
+use Rattle.scm_terminal.specs.Terminal.{Spot, Symbol, AreApart, MoveTo, SetStyle, Put, over, put, after, after_all}
+use Rattle.scm_terminal.specs.Painting.{Line, row_commands, painting}
+
+abbrev plain : Style
+plain = record { colour = None; bold = false; dim = false; underlined = false; reversed = false }
+
+abbrev red : Style
+red = record { colour = Some Red; bold = true; dim = false; underlined = false; reversed = false }
+
+abbrev wide : List ℕ
+wide = 0xE6 ∷ (0x97 ∷ (0xA5 ∷ []))
+
+abbrev first : List Place
+first = First (97 ∷ []) plain ∷ (First wide red ∷ (Later ∷ []))
+
+abbrev second : List Place
+second = First (98 ∷ []) red ∷ (First (99 ∷ []) red ∷ (First (100 ∷ []) plain ∷ []))
+
+abbrev lines : List Line
+lines = record { places = first; is_changed = true } ∷ (record { places = second; is_changed = false } ∷ [])
+
+abbrev known_row : List Spot
+known_row = Some (First (98 ∷ []) red) ∷ (Some (First (99 ∷ []) red) ∷ (Some (First (100 ∷ []) plain) ∷ []))
+
+-- the cursor goes to the first column, and to that of the symbol of more bytes
+written : painting 0 lines ≡ MoveTo 0 0 ∷ (SetStyle plain ∷ (Put (97 ∷ []) 1 ∷ (MoveTo 0 1 ∷ (SetStyle red ∷ (Put wide 2 ∷ [])))))
+unfolding painting row_commands style_code
+written = refl
+
+-- on a row that began within a symbol, and with one that goes on past its end
+shown : after_all (painting 0 lines) (record { width = 3; rows = (Some Later ∷ (None ∷ (Some Later ∷ []))) ∷ (known_row ∷ []); cursor = None; style = None })
+    ≡ Some (record {
+      width = 3;
+      rows = (Some (First (97 ∷ []) plain) ∷ (Some (First wide red) ∷ (Some Later ∷ []))) ∷ (known_row ∷ []);
+      cursor = None;
+      style = Some red;
+    })
+unfolding painting row_commands style_code over put after after_all
+shown = refl
+
+-- a wide symbol that is covered by half leaves a column of which nothing is known, and one that has no room is not put
+cut : after_all (MoveTo 0 1 ∷ (SetStyle plain ∷ (Put (97 ∷ []) 1 ∷ []))) (record { width = 3; rows = (Some (First (97 ∷ []) red) ∷ (Some (First wide red) ∷ (Some Later ∷ []))) ∷ []; cursor = None; style = None })
+    ≡ Some (record { width = 3; rows = (Some (First (97 ∷ []) red) ∷ (Some (First (97 ∷ []) plain) ∷ (None ∷ []))) ∷ []; cursor = Some (0, 2); style = Some plain })
+unfolding over put after after_all
+cut = refl
+
+no_room : after_all (MoveTo 0 2 ∷ (SetStyle plain ∷ (Put wide 2 ∷ []))) (record { width = 3; rows = (None ∷ (None ∷ (None ∷ []))) ∷ []; cursor = None; style = None }) ≡ None
+unfolding over put after after_all
+no_room = refl
+
+-- ---- bytes, read as commands
+
+unfoldable reading : Unit {0}
+unfolding read_commands parts_of text_commands style_of
+reading = tt
+
+abbrev green : Style
+green = record { colour = Some Green; bold = true; dim = false; underlined = true; reversed = false }
+
+-- a move, a style and two symbols of a byte each
+read : read_commands ((27 ∷ codes "[2;13H") ++ ((27 ∷ codes "[0;1;4;32m") ++ codes "ab"))
+    ≡ Some (MoveTo 1 12 ∷ (SetStyle green ∷ (Put (97 ∷ []) 1 ∷ (Put (98 ∷ []) 1 ∷ []))))
+unfolding reading
+read = refl
+
+-- nothing else is read: a title, the screen cleared, a style that does not reset the one before, a style that has no meaning here, an
+-- escape alone, a command without its last byte
+no_title : read_commands ((27 ∷ codes "]0;title") ++ (7 ∷ [])) ≡ None
+unfolding reading
+no_title = refl
+
+no_clearing : read_commands (27 ∷ codes "[2J") ≡ None
+unfolding reading
+no_clearing = refl
+
+no_reset : read_commands (27 ∷ codes "[1m") ≡ None
+unfolding reading
+no_reset = refl
+
+no_blinking : read_commands (27 ∷ codes "[0;5m") ≡ None
+unfolding reading
+no_blinking = refl
+
+no_escape : read_commands (97 ∷ (27 ∷ [])) ≡ None
+unfolding reading
+no_escape = refl
+
+no_end : read_commands (27 ∷ codes "[2;13") ≡ None
+unfolding reading
+no_end = refl
+
+-- between a byte and a wide symbol, and behind that, the cursor is moved; without the move the two are not apart
+apart : AreApart Symbol (MoveTo 0 0 ∷ (SetStyle plain ∷ (Put (97 ∷ []) 1 ∷ (MoveTo 0 1 ∷ (SetStyle red ∷ (Put wide 2 ∷ []))))))
+apart = (tt, (tt, tt))
+
+not_apart : AreApart Symbol (MoveTo 0 0 ∷ (SetStyle plain ∷ (Put (97 ∷ []) 1 ∷ (SetStyle red ∷ (Put wide 2 ∷ []))))) → ⊥
+not_apart h = omega (arith, h.1.0)

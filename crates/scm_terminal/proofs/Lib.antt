@@ -1,0 +1,28 @@
+-- ---- styles by their numbers
+pub mod StyleLemmas
+-- ---- commands one after another, on one row and on all
+pub mod RunLemmas
+pub mod RowLemmas
+pub mod ApartLemmas
+pub mod PaintingLemmas
+-- ---- what a grid shows
+pub mod PictureLemmas
+-- ---- what the code keeps and writes
+pub mod PlaceLemmas
+pub mod ShowingLemmas
+pub mod UpdateLemmas
+pub mod PushLemmas
+-- ---- no control is written
+pub mod ControlLemmas
+-- ---- what is written is read
+pub mod ReadingLemmas
+-- ---- a small screen, computed
+mod Computed
+-- a stream split byte by byte
+pub mod StreamLemmas
+-- what a decoder has heard
+pub mod HeardLemmas
+-- what holds of every stream
+pub mod LawLemmas
+-- what is pasted
+pub mod PasteLemmas

@@ -1,0 +1,165 @@
+//! The painter: a grid and its styles in, bytes for a terminal out.
+ghost use Rattle.std.specs.Prelude.{◌≡◌, ◌↔◌, ◌<◌, ◌^◌, ◌++◌, [], ℕ, IsTrue, IfOk, IfErr, OnOk, OnErr, true, false, length, map, slice_index_or, string_bytes};
+ghost use Rattle.std.specs.List.{All, flat_map};
+ghost use Rattle.scm_errors.specs.declared.error.RecordError.TheVariants.{OutOfMemory};
+ghost use Rattle.scm_terminal.specs.Painting.{AreUpdates, painting};
+ghost use Rattle.scm_terminal.specs.Place.{picture};
+ghost use Rattle.scm_terminal.specs.RowView.{line_of};
+ghost use Rattle.scm_terminal.specs.PainterView.{places_of};
+ghost use Rattle.scm_terminal.specs.Promise.{HasSize, Paints};
+ghost use Rattle.scm_terminal.specs.Terminal.{bytes_of};
+
+use crate::row::Row;
+use crate::style::Styles;
+use scm_cells::Grid;
+use scm_errors::RecordError;
+use std::alloc::{AllocError, Global};
+use std::marker::Model;
+
+/// Paints grids on one terminal. It keeps the last picture, and writes only the rows that changed.
+#[derive(Drop)]
+pub struct Painter {
+    alloc: Global,
+
+    /// The rows of the last picture, or none if it is not known what the terminal shows.
+    rows: Vec<Row>,
+}
+
+impl Model for Painter {
+    ghost use Rattle.std.specs.Prelude.{List};
+    ghost use Rattle.scm_terminal.specs.Place.{Place};
+
+    ghost Value = { List (List Place) };
+
+    ghost use Rattle.scm_terminal.specs.PainterView.{painted};
+
+    ghost view = { painted };
+}
+
+/// Returns whether each row has `width` columns.
+fn are_wide(rows: &[Row], width: usize) -> bool
+    ensures { IsTrue result ↔ All (λ row. length row.places.items ≡ width) rows.now }
+{
+    rows.iter().all(|row| row.places.len() == width)
+}
+
+/// Returns whether there are `height` rows, each of `width` columns.
+fn has_size(rows: &[Row], width: usize, height: usize) -> bool
+    ensures { IsTrue result ↔ HasSize width height (map places_of rows.now) }
+{
+    let is_width = are_wide(rows, width);
+    let is_height = rows.len() == height;
+    is_width & is_height
+}
+
+/// Makes `height` rows, each of `width` columns.
+fn new_rows(alloc: Global, width: usize, height: usize) -> Result<Vec<Row>, AllocError>
+    ensures { IfOk result (λ rows. HasSize width height (map places_of rows.items)) }
+{
+    let mut rows = Vec::with_capacity(alloc, height)?;
+    for _ in 0..height {
+        rows.push(Row::new(alloc, width)?)?;
+    }
+    Ok(rows)
+}
+
+impl Painter {
+    /// Makes a painter that does not know what the terminal shows.
+    pub fn new(alloc: Global) -> Painter
+        ensures { result ≡ [] }
+    {
+        Painter {
+            alloc,
+            rows: Vec::new(alloc),
+        }
+    }
+
+    /// Forgets the last picture, so that the next paint writes all rows.
+    pub fn forget(&mut self)
+        ensures { self.new ≡ [] }
+    {
+        self.rows.clear();
+    }
+
+    /// Returns the bytes that make a terminal of the grid's size show `grid` in `styles`. They
+    /// write the rows that differ from the last picture, or all rows if that had another size.
+    ///
+    /// # Errors
+    /// `OutOfMemory`: an allocation failed; the painter forgets the last picture.
+    pub fn paint<S: Styles>(&mut self, grid: &Grid, styles: &S) -> Result<String, RecordError>
+        ensures ok { let next = picture (S.styled styles.now) grid.now in
+            IfOk result (λ text. Paints grid.now.width self.old next (string_bytes text)) }
+        ensures painted { OnOk result (self.new ≡ picture (S.styled styles.now) grid.now) }
+        ensures forgotten { OnErr result (self.new ≡ []) }
+        ensures err { IfErr result (λ e. e ≡ OutOfMemory) }
+    {
+        match self.update_and_push(grid, styles) {
+            Ok(text) => Ok(text),
+            Err(_) => {
+                self.rows.clear();
+                Err(RecordError::OutOfMemory)
+            }
+        }
+    }
+
+    /// Updates the rows, and returns the bytes of those that changed.
+    fn update_and_push<S: Styles>(&mut self, grid: &Grid, styles: &S) -> Result<String, AllocError>
+        ensures ok { let next = picture (S.styled styles.now) grid.now in
+            IfOk result (λ text. Paints grid.now.width self.old next (string_bytes text)) }
+        ensures painted { OnOk result (self.new ≡ picture (S.styled styles.now) grid.now) }
+    {
+        let is_all = self.prepare(grid.width(), grid.height())?;
+        update_rows(self.rows.as_mut_slice(), grid, styles, is_all)?;
+        let mut text = String::new(self.alloc);
+        push_rows(&mut text, self.rows.as_slice())?;
+        Ok(text)
+    }
+
+    /// Makes `height` new rows of `width` columns if the rows have another size, and returns
+    /// whether it did.
+    fn prepare(&mut self, width: usize, height: usize) -> Result<bool, AllocError>
+        ensures size { OnOk result (HasSize width height self.new) }
+        ensures all { IfOk result (λ is_all. is_all ≡ false → self.new ≡ self.old) }
+        ensures sized { IfOk result (λ is_all. is_all ≡ false ↔ HasSize width height self.old) }
+    {
+        if has_size(self.rows.as_slice(), width, height) {
+            return Ok(false);
+        }
+        self.rows = new_rows(self.alloc, width, height)?;
+        Ok(true)
+    }
+}
+
+/// Shows `grid` on the rows, in `styles`. A row is marked as changed if it differs or `is_all` is
+/// set.
+fn update_rows<S: Styles>(
+    rows: &mut [Row],
+    grid: &Grid,
+    styles: &S,
+    is_all: bool,
+) -> Result<(), AllocError>
+    requires { HasSize grid.now.width (length grid.now.rows) (map places_of rows.old) }
+    ensures places { OnOk result (map places_of rows.new ≡ picture (S.styled styles.now) grid.now) }
+    ensures changed { OnOk result
+        (AreUpdates is_all (map places_of rows.old) (map line_of rows.new)) }
+{
+    let mut row = 0;
+    for shown in rows.iter_mut() {
+        shown.update(grid, styles, row, is_all)?;
+        row += 1;
+    }
+    Ok(())
+}
+
+/// Adds the bytes of the changed rows to `text`.
+fn push_rows(text: &mut String, rows: &[Row]) -> Result<(), AllocError>
+    requires rows { length rows.now < 2 ^ 16 }
+    requires columns { All (λ row. length row.places.items < 2 ^ 16) rows.now }
+    ensures { let commands = painting 0 (map line_of rows.now) in
+        OnOk result (string_bytes text.new ≡ string_bytes text.old ++ flat_map bytes_of commands) }
+{
+    for (index, row) in rows.iter().enumerate() {
+        row.push(text, index)?;
+    }
+    Ok(())
+}

@@ -1,0 +1,49 @@
+//! Keys of one byte.
+ghost use Rattle.std.specs.Prelude.{◌≡◌, ◌<◌};
+ghost use Rattle.scm_terminal.specs.Plain.{code_of, is_with_control, plain_key};
+
+use crate::bytes::is_between;
+use scm_input::{KeyCode, KeyEvent, KeyEventKind, KeyModifiers};
+
+/// Returns the key event of `byte`, which is below 128, with alt held or not.
+#[tactic(auto, unfolding(crate::specs::Plain::plain_key))]
+pub(crate) fn plain_key(alt: bool, byte: u8) -> KeyEvent
+    ensures { result ≡ plain_key alt byte }
+{
+    KeyEvent {
+        code: code_of(byte),
+        modifiers: KeyModifiers {
+            shift: is_between(65, 90, byte),
+            control: is_with_control(byte),
+            alt,
+            other: false,
+        },
+        kind: KeyEventKind::Press,
+    }
+}
+
+/// Returns the key of `byte`.
+fn code_of(byte: u8) -> KeyCode
+    ensures { result ≡ code_of byte }
+{
+    if byte == 13 {
+        KeyCode::Enter
+    } else if byte == 9 {
+        KeyCode::Char('\t')
+    } else if is_between(32, 126, byte) {
+        KeyCode::Char(byte as char)
+    } else if byte == 8 {
+        KeyCode::Other
+    } else if is_between(1, 26, byte) {
+        KeyCode::Char((byte + 96) as char)
+    } else {
+        KeyCode::Other
+    }
+}
+
+/// Returns whether `byte` is a key with control.
+fn is_with_control(byte: u8) -> bool
+    ensures { result ≡ is_with_control byte }
+{
+    byte < 32 && byte != 8 && byte != 9 && byte != 13
+}

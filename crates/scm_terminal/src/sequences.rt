@@ -1,0 +1,262 @@
+//! Escape sequences: an escape with `[` or `O`, numbers between semicolons, and a final byte.
+ghost use Rattle.std.specs.Prelude.{◌≡◌};
+ghost use Rattle.scm_terminal.specs.Sequences.{
+  arrow,
+  new_sequence,
+  trailing_bytes,
+  key_modifiers,
+  is_blank,
+  key_number,
+  key_token,
+  mouse_token,
+  named_key,
+  paging,
+  with_parameter,
+  token_of,
+  with_digit,
+  with_semicolon,
+};
+
+use crate::bytes::{is_digit, is_set};
+use crate::mouse::mouse_event;
+use crate::tokens::Token;
+use scm_input::{KeyCode, KeyEvent, KeyEventKind, KeyModifiers, TerminalEvent};
+
+/// The kinds of escape sequences.
+#[derive(Clone, Copy)]
+pub enum SequenceKind {
+    /// `ESC [`.
+    Bracket,
+    /// `ESC O`.
+    Single,
+    /// `ESC [ <`: a mouse report.
+    Mouse,
+    /// A sequence that is not recognized.
+    Unknown,
+}
+
+/// An unfinished sequence: its kind, and its last three numbers.
+#[derive(Clone, Copy)]
+pub struct Sequence {
+    /// The kind of the sequence.
+    pub kind: SequenceKind,
+    /// How many semicolons it has so far, two at most.
+    pub semicolons: u8,
+    /// The number before `second`, if there are two semicolons.
+    pub first: u16,
+    /// The number before `last`, if there is a semicolon.
+    pub second: u16,
+    /// The last number so far.
+    pub last: u16,
+}
+
+/// Makes a sequence with no number yet.
+#[tactic(auto, unfolding(crate::specs::Sequences::new_sequence))]
+pub(crate) fn new_sequence(kind: SequenceKind) -> Sequence
+    ensures { result ≡ new_sequence kind }
+{
+    Sequence {
+        kind,
+        semicolons: 0,
+        first: 0,
+        second: 0,
+        last: 0,
+    }
+}
+
+/// Returns whether `sequence` is `ESC [` with no number, or with a zero.
+fn is_blank(sequence: Sequence) -> bool
+    ensures { result ≡ is_blank sequence }
+{
+    match sequence.kind {
+        SequenceKind::Bracket => sequence.semicolons == 0 && sequence.last == 0,
+        SequenceKind::Single | SequenceKind::Mouse | SequenceKind::Unknown => false,
+    }
+}
+
+/// Adds the parameter byte `byte` to `sequence`.
+#[tactic(auto, unfolding(crate::specs::Sequences::with_parameter))]
+pub(crate) fn with_parameter(sequence: Sequence, byte: u8) -> Sequence
+    ensures { result ≡ with_parameter sequence byte }
+{
+    if is_digit(byte) {
+        with_digit(sequence, byte - 48)
+    } else if byte == 59 {
+        with_semicolon(sequence)
+    } else if byte == 60 && is_blank(sequence) {
+        Sequence {
+            kind: SequenceKind::Mouse,
+            ..sequence
+        }
+    } else {
+        Sequence {
+            kind: SequenceKind::Unknown,
+            ..sequence
+        }
+    }
+}
+
+/// Adds a digit to the last number of `sequence`.
+fn with_digit(sequence: Sequence, digit: u8) -> Sequence
+    ensures { result ≡ with_digit sequence digit }
+{
+    let number = sequence.last as u32 * 10 + digit as u32;
+    if number <= 65535 {
+        Sequence {
+            last: number as u16,
+            ..sequence
+        }
+    } else {
+        Sequence {
+            kind: SequenceKind::Unknown,
+            ..sequence
+        }
+    }
+}
+
+/// Adds a semicolon to `sequence`.
+fn with_semicolon(sequence: Sequence) -> Sequence
+    ensures { result ≡ with_semicolon sequence }
+{
+    if sequence.semicolons < 2 {
+        Sequence {
+            kind: sequence.kind,
+            semicolons: sequence.semicolons + 1,
+            first: sequence.second,
+            second: sequence.last,
+            last: 0,
+        }
+    } else {
+        Sequence {
+            kind: SequenceKind::Unknown,
+            ..sequence
+        }
+    }
+}
+
+/// Returns how many bytes after the final byte `last` belong to `sequence`.
+#[tactic(auto, unfolding(crate::specs::Sequences::trailing_bytes))]
+pub(crate) fn trailing_bytes(sequence: Sequence, last: u8) -> u8
+    ensures { result ≡ trailing_bytes sequence last }
+{
+    if !is_blank(sequence) {
+        0
+    } else if last == 77 {
+        3
+    } else if last == 91 {
+        1
+    } else {
+        0
+    }
+}
+
+/// Returns the token of `sequence` with the final byte `last`.
+#[tactic(auto, unfolding(crate::specs::Sequences::token_of))]
+pub(crate) fn token_of(sequence: Sequence, last: u8) -> Token
+    ensures { result ≡ token_of sequence last }
+{
+    match sequence.kind {
+        SequenceKind::Bracket => key_token(sequence, last),
+        SequenceKind::Single => named_key(sequence, arrow(key_number(sequence), last)),
+        SequenceKind::Mouse => mouse_token(sequence, last),
+        SequenceKind::Unknown => Token::UNRECOGNIZED,
+    }
+}
+
+/// Returns the token of a mouse report.
+fn mouse_token(sequence: Sequence, last: u8) -> Token
+    ensures { result ≡ mouse_token sequence last }
+{
+    if sequence.semicolons == 2 && (last == 77 || last == 109) {
+        Token::Event(mouse_event(last == 77, sequence.first, sequence.second, sequence.last))
+    } else {
+        Token::UNRECOGNIZED
+    }
+}
+
+/// Returns the token of a sequence that began with `ESC [`.
+fn key_token(sequence: Sequence, last: u8) -> Token
+    ensures { result ≡ key_token sequence last }
+{
+    let number = key_number(sequence);
+    if last != 126 {
+        named_key(sequence, arrow(number, last))
+    } else if number == 200 {
+        Token::PasteBegins
+    } else if number == 201 {
+        Token::PasteEnds
+    } else {
+        named_key(sequence, paging(number))
+    }
+}
+
+/// Returns the number of the key.
+fn key_number(sequence: Sequence) -> u16
+    ensures { result ≡ key_number sequence }
+{
+    if sequence.semicolons == 0 {
+        sequence.last
+    } else {
+        sequence.second
+    }
+}
+
+/// Returns the modifiers of the key.
+fn key_modifiers(sequence: Sequence) -> KeyModifiers
+    ensures { result ≡ key_modifiers sequence }
+{
+    if sequence.semicolons == 0 || sequence.last == 0 {
+        KeyModifiers::NONE
+    } else {
+        let bits = sequence.last - 1;
+        KeyModifiers {
+            shift: is_set(1, bits),
+            control: is_set(4, bits),
+            alt: is_set(2, bits),
+            other: 8 <= bits,
+        }
+    }
+}
+
+/// Returns the arrow key of the final byte `last`, if `number` is 1 or left out.
+fn arrow(number: u16, last: u8) -> Option<KeyCode>
+    ensures { result ≡ arrow number last }
+{
+    if 1 < number {
+        None
+    } else {
+        match last {
+            65 => Some(KeyCode::Up),
+            66 => Some(KeyCode::Down),
+            67 => Some(KeyCode::Right),
+            68 => Some(KeyCode::Left),
+            _ => None,
+        }
+    }
+}
+
+/// Returns the paging key with `number`.
+fn paging(number: u16) -> Option<KeyCode>
+    ensures { result ≡ paging number }
+{
+    match number {
+        5 => Some(KeyCode::PageUp),
+        6 => Some(KeyCode::PageDown),
+        _ => None,
+    }
+}
+
+/// Returns the token of `key` with the modifiers of `sequence`, if there is a key and at most two
+/// numbers.
+fn named_key(sequence: Sequence, key: Option<KeyCode>) -> Token
+    ensures { result ≡ named_key sequence key }
+{
+    match key {
+        Some(code) if sequence.semicolons < 2 => Token::Event(TerminalEvent::Key(KeyEvent {
+            code,
+            modifiers: key_modifiers(sequence),
+            kind: KeyEventKind::Press,
+        })),
+        _ => Token::UNRECOGNIZED,
+    }
+}

@@ -1,0 +1,114 @@
+//! The bytes of paints, by the words of ECMA-48.
+ghost use Rattle.std.specs.Prelude.{◌==◌, None, false};
+
+use scm_cells::Grid;
+use scm_errors::RecordError;
+use scm_terminal::{Colour, Painter, Style, Styles};
+use std::process::Abort;
+
+/// All is plain, but for a row that is reversed.
+#[derive(Clone, Copy)]
+struct Reversed {
+    row: usize,
+}
+
+impl Styles for Reversed {
+    ghost styled = { λ s row column. record {
+      colour = None;
+      bold = false;
+      dim = false;
+      underlined = false;
+      reversed = row == s.row;
+    } };
+
+    fn style(&self, row: usize, _column: usize) -> Style {
+        Style {
+            colour: None,
+            bold: false,
+            dim: false,
+            underlined: false,
+            reversed: row == self.row,
+        }
+    }
+}
+
+/// Paints the grid with a row reversed, and compares the bytes.
+fn check_paint(
+    rt: &impl Abort,
+    painter: &mut Painter,
+    grid: &Grid,
+    row: usize,
+    wanted: &str,
+) -> Result<(), RecordError> {
+    let text = painter.paint(grid, &Reversed { row })?;
+    assert_eq!(rt; text.as_str(), wanted);
+    Ok(())
+}
+
+/// The whole screen of `rows_that_changed_are_written`.
+const WHOLE: &str = "\x1b[1;1H\x1b[0ma\x1b[1;2H日\x1b[2;1H\x1b[0;7m   ";
+
+#[test]
+fn rows_that_changed_are_written(rt: HostRuntime) -> Result<(), RecordError> {
+    let mut grid = Grid::new(rt.alloc(), 3, 2)?;
+    assert_eq!(rt; (grid.width(), grid.height()), (3, 2));
+    grid.put(0, 0, "a日", 0, 3)?;
+    let mut painter = Painter::new(rt.alloc());
+    check_paint(&rt, &mut painter, &grid, 1, WHOLE)?;
+    check_paint(&rt, &mut painter, &grid, 1, "")?;
+    check_paint(&rt, &mut painter, &grid, 5, "\x1b[2;1H\x1b[0m   ")?;
+    check_paint(&rt, &mut painter, &grid, 1, "\x1b[2;1H\x1b[0;7m   ")?;
+    painter.forget();
+    check_paint(&rt, &mut painter, &grid, 1, WHOLE)?;
+    let other = Grid::new(rt.alloc(), 2, 1)?;
+    check_paint(&rt, &mut painter, &other, 5, "\x1b[1;1H\x1b[0m  ")
+}
+
+#[test]
+fn a_text_sends_no_command(rt: HostRuntime) -> Result<(), RecordError> {
+    let mut grid = Grid::new(rt.alloc(), 5, 1)?;
+    grid.put(0, 0, "a\x1b[2J\u{9b}b\x07", 0, 5)?;
+    let mut painter = Painter::new(rt.alloc());
+    check_paint(&rt, &mut painter, &grid, 5, "\x1b[1;1H\x1b[0ma[2Jb")
+}
+
+/// Every place has one style.
+#[derive(Clone, Copy)]
+struct Uniform {
+    style: Style,
+}
+
+impl Styles for Uniform {
+    ghost styled = { λ s row column. s.style };
+
+    fn style(&self, _row: usize, _column: usize) -> Style {
+        self.style
+    }
+}
+
+/// Paints a screen of one column in the style, after a painter forgot, and compares the bytes.
+fn check_style(
+    rt: &impl Abort,
+    painter: &mut Painter,
+    grid: &Grid,
+    style: Style,
+    wanted: &str,
+) -> Result<(), RecordError> {
+    painter.forget();
+    let text = painter.paint(grid, &Uniform { style })?;
+    assert_eq!(rt; text.as_str(), wanted);
+    Ok(())
+}
+
+#[test]
+fn styles_have_the_numbers_of_ecma_48(rt: HostRuntime) -> Result<(), RecordError> {
+    let grid = Grid::new(rt.alloc(), 1, 1)?;
+    let mut painter = Painter::new(rt.alloc());
+    let both = Style::PLAIN.bold().dim();
+    let lined = Style::PLAIN.underlined().reversed();
+    let green = Style::PLAIN.coloured(Colour::Green);
+    check_style(&rt, &mut painter, &grid, Style::PLAIN, "\x1b[1;1H\x1b[0m ")?;
+    check_style(&rt, &mut painter, &grid, both, "\x1b[1;1H\x1b[0;1;2m ")?;
+    check_style(&rt, &mut painter, &grid, lined, "\x1b[1;1H\x1b[0;4;7m ")?;
+    check_style(&rt, &mut painter, &grid, green, "\x1b[1;1H\x1b[0;32m ")
+}
