@@ -33,7 +33,7 @@ use Rattle.scm_view.proofs.AppLemmas.{apply-columns}
 held-close : (x : ℤ) (w : ℕ) → w ≤ 65535 → IsClose (int_min (int_max x (pos 0)) (pos 0 +ℤ pos w))
 held-close x w h = record { low = omega (arith, places, h); high = omega (arith, places, h) }
 
-close-sight : (w h s n : ℕ) (x : ℤ) → w ≤ 65535 → s ≤ max_scroll → SightIsClose (under (view_mask (sight w h s) x n) (sight w h s))
+pub close-sight : (w h s n : ℕ) (x : ℤ) → w ≤ 65535 → s ≤ max_scroll → SightIsClose (under (view_mask (sight w h s) x n) (sight w h s))
 close-sight w h s n x pw ps = record {
   x = record { low = omega (arith, places); high = omega (arith, places) };
   end_x = record { low = omega (arith, places); high = omega (arith, places, pw) };
@@ -44,7 +44,7 @@ close-sight w h s n x pw ps = record {
 close-column : (x : ℤ) (l : ℕ) → pos 0 ≤ℤ x → (x +ℤ pos (65536 * suc l)) ≤ℤ pos (max_scroll + 2 ^ 17) → IsClose x
 close-column x l p q = record { low = p; high = omega (arith, places, q) }
 
-close-row : IsClose (pos 1)
+pub close-row : IsClose (pos 1)
 close-row = record { low = omega (arith, places); high = omega (arith, places) }
 
 step-low : (x : ℤ) (k : ℕ) → pos 0 ≤ℤ x → pos 0 ≤ℤ ((x +ℤ pos k) +ℤ pos 1)

@@ -27,14 +27,14 @@ first-column w = omega (arith, places)
 all-columns : (w : ℕ) → min (w - or_zero (pos 0 -ℤ pos 0)) (or_zero ((pos 0 +ℤ pos w) -ℤ pos 0)) ≡ w
 all-columns w = omega (arith, places)
 
-whole-mask : (w h s : ℕ) → view_mask (sight w h s) (pos 0) w ≡ below_bar w s
+pub whole-mask : (w h s : ℕ) → view_mask (sight w h s) (pos 0) w ≡ below_bar w s
 whole-mask w h s = rw (first-column w, all-columns w) refl
 
 followed-by_nothing : {K : Type 0} (p : Picture K) → followed_by p nothing ≡ p
 unfolding followed_by nothing
 followed-by_nothing p = λ i. record { puts = append-nil p.puts i; boxes = append-nil p.boxes i; areas = append-nil p.areas i }
 
-one-view : (v : CommitView) (vs : List CommitView) (w h s : ℕ)
+pub one-view : (v : CommitView) (vs : List CommitView) (w h s : ℕ)
     → views_picture (take 1 (v ∷ vs)) w (sight w h s) (pos 0) ≡ part ids.AppFiles (commit_picture v (under (below_bar w s) (sight w h s)) (pos 0) (pos 1))
 unfolding views_picture
 one-view v vs w h s = followed-by_nothing _ ∙ ap (λ m. part ids.AppFiles (commit_picture v (under m (sight w h s)) (pos 0) (pos 1))) (whole-mask w h s)

@@ -12,7 +12,7 @@ use Rattle.scm_cells.specs.Clusters.{text_width, clusters, kept, with_width, kep
 use Rattle.scm_cells.specs.Rect.{end_x_of}
 use Rattle.scm_cells.specs.declared.rect.Rect.{Rect}
 use Rattle.scm_cells.proofs.RectLemmas.{places}
-use Rattle.scm_render.specs.Picture.{Picture, nothing, followed_by, covering, box_rect}
+use Rattle.scm_render.specs.Picture.{Picture, nothing, followed_by, covering, box_rect, part}
 use Rattle.scm_render.specs.Around.{join, around, no_rect}
 use Rattle.scm_render.specs.Canvas.{Sight}
 use Rattle.scm_render.specs.Drawing.{reach, row_rect, span_picture, line_picture, text_picture, blank_picture, texts_width}
@@ -23,8 +23,8 @@ use Rattle.scm_view.specs.declared.tristate_box.TristateIconStyle.{TristateIconS
 use Rattle.scm_view.specs.declared.tristate_box.TristateIconStyle.TheVariants.{Check, Expand}
 use Rattle.scm_view.specs.Laws.{IsOpen}
 use Rattle.scm_view.specs.Texts.{icon_text, bracketed, box_text}
-use Rattle.scm_view.specs.Rows.{IdBox, Heading, DocRow, HeaderRow, SectionRow, LineRow, MarkRow, ContextRow, DotsRow, BlankRow}
-use Rattle.scm_view.specs.Pictures.{to_end, box_picture, box_part, rest_of_row, whole_row, fold_column, heading_width, title_picture, heading_picture, changed_picture, context_picture, highlight, row_picture, rows_picture}
+use Rattle.scm_view.specs.Rows.{IdBox, Heading, DocRow, HeaderRow, SectionRow, LineRow, MarkRow, ContextRow, DotsRow, BlankRow, line_id}
+use Rattle.scm_view.specs.Pictures.{IdPicture, to_end, box_picture, box_part, rest_of_row, whole_row, fold_column, heading_width, title_picture, heading_picture, changed_picture, context_picture, highlight, row_picture, rows_picture, blank_rest}
 use Rattle.scm_view.specs.Strips.{is_whole, is_wide}
 use Rattle.scm_view.proofs.DrawsStrips.{HasBox, box-followed, box-part}
 use Rattle.scm_view.proofs.MenuLemmas.{not-empty, in-nothing, in-row}
@@ -125,6 +125,12 @@ rest-spans s w y fits o =
     rw (box-cover (rest_of_row s (pos 2) y), n, not-empty (pos 2) y (w - 2) (omega (arith, fits)))
     (spans_row (pos 2) y (w - 2) w (omega (arith, ints, fits)))
 
+pub blank-spans : (s : Sight) (w c : ℕ) (y : ℤ) → c < w → IsOpen s w → Spans (box_rect (blank_rest s (pos c) y)) y 1 (pos c) w
+blank-spans s w c y fits o =
+    let n : to_end s (pos c) ≡ w - c = omega (arith, places, o.low, o.columns) in
+    rw (box-blank s (rest_of_row s (pos c) y), n, not-empty (pos c) y (w - c) (omega (arith, fits)))
+    (spans_row (pos c) y (w - c) w (omega (arith, ints, fits)))
+
 title-spans : (h : Heading) (m : Sight) (n w c : ℕ) (y : ℤ) → c + 8 ≤ w → n ≡ w - 3 - c → end_x_of (reach m) ≡ pos (w - 3)
     → Spans (box_rect (title_picture h.toggle h.title n m (pos c) y)) y 1 (pos c) (w - 3)
 unfolding title_picture
@@ -180,30 +186,45 @@ mark-spans b k t s w y fits o =
     )
     (lit-spans b _ s w y fits o inner)
 
--- the box of a row lies on it alone, and goes from column 0 or 2 to the end
-pub row-spans : (d : DocRow) (s : Sight) (w : ℕ) (y : ℤ) → 10 ≤ w → IsOpen s w → Spans (box_rect (row_picture d s (pos (column_of d)) y)) y 1 (pos (left_of (is_whole d))) w
-unfolding row_picture changed_picture context_picture
-row-spans (HeaderRow key h) s w y fits o = rw (box-part _ (heading_picture h s (pos 0) y)) (heading-spans h s w 0 y (omega (arith, fits)) o)
-row-spans (SectionRow selected h) s w y fits o =
-    rw (box-followed (heading_picture h s (pos 2) y) (highlight selected s y)) (lit-spans selected _ s w y fits o (heading-spans h s w 2 y (omega (arith, fits)) o))
-row-spans (LineRow key b ts) s w y fits o =
+-- a line takes all columns
+pub changed-spans : (b : IdBox) (ts : List (List ℕ)) (s : Sight) (w : ℕ) (y : ℤ) → 10 ≤ w → IsOpen s w → Spans (box_rect (changed_picture b ts s (pos 4) y)) y 1 (pos 0) w
+unfolding changed_picture
+changed-spans b ts s w y fits o =
     let i = open-between s w o in
     rw (
-      box-part _ (followed_by (covering (whole_row s y)) (followed_by (box_part b s (pos 4) y) (text_picture s (pos 8) y ts))),
       box-followed (covering {K = ComponentId} (whole_row s y)) (followed_by (box_part b s (pos 4) y) (text_picture s (pos 8) y ts)),
       box-followed (box_part b s (pos 4) y) (text_picture s (pos 8) y ts),
     )
     (spans_in _ _ y 1 (pos 0) w (omega arith) (omega (arith, ints, fits)) (whole-spans s w y fits o)
     (in_more _ _ y 1 (pos 0) (box-in b s (pos 4) y (pos 0) (omega (arith, ints))) (text-in s (pos 8) y (pos 0) ts (omega (arith, ints)) (omega (arith, ints, i.high, fits)))))
-row-spans (MarkRow selected b t) s w y fits o = mark-spans selected b t s w y fits o
-row-spans (ContextRow key ts) s w y fits o =
+
+pub context-spans : (ts : List (List ℕ)) (s : Sight) (w : ℕ) (y : ℤ) → 10 ≤ w → IsOpen s w → Spans (box_rect (context_picture ts s (pos 4) y)) y 1 (pos 0) w
+unfolding context_picture
+context-spans ts s w y fits o =
     let i = open-between s w o in
-    rw (box-part _ (followed_by (covering (whole_row s y)) (text_picture s (pos 4) y ts)), box-followed (covering {K = ComponentId} (whole_row s y)) (text_picture s (pos 4) y ts))
+    rw (box-followed (covering {K = ComponentId} (whole_row s y)) (text_picture s (pos 4) y ts))
     (spans_in _ _ y 1 (pos 0) w (omega arith) (omega (arith, ints, fits)) (whole-spans s w y fits o) (text-in s (pos 4) y (pos 0) ts (omega (arith, ints)) (omega (arith, ints, i.high, fits))))
+
+-- a line over its section's columns
+line-spans : (i : ComponentId) (m : IdPicture) (s : Sight) (w : ℕ) (y : ℤ) → 10 ≤ w → IsOpen s w → Spans (box_rect m) y 1 (pos 0) w
+    → Spans (box_rect (followed_by (covering (rest_of_row s (pos 2) y)) (part i m))) y 1 (pos 0) w
+line-spans i m s w y fits o h =
+    rw (box-followed (covering {K = ComponentId} (rest_of_row s (pos 2) y)) (part i m), box-part i m)
+    (spans_beside _ _ y 1 (pos 2) (pos 0) w w (omega arith) (omega (arith, ints, fits)) (omega (arith, ints, fits)) (omega arith) (rest-spans s w y fits o) h)
+
+-- the box of a row lies on it alone, and goes from column 0 or 2 to the end
+pub row-spans : (d : DocRow) (s : Sight) (w : ℕ) (y : ℤ) → 10 ≤ w → IsOpen s w → Spans (box_rect (row_picture d s (pos (column_of d)) y)) y 1 (pos (left_of (is_whole d))) w
+unfolding row_picture
+row-spans (HeaderRow key h) s w y fits o = rw (box-part _ (heading_picture h s (pos 0) y)) (heading-spans h s w 0 y (omega (arith, fits)) o)
+row-spans (SectionRow selected h) s w y fits o =
+    rw (box-followed (heading_picture h s (pos 2) y) (highlight selected s y)) (lit-spans selected _ s w y fits o (heading-spans h s w 2 y (omega (arith, fits)) o))
+row-spans (LineRow key b ts) s w y fits o = line-spans (line_id key) (changed_picture b ts s (pos 4) y) s w y fits o (changed-spans b ts s w y fits o)
+row-spans (MarkRow selected b t) s w y fits o = mark-spans selected b t s w y fits o
+row-spans (ContextRow key ts) s w y fits o = line-spans (line_id key) (context_picture ts s (pos 4) y) s w y fits o (context-spans ts s w y fits o)
 row-spans (DotsRow t) s w y fits o =
     rw (box-followed (covering {K = ComponentId} (rest_of_row s (pos 2) y)) (span_picture s (pos 8) y t))
     (spans_in _ _ y 1 (pos 2) w (omega arith) (omega (arith, ints, fits)) (rest-spans s w y fits o) (span-in s (pos 8) y (pos 2) t (omega (arith, ints))))
-row-spans BlankRow s w y fits o = rest-spans s w y fits o
+row-spans BlankRow s w y fits o = blank-spans s w 2 y (omega (arith, fits)) o
 
 -- ---- rows one below another
 

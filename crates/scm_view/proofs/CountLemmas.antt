@@ -139,14 +139,14 @@ rows-counted c d e v w rs qs n y l s p q =
     ∙ ap (λ k. added c (plus (rows_counts rs v y) (rows_counts qs v (y +ℤ pos k)))) (sym l) ∙ ap (added c) (sym (rows_counts-append rs qs v y))
 
 -- the rows of a message
-pub message-counted : (c p q d e f : Counts) (v : Rect) (y : ℤ) (text : List ℕ) → p ≡ added c (on_row v y (drawn 1 0)) → q ≡ added p (on_row v (y +ℤ pos 1) (drawn 1 0)) → d ≡ added q (on_row v (y +ℤ pos 1) (drawn 0 1))
-    → e ≡ added d (on_row v (y +ℤ pos 1) (drawn 0 2)) → f ≡ added e (on_row v ((y +ℤ pos 1) +ℤ pos 1) (drawn 1 0)) → f ≡ added c (message_counts (Some text) v y)
+pub message-counted : (c p q d e f : Counts) (v : Rect) (y : ℤ) (text : List ℕ) → p ≡ added c (on_row v y (drawn 1 0)) → q ≡ added p (on_row v y (drawn 0 1)) → d ≡ added q (on_row v (y +ℤ pos 1) (drawn 1 3))
+    → e ≡ added d (on_row v (y +ℤ pos 2) (drawn 1 0)) → f ≡ added e (on_row v (y +ℤ pos 2) (drawn 0 1)) → f ≡ added c (message_counts (Some text) v y)
 unfolding message_counts
 message-counted c p q d e f v y text hp hq hd he hf =
-    let below : (y +ℤ pos 1) +ℤ pos 1 ≡ y +ℤ pos 2 = omega (arith, ints) in
-    let middle = on_row-three p q d e v v v (y +ℤ pos 1) (drawn 1 0) (drawn 0 1) (drawn 0 2) refl refl hq hd he in
-    counts-then c p f (on_row v y (drawn 1 0)) (plus (on_row v (y +ℤ pos 1) (drawn 1 3)) (on_row v (y +ℤ pos 2) (drawn 1 0))) hp
-    (counts-then p e f (on_row v (y +ℤ pos 1) (drawn 1 3)) (on_row v (y +ℤ pos 2) (drawn 1 0)) middle (rw below at hf))
+    let upper = on_row-then c p q v v y (drawn 1 0) (drawn 0 1) refl hp hq in
+    let lower = on_row-then d e f v v (y +ℤ pos 2) (drawn 1 0) (drawn 0 1) refl he hf in
+    counts-then c q f (on_row v y (drawn 1 1)) (plus (on_row v (y +ℤ pos 1) (drawn 1 3)) (on_row v (y +ℤ pos 2) (drawn 1 1))) upper
+    (counts-then q d f (on_row v (y +ℤ pos 1) (drawn 1 3)) (on_row v (y +ℤ pos 2) (drawn 1 1)) hd lower)
 
 -- ---- calls alone
 

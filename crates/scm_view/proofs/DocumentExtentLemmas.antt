@@ -1,22 +1,21 @@
 -- On which rows the box of a document lies: those of its layers.
-use Rattle.std.proofs.Common.{◌≡◌, ℕ, suc, ◌+◌, ◌-◌, ◌<◌, ◌≤◌, ◌==◌, min, max, Bool, true, false, List, [], ◌∷◌, length, length-append, append-nil, refl, sym, ap, ap₂, ◌∙◌, arith}
+use Rattle.std.proofs.Common.{◌≡◌, ℕ, suc, ◌+◌, ◌-◌, ◌<◌, ◌≤◌, ◌==◌, min, max, Bool, true, false, List, [], ◌∷◌, length, length-append, append-nil, refl, sym, ap, ap₂, ◌∙◌, arith, ◌⊎◌, inl, inr}
 use Rattle.std.specs.Prelude.{ℤ, pos, ◌+ℤ◌, ◌-ℤ◌, ◌≤ℤ◌, ◌<ℤ◌, int_lt, Option, Some, None, if◌then◌else◌}
 use Rattle.std.specs.Int.{int_min, int_max}
 use Rattle.std.proofs.lemmas.Int.{ints, clamps}
 use Rattle.scm_cells.specs.Clusters.{text_width}
 use Rattle.scm_cells.specs.Row.{ellipsis}
-use Rattle.scm_cells.specs.Rect.{end_x_of}
+use Rattle.scm_cells.specs.Rect.{end_x_of, is_empty, end_y_of}
 use Rattle.scm_cells.specs.declared.rect.Rect.{Rect}
-use Rattle.scm_cells.proofs.RectLemmas.{places}
 use Rattle.scm_cells.proofs.WidthLemmas.{width-ellipsis}
 use Rattle.scm_cells.proofs.PrintableLemmas.{text_width-printable}
-use Rattle.scm_render.specs.Picture.{nothing, followed_by, covering, part, box_rect}
+use Rattle.scm_render.specs.Picture.{nothing, followed_by, part, box_rect}
 use Rattle.scm_render.specs.Around.{join, no_rect}
 use Rattle.scm_render.specs.Canvas.{Sight, under}
 use Rattle.scm_render.specs.Centring.{centred, centred_gap}
 use Rattle.scm_render.specs.Drawing.{reach, row_rect, span_picture, line_picture, text_picture, texts_width}
 use Rattle.scm_render.proofs.AroundLemmas.{is_empty-in}
-use Rattle.scm_render.proofs.SpanLemmas.{Spans, IsIn, in_more, spans_in, spans_more, spans_not_empty, join_none, join_empty_left}
+use Rattle.scm_render.proofs.SpanLemmas.{Spans, IsIn, in_more, spans_in, spans_more, spans_not_empty, join_none, join_empty_left, join-x, join-y, join-end_x, join-end_y, not_empty, empty_cases}
 use Rattle.scm_view.specs.declared.ids.ComponentId.{ComponentId}
 use Rattle.scm_view.specs.declared.ids.ComponentId.TheVariants as ids
 use Rattle.scm_view.specs.Laws.{IsOpen}
@@ -25,13 +24,13 @@ use Rattle.scm_view.specs.Texts.{button_text, divider_text, message_text, no_fil
 use Rattle.scm_view.proofs.FilesOf.{IsFileOf, AreFilesOf, HasItsIds}
 use Rattle.scm_view.specs.Rows.{file_id, HeaderRow, ShownFile, Document, file_rows, message_height}
 use Rattle.scm_view.specs.FilesRows.{files_rows}
-use Rattle.scm_view.specs.Pictures.{to_end, edit_button, button_picture, beside_button, message_picture, shown_file_picture, file_mask, mask_row, pinned_header, pinned_mask, pinned_picture, one_file_picture, files_picture, no_files_picture, document_picture}
+use Rattle.scm_view.specs.Pictures.{edit_button, button_picture, beside_button, message_picture, shown_file_picture, file_mask, mask_row, pinned_header, pinned_mask, pinned_picture, one_file_picture, files_picture, no_files_picture, document_picture, blank_rest, button_row_picture}
 use Rattle.scm_view.specs.Strips.{file_strips, is_over, files_strips, message_strips, no_files_gap, files_layer, document_layers}
 use Rattle.scm_view.specs.Window.{rows_layers}
 use Rattle.scm_view.proofs.DrawsStrips.{box-followed, box-part}
 use Rattle.scm_view.proofs.MenuLemmas.{not-empty, in-nothing}
 use Rattle.scm_view.proofs.StripLemmas.{under-open, length-file_strips}
-use Rattle.scm_view.proofs.BoxLemmas.{box-none, box-span, box-line, box-cover, span-in, text-in, row-spans}
+use Rattle.scm_view.proofs.BoxLemmas.{box-none, box-span, box-line, span-in, text-in, row-spans, blank-spans}
 use Rattle.scm_view.proofs.DocumentLemmas.{over-below, length-message}
 use Rattle.scm_view.proofs.FileBoxLemmas.{file-span}
 use Rattle.scm_view.proofs.DocumentOwnerLemmas.{document_part}
@@ -48,30 +47,68 @@ in-around r y k n m l p q h = record {
   left = h.left;
 }
 
+-- the first of three rows, a part within them, and the last of them
+spans_around : (a r b : Rect) (y : ℤ) (w : ℕ) → 0 < w → Spans a y 1 (pos 0) w → IsIn r y 3 (pos 0) → Spans b (y +ℤ pos 2) 1 (pos 0) w → Spans (join a (join r b)) y 3 (pos 0) w
+spans_around a r b y w some ha hr hb = go (empty_cases r)
+  where
+    p : is_empty a ≡ false
+    p = spans_not_empty a y 1 (pos 0) w (omega arith) (omega (arith, ints, some)) ha
+
+    q : is_empty b ≡ false
+    q = spans_not_empty b (y +ℤ pos 2) 1 (pos 0) w (omega arith) (omega (arith, ints, some)) hb
+
+    over : (c : Rect) → is_empty c ≡ false → y ≤ℤ c.y → end_y_of c ≡ y +ℤ pos 3 → c.x ≡ pos 0 → pos w ≤ℤ end_x_of c → Spans (join a c) y 3 (pos 0) w
+    over c n t e l k =
+        let ex = join-x a c p n in
+        let ey = join-y a c p n in
+        let fx = join-end_x a c p n in
+        let fy = join-end_y a c p n in
+        record {
+          top = omega (arith, ints, clamps, ey, ha.top, t);
+          rows = omega (arith, ints, clamps, ey, fy, ha.top, ha.rows, t, e);
+          left = rw (ex, ha.left, l) refl;
+          right = rw fx (omega (arith, ints, clamps, ha.right));
+        }
+
+    go : (is_empty r ≡ true) ⊎ ((is_empty r ≡ false) × (0 < r.width) × (0 < r.height)) → Spans (join a (join r b)) y 3 (pos 0) w
+    go (inl e) = rw (join_empty_left r b e q) (over b q (omega (arith, ints, hb.top)) (omega (arith, ints, hb.top, hb.rows)) hb.left hb.right)
+    go (inr n) =
+        let ex = join-x r b n.0 q in
+        let ey = join-y r b n.0 q in
+        let fx = join-end_x r b n.0 q in
+        let fy = join-end_y r b n.0 q in
+        let t = hr.top n.1 n.2 in
+        let e = hr.end n.1 n.2 in
+        let l = hr.left n.1 n.2 in
+        let left : (join r b).x ≡ pos 0 = omega (arith, ints, clamps, ex, hb.left, l) in
+        let top : y ≤ℤ (join r b).y = omega (arith, ints, clamps, ey, hb.top, t) in
+        let below : (join r b).y ≤ℤ (y +ℤ pos 2) = omega (arith, ints, clamps, ey, hb.top) in
+        let end : end_y_of (join r b) ≡ y +ℤ pos 3 = omega (arith, ints, clamps, fy, hb.top, hb.rows, e) in
+        let right : pos w ≤ℤ end_x_of (join r b) = rw fx (omega (arith, ints, clamps, hb.right)) in
+        over (join r b) (not_empty (join r b) (omega (arith, ints, left, right, some)) (omega (arith, ints, below, end))) top end left right
+
 -- the message's box has all columns of its three rows
 pub message-span : (commit : ℕ) (message : List ℕ) (s : Sight) (w : ℕ) (y : ℤ) → 10 ≤ w → IsOpen s w → Spans (box_rect (message_picture commit (Some message) s (pos 0) y)) y 3 (pos 0) w
-unfolding message_picture beside_button button_picture
+unfolding message_picture button_row_picture beside_button button_picture
 message-span commit message s w y fits o =
-    let all : to_end s (pos 0) ≡ w = omega (arith, places, o.low, o.columns) in
-    let cover = covering {K = ComponentId} (record { x = pos 0; y = y; width = to_end s (pos 0); height = 3 }) in
+    let upper = blank_rest s (pos 0) y in
+    let lower = blank_rest s (pos 0) (y +ℤ pos 2) in
     let button = span_picture {K = ComponentId} s (pos 0) (y +ℤ pos 1) (button_text (edit_button commit)) in
     let divider = span_picture {K = ComponentId} s (pos 15) (y +ℤ pos 1) divider_text in
     let text = text_picture {K = ComponentId} s (pos 19) (y +ℤ pos 1) (message_text message ∷ []) in
     rw (
-      box-followed cover (followed_by (part (edit_button commit).id button) (followed_by divider text)),
+      box-followed upper (followed_by (followed_by (part (edit_button commit).id button) (followed_by divider text)) lower),
+      box-followed (followed_by (part (edit_button commit).id button) (followed_by divider text)) lower,
       box-followed (part (edit_button commit).id button) (followed_by divider text),
       box-followed divider text,
       box-part (edit_button commit).id button,
-      box-cover (record { x = pos 0; y = y; width = to_end s (pos 0); height = 3 }),
-      all,
-      join_empty_left no_rect (record { x = pos 0; y = y; width = w; height = 3 }) refl (is_empty-in (record { x = pos 0; y = y; width = w; height = 3 }) (omega (arith, fits)) (omega arith)),
     )
-    (spans_in _ _ y 3 (pos 0) w (omega arith) (omega (arith, ints, fits))
-    (record { top = refl; rows = refl; left = refl; right = omega (arith, ints) })
+    (spans_around _ _ _ y w (omega (arith, fits)) (blank-spans s w 0 y (omega (arith, fits)) o)
     (in-around _ y (y +ℤ pos 1) 1 3 (pos 0) (omega (arith, ints)) (omega (arith, ints))
     (in_more _ _ (y +ℤ pos 1) 1 (pos 0) (span-in s (pos 0) (y +ℤ pos 1) (pos 0) (button_text (edit_button commit)) (omega (arith, ints)))
     (in_more _ _ (y +ℤ pos 1) 1 (pos 0) (span-in s (pos 15) (y +ℤ pos 1) (pos 0) divider_text (omega (arith, ints)))
-    (text-in s (pos 19) (y +ℤ pos 1) (pos 0) (message_text message ∷ []) (omega (arith, ints)) (omega (arith, ints, o.low, o.columns, fits)))))))
+    (text-in s (pos 19) (y +ℤ pos 1) (pos 0) (message_text message ∷ []) (omega (arith, ints)) (omega (arith, ints, o.low, o.columns, fits))))))
+    (blank-spans s w 0 (y +ℤ pos 2) (omega (arith, fits)) o))
 
 -- ---- files
 

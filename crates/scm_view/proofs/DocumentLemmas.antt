@@ -1,18 +1,18 @@
 -- The picture of a document makes of each row that the mask lets through what the document's strip says, and over it the pinned
 -- header's.
-use Rattle.std.proofs.Common.{◌≡◌, ℕ, ◌+◌, ◌<◌, ◌≤◌, Bool, true, false, cond, List, [], ◌∷◌, ◌++◌, length, map, take, drop, suc, refl, sym, ap, ◌∙◌, subst, arith, ◌==◌, append-nil}
+use Rattle.std.proofs.Common.{◌≡◌, ℕ, ◌+◌, ◌<◌, ◌≤◌, Bool, true, false, cond, List, [], ◌∷◌, ◌++◌, length, map, take, drop, suc, refl, sym, ap, ◌∙◌, subst, arith, ◌==◌}
 use Rattle.std.specs.Prelude.{ℤ, pos, ◌+ℤ◌, ◌<ℤ◌, nat_lt, ◌&&◌, min, if◌then◌else◌, Option, Some, None}
 use Rattle.std.specs.Ordering.{int_eq}
 use Rattle.std.proofs.lemmas.Int.{ints}
 use Rattle.std.proofs.lemmas.Bool.Decides.{Decides-int_eq}
-use Rattle.scm_render.specs.Picture.{nothing, followed_by, covering, part}
+use Rattle.scm_render.specs.Picture.{nothing, followed_by, part}
 use Rattle.scm_render.specs.Canvas.{Row, Sight, under, paint}
 use Rattle.scm_render.specs.Drawing.{reach, has_row, span_picture, text_picture}
 use Rattle.scm_render.specs.Centring.{centred, centred_gap}
 use Rattle.scm_render.specs.Lines.{line}
 use Rattle.scm_render.proofs.LineLemmas.{line-append, line-below, line-map}
 use Rattle.scm_render.proofs.PaintLemmas.{paint-none, paint-append}
-use Rattle.scm_render.proofs.RowLemmas.{PutsRows, one_none, one_more, one_row_paints, paints_none, paints_more}
+use Rattle.scm_render.proofs.RowLemmas.{PutsRows, one_more, one_row_paints, paints_none, paints_more}
 use Rattle.scm_types.specs.declared.line.SectionChangedLine.{SectionChangedLine}
 use Rattle.scm_types.specs.declared.section.Section.{Section}
 use Rattle.scm_types.specs.declared.section.Section.TheVariants.{Unchanged, Changed, FileMode, Binary}
@@ -24,9 +24,10 @@ use Rattle.scm_view.specs.Laws.{IsOpen}
 use Rattle.scm_view.specs.Layers.{Strip, clear, shown_by}
 use Rattle.scm_view.specs.Texts.{button_text, divider_text, message_text, dots_text, no_files_text}
 use Rattle.scm_view.specs.Rows.{DocRow, DotsRow, BlankRow, HeaderRow, ShownSection, ShownFile, Document, is_fold_open, is_open, is_first_open, is_shown, has_dots, first_below, lines_above, shown_lines, rows_below, context_rows, changed_rows, numbered_rows, rows_of, section_rows, shown_section, shown_sections, shown_file, document_of, file_rows, message_height}
-use Rattle.scm_view.specs.Pictures.{shown_file_picture, file_mask, mask_row, is_pinned, pinned_header, pinned_picture, one_file_picture, files_picture, edit_button, button_picture, beside_button, message_picture, no_files_picture, document_picture, commit_picture}
+use Rattle.scm_view.specs.Pictures.{shown_file_picture, file_mask, mask_row, is_pinned, pinned_header, pinned_picture, one_file_picture, files_picture, edit_button, button_picture, beside_button, message_picture, no_files_picture, document_picture, commit_picture, blank_rest, button_row_picture}
 use Rattle.scm_view.specs.Strips.{row_strip, file_strips, is_over, files_strips, pinned_strips, message_strip, message_strips, no_files_gap, no_files_strip, document_layers, pinned_layer}
-use Rattle.scm_view.proofs.StripLemmas.{AreInner, AreInnerSections, shows_of, map-append, open-between, box-paints, text-paints, whole_file-paints, pinned-paints, made_by, length-file_strips}
+use Rattle.scm_view.proofs.StripLemmas.{AreInner, AreInnerSections, shows_of, map-append, open-between, box-paints, text-paints, whole_file-paints, pinned-paints, made_by, length-file_strips, rest-paints}
+use Rattle.scm_view.specs.Blanks.{blanked}
 
 abbrev pub AreInnerFiles : List ShownFile → Type 0
 AreInnerFiles [] = Unit {0}
@@ -121,7 +122,7 @@ files-paint (f ∷ fs) s w m top fits o e inner z row h =
 
 pub message-paints : (commit : ℕ) (message : Option (List ℕ)) (s : Sight) (w : ℕ) (y : ℤ) → 10 ≤ w → IsOpen s w
     → PutsRows s.rect (reach s) y (message_picture commit message s (pos 0) y).puts (map shows_of (message_strips w commit message))
-unfolding message_picture message_strips beside_button button_picture span_picture followed_by covering part nothing
+unfolding message_picture button_row_picture message_strips beside_button button_picture span_picture followed_by part nothing
 message-paints commit None s w y fits o = paints_none s.rect (reach s) y
 message-paints commit (Some message) s w y fits o =
     let v = s.rect in
@@ -132,8 +133,10 @@ message-paints commit (Some message) s w y fits o =
     let divider = box-paints v seen seen w 0 w (pos 0 +ℤ pos 15) row 15 divider_text i refl (λ k. k) in
     let text = text-paints seen s w 0 w (pos 0 +ℤ pos 19) row 19 (message_text message ∷ []) i refl (λ k. k) in
     let said = one_more v seen row _ _ _ _ button (one_more v seen row _ _ _ _ divider text) in
-    let below = paints_more v seen row _ [] ((message_strip w commit message).shows ∷ []) ((λ r. r) ∷ []) (one_row_paints v seen row _ _ said) (one_row_paints v seen (row +ℤ pos 1) [] (λ r. r) (one_none v seen (row +ℤ pos 1))) in
-    rw append-nil at (paints_more v seen y [] _ ((λ r. r) ∷ []) _ (one_row_paints v seen y [] (λ r. r) (one_none v seen y)) below)
+    let upper = one_row_paints v seen y _ _ (rest-paints seen s w 0 y (omega arith) o (λ k. k)) in
+    let next : y +ℤ pos 2 ≡ row +ℤ pos 1 = omega (arith, ints) in
+    let lower = subst (λ k. PutsRows v seen k (blank_rest s (pos 0) (y +ℤ pos 2)).puts (blanked 0 w ∷ [])) next (one_row_paints v seen (y +ℤ pos 2) _ _ (rest-paints seen s w 0 (y +ℤ pos 2) (omega arith) o (λ k. k))) in
+    paints_more v seen y _ _ (blanked 0 w ∷ []) _ upper (paints_more v seen row _ _ ((message_strip w commit message).shows ∷ []) (blanked 0 w ∷ []) (one_row_paints v seen row _ _ said) lower)
 
 pub length-message : (w commit : ℕ) (message : Option (List ℕ)) → length (message_strips w commit message) ≡ message_height message
 unfolding message_strips

@@ -6,10 +6,10 @@ use Rattle.std.proofs.lemmas.Int.{ints}
 use Rattle.std.proofs.lemmas.Bool.Decides.{Decides-int_eq}
 use Rattle.scm_cells.specs.Clusters.{text_width}
 use Rattle.scm_cells.proofs.WidthLemmas.{width-edit_message}
-use Rattle.scm_render.specs.Picture.{nothing, followed_by, covering, part, box_rect}
+use Rattle.scm_render.specs.Picture.{nothing, followed_by, part, box_rect}
 use Rattle.scm_render.specs.Around.{around, no_rect}
 use Rattle.scm_render.specs.Canvas.{Sight}
-use Rattle.scm_render.specs.Drawing.{row_rect, span_picture}
+use Rattle.scm_render.specs.Drawing.{row_rect, span_picture, blank_picture}
 use Rattle.scm_render.specs.Hits.{IsLawful, has_id, first_of_two, hit}
 use Rattle.scm_render.specs.Lines.{line}
 use Rattle.scm_render.proofs.HitLemmas.{Each, each-append, each_more, hit_apart, hit_still, two_assoc}
@@ -20,10 +20,11 @@ use Rattle.scm_view.specs.Clicks.{is_clickable}
 use Rattle.scm_view.proofs.Parts.{Body, part_of}
 use Rattle.scm_view.specs.Laws.{IsOpen}
 use Rattle.scm_view.specs.Layers.{clear, owned_by}
+use Rattle.scm_view.specs.Blanks.{blank_strip}
 use Rattle.scm_view.specs.Texts.{no_files_text, message_text}
 use Rattle.scm_view.proofs.FilesOf.{AreFilesOf, HasItsIds}
 use Rattle.scm_view.specs.Rows.{ShownFile, Document, message_height}
-use Rattle.scm_view.specs.Pictures.{IdPicture, mask_row, body_picture, files_picture, button_picture, beside_button, message_picture, no_files_picture, document_picture}
+use Rattle.scm_view.specs.Pictures.{IdPicture, mask_row, body_picture, files_picture, button_picture, beside_button, message_picture, no_files_picture, document_picture, button_row_picture}
 use Rattle.scm_view.specs.Strips.{files_strips, pinned_strips, message_strip, message_strips, no_files_gap, no_files_strip, no_files_layers, document_layers, pinned_layer}
 use Rattle.scm_view.specs.Window.{body_layers}
 use Rattle.scm_view.proofs.WindowLemmas.{body_sight, open-below, row-below}
@@ -46,7 +47,7 @@ beside-none message s x y = text-none s (x +ℤ pos 19) y (message ∷ [])
 
 message-boxes : (commit : ℕ) (message : List ℕ) (s : Sight) (y : ℤ)
     → (message_picture commit (Some message) s (pos 0) y).boxes ≡ (ids.CommitEditMessageButton commit, around no_rect (row_rect (pos 0) (y +ℤ pos 1) (text_width (codes "[Edit message]")) ∷ [])) ∷ []
-unfolding message_picture followed_by covering part button_picture span_picture box_rect
+unfolding message_picture button_row_picture followed_by blank_picture part button_picture span_picture box_rect
 message-boxes commit message s y = rw (beside-none (message_text message) s (pos 0) (y +ℤ pos 1)) refl
 
 -- the button owns its columns on the second of the message's rows
@@ -55,13 +56,13 @@ pub message-cell : (w commit : ℕ) (message : List ℕ) (y z : ℤ) (x : ℕ)
 unfolding line message_strips
 message-cell w commit message y z x = go (int_eq z y) refl
   where
-    later : (t u : Bool) → cond (t && (nat_le 0 x && nat_lt x 14)) (Some (ids.CommitEditMessageButton commit)) None ≡ (cond t (message_strip w commit message) (cond u clear clear)).owner x
+    later : (t u : Bool) → cond (t && (nat_le 0 x && nat_lt x 14)) (Some (ids.CommitEditMessageButton commit)) None ≡ (cond t (message_strip w commit message) (cond u (blank_strip 0 w) clear)).owner x
     later true u = refl
     later false true = refl
     later false false = refl
 
     go : (t : Bool) → int_eq z y ≡ t → cond (int_eq z (y +ℤ pos 1) && (nat_le 0 x && nat_lt x 14)) (Some (ids.CommitEditMessageButton commit)) None
-        ≡ (cond t clear (cond (int_eq z (y +ℤ pos 1)) (message_strip w commit message) (cond (int_eq z ((y +ℤ pos 1) +ℤ pos 1)) clear clear))).owner x
+        ≡ (cond t (blank_strip 0 w) (cond (int_eq z (y +ℤ pos 1)) (message_strip w commit message) (cond (int_eq z ((y +ℤ pos 1) +ℤ pos 1)) (blank_strip 0 w) clear))).owner x
     go true e =
         let here : z ≡ y = (Decides-int_eq z y).0 e in
         let differ : int_eq z (y +ℤ pos 1) ≡ false = grind (arith, ints, Decides-int_eq z (y +ℤ pos 1)) in

@@ -1,11 +1,10 @@
 -- All that is shown inline begins no more rows than the screen has, and one more for the pinned header, and takes few calls.
-use Rattle.std.proofs.Common.{◌≡◌, ℕ, zero, suc, ◌+◌, ◌*◌, ◌≤◌, List, [], ◌∷◌, ◌++◌, length, length-append, drop, take, refl, arith, true, false, Bool, inl, inr}
+use Rattle.std.proofs.Common.{◌≡◌, ◌∙◌, ℕ, zero, suc, ◌+◌, ◌*◌, ◌≤◌, List, [], ◌∷◌, ◌++◌, length, length-append, drop, take, refl, arith, true, false, Bool, inl, inr}
 use Rattle.std.specs.Prelude.{ℤ, pos, ◌+ℤ◌, ◌-ℤ◌, ◌≤ℤ◌, ◌<ℤ◌, min, ◌==◌, if◌then◌else◌, Option, Some, None}
 use Rattle.std.proofs.lemmas.Int.{ints}
 use Rattle.std.proofs.lemmas.List.{drop_all}
 use Rattle.scm_cells.specs.Counts.{Counts, no_counts, plus, added}
 use Rattle.scm_render.proofs.CountLemmas.{counts-most}
-use Rattle.scm_view.specs.Shown.{Shown}
 use Rattle.scm_cells.specs.Rect.{or_zero, end_y_of}
 use Rattle.scm_cells.specs.declared.rect.Rect.{Rect}
 use Rattle.scm_cells.proofs.RectLemmas.{places}
@@ -22,8 +21,9 @@ use Rattle.scm_view.specs.Counts.{drawn, on_row, row_calls, rows_counts, header_
 use Rattle.scm_view.specs.Menus.{menus_before}
 use Rattle.scm_view.specs.Tables.{all_menus, menus_with}
 use Rattle.scm_view.specs.Screens.{sight}
-use Rattle.scm_view.specs.AppView.{view_mask, views_counts, app_counts}
-use Rattle.scm_view.specs.Window.{IsPlain, IsFew, AppsTakeFewCalls}
+use Rattle.scm_view.specs.declared.commit_view.CommitViewMode.TheVariants.{Inline}
+use Rattle.scm_view.specs.AppView.{view_mask, views_counts, has_help, app_counts}
+use Rattle.scm_view.specs.Window.{IsFew, AppsTakeFewCalls}
 use Rattle.scm_view.proofs.HiddenLemmas.{on_row-shown, on_row-hidden}
 
 -- how many rows of the screen lie above a row of the document
@@ -105,8 +105,8 @@ few-message None v y = few-to v y y (y +ℤ pos 0) no_counts (omega (arith, ints
 few-message (Some text) v y =
     let second : (y +ℤ pos 1) +ℤ pos 1 ≡ y +ℤ pos 2 = omega (arith, ints) in
     let third : (y +ℤ pos 2) +ℤ pos 1 ≡ y +ℤ pos 3 = omega (arith, ints) in
-    few-plus v y (y +ℤ pos 1) (y +ℤ pos 3) _ _ (few-row v y 0 (omega arith))
-    (few-plus v (y +ℤ pos 1) (y +ℤ pos 2) (y +ℤ pos 3) _ _ (few-to v _ _ _ _ second (few-row v (y +ℤ pos 1) 3 (omega arith))) (few-to v _ _ _ _ third (few-row v (y +ℤ pos 2) 0 (omega arith))))
+    few-plus v y (y +ℤ pos 1) (y +ℤ pos 3) _ _ (few-row v y 1 (omega arith))
+    (few-plus v (y +ℤ pos 1) (y +ℤ pos 2) (y +ℤ pos 3) _ _ (few-to v _ _ _ _ second (few-row v (y +ℤ pos 1) 3 (omega arith))) (few-to v _ _ _ _ third (few-row v (y +ℤ pos 2) 1 (omega arith))))
 
 -- ---- files, of which at most one is pinned
 
@@ -222,18 +222,25 @@ one-view (v ∷ vs) n s x =
     let f = document-few (document_of v) (under (view_mask s x n) s) (pos 1) in
     (omega (arith, f.rows), omega (arith, f.calls))
 
-few-shown : (shown : Shown) (a : AppView) (w h s : ℕ) → IsPlain a shown w h → IsFew h (app_counts a (sight w h s) (pos 0))
+-- whatever document is shown inline
+few-inline : (menu : Option ℕ) (quit : Option QuitDialog) (open_help : Bool) (a : AppView) (w h s : ℕ) → a.commit_view_mode ≡ Inline → a.menu_bar ≡ menus_with menu → a.quit_dialog ≡ quit → has_help a.help_dialog ≡ open_help
+    → IsFew h (app_counts a (sight w h s) (pos 0))
 unfolding app_counts
-few-shown shown a w h s plain =
+few-inline menu quit open_help a w h s inline bar_is quit_is help_is =
     let view = one-view a.commit_views w (sight w h s) (pos 0) in
-    let bar = bar-few shown.open_menu in
-    let quit = quit-few shown.quit_dialog in
-    let help = help-few shown.is_help_open in
-    rw (plain.shows.view_mode, plain.view_mode, plain.shows.menu_bar, plain.shows.quit_dialog, plain.shows.help_dialog)
-    (record { rows = omega (arith, view.0); calls = omega (arith, view.0, view.1, bar, quit, help) })
+    let bar = bar-few menu in
+    let leaving = quit-few quit in
+    let help = help-few open_help in
+    rw (inline, bar_is, quit_is, help_is)
+    (record { rows = omega (arith, view.0); calls = omega (arith, view.0, view.1, bar, leaving, help) })
+
+pub few-on_grid : (menu : Option ℕ) (quit : Option QuitDialog) (open_help : Bool) (a : AppView) (w h s : ℕ) → a.commit_view_mode ≡ Inline → a.menu_bar ≡ menus_with menu → a.quit_dialog ≡ quit → has_help a.help_dialog ≡ open_help
+    → IsFew h (app_counts a (sight w h s) (pos 0)) × IsFew h (added no_counts (app_counts a (sight w h s) (pos 0)))
+few-on_grid menu quit open_help a w h s inline bar_is quit_is help_is =
+    let few = few-inline menu quit open_help a w h s inline bar_is quit_is help_is in
+    let counted = counts-most (added no_counts (app_counts a (sight w h s) (pos 0))) (app_counts a (sight w h s) (pos 0)) refl in
+    (few, record { rows = omega (arith, few.rows, counted.0); calls = omega (arith, few.calls, counted.1) })
 
 pub few-calls-inline : AppsTakeFewCalls
 few-calls-inline shown a w h s plain =
-    let few = few-shown shown a w h s plain in
-    let counted = counts-most (added no_counts (app_counts a (sight w h s) (pos 0))) (app_counts a (sight w h s) (pos 0)) refl in
-    (few, record { rows = omega (arith, few.rows, counted.0); calls = omega (arith, few.calls, counted.1) })
+    few-on_grid shown.open_menu shown.quit_dialog shown.is_help_open a w h s (plain.shows.view_mode ∙ plain.view_mode) plain.shows.menu_bar plain.shows.quit_dialog plain.shows.help_dialog

@@ -13,6 +13,7 @@ use Rattle.scm_view.specs.declared.ids.ComponentId.{ComponentId}
 use Rattle.scm_view.specs.Texts.{box_text, button_text, divider_text, message_text, no_files_text}
 use Rattle.scm_view.specs.Rows.{Heading, DocRow, HeaderRow, SectionRow, LineRow, MarkRow, ContextRow, DotsRow, BlankRow, ShownSection, ShownFile, Document, section_id, file_rows}
 use Rattle.scm_view.specs.Pictures.{edit_button}
+use Rattle.scm_view.specs.Blanks.{blanked}
 use Rattle.scm_view.specs.Layers.{Strip, Layer, clear, owned, strip_at, shown_by}
 use Rattle.scm_view.specs.Strips.{heading_strip, row_strip, is_of_section, everywhere, section_strips, sections_strips, header_strip, file_strips, is_over, files_strips, message_strips, no_files_strip, no_files_layers, files_layer, document_layers}
 
@@ -55,7 +56,7 @@ row-keeps w (LineRow key b ts) row e = say-keeps w _ (pos 8) ts 0 w (omega arith
 row-keeps w (MarkRow selected b t) row e = say-keeps w _ (pos 6) (t ∷ []) 0 w (omega arith) (put-keeps w row (pos 2) (box_text b) 0 w (omega arith) e)
 row-keeps w (ContextRow key ts) row e = say-keeps w row (pos 4) ts 0 w (omega arith) e
 row-keeps w (DotsRow t) row e = put-keeps w row (pos 8) t 0 w (omega arith) e
-row-keeps w BlankRow row e = e
+row-keeps w BlankRow row e = put-keeps w row (pos 2) _ 2 w (omega arith) e
 
 -- ---- strips on consecutive rows
 
@@ -98,8 +99,11 @@ all-files w m top (f ∷ fs) =
 all-message : (w commit : ℕ) (message : Option (List ℕ)) → AllKeep w (message_strips w commit message)
 unfolding message_strips
 all-message w commit None = tt
-all-message w commit (Some message) = (λ row e. e, (message-keeps, (λ row e. e, tt)))
+all-message w commit (Some message) = (blank-keeps, (message-keeps, (blank-keeps, tt)))
   where
+    blank-keeps : (row : Row) → length row ≡ w → length (blanked 0 w row) ≡ w
+    blank-keeps row e = put-keeps w row (pos 0) _ 0 w (omega arith) e
+
     message-keeps : (row : Row) → length row ≡ w
         → length (say_texts (put (put row (pos 0) (button_text (edit_button commit)) 0 w) (pos 15) divider_text 0 w) (pos 19) (message_text message ∷ []) 0 w) ≡ w
     message-keeps row e =

@@ -43,7 +43,7 @@ use Rattle.scm_types.specs.Keys.{section_key_of}
 use Rattle.scm_view.specs.Shown.{Shown, Shows, lent, Totals, totals_of, section_view_of, section_views_of, file_view_of, file_views_of, commit_at, commit_view_of, old_lines}
 use Rattle.scm_view.specs.Close.{IsClose, SightIsClose}
 use Rattle.scm_view.specs.Here.{IsHere, SightIsHere}
-use Rattle.scm_view.proofs.Near.{IsNarrow, IsNarrowBox, IsNarrowHeading, AreNarrow, AreNarrowSections, IsNarrowFile, AreNarrowFiles, IsNarrowMessage}
+use Rattle.scm_view.proofs.Near.{IsNarrow, IsNarrowBox, IsNarrowHeading, AreNarrow, AreNarrowSections, IsNarrowFile, AreNarrowFiles, IsNarrowMessage, IsNarrowDocument}
 use Rattle.scm_view.proofs.SectionsLemmas.{at_most, height-of, length-sections}
 use Rattle.scm_view.proofs.NearLemmas.{document-near}
 
@@ -386,11 +386,23 @@ short-commit zero (c ∷ cs) h = first_true (is_short_option c.message) (list_al
 short-commit (suc n) (c ∷ cs) h = short-commit n cs (second_true (is_short_option c.message) (list_all (λ (c : Commit). is_short_option c.message) cs) h)
 
 -- close places are here
-close-here : (z : ℤ) → IsClose z → IsHere z
+pub close-here : (z : ℤ) → IsClose z → IsHere z
 close-here z c = record { low = omega (arith, places, c.low); high = omega (arith, places, c.high, scroll_room) }
 
-sight-here : (s : Sight) → SightIsClose s → SightIsHere s
+pub sight-here : (s : Sight) → SightIsClose s → SightIsHere s
 sight-here s c = record { x = close-here _ c.x; end_x = close-here _ c.end_x; mask_x = close-here _ c.mask_x; mask_y = close-here _ c.mask_y }
+
+-- the texts of an accepted state are narrow
+pub session-narrow : (shown : Shown) (commit : ℕ) → is_accepted_state shown.state ≡ true → IsNarrowDocument (document_of (commit_view_of shown commit))
+session-narrow shown commit a =
+    let cs = shown.state.commits in
+    let fs = shown.state.files in
+    let messages = list_all (λ (c : Commit). is_short_option c.message) cs in
+    let size = nat_le (state_size shown.state) max_items in
+    let texts = list_all has_short_texts_in_file fs in
+    let two = nat_le (length cs) 2 in
+    let first = first_true ((two && messages) && size) texts a in
+    record { message = message-narrow _ (short-commit commit cs (second_true two messages (first_true (two && messages) size first))); files = files-narrow shown commit 0 fs (second_true ((two && messages) && size) texts a) }
 
 pub commits-in-range : (shown : Shown) (commit : ℕ) (v : CommitView) (s : Sight) (x y : ℤ) → is_accepted_state shown.state ≡ true → Shows v shown commit
     → SightIsClose s → IsClose x → IsClose y → PictureInRange (commit_picture v s x y)

@@ -28,10 +28,10 @@ use Rattle.scm_view.specs.declared.menu_bar.MenuBar.{MenuBar}
 use Rattle.scm_view.specs.Clicks.{is_clickable}
 use Rattle.scm_view.proofs.Parts.{Part, Menus, part_of}
 use Rattle.scm_view.specs.Layers.{Strip, clear, over, owned}
-use Rattle.scm_view.specs.Blanks.{blanked}
+use Rattle.scm_view.specs.Blanks.{blanked, blank_strip}
 use Rattle.scm_view.specs.Pictures.{button_picture}
 use Rattle.scm_view.specs.Buttons.{button_part, button_strip, button_width}
-use Rattle.scm_view.specs.Menus.{header_button, header_step, item_button, widest_item, opened, headers_picture, items_picture, menu_picture, open_picture, menu_bar_picture, headers_strip, blank_strip, items_strips, open_strips, menu_strips}
+use Rattle.scm_view.specs.Menus.{header_button, header_step, item_button, widest_item, opened, headers_picture, items_picture, menu_picture, open_picture, menu_bar_picture, headers_strip, items_strips, open_strips, menu_strips}
 use Rattle.scm_view.proofs.OpenMenus.{HasColumns, IsOpenWide}
 use Rattle.scm_view.specs.Screens.{screen, sight}
 use Rattle.scm_cells.proofs.PutLemmas.{put-empty}

@@ -19,7 +19,7 @@ use Rattle.scm_view.proofs.Near.{IsNear, SightIsNear, IsNarrow, IsNarrowBox, IsN
 use Rattle.scm_view.specs.Texts.{box_text, button_text, divider_text, message_text, no_files_text}
 use Rattle.scm_view.specs.Rows.{IdBox, Heading, DocRow, HeaderRow, SectionRow, LineRow, MarkRow, ContextRow, DotsRow, BlankRow, ShownSection, ShownFile, Document, sections_rows, file_rows, message_height}
 use Rattle.scm_view.specs.FilesRows.{files_rows}
-use Rattle.scm_view.specs.Pictures.{to_end, rest_of_row, whole_row, box_picture, box_part, fold_column, heading_width, heading_mask, title_picture, heading_picture, changed_picture, context_picture, highlight, row_picture, rows_picture, sections_picture, shown_file_picture, file_mask, pinned_mask, mask_row, is_pinned, pinned_picture, one_file_picture, files_picture, edit_button, button_picture, beside_button, message_picture, no_files_picture, document_picture}
+use Rattle.scm_view.specs.Pictures.{to_end, rest_of_row, whole_row, box_picture, box_part, fold_column, heading_width, heading_mask, title_picture, heading_picture, changed_picture, context_picture, highlight, row_picture, rows_picture, sections_picture, shown_file_picture, file_mask, pinned_mask, mask_row, is_pinned, pinned_picture, one_file_picture, files_picture, edit_button, button_picture, beside_button, button_row_picture, message_picture, no_files_picture, document_picture}
 
 -- ---- rectangles
 
@@ -130,17 +130,21 @@ pub row-near : (r : DocRow) (s : Sight) (x y : ℤ) → SightIsNear s → IsNear
 unfolding row_picture
 row-near (HeaderRow key h) s x y n p q w = PictureInRange-as_part _ _ (heading-in h s x y n p q w)
 row-near (SectionRow selected h) s x y n p q w = PictureInRange-followed _ _ (heading-in h s x y n p q w) (highlight-in selected s y n q)
-row-near (LineRow key b ts) s x y n p q w = PictureInRange-as_part _ _ (changed-in b ts s (x +ℤ pos 2) y n (omega (arith, places)) (omega (arith, places)) q w.0 w.1)
+row-near (LineRow key b ts) s x y n p q w =
+    PictureInRange-followed _ _ (PictureInRange-covering _ (rest_of_row-in s x y n p q))
+    (PictureInRange-as_part _ _ (changed-in b ts s (x +ℤ pos 2) y n (omega (arith, places)) (omega (arith, places)) q w.0 w.1))
 row-near (MarkRow selected b t) s x y n p q w =
     PictureInRange-followed _ _ (PictureInRange-covering _ (rest_of_row-in s x y n p q))
     (PictureInRange-followed _ _ (box-in b s x y (omega (arith, places)) (omega (arith, places)) q w.0)
     (PictureInRange-followed _ _ (text-in s (x +ℤ pos 4) y (t ∷ []) n (omega (arith, places)) (omega (arith, places)) q w.1)
     (highlight-in selected s y n q)))
-row-near (ContextRow key ts) s x y n p q w = PictureInRange-as_part _ _ (context-in ts s (x +ℤ pos 2) y n (omega (arith, places)) (omega (arith, places)) q w)
+row-near (ContextRow key ts) s x y n p q w =
+    PictureInRange-followed _ _ (PictureInRange-covering _ (rest_of_row-in s x y n p q))
+    (PictureInRange-as_part _ _ (context-in ts s (x +ℤ pos 2) y n (omega (arith, places)) (omega (arith, places)) q w))
 row-near (DotsRow t) s x y n p q w =
     PictureInRange-followed _ _ (PictureInRange-covering _ (rest_of_row-in s x y n p q))
     (span-in s (x +ℤ pos 6) y t (omega (arith, places)) (omega (arith, places)) q w)
-row-near BlankRow s x y n p q w = PictureInRange-covering _ (rest_of_row-in s x y n p q)
+row-near BlankRow s x y n p q w = blank-in s x y (to_end s x) (rest_of_row-in s x y n p q)
 
 -- ---- rows below one another: the first and the last are near
 
@@ -210,19 +214,26 @@ divider-narrow =
     let bytes : length divider_text ≡ 5 = refl in
     omega (arith, text_width-le divider_text)
 
-three_rows-in : (s : Sight) (x y : ℤ) → SightIsNear s → IsNear x → IsNear y → RectInRange (record { x = x; y = y; width = to_end s x; height = 3 })
-three_rows-in s x y n p q =
+third_row-in : (s : Sight) (x y : ℤ) → SightIsNear s → IsNear x → IsNear y → RectInRange (rest_of_row s x (y +ℤ pos 2))
+third_row-in s x y n p q =
     let r : RectInRange (rest_of_row s x y) = rest_of_row-in s x y n p q in
-    record { x = r.x; end_x = r.end_x; y = r.y; end_y = record { low = omega (arith, places); high = omega (arith, places) } }
+    record {
+      x = r.x;
+      end_x = r.end_x;
+      y = record { low = omega (arith, places); high = omega (arith, places) };
+      end_y = record { low = omega (arith, places); high = omega (arith, places) };
+    }
 
 pub message-near : (commit : ℕ) (m : Option (List ℕ)) (s : Sight) (x y : ℤ) → SightIsNear s → IsNear x → IsNear y → IsNear (y +ℤ pos 1) → IsNarrowMessage m → PictureInRange (message_picture commit m s x y)
-unfolding message_picture beside_button button_picture
+unfolding message_picture button_row_picture beside_button button_picture
 message-near commit None s x y n p q e w = PictureInRange-nothing
 message-near commit (Some m) s x y n p q e w =
-    PictureInRange-followed _ _ (PictureInRange-covering _ (three_rows-in s x y n p q))
+    PictureInRange-followed _ _ (blank-in s x y (to_end s x) (rest_of_row-in s x y n p q))
+    (PictureInRange-followed _ _
     (PictureInRange-followed _ _ (PictureInRange-as_part _ _ (span-in s x (y +ℤ pos 1) (button_text (edit_button commit)) (omega (arith, places)) (omega (arith, places)) e (button-narrow commit)))
     (PictureInRange-followed _ _ (span-in s (x +ℤ pos 15) (y +ℤ pos 1) divider_text (omega (arith, places)) (omega (arith, places)) e divider-narrow)
     (text-in s (x +ℤ pos 19) (y +ℤ pos 1) (message_text m ∷ []) n (omega (arith, places)) (omega (arith, places)) e w)))
+    (blank-in s x (y +ℤ pos 2) (to_end s x) (third_row-in s x y n p q)))
 
 -- ---- a document
 

@@ -24,7 +24,8 @@ use Rattle.scm_view.specs.Tables.{menus_with, quit_dialog, help_dialog}
 use Rattle.scm_view.specs.Overlays.{quit_layers, help_layers, overlays}
 use Rattle.scm_view.specs.Layers.{Strip, clear, over, owned, is_within, strip_at, owned_by, laid_over}
 use Rattle.scm_view.specs.Buttons.{button_width, button_strip, buttons_strip, leftmost}
-use Rattle.scm_view.specs.Menus.{header_button, item_button, header_step, widest_item, opened, headers_strip, blank_strip, items_strips, open_strips, menu_strips, menu_layer}
+use Rattle.scm_view.specs.Blanks.{blank_strip}
+use Rattle.scm_view.specs.Menus.{header_button, item_button, header_step, widest_item, opened, headers_strip, items_strips, open_strips, menu_strips, menu_layer}
 use Rattle.scm_view.specs.Index.{is_from, is_at, spot_owner}
 use Rattle.scm_view.specs.Spots.{far, row_spot, headers_spots, items_spots, open_spots, open_height, bar_spots, buttons_spots, least_left, placed_spots, dialog_spots, quit_spots, help_spots}
 use Rattle.scm_view.proofs.DrawsStrips.{line-owned, line-more, line-over, length-laid_over}

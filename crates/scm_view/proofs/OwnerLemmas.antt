@@ -28,11 +28,11 @@ use Rattle.scm_view.specs.Texts.{box_text}
 use Rattle.scm_view.specs.Rows.{IdBox, section_id, line_id, Heading, DocRow, HeaderRow, SectionRow, LineRow, MarkRow, ContextRow, DotsRow, BlankRow, ShownSection}
 use Rattle.scm_view.specs.Pictures.{IdPicture, box_picture, box_part, heading_width, title_picture, heading_picture, changed_picture, context_picture, highlight, row_picture, rows_picture, sections_picture}
 use Rattle.scm_view.specs.Strips.{box_strip, heading_strip, row_strip, is_wide, is_of_section, everywhere, section_strips, sections_strips}
-use Rattle.scm_view.proofs.DrawsStrips.{DrawsStrips, HasBox, draws_nothing, draws_both, draws_below, draws_part, box-part}
+use Rattle.scm_view.proofs.DrawsStrips.{DrawsStrips, HasBox, draws_nothing, draws_both, draws_below, draws_part}
 use Rattle.scm_view.proofs.ButtonLemmas.{IsId, holds-text, holds-nothing}
 use Rattle.scm_view.proofs.MenuLemmas.{differ, line-beside}
 use Rattle.scm_view.proofs.StripLemmas.{fold-place, beside_fold, AreInner}
-use Rattle.scm_view.proofs.BoxLemmas.{box-none, box-width, row-spans, rows-span, has_box}
+use Rattle.scm_view.proofs.BoxLemmas.{box-none, box-width, rows-span, has_box, changed-spans, context-spans}
 
 -- a screen of w columns of which no row is seen: what is drawn there are boxes alone
 abbrev pub no_rows : ℕ → Rect
@@ -216,11 +216,11 @@ pub record IsFrom (k : SectionKey) (n : ℕ) (i : ComponentId) : Type 0 where
 -- ---- rows
 
 pub line_parts : (key : LineKey) (b : IdBox) (ts : List (List ℕ)) (s : Sight) (y : ℤ) → (part (line_id key) (changed_picture b ts s (pos 4) y)).boxes ≡ (row_picture (LineRow key b ts) s (pos 2) y).boxes
-unfolding row_picture
+unfolding row_picture followed_by covering
 line_parts key b ts s y = refl
 
 pub context_parts : (key : LineKey) (ts : List (List ℕ)) (s : Sight) (y : ℤ) → (part (line_id key) (context_picture ts s (pos 4) y)).boxes ≡ (row_picture (ContextRow key ts) s (pos 2) y).boxes
-unfolding row_picture
+unfolding row_picture followed_by covering
 context_parts key ts s y = refl
 
 highlight-boxes : (b : Bool) (s : Sight) (y : ℤ) → (highlight b s y).boxes ≡ []
@@ -263,16 +263,14 @@ module _ (same : ComponentId → ComponentId → Bool) (law : IsLawful same) whe
   dots_row t s y = refl
 
   blank_row : (s : Sight) (y : ℤ) → (row_picture BlankRow s (pos 2) y).boxes ≡ []
-  unfolding row_picture covering
+  unfolding row_picture blank_picture
   blank_row s y = refl
 
   pub line_box : (key : LineKey) (b : IdBox) (ts : List (List ℕ)) (s : Sight) (w : ℕ) (y : ℤ) → 10 ≤ w → IsOpen s w → HasBox (box_rect (changed_picture b ts s (pos 4) y)) y 1 w everywhere
-  unfolding row_picture
-  line_box key b ts s w y fits o = has_box _ y 1 w true (rw (box-part (line_id key) (changed_picture b ts s (pos 4) y)) at (row-spans (LineRow key b ts) s w y fits o))
+  line_box key b ts s w y fits o = has_box _ y 1 w true (changed-spans b ts s w y fits o)
 
   pub context_box : (key : LineKey) (ts : List (List ℕ)) (s : Sight) (w : ℕ) (y : ℤ) → 10 ≤ w → IsOpen s w → HasBox (box_rect (context_picture ts s (pos 4) y)) y 1 w everywhere
-  unfolding row_picture
-  context_box key ts s w y fits o = has_box _ y 1 w true (rw (box-part (line_id key) (context_picture ts s (pos 4) y)) at (row-spans (ContextRow key ts) s w y fits o))
+  context_box key ts s w y fits o = has_box _ y 1 w true (context-spans ts s w y fits o)
 
   -- each row's boxes own what its strip says
   pub row_owns : (k : SectionKey) (n : ℕ) (d : DocRow) (s : Sight) (w : ℕ) (y : ℤ) → 10 ≤ w → IsOpen s w → IsRowOf k n d

@@ -21,7 +21,7 @@ use Rattle.scm_view.specs.declared.ids.ComponentId.{ComponentId}
 use Rattle.scm_view.specs.Rows.{Heading, DocRow, HeaderRow, SectionRow, LineRow, MarkRow, ContextRow, DotsRow, BlankRow, ShownSection, ShownFile, changed_row, changed_rows, section_height, section_rows, sections_rows, file_rows}
 use Rattle.scm_types.specs.declared.line.SectionChangedLine.{SectionChangedLine}
 use Rattle.scm_view.specs.declared.section_view.SectionView.{SectionView}
-use Rattle.scm_view.specs.Pictures.{IdPicture, box_picture, heading_picture, title_picture, changed_picture, context_picture, heading_mask, heading_width, fold_column, row_picture, rows_picture, sections_picture, shown_file_picture}
+use Rattle.scm_view.specs.Pictures.{IdPicture, box_picture, heading_picture, title_picture, changed_picture, context_picture, heading_mask, heading_width, fold_column, row_picture, rows_picture, sections_picture, shown_file_picture, to_end}
 use Rattle.scm_view.specs.Counts.{drawn, row_counts, rows_counts, sections_counts, file_counts}
 use Rattle.scm_view.specs.Paints.{IsPainted, is_seen, rows_above}
 use Rattle.scm_view.proofs.RowsLemmas.{rows_picture-append, rows-fit}
@@ -149,7 +149,7 @@ leaves-row (MarkRow selected b t) s x y e =
     rw (no-highlight selected s y) (leaves-both s.rect _ _ (leaves-span s x y _ e) (leaves-both s.rect _ [] (leaves-text s (x +ℤ pos 4) y (t ∷ []) e) (leaves-none s.rect)))
 leaves-row (ContextRow key ts) s x y e = leaves-text s (x +ℤ pos 2) y ts e
 leaves-row (DotsRow t) s x y e = leaves-span s (x +ℤ pos 6) y t e
-leaves-row BlankRow s x y e = leaves-none s.rect
+leaves-row BlankRow s x y e = leaves-blank s x y (to_end s x) e
 
 -- n rows from row y on are off the screen
 abbrev pub AreOff : Rect → ℤ → ℕ → Type 0

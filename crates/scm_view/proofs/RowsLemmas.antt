@@ -5,7 +5,7 @@ use Rattle.std.specs.Prelude.{Result, Ok, Err, OnOk, take, ◌-◌}
 use Rattle.std.proofs.lemmas.Int.{ints}
 use Rattle.scm_cells.specs.Rect.{InRange}
 use Rattle.scm_types.specs.declared.line.SectionChangedLine.{SectionChangedLine}
-use Rattle.scm_render.specs.Picture.{PictureInRange, nothing, followed_by, part}
+use Rattle.scm_render.specs.Picture.{PictureInRange, nothing, followed_by, covering, part}
 use Rattle.scm_render.specs.Canvas.{Sight, Canvas, with_picture}
 use Rattle.scm_render.proofs.PictureLemmas.{PictureInRange-left, PictureInRange-right, PictureInRange-part, RectInRange-covering}
 use Rattle.scm_view.specs.declared.ids.ComponentId.{ComponentId}
@@ -17,20 +17,21 @@ use Rattle.scm_view.specs.declared.section_line_view.SectionLineView.{SectionLin
 use Rattle.scm_view.specs.declared.section_line_view.SectionLineViewInner.{SectionLineViewInner}
 use Rattle.scm_view.specs.declared.section_line_view.SectionLineViewInner.TheVariants as inner
 use Rattle.scm_view.specs.Rows.{IdBox, DocRow, HeaderRow, SectionRow, LineRow, MarkRow, ContextRow, DotsRow, BlankRow, changed_row, changed_rows, numbered_row, numbered_rows, lines_count, line_rows, rows_from, view_row, line_id}
-use Rattle.scm_view.specs.Pictures.{IdPicture, inner_picture, line_picture, row_picture, rows_picture, box_picture, changed_picture, context_picture}
+use Rattle.scm_view.specs.Pictures.{IdPicture, rest_of_row, inner_picture, line_picture, row_picture, rows_picture, box_picture, changed_picture, context_picture}
 use Rattle.scm_render.proofs.StepLemmas.{step, rest, span-place, text-place, InRange-fits}
 use Rattle.scm_view.proofs.HeadingLemmas.{heading-rect}
+use Rattle.scm_render.proofs.DrawLemmas.{blank_in_range}
 
 -- the row below one that is in range is too
 pub row-end : (r : DocRow) (s : Sight) (x y : ℤ) → PictureInRange (row_picture r s x y) → InRange (y +ℤ pos 1)
 unfolding row_picture changed_picture context_picture
 row-end (HeaderRow k h) s x y r = (heading-rect h s x y (PictureInRange-part _ _ r)).end_y
 row-end (SectionRow b h) s x y r = (heading-rect h s x y (PictureInRange-left _ _ r)).end_y
-row-end (LineRow k b ts) s x y r = (RectInRange-covering _ (PictureInRange-left _ _ (PictureInRange-part _ _ r))).end_y
+row-end (LineRow k b ts) s x y r = (RectInRange-covering _ (PictureInRange-left _ _ r)).end_y
 row-end (MarkRow b c t) s x y r = (RectInRange-covering _ (PictureInRange-left _ _ r)).end_y
-row-end (ContextRow k ts) s x y r = (RectInRange-covering _ (PictureInRange-left _ _ (PictureInRange-part _ _ r))).end_y
+row-end (ContextRow k ts) s x y r = (RectInRange-covering _ (PictureInRange-left _ _ r)).end_y
 row-end (DotsRow t) s x y r = (RectInRange-covering _ (PictureInRange-left _ _ r)).end_y
-row-end BlankRow s x y r = (RectInRange-covering _ r).end_y
+row-end BlankRow s x y r = (blank_in_range {K = ComponentId} s (rest_of_row s x y) r).end_y
 
 pub rows_picture-more : (rows : List DocRow) (r : DocRow) (rs : List DocRow) (s : Sight) (x y : ℤ) → rows ≡ r ∷ rs → rows_picture rows s x y ≡ followed_by (row_picture r s x y) (rows_picture rs s x (y +ℤ pos 1))
 unfolding rows_picture
@@ -81,12 +82,13 @@ pub from-end : (v : SectionView) (first : ℕ) (ls : Lines) (i : ℕ) → lines_
 from-end v first (lines.Context ls) i h = numbered_rows-end v first ls.now i h
 from-end v first (lines.Changed ls) i h = changed_rows-end v first ls.now i h
 
-inner-picture : (k : LineKey) (i : SectionLineViewInner) (s : Sight) (x y : ℤ) → row_picture (view_row (record { line_key = k; inner = i })) s x y ≡ part (line_id k) (inner_picture i s (x +ℤ pos 2) y)
+inner-picture : (k : LineKey) (i : SectionLineViewInner) (s : Sight) (x y : ℤ)
+    → row_picture (view_row (record { line_key = k; inner = i })) s x y ≡ followed_by (covering (rest_of_row s x y)) (part (line_id k) (inner_picture i s (x +ℤ pos 2) y))
 unfolding row_picture
 inner-picture k (inner.Unchanged l n) s x y = refl
 inner-picture k (inner.Changed b change l) s x y = refl
 
-pub view_row-picture : (w : SectionLineView) (s : Sight) (x y : ℤ) → row_picture (view_row w) s x y ≡ part (line_id w.line_key) (line_picture w s (x +ℤ pos 2) y)
+pub view_row-picture : (w : SectionLineView) (s : Sight) (x y : ℤ) → row_picture (view_row w) s x y ≡ followed_by (covering (rest_of_row s x y)) (part (line_id w.line_key) (line_picture w s (x +ℤ pos 2) y))
 unfolding line_picture
 view_row-picture w s x y = inner-picture w.line_key w.inner s x y
 
@@ -95,7 +97,7 @@ inner-place (inner.Unchanged l n) s x y r = context-place _ s x y r
 inner-place (inner.Changed b change l) s x y r = changed-place b _ s x y r
 
 pub view-place : (w : SectionLineView) (s : Sight) (x y : ℤ) → PictureInRange (row_picture (view_row w) s x y) → InRange (x +ℤ pos 2)
-view-place w s x y r = inner-place w.inner s (x +ℤ pos 2) y (PictureInRange-part _ _ (rw (inner-picture w.line_key w.inner s x y) at r))
+view-place w s x y r = inner-place w.inner s (x +ℤ pos 2) y (PictureInRange-part _ _ (PictureInRange-right _ _ (rw (inner-picture w.line_key w.inner s x y) at r)))
 
 -- ---- lists of rows
 

@@ -24,7 +24,7 @@ use Rattle.scm_view.specs.Blanks.{blanked}
 use Rattle.scm_view.specs.Layers.{Strip, owned}
 use Rattle.scm_view.specs.Texts.{box_text}
 use Rattle.scm_view.specs.Rows.{section_id, file_id, Heading, DocRow, HeaderRow, SectionRow, LineRow, MarkRow, ContextRow, DotsRow, BlankRow, ShownSection, ShownFile, sections_rows, file_rows}
-use Rattle.scm_view.specs.Pictures.{to_end, box_picture, fold_column, heading_width, heading_mask, title_picture, heading_picture, changed_picture, context_picture, highlight, row_picture, rows_picture, sections_picture, shown_file_picture, file_mask, pinned_mask, mask_row, pinned_header}
+use Rattle.scm_view.specs.Pictures.{to_end, box_picture, fold_column, heading_width, heading_mask, title_picture, heading_picture, changed_picture, context_picture, highlight, row_picture, rows_picture, sections_picture, shown_file_picture, file_mask, pinned_mask, mask_row, pinned_header, rest_of_row, blank_rest}
 use Rattle.scm_view.specs.Strips.{heading_strip, row_strip, is_of_section, everywhere, section_strips, sections_strips, header_strip, file_strips}
 
 -- ---- limits as columns of the screen
@@ -161,6 +161,17 @@ blank-paints seen s w c y h o on =
     one_same s.rect seen y _ _ _ (λ row. blank-between s.rect m q w c (w - 3) row i (omega arith) from columns)
     (one_blank ComponentId s.rect seen (beside_fold s c y) (pos c) y (heading_width s (pos c)) (heading-reached s seen c y on))
 
+-- a row that is blanked from a column on
+pub rest-paints : (seen : Rect) (s : Sight) (w c : ℕ) (y : ℤ) → c ≤ w → IsOpen s w → IsReached seen (reach s) y → OneRow s.rect seen y (blank_rest s (pos c) y).puts (blanked c w)
+rest-paints seen s w c y h o r =
+    let m = reach s in
+    let n : to_end s (pos c) ≡ w - c = omega (arith, places, o.low, o.columns, h) in
+    let q = intersect_of (rest_of_row s (pos c) y) m in
+    let from : q.x ≡ pos c = blank-x (pos c) y (to_end s (pos c)) m ∙ omega (arith, places, o.low) in
+    let columns : q.width ≡ w - c = blank-width (pos c) y (to_end s (pos c)) m ∙ omega (arith, places, o.low, o.columns, n, h) in
+    let i : IsBetween s.rect q w c w = record { left = o.left; width = o.width; low = from; high = omega (arith, ints, from, columns, h); first = h; last = omega arith } in
+    one_same s.rect seen y _ _ _ (λ row. blank-between s.rect q q w c w row i h from columns) (one_blank ComponentId s.rect seen s (pos c) y (to_end s (pos c)) r)
+
 pub heading-paints : (h : Heading) (seen : Rect) (s : Sight) (w c : ℕ) (y : ℤ) → c + 8 ≤ w → IsOpen s w → IsOnScreen seen s.rect → IsReached seen (reach s) y
     → OneRow s.rect seen y (heading_picture h s (pos c) y).puts (heading_strip w c h).shows
 unfolding heading_picture title_picture followed_by part box_picture span_picture
@@ -207,7 +218,7 @@ row-paints (MarkRow selected b t) seen s w y fits o on r =
     (one_more s.rect seen y _ [] _ (λ row. row) (text-paints seen s w 0 w (pos 2 +ℤ pos 4) y 6 (t ∷ []) i refl r) (one_none s.rect seen y)))
 row-paints (ContextRow key ts) seen s w y fits o on r = text-paints seen s w 0 w (pos 2 +ℤ pos 2) y 4 ts (open-between s w o) refl r
 row-paints (DotsRow t) seen s w y fits o on r = box-paints s.rect seen (reach s) w 0 w (pos 2 +ℤ pos 6) y 8 t (open-between s w o) refl r
-row-paints BlankRow seen s w y fits o on r = one_none s.rect seen y
+row-paints BlankRow seen s w y fits o on r = rest-paints seen s w 2 y (omega (arith, fits)) o r
 
 -- ---- rows one below another
 

@@ -84,7 +84,7 @@ open-below w h s = record { left = refl; width = refl; low = ap (λ (r : Rect). 
 pub row-below : (w h s : ℕ) → mask_row (body_sight w h s) ≡ pos (s + 1)
 row-below w h s = omega (arith, ints)
 
-has_row-below : (w h s z : ℕ) → s < z → z < s + h → has_row (reach (body_sight w h s)) (pos z) ≡ true
+pub has_row-below : (w h s z : ℕ) → s < z → z < s + h → has_row (reach (body_sight w h s)) (pos z) ≡ true
 has_row-below w h s z a b =
     let p : int_le (pos (s + 1)) (pos z) ≡ true = grind (arith, ints) in
     let q : int_lt (pos z) (pos (s + 1) +ℤ pos (h - 1)) ≡ true = grind (arith, ints) in
@@ -105,7 +105,7 @@ blanked-whole w row e =
     let all : w - 0 ≡ w = omega arith in
     rw all (put-spaces_whole row w e)
 
-hides : (w s : ℕ) (bar : MenuBar) (ls : List (Layer ComponentId)) (a b : Row) → length a ≡ w → length b ≡ w → shown_by (menu_layer w s bar ∷ ls) s a ≡ shown_by (menu_layer w s bar ∷ ls) s b
+pub hides : (w s : ℕ) (bar : MenuBar) (ls : List (Layer ComponentId)) (a b : Row) → length a ≡ w → length b ≡ w → shown_by (menu_layer w s bar ∷ ls) s a ≡ shown_by (menu_layer w s bar ∷ ls) s b
 unfolding shown_by
 hides w s bar ls a b p q =
     ap (shown_by ls s) (bar_at w s bar a ∙ ap (headers_strip w 0 0 bar.menus).shows (blanked-whole w a p ∙ sym (blanked-whole w b q)) ∙ sym (bar_at w s bar b))
@@ -114,7 +114,7 @@ no_pinned : (w s : ℕ) (d : Document) → strip_at s (pinned_layer w (s + 1) 1 
 no_pinned w s d = line-below clear (pinned_layer w (s + 1) 1 d).strips (pos (s + 1)) (pos s) (omega (arith, ints))
 
 -- no header is pinned there, and the document's strips keep a row's length
-first-keeps : (w h s : ℕ) (d : Document) (row : Row) → length row ≡ w → length (shown_by (body_layers w h s d) s row) ≡ w
+pub first-keeps : (w h s : ℕ) (d : Document) (row : Row) → length row ≡ w → length (shown_by (body_layers w h s d) s row) ≡ w
 unfolding shown_by
 first-keeps w h s d row e =
     ap length (shown-append same_component is_clickable (rows_layers w h s d) (pinned_layer w (s + 1) 1 d ∷ []) s row
@@ -123,13 +123,13 @@ first-keeps w h s d row e =
 
 -- ---- each row
 
-on_screen : (w h s z : ℕ) → s ≤ z → z < s + h → has_row (screen w h s) (pos z) ≡ true
+pub on_screen : (w h s z : ℕ) → s ≤ z → z < s + h → has_row (screen w h s) (pos z) ≡ true
 on_screen w h s z a b =
     let p : int_le (pos s) (pos z) ≡ true = grind (arith, ints) in
     let q : int_lt (pos z) (pos s +ℤ pos h) ≡ true = grind (arith, ints) in
     rw (p, q) refl
 
-blank-length : (w : ℕ) → length (blank_row w) ≡ w
+pub blank-length : (w : ℕ) → length (blank_row w) ≡ w
 blank-length w = length-replicate w _
 
 abbrev over_layers : ℕ → ℕ → ℕ → Shown → List (Layer ComponentId)

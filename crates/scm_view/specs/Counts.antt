@@ -24,7 +24,7 @@ on_row v y n = if has_row v y then n else no_counts
 
 -- ---- rows
 
--- the two boxes of a heading, its blank and its title; a box and a text; a text
+-- the two boxes of a heading, its blank and its title; a box and a text; a text; a blank
 abbrev pub row_calls : DocRow → ℕ
 row_calls (HeaderRow key h) = 4
 row_calls (SectionRow selected h) = 4
@@ -32,7 +32,7 @@ row_calls (LineRow key b ts) = 2
 row_calls (MarkRow selected b t) = 2
 row_calls (ContextRow key ts) = 1
 row_calls (DotsRow t) = 1
-row_calls BlankRow = 0
+row_calls BlankRow = 1
 
 abbrev pub row_counts : DocRow → Rect → ℤ → Counts
 row_counts r v y = on_row v y (drawn 1 (row_calls r))
@@ -75,11 +75,11 @@ files_counts (f ∷ fs) v row y = plus (plus (file_counts f v y) (pinned_counts 
 
 -- ---- commits
 
--- a message: an empty row, the row with the button, the bullet and the text, and an empty row
+-- a message: a blank row, the row with the button, the bullet and the text, and a blank row
 unfoldable pub message_counts : Option (List ℕ) → Rect → ℤ → Counts
 message_counts None v y = no_counts
 message_counts (Some message) v y =
-    plus (on_row v y (drawn 1 0)) (plus (on_row v (y +ℤ pos 1) (drawn 1 3)) (on_row v (y +ℤ pos 2) (drawn 1 0)))
+    plus (on_row v y (drawn 1 1)) (plus (on_row v (y +ℤ pos 1) (drawn 1 3)) (on_row v (y +ℤ pos 2) (drawn 1 1)))
 
 -- the words for no files
 abbrev pub no_files_counts : Sight → ℤ → Counts

@@ -1,7 +1,7 @@
 -- The index of a frame that is shown inline: plain data that says who owns each point, on which rows each key stands, and how many
 -- rows all of it spans.
 use Rattle.std.specs.Prelude.{◌≡◌, ℕ, ◌+◌, ◌-◌, ◌==◌, nat_le, nat_lt, Bool, ◌&&◌, ◌||◌, if◌then◌else◌, List, [], ◌∷◌, Option, Some, None, option_map}
-use Rattle.std.specs.List.{flat_map}
+use Rattle.std.specs.List.{filter, flat_map}
 use Rattle.scm_render.specs.Hits.{first_of_two}
 use Rattle.scm_types.specs.declared.keys.SectionKey.{SectionKey}
 use Rattle.scm_types.specs.declared.keys.LineKey.{LineKey}
@@ -13,6 +13,8 @@ use Rattle.scm_view.specs.declared.frame_index.FrameIndex.{FrameIndex}
 use Rattle.scm_view.specs.declared.spots.Spot.{Spot}
 use Rattle.scm_view.specs.declared.tops.FileTop.{FileTop}
 use Rattle.scm_view.specs.declared.tops.SectionTop.{SectionTop}
+use Rattle.scm_view.specs.declared.tops.Piece.{Piece}
+use Rattle.scm_view.specs.declared.tops.Piece.TheVariants.{File, Section}
 use Rattle.scm_view.specs.declared.tops.RowKinds.{RowKinds}
 use Rattle.scm_view.specs.declared.tops.RowKinds.TheVariants.{Changed, Mark, Context}
 use Rattle.scm_view.specs.Rows.{file_id, section_id, line_id, line_key_of}
@@ -89,6 +91,20 @@ files_owner w (f ∷ fs) o y x = if is_from f.top f.end y then file_owner w f o 
 abbrev pub rows_owner : ℕ → List FileTop → List SectionTop → ℕ → ℕ → Option ComponentId
 rows_owner w fs ss y x = files_owner w fs (sections_owner w ss y x) y x
 
+-- ---- the pieces near the screen
+
+-- whether something from row top to before row end stands on one of the rows from first to before last
+abbrev pub meets : ℕ → ℕ → ℕ → ℕ → Bool
+meets first last top end = nat_lt top last && nat_lt first end
+
+abbrev pub is_near : ℕ → ℕ → Piece → Bool
+is_near first last (File f) = meets first last f.top f.end
+is_near first last (Section s) = meets first last s.top s.end
+
+-- those of the pieces that stand on one of these rows
+abbrev pub near : ℕ → ℕ → List Piece → List Piece
+near first last ps = filter (is_near first last) ps
+
 -- who owns a point, by an index
 abbrev pub owner_in : FrameIndex → ℕ → ℕ → Option ComponentId
 owner_in i y x =
@@ -96,10 +112,21 @@ owner_in i y x =
     then first_of_two (spot_owner i.spots.items y x) (rows_owner i.width (files_of i.pieces.items) (sections_of i.pieces.items) y x)
     else None
 
+-- the index has the pieces near its screen
+abbrev pub HasNear : FrameIndex → Type 0
+HasNear i = i.near.items ≡ near i.first i.last i.pieces.items
+
+-- on a row these pieces own what all pieces of the index do
+abbrev pub OwnAlike : FrameIndex → ℕ → List Piece → Type 0
+OwnAlike i y ps =
+    HasNear i → (w x : ℕ) → rows_owner w (files_of ps) (sections_of ps) y x
+    ≡ rows_owner w (files_of i.pieces.items) (sections_of i.pieces.items) y x
+
 -- ---- what an index stands for
 
 -- the index of what is shown on a screen of w columns and h rows, from row s of the document on
 pub record IsIndexOf (w h s : ℕ) (shown : Shown) (i : FrameIndex) : Type 0 where
+  pub near : HasNear i
   pub owner : (y x : ℕ) → owner_in i y x ≡ (if nat_lt x w then owner w h s shown y x else None)
   pub span : (k : SelectionKey) → rows_of_key k (flat_map piece_places i.pieces.items) ≡ span shown k
   pub extent : i.extent ≡ extent w h s shown

@@ -10,7 +10,7 @@ use Rattle.scm_view.specs.declared.menu.MenuItem.{MenuItem}
 use Rattle.scm_view.specs.declared.menu.Menu.{Menu}
 use Rattle.scm_view.specs.declared.menu_bar.MenuBar.{MenuBar}
 use Rattle.scm_view.specs.Layers.{Strip, Layer, over, clear, owned}
-use Rattle.scm_view.specs.Blanks.{blanked}
+use Rattle.scm_view.specs.Blanks.{blank_strip}
 use Rattle.scm_view.specs.Buttons.{button_part, button_strip, button_width}
 
 -- the header of a menu in the bar
@@ -84,9 +84,6 @@ menu_bar_picture b s x y =
 unfoldable pub headers_strip : ℕ → ℕ → ℕ → List Menu → Strip ComponentId
 headers_strip w c k [] = clear
 headers_strip w c k (m ∷ ms) = over (headers_strip w (c + header_step m) (suc k) ms) (button_strip w (pos c) (header_button k m))
-
-abbrev pub blank_strip : ℕ → ℕ → Strip ComponentId
-blank_strip a b = record { shows = blanked a b; owner = λ x. None }
 
 unfoldable pub items_strips : ℕ → ℕ → ℕ → ℕ → List MenuItem → List (Strip ComponentId)
 items_strips w n c k [] = []

@@ -34,6 +34,10 @@ to_end s x = or_zero (end_x_of (reach s) -ℤ x)
 abbrev pub rest_of_row : Sight → ℤ → ℤ → Rect
 rest_of_row s x y = row_rect x y (to_end s x)
 
+-- the columns from here to the end, blanked
+abbrev pub blank_rest : Sight → ℤ → ℤ → IdPicture
+blank_rest s x y = blank_picture s (rest_of_row s x y)
+
 -- all columns that the mask lets through
 abbrev pub whole_row : Sight → ℤ → Rect
 whole_row s y = row_rect (reach s).x y (reach s).width
@@ -98,18 +102,19 @@ line_picture v s x y = inner_picture v.inner s x y
 abbrev pub highlight : Bool → Sight → ℤ → IdPicture
 highlight selected s y = if selected then covering (whole_row s y) else nothing
 
+-- a section takes the columns of each of its rows from its place to the end, and a line takes all columns
 unfoldable pub row_picture : DocRow → Sight → ℤ → ℤ → IdPicture
 row_picture (HeaderRow key h) s x y = part (ids.FileViewHeader key) (heading_picture h s x y)
 row_picture (SectionRow selected h) s x y = followed_by (heading_picture h s x y) (highlight selected s y)
-row_picture (LineRow key b ts) s x y = part (line_id key) (changed_picture b ts s (x +ℤ pos 2) y)
+row_picture (LineRow key b ts) s x y = followed_by (covering (rest_of_row s x y)) (part (line_id key) (changed_picture b ts s (x +ℤ pos 2) y))
 row_picture (MarkRow selected b t) s x y =
     followed_by (covering (rest_of_row s x y))
     (followed_by (box_part b s x y)
     (followed_by (text_picture s (x +ℤ pos 4) y (t ∷ []))
     (highlight selected s y)))
-row_picture (ContextRow key ts) s x y = part (line_id key) (context_picture ts s (x +ℤ pos 2) y)
+row_picture (ContextRow key ts) s x y = followed_by (covering (rest_of_row s x y)) (part (line_id key) (context_picture ts s (x +ℤ pos 2) y))
 row_picture (DotsRow t) s x y = followed_by (covering (rest_of_row s x y)) (span_picture s (x +ℤ pos 6) y t)
-row_picture BlankRow s x y = covering (rest_of_row s x y)
+row_picture BlankRow s x y = blank_rest s x y
 
 -- rows one below another
 unfoldable pub rows_picture : List DocRow → Sight → ℤ → ℤ → IdPicture
@@ -148,13 +153,18 @@ edit_button commit = record { id = ids.CommitEditMessageButton commit; label = c
 unfoldable pub beside_button : List ℕ → Sight → ℤ → ℤ → IdPicture
 beside_button text s x y = followed_by (span_picture s (x +ℤ pos 15) y divider_text) (text_picture s (x +ℤ pos 19) y (text ∷ []))
 
--- a message: an empty row, the button that edits it and its first line, and an empty row
+-- the button that edits a message, and behind it the message's first line
+unfoldable pub button_row_picture : ℕ → List ℕ → Sight → ℤ → ℤ → IdPicture
+button_row_picture commit message s x y =
+    followed_by (part (edit_button commit).id (button_picture (edit_button commit) s x y)) (beside_button (message_text message) s x y)
+
+-- a message: a blank row, the row of its button, and a blank row
 unfoldable pub message_picture : ℕ → Option (List ℕ) → Sight → ℤ → ℤ → IdPicture
 message_picture commit None s x y = nothing
 message_picture commit (Some message) s x y =
-    followed_by (covering (record { x = x; y = y; width = to_end s x; height = 3 }))
-    (followed_by (part (edit_button commit).id (button_picture (edit_button commit) s x (y +ℤ pos 1)))
-    (beside_button (message_text message) s x (y +ℤ pos 1)))
+    followed_by (blank_rest s x y)
+    (followed_by (button_row_picture commit message s x (y +ℤ pos 1))
+    (blank_rest s x (y +ℤ pos 2)))
 
 -- from here to the end of the mask, on all rows from here on
 abbrev pub file_mask : Sight → ℤ → ℤ → Mask

@@ -187,7 +187,7 @@ rows_below v lines =
 abbrev pub shown_lines : SectionView → List (List ℕ) → List DocRow
 shown_lines v lines = numbered_rows v 0 (take (lines_above v (length lines)) lines) ++ rows_below v lines
 
--- the rows of context: an empty row where it has no line
+-- the rows of context: a blank row where it has no line
 unfoldable pub context_rows : SectionView → List (List ℕ) → List DocRow
 context_rows v lines = if length lines == 0 then BlankRow ∷ [] else shown_lines v lines
 

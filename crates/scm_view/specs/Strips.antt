@@ -8,8 +8,8 @@ use Rattle.scm_render.specs.Centring.{centred_gap}
 use Rattle.scm_render.specs.Rows.{say_texts}
 use Rattle.scm_view.specs.declared.ids.ComponentId.{ComponentId}
 use Rattle.scm_view.specs.declared.ids.ComponentId.TheVariants as ids
-use Rattle.scm_view.specs.Blanks.{blanked}
-use Rattle.scm_view.specs.Layers.{Strip, Layer, clear, over, owned}
+use Rattle.scm_view.specs.Blanks.{blank_strip}
+use Rattle.scm_view.specs.Layers.{Strip, Layer, over, owned}
 use Rattle.scm_view.specs.Texts.{box_text, button_text, divider_text, message_text, no_files_text}
 use Rattle.scm_view.specs.Rows.{IdBox, file_id, section_id, line_id, Heading, DocRow, HeaderRow, SectionRow, LineRow, MarkRow, ContextRow, DotsRow, BlankRow, ShownSection, ShownFile, Document, file_rows}
 use Rattle.scm_view.specs.Pictures.{edit_button}
@@ -43,7 +43,7 @@ abbrev pub heading_strip : ℕ → ℕ → Heading → Strip ComponentId
 heading_strip w c h =
     over (text_strip (c + 4) (h.title ∷ []) c (w - 3))
     (over (box_strip c h.toggle c (w - 3))
-    (over (only_shows (blanked c (w - 3)))
+    (over (blank_strip c (w - 3))
     (box_strip (w - 3) h.fold 0 w)))
 
 -- ---- rows
@@ -56,7 +56,7 @@ row_strip w (LineRow key b ts) = owned (line_id key) everywhere (over (text_stri
 row_strip w (MarkRow selected b t) = over (text_strip 6 (t ∷ []) 0 w) (box_strip 2 b 0 w)
 row_strip w (ContextRow key ts) = owned (line_id key) everywhere (text_strip 4 ts 0 w)
 row_strip w (DotsRow t) = only_shows (λ row. put row (pos 8) t 0 w)
-row_strip w BlankRow = clear
+row_strip w BlankRow = blank_strip 2 w
 
 -- a row that takes columns 0 and 1 too: a line, and the first row of a selected section
 abbrev pub is_whole : DocRow → Bool
@@ -121,9 +121,10 @@ message_strip w commit message =
       owner = λ x. cond (is_among 0 14 x) (Some (edit_button commit).id) None;
     }))
 
+-- a blank row, the row of the button, and a blank row
 unfoldable pub message_strips : ℕ → ℕ → Option (List ℕ) → List (Strip ComponentId)
 message_strips w commit None = []
-message_strips w commit (Some message) = clear ∷ (message_strip w commit message ∷ (clear ∷ []))
+message_strips w commit (Some message) = blank_strip 0 w ∷ (message_strip w commit message ∷ (blank_strip 0 w ∷ []))
 
 -- ---- the document of a commit, from row top on, where m is the first row on which drawing shows anything
 

@@ -15,6 +15,7 @@ ghost use Rattle.scm_view.specs.AppView.{views_shown, view_width, held, view_mas
 ghost use Rattle.scm_view.specs.declared.commit_view.CommitViewMode.TheVariants.{Inline};
 ghost use Rattle.scm_render.specs.Draws.{Draws};
 ghost use Rattle.scm_view.specs.Paints.{Paints};
+ghost use Rattle.scm_view.specs.PartViews.{HasWindowOf, ShowsPartInline};
 
 use crate::commit_view::{CommitView, CommitViewMode};
 use crate::help_dialog::HelpDialog;
@@ -237,11 +238,35 @@ impl<'a> AppView<'a> {
 
     /// Clears the grid, and paints what the view shows inline, from this row of the document on: only
     /// what is on the screen, with few rows and calls. Where memory is refused the grid keeps its size.
-    #[tactic(auto, using(scm_types::proofs::LimitLemmas::scroll_room))]
     pub fn paint(&self, alloc: Global, grid: &mut Grid, scroll: usize) -> Result<(), RecordError>
         requires shows { ShowsInline self.now grid.old.width (length grid.old.rows) scroll }
         ensures ok { OnOk result ((shown : Shown) → IsPlain self.now shown grid.old.width (length grid.old.rows) →
             grid.new.rows ≡ window grid.old.width (length grid.old.rows) scroll shown) }
+        ensures few { OnOk result (IsFew (length grid.old.rows) grid.new.counts) }
+        ensures width { grid.new.width ≡ grid.old.width }
+        ensures height { length grid.new.rows ≡ length grid.old.rows }
+        ensures err { IfErr result (λ e. e ≡ OutOfMemory) }
+    {
+        self.paint_part(alloc, grid, scroll)
+    }
+
+    /// Clears the grid, and paints what the view shows inline, if the view has only a part of a session's
+    /// document. The first row of the screen shows row `scroll` of that part. With `parts_show_windows`
+    /// this is what the session shows, if the part covers the screen.
+    ///
+    /// # Errors
+    ///
+    /// `OutOfMemory`: an allocation failed; the grid keeps its size.
+    #[tactic(auto, using(scm_types::proofs::LimitLemmas::scroll_room))]
+    pub fn paint_part(
+        &self,
+        alloc: Global,
+        grid: &mut Grid,
+        scroll: usize,
+    ) -> Result<(), RecordError>
+        requires shows { ShowsPartInline self.now grid.old.width (length grid.old.rows) scroll }
+        ensures ok { OnOk result
+            (HasWindowOf self.now grid.old.width (length grid.old.rows) scroll grid.new.rows) }
         ensures few { OnOk result (IsFew (length grid.old.rows) grid.new.counts) }
         ensures width { grid.new.width ≡ grid.old.width }
         ensures height { length grid.new.rows ≡ length grid.old.rows }

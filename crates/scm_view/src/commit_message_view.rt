@@ -3,7 +3,7 @@ ghost use Rattle.std.specs.Prelude.{◌≡◌, ◌++◌, is_some, Some, OnOk, If
 ghost use Rattle.scm_render.specs.Picture.{PictureInRange};
 ghost use Rattle.scm_view.specs.Counts.{drawn, on_row, message_counts};
 ghost use Rattle.scm_errors.specs.declared.error.RecordError.TheVariants.{OutOfMemory};
-ghost use Rattle.scm_view.specs.Pictures.{beside_button, edit_button, message_picture};
+ghost use Rattle.scm_view.specs.Pictures.{beside_button, button_row_picture, edit_button, message_picture};
 ghost use Rattle.scm_view.specs.Rows.{message_height};
 ghost use Rattle.scm_view.specs.Spots.{message_spots};
 ghost use Rattle.scm_view.specs.Texts.{divider_text, message_text};
@@ -11,11 +11,10 @@ ghost use Rattle.scm_render.specs.Draws.{Draws};
 
 use crate::button::Button;
 use crate::ids::ComponentId;
-use crate::noting::{begin_row, show_button, show_span, show_text};
-use crate::reach::{cover_rect, to_end};
+use crate::noting::{begin_row, show_blank_rest, show_button, show_span, show_text};
 use crate::spots::{Spot, far, row_spot};
 use crate::texts::{divider_text, message_text};
-use scm_cells::{Rect, Span};
+use scm_cells::Span;
 use scm_render::{Component, Viewport};
 use scm_types::{Commit, RecordError, Text};
 use std::alloc::Global;
@@ -55,7 +54,28 @@ fn draw_beside_button(
     Ok(())
 }
 
-/// Draws a message.
+/// Draws the row of a message's button: the button that edits it, and behind it the message's first
+/// line.
+fn draw_button_row(
+    alloc: Global,
+    viewport: &mut Viewport<ComponentId>,
+    x: isize,
+    y: isize,
+    commit_idx: usize,
+    message: &str,
+) -> Result<(), RecordError>
+    requires { PictureInRange (button_row_picture commit_idx message.now viewport.old.canvas.sight x y) }
+    ensures { Draws viewport.old viewport.new result (button_row_picture commit_idx message.now viewport.old.canvas.sight x y) (on_row viewport.old.canvas.sight.rect y (drawn 1 3)) }
+{
+    let button = edit_button(commit_idx);
+    let text = message_text(message);
+    begin_row(viewport, y);
+    show_button(alloc, viewport, x, y, &button)?;
+    draw_beside_button(viewport, x, y, text)?;
+    Ok(())
+}
+
+/// Draws a message: a blank row, the row of its button, and a blank row.
 fn draw_message(
     alloc: Global,
     viewport: &mut Viewport<ComponentId>,
@@ -67,24 +87,13 @@ fn draw_message(
     requires { PictureInRange (message_picture commit_idx (Some message.now) viewport.old.canvas.sight x y) }
     ensures { Draws viewport.old viewport.new result (message_picture commit_idx (Some message.now) viewport.old.canvas.sight x y) (message_counts (Some message.now) viewport.old.canvas.sight.rect y) }
 {
-    let width = to_end(viewport, x);
-    let button = edit_button(commit_idx);
-    let text = message_text(message);
     let row = y + 1;
-    cover_rect(
-        viewport,
-        Rect {
-            x,
-            y,
-            width,
-            height: 3,
-        },
-    );
+    let below = y + 2;
     begin_row(viewport, y);
-    begin_row(viewport, row);
-    show_button(alloc, viewport, x, row, &button)?;
-    draw_beside_button(viewport, x, row, text)?;
-    begin_row(viewport, row + 1);
+    show_blank_rest(viewport, x, y)?;
+    draw_button_row(alloc, viewport, x, row, commit_idx, message)?;
+    begin_row(viewport, below);
+    show_blank_rest(viewport, x, below)?;
     Ok(())
 }
 

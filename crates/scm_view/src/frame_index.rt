@@ -8,7 +8,7 @@ ghost use Rattle.scm_view.specs.AppView.{has_help};
 ghost use Rattle.scm_view.specs.Tables.{help_dialog, quit_dialog};
 ghost use Rattle.scm_view.specs.Runs.{document_run, joined, joined_with};
 ghost use Rattle.scm_view.specs.Spots.{dialog_run, help_spots, quit_spots};
-ghost use Rattle.scm_view.specs.Index.{IsIndexOf, owner_in};
+ghost use Rattle.scm_view.specs.Index.{HasNear, IsIndexOf, OwnAlike, owner_in};
 
 use crate::app_view::AppView;
 use crate::commit_view::push_pieces;
@@ -18,7 +18,7 @@ use crate::ids::ComponentId;
 use crate::key_rows::find_in;
 use crate::quit_dialog::QuitDialog;
 use crate::spots::{Spot, spot_owner};
-use crate::tops::{Piece, push_pinned, rows_owner};
+use crate::tops::{Piece, pieces_near, push_pinned, rows_owner};
 use scm_types::{RecordError, SelectionKey};
 use std::alloc::Global;
 
@@ -34,6 +34,12 @@ pub struct FrameIndex {
     spots: Vec<Spot>,
     /// Where the files stand, and their sections that are shown.
     pieces: Vec<Piece>,
+    /// The screen's first row, in the document.
+    first: usize,
+    /// The row below the screen's last one.
+    last: usize,
+    /// Those of the pieces that stand on the screen's rows.
+    near: Vec<Piece>,
     /// How many rows all of it spans.
     extent: usize,
 }
@@ -146,10 +152,15 @@ impl FrameIndex {
         let rows = usize::from(height).saturating_sub(1);
         let document = document_run(rows, message, views.is_empty(), end);
         let run = joined_with(joined_with(joined((scroll, below), document), quit), help);
+        let last = scroll + usize::from(height);
+        let near = pieces_near(alloc, pieces.as_slice(), scroll, last)?;
         Ok(FrameIndex {
             width,
             spots,
             pieces,
+            first: scroll,
+            last,
+            near,
             extent: run.1.saturating_sub(run.0),
         })
     }
@@ -177,9 +188,20 @@ impl FrameIndex {
         self.extent
     }
 
+    /// Returns pieces among which are all those on row `row`: few, if it is one of the screen's.
+    fn pieces_on(&self, row: usize) -> &[Piece]
+        ensures { OwnAlike self.now row result.now }
+    {
+        if self.first <= row && row < self.last {
+            self.near.as_slice()
+        } else {
+            self.pieces.as_slice()
+        }
+    }
+
     /// Who owns a point.
     fn owner_in(&self, row: usize, column: usize) -> Option<ComponentId>
-        ensures { result ≡ owner_in self.now row column }
+        ensures { HasNear self.now → result ≡ owner_in self.now row column }
     {
         let width = usize::from(self.width);
         if width <= column {
@@ -187,7 +209,7 @@ impl FrameIndex {
         }
         match spot_owner(&self.spots, row, column) {
             Some(id) => Some(id),
-            None => rows_owner(width, &self.pieces, row, column),
+            None => rows_owner(width, self.pieces_on(row), row, column),
         }
     }
 }

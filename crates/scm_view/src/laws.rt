@@ -3,6 +3,8 @@ ghost use Rattle.scm_view.specs.AppView.{AppsAreInRange, AppsAreDrawnAlike};
 ghost use Rattle.scm_view.specs.ComponentRanges.{ComponentsAreInRange};
 ghost use Rattle.scm_view.specs.Laws.{ClearedGridsAreScreens, CommitsAreInRange, DocumentsArePainted, SectionsOwnTheirColumns};
 ghost use Rattle.scm_view.specs.SameIds.{IdsAreToldApart};
+ghost use Rattle.scm_view.specs.DocumentParts.{PartsShowWindows};
+ghost use Rattle.scm_view.specs.Anchors.{SearchesShowWindows};
 ghost use Rattle.scm_view.specs.Window.{
   AppsHaveExtents,
   AppsShowWindows,
@@ -110,4 +112,16 @@ pub fn apps_have_extents()
 /// header, however long the document is, and the calls that draw are few.
 pub fn apps_take_few_calls()
     ensures { AppsTakeFewCalls }
+{}
+
+/// A part of a document that covers a screen of at least two rows shows on it what the document shows,
+/// if it is scrolled up by the rows that the part leaves out above.
+pub fn parts_show_windows()
+    ensures { PartsShowWindows }
+{}
+
+/// The part that `visible_part` finds, scrolled up by `visible_part_offset`, shows on a screen of at
+/// least two rows what the document shows.
+pub fn searches_show_windows()
+    ensures { SearchesShowWindows }
 {}

@@ -27,6 +27,7 @@ mod button_row;
 mod commit_message_view;
 mod commit_view;
 mod dialog;
+pub mod document_part;
 mod file_view;
 mod file_view_header;
 mod frame_index;

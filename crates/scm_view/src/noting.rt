@@ -7,7 +7,7 @@ ghost use Rattle.scm_render.specs.Picture.{PictureInRange};
 ghost use Rattle.scm_render.specs.Canvas.{with_picture};
 ghost use Rattle.scm_render.specs.Drawing.{has_row, row_rect, span_picture, text_picture, blank_picture, texts_width};
 ghost use Rattle.scm_view.specs.declared.ids.ComponentId.{ComponentId};
-ghost use Rattle.scm_view.specs.Pictures.{box_part};
+ghost use Rattle.scm_view.specs.Pictures.{blank_rest, box_part};
 ghost use Rattle.scm_view.specs.Buttons.{button_part};
 ghost use Rattle.scm_view.specs.Counts.{on_row};
 ghost use Rattle.scm_view.specs.Paints.{is_seen, rows_above};
@@ -18,7 +18,7 @@ ghost use Rattle.scm_render.specs.Draws.{Draws};
 use crate::button::Button;
 use crate::button_row::button_width;
 use crate::ids::ComponentId;
-use crate::reach::{columns, cover_rect};
+use crate::reach::{columns, cover_rect, to_end};
 use crate::title::Title;
 use crate::tristate_box::TristateBox;
 use scm_cells::{Rect, Span, text_width};
@@ -178,6 +178,19 @@ pub(crate) fn show_blank(
         cover_rect(viewport, row_of(x, y, width));
         Ok(())
     }
+}
+
+/// Blanks row `y` from column `x` to the end of what the mask lets through.
+pub(crate) fn show_blank_rest(
+    viewport: &mut Viewport<ComponentId>,
+    x: isize,
+    y: isize,
+) -> Result<(), RecordError>
+    requires { PictureInRange (blank_rest viewport.old.canvas.sight x y) }
+    ensures { Draws viewport.old viewport.new result (blank_rest viewport.old.canvas.sight x y) (on_row viewport.old.canvas.sight.rect y one_call) }
+{
+    let width = to_end(viewport, x);
+    show_blank(viewport, x, y, width)
 }
 
 /// Draws a box of a mark or a fold.

@@ -12,7 +12,9 @@ ghost use Rattle.scm_view.specs.Paints.{DrawsIn, Paints};
 
 use crate::heading::draw_heading;
 use crate::ids::ComponentId;
-use crate::noting::{begin_row, is_seen, rows_above, show_box, show_span, show_text};
+use crate::noting::{
+    begin_row, is_seen, rows_above, show_blank_rest, show_box, show_span, show_text,
+};
 use crate::pass::Pass;
 use crate::reach::{cover_rest, highlight};
 use crate::section_line_view::{SectionLineView, SectionLineViewInner};
@@ -82,6 +84,21 @@ pub struct SectionView<'a> {
     pub section: &'a Section<'a>,
     /// The number of its first line in the file before the changes, from 1.
     pub line_start_num: usize,
+}
+
+/// Draws the row of a line: covers the section's columns of the row, and draws the line over them.
+fn draw_line_row(
+    viewport: &mut Viewport<ComponentId>,
+    x: isize,
+    y: isize,
+    view: &SectionLineView<'_>,
+) -> Result<(), RecordError>
+    requires { PictureInRange (row_picture (view_row view.now) viewport.old.canvas.sight x y) }
+    ensures { Draws viewport.old viewport.new result (row_picture (view_row view.now) viewport.old.canvas.sight x y) (row_counts (view_row view.now) viewport.old.canvas.sight.rect y) }
+{
+    cover_rest(viewport, x, y);
+    viewport.draw_component(x + 2, y, view)?;
+    Ok(())
 }
 
 /// The state of one mark.
@@ -200,7 +217,7 @@ impl<'a> SectionView<'a> {
         let mut row = y;
         for index in 0..lines.len() {
             let view = self.line_view(first, lines, index);
-            viewport.draw_component(x + 2, row, &view)?;
+            draw_line_row(viewport, x, row, &view)?;
             row += 1;
         }
         Ok(())
@@ -368,7 +385,7 @@ impl<'a> SectionView<'a> {
     {
         if lines.is_empty() {
             begin_row(viewport, y);
-            cover_rest(viewport, x, y);
+            show_blank_rest(viewport, x, y)?;
             Ok(())
         } else {
             self.draw_shown_lines(viewport, x, y, lines)

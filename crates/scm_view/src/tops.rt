@@ -1,15 +1,16 @@
 //! Where files and sections stand in the document.
-ghost use Rattle.std.specs.Prelude.{◌≡◌, ◌<◌, ◌≤◌, ◌^◌, ◌+◌, ◌-◌, ◌++◌, option_map, OnOk, IfErr};
+ghost use Rattle.std.specs.Prelude.{◌≡◌, ◌<◌, ◌≤◌, ◌^◌, ◌+◌, ◌-◌, ◌++◌, option_map, OnOk, IfErr, IfOk};
 ghost use Rattle.scm_errors.specs.declared.error.RecordError.TheVariants.{OutOfMemory};
 ghost use Rattle.scm_view.specs.Spots.{header_spots, pinned_spots};
 ghost use Rattle.scm_view.specs.Rows.{line_id as id_of_line, line_key_of};
 ghost use Rattle.scm_view.specs.Strips.{is_among as among};
-ghost use Rattle.scm_view.specs.Index.{box_owner, context_line, file_owner, files_owner, header_owner, line_owner, part_owner, rows_owner, section_owner, sections_owner};
+ghost use Rattle.scm_view.specs.Index.{box_owner, context_line, file_owner, files_owner, header_owner, is_near, line_owner, near, part_owner, rows_owner, section_owner, sections_owner};
 ghost use Rattle.scm_view.specs.Pieces.{files_of, sections_of};
 
 use crate::ids::ComponentId;
 use crate::spots::{Spot, far, is_from, row_spot};
 use scm_types::{FileKey, LineKey, RecordError, SectionKey, SelectionKey};
+use std::alloc::Global;
 
 /// What stands on the rows of a section.
 #[derive(Clone, Copy)]
@@ -280,6 +281,37 @@ pub(crate) fn rows_owner(
 {
     let owner = sections_owner(width, pieces, row, column);
     files_owner(width, pieces, owner, row, column)
+}
+
+impl Piece {
+    /// Returns whether it stands on one of the rows from `first` to before `last`.
+    fn is_near(&self, first: usize, last: usize) -> bool
+        ensures { result ≡ is_near first last self.now }
+    {
+        match self {
+            Piece::File(file) => file.top < last && first < file.end,
+            Piece::Section(section) => section.top < last && first < section.end,
+        }
+    }
+}
+
+/// Returns those of the pieces that stand on one of the rows from `first` to before `last`.
+pub(crate) fn pieces_near(
+    alloc: Global,
+    pieces: &[Piece],
+    first: usize,
+    last: usize,
+) -> Result<Vec<Piece>, RecordError>
+    ensures ok { IfOk result (λ list. list.items ≡ near first last pieces.now) }
+    ensures err { IfErr result (λ e. e ≡ OutOfMemory) }
+{
+    let mut near = Vec::new(alloc);
+    for piece in pieces {
+        if piece.is_near(first, last) {
+            near.push(*piece)?;
+        }
+    }
+    Ok(near)
 }
 
 /// Adds the spots of a header on a row.

@@ -27,10 +27,23 @@ pub(crate) fn viewport_under(
     left: isize,
     width: usize,
 ) -> Result<Viewport<ComponentId>, RecordError> {
+    let grid = Grid::new(alloc, 20, 3)?;
+    Ok(viewport_on(rt, alloc, grid, left, width))
+}
+
+/// Returns a viewport on a grid of 20 columns and 3 rows, under a mask of `width` columns from column
+/// `left` on.
+pub(crate) fn viewport_on(
+    rt: &impl Abort,
+    alloc: Global,
+    grid: Grid,
+    left: isize,
+    width: usize,
+) -> Viewport<ComponentId> {
     assert!(rt; 0 <= left);
     assert!(rt; left <= 100);
     assert!(rt; width <= 100);
-    let grid = Grid::new(alloc, 20, 3)?;
+    assert_eq!(rt; (grid.width(), grid.height()), (20, 3));
     let rect = Rect {
         x: 0,
         y: 0,
@@ -45,7 +58,7 @@ pub(crate) fn viewport_under(
         height: None,
     };
     let _ = viewport.swap_mask(Some(mask));
-    Ok(viewport)
+    viewport
 }
 
 /// Checks that a place is near the document's corner: at most 1000 columns or rows away.
@@ -599,10 +612,31 @@ fn dialogs_are_drawn_alone(rt: HostRuntime) -> Result<(), RecordError> {
     Ok(())
 }
 
+/// A viewport on 32 columns and 3 rows.
+fn wide_viewport(alloc: Global) -> Result<Viewport<ComponentId>, RecordError> {
+    let grid = Grid::new(alloc, 32, 3)?;
+    let rect = Rect {
+        x: 0,
+        y: 0,
+        width: 32,
+        height: 3,
+    };
+    Ok(Viewport::new(alloc, grid, rect))
+}
+
+#[test]
+fn a_question_without_counts_is_shown_whole(rt: HostRuntime) -> Result<(), RecordError> {
+    let mut viewport = wide_viewport(rt.alloc())?;
+    draw_asked(&rt, &mut viewport, Asked::Quit)?;
+    let rows =
+        "┌Quit──────────────────────────┐\n│Are you sure you want to quit?│\n└──────────────[Go Back]─(Quit)┘\n";
+    check_drawing(&rt, rt.alloc(), viewport, rows, (0, 3))
+}
+
 // ---- messages
 
 /// Draws the message of a commit.
-fn draw_message(
+pub(crate) fn draw_message(
     rt: &impl Abort,
     viewport: &mut Viewport<ComponentId>,
     x: isize,
@@ -652,14 +686,14 @@ fn check_message(
 
 #[test]
 fn messages_are_drawn_alone(rt: HostRuntime) -> Result<(), RecordError> {
-    // three rows where the screen has them, and three calls for the middle one
+    // three rows where the screen has them; one call for the first and the third, three for the middle one
     for (place, rows, counts) in [
-        ((0, 20, 0, 0), "\n[Edit message]  •  …\n\n", (3, 3)),
-        ((0, 20, -10, 0), "\nage]  •  hi\n\n", (3, 3)),
-        ((4, 8, 0, 0), "\n    t messa…\n\n", (3, 3)),
-        ((0, 20, -10, -1), "age]  •  hi\n\n\n", (2, 3)),
-        ((0, 20, 0, 1), "\n\n[Edit message]  •  …\n", (2, 3)),
-        ((0, 20, 0, 2), "\n\n\n", (1, 0)),
+        ((0, 20, 0, 0), "\n[Edit message]  •  …\n\n", (3, 5)),
+        ((0, 20, -10, 0), "\nage]  •  hi\n\n", (3, 5)),
+        ((4, 8, 0, 0), "\n    t messa…\n\n", (3, 5)),
+        ((0, 20, -10, -1), "age]  •  hi\n\n\n", (2, 4)),
+        ((0, 20, 0, 1), "\n\n[Edit message]  •  …\n", (2, 4)),
+        ((0, 20, 0, 2), "\n\n\n", (1, 1)),
         ((0, 20, 0, 3), "\n\n\n", (0, 0)),
     ] {
         check_message(&rt, rt.alloc(), place, rows, counts)?;

@@ -8,4 +8,6 @@ mod apps;
 #[cfg(test)]
 mod keys;
 #[cfg(test)]
+mod over_letters;
+#[cfg(test)]
 mod views;

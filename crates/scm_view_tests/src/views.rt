@@ -68,7 +68,7 @@ fn line_count(section: &Section<'_>) -> usize
 }
 
 /// Checks that a section has few and short lines.
-fn check_section(rt: &impl Abort, view: &SectionView<'_>)
+pub(crate) fn check_section(rt: &impl Abort, view: &SectionView<'_>)
     ensures { IsSmallSection view.now }
 {
     assert!(rt; has_short_texts(view.section));
@@ -288,6 +288,15 @@ impl Look {
             section_views: self.section_views(alloc, file.sections.as_slice())?,
         })
     }
+}
+
+/// Returns the view of the second of a file's three sections, which is not selected.
+pub(crate) fn middle_section_view<'a>(section: &'a Section<'a>) -> SectionView<'a> {
+    let look = Look {
+        use_unicode: true,
+        selection: SelectionKey::None,
+    };
+    look.section_view(1, 3, (1, 2), 1, section)
 }
 
 /// How many lines of the file before the changes the section has.

@@ -1,56 +1,11 @@
-use Rattle.std.proofs.Common.{◌≡◌, ◌∙◌, pos, ap, arith, length, replicate, w64, to_z}
-use Rattle.std.proofs.lemmas.Int.{to_z_pos}
-use Rattle.std.proofs.lemmas.List.{length-replicate}
-use Rattle.scm_types.proofs.LimitLemmas.{scroll_room}
-use Rattle.scm_cells.specs.Counts.{no_counts}
-use Rattle.scm_cells.specs.Screen.{Screen}
-use Rattle.scm_render.specs.Canvas.{Canvas}
-use Rattle.scm_render.proofs.PictureLemmas.{PictureInRange-part}
-use Rattle.scm_view.specs.declared.ids.ComponentId.{ComponentId}
-use Rattle.scm_view.specs.Blanks.{blank_row}
-use Rattle.scm_view.specs.Screens.{sight}
+use Rattle.std.proofs.Common.{length}
 use Rattle.scm_view.proofs.RowsLemmas.{on-ok}
-use Rattle.scm_view.proofs.AppRangeLemmas.{apps-in-range}
-use Rattle.scm_view.proofs.PaintsAppLemmas.{window-painted, few-painted}
+use Rattle.scm_view.proofs.PaintPartLemmas.{all-shown, window-left}
 use Rattle.scm_view.proofs.app_view.AppView.paint.Goals as goal
 
-pub paint_inline-outcome-requires-clause-picture : goal.paint_inline-outcome-requires-clause-picture
-paint_inline-outcome-requires-clause-picture c =
-    let w = c.args.grid.now.width in
-    let h = length c.args.grid.now.rows in
-    let y : to_z w64 c.args.scroll ≡ pos c.args.scroll = to_z_pos w64 c.args.scroll (omega (arith, c.requires.shows.scroll, scroll_room)) in
-    let wide : c.width.result ≡ w = c.width.ensures.value ∙ ap (λ (g : Screen). g.width) c.clear.ensures in
-    let tall : c.height.result ≡ h = c.height.ensures.value ∙ ap (λ (g : Screen). length g.rows) c.clear.ensures ∙ length-replicate h (blank_row w) in
-    let whole = c.replace.ensures.value ∙ c.clear.ensures in
-    let seen : c.new-viewport.result.canvas.sight ≡ sight w h c.args.scroll =
-    rw (y, wide, tall) at (ap (λ (v : Canvas ComponentId). v.sight) c.new-viewport.ensures.canvas) in
-    let plain = c.requires.shows.plain in
-    rw seen (PictureInRange-part _ _ (apps-in-range c.requires.shows.shown c.args.self.now w h c.args.scroll (pos 0) c.requires.shows.accepted plain.shows plain.width plain.height c.requires.shows.scroll))
+pub paint_part-requires : goal.paint_part-requires
+paint_part-requires c = record { shows = all-shown c.args.self.now c.args.grid.now.width (length c.args.grid.now.rows) c.args.scroll c.requires.shows }
 
 pub returns-clause-ok : goal.returns-clause-ok
 returns-clause-ok c =
-    let w = c.args.grid.now.width in
-    let h = length c.args.grid.now.rows in
-    let y : to_z w64 c.args.scroll ≡ pos c.args.scroll = to_z_pos w64 c.args.scroll (omega (arith, c.requires.shows.scroll, scroll_room)) in
-    let wide : c.width.result ≡ w = c.width.ensures.value ∙ ap (λ (g : Screen). g.width) c.clear.ensures in
-    let tall : c.height.result ≡ h = c.height.ensures.value ∙ ap (λ (g : Screen). length g.rows) c.clear.ensures ∙ length-replicate h (blank_row w) in
-    let whole = c.replace.ensures.value ∙ c.clear.ensures in
-    let seen : c.new-viewport.result.canvas.sight ≡ sight w h c.args.scroll =
-    rw (y, wide, tall) at (ap (λ (v : Canvas ComponentId). v.sight) c.new-viewport.ensures.canvas) in
-    let blank : c.new-viewport.result.canvas.rows ≡ replicate h (blank_row w) = ap (λ (v : Canvas ComponentId). v.rows) c.new-viewport.ensures.canvas ∙ ap (λ (g : Screen). g.rows) whole in
-    on-ok _ (window-painted c.new-viewport.result.canvas c.paint_inline-outcome.new.viewport.canvas c.args.self.now w h c.args.scroll c.into_grid.result.rows seen blank c.into_grid.ensures.rows)
-    c.paint_inline-outcome.ensures.ok
-
-pub returns-clause-few : goal.returns-clause-few
-returns-clause-few c =
-    let w = c.args.grid.now.width in
-    let h = length c.args.grid.now.rows in
-    let y : to_z w64 c.args.scroll ≡ pos c.args.scroll = to_z_pos w64 c.args.scroll (omega (arith, c.requires.shows.scroll, scroll_room)) in
-    let wide : c.width.result ≡ w = c.width.ensures.value ∙ ap (λ (g : Screen). g.width) c.clear.ensures in
-    let tall : c.height.result ≡ h = c.height.ensures.value ∙ ap (λ (g : Screen). length g.rows) c.clear.ensures ∙ length-replicate h (blank_row w) in
-    let whole = c.replace.ensures.value ∙ c.clear.ensures in
-    let seen : c.new-viewport.result.canvas.sight ≡ sight w h c.args.scroll =
-    rw (y, wide, tall) at (ap (λ (v : Canvas ComponentId). v.sight) c.new-viewport.ensures.canvas) in
-    let none : c.new-viewport.result.counts ≡ no_counts = c.new-viewport.ensures.counts ∙ ap (λ (g : Screen). g.counts) whole in
-    on-ok _ (few-painted c.new-viewport.result.counts c.paint_inline-outcome.new.viewport.counts c.into_grid.result.counts c.args.self.now c.requires.shows.shown w h c.args.scroll c.new-viewport.result.canvas.sight c.requires.shows.plain seen none c.into_grid.ensures.counts)
-    c.paint_inline-outcome.ensures.counts
+    on-ok _ (window-left c.args.self.now c.args.grid.now.width (length c.args.grid.now.rows) c.args.scroll _) c.paint_part.ensures.ok

@@ -5,6 +5,7 @@ use Rattle.scm_view.specs.declared.commit_view.CommitView.{CommitView}
 use Rattle.scm_view.specs.declared.menu_bar.MenuBar.{MenuBar}
 use Rattle.scm_view.specs.Rows.{document_of, message_height}
 use Rattle.scm_view.specs.Window.{rows_of_key}
+use Rattle.scm_view.specs.Index.{near}
 use Rattle.scm_view.specs.Pieces.{piece_places, files_of, sections_of}
 use Rattle.scm_view.specs.Menus.{headers_width, opened}
 use Rattle.scm_view.specs.Spots.{IsShortMenu}
@@ -51,6 +52,7 @@ returns-clause-ok c = λ shown plain.
     let empty = rw c.as_slice-views.ensures at c.is_empty.ensures in
     let end = rw (c.height-message.ensures, c.as_slice-views.ensures) at c.in_ok-end.ensures.end in
     record {
+      near = c.in_ok-near.ensures.ok ∙ ap (near s _) c.as_slice-2.ensures.value;
       owner = λ y x. answers-owner w h s y x a shown v c.push_spots.new.spots.items c.push_pinned.new.spots.items c.push_spots-2.new.spots.items c.push_quit.new.spots.items c.push_help.new.spots.items
           (files_of c.push_pieces.new.pieces.items) (sections_of c.push_pieces.new.pieces.items) plain shows m0 m1 m2 c.in_ok-quit.ensures.ok c.in_ok-help.ensures.ok files sections;
       span = λ k. ap (λ ps. rows_of_key k (flat_map piece_places ps)) made ∙ index-span (s + 1) shown v k shows;

@@ -1,14 +1,15 @@
-use Rattle.std.proofs.Common.{rules, ◌∙◌, sym, FitsSigned, w64}
+use Rattle.std.proofs.Common.{rules, ◌∙◌, ap, sym, FitsSigned, w64}
 use Rattle.std.proofs.lemmas.Int.{to_z-of_z}
 use Rattle.scm_view.specs.Rows.{context_rows, BlankRow}
 use Rattle.scm_view.specs.Pictures.{row_picture}
 use Rattle.scm_view.proofs.RowsLemmas.{row-first, row-alone}
-use Rattle.scm_view.proofs.CountLemmas.{row-counted-alone}
+use Rattle.scm_view.specs.Counts.{drawn}
+use Rattle.scm_view.proofs.CountLemmas.{on_row-then, row-counted-alone}
 use Rattle.scm_view.proofs.section_view.SectionView.draw_context.Goals as goal
 
-pub cover_rest-requires : goal.cover_rest-requires
+pub show_blank_rest-requires : goal.show_blank_rest-requires
 unfolding context_rows row_picture
-cover_rest-requires c =
+show_blank_rest-requires c =
     let fx : FitsSigned w64 c.args.x = c.ranges.x in
     let fy : FitsSigned w64 c.args.y = c.ranges.y in
     let none = sym c.is_empty.ensures ∙ c.if-is_empty.true in
@@ -22,15 +23,15 @@ draw_shown_lines-requires c =
     let some = sym c.is_empty.ensures ∙ c.if-is_empty.false in
     simp to_z-of_z (rw some at c.requires)
 
-pub returns-then-is_empty : goal.returns-then-is_empty
+pub returns-in_ok-show_blank_rest : goal.returns-in_ok-show_blank_rest
 unfolding context_rows row_picture
-returns-then-is_empty c =
+returns-in_ok-show_blank_rest c =
     let fx : FitsSigned w64 c.args.x = c.ranges.x in
     let fy : FitsSigned w64 c.args.y = c.ranges.y in
     let none = sym c.is_empty.ensures ∙ c.if-is_empty.true in
     record {
-      ok = rw none (row-alone _ _ BlankRow _ _ (rw c.begin_row.ensures.canvas at (simp to_z-of_z at c.cover_rest.ensures.new)));
-      counts = rw none (row-counted-alone _ _ _ BlankRow _ (c.cover_rest.ensures.counts ∙ simp to_z-of_z at c.begin_row.ensures.counts));
+      ok = rw none (row-alone _ _ BlankRow _ _ (rw c.begin_row.ensures.canvas at (simp to_z-of_z at c.in_ok-show_blank_rest.ensures.ok)));
+      counts = rw none (row-counted-alone _ _ _ BlankRow _ (on_row-then _ _ _ _ _ _ (drawn 1 0) (drawn 0 1) (ap (λ v. v.sight.rect) c.begin_row.ensures.canvas) (simp to_z-of_z at c.begin_row.ensures.counts) (simp to_z-of_z at c.in_ok-show_blank_rest.ensures.counts)));
       rect = search rules;
       err = search rules;
     }

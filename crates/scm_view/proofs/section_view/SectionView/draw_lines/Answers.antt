@@ -1,4 +1,4 @@
-use Rattle.std.proofs.Common.{rules, refl, sym, ◌≤◌, FitsSigned, w64, ◌+ℤ◌, pos}
+use Rattle.std.proofs.Common.{rules, refl, ◌≤◌, FitsSigned, w64, ◌+ℤ◌, pos}
 use Rattle.std.specs.Prelude.{ℤ}
 use Rattle.std.proofs.lemmas.Int.{to_z-of_z}
 use Rattle.scm_render.specs.Canvas.{Sight}
@@ -7,8 +7,8 @@ use Rattle.scm_render.proofs.CountLemmas.{counts-more, counts-end}
 use Rattle.scm_view.specs.declared.section_line_view.SectionLineView.{SectionLineView}
 use Rattle.scm_view.specs.Rows.{view_row, lines_count}
 use Rattle.scm_view.specs.Pictures.{IdPicture, row_picture}
-use Rattle.scm_view.proofs.RowsLemmas.{rows_picture-more, rows_picture-end, row-end, from-first, from-end, view_row-picture, view-place}
-use Rattle.scm_view.proofs.CountLemmas.{rows_counts-more, rows_counts-end, view_row-counts}
+use Rattle.scm_view.proofs.RowsLemmas.{rows_picture-more, rows_picture-end, row-end, from-first, from-end}
+use Rattle.scm_view.proofs.CountLemmas.{rows_counts-more, rows_counts-end}
 use Rattle.scm_view.proofs.section_view.SectionView.draw_lines.Goals as goal
 
 abbrev one : SectionLineView → ℤ → ℤ → Sight → IdPicture
@@ -20,24 +20,13 @@ loop-index-init c =
     let fy : FitsSigned w64 c.args.y = c.ranges.y in
     rw (from-first c.args.self.now c.args.first c.args.lines) (simp to_z-of_z (record { left = left-first _ _ c.requires.picture; counts = refl }))
 
-pub overflow_add-x : goal.overflow_add-x
-overflow_add-x c =
+pub draw_line_row-requires : goal.draw_line_row-requires
+draw_line_row-requires c =
     let fx : FitsSigned w64 c.args.x = c.ranges.x in
     let w = c.line_view-view.result in
     let more = rows_picture-more _ _ _ c.args.viewport.now.canvas.sight c.args.x c.loop-index.row c.line_view-view.ensures in
     let left = simp (to_z-of_z, c.loop-index.row-is) at c.loop-index.invariant.left in
-    let one_in = left-part _ _ (one w c.args.x c.loop-index.row) _ _ _ more left in
-    simp to_z-of_z (InRange-fits _ (view-place w _ _ _ one_in))
-
-pub draw_component-requires : goal.draw_component-requires
-draw_component-requires c =
-    let fx : FitsSigned w64 c.args.x = c.ranges.x in
-    let w = c.line_view-view.result in
-    let more = rows_picture-more _ _ _ c.args.viewport.now.canvas.sight c.args.x c.loop-index.row c.line_view-view.ensures in
-    let left = simp (to_z-of_z, c.loop-index.row-is) at c.loop-index.invariant.left in
-    let one_in = left-part _ _ (one w c.args.x c.loop-index.row) _ _ _ more left in
-    let wide : FitsSigned w64 (c.args.x +ℤ pos 2) = InRange-fits _ (view-place w _ _ _ one_in) in
-    simp (to_z-of_z, c.loop-index.row-is) (rw (view_row-picture w c.loop-index.viewport.canvas.sight c.args.x c.loop-index.row) at one_in)
+    simp (to_z-of_z, c.loop-index.row-is) (left-part _ _ (one w c.args.x c.loop-index.row) _ _ _ more left)
 
 pub overflow_add-row : goal.overflow_add-row
 overflow_add-row c =
@@ -55,12 +44,11 @@ loop-index-preserved c =
     let more = rows_picture-more _ _ _ c.args.viewport.now.canvas.sight c.args.x c.loop-index.row c.line_view-view.ensures in
     let left = simp (to_z-of_z, c.loop-index.row-is) at c.loop-index.invariant.left in
     let one_in = left-part _ _ (one w c.args.x c.loop-index.row) _ _ _ more left in
-    let wide : FitsSigned w64 (c.args.x +ℤ pos 2) = InRange-fits _ (view-place w _ _ _ one_in) in
     let below : FitsSigned w64 (c.loop-index.row +ℤ pos 1) = InRange-fits _ (row-end _ _ _ _ one_in) in
-    let drawn = rw (sym (view_row-picture w c.loop-index.viewport.canvas.sight c.args.x c.loop-index.row)) at (simp (to_z-of_z, c.loop-index.row-is) at c.in_ok-draw_component.ensures.draws.ok) in
+    let drawn = simp (to_z-of_z, c.loop-index.row-is) at c.in_ok-draw_line_row.ensures.ok in
     let count = rows_counts-more _ _ _ c.args.viewport.now.canvas.sight.rect c.loop-index.row c.line_view-view.ensures in
     let so_far = simp (to_z-of_z, c.loop-index.row-is) at c.loop-index.invariant.counts in
-    let counted = rw (sym (view_row-counts w c.args.viewport.now.canvas.sight.rect c.loop-index.row)) at (simp left.sight at (simp (to_z-of_z, c.loop-index.row-is) at c.in_ok-draw_component.ensures.draws.counts)) in
+    let counted = simp left.sight at (simp (to_z-of_z, c.loop-index.row-is) at c.in_ok-draw_line_row.ensures.counts) in
     simp c.loop-index.row-is (simp to_z-of_z (record {
       left = left-more _ _ _ (one w c.args.x c.loop-index.row) _ _ _ more left drawn;
       counts = counts-more _ _ _ _ _ _ _ count so_far counted;

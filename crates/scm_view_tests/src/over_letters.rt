@@ -1,0 +1,173 @@
+//! Components that are drawn over letters: what they blank, and what stays.
+use crate::alone::{Place, check_drawing, check_near, check_sight, draw_message, viewport_on};
+use crate::views::{check_section, middle_section_view};
+use scm_cells::{Grid, Rect};
+use scm_render::Viewport;
+use scm_samples::context;
+use scm_types::{Commit, OwnedText, RecordError};
+use scm_view::{CommitMessageView, ComponentId, SectionView, laws};
+use std::alloc::Global;
+use std::process::Abort;
+
+/// A row of letters.
+const LETTERS: &str = "abcdefghijklmnopqrst";
+
+/// Returns a grid of 20 columns and 3 rows, on each of which the letters stand.
+fn grid_of_letters(rt: &impl Abort, alloc: Global) -> Result<Grid, RecordError> {
+    let mut grid = Grid::new(alloc, 20, 3)?;
+    for row in 0..3 {
+        assert!(rt; row < grid.height());
+        assert!(rt; 20 <= grid.width());
+        grid.put(row, 0, LETTERS, 0, 20)?;
+    }
+    Ok(grid)
+}
+
+// ---- messages
+
+/// Checks what a message of one line makes of the letters.
+fn check_message(
+    rt: &impl Abort,
+    alloc: Global,
+    place: Place,
+    rows: &str,
+    counts: (usize, usize),
+) -> Result<(), RecordError> {
+    let (left, width, x, y) = place;
+    let commit = Commit {
+        message: Some(OwnedText::from(String::from_str(alloc, "hi")?)),
+    };
+    let view = CommitMessageView {
+        commit_idx: 0,
+        commit: &commit,
+    };
+    let grid = grid_of_letters(rt, alloc)?;
+    let mut viewport = viewport_on(rt, alloc, grid, left, width);
+    draw_message(rt, &mut viewport, x, y, &view)?;
+    check_drawing(rt, alloc, viewport, rows, counts)
+}
+
+#[test]
+fn messages_blank_their_first_and_third_row(rt: HostRuntime) -> Result<(), RecordError> {
+    // from their column to the end of the mask; between the texts of the middle row letters stay
+    for (place, rows, counts) in [
+        ((0, 20, 0, 0), "\n[Edit message]o • s…\n\n", (3, 5)),
+        ((0, 20, 4, 0), "abcd\nabcd[Edit message]s…\nabcd\n", (3, 5)),
+        (
+            (4, 8, 0, 0),
+            "abcd        mnopqrst\nabcdt messa…mnopqrst\nabcd        mnopqrst\n",
+            (3, 5),
+        ),
+        (
+            (0, 4, 6, 0),
+            "abcdefghijklmnopqrst\nabc…efghijklmnopqrst\nabcdefghijklmnopqrst\n",
+            (3, 5),
+        ),
+        (
+            (0, 20, 10, 2),
+            "abcdefghijklmnopqrst\nabcdefghijklmnopqrst\nabcdefghij\n",
+            (1, 1),
+        ),
+    ] {
+        check_message(&rt, rt.alloc(), place, rows, counts)?;
+    }
+    Ok(())
+}
+
+// ---- sections of context
+
+/// Draws a section, and returns its box.
+fn draw_section(
+    rt: &impl Abort,
+    viewport: &mut Viewport<ComponentId>,
+    x: isize,
+    y: isize,
+    view: &SectionView<'_>,
+) -> Result<Rect, RecordError> {
+    check_sight(rt, viewport);
+    check_near(rt, x);
+    check_near(rt, y);
+    check_section(rt, view);
+    laws::components_are_in_range();
+    scm_render::laws::parts_are_in_range::<ComponentId>();
+    viewport.draw_component(x, y, view)
+}
+
+/// Checks what a section of context without lines makes of the letters.
+fn check_section_of_no_lines(
+    rt: &impl Abort,
+    alloc: Global,
+    place: Place,
+    rows: &str,
+    counts: (usize, usize),
+) -> Result<(), RecordError> {
+    let (left, width, x, y) = place;
+    let section = context(alloc, &[])?;
+    let view = middle_section_view(&section);
+    let grid = grid_of_letters(rt, alloc)?;
+    let mut viewport = viewport_on(rt, alloc, grid, left, width);
+    let _ = draw_section(rt, &mut viewport, x, y, &view)?;
+    check_drawing(rt, alloc, viewport, rows, counts)
+}
+
+#[test]
+fn context_without_lines_blanks_its_row(rt: HostRuntime) -> Result<(), RecordError> {
+    // from its column to the end of the mask
+    for (place, rows, counts) in [
+        (
+            (0, 20, 2, 1),
+            "abcdefghijklmnopqrst\nab\nabcdefghijklmnopqrst\n",
+            (1, 1),
+        ),
+        (
+            (4, 8, 2, 0),
+            "abcd        mnopqrst\nabcdefghijklmnopqrst\nabcdefghijklmnopqrst\n",
+            (1, 1),
+        ),
+        (
+            (0, 10, 6, 2),
+            "abcdefghijklmnopqrst\nabcdefghijklmnopqrst\nabcdef    klmnopqrst\n",
+            (1, 1),
+        ),
+        (
+            (0, 20, 2, 3),
+            "abcdefghijklmnopqrst\nabcdefghijklmnopqrst\nabcdefghijklmnopqrst\n",
+            (0, 0),
+        ),
+    ] {
+        check_section_of_no_lines(&rt, rt.alloc(), place, rows, counts)?;
+    }
+    Ok(())
+}
+
+/// Checks the first column of the box of a section of context with one line, and how many columns the box has.
+fn check_columns(
+    rt: &impl Abort,
+    alloc: Global,
+    place: Place,
+    columns: (isize, usize),
+) -> Result<(), RecordError> {
+    let (left, width, x, y) = place;
+    let section = context(alloc, &["a\n"])?;
+    let view = middle_section_view(&section);
+    let grid = grid_of_letters(rt, alloc)?;
+    let mut viewport = viewport_on(rt, alloc, grid, left, width);
+    let rect = draw_section(rt, &mut viewport, x, y, &view)?;
+    assert_eq!(rt; (rect.x, rect.width), columns);
+    assert_eq!(rt; (rect.y, rect.height), (y, 1));
+    Ok(())
+}
+
+#[test]
+fn boxes_of_context_begin_at_their_column(rt: HostRuntime) -> Result<(), RecordError> {
+    // at the mask's first column where that is further left, since a line covers all columns of the mask
+    for (place, columns) in [
+        ((0, 20, 2, 1), (0, 20)),
+        ((2, 18, 2, 1), (2, 18)),
+        ((8, 6, 2, 0), (2, 12)),
+        ((5, 12, 3, 3), (3, 14)),
+    ] {
+        check_columns(&rt, rt.alloc(), place, columns)?;
+    }
+    Ok(())
+}
