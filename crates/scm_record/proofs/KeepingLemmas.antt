@@ -1,5 +1,5 @@
--- A run changes marks alone.
-use Rattle.std.proofs.Common.{◌≡◌, ℕ, zero, suc, ◌≤◌, Bool, true, false, not, List, [], ◌∷◌, ◌&&◌, map, length, slice_get, Option, Some, None, cond, sym, ap, ◌∙◌, refl, subst, arith}
+-- A run changes marks alone, and keeps each file coherent.
+use Rattle.std.proofs.Common.{◌≡◌, ℕ, zero, suc, ◌≤◌, Bool, true, false, not, List, [], ◌∷◌, ◌&&◌, ◌||◌, map, length, slice_get, Option, Some, None, cond, sym, ap, ap₂, ◌∙◌, refl, subst, arith}
 use Rattle.std.specs.Prelude.{IsTrue, is_some, nat_lt, option_and_then}
 use Rattle.std.proofs.lemmas.Bool.{and_parts, leb-true}
 use Rattle.scm_types.specs.declared.file_mode.FileMode.{FileMode}
@@ -20,7 +20,10 @@ use Rattle.scm_types.proofs.EditLemmas.{map-modify-same}
 use Rattle.scm_input.specs.declared.events.Event.{Event}
 use Rattle.scm_record.specs.declared.selector.Flow.{Flow}
 use Rattle.scm_record.specs.declared.selector.Flow.TheVariants as flows
-use Rattle.scm_types.specs.Repair.{with_deletion_unchecked, with_mode_checked, some_line, without_deletion, with_creation, repaired}
+use Rattle.std.specs.List.{list_any}
+use Rattle.scm_selection.specs.Coherence.{KeepsCoherent}
+use Rattle.scm_selection.proofs.CoherenceLemmas.{keeps_coherent-same}
+use Rattle.scm_types.specs.Repair.{is_deletion, is_new_and_deleted, with_deletion_unchecked, with_mode_checked, some_line, without_deletion, with_creation, repaired}
 use Rattle.scm_selection.specs.Toggle.{mark_after, with_changed_set, after_lines, after_mode, after_section, with_file_toggled, with_section_set, with_this_section_toggled, with_section_toggled, with_line_inverted, line_mark, with_this_line_toggled, with_line_toggled, with_key_toggled, with_all_inverted, with_all_set}
 use Rattle.scm_input.specs.Script.{Read, Batch, BrokenRead, Edit, Answer, BrokenEdit, Reply, no_more}
 use Rattle.scm_record.specs.Session.{Session, start, padded, padded_state, with_files_changed, message_text, with_message, message_of, commit_saying}
@@ -29,6 +32,7 @@ use Rattle.scm_record.specs.Uses.{shot_of}
 use Rattle.scm_record.specs.Step.{change}
 use Rattle.scm_record.specs.Run.{World, with_session, with_edits, with_text, Goes, Breaks, no_such_place, too_long, answered, edited, outcome_by, Point, Before, Drawn, Within, Accepted, Failed, resume, read, batch, after, Reaches, here, on, world_at}
 use Rattle.scm_record.specs.Keeping.{IsKept, has_message}
+use Rattle.scm_record.proofs.StepCoherenceLemmas.{marks-keep}
 use Rattle.scm_record.proofs.StepLemmas as steps
 use Rattle.scm_record.proofs.StepLemmas.{Allows, Marks, toggled, inverted, all_set, leads, marks-allow, message_at}
 
@@ -167,15 +171,15 @@ inverted-hidden files =
     (λ file. repaired-hidden (file_with_marks not file) ∙ ap (λ (list : List Section). record file { sections = list }) (map-hidden bare_section (section_with_marks not) (marks-hidden not) file.sections)) files
 
 -- a state is the padded given one but for marks, and whole where it is read-only
-pub record Kept (given state : RecordState) : Type 0 where
+record IsGiven (given state : RecordState) : Type 0 where
   same : unmarked (padded_state given) ≡ unmarked state
   commits : map has_message state.commits ≡ map has_message (padded given.commits)
   flag : state.is_read_only ≡ given.is_read_only
   files : IsTrue given.is_read_only → state.files ≡ given.files
 
-files-kept : (read_only : Bool) (given : RecordState) (s : Session) (f : List File → List File) → ((files : List File) → map bare_file (f files) ≡ map bare_file files) → s.shown.state.is_read_only ≡ read_only → Kept given s.shown.state → Kept given (cond read_only s (record s { shown = record s.shown { state = record s.shown.state { files = f s.shown.state.files } } })).shown.state
-files-kept true given s f hidden e h = h
-files-kept false given s f hidden e h = record {
+files-given : (read_only : Bool) (given : RecordState) (s : Session) (f : List File → List File) → ((files : List File) → map bare_file (f files) ≡ map bare_file files) → s.shown.state.is_read_only ≡ read_only → IsGiven given s.shown.state → IsGiven given (cond read_only s (record s { shown = record s.shown { state = record s.shown.state { files = f s.shown.state.files } } })).shown.state
+files-given true given s f hidden e h = h
+files-given false given s f hidden e h = record {
   same = h.same ∙ ap (λ (fs : List File). record (unmarked s.shown.state) { files = fs }) (sym (hidden s.shown.state.files));
   commits = h.commits;
   flag = h.flag;
@@ -183,8 +187,8 @@ files-kept false given s f hidden e h = record {
 }
 
 -- marks that change unless the state is read-only
-files_changed-kept : (given : RecordState) (s : Session) (f : List File → List File) → ((files : List File) → map bare_file (f files) ≡ map bare_file files) → Kept given s.shown.state → Kept given (with_files_changed f s).shown.state
-files_changed-kept given s f hidden h = files-kept s.shown.state.is_read_only given s f hidden refl h
+files_changed-given : (given : RecordState) (s : Session) (f : List File → List File) → ((files : List File) → map bare_file (f files) ≡ map bare_file files) → IsGiven given s.shown.state → IsGiven given (with_files_changed f s).shown.state
+files_changed-given given s f hidden h = files-given s.shown.state.is_read_only given s f hidden refl h
 
 message-emptied : (text : List ℕ) (cs : List Commit) (i : ℕ) → is_some (message_at cs i) ≡ true → map emptied_commit (modify (commit_saying text) cs i) ≡ map emptied_commit cs
 message-emptied text [] i h = refl
@@ -197,8 +201,8 @@ message-has text (c ∷ cs) zero h = ap (λ b. b ∷ map has_message cs) (sym h)
 message-has text (c ∷ cs) (suc i) h = ap (λ ds. has_message c ∷ ds) (message-has text cs i h)
 
 -- a message in place of another one
-message-kept : (given : RecordState) (s : Session) (commit : ℕ) (text : List ℕ) → Kept given s.shown.state → is_some (message_of s commit) ≡ true → Kept given (with_message s commit text).shown.state
-message-kept given s commit text h k = record {
+message-given : (given : RecordState) (s : Session) (commit : ℕ) (text : List ℕ) → IsGiven given s.shown.state → is_some (message_of s commit) ≡ true → IsGiven given (with_message s commit text).shown.state
+message-given given s commit text h k = record {
   same = h.same ∙ ap (λ (cs : List Commit). record (unmarked s.shown.state) { commits = cs }) (sym (message-emptied text s.shown.state.commits commit k));
   commits = message-has text s.shown.state.commits commit k ∙ h.commits;
   flag = h.flag;
@@ -206,11 +210,66 @@ message-kept given s commit text h k = record {
 }
 
 -- what an event makes of a session keeps it
+marks-given : (given : RecordState) (s : Session) (state : RecordState) (flow : Flow) → Marks s state flow → IsGiven given s.shown.state → IsGiven given state
+marks-given given s _ _ (steps.unmarked allowed) h = h
+marks-given given s _ _ toggled h = files_changed-given given s (with_key_toggled s.shown.selection) (toggle-hidden s.shown.selection) h
+marks-given given s _ _ inverted h = files_changed-given given s with_all_inverted inverted-hidden h
+marks-given given s _ _ all_set h = files_changed-given given s with_all_set all_set-hidden h
+
+-- ---- files that stay coherent
+
+-- whether a file is new and also deleted does not depend on its marks
+bare-deletion : (s : Section) → is_deletion (bare_section s) ≡ is_deletion s
+bare-deletion (sections.Unchanged lines) = refl
+bare-deletion (sections.Changed lines) = refl
+bare-deletion (sections.FileMode is_checked mode) = refl
+bare-deletion (sections.Binary is_checked old new) = refl
+
+bare-deletions : (list : List Section) → list_any is_deletion (bare list) ≡ list_any is_deletion list
+bare-deletions [] = refl
+bare-deletions (s ∷ list) = ap₂ (λ a b. a || b) (bare-deletion s) (bare-deletions list)
+
+bare-new_and_deleted : (file : File) → is_new_and_deleted (bare_file file) ≡ is_new_and_deleted file
+bare-new_and_deleted file = ap (λ b. is_absent file.file_mode && b) (bare-deletions file.sections)
+
+-- the file that stands at an index of another list, which has the same files but for their marks
+record IsAt (files : List File) (i : ℕ) (file : File) : Type 0 where
+  found : File
+  at : slice_get files i ≡ Some found
+  same : bare_file found ≡ bare_file file
+
+file-at : (old new : List File) (i : ℕ) (file : File) → map bare_file new ≡ map bare_file old → slice_get old i ≡ Some file → IsAt new i file
+file-at [] new i file e h = cc
+file-at (f ∷ fs) [] i file e h = cc
+file-at (f ∷ fs) (g ∷ gs) zero file e h = record { found = g; at = refl; same = cc }
+file-at (f ∷ fs) (g ∷ gs) (suc i) file e h =
+    let behind : map bare_file gs ≡ map bare_file fs = cc in
+    let r = file-at fs gs i file behind h in
+    record { found = r.found; at = r.at; same = r.same }
+
+-- two changes of marks after one another keep each file coherent, if each of them does
+coherent-on : (old mid new : List File) → map bare_file mid ≡ map bare_file old → KeepsCoherent old mid → KeepsCoherent mid new → KeepsCoherent old new
+coherent-on old mid new e f g i before after is_before is_after pure coherent =
+    let m = file-at old mid i before e is_before in
+    let still : is_new_and_deleted m.found ≡ false =
+    sym (bare-new_and_deleted m.found) ∙ ap is_new_and_deleted m.same ∙ bare-new_and_deleted before ∙ pure in
+    g i m.found after m.at is_after still (f i before m.found is_before m.at pure coherent)
+
+-- a state is the padded given one but for marks, and each file stays coherent
+pub record Kept (given state : RecordState) : Type 0 where
+  alone : IsGiven given state
+  coherent : KeepsCoherent given.files state.files
+
+-- a message in place of another one
+message-kept : (given : RecordState) (s : Session) (commit : ℕ) (text : List ℕ) → Kept given s.shown.state → is_some (message_of s commit) ≡ true → Kept given (with_message s commit text).shown.state
+message-kept given s commit text h k = record { alone = message-given given s commit text h.alone k; coherent = h.coherent }
+
+-- what an event makes of a session keeps it
 marks-kept : (given : RecordState) (s : Session) (state : RecordState) (flow : Flow) → Marks s state flow → Kept given s.shown.state → Kept given state
-marks-kept given s _ _ (steps.unmarked allowed) h = h
-marks-kept given s _ _ toggled h = files_changed-kept given s (with_key_toggled s.shown.selection) (toggle-hidden s.shown.selection) h
-marks-kept given s _ _ inverted h = files_changed-kept given s with_all_inverted inverted-hidden h
-marks-kept given s _ _ all_set h = files_changed-kept given s with_all_set all_set-hidden h
+marks-kept given s state flow m h = record {
+  alone = marks-given given s state flow m h.alone;
+  coherent = coherent-on given.files s.shown.state.files state.files (sym (ap (λ (x : RecordState). x.files) h.alone.same)) h.coherent (marks-keep s state flow m);
+}
 
 abbrev pub KeptAt : RecordState → Point → Type 0
 KeptAt given p = Kept given (world_at p).session.shown.state
@@ -265,7 +324,10 @@ reaches-kept given p here h = h
 reaches-kept given p (on {q = q} r) h = after-kept given q (reaches-kept given p r h)
 
 pub start-kept : (given : RecordState) → Kept given (start given).shown.state
-start-kept given = record { same = refl; commits = refl; flag = refl; files = λ _. refl }
+start-kept given = record {
+  alone = record { same = refl; commits = refl; flag = refl; files = λ _. refl };
+  coherent = keeps_coherent-same given.files;
+}
 
 -- an accepted state has at most two commits
 few_commits : (state : RecordState) → IsTrue (is_accepted_state state) → length state.commits ≤ 2
@@ -283,10 +345,11 @@ length-mapped f (x ∷ xs) = ap suc (length-mapped f xs)
 -- what is kept of an accepted state
 pub is-kept : (given answer : RecordState) → IsTrue (is_accepted_state given) → Kept given answer → IsKept given answer
 is-kept given answer accepted kept = record {
-  same = kept.same;
-  commits = sym (length-mapped has_message answer.commits) ∙ ap length kept.commits ∙ length-mapped has_message (padded given.commits) ∙ padded-two given.commits (few_commits given accepted);
-  messages = kept.commits;
-  read_only = kept.files;
+  same = kept.alone.same;
+  commits = sym (length-mapped has_message answer.commits) ∙ ap length kept.alone.commits ∙ length-mapped has_message (padded given.commits) ∙ padded-two given.commits (few_commits given accepted);
+  messages = kept.alone.commits;
+  read_only = kept.alone.files;
+  coherent = kept.coherent;
 }
 
 -- what is reached from the start of an accepted state keeps it

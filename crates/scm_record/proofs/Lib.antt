@@ -27,3 +27,7 @@ pub mod HeadlineLemmas
 pub mod AcceptedLemmas
 -- a session that a program drives
 pub mod LiveLemmas
+-- a session that is driven by bytes
+pub mod TypedLemmas
+-- what a session shows on a terminal
+pub mod PaintedLemmas

@@ -23,7 +23,7 @@ use Rattle.scm_record.specs.Turn.{IsFault}
 use Rattle.scm_record.specs.Live.{Live, Asking, on_screen}
 use Rattle.scm_record.specs.declared.live.Turn.{Turn}
 use Rattle.scm_record.specs.declared.live.Turn.TheVariants.{Waiting, Editing, Accepted as Done}
-use Rattle.scm_record.specs.Calls.{live, answering, waits, asks, Leads, Fails, EventLeads, MessageLeads, Call, Press, Say, Resize, keep_screen, Path, still, press, say, resize, reads_of, edits_of, beginning, run_of, IsConfirmed, IsRun, AreRuns, last, resized}
+use Rattle.scm_record.specs.Calls.{live, answering, waits, asks, Leads, Fails, EventLeads, MessageLeads, Call, Press, Say, Resize, keep_screen, Path, still, press, say, resize, reads_of, edits_of, beginning, run_of, IsConfirmed, IsRun, AreRuns, last, resized, EndsIn, press_fails, say_fails, IsFailedRun}
 use Rattle.scm_record.specs.Headline.{ConfirmsQuit, IsInline, owner_at, window_of}
 use Rattle.scm_record.specs.Keeping.{IsKept}
 use Rattle.scm_record.proofs.BatchLemmas.{batches-are-handled, batches-begin-as-drawn}
@@ -234,7 +234,30 @@ is-confirmed w kind (Waiting l) h =
 is-confirmed w kind (Editing a) h = fault-unconfirmed (Before w) _ (world_in (live a.kind [] []) a.session h.1) h.3
 is-confirmed w kind (Done state) h = subst (λ (x : RecordState). ConfirmsQuit (Before w) x) h.2 (accepted-confirmed w _ h.3)
 
+-- a call more is a read or an edit more, behind those before it
+reads-last : (calls : List Call) (call : Call) (reads : List Read) → reads_of calls ++ (reads_of (call ∷ []) ++ reads) ≡ reads_of (calls ++ call ∷ []) ++ reads
+reads-last [] call reads = refl
+reads-last (Press event ∷ calls) call reads = ap (λ (list : List Read). Batch (event ∷ []) ∷ list) (reads-last calls call reads)
+reads-last (Say text ∷ calls) call reads = reads-last calls call reads
+reads-last (Resize kind ∷ calls) call reads = reads-last calls call reads
+
+edits-last : (calls : List Call) (call : Call) (edits : List Reply) → edits_of calls ++ (edits_of (call ∷ []) ++ edits) ≡ edits_of (calls ++ call ∷ []) ++ edits
+edits-last [] call edits = refl
+edits-last (Press event ∷ calls) call edits = edits-last calls call edits
+edits-last (Say text ∷ calls) call edits = ap (λ (list : List Reply). answering text ∷ list) (edits-last calls call edits)
+edits-last (Resize kind ∷ calls) call edits = edits-last calls call edits
+
 module _ (s : Session) (kind : TerminalKind) (drawable : IsDrawable s) (calm : s.pending ≡ []) where
+  pressed-last : (calls : List Call) (event : Event) (reads : List Read) (edits : List Reply)
+      → beginning s kind calls (Batch (event ∷ []) ∷ reads) edits ≡ beginning s kind (calls ++ Press event ∷ []) reads edits
+  pressed-last calls event reads edits =
+      rw (reads-last calls (Press event) reads) (rw (edits-last calls (Press event) edits) refl)
+
+  said-last : (calls : List Call) (text : List ℕ) (reads : List Read) (edits : List Reply)
+      → beginning s kind calls reads (answering text ∷ edits) ≡ beginning s kind (calls ++ Say text ∷ []) reads edits
+  said-last calls text reads edits =
+      rw (reads-last calls (Say text) reads) (rw (edits-last calls (Say text) edits) refl)
+
   -- calls on one screen are a run
   is-run : (calls : List Call) (turn : Turn) → IsTrue (keep_screen calls) → Path (Waiting (record { session = after_frame s; kind = kind })) calls turn → IsRun s kind calls turn
   is-run calls turn k path =
@@ -247,6 +270,20 @@ module _ (s : Session) (kind : TerminalKind) (drawable : IsDrawable s) (calm : s
         clicks = clicks-hit-owners w drawable;
         confirmed = is-confirmed w kind turn (leads [] []);
       }
+
+  -- an event or a message after them with which the session ends in an error makes a run that fails with it
+  is-failed-run : (calls : List Call) {turn : Turn} {call : Call} {error : RecordError} → IsTrue (keep_screen calls)
+      → Path (Waiting (record { session = after_frame s; kind = kind })) calls turn → EndsIn error turn call → IsFailedRun s kind (calls ++ call ∷ []) error
+  is-failed-run calls {error = error} k path (press_fails {l = l} {event = event} g) = λ reads edits.
+      let h = (is-run calls (Waiting l) k path).leads (Batch (event ∷ []) ∷ reads) edits in
+      let p = beginning s kind calls (Batch (event ∷ []) ∷ reads) edits in
+      subst (λ (q : Point). Fails q error) (pressed-last calls event reads edits)
+      (fails-after p (waits l (Batch (event ∷ []) ∷ reads) edits h.0) error h.3 (g reads edits h.0))
+  is-failed-run calls {error = error} k path (say_fails {a = a} {text = text} g) = λ reads edits.
+      let h = (is-run calls (Editing a) k path).leads reads (answering text ∷ edits) in
+      let p = beginning s kind calls reads (answering text ∷ edits) in
+      subst (λ (q : Point). Fails q error) (said-last calls text reads edits)
+      (fails-after p (asks h.0 a reads (answering text ∷ edits) h.1) error h.3 (g h.0 reads edits h.1))
 
 -- ---- screen by screen
 
@@ -292,6 +329,10 @@ module _ (given : RecordState) (kind : TerminalKind) (calls : List Call) (accept
 
   pub session-is-run : (turn : Turn) → IsTrue (keep_screen calls) → Path (Waiting (record { session = start given; kind = kind })) calls turn → IsRun (start given) kind calls turn
   session-is-run turn k path = is-run (start given) kind drawable refl calls turn k path
+
+  pub session-fails : (turn : Turn) (call : Call) (error : RecordError) → IsTrue (keep_screen calls)
+      → Path (Waiting (record { session = start given; kind = kind })) calls turn → EndsIn error turn call → IsFailedRun (start given) kind (calls ++ call ∷ []) error
+  session-fails turn call error k path ends = is-failed-run (start given) kind drawable refl calls k path ends
 
   pub sessions-are-runs : (turn : Turn) → Path (Waiting (record { session = start given; kind = kind })) calls turn → AreRuns (start given) kind calls turn
   sessions-are-runs turn path = are-runs (start given) kind drawable refl (in-parts path)

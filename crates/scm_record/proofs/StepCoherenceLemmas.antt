@@ -24,7 +24,8 @@ changed-keeps : (read_only : Bool) (s : Session) (f : List File → List File) �
 changed-keeps true s f h = keeps_coherent-same s.shown.state.files
 changed-keeps false s f h = h
 
-marks-keep : (s : Session) (state : RecordState) (flow : Flow) → Marks s state flow → KeepsCoherent s.shown.state.files state.files
+-- what an event makes of the marks keeps each file coherent
+pub marks-keep : (s : Session) (state : RecordState) (flow : Flow) → Marks s state flow → KeepsCoherent s.shown.state.files state.files
 marks-keep s _ _ (unmarked allowed) = keeps_coherent-same s.shown.state.files
 marks-keep s _ _ toggled = changed-keeps s.shown.state.is_read_only s (with_key_toggled s.shown.selection) (toggle_keeps_coherent s.shown.state.files s.shown.selection)
 marks-keep s _ _ inverted = changed-keeps s.shown.state.is_read_only s with_all_inverted (all_inverted_keeps_coherent s.shown.state.files)

@@ -128,3 +128,15 @@ pub data AreRuns : Session → TerminalKind → List Call → Turn → Type 0 wh
   resized : {s : Session} {kind other : TerminalKind} {calls later : List Call} {l : Live} {turn : Turn}
       → IsTrue (keep_screen calls) → IsRun s kind calls (Waiting l)
       → AreRuns l.session other later turn → AreRuns s kind (calls ++ Resize other ∷ later) turn
+
+-- ---- sessions that end in an error
+
+-- a call with which a session ends in an error, as its contract says: an event, or the message that was asked for
+pub data EndsIn (error : RecordError) : Turn → Call → Type 0 where
+  press_fails : {l : Live} {event : Event} → EventFails l event error → EndsIn error (Waiting l) (Press event)
+  say_fails : {a : Asking} {text : List ℕ} → MessageFails a text error → EndsIn error (Editing a) (Say text)
+
+-- a run of the session on this screen that has the reads and edits of these calls fails with the error, whatever comes later
+abbrev pub IsFailedRun : Session → TerminalKind → List Call → RecordError → Type 0
+IsFailedRun s kind calls error =
+    (reads : List Read) (edits : List Reply) → Fails (beginning s kind calls reads edits) error

@@ -32,6 +32,10 @@ pub mod Live
 pub mod Calls
 -- what it keeps of what it drew
 pub mod LiveView
+-- what it shows on its screen, and in which styles
+pub mod Painted
+-- what becomes of it when bytes are typed
+pub mod Typed
 -- what the parts of a run say of the points that they reach
 pub mod Turn
 -- what the fields of a selector stand for
@@ -45,6 +49,15 @@ pub use Rattle.scm_selection.specs.Coherence
 pub use Rattle.scm_selection.specs.Counts
 -- of the crate of what is shown
 pub use Rattle.scm_shown.specs.Menus
+pub use Rattle.scm_shown.specs.Items
+pub use Rattle.scm_shown.specs.Styles
+-- of the crate of the terminal's edge
+pub use Rattle.scm_terminal.specs.Streams
+pub use Rattle.scm_terminal.specs.Decoders
+pub use Rattle.scm_terminal.specs.Style
+pub use Rattle.scm_terminal.specs.Place
+pub use Rattle.scm_terminal.specs.Terminal
+pub use Rattle.scm_terminal.specs.Promise
 -- of the crate of inputs
 pub use Rattle.scm_input.specs.Script
 pub use Rattle.scm_input.specs.KeyTable

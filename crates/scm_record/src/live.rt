@@ -1,6 +1,6 @@
 //! A session that a program drives: it hands in one event after the other, and looks at the
 //! screen after each.
-ghost use Rattle.std.specs.Prelude.{◌≡◌, ℕ, ◌+◌, ◌<◌, ◌≤◌, List, [], ◌∷◌, IfErr, IfOk, IsTrue, OnOk, Some, length, string_bytes};
+ghost use Rattle.std.specs.Prelude.{◌≡◌, ℕ, ◌+◌, ◌++◌, ◌<◌, ◌≤◌, List, [], ◌∷◌, IfErr, IfOk, IsTrue, OnErr, OnOk, Some, length, string_bytes};
 ghost use Rattle.scm_errors.specs.declared.error.RecordError.TheVariants.{OutOfMemory};
 ghost use Rattle.scm_types.specs.Limits.{is_accepted_state};
 ghost use Rattle.scm_input.specs.declared.inputs.TerminalKind.{TerminalKind};
@@ -13,13 +13,16 @@ ghost use Rattle.scm_record.specs.Frames.{HasSize, IsShown, columns_of, rows_of,
 ghost use Rattle.scm_record.specs.Step.{change};
 ghost use Rattle.scm_record.specs.Clicks.{clicked};
 ghost use Rattle.scm_record.specs.Run.{Within, world_in};
-ghost use Rattle.scm_record.specs.Calls.{AreRuns, Call, EventFails, EventLeads, Fails, IsRun, Leads, MessageFails, MessageLeads, Path, keep_screen, live};
+ghost use Rattle.scm_record.specs.Calls.{AreRuns, Call, EndsIn, EventFails, EventLeads, Fails, IsFailedRun, IsRun, Leads, MessageFails, MessageLeads, Path, keep_screen, live};
 ghost use Rattle.scm_record.specs.declared.live.Turn.{Turn};
 ghost use Rattle.scm_record.specs.declared.live.Turn.TheVariants.{Accepted, Waiting};
 ghost use Rattle.scm_record.specs.Headline.{IsInline, owner_at, window_of};
 ghost use Rattle.scm_record.specs.Keeping.{IsKept};
 ghost use Rattle.scm_record.specs.Uses.{hit};
 ghost use Rattle.scm_types.specs.declared.state.RecordState.{RecordState};
+
+mod painted;
+pub mod typed;
 
 use crate::frame::DrawnFrame;
 use crate::runs::{draw_anew, is_short, no_such_place, too_long};
@@ -200,23 +203,25 @@ impl<'state> LiveSession<'state> {
         settle(selector, frame, kind, event)
     }
 
-    /// The same session on another screen.
+    /// Goes on on another screen.
     ///
-    /// The scroll stays, also where the document is now shorter: the frame of the next event brings
-    /// it into its bounds. `EnsureSelectionInViewport` brings the selection into view. An error,
-    /// which is `OutOfMemory`, ends the session.
-    pub fn resize(self, kind: TerminalKind) -> Result<LiveSession<'state>, RecordError>
-        ensures ok { IfOk result (λ l. l ≡ on_screen self.entry kind) }
+    /// The scroll stays, also if the document ends above it on the new screen: only scrolling brings
+    /// it back to the document. `EnsureSelectionInViewport` brings the selection into view.
+    ///
+    /// # Errors
+    ///
+    /// - `OutOfMemory`: an allocation failed; the session is unchanged.
+    pub fn resize(&mut self, kind: TerminalKind) -> Result<(), RecordError>
+        ensures ok { OnOk result (self.new ≡ on_screen self.old kind) }
+        ensures unchanged { OnErr result (self.new ≡ self.old) }
         ensures err { IfErr result (λ e. e ≡ OutOfMemory) }
     {
-        let mut selector = self.selector;
-        let mut frame = DrawnFrame::new(selector.allocator(), kind)?;
-        advance(&mut selector, &mut frame, false)?;
-        Ok(LiveSession {
-            selector,
-            frame,
-            kind,
-        })
+        let mut frame = DrawnFrame::new(self.selector.allocator(), kind)?;
+        draw_anew(&self.selector, &mut frame, false)?;
+        self.selector.begin_frame();
+        self.frame = frame;
+        self.kind = kind;
+        Ok(())
     }
 
     /// The screen.
@@ -338,6 +343,12 @@ pub fn sessions_are_runs()
     ensures one { (given : RecordState) (kind : TerminalKind) (calls : List Call) (turn : Turn)
         → IsTrue (is_accepted_state given) → Path (Waiting (record { session = start given; kind = kind })) calls turn
         → IsTrue (keep_screen calls) → IsRun (start given) kind calls turn }
+    // on one screen, to the event or the message with which the session ends in an error
+    ensures failed { (given : RecordState) (kind : TerminalKind) (calls : List Call) (turn : Turn)
+        (call : Call) (error : RecordError) → IsTrue (is_accepted_state given)
+        → Path (Waiting (record { session = start given; kind = kind })) calls turn
+        → IsTrue (keep_screen calls) → EndsIn error turn call
+        → IsFailedRun (start given) kind (calls ++ call ∷ []) error }
     // on any screens
     ensures all { (given : RecordState) (kind : TerminalKind) (calls : List Call) (turn : Turn)
         → IsTrue (is_accepted_state given) → Path (Waiting (record { session = start given; kind = kind })) calls turn

@@ -6,3 +6,7 @@ pub mod Menus
 pub mod Views
 -- the fold of a file, as it is found from the views of its sections; only contracts within this crate cite it
 pub mod Folds
+-- what a key names
+pub mod Items
+-- the style of each place of the screen
+pub mod Styles

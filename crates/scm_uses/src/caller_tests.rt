@@ -3,6 +3,7 @@ use crate::drawing::screen_of;
 use crate::input::record_keys;
 use crate::live::choose;
 use crate::splitter::{changed_file, choose_lines};
+use crate::terminal::choose_at_terminal;
 use crate::tests::{has_text, state_of_one_line};
 use scm_record::{Event, RecordError, RecordState, TerminalKind, Tristate};
 use std::alloc::Global;
@@ -46,6 +47,22 @@ fn a_session_is_driven_to_its_end(rt: HostRuntime) -> Result<(), Fail> {
     assert!(rt; state.is_accepted());
     let marked = choose(alloc, KIND, state, &KEYS)?;
     assert!(rt; marked.is_some_and(|marked| is_marked(&marked)));
+    Ok(())
+}
+
+/// What a terminal sends for the keys right, right, space and `c`, with a cut within the first.
+const BYTES: [&[u8]; 3] = [&[27, 91], &[67, 27, 91, 67], &[32, 99]];
+
+#[test]
+fn bytes_of_a_terminal_mark_the_line(rt: HostRuntime) -> Result<(), Fail> {
+    let alloc = rt.alloc();
+    let state = state_of_one_line(alloc)?;
+    assert!(rt; state.is_accepted());
+    let mut shown = String::new(alloc);
+    let marked = choose_at_terminal(alloc, KIND, state, &BYTES, &mut shown)?;
+    assert!(rt; marked.is_some_and(|marked| is_marked(&marked)));
+    // the added line, which is selected before the last chunk, is green and reversed
+    assert!(rt; shown.as_str().contains("\x1b[0;7;32m + a"));
     Ok(())
 }
 

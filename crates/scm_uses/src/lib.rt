@@ -50,5 +50,6 @@ pub mod drawing;
 pub mod input;
 pub mod live;
 pub mod splitter;
+pub mod terminal;
 #[cfg(test)]
 mod tests;

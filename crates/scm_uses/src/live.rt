@@ -10,7 +10,7 @@ use scm_record::{Event, LiveSession, RecordError, RecordState, TerminalKind, Tur
 use std::alloc::Global;
 
 /// Leaves a message that is asked for as it stands.
-fn without_editor<'a>(turn: Turn<'a>) -> Result<Turn<'a>, RecordError>
+pub(crate) fn without_editor<'a>(turn: Turn<'a>) -> Result<Turn<'a>, RecordError>
     ensures path { IfOk result (λ next. (calls : List Call) × Path turn.entry calls next) }
 {
     match turn {

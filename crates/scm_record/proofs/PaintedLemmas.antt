@@ -1,0 +1,55 @@
+-- Inline the screen of a session in its styles is the window in its styles.
+use Rattle.std.proofs.Common.{◌≡◌, ℕ, zero, suc, ◌+◌, ◌<◌, ◌≤◌, List, [], ◌∷◌, map, length, Option, sym, ap, ◌∙◌, refl, arith}
+use Rattle.std.specs.List.{range_with_len}
+use Rattle.scm_cells.specs.Cell.{Cell}
+use Rattle.scm_cells.specs.Counts.{no_counts}
+use Rattle.scm_cells.specs.Screen.{Screen}
+use Rattle.scm_cells.specs.Symbols.{symbol_at}
+use Rattle.scm_terminal.specs.declared.style.Style.{Style}
+use Rattle.scm_terminal.specs.Place.{Place, picture, place_at, place_of, styled_row}
+use Rattle.scm_types.specs.Limits.{max_scroll}
+use Rattle.scm_view.specs.declared.ids.ComponentId.{ComponentId}
+use Rattle.scm_shown.specs.Styles.{style_of}
+use Rattle.scm_record.specs.Frames.{columns_of, rows_of, scene_of}
+use Rattle.scm_record.specs.Headline.{IsInline, window_of}
+use Rattle.scm_record.specs.Live.{Live}
+use Rattle.scm_record.specs.Painted.{style_at, screen_of, picture_of, window_style_at, window_picture_of}
+use Rattle.scm_record.proofs.LiveLemmas.{inline-owner, inline-window}
+
+-- a function of numbers depends on what it is of these
+map-same : {X : Type 0} (f g : ℕ → X) (a n : ℕ) → ((i : ℕ) → a ≤ i → i < a + n → f i ≡ g i) → map f (range_with_len a n) ≡ map g (range_with_len a n)
+map-same f g a zero h = refl
+map-same f g a (suc n) h =
+    let first = h a (omega arith) (omega arith) in
+    let more = map-same f g (a + 1) n (λ i low high. h i (omega (arith, low)) (omega (arith, high))) in
+    ap (λ x. x ∷ map f (range_with_len (a + 1) n)) first ∙ ap (λ list. g a ∷ list) more
+
+-- pictures of the same rows are the same, if the styles of their places are
+picture-same : (f g : ℕ → ℕ → Style) (width : ℕ) (rows : List (List Cell))
+    → ((row column : ℕ) → row < length rows → column < width → f row column ≡ g row column)
+    → picture f (record { width = width; rows = rows; counts = no_counts }) ≡ picture g (record { width = width; rows = rows; counts = no_counts })
+picture-same f g width rows h =
+    let grid : Screen = record { width = width; rows = rows; counts = no_counts } in
+    map-same (styled_row f grid) (styled_row g grid) 0 (length rows) (λ row low high.
+    map-same (place_at f grid row) (place_at g grid row) 0 width (λ column low' high'.
+    ap (place_of (symbol_at rows row column)) (h row column (omega (arith, high)) (omega (arith, high')))))
+
+-- nothing of a grid counts but its size and its rows
+pub picture-of-grid : (f : ℕ → ℕ → Style) (grid : Screen) (width : ℕ) (rows : List (List Cell)) → grid.width ≡ width → grid.rows ≡ rows
+    → picture f grid ≡ picture f (record { width = width; rows = rows; counts = no_counts })
+picture-of-grid f grid width rows e g =
+    ap (λ (w : ℕ). picture f (record { width = w; rows = grid.rows; counts = no_counts })) e
+    ∙ ap (λ (list : List (List Cell)). picture f (record { width = width; rows = list; counts = no_counts })) g
+
+-- inline, by the owner of the place
+pub inline-style : (l : Live) (row column : ℕ) → IsInline l.kind l.session → l.session.scroll ≤ max_scroll
+    → row < rows_of l.kind → column < columns_of l.kind → style_at l row column ≡ window_style_at l row column
+inline-style l row column inline low is_row is_column =
+    ap (λ (o : Option ComponentId). style_of l.session.shown row o) (inline-owner l.kind l.session row column inline low is_row is_column)
+
+pub inline-picture : (l : Live) → length (screen_of l).rows ≡ rows_of l.kind → l.session.scroll ≤ max_scroll
+    → IsInline l.kind l.session → picture_of l ≡ window_picture_of l
+inline-picture l high low inline =
+    picture-same (style_at l) (window_style_at l) (columns_of l.kind) (screen_of l).rows
+    (λ row column is_row is_column. inline-style l row column inline low (rw (sym high) is_row) is_column)
+    ∙ ap (λ (rows : List (List Cell)). picture (window_style_at l) (record { width = columns_of l.kind; rows = rows; counts = no_counts })) (inline-window l.kind l.session inline)

@@ -1,0 +1,17 @@
+use Rattle.std.proofs.Common.{◌≡◌, ◌∙◌, sym, ap, subst}
+use Rattle.scm_record.specs.Session.{Session, IsDrawable, after_frame}
+use Rattle.scm_record.proofs.live.LiveSession.resize.Goals as goal
+
+pub invariant_of-self : goal.invariant_of-self
+invariant_of-self c =
+    let t = c.self.inside.selector in
+    let u = c.begin_frame.new.self in
+    let e : u ≡ after_frame t = c.begin_frame.ensures in
+    let calm = c.self.invariant.calm in
+    let drawable : IsDrawable (after_frame t) = record { accepted = calm.drawable.accepted; scroll = calm.drawable.scroll } in
+    record {
+      calm = record { drawable = subst IsDrawable (sym e) drawable; calm = ap (λ (s : Session). s.pending) e ∙ calm.calm };
+      shown =
+          c.in_ok-draw_anew.ensures.shown c.args.kind u (ap (λ (s : Session). s.shown) e) (ap (λ (s : Session). s.scroll) e)
+          c.in_ok-frame.ensures.ok;
+    }

@@ -1,0 +1,47 @@
+//! What a session shows on a terminal.
+ghost use Rattle.std.specs.Prelude.{◌≡◌, ◌+◌, ◌<◌, [], IfErr, IfOk, OnErr, OnOk, string_bytes};
+ghost use Rattle.scm_errors.specs.declared.error.RecordError.TheVariants.{OutOfMemory};
+ghost use Rattle.scm_terminal.specs.Promise.{Paints};
+ghost use Rattle.scm_record.specs.Frames.{columns_of, rows_of};
+ghost use Rattle.scm_record.specs.Headline.{IsInline};
+ghost use Rattle.scm_record.specs.Painted.{picture_of, style_at, window_picture_of, window_style_at};
+
+use crate::live::LiveSession;
+use scm_terminal::{Painter, Style, Styles};
+use scm_types::RecordError;
+
+impl<'state> Styles for LiveSession<'state> {
+    ghost styled = { style_at };
+
+    /// Returns the style at `row` and `column` of the screen, counted from 0.
+    fn style(&self, row: usize, column: usize) -> Style
+        ensures at { result ≡ style_at self.now row column }
+        // inline it is that of the owner of the place in the document
+        ensures owner { IsInline self.now.kind self.now.session → row < rows_of self.now.kind
+            → column < columns_of self.now.kind → result ≡ window_style_at self.now row column }
+    {
+        self.showing().style(row, self.owner(row, column))
+    }
+}
+
+impl<'state> LiveSession<'state> {
+    /// Returns the bytes that make a terminal of the screen's size show the session, in its styles: of
+    /// the rows that changed since `painter` painted last, or of all rows if it has forgotten them or
+    /// the size changed.
+    ///
+    /// # Errors
+    ///
+    /// `OutOfMemory`: an allocation failed, and the painter forgets what it painted last.
+    pub fn paint(&self, painter: &mut Painter) -> Result<String, RecordError>
+        ensures ok { IfOk result (λ text. Paints (columns_of self.now.kind) painter.old
+            (picture_of self.now) (string_bytes text)) }
+        // inline that is the window in its styles
+        ensures window { IsInline self.now.kind self.now.session
+            → picture_of self.now ≡ window_picture_of self.now }
+        ensures painted { OnOk result (painter.new ≡ picture_of self.now) }
+        ensures forgotten { OnErr result (painter.new ≡ []) }
+        ensures err { IfErr result (λ e. e ≡ OutOfMemory) }
+    {
+        painter.paint(self.frame.grid(), self)
+    }
+}
