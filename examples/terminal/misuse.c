@@ -1,4 +1,4 @@
-/* Meets each refusal that the library for C has a code for, and looks each time that the session then stands as before, and
+/* Meets each refusal that the library for C has a code for, and looks each time that the session is as before then, and
  * goes on. It does nothing that scm.h forbids. It prints nothing, and stops at the first thing that is otherwise. */
 #undef NDEBUG
 #include "scm.h"
@@ -7,7 +7,7 @@
 #include <stdlib.h>
 #include <string.h>
 
-enum { WIDTH = 24, HEIGHT = 4, LONGEST_MESSAGE = 1000000 };
+enum { WIDTH = 24, HEIGHT = 4, LONGEST_MESSAGE = 1000000, EMPTY_UPDATE = 8 + 4 + 8 };
 
 static const char STATE[] =
     "{\"is_read_only\":false,\"commits\":[{\"message\":\"hello\"},{\"message\":null}],\"files\":[{\"old_path\":null,"
@@ -16,10 +16,11 @@ static const char STATE[] =
 static const char THREE_COMMITS[] =
     "{\"is_read_only\":false,\"commits\":[{\"message\":null},{\"message\":null},{\"message\":null}],\"files\":[]}";
 
-/* All that a session tells; of a text its beginning. */
+/* All that a session has to say; of a text its beginning. */
 typedef struct {
     uint32_t stage;
     uint32_t owners[HEIGHT][WIDTH];
+    scm_key keys[HEIGHT][WIDTH];
     size_t length;
     char text[512];
 } standing;
@@ -40,7 +41,7 @@ static standing look(void) {
     standing now = {.stage = scm_stage(&session)};
     for (uint16_t row = 0; row < HEIGHT; row++) {
         for (uint16_t column = 0; column < WIDTH; column++) {
-            now.owners[row][column] = scm_owner(&session, row, column);
+            now.owners[row][column] = scm_owner(&session, row, column, &now.keys[row][column]);
         }
     }
     now.length = scm_text(&session, now.text, sizeof now.text);
@@ -49,6 +50,7 @@ static standing look(void) {
 
 static bool is_same(const standing *one, const standing *other) {
     return one->stage == other->stage && memcmp(one->owners, other->owners, sizeof one->owners) == 0
+        && memcmp(one->keys, other->keys, sizeof one->keys) == 0
         && one->length == other->length && memcmp(one->text, other->text, sizeof one->text) == 0;
 }
 
@@ -74,15 +76,29 @@ static uint32_t begin(const char *json) { return scm_new(&session, json, strlen(
 
 static uint32_t press(const char *word) { return scm_press(&session, word, strlen(word)); }
 
+static uint32_t type(const char *bytes) { return scm_type(&session, bytes, strlen(bytes)); }
+
 static uint32_t answer(const char *message) { return scm_answer(&session, message, strlen(message)); }
+
+static size_t paint(char *out, size_t length) { return scm_paint(&session, out, length); }
+
+/* There is nothing to paint. What was painted can be forgotten, unless the session is closed. */
+static void refuse_paint(uint32_t code_of_repaint) {
+    char out[] = "............";
+    assert(paint(out, sizeof out) == 0 && strcmp(out, "............") == 0);
+    refused(scm_repaint(&session), code_of_repaint);
+}
 
 /* Every call that changes a session, where it waits for none of them. */
 static void refuse_calls(uint32_t code) {
     refused(press("j"), code);
+    refused(type("j"), code);
+    refused(scm_idle(&session), code);
     refused(scm_click(&session, 1, 1), code);
     refused(answer("bye"), code);
     refused(scm_resize(&session, WIDTH, HEIGHT), code);
     refused(press("no word"), SCM_NO_WORD);
+    refuse_paint(code == SCM_CLOSED ? SCM_CLOSED : SCM_DONE);
 }
 
 static void close_session(void) {
@@ -138,17 +154,104 @@ static void refuse_words(void) {
     assert(!is_same(&begun, &before));
 }
 
-/* No size is refused, and no place. */
+typedef struct {
+    uint32_t code;
+    scm_key key;
+} owned;
+
+static owned owner(uint16_t row, uint16_t column) {
+    owned found;
+    found.code = scm_owner(&session, row, column, &found.key);
+    return found;
+}
+
+static bool is_owner(uint16_t row, uint16_t column, uint32_t code, size_t commit, size_t file, size_t section, size_t line) {
+    owned found = owner(row, column);
+    return found.code == code && found.key.commit == commit && found.key.file == file && found.key.section == section
+        && found.key.line == line;
+}
+
+/* No size is refused while there is memory, and no place. */
 static void take_any_size(void) {
     standing begun = before;
     done(scm_resize(&session, 0, 0), SCM_WAITING);
     assert(reads(""));
     done(scm_click(&session, 0, 0), SCM_WAITING);
     done(scm_resize(&session, WIDTH, HEIGHT), SCM_WAITING);
+#ifdef __GLIBC__
+    is_refused = true;
+    uint32_t code = scm_resize(&session, UINT16_MAX, UINT16_MAX);
+    is_refused = false;
+    refused(code, SCM_NO_MEMORY);
+#endif
     done(scm_click(&session, HEIGHT, 0), SCM_WAITING);
     done(scm_click(&session, UINT16_MAX, UINT16_MAX), SCM_WAITING);
     assert(is_same(&begun, &before));
-    assert(scm_owner(&session, HEIGHT, 0) == SCM_NOBODY && scm_owner(&session, UINT16_MAX, UINT16_MAX) == SCM_NOBODY);
+    assert(owner(HEIGHT, 0).code == SCM_NOBODY && owner(UINT16_MAX, UINT16_MAX).code == SCM_NOBODY);
+}
+
+/* The owners of places, and what they belong to. */
+static void tell_owners(void) {
+    done(begin(STATE), SCM_WAITING);
+    assert(is_owner(0, 1, SCM_MENU, SCM_NO_INDEX, SCM_NO_INDEX, SCM_NO_INDEX, SCM_NO_INDEX));
+    assert(is_owner(2, 1, SCM_BUTTON, 0, SCM_NO_INDEX, SCM_NO_INDEX, SCM_NO_INDEX));
+    done(scm_resize(&session, WIDTH, 2 * HEIGHT), SCM_WAITING);
+    done(press("shift-F"), SCM_WAITING);
+    assert(is_owner(4, 1, SCM_MARK, 0, 0, SCM_NO_INDEX, SCM_NO_INDEX));
+    assert(is_owner(4, 8, SCM_FILE, 0, 0, SCM_NO_INDEX, SCM_NO_INDEX));
+    assert(is_owner(5, 1, SCM_SECTION, 0, 0, 0, SCM_NO_INDEX));
+    assert(is_owner(5, WIDTH - 2, SCM_FOLD, 0, 0, 0, SCM_NO_INDEX));
+    assert(is_owner(6, 5, SCM_MARK, 0, 0, 0, 0));
+    assert(is_owner(6, 10, SCM_ADDED, 0, 0, 0, 0));
+}
+
+/* Bytes mean what their words do, in any pieces; an ESC is a key once the terminal is silent. */
+static void take_bytes(void) {
+    done(begin(STATE), SCM_WAITING);
+    done(press("right"), SCM_WAITING);
+    standing pressed = before;
+    done(begin(STATE), SCM_WAITING);
+    for (const char *byte = "\x1b[C"; *byte; byte++) {
+        done(scm_type(&session, byte, 1), SCM_WAITING);
+    }
+    assert(is_same(&pressed, &before));
+    done(type("\x1b[200~ jq\x03\x03\x1b[201~"), SCM_WAITING);
+    done(scm_type(&session, "", 0), SCM_WAITING);
+    assert(is_same(&pressed, &before));
+    done(type("ejj"), SCM_EDITING); /* what is typed ahead is lost */
+    done(answer("hello"), SCM_WAITING);
+    pressed = before;
+    done(type("?\x1b"), SCM_WAITING);
+    assert(!is_same(&pressed, &before));
+    done(scm_idle(&session), SCM_WAITING);
+    assert(is_same(&pressed, &before)); /* the help was open, and is closed */
+    done(scm_idle(&session), SCM_WAITING);
+    done(type("\x03\x03"), SCM_ENDED);
+    assert(reads("cancelled by user"));
+}
+
+/* A paint writes every row, or nothing, or what changed; without room it writes nothing, and every row then. */
+static void paint_rows(void) {
+    static char all[1 << 14], again[1 << 14];
+    done(begin(STATE), SCM_WAITING);
+    size_t length = paint(all, sizeof all);
+    assert(length > WIDTH * HEIGHT && length < sizeof all);
+    assert(memcmp(all, "\x1b[?2026h\x1b[1;1H", 14) == 0 && memcmp(all + length - 12, "\x1b[0m\x1b[?2026l", 12) == 0);
+    assert(paint(again, sizeof again) == EMPTY_UPDATE);
+    assert(scm_repaint(&session) == SCM_DONE);
+    assert(paint(again, length - 1) == length && again[EMPTY_UPDATE] == 0);
+    assert(paint(again, length) == length && memcmp(all, again, length) == 0);
+    done(press("j"), SCM_WAITING);
+    size_t changed = paint(again, sizeof again);
+    assert(changed > EMPTY_UPDATE && changed < length);
+    done(scm_resize(&session, WIDTH, HEIGHT + 1), SCM_WAITING);
+    assert(paint(again, sizeof again) > length);
+#ifdef __GLIBC__
+    is_refused = true;
+    size_t nothing = paint(again, sizeof again);
+    is_refused = false;
+    assert(nothing == 0 && paint(again, sizeof again) > length);
+#endif
 }
 
 /* What does not fit is cut, and nothing is written behind it. */
@@ -164,6 +267,9 @@ static void refuse_messages(void) {
     done(press("e"), SCM_EDITING);
     assert(reads("hello"));
     refused(press("j"), SCM_NOT_NOW);
+    refused(type("j"), SCM_NOT_NOW);
+    refused(scm_idle(&session), SCM_NOT_NOW);
+    refuse_paint(SCM_DONE);
     refused(scm_click(&session, 1, 1), SCM_NOT_NOW);
     refused(scm_resize(&session, WIDTH, HEIGHT), SCM_NOT_NOW);
     refused(answer("\xe6\x97"), SCM_NOT_TEXT);
@@ -199,6 +305,9 @@ int main(void) {
     refuse_words();
     take_any_size();
     cut_text();
+    tell_owners();
+    take_bytes();
+    paint_rows();
     refuse_messages();
     refuse_after_the_end();
     return 0;

@@ -1,6 +1,10 @@
-/* timing FILESxSECTIONSxLINES: what a key costs in a session over a state of so many files of so many changed sections of
- * so many added lines each, all unfolded, on a screen of 80 x 24. It prints a line: the milliseconds until the session
- * begins, the microseconds of keys, each the least of many, and the most memory that the program had, in megabytes. */
+/* timing FILESxSECTIONSxLINES: what a key costs in a session over a state of FILES files, each of SECTIONS changed sections,
+ * each of LINES added lines, all unfolded, on a screen of 80 by 24. It prints a line: the milliseconds until the session
+ * begins, the microseconds of keys, each the least of many, and the most memory that the program had, in megabytes.
+ *
+ * timing FILESxSECTIONSxLINES COUNT PAINT WORD ..: hands in the words in turn, COUNT of them, and then prints how many bytes
+ * the last paint has. PAINT is `none`, `changed` to paint after each word, or `all` to paint every row then. Valgrind counts
+ * its instructions, for tools/count-paints. */
 #define _XOPEN_SOURCE 700
 #include "scm.h"
 
@@ -69,24 +73,50 @@ static void print_key(const char *word, const char *back) {
     printf(" | %s %.0f", word, least);
 }
 
-int main(int argc, char **argv) {
-    size_t files, sections, lines;
-    bool is_read = argc == 2 && sscanf(argv[1], "%zux%zux%zu", &files, &sections, &lines) == 3;
-    char *json = is_read ? state_of(files, sections, lines) : NULL;
-    double begun = now();
-    if (!json || scm_new(&session, json, strlen(json), 80, 24) != SCM_DONE) {
-        fputs("timing: give it a shape that can be shown: FILESxSECTIONSxLINES\n", stderr);
-        return 2;
+/* Hands in words in turn, and paints after each as `kind` says. */
+static void paint_keys(int count, const char *kind, int words, char **word) {
+    static char out[1 << 17];
+    size_t length = scm_paint(&session, out, sizeof out);
+    for (int i = 0; i < count; i++) {
+        time_of_key(word[i % words]);
+        if (strcmp(kind, "all") == 0) {
+            scm_repaint(&session);
+        }
+        if (strcmp(kind, "none") != 0) {
+            length = scm_paint(&session, out, sizeof out);
+        }
     }
-    printf("%s | begin %.1f ms", argv[1], (now() - begun) / 1e3);
-    free(json);
-    time_of_key("shift-F");
+    printf("%zu bytes\n", length);
+}
+
+static void print_keys(void) {
     time_of_key("l");
     time_of_key("l");
     print_key("j", "k");
     print_key("pagedown", "pageup");
     print_key("click:5:20", "click:4:20");
     print_key("space", "space");
+}
+
+int main(int argc, char **argv) {
+    size_t files, sections, lines;
+    bool is_read = (argc == 2 || argc > 4) && sscanf(argv[1], "%zux%zux%zu", &files, &sections, &lines) == 3;
+    char *json = is_read ? state_of(files, sections, lines) : NULL;
+    double begun = now();
+    if (!json || scm_new(&session, json, strlen(json), 80, 24) != SCM_DONE) {
+        fputs("timing: give it a shape that can be shown: FILESxSECTIONSxLINES\n", stderr);
+        return 2;
+    }
+    double ended = now();
+    free(json);
+    time_of_key("shift-F");
+    if (argc > 4) {
+        paint_keys(atoi(argv[2]), argv[3], argc - 4, argv + 4);
+        scm_free(&session);
+        return 0;
+    }
+    printf("%s | begin %.1f ms", argv[1], (ended - begun) / 1e3);
+    print_keys();
     scm_free(&session);
     struct rusage usage;
     getrusage(RUSAGE_SELF, &usage);

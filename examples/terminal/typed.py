@@ -1,13 +1,16 @@
-"""A program in a pseudo terminal, driven by the words of a script. A frame is what the front end drew last."""
+"""A program in a pseudo terminal, driven by the words of a script. A frame is one synchronized update that the program draws."""
 import fcntl, os, pty, re, select, struct, termios
 
 KEYS = {"space": " ", "enter": "\r", "esc": "\x1b", "up": "\x1b[A", "down": "\x1b[B", "right": "\x1b[C", "left": "\x1b[D",
         "pageup": "\x1b[5~", "pagedown": "\x1b[6~", "wheel-up": "\x1b[<64;1;1M", "wheel-down": "\x1b[<65;1;1M",
         "view": "\t", "none": "z"}
-FRAME = re.compile(rb"\x1b\[\?2026h\x1b\[H(.*?)\x1b\[\?2026l", re.S)
-COLOURS = re.compile(rb"\x1b\[[0-9;]*m")
+FRAME = re.compile(rb"\x1b\[\?2026h(.*?)\x1b\[\?2026l", re.S)
+# what the program sends where it takes the terminal, and where it gives it back
+TAKE, GIVE_BACK = rb"\x1b\[22;2t.*?\x1b\[\?2004h", rb"\x1b\[0m\x1b\[\?2004l.*?\x1b\[23;2t"
+# what a frame is made of: the cursor goes to a place, a style is set, and symbols without a control character
+COMMAND = re.compile(rb"\x1b\[([0-9]+);([0-9]+)H|\x1b\[([0-9;]*)m|((?:[^\x00-\x1f\x7f\xc2]|\xc2[^\x80-\x9f])+)")
 SECONDS = 60
-# how long a program draws nothing that has drawn all, in seconds
+# after how long the program has drawn all, in seconds
 QUIET = 0.3
 
 
@@ -32,8 +35,36 @@ def bytes_of(word):
     return "\x1b" + plain if held & 2 else plain
 
 
+class Screen:
+    """What frames leave on a terminal: for each row the symbols, each with its style, by the columns at which they begin. A row
+    that changes is drawn from its first column on. The cursor is moved to each symbol that may have two columns, and away from it."""
+
+    def __init__(self):
+        self.rows = {}
+
+    def draw(self, frame):
+        row = column = end = 0
+        style = None
+        for command in COMMAND.finditer(frame):
+            if command.start() != end:
+                break
+            end = command.end()
+            if command[1]:
+                row, column = int(command[1]) - 1, int(command[2]) - 1
+                if column == 0:
+                    self.rows[row] = {}
+            elif command[4]:
+                for symbol in [bytes([byte]) for byte in command[4]] if command[4].isascii() else [command[4]]:
+                    self.rows[row][column] = symbol, style
+                    column += 1
+            else:
+                style = command[3]
+        if end != len(frame):
+            raise ValueError("a frame has %r" % frame[end:end + 20])
+
+
 class Typed:
-    """A program that runs in a terminal of so many columns and rows."""
+    """A program that runs in a terminal of `width` columns and `height` rows."""
 
     def __init__(self, command, width, height, environment=None, folder=None):
         self.process, self.terminal = pty.fork()
@@ -41,13 +72,17 @@ class Typed:
             fcntl.ioctl(1, termios.TIOCSWINSZ, struct.pack("HHHH", height, width, 0, 0))
             os.chdir(folder or ".")
             os.execvpe(command[0], command, {**os.environ, **(environment or {})})
+        self.height = height
         self.seen = b""
+        self.searched = 0
         self.frames = []
+        self.drawn = 0
+        self.shown = Screen()
         self.has_ended = False
         self.wait_for_frames(1)
 
     def has_more(self, seconds):
-        """Whether more comes within so many seconds."""
+        """Whether more comes within `seconds`."""
         return bool(select.select([self.terminal], [], [], seconds)[0])
 
     def read(self):
@@ -59,7 +94,9 @@ class Typed:
         except OSError:
             got = b""
         self.seen += got
-        self.frames = FRAME.findall(self.seen)
+        for frame in FRAME.finditer(self.seen, self.searched):
+            self.frames.append(frame[1])
+            self.searched = frame.end()
         self.has_ended = not got
         return bool(got)
 
@@ -67,35 +104,53 @@ class Typed:
         while len(self.frames) < count and self.read():
             pass
 
-    def press(self, word):
-        """Types a word, and waits for the next frame or the program's end."""
+    def wait_for(self, text):
+        """Waits until the program or its shell says a text."""
+        begun = len(self.seen)
+        while text not in self.seen[begun:] and self.read():
+            pass
+
+    def write(self, sent):
+        """Types bytes. A program that has ended does not read them."""
+        try:
+            os.write(self.terminal, sent)
+        except OSError:
+            pass
+
+    def type(self, sent):
+        """Types bytes, and waits for the next frame or the program's end."""
         count = len(self.frames) + 1
-        os.write(self.terminal, bytes_of(word).encode())
+        self.write(sent)
         self.wait_for_frames(count)
 
-    def resize(self, width, height):
-        """Gives the terminal another size, of which the kernel tells the program, and waits until it draws no more."""
-        count = len(self.frames) + 1
-        fcntl.ioctl(self.terminal, termios.TIOCSWINSZ, struct.pack("HHHH", height, width, 0, 0))
-        self.wait_for_frames(count)
+    def press(self, word):
+        """Types a word, and waits for the next frame or the program's end."""
+        self.type(bytes_of(word).encode())
+
+    def rest(self):
+        """Waits until the program draws no more."""
         while self.has_more(QUIET) and self.read():
             pass
 
-    def screen(self):
-        """The rows of the last frame, each between quotes."""
-        rows = COLOURS.sub(b"", self.frames[-1]).split(b"\r\n") if self.frames else []
-        return b"".join(b'"' + row + b'"\n' for row in rows)
+    def resize(self, width, height):
+        """Gives the terminal another size, and waits until the program draws no more."""
+        count = len(self.frames) + 1
+        self.height = height
+        fcntl.ioctl(self.terminal, termios.TIOCSWINSZ, struct.pack("HHHH", height, width, 0, 0))
+        self.wait_for_frames(count)
+        self.rest()
 
-    def colours(self):
-        """What was set for each character of the last frame, by rows."""
-        found, colour = [], ""
-        for row in self.frames[-1].decode().split("\r\n"):
-            found.append([])
-            for part in re.split("(%s)" % COLOURS.pattern.decode(), row):
-                is_colour = part.startswith("\x1b")
-                colour = part if is_colour else colour
-                found[-1] += [] if is_colour else [colour] * len(part)
-        return found
+    def rows(self):
+        """The symbols of each row with their styles, as the frames left them."""
+        for frame in self.frames[self.drawn:]:
+            self.shown.draw(frame)
+        self.drawn = len(self.frames)
+        return [[place for _, place in sorted(self.shown.rows.get(row, {}).items())] for row in range(self.height)]
+
+    def screen(self):
+        """The rows of the screen, each between quotes."""
+        rows = self.rows() if self.frames else []
+        return b"".join(b'"' + b"".join(symbol for symbol, _ in row) + b'"\n' for row in rows)
 
     def end(self):
         """Waits for the program's end, and answers its status."""
@@ -106,4 +161,5 @@ class Typed:
 
     def said(self):
         """What stands on the main screen."""
-        return re.sub(rb"\x1b\[\?1049h.*?\x1b\[\?1049l", b"", self.seen, flags=re.S).decode(errors="replace").replace("\r\n", "\n")
+        said = re.sub(TAKE + rb"|" + GIVE_BACK, b"", FRAME.sub(b"", self.seen))
+        return said.decode(errors="replace").replace("\r\n", "\n")

@@ -4,7 +4,9 @@ pub mod Beside
 pub mod LooseBox
 -- a handle
 pub mod Handles
--- what a call makes of where a session stands
+-- what a call makes of a session
 pub mod StageLemmas
--- what a call tells of it
+-- return codes, and the text of each call
 pub mod ToldLemmas
+-- what a call paints
+pub mod PaintLemmas

@@ -1,16 +1,18 @@
--- What a call makes of where a session stands.
-use Rattle.std.proofs.Common.{◌≡◌, ℕ, List, Option, Some, Result, Ok, Err, IfOk, IfErr, sym, subst}
+-- What a call makes of a session.
+use Rattle.std.proofs.Common.{◌≡◌, ℕ, List, Option, Some, Result, Ok, Err, IfOk, IfErr, sym, ap, ◌∙◌, subst}
 use Rattle.scm_errors.specs.declared.error.RecordError.{RecordError}
 use Rattle.scm_errors.specs.declared.error.RecordError.TheVariants.{OutOfMemory}
 use Rattle.scm_input.specs.declared.events.Event.{Event}
 use Rattle.scm_input.specs.declared.inputs.TerminalKind.{TerminalKind}
 use Rattle.scm_record.specs.Live.{Live, Asking, on_screen}
 use Rattle.scm_record.specs.Calls.{EventLeads, MessageLeads, EventFails, MessageFails}
+use Rattle.scm_terminal.specs.declared.keys.Decoder.{Decoder}
+use Rattle.scm_record.specs.Typed.{BytesLead, BytesFail, SilenceLeads, SilenceFails}
 use Rattle.scm_record.specs.declared.live.Turn.{Turn}
 use Rattle.scm_c.specs.declared.held.Held.{Held}
 use Rattle.scm_c.specs.declared.held.Stage.{Stage}
 use Rattle.scm_c.specs.declared.held.Stage.TheVariants.{Waiting, Editing, Ended}
-use Rattle.scm_c.specs.Stages.{Presses, Says, Resizes, Behind, HandsIn, IsOpenAt, behind, open_at, stage_after, stage_resized}
+use Rattle.scm_c.specs.Stages.{Presses, Says, Resizes, Types, Idles, Behind, HandsIn, IsOpenAt, Listens, behind, listens, open_at, stage_after}
 
 presses-by : (event : Event) (l : Live) (r : Result Turn RecordError) → IfOk r (λ turn. EventLeads l event turn) → IfErr r (λ e. EventFails l event e) → Presses event (Waiting l) (stage_after r)
 presses-by event l (Ok turn) h k = Presses.turned turn h
@@ -26,19 +28,45 @@ says-by text a (Err error) h k = Says.failed k
 pub says : (text : List ℕ) (a : Asking) (r : Result Turn RecordError) (old new : Stage) → old ≡ Editing a → new ≡ stage_after r → IfOk r (λ turn. MessageLeads a text turn) → IfErr r (λ e. MessageFails a text e) → Says text old new
 says text a r old new e f h k = rw (e, f) (says-by text a r h k)
 
-resizes-by : (kind : TerminalKind) (l : Live) (r : Result Live RecordError) → IfOk r (λ m. m ≡ on_screen l kind) → IfErr r (λ e. e ≡ OutOfMemory) → Resizes kind (Waiting l) (stage_resized r)
-resizes-by kind l (Ok m) h k = subst (λ (x : Live). Resizes kind (Waiting l) (Waiting x)) (sym h) Resizes.resized
-resizes-by kind l (Err error) h k = subst (λ (x : RecordError). Resizes kind (Waiting l) (Ended x)) (sym k) Resizes.refused
+pub resizes : (kind : TerminalKind) (l m : Live) (old new : Stage) → old ≡ Waiting l → new ≡ Waiting m → m ≡ on_screen l kind → Resizes kind old new
+resizes kind l m old new e f g = rw (e, f) (subst (λ (x : Live). Resizes kind (Waiting l) (Waiting x)) (sym g) Resizes.resized)
 
-pub resizes : (kind : TerminalKind) (l : Live) (r : Result Live RecordError) (old new : Stage) → old ≡ Waiting l → new ≡ stage_resized r → IfOk r (λ m. m ≡ on_screen l kind) → IfErr r (λ e. e ≡ OutOfMemory) → Resizes kind old new
-resizes kind l r old new e f h k = rw (e, f) (resizes-by kind l r h k)
+types-by : (bytes : List ℕ) (d e : Decoder) (l : Live) (r : Result Turn RecordError)
+    → IfOk r (λ turn. BytesLead l d e bytes turn) → IfErr r (λ x. BytesFail l d e bytes x) → Types bytes d e (Waiting l) (stage_after r)
+types-by bytes d e l (Ok turn) h k = Types.turned turn h
+types-by bytes d e l (Err error) h k = Types.failed k
+
+pub types : (bytes : List ℕ) (c d e : Decoder) (l : Live) (r : Result Turn RecordError) (old new : Stage)
+    → d ≡ c → old ≡ Waiting l → new ≡ stage_after r
+    → IfOk r (λ turn. BytesLead l d e bytes turn) → IfErr r (λ x. BytesFail l d e bytes x) → Types bytes c e old new
+types bytes c d e l r old new is f g h k = subst (λ (x : Decoder). Types bytes x e old new) is (rw (f, g) (types-by bytes d e l r h k))
+
+idles-by : (d e : Decoder) (l : Live) (r : Result Turn RecordError)
+    → IfOk r (λ turn. SilenceLeads l d e turn) → IfErr r (λ x. SilenceFails l d e x) → Idles d e (Waiting l) (stage_after r)
+idles-by d e l (Ok turn) h k = Idles.turned turn h
+idles-by d e l (Err error) h k = Idles.failed k
+
+pub idles : (c d e : Decoder) (l : Live) (r : Result Turn RecordError) (old new : Stage)
+    → d ≡ c → old ≡ Waiting l → new ≡ stage_after r
+    → IfOk r (λ turn. SilenceLeads l d e turn) → IfErr r (λ x. SilenceFails l d e x) → Idles c e old new
+idles c d e l r old new is f g h k = subst (λ (x : Decoder). Idles x e old new) is (rw (f, g) (idles-by d e l r h k))
 
 -- what is behind a session goes on as the value does
-pub goes-behind : (Goes : Stage → Stage → Type 0) (old new : Option Held) (h before k : Held) → old ≡ Some h → before ≡ h → new ≡ Some k → Goes before.stage k.stage → Behind Goes old new
-goes-behind Goes old new h before k e f g goes = rw (e, g) (behind (subst (λ (x : Held). Goes x.stage k.stage) f goes))
+pub goes-behind : (Goes : Stage → Stage → Type 0) (old new : Option Held) (h before k : Held)
+    → old ≡ Some h → before ≡ h → new ≡ Some k
+    → Goes before.stage k.stage → k.decoder ≡ before.decoder → k.painter ≡ before.painter → Behind Goes old new
+goes-behind Goes old new h before k e f g goes d p =
+    rw (e, g) (behind (subst (λ (x : Held). Goes x.stage k.stage) f goes) (d ∙ ap (λ (x : Held). x.decoder) f) (p ∙ ap (λ (x : Held). x.painter) f))
 
-pub hands-in : (event : Event) (given : Option Event) (old new : Option Held) → given ≡ Some event → Behind (Presses event) old new → HandsIn given old new
+pub goes-listening : (Goes : Decoder → Decoder → Stage → Stage → Type 0) (old new : Option Held) (h before k : Held)
+    → old ≡ Some h → before ≡ h → new ≡ Some k
+    → Goes before.decoder k.decoder before.stage k.stage → k.painter ≡ before.painter → Listens Goes old new
+goes-listening Goes old new h before k e f g goes p =
+    rw (e, g) (listens (subst (λ (x : Held). Goes x.decoder k.decoder x.stage k.stage) f goes) (p ∙ ap (λ (x : Held). x.painter) f))
+
+pub hands-in : (event : Event) (given : Option Event) (old new : Option Held)
+    → given ≡ Some event → Behind (Presses event) old new → HandsIn given old new
 hands-in event given old new e goes = rw e goes
 
-pub opens-at : (Stands : Stage → Type 0) (new : Option Held) (h : Held) → new ≡ Some h → Stands h.stage → IsOpenAt Stands new
-opens-at Stands new h e s = rw e (open_at s)
+pub opens-at : (Is : Held → Type 0) (new : Option Held) (h : Held) → new ≡ Some h → Is h → IsOpenAt Is new
+opens-at Is new h e s = rw e (open_at s)

@@ -1,4 +1,4 @@
--- What a call tells of where a session stands.
+-- Return codes, and the text of each call.
 use Rattle.std.proofs.Common.{◌≡◌, ℕ, min, List, [], ◌++◌, ◌<◌, ◌≤◌, length, take, drop, Bool, true, false, ◌&&◌, IsTrue, if◌then◌else◌, Option, Some, None, option_and_then, IsUtf8, refl, sym, ap, ◌∙◌, subst, arith}
 use Rattle.std.specs.Str.{is_utf8}
 use Rattle.std.proofs.lemmas.Str.{IsUtf8-from_is_utf8, is_utf8-from_IsUtf8}
@@ -11,7 +11,10 @@ use Rattle.scm_json.specs.Form.{state_of}
 use Rattle.scm_script.specs.Words.{event_of_word}
 use Rattle.scm_c.specs.declared.held.Held.{Held}
 use Rattle.scm_c.specs.declared.held.Stage.{Stage}
-use Rattle.scm_c.specs.Told.{IsCode, IsRead, IsText, Writes, code_of_call, code_of_form, code_of_json, code_of_message, code_of_press, code_where, done_code, event_of_bytes, is_message, over}
+use Rattle.scm_c.specs.declared.held.Stage.TheVariants.{Waiting, Editing, Accepted, Ended}
+use Rattle.scm_record.specs.Live.{Live}
+use Rattle.scm_c.specs.Stages.{waits}
+use Rattle.scm_c.specs.Told.{IsCode, IsRead, IsText, Writes, code_of_call, code_of_form, code_of_json, code_of_message, code_of_press, code_where, done_code, event_of_bytes, is_message, over, waits_behind}
 
 -- the event of a word
 
@@ -39,6 +42,31 @@ press_code event word old e = ap (λ (o : Option Event). code_of_press o old) (s
 
 pub known_as : (needs_memory : Bool) (code answer : ℕ) → code ≡ answer → IsCode needs_memory code answer
 known_as needs_memory code answer e = rw e IsCode.known
+
+-- a session that waits goes on on another screen, or memory was refused
+pub resize_code : (is_due is_done : Bool) (answer : ℕ) → is_due ≡ true → answer ≡ (if is_done then 0 else 8) → IsCode is_due (done_code is_due) answer
+resize_code is_due true answer e f = rw (e, f) IsCode.known
+resize_code is_due false answer e f = rw (e, f) (IsCode.no_memory refl)
+
+pub waits_not : (s : Stage) → ((l : Live) → s ≡ Waiting l → ⊥) → waits s ≡ false
+waits_not (Waiting l) n = absurd (n l refl)
+waits_not (Editing a) n = refl
+waits_not (Accepted state) n = refl
+waits_not (Ended error) n = refl
+
+pub not_due_code : (is_due : Bool) → is_due ≡ false → IsCode is_due (done_code is_due) 2
+not_due_code is_due e = rw e IsCode.known
+
+pub is_resized : (is_done : Bool) (answer : ℕ) → answer ≡ (if is_done then 0 else 8) → answer ≡ 0 → IsTrue is_done
+is_resized true answer e f = refl
+is_resized false answer e f = cc
+
+pub resized_code : (old : Option Held) (h before : Held) (answer : ℕ) → old ≡ Some h → before ≡ h
+    → IsCode (waits before.stage) (done_code (waits before.stage)) answer → IsCode (waits_behind old) (code_of_call old) answer
+resized_code old h before answer e f code = rw e (subst (λ (x : Held). IsCode (waits x.stage) (done_code (waits x.stage)) answer) f code)
+
+pub closed_code : (old : Option Held) (answer : ℕ) → old ≡ None → answer ≡ 1 → IsCode (waits_behind old) (code_of_call old) answer
+closed_code old answer e f = rw (e, f) IsCode.known
 
 -- messages
 

@@ -2,7 +2,11 @@
 pub mod Ownership
 -- what a box holds
 pub mod Behind
--- where a session stands, and what a call makes of that: begin here
+-- what a session waits for, and what a call makes of that: begin here
 pub mod Stages
--- what a call tells of where a session stands
+-- return codes, and the text of each call
 pub mod Told
+-- the owner of a place: its code and its key
+pub mod Owners
+-- what a call paints
+pub mod Paint

@@ -1,4 +1,4 @@
-//! The numbers that a call returns to a C program.
+//! The codes that calls return to a C program.
 ghost use Rattle.std.specs.Prelude.{◌≡◌};
 ghost use Rattle.scm_c.specs.Told.{words_of_code};
 
@@ -18,10 +18,10 @@ pub const BAD_STATE: u32 = 5;
 pub const NOT_ACCEPTED: u32 = 6;
 /// The message has more than 1,000,000 bytes.
 pub const TOO_LONG: u32 = 7;
-/// Memory was refused.
+/// An allocation failed.
 pub const NO_MEMORY: u32 = 8;
 
-/// A session waits for an event.
+/// The session waits for an event.
 pub const WAITING: u32 = 0;
 /// It waits for a message.
 pub const EDITING: u32 = 1;
@@ -29,12 +29,12 @@ pub const EDITING: u32 = 1;
 pub const ACCEPTED: u32 = 2;
 /// It ended with an error.
 pub const ENDED: u32 = 3;
-/// There is none.
+/// It is closed.
 pub const NONE: u32 = 4;
 
-/// A place is nobody's.
+/// No click acts on the place.
 pub const NOBODY: u32 = 0;
-/// The bar of menus.
+/// The menu bar, or the title of a menu.
 pub const MENU: u32 = 1;
 /// An item of the open menu.
 pub const MENU_ITEM: u32 = 2;
@@ -42,16 +42,28 @@ pub const MENU_ITEM: u32 = 2;
 pub const BUTTON: u32 = 3;
 /// The header of a file.
 pub const FILE: u32 = 4;
-/// A file, a section or a line.
-pub const ITEM: u32 = 5;
-/// The box of a mark.
+/// The header of a section of changed lines.
+pub const SECTION: u32 = 5;
+/// A checkbox.
 pub const MARK: u32 = 6;
 /// The box of a fold.
 pub const FOLD: u32 = 7;
 /// A dialog.
 pub const DIALOG: u32 = 8;
+/// An added line.
+pub const ADDED: u32 = 9;
+/// A removed line.
+pub const REMOVED: u32 = 10;
+/// A section of context lines.
+pub const CONTEXT: u32 = 11;
+/// A section that changes the file's mode.
+pub const MODE: u32 = 12;
+/// A section that changes a file's bytes.
+pub const BINARY: u32 = 13;
+/// The columns of a file that lie left of its sections.
+pub const FILE_EDGE: u32 = 14;
 
-/// What the code of a call says: nothing of a number that no call returns.
+/// Returns the sentence of `code`, or the empty text for a number that no call returns.
 pub(crate) fn words(code: u32) -> &'static str
     ensures { result.now ≡ words_of_code code }
 {
