@@ -1,0 +1,86 @@
+"""The text of a file as the lines of a state, and back."""
+import re
+
+NO_LINE_END = "\\ No newline at end of file\n"
+LONGEST_LINE = 1_000_000
+PLACE = re.compile(rb"^(?:diff --git a/(\d+) |@@ -(\d+)(?:,(\d+))? \+(\d+)(?:,(\d+))? @@)", re.M)
+# what the user has set may change how lines are compared, but not how the differences are written
+PLAIN = (
+    "--unified=0", "--inter-hunk-context=0", "--text", "--no-ext-diff", "--no-textconv", "--no-renames", "--no-color",
+    "--src-prefix=a/", "--dst-prefix=b/",
+)
+
+
+def text_of(data):
+    """Returns the text of a file, or None if it is no text or has a line that is too long to be shown."""
+    if b"\0" in data or any(len(line) >= LONGEST_LINE for line in data.split(b"\n")):
+        return None
+    try:
+        return data.decode()
+    except UnicodeDecodeError:
+        return None
+
+
+def lines_in(text):
+    """Returns the lines of `text` with their line ends. Only the last one may have none."""
+    return re.findall("[^\n]*\n|[^\n]+", text)
+
+
+def marker_for(old, new):
+    """Returns the line that says that a text has no last line end: as git writes it, but no line of `old` or `new`."""
+    # the last line counts as if it had a line end, since it is shown with one
+    taken = {*lines_in(old + "\n"), *lines_in(new + "\n")}
+    marker = NO_LINE_END
+    while marker in taken:
+        marker = "\\" + marker
+    return marker
+
+
+def lines_of(text, marker):
+    """Returns the lines, each with a line end. If the last one has none, `marker` follows it."""
+    return lines_in(text) if text.endswith("\n") or not text else [*lines_in(text + "\n"), marker]
+
+
+def joined(text, marker):
+    """Returns the text that these lines stand for, with `marker` among them or not."""
+    lines = lines_in(text)
+    without = "".join(line for line in lines if line != marker)
+    return without.removesuffix("\n") if lines[-1:] == [marker] else without
+
+
+def changed(old, new):
+    removed = [{"is_checked": False, "change_type": "Removed", "line": line} for line in old]
+    added = [{"is_checked": False, "change_type": "Added", "line": line} for line in new]
+    return {"Changed": {"lines": removed + added}}
+
+
+def hunks_of(scratch, pairs, folder):
+    """For each pair of old and new lines, returns where they differ, as git finds it: the first line and the one past the
+    last, of both sides, counted from 0."""
+    hunks = [[] if old and new else [(0, len(old), 0, len(new))] for old, new in pairs]
+    compared = [number for number, (old, new) in enumerate(pairs) if old and new]
+    if not compared:
+        return hunks
+    names = scratch.store(["".join(side).encode() for number in compared for side in pairs[number]], folder)
+    trees = scratch.tree(names[0::2]), scratch.tree(names[1::2])
+    for place in PLACE.finditer(scratch.git("diff", *PLAIN, *trees, "--")):
+        if place[1]:
+            current = hunks[compared[int(place[1])]]
+            continue
+        start, count, new_start, new_count = (1 if number is None else int(number) for number in place.groups()[1:])
+        first = start - 1 if count else start
+        new_first = new_start - 1 if new_count else new_start
+        current.append((first, first + count, new_first, new_first + new_count))
+    return hunks
+
+
+def line_sections(old, new, hunks):
+    sections, done = [], 0
+    for first, end, new_first, new_end in hunks:
+        if done < first:
+            sections.append({"Unchanged": {"lines": old[done:first]}})
+        sections.append(changed(old[first:end], new[new_first:new_end]))
+        done = end
+    if done < len(old):
+        sections.append({"Unchanged": {"lines": old[done:]}})
+    return sections

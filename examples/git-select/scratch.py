@@ -1,0 +1,67 @@
+"""Where git finds out what it would store, before anything of the repository is written."""
+import os
+import shutil
+
+from repository import Git, Side, Stop, reason_in, split_by_zeros
+
+
+class Scratch(Git):
+    """A copy of a repository's index, with a store of objects of its own, in `folder`. Objects of the repository can be
+    read, and the repository is not written to."""
+
+    # an index in two parts would leave one of them beside the repository's index
+    options = "-c", "core.splitIndex=false"
+
+    def __init__(self, repository, folder):
+        index, objects = os.path.join(folder, "index"), os.path.join(folder, "objects")
+        os.makedirs(objects)
+        if os.path.exists(repository.index):
+            # the copy keeps the file's time: git looks again at files that were written just when the index was
+            shutil.copy2(repository.index, index)
+        others = '"%s"' % repository.objects.replace("\\", "\\\\").replace('"', '\\"')
+        more = repository.environment.get("GIT_ALTERNATE_OBJECT_DIRECTORIES")
+        super().__init__(repository.top, {
+            **repository.environment, "GIT_INDEX_FILE": index, "GIT_OBJECT_DIRECTORY": objects,
+            "GIT_ALTERNATE_OBJECT_DIRECTORIES": others + os.pathsep + more if more else others,
+        })
+
+    def add(self, paths):
+        """Adds files to the index as `git add` does. Returns, by path, what git said of those that it cannot add."""
+        if not paths:
+            return {}
+        given = b"".join(os.fsencode(path) + b"\0" for path in paths)
+        status, _, said = self.run("update-index", "-z", "--add", "--replace", "--stdin", given=given)
+        if status == 0:
+            return {}
+        if len(paths) == 1:
+            return {paths[0]: reason_in(said)}
+        half = len(paths) // 2
+        return {**self.add(paths[:half]), **self.add(paths[half:])}
+
+    def sides(self):
+        """Returns the sides in this index, by path."""
+        found = {}
+        for line in split_by_zeros(self.git("ls-files", "-z", "--stage")):
+            head, path = line.split("\t", 1)
+            found[path] = Side(*head.split()[:2])
+        return found
+
+    def contents(self, names):
+        """Returns the bytes of objects, by name."""
+        names = sorted(set(names))
+        output = self.git("cat-file", "--batch", "--buffer", given="".join(name + "\n" for name in names).encode())
+        found, place = {}, 0
+        for name in names:
+            end = output.index(b"\n", place)
+            size = output[place:end].split()[-1]
+            if not size.isdigit():
+                raise Stop("git has no object %s" % name)
+            place = end + 1 + int(size)
+            found[name] = output[end + 1 : place]
+            place += 1
+        return found
+
+    def tree(self, names):
+        """Stores a folder whose files are these objects, called 0, 1 and so on. Returns its name."""
+        lines = ["100644 blob %s\t%d\n" % (name, number) for number, name in enumerate(names)]
+        return self.git("mktree", given="".join(lines).encode()).decode().strip()
