@@ -384,6 +384,34 @@ fn symbols_with_their_columns(rt: HostRuntime) -> Result<(), RecordError> {
     Ok(())
 }
 
+/// Puts a text on the first row of a cleared grid, and returns the columns of the whole text.
+fn measured(
+    rt: &impl Abort,
+    grid: &mut Grid,
+    column: isize,
+    text: &str,
+) -> Result<usize, RecordError> {
+    grid.clear();
+    assert!(rt; 0 < grid.height());
+    grid.put_measured(0, column, text, 0, grid.width())
+}
+
+#[test]
+fn a_put_measures_its_whole_text(rt: HostRuntime) -> Result<(), RecordError> {
+    let mut grid = Grid::new(rt.alloc(), 4, 1)?;
+    for (column, text, columns, view) in [
+        (0, "", 0, "\"    \"\n"),
+        (1, "ab", 2, "\" ab \"\n"),
+        (2, "abcd", 4, "\"  ab\"\n"),
+        (-1, "日本語", 6, "\" 本 \"\n"),
+        (9, "e\u{301}日", 3, "\"    \"\n"),
+    ] {
+        assert_eq!(rt; measured(&rt, &mut grid, column, text)?, columns, "{text}");
+        check_view(&rt, &grid, view)?;
+    }
+    Ok(())
+}
+
 #[test]
 fn grids_without_columns_show_nothing(rt: HostRuntime) -> Result<(), RecordError> {
     let narrow = Grid::new(rt.alloc(), 0, 3)?;

@@ -2,6 +2,8 @@
 #![tactic(auto)]
 
 #[cfg(test)]
+mod event_tests;
+#[cfg(test)]
 mod hint_tests;
 #[cfg(test)]
 mod key_tests;

@@ -1450,6 +1450,15 @@ size 24 4 | «SAID "m" null» | script | answer "new" | batch shot e shot | batc
 | "    [●] -
 | accepted…
 
+# The picture of each control character.
+60 4 «OF1 {"Changed":{"lines":[{"is_checked":false,"change_type":"Added","line":"\u0000\u0001\u0002\u0003\u0004\u0005\u0006\u0007\u0008\u0009\u000a\u000b\u000c\u000d\u000e\u000f\u0010\u0011\u0012\u0013\u0014\u0015\u0016\u0017\u0018\u0019\u001a\u001b\u001c\u001d\u001e\u001f\u007f\n"}]}}» l shot c => 0
+| screen 0
+| "[File] [Edit] [Select] [View]
+| "[ ] f                                                    [-]
+| "  ( ) Section 1/1                                        (-)
+| "    [ ] + ␀␁␂␃␄␅␆␇␈→   ⏎␋␌␍␎␏␐␑␒␓␔␕␖␗␘␙␚␛␜␝␞␟␡⏎
+| accepted…
+
 # Without files.
 «NOTHING» shot c => 0
 | screen 0
@@ -1784,6 +1793,40 @@ size 9 4 | «SAID "m" null» | script | answer "n" | batch shot | batch click:2:
 | "[File] [Edit] [Select] [
 | "( ) f                (+)
 | "[ ] g                [+]
+| accepted…
+
+# Each item of each menu, whole.
+80 10 «PLAIN» click:0:1 shot click:0:8 shot click:0:15 shot click:0:24 shot c => 0
+| screen 0
+| "[File] [Edit] [Select] [View]
+| "[Confirm (c)]                                                                (+)
+| "[Quit (q)]
+| screen 1
+| "[File] [Edit] [Select] [View]
+| "( ) foo[Edit message (e)]                                                    (+)
+| "       [Toggle current (space)]
+| "       [Toggle current and advance (enter)]
+| "       [Invert all items (a)]
+| "       [Invert all items uniformly (A)]
+| screen 2
+| "[File] [Edit] [Select] [View]
+| "( ) foo/bar   [Previous item (up, k)]                                        (+)
+| "              [Next item (down, j)]
+| "              [Previous item of the same kind (page-up)]
+| "              [Next item of the same kind (page-down)]
+| "              [Outer item without folding (shift-left, shift-h)]
+| "              [Outer item with folding (left, h)]
+| "              [Inner item with unfolding (right, l)]
+| "              [Previous page (ctrl-u)]
+| "              [Next page (ctrl-d)]
+| screen 3
+| "[File] [Edit] [Select] [View]
+| "( ) foo/bar            [Fold/unfold current (f)]                             (+)
+| "                       [Fold/unfold all (F)]
+| "                       [Scroll up (ctrl-up, ctrl-y)]
+| "                       [Scroll down (ctrl-down, ctrl-e)]
+| "                       [Previous page (ctrl-page-up, ctrl-b)]
+| "                       [Next page (ctrl-page-down, ctrl-f)]
 | accepted…
 
 # Menus: opened and closed by their headers, closed by the bar on every row of theirs, and each item is its own label alone.
@@ -2245,6 +2288,31 @@ size 41 5 | «BAR "a" null 0» | script | answer "z" | batch view | batch click:
 | "[File] [Edit] [Select] [View]
 | "
 | "There are no change… There are no change…
+| accepted…
+
+# The second commit's message blanks its first and its third row, from the second view's column on: there the first view's words go.
+67 2 «MESSAGES null ""» view shot c => 0
+| screen 0
+| "[File] [Edit] [Select] [View]
+| "  There are no changes to view  There are no changes to view.
+| accepted…
+67 4 «MESSAGES null ""» view shot c => 0
+| screen 0
+| "[File] [Edit] [Select] [View]
+| "  There are no changes to view  There are no changes to view.
+| "                              [Edit message]  •  (no message)
+| accepted…
+241 3 «MESSAGES null ""» view shot c => 0
+| screen 0
+| "[File] [Edit] [Select] [View]
+| "                                                            There are no changes to view.
+| "                              [Edit message]  •  (no message)
+| accepted…
+61 6 «MESSAGES null ""» view shot c => 0
+| screen 0
+| "[File] [Edit] [Select] [View]
+| "
+| "There are no changes to view. There are no changes to view.…
 | accepted…
 
 # Both commits on screens of any width.

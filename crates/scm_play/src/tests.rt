@@ -124,7 +124,7 @@ fn number_of(word: Option<&str>) -> usize {
 }
 
 /// The columns and rows of a script's screen.
-fn size_of(input: &str) -> (usize, usize) {
+pub fn size_of(input: &str) -> (usize, usize) {
     let mut words = input.lines().next().unwrap_or("").split(' ').skip(1);
     let columns = number_of(words.next());
     (columns, number_of(words.next()))
@@ -183,14 +183,14 @@ fn check_output(
 
 /// A script, and what comes of it.
 #[derive(Drop)]
-struct Example {
-    input: String,
-    output: String,
-    status: u8,
+pub struct Example {
+    pub input: String,
+    pub output: String,
+    pub status: u8,
 }
 
 /// The example of a row.
-fn example_of(alloc: Global, row: &str) -> Result<Example, Fail> {
+pub fn example_of(alloc: Global, row: &str) -> Result<Example, Fail> {
     let (input, answer) = row.split_once(" => ").ok_or("a row has two halves")?;
     let (status, output) = answer.split_once(" | ").ok_or("a status and an output")?;
     let input = input_of(alloc, input)?;

@@ -10,7 +10,7 @@ use std::process::Abort;
 /// A state of two commits without messages.
 #[derive(Clone, Copy)]
 pub(crate) enum Given {
-    /// No files, and no commits yet.
+    /// No files, and no commits yet: the empty state.
     Nothing,
     /// The file `foo/bar` without sections.
     Plain,
@@ -84,22 +84,23 @@ fn files_of(alloc: Global, given: Given) -> Result<Items<File<'static>>, RecordE
     Ok(files)
 }
 
-/// The commits of a state: none where it has nothing, else two without a message.
-fn commits_of(alloc: Global, given: Given) -> Result<Items<Commit>, RecordError> {
+/// Two commits without a message.
+fn commits_of(alloc: Global) -> Result<Items<Commit>, RecordError> {
     let mut commits = Items::new(alloc);
-    if !matches!(given, Given::Nothing) {
-        commits.push(Commit::default())?;
-        commits.push(Commit::default())?;
-    }
+    commits.push(Commit::default())?;
+    commits.push(Commit::default())?;
     Ok(commits)
 }
 
 /// The state.
 pub(crate) fn state_of(alloc: Global, given: Given) -> Result<RecordState<'static>, RecordError> {
+    if matches!(given, Given::Nothing) {
+        return Ok(RecordState::empty(alloc));
+    }
     let files = files_of(alloc, given)?;
     Ok(RecordState {
         is_read_only: false,
-        commits: commits_of(alloc, given)?,
+        commits: commits_of(alloc)?,
         files,
     })
 }
@@ -169,36 +170,29 @@ fn check_accepted(rt: &impl Abort, alloc: Global, row: Row) -> Result<(), Record
     Ok(())
 }
 
-/// Checks that a run ends in an error of these words.
-fn check_refused(
-    rt: &impl Abort,
-    alloc: Global,
-    given: Given,
-    events: &[Event],
-    wanted: &str,
-) -> Result<(), RecordError> {
-    let Err(error) = outcome_of(alloc, given, events) else {
-        panic!(rt; "the run is accepted");
-    };
-    let words = format!(in alloc; "{error}")?;
-    assert_eq!(rt; words.as_str(), wanted);
-    Ok(())
+/// Checks that giving up a state without changes is the error for it.
+fn check_cancelled(rt: &impl Abort, alloc: Global) {
+    let outcome = outcome_of(alloc, Given::Nothing, &[CANCEL]);
+    assert!(rt; matches!(outcome, Err(RecordError::Cancelled)));
+}
+
+/// Checks that a run whose events end is the fault of a read.
+fn check_ended(rt: &impl Abort, alloc: Global) {
+    match outcome_of(alloc, Given::Plain, &[Event::None]) {
+        Err(RecordError::ReadInput(words)) => assert_eq!(rt; words.as_str(), "no events left"),
+        _ => panic!(rt; "the run ends in another way"),
+    }
 }
 
 #[test]
 fn small_states_are_given_up_and_accepted(rt: HostRuntime) -> Result<(), RecordError> {
     let alloc = rt.alloc();
-    check_refused(&rt, alloc, Given::Nothing, &[CANCEL], "cancelled by user")?;
+    check_cancelled(&rt, alloc);
     for row in ACCEPTED {
         check_accepted(&rt, alloc, row)?;
     }
-    check_refused(
-        &rt,
-        alloc,
-        Given::Plain,
-        &[Event::None],
-        "failed to read user input: no events left",
-    )
+    check_ended(&rt, alloc);
+    Ok(())
 }
 
 /// An input on 24 columns and 8 rows that opens a file, the menu Select, and chooses its second item.

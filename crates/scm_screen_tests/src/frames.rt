@@ -10,19 +10,19 @@ use std::process::Abort;
 ///
 /// A row of the document counts where the screen has it, from the row that lies under the menu bar on: the header of a file or of
 /// a section takes four calls (the box of the fold, a blank, the box of the mark, the title), a changed line, a mode and bytes two (the
-/// box and the text), a line of context and the dots one, an empty row none. A header that is pinned is one row more. The
+/// box and the text), a line of context, the dots and a blank row one. A header that is pinned is one row more. The
 /// menu bar takes five (a blank and four titles), an open menu two for each item.
 const INLINE: &str = "
 # A file of ten lines, and one of ten thousand, scrolled by a row.
 24 8 t lljjjjj => 9 29 of 9 112
 24 8 L lljjjjj => 9 29 of 9 112
-# No files: the words that say so stand in the middle, below the message's three rows, of which one takes three calls.
+# No files: the words that say so stand in the middle, below the message's three rows, of which the second takes three calls, the others one.
 10 2 - - => 1 6 of 3 64
 24 8 - - => 1 6 of 9 112
 300 100 - - => 1 6 of 101 848
-24 8 !- - => 4 9 of 9 112
-24 8 !- d => 4 9 of 9 112
-24 8 !- dd => 3 9 of 9 112
+24 8 !- - => 4 11 of 9 112
+24 8 !- d => 4 11 of 9 112
+24 8 !- dd => 3 10 of 9 112
 # A folded file, and each menu: two calls for each of its 2, 5, 9 or 6 items.
 80 24 . - => 1 9 of 25 240
 80 24 . A => 1 13 of 25 240
@@ -38,10 +38,10 @@ const INLINE: &str = "
 80 24 k q? => 1 14 of 25 240
 80 24 k Dq => 1 24 of 25 240
 80 24 k D? => 1 23 of 25 240
-80 24 !k Cq? => 4 35 of 25 240
+80 24 !k Cq? => 4 37 of 25 240
 10 2 k q => 1 12 of 3 64
 10 2 k ? => 1 11 of 3 64
-10 2 !k Bq? => 1 20 of 3 64
+10 2 !k Bq? => 1 21 of 3 64
 300 100 k Cq? => 1 32 of 101 848
 # Two sections with context between them, from each row on that a screen can begin with.
 24 8 x7y l => 7 19 of 9 112
@@ -63,33 +63,33 @@ const INLINE: &str = "
 80 24 x7y l => 12 28 of 25 240
 300 100 x7y ldd => 12 28 of 101 848
 # Rows of every kind, in two files under a message.
-10 2 !x7y0mb,t F => 2 9 of 3 64
+10 2 !x7y0mb,t F => 2 10 of 3 64
 10 2 !x7y0mb,t Fddddd => 3 11 of 3 64
-24 8 !x7y0mb,t Fp => 9 22 of 9 112
+24 8 !x7y0mb,t Fp => 9 23 of 9 112
 24 8 !x7y0mb,t Fpp => 9 29 of 9 112
 24 8 !x7y0mb,t Fppp => 5 17 of 9 112
-80 24 !x7y0mb,t F => 23 49 of 25 240
-80 24 !x7y0mb,t Fdddddddddddddd => 18 47 of 25 240
-300 100 !x7y0mb,t F => 30 63 of 101 848
-300 100 !x7y0mb,t FCq? => 30 86 of 101 848
+80 24 !x7y0mb,t F => 23 52 of 25 240
+80 24 !x7y0mb,t Fdddddddddddddd => 18 48 of 25 240
+300 100 !x7y0mb,t F => 30 66 of 101 848
+300 100 !x7y0mb,t FCq? => 30 89 of 101 848
 # The same, all folded.
-24 8 !x7y0mb,t FF => 3 13 of 9 112
+24 8 !x7y0mb,t FF => 3 14 of 9 112
 ";
 
 /// A row for each frame that shows both commits beside each other: what the second one shows, folded as long as nobody unfolds it,
 /// counts too. Nothing says how much such a frame may take.
 const ADJACENT: &str = "
 41 5 x v => 2 13
-41 5 !x v => 5 16
-41 5 !x lv => 5 18
+41 5 !x v => 5 18
+41 5 !x lv => 5 19
 41 5 x lvd => 5 23
 41 5 t lvddd => 6 19
-10 2 !x7y0mb,t Fv => 2 9
-41 5 !x7y0mb,t Fvpp => 6 18
-300 100 !x7y0mb,t Fv => 32 71
+10 2 !x7y0mb,t Fv => 2 10
+41 5 !x7y0mb,t Fvpp => 6 19
+300 100 !x7y0mb,t Fv => 32 74
 80 24 k Bvq? => 2 28
 24 8 - v => 2 7
-24 8 !- v => 5 10
+24 8 !- v => 5 12
 ";
 
 /// How many rows and calls the last frame takes after these events.

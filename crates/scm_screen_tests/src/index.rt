@@ -103,15 +103,16 @@ fn rows_word(alloc: Global, rows: Option<(usize, usize)>) -> Result<String, Allo
 
 /// A row for each document: its state and events in letters, and what stands on each row from row 0 on, and on the row below it.
 const PLACES: &str = "
-# Ten lines.
+# Ten lines; and the same with the sixth line selected, where the screen is scrolled by a row.
 t ll => - f0 s0.0.0 s0.0.1 s0.0.2 s0.0.3 s0.0.4 s0.0.5 s0.0.6 s0.0.7 s0.0.8 s0.0.9 s0.0.10 -
+t lljjjjj => - f0 s0.0.0 s0.0.1 s0.0.2 s0.0.3 s0.0.4 s0.0.5 s0.0.6 s0.0.7 s0.0.8 s0.0.9 s0.0.10 -
 # No files, without a message and with one.
 - - => - -
 !- - => - m0 m1 m2 -
 # Two folded files.
 !x,x - => - m0 m1 m2 f0 f1 -
 x,y FF => - f0 f1 -
-# Rows of each kind: changes, context with dots, an empty row, a mode and bytes.
+# Rows of each kind: changes, context with dots, a blank row, a mode and bytes.
 !x7y0mb,x F => - m0 m1 m2 f0 s0.0.0 s0.0.1 s0.1.0 s0.1.1 s0.1.2 s0.1.3 s0.1.4 s0.1.5 s0.1.6 s0.2.0 s0.2.1 s0.3.0 s0.4.0 s0.5.0 f1 s1.0.0 s1.0.1 -
 # Context first, last, and alone: that of a file without changes is not shown.
 7k3,3 F => - f0 s0.0.0 s0.0.1 s0.0.2 s0.0.3 s0.1.0 s0.1.1 s0.2.0 s0.2.1 s0.2.2 f1 -
@@ -123,6 +124,7 @@ k,k1 Flf => - f0 s0.0.0 f1 s1.0.0 s1.0.1 s1.1.0 -
 const SPANS: &str = "
 # Ten lines.
 t ll => f0=1+12 s0.0=2+11 l0.0.0=3+1 l0.0.1=4+1 l0.0.2=5+1 l0.0.3=6+1 l0.0.4=7+1 l0.0.5=8+1 l0.0.6=9+1 l0.0.7=10+1 l0.0.8=11+1 l0.0.9=12+1 l0.0.10=- s0.1=- f1=- none=-
+t lljjjjj => f0=1+12 s0.0=2+11 l0.0.0=3+1 l0.0.5=8+1 l0.0.9=12+1
 # Rows of each kind, below a message; what is hidden behind dots is not drawn, nor what no file has.
 !x7y0mb,x F => f0=4+15 s0.0=5+2 l0.0.0=6+1 s0.1=7+7 l0.1.0=7+1 l0.1.1=8+1 l0.1.2=9+1 l0.1.4=11+1 l0.1.5=12+1 l0.1.6=13+1 s0.2=14+2 l0.2.0=15+1 s0.3=16+1 s0.4=17+1 s0.5=18+1 f1=19+3 s1.0=20+2 l1.0.0=21+1 l0.1.3=- l0.3.0=- l0.4.0=- s1.1=-
 # Folded files.

@@ -68,7 +68,7 @@ fn a_session_is_shown_on_each_size(rt: HostRuntime) -> Result<(), RecordError> {
         width: 12,
         height: 3,
     };
-    let session = session_of(&rt, state_of(alloc, "x")?, alloc, kind, "")?;
+    let mut session = session_of(&rt, state_of(alloc, "x")?, alloc, kind, "")?;
     assert_eq!(rt; session.kind(), kind);
     assert_eq!(rt; session.state().commits.len(), 2);
     assert_eq!(rt; row_of(alloc, &session, 1)?.as_str(), "( ) f    (+)");
@@ -77,7 +77,7 @@ fn a_session_is_shown_on_each_size(rt: HostRuntime) -> Result<(), RecordError> {
         width: 14,
         height: 2,
     };
-    let session = session.resize(wide)?;
+    session.resize(wide)?;
     assert_eq!(rt; session.kind(), wide);
     assert_eq!(rt; session.grid().height(), 2);
     assert_eq!(rt; row_of(alloc, &session, 1)?.as_str(), "( ) f      (+)");

@@ -289,6 +289,16 @@ fn copies_of_files_equal_them(rt: HostRuntime) -> Result<(), RecordError> {
 }
 
 #[test]
+fn copies_of_lists_equal_them(rt: HostRuntime) -> Result<(), RecordError> {
+    let alloc = rt.alloc();
+    let mut texts: Items<Text<'static>> = Items::new(alloc);
+    assert_eq!(rt; texts.try_clone(alloc)?.len(), 0);
+    texts.extend([Text::from("a\n"), Text::from("")])?;
+    assert!(rt; texts.try_clone(alloc)? == texts);
+    Ok(())
+}
+
+#[test]
 fn copies_of_lines_equal_them(rt: HostRuntime) -> Result<(), RecordError> {
     let alloc = rt.alloc();
     let line = SectionChangedLine {
