@@ -4,7 +4,7 @@ use crate::views::{check_section, middle_section_view};
 use scm_cells::{Grid, Rect};
 use scm_render::Viewport;
 use scm_samples::context;
-use scm_types::{Commit, OwnedText, RecordError};
+use scm_types::{Commit, OwnedText, RecordError, Section};
 use scm_view::{CommitMessageView, ComponentId, SectionView, laws};
 use std::alloc::Global;
 use std::process::Abort;
@@ -93,6 +93,18 @@ fn draw_section(
     viewport.draw_component(x, y, view)
 }
 
+/// Draws a section as the middle one of a file, and returns its box.
+fn draw_middle_section(
+    rt: &impl Abort,
+    viewport: &mut Viewport<ComponentId>,
+    x: isize,
+    y: isize,
+    section: &Section<'_>,
+) -> Result<Rect, RecordError> {
+    let view = middle_section_view(section);
+    draw_section(rt, viewport, x, y, &view)
+}
+
 /// Checks what a section of context without lines makes of the letters.
 fn check_section_of_no_lines(
     rt: &impl Abort,
@@ -103,10 +115,9 @@ fn check_section_of_no_lines(
 ) -> Result<(), RecordError> {
     let (left, width, x, y) = place;
     let section = context(alloc, &[])?;
-    let view = middle_section_view(&section);
     let grid = grid_of_letters(rt, alloc)?;
     let mut viewport = viewport_on(rt, alloc, grid, left, width);
-    let _ = draw_section(rt, &mut viewport, x, y, &view)?;
+    let _ = draw_middle_section(rt, &mut viewport, x, y, &section)?;
     check_drawing(rt, alloc, viewport, rows, counts)
 }
 
@@ -149,10 +160,9 @@ fn check_columns(
 ) -> Result<(), RecordError> {
     let (left, width, x, y) = place;
     let section = context(alloc, &["a\n"])?;
-    let view = middle_section_view(&section);
     let grid = grid_of_letters(rt, alloc)?;
     let mut viewport = viewport_on(rt, alloc, grid, left, width);
-    let rect = draw_section(rt, &mut viewport, x, y, &view)?;
+    let rect = draw_middle_section(rt, &mut viewport, x, y, &section)?;
     assert_eq!(rt; (rect.x, rect.width), columns);
     assert_eq!(rt; (rect.y, rect.height), (y, 1));
     Ok(())
