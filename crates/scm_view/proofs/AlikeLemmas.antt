@@ -3,14 +3,15 @@ use Rattle.std.proofs.Common.{◌≡◌, ℕ, ◌≤◌, ℤ, List, [], ◌∷�
 use Rattle.std.specs.Prelude.{pos, Bool, true, false}
 use Rattle.scm_render.specs.Canvas.{Sight}
 use Rattle.scm_render.specs.Picture.{followed_by, part}
-use Rattle.scm_view.specs.declared.ids.ComponentId.TheVariants as ids
-use Rattle.scm_view.specs.declared.commit_view.CommitView.{CommitView}
-use Rattle.scm_view.specs.declared.commit_view.CommitViewMode.{CommitViewMode}
-use Rattle.scm_view.specs.declared.commit_view.CommitViewMode.TheVariants.{Inline, Adjacent}
-use Rattle.scm_view.specs.Rows.{document_of}
-use Rattle.scm_view.specs.Pictures.{commit_picture}
-use Rattle.scm_view.specs.Shown.{Shown, commit_view_of}
-use Rattle.scm_view.specs.AppView.{views_shown, view_width, view_picture, next_view, views_picture, has_help, help_where, app_view_of, app_picture, ShowInOrder, ShowsSession, AppsAreDrawnAlike}
+use Rattle.scm_widgets.specs.declared.ids.ComponentId.TheVariants as ids
+use Rattle.scm_document.specs.declared.commit_view.CommitView.{CommitView}
+use Rattle.scm_document.specs.declared.commit_view.CommitViewMode.{CommitViewMode}
+use Rattle.scm_document.specs.declared.commit_view.CommitViewMode.TheVariants.{Inline, Adjacent}
+use Rattle.scm_document.specs.Rows.{document_of}
+use Rattle.scm_document.specs.Pictures.{commit_picture}
+use Rattle.scm_view.specs.ViewState.{ViewState, commit_view_of}
+use Rattle.scm_document.specs.ViewColumns.{view_count, view_width, view_picture, next_view}
+use Rattle.scm_view.specs.AppView.{views_picture, has_help, help_dialog_if_open, app_view_of, app_picture, ShowInOrder, ShowsSession, AppsAreDrawnAlike}
 
 -- views of the same documents, one for one
 abbrev AreAlike : List CommitView → List CommitView → Type 0
@@ -33,15 +34,15 @@ views-alike (v ∷ vs) (u ∷ us) n s x e =
     rw same (ap (λ p. followed_by (part ids.AppFiles (view_picture u s x n)) p) (views-alike vs us n s (next_view u s x n) e.1))
 
 -- the views that are drawn show the commits in order
-first-alike : (mode : CommitViewMode) (vs : List CommitView) (shown : Shown) → ShowInOrder vs shown 0 → views_shown mode ≤ length vs
-    → AreAlike (take (views_shown mode) vs) (take (views_shown mode) (commit_view_of shown 0 ∷ (commit_view_of shown 1 ∷ [])))
+first-alike : (mode : CommitViewMode) (vs : List CommitView) (shown : ViewState) → ShowInOrder vs shown 0 → view_count mode ≤ length vs
+    → AreAlike (take (view_count mode) vs) (take (view_count mode) (commit_view_of shown 0 ∷ (commit_view_of shown 1 ∷ [])))
 first-alike Inline [] shown h n = absurd (omega (arith, n))
 first-alike Inline (v ∷ vs) shown h n = (h.0, tt)
 first-alike Adjacent [] shown h n = absurd (omega (arith, n))
 first-alike Adjacent (v ∷ []) shown h n = absurd (omega (arith, n))
 first-alike Adjacent (v ∷ (u ∷ vs)) shown h n = (h.0, (h.1.0, tt))
 
-pub help-where : (b : Bool) → has_help (help_where b) ≡ b
+pub help-where : (b : Bool) → has_help (help_dialog_if_open b) ≡ b
 help-where true = refl
 help-where false = refl
 
@@ -54,12 +55,12 @@ app-alike shown a s x y shows =
       shows.quit_dialog,
       shows.help_dialog,
       help-where shown.is_help_open,
-      views-alike (take (views_shown shown.view_mode) a.commit_views) (take (views_shown shown.view_mode) (commit_view_of shown 0 ∷ (commit_view_of shown 1 ∷ []))) (view_width shown.view_mode s.rect.width) s x
+      views-alike (take (view_count shown.view_mode) a.commit_views) (take (view_count shown.view_mode) (commit_view_of shown 0 ∷ (commit_view_of shown 1 ∷ []))) (view_width shown.view_mode s.rect.width) s x
           (first-alike shown.view_mode a.commit_views shown shows.views shows.count),
     ) refl
 
 -- the view that the definition makes of a session shows it
-pub view-shows : (shown : Shown) → ShowsSession (app_view_of shown) shown
+pub view-shows : (shown : ViewState) → ShowsSession (app_view_of shown) shown
 view-shows shown = record {
   menu_bar = refl;
   view_mode = refl;
@@ -69,6 +70,6 @@ view-shows shown = record {
   help_dialog = help-where shown.is_help_open;
 }
   where
-    most : (mode : CommitViewMode) → views_shown mode ≤ 2
+    most : (mode : CommitViewMode) → view_count mode ≤ 2
     most Inline = omega arith
     most Adjacent = omega arith

@@ -4,14 +4,15 @@ use Rattle.std.specs.Prelude.{if◌then◌else◌, Option}
 use Rattle.std.specs.List.Sorted.{IsNonDecreasingBy, IsPartitionPoint}
 use Rattle.std.proofs.lemmas.Bool.Decides.{nat_tests}
 use Rattle.std.proofs.lemmas.List.{length-append, take_at}
-use Rattle.scm_view.specs.Rows.{ShownSection, ShownFile, Document, sections_rows, file_rows, message_height}
-use Rattle.scm_view.specs.FilesRows.{files_rows}
+use Rattle.scm_document.specs.Rows.{ShownSection, ShownFile, Document, sections_rows, file_rows, message_height}
+use Rattle.scm_document.specs.FilesRows.{files_rows}
 use Rattle.scm_view.specs.declared.document_part.DocumentPart.{DocumentPart}
-use Rattle.scm_view.specs.DocumentParts.{files_to, rows_left_out, header_kept, part_of, part_offset, end_of_document, CoversScreen, window_of_document}
+use Rattle.scm_document.specs.DocumentParts.{files_to, rows_left_out, header_kept}
+use Rattle.scm_view.specs.DocumentParts.{part_of, part_offset, end_of_document, CoversScreen, window_of_document}
 use Rattle.scm_view.specs.declared.document_part.Anchor.{Anchor}
 use Rattle.scm_view.specs.Anchors.{section_anchors, file_anchors, anchors, last_to, part_between, visible_part, visible_part_offset, last_in, SearchesShowWindows}
 use Rattle.scm_view.proofs.DocumentPartLemmas.{parts-show}
-use Rattle.scm_view.proofs.LeftOutLemmas.{none-out}
+use Rattle.scm_document.proofs.LeftOutLemmas.{none-out}
 
 abbrev document : ℕ → Option (List ℕ) → List ShownFile → Document
 document commit message fs = record { commit = commit; message = message; files = fs }

@@ -10,18 +10,19 @@ use Rattle.scm_cells.specs.declared.mask.Mask.{Mask}
 use Rattle.scm_cells.proofs.RectLemmas.{places}
 use Rattle.scm_render.specs.Picture.{PictureInRange, nothing, followed_by, part, box_rect}
 use Rattle.scm_render.specs.Canvas.{Sight}
-use Rattle.scm_render.specs.Centring.{centred}
+use Rattle.scm_render.specs.Centring.{centred_rect}
 use Rattle.scm_render.specs.Drawing.{blank_picture}
 use Rattle.scm_render.proofs.PictureLemmas.{PictureInRange-left, PictureInRange-right}
 use Rattle.scm_render.proofs.StepLemmas.{text-place}
-use Rattle.scm_view.specs.declared.ids.ComponentId.TheVariants as ids
-use Rattle.scm_view.specs.declared.commit_view.CommitView.{CommitView}
-use Rattle.scm_view.specs.declared.menu_bar.MenuBar.{MenuBar}
-use Rattle.scm_view.specs.Rows.{ShownFile, document_of}
-use Rattle.scm_view.specs.Pictures.{no_files_picture, files_picture, body_picture, document_picture, commit_picture}
-use Rattle.scm_view.specs.Menus.{menu_bar_picture}
-use Rattle.scm_view.specs.AppView.{held, view_mask, view_picture, next_view, views_picture}
-use Rattle.scm_view.proofs.FilesLemmas.{one_file-fits}
+use Rattle.scm_widgets.specs.declared.ids.ComponentId.TheVariants as ids
+use Rattle.scm_document.specs.declared.commit_view.CommitView.{CommitView}
+use Rattle.scm_overlay.specs.declared.menu_bar.MenuBar.{MenuBar}
+use Rattle.scm_document.specs.Rows.{ShownFile, document_of}
+use Rattle.scm_document.specs.Pictures.{no_files_picture, files_picture, body_picture, document_picture, commit_picture}
+use Rattle.scm_overlay.specs.Menus.{menu_bar_picture}
+use Rattle.scm_document.specs.ViewColumns.{nearest_column, view_mask, view_picture, next_view}
+use Rattle.scm_view.specs.AppView.{views_picture}
+use Rattle.scm_document.proofs.FilesLemmas.{one_file-fits}
 
 -- ---- views beside each other
 
@@ -37,7 +38,7 @@ views_picture-end vs i n s x h = rw (drop_all i vs h) refl
 
 -- ---- the mask
 
-pub held-in : (r : Rect) (x : ℤ) → RectInRange r → InRange (held r x)
+pub held-in : (r : Rect) (x : ℤ) → RectInRange r → InRange (nearest_column r x)
 held-in r x h = record { low = omega (arith, places, h.x.low, h.end_x.low); high = omega (arith, places, h.end_x.high) }
 
 mask-end : (left e : ℤ) (n : ℕ) → InRange left → InRange e → InRange (left +ℤ pos (min n (or_zero (e -ℤ left))))
@@ -46,7 +47,7 @@ mask-end left e n p q = record { low = omega (arith, places, p.low); high = omeg
 pub mask-in : (s : Sight) (x : ℤ) (n : ℕ) → RectInRange s.rect → InRange (s.rect.y +ℤ pos 1) → MaskInRange (view_mask s x n)
 mask-in s x n h below = record {
   x = held-in s.rect x h;
-  end_x = mask-end (held s.rect x) (end_x_of s.rect) _ (held-in s.rect x h) h.end_x;
+  end_x = mask-end (nearest_column s.rect x) (end_x_of s.rect) _ (held-in s.rect x h) h.end_x;
   y = below;
   end_y = tt;
 }
@@ -57,7 +58,7 @@ before_gap : (x : ℤ) (g : ℕ) → InRange (x +ℤ (pos 0 +ℤ pos g)) → x <
 before_gap x g r = omega (arith, places, r.high)
 
 no_files-column : (s : Sight) (x y : ℤ) → PictureInRange (no_files_picture s x y) → x <ℤ pos (2 ^ 62)
-unfolding no_files_picture centred
+unfolding no_files_picture centred_rect
 no_files-column s x y r = before_gap x _ (text-place _ _ _ _ r).0
 
 files-column : (fs : List ShownFile) (s : Sight) (x y : ℤ) → (length fs == 0) ≡ false → PictureInRange (files_picture fs s x y) → x <ℤ pos (2 ^ 62)

@@ -15,57 +15,63 @@ use Rattle.scm_render.specs.Canvas.{Sight, under}
 use Rattle.scm_render.specs.Picture.{PictureInRange, box_rect}
 use Rattle.scm_render.specs.Drawing.{span_picture}
 use Rattle.scm_render.proofs.PictureLemmas.{PictureInRange-nothing, PictureInRange-followed, PictureInRange-as_part}
-use Rattle.scm_view.specs.declared.ids.ComponentId.{ComponentId}
-use Rattle.scm_view.specs.declared.ids.ComponentId.TheVariants as ids
-use Rattle.scm_view.specs.declared.button.Button.{Button}
-use Rattle.scm_view.specs.declared.menu.MenuItem.{MenuItem}
-use Rattle.scm_view.specs.declared.menu.Menu.{Menu}
-use Rattle.scm_view.specs.declared.menu_bar.MenuBar.{MenuBar}
-use Rattle.scm_view.specs.declared.quit_dialog.QuitDialog.{QuitDialog}
-use Rattle.scm_view.specs.declared.file_view_header.FileViewHeader.{FileViewHeader}
-use Rattle.scm_view.specs.declared.section_line_view.SectionLineViewInner.{SectionLineViewInner}
-use Rattle.scm_view.specs.declared.section_line_view.SectionLineViewInner.TheVariants as inner
-use Rattle.scm_view.specs.declared.section_view.SectionView.{SectionView}
-use Rattle.scm_view.specs.declared.file_view.FileView.{FileView}
-use Rattle.scm_view.specs.declared.commit_view.CommitView.{CommitView}
-use Rattle.scm_view.specs.declared.commit_view.CommitViewMode.{CommitViewMode}
-use Rattle.scm_view.specs.declared.commit_view.CommitViewMode.TheVariants.{Inline, Adjacent}
+use Rattle.scm_widgets.specs.declared.ids.ComponentId.{ComponentId}
+use Rattle.scm_widgets.specs.declared.ids.ComponentId.TheVariants as ids
+use Rattle.scm_widgets.specs.declared.button.Button.{Button}
+use Rattle.scm_overlay.specs.declared.menu.MenuItem.{MenuItem}
+use Rattle.scm_overlay.specs.declared.menu.Menu.{Menu}
+use Rattle.scm_overlay.specs.declared.menu_bar.MenuBar.{MenuBar}
+use Rattle.scm_overlay.specs.declared.quit_dialog.QuitDialog.{QuitDialog}
+use Rattle.scm_document.specs.declared.file_view_header.FileViewHeader.{FileViewHeader}
+use Rattle.scm_document.specs.declared.section_line_view.SectionLineViewInner.{SectionLineViewInner}
+use Rattle.scm_document.specs.declared.section_line_view.SectionLineViewInner.TheVariants as inner
+use Rattle.scm_document.specs.declared.section_view.SectionView.{SectionView}
+use Rattle.scm_document.specs.declared.file_view.FileView.{FileView}
+use Rattle.scm_document.specs.declared.commit_view.CommitView.{CommitView}
+use Rattle.scm_document.specs.declared.commit_view.CommitViewMode.{CommitViewMode}
+use Rattle.scm_document.specs.declared.commit_view.CommitViewMode.TheVariants.{Inline, Adjacent}
 use Rattle.scm_view.specs.declared.app_view.AppView.{AppView}
-use Rattle.scm_view.specs.Overlays.{quit_picture, help_picture}
-use Rattle.scm_view.specs.AppView.{views_shown, view_width, shown_views, view_mask, view_picture, next_view, views_picture, has_help, app_picture}
+use Rattle.scm_overlay.specs.Overlays.{quit_picture, help_picture}
+use Rattle.scm_document.specs.ViewColumns.{view_count, view_width, view_mask, view_picture, next_view}
+use Rattle.scm_view.specs.AppView.{shown_views, views_picture, has_help, app_picture}
 use Rattle.scm_view.proofs.AppLemmas.{apply-columns}
-use Rattle.scm_view.specs.Texts.{box_text, button_text, number_text, sign_text}
-use Rattle.scm_view.specs.Rows.{IdBox, line_texts, lent_text, header_heading, rows_of, section_rows, is_shown, is_open, is_first_open, is_fold_open, shown_section, shown_sections, sections_rows, shown_file, file_rows, document_of}
-use Rattle.scm_view.specs.FilesRows.{files_rows}
-use Rattle.scm_view.specs.Pictures.{box_picture, button_picture, header_picture, inner_picture, line_picture, section_picture, file_picture, message_picture, commit_message_picture, commit_picture}
-use Rattle.scm_view.specs.Buttons.{button_width}
-use Rattle.scm_view.specs.Menus.{header_button, item_button, header_step, headers_width, widest_item, opened, menu_picture, menu_bar_picture}
-use Rattle.scm_view.specs.Dialogs.{shown_dialog}
-use Rattle.scm_view.specs.Tables.{quit_dialog, help_dialog, named_dialog_picture}
-use Rattle.scm_view.specs.Here.{IsHere, RectIsHere, SightIsHere}
-use Rattle.scm_view.specs.ComponentRanges.{text_of_line, IsShortSection, IsShortFile, AreShortFiles, IsShortCommit, AreShortCommits, IsShortApp, AppIsHere, is_short_item, is_short_menu, is_short_bar, is_short_button, are_short_buttons, ComponentsAreInRange}
-use Rattle.scm_view.proofs.Near.{IsNear, SightIsNear, AreNarrowSections, IsNarrowFile, AreNarrowFiles}
-use Rattle.scm_view.proofs.Ranges.{button_columns}
-use Rattle.scm_view.proofs.NearLemmas.{heading-in, changed-in, context-in, rows-near, file-near, message-near, document-near}
+use Rattle.scm_widgets.specs.Texts.{box_text, button_text}
+use Rattle.scm_document.specs.Texts.{number_text, sign_text}
+use Rattle.scm_widgets.specs.Boxes.{IdBox, is_fold_open}
+use Rattle.scm_document.specs.Rows.{line_texts, lent_text, header_heading, rows_of, section_rows, is_section_visible, is_open, is_first_open, shown_section, shown_sections, sections_rows, shown_file, file_rows, document_of}
+use Rattle.scm_document.specs.FilesRows.{files_rows}
+use Rattle.scm_widgets.specs.Pictures.{box_picture, button_picture}
+use Rattle.scm_document.specs.Pictures.{header_picture, inner_picture, line_picture, section_picture, file_picture, message_picture, commit_message_picture, commit_picture}
+use Rattle.scm_widgets.specs.Buttons.{button_width}
+use Rattle.scm_overlay.specs.Menus.{header_button, item_button, header_step, headers_width, widest_item, open_menu_with_column, menu_picture, menu_bar_picture}
+use Rattle.scm_overlay.specs.Dialogs.{shown_dialog}
+use Rattle.scm_overlay.specs.Tables.{quit_dialog, help_dialog, named_dialog_picture}
+use Rattle.scm_widgets.specs.DrawBounds.{IsInDrawBounds, RectIsInDrawBounds}
+use Rattle.scm_document.specs.DrawBounds.{SightIsInDrawBounds}
+use Rattle.scm_view.specs.ComponentRanges.{text_of_line, IsShortSection, IsShortFile, AreShortFiles, IsShortCommit, AreShortCommits, IsShortApp, AppIsInDrawBounds, is_short_item, is_short_menu, is_short_bar, is_short_button, are_short_buttons, ComponentsAreInRange}
+use Rattle.scm_widgets.proofs.Near.{IsNear}
+use Rattle.scm_document.proofs.Near.{SightIsNear, AreNarrowSections, IsNarrowFile, AreNarrowFiles}
+use Rattle.scm_overlay.proofs.Ranges.{button_columns}
+use Rattle.scm_document.proofs.NearLemmas.{heading-in, changed-in, context-in, rows-near, file-near, message-near, document-near}
 use Rattle.scm_view.proofs.LimitLemmas.{first_true, second_true, short, box-narrow, line-narrow, length-sign, length-number, path-narrow, heading-narrow, message-narrow, rows-narrow, sections-append, shown-narrow, shown_if-narrow, shown-few}
-use Rattle.scm_view.proofs.SectionsLemmas.{length-sections}
-use Rattle.scm_view.proofs.RangeLemmas.{IsFewItems, menu-here, bar-here, dialog-here}
-use Rattle.scm_view.proofs.FixedLemmas.{short_quit, short_help}
+use Rattle.scm_document.proofs.SectionsLemmas.{length-sections}
+use Rattle.scm_overlay.proofs.RangeLemmas.{IsFewItems, menu-here, bar-here, dialog-here}
+use Rattle.scm_overlay.proofs.FixedLemmas.{short_quit, short_help}
 
 -- ---- places
 
-near : (z : ℤ) → IsHere z → IsNear z
+near : (z : ℤ) → IsInDrawBounds z → IsNear z
 near z h = record { low = omega (arith, places, h.low); high = omega (arith, places, h.high) }
 
-near-after : (z : ℤ) (n : ℕ) → IsHere z → n ≤ 2 ^ 50 → IsNear (z +ℤ pos n)
+near-after : (z : ℤ) (n : ℕ) → IsInDrawBounds z → n ≤ 2 ^ 50 → IsNear (z +ℤ pos n)
 near-after z n h k = record { low = omega (arith, places, h.low); high = omega (arith, places, h.high, k) }
 
-sight-near : (s : Sight) → SightIsHere s → SightIsNear s
+sight-near : (s : Sight) → SightIsInDrawBounds s → SightIsNear s
 sight-near s h = record { x = near _ h.x; end_x = near _ h.end_x; mask_x = near _ h.mask_x }
 
 -- ---- boxes and buttons
 
-span-here : (t : List ℕ) (s : Sight) (x y : ℤ) → IsHere x → IsHere y → text_width t ≤ 2 ^ 60 → PictureInRange {K = ComponentId} (span_picture s x y t)
+span-here : (t : List ℕ) (s : Sight) (x y : ℤ) → IsInDrawBounds x → IsInDrawBounds y → text_width t ≤ 2 ^ 60 → PictureInRange {K = ComponentId} (span_picture s x y t)
 unfolding span_picture
 span-here t s x y p q w = record {
   areas = (
@@ -79,7 +85,7 @@ span-here t s x y p q w = record {
   );
 }
 
-box-here : (b : IdBox) (s : Sight) (x y : ℤ) → IsHere x → IsHere y → PictureInRange (box_picture b s x y)
+box-here : (b : IdBox) (s : Sight) (x y : ℤ) → IsInDrawBounds x → IsInDrawBounds y → PictureInRange (box_picture b s x y)
 unfolding box_picture
 box-here b s x y p q = span-here (box_text b) s x y p q (box-narrow b)
 
@@ -94,19 +100,19 @@ button-wide : (b : Button ComponentId) → is_short_text b.label ≡ true → bu
 unfolding button_width
 button-wide b h = omega (arith, text_width-le (button_text b), length-button b, short b.label h)
 
-button-here : (b : Button ComponentId) (s : Sight) (x y : ℤ) → IsHere x → IsHere y → is_short_button b ≡ true → PictureInRange (button_picture b s x y)
+button-here : (b : Button ComponentId) (s : Sight) (x y : ℤ) → IsInDrawBounds x → IsInDrawBounds y → is_short_button b ≡ true → PictureInRange (button_picture b s x y)
 unfolding button_picture button_width
 button-here b s x y p q h = let w : button_width b ≤ 5000000 = button-wide b h in span-here (button_text b) s x y p q (omega (arith, w))
 
 -- ---- headers and lines
 
-header-here : (v : FileViewHeader) (s : Sight) (x y : ℤ) → SightIsHere s → IsHere x → IsHere y → is_short_option (lent_text v.old_path) ≡ true → is_short_text v.path.now ≡ true
+header-here : (v : FileViewHeader) (s : Sight) (x y : ℤ) → SightIsInDrawBounds s → IsInDrawBounds x → IsInDrawBounds y → is_short_option (lent_text v.old_path) ≡ true → is_short_text v.path.now ≡ true
     → PictureInRange (header_picture v s x y)
 unfolding header_picture
 header-here v s x y n p q h k =
     heading-in (header_heading v) s x y (sight-near s n) (near x p) (near y q) (heading-narrow (header_heading v) (path-narrow (lent_text v.old_path) v.path.now h k))
 
-inner-here : (i : SectionLineViewInner) (s : Sight) (x y : ℤ) → SightIsHere s → IsHere x → IsHere y → is_short_text (text_of_line i) ≡ true → PictureInRange (inner_picture i s x y)
+inner-here : (i : SectionLineViewInner) (s : Sight) (x y : ℤ) → SightIsInDrawBounds s → IsInDrawBounds x → IsInDrawBounds y → is_short_text (text_of_line i) ≡ true → PictureInRange (inner_picture i s x y)
 inner-here (inner.Unchanged line number) s x y n p q h =
     context-in (line_texts (number_text number) line.now) s x y (sight-near s n) (omega (arith, places, p.low)) (omega (arith, places, p.high)) (near y q) (line-narrow (number_text number) line.now (length-number number) h)
 inner-here (inner.Changed box change line) s x y n p q h =
@@ -115,7 +121,7 @@ inner-here (inner.Changed box change line) s x y n p q h =
 
 -- ---- sections and files
 
-section-here : (v : SectionView) (s : Sight) (x y : ℤ) → SightIsHere s → IsHere x → IsHere y → IsShortSection v → PictureInRange (section_picture v s x y)
+section-here : (v : SectionView) (s : Sight) (x y : ℤ) → SightIsInDrawBounds s → IsInDrawBounds x → IsInDrawBounds y → IsShortSection v → PictureInRange (section_picture v s x y)
 unfolding section_picture section_rows sections_rows
 section-here v s x y n p q h =
     let rows : length (rows_of v v.section.now ++ []) ≤ 2 * section_size v.section.now + 1 = shown-few true v in
@@ -137,7 +143,7 @@ sections-few : (before : Bool) (vs : List SectionView) → length (sections_rows
 unfolding shown_sections sections_rows
 sections-few before [] = omega arith
 sections-few before (v ∷ vs) =
-    let b = is_shown before v (is_first_open vs) in
+    let b = is_section_visible before v (is_first_open vs) in
     omega (arith, length-sections (shown_section b v) (shown_sections (is_open v) vs), shown-few b v, sections-few (is_open v) vs, sum_by-cons size_of v vs)
 
 file-few : (v : FileView) → IsShortFile v → length (file_rows (shown_file v)) ≤ 2 ^ 42
@@ -156,7 +162,7 @@ file-narrow v h = record {
   sections = shown_if-narrow (is_fold_open v.expand_box) (shown_sections false v.section_views) (sections-narrow false v.section_views h.texts);
 }
 
-file-here : (v : FileView) (s : Sight) (x y : ℤ) → SightIsHere s → IsHere x → IsHere y → IsShortFile v → PictureInRange (file_picture v s x y)
+file-here : (v : FileView) (s : Sight) (x y : ℤ) → SightIsInDrawBounds s → IsInDrawBounds x → IsInDrawBounds y → IsShortFile v → PictureInRange (file_picture v s x y)
 unfolding file_picture
 file-here v s x y n p q h =
     let narrow = file-narrow v h in
@@ -164,7 +170,7 @@ file-here v s x y n p q h =
 
 -- ---- commits
 
-message-here : (commit : ℕ) (m : Option (List ℕ)) (s : Sight) (x y : ℤ) → SightIsHere s → IsHere x → IsHere y → is_short_option m ≡ true → PictureInRange (message_picture commit m s x y)
+message-here : (commit : ℕ) (m : Option (List ℕ)) (s : Sight) (x y : ℤ) → SightIsInDrawBounds s → IsInDrawBounds x → IsInDrawBounds y → is_short_option m ≡ true → PictureInRange (message_picture commit m s x y)
 message-here commit m s x y n p q h = message-near commit m s x y (sight-near s n) (near x p) (near y q) (near-after y 1 q (omega arith)) (message-narrow m h)
 
 files-narrow : (vs : List FileView) → AreShortFiles vs → AreNarrowFiles (map shown_file vs)
@@ -176,7 +182,7 @@ unfolding files_rows
 files-few [] h = omega arith
 files-few (v ∷ vs) h = omega (arith, length-append (file_rows (shown_file v)) (files_rows (map shown_file vs)), file-few v h.0, files-few vs h.1)
 
-commit-here : (v : CommitView) (s : Sight) (x y : ℤ) → SightIsHere s → IsHere x → IsHere y → IsShortCommit v → PictureInRange (commit_picture v s x y)
+commit-here : (v : CommitView) (s : Sight) (x y : ℤ) → SightIsInDrawBounds s → IsInDrawBounds x → IsInDrawBounds y → IsShortCommit v → PictureInRange (commit_picture v s x y)
 unfolding commit_picture
 commit-here v s x y n p q h =
     document-near (document_of v) s x y n p q (omega (arith, files-few v.file_views h.files, h.count))
@@ -198,7 +204,7 @@ menu-items m h =
     let rest = second_true (is_short_text m.label) (nat_le (length m.items) 1000 && list_all is_short_item m.items) h in
     (items-wide m.items (second_true (nat_le (length m.items) 1000) (list_all is_short_item m.items) rest), few (length m.items) (first_true (nat_le (length m.items) 1000) (list_all is_short_item m.items) rest))
 
-menu-in : (m : Menu) (s : Sight) (x y : ℤ) → IsHere x → IsHere y → is_short_menu m ≡ true → PictureInRange (menu_picture m.items s x y)
+menu-in : (m : Menu) (s : Sight) (x y : ℤ) → IsInDrawBounds x → IsInDrawBounds y → is_short_menu m ≡ true → PictureInRange (menu_picture m.items s x y)
 menu-in m s x y p q h =
     let items = menu-items m h in
     menu-here s x y m.items p.low (omega (arith, places, p.high)) q.low (omega (arith, places, q.high)) (omega (arith, items.0)) (omega (arith, items.1))
@@ -212,8 +218,8 @@ headers-wide [] h = omega arith
 headers-wide (m ∷ ms) h =
     omega (arith, header-wide m (first_true (is_short_menu m) (list_all is_short_menu ms) h), headers-wide ms (second_true (is_short_menu m) (list_all is_short_menu ms) h))
 
-opened-few : (c : ℕ) (ms : List Menu) (k : Option ℕ) → list_all is_short_menu ms ≡ true → c + headers_width ms ≤ 2 ^ 50 → IsFewItems (opened c ms k)
-unfolding opened headers_width
+opened-few : (c : ℕ) (ms : List Menu) (k : Option ℕ) → list_all is_short_menu ms ≡ true → c + headers_width ms ≤ 2 ^ 50 → IsFewItems (open_menu_with_column c ms k)
+unfolding open_menu_with_column headers_width
 opened-few c ms None h w = tt
 opened-few c [] (Some k) h w = tt
 opened-few c (m ∷ ms) (Some zero) h w =
@@ -221,7 +227,7 @@ opened-few c (m ∷ ms) (Some zero) h w =
     (omega (arith, w), (omega (arith, items.0), omega (arith, items.1)))
 opened-few c (m ∷ ms) (Some (suc k)) h w = opened-few (c + header_step m) ms (Some k) (second_true (is_short_menu m) (list_all is_short_menu ms) h) (omega (arith, w))
 
-bar-in : (b : MenuBar) (s : Sight) (x y : ℤ) → RectIsHere s.rect → IsHere x → IsHere y → is_short_bar b ≡ true → PictureInRange (menu_bar_picture b s x y)
+bar-in : (b : MenuBar) (s : Sight) (x y : ℤ) → RectIsInDrawBounds s.rect → IsInDrawBounds x → IsInDrawBounds y → is_short_bar b ≡ true → PictureInRange (menu_bar_picture b s x y)
 bar-in b s x y r p q h =
     let menus = second_true (nat_le (length b.menus) 1000) (list_all is_short_menu b.menus) h in
     let count = few (length b.menus) (first_true (nat_le (length b.menus) 1000) (list_all is_short_menu b.menus) h) in
@@ -240,35 +246,35 @@ buttons-few : (bs : List (Button ComponentId)) → are_short_buttons bs ≡ true
 buttons-few bs h =
     omega (arith, columns-few bs (second_true (nat_le (length bs) 1000) (list_all is_short_button bs) h), few (length bs) (first_true (nat_le (length bs) 1000) (list_all is_short_button bs) h))
 
-quit-here : (q : QuitDialog) (s : Sight) → RectIsHere s.rect → PictureInRange (named_dialog_picture (quit_dialog q) s)
+quit-here : (q : QuitDialog) (s : Sight) → RectIsInDrawBounds s.rect → PictureInRange (named_dialog_picture (quit_dialog q) s)
 unfolding named_dialog_picture
 quit-here q s r = PictureInRange-as_part ids.QuitDialog _ (dialog-here (quit_dialog q) s r (omega (arith, short_quit q)))
 
-help-here : (s : Sight) → RectIsHere s.rect → PictureInRange (named_dialog_picture help_dialog s)
+help-here : (s : Sight) → RectIsInDrawBounds s.rect → PictureInRange (named_dialog_picture help_dialog s)
 unfolding named_dialog_picture
 help-here s r = PictureInRange-as_part ids.HelpDialog _ (dialog-here help_dialog s r (omega (arith, short_help)))
 
 -- ---- all that the selector shows
 
-few-views : (mode : CommitViewMode) (vs : List CommitView) → length (take (views_shown mode) vs) ≤ 2
+few-views : (mode : CommitViewMode) (vs : List CommitView) → length (take (view_count mode) vs) ≤ 2
 few-views Inline vs = omega (arith, length-take 1 vs)
 few-views Adjacent vs = omega (arith, length-take 2 vs)
 
-held-here : (x a e : ℤ) → IsHere x → IsHere a → IsHere e → IsHere (int_min (int_max x a) e)
+held-here : (x a e : ℤ) → IsInDrawBounds x → IsInDrawBounds a → IsInDrawBounds e → IsInDrawBounds (int_min (int_max x a) e)
 held-here x a e p q r = record { low = omega (arith, places, p.low, q.low, r.low); high = omega (arith, places, r.high) }
 
-first-row : IsHere (pos 1)
+first-row : IsInDrawBounds (pos 1)
 first-row = record { low = omega (arith, places); high = omega (arith, places) }
 
 -- a view under its mask
-view-here : (v : CommitView) (s : Sight) (x : ℤ) (n : ℕ) → RectIsHere s.rect → IsHere (s.rect.y +ℤ pos 1) → IsHere x → IsShortCommit v → PictureInRange (view_picture v s x n)
+view-here : (v : CommitView) (s : Sight) (x : ℤ) (n : ℕ) → RectIsInDrawBounds s.rect → IsInDrawBounds (s.rect.y +ℤ pos 1) → IsInDrawBounds x → IsShortCommit v → PictureInRange (view_picture v s x n)
 view-here v s x n r b p h =
     commit-here v (under (view_mask s x n) s) x (pos 1) (record { x = r.x; end_x = r.end_x; mask_x = held-here x s.rect.x (end_x_of s.rect) p r.x r.end_x; mask_y = b }) p first-row h
 
-next-here : (x : ℤ) (k n w : ℕ) → IsHere x → IsHere ((x +ℤ pos w) +ℤ pos 1) → n ≤ w → k ≤ n → IsHere ((x +ℤ pos k) +ℤ pos 1)
+next-here : (x : ℤ) (k n w : ℕ) → IsInDrawBounds x → IsInDrawBounds ((x +ℤ pos w) +ℤ pos 1) → n ≤ w → k ≤ n → IsInDrawBounds ((x +ℤ pos k) +ℤ pos 1)
 next-here x k n w p q h l = record { low = omega (arith, places, p.low); high = omega (arith, places, q.high, h, l) }
 
-two-views : (vs : List CommitView) (s : Sight) (x : ℤ) (n : ℕ) → length vs ≤ 2 → AreShortCommits vs → n ≤ s.rect.width → AppIsHere s x → PictureInRange (views_picture vs n s x)
+two-views : (vs : List CommitView) (s : Sight) (x : ℤ) (n : ℕ) → length vs ≤ 2 → AreShortCommits vs → n ≤ s.rect.width → AppIsInDrawBounds s x → PictureInRange (views_picture vs n s x)
 unfolding views_picture
 two-views [] s x n l h w p = PictureInRange-nothing
 two-views (v ∷ []) s x n l h w p = PictureInRange-followed _ _ (PictureInRange-as_part ids.AppFiles _ (view-here v s x n p.rect p.below p.first h.0)) PictureInRange-nothing
@@ -291,19 +297,19 @@ narrow-view : (mode : CommitViewMode) (w : ℕ) → view_width mode w ≤ w
 narrow-view Inline w = omega arith
 narrow-view Adjacent w = least-width w ((w - 1) / 2) (div-le_self (w - 1) 2)
 
-asked-here : (q : Option QuitDialog) (s : Sight) → RectIsHere s.rect → PictureInRange (quit_picture q s)
+asked-here : (q : Option QuitDialog) (s : Sight) → RectIsInDrawBounds s.rect → PictureInRange (quit_picture q s)
 asked-here None s r = PictureInRange-nothing
 asked-here (Some q) s r = PictureInRange-as_part ids.QuitDialog _ (quit-here q s r)
 
-helped-here : (is_shown : Bool) (s : Sight) → RectIsHere s.rect → PictureInRange (help_picture is_shown s)
+helped-here : (is_section_visible : Bool) (s : Sight) → RectIsInDrawBounds s.rect → PictureInRange (help_picture is_section_visible s)
 helped-here false s r = PictureInRange-nothing
 helped-here true s r = PictureInRange-as_part ids.HelpDialog _ (help-here s r)
 
-app-here : (a : AppView) (s : Sight) (x y : ℤ) → AppIsHere s x → IsShortApp a → PictureInRange (app_picture a s x y)
+app-here : (a : AppView) (s : Sight) (x y : ℤ) → AppIsInDrawBounds s x → IsShortApp a → PictureInRange (app_picture a s x y)
 unfolding app_picture
 app-here a s x y p h =
     PictureInRange-followed _ _
-    (two-views (shown_views a) s x (view_width a.commit_view_mode s.rect.width) (few-views a.commit_view_mode a.commit_views) (commits-taken (views_shown a.commit_view_mode) a.commit_views h.commits) (narrow-view a.commit_view_mode s.rect.width) p)
+    (two-views (shown_views a) s x (view_width a.commit_view_mode s.rect.width) (few-views a.commit_view_mode a.commit_views) (commits-taken (view_count a.commit_view_mode) a.commit_views h.commits) (narrow-view a.commit_view_mode s.rect.width) p)
     (PictureInRange-followed _ _ (PictureInRange-as_part ids.MenuBar _ (bar-in a.menu_bar s x s.rect.y p.rect p.first p.rect.y h.menu_bar))
     (PictureInRange-followed _ _ (asked-here a.quit_dialog s p.rect) (helped-here (has_help a.help_dialog) s p.rect)))
 

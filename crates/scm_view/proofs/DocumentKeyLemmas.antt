@@ -11,25 +11,30 @@ use Rattle.scm_types.specs.declared.keys.FileKey.{FileKey}
 use Rattle.scm_types.specs.declared.keys.SectionKey.{SectionKey}
 use Rattle.scm_types.specs.declared.keys.SelectionKey.{SelectionKey}
 use Rattle.scm_types.specs.declared.keys.SelectionKey.TheVariants as selection
-use Rattle.scm_view.specs.declared.ids.ComponentId.{ComponentId}
-use Rattle.scm_view.specs.declared.ids.ComponentId.TheVariants as ids
-use Rattle.scm_view.specs.Clicks.{is_clickable}
-use Rattle.scm_view.specs.Laws.{IsOpen}
-use Rattle.scm_view.specs.Owners.{IsRowOf, after_row, AreRowsOf, AreSectionsOf}
-use Rattle.scm_view.proofs.FilesOf.{HaveRows, IsFileOf, AreFilesOf, HasItsIds}
-use Rattle.scm_view.specs.Rows.{IdBox, file_id, section_id, line_id, DocRow, HeaderRow, SectionRow, LineRow, MarkRow, ContextRow, DotsRow, BlankRow, ShownSection, ShownFile, Document, file_rows, message_height}
-use Rattle.scm_view.specs.Pictures.{IdPicture, box_picture, box_part, changed_picture, context_picture, row_picture, rows_picture, sections_picture, shown_file_picture, file_mask, mask_row, pinned_header, pinned_picture, one_file_picture, files_picture, message_picture, no_files_picture, body_picture, document_picture}
-use Rattle.scm_view.specs.Strips.{is_over}
-use Rattle.scm_view.specs.Places.{line_places, rows_places, sections_places, files_places, places}
-use Rattle.scm_view.specs.Window.{rows_of_box, rows_of_key}
-use Rattle.scm_view.proofs.DrawsStrips.{none_of, box-part}
-use Rattle.scm_view.proofs.MenuLemmas.{differ}
-use Rattle.scm_view.proofs.StripLemmas.{under-open}
-use Rattle.scm_view.proofs.OwnerLemmas.{is_item, rank_of, IsAmong, IsFrom, IsOf, IsSectionFrom, line_parts, context_parts, line_row, context_row, line_box, context_box, rows-inner, row_owns, rows_own, section_owns, sections_own, index-of}
-use Rattle.scm_view.proofs.FileBoxLemmas.{section-span, file-span}
+use Rattle.scm_widgets.specs.declared.ids.ComponentId.{ComponentId}
+use Rattle.scm_widgets.specs.declared.ids.ComponentId.TheVariants as ids
+use Rattle.scm_widgets.specs.Clicks.{is_clickable}
+use Rattle.scm_document.specs.OpenSights.{IsOpen}
+use Rattle.scm_document.specs.Owners.{IsRowOf, after_row, AreRowsOf, AreSectionsOf}
+use Rattle.scm_document.proofs.FilesOf.{HaveRows, IsFileOf, AreFilesOf, HasItsIds}
+use Rattle.scm_widgets.specs.Boxes.{IdBox}
+use Rattle.scm_document.specs.Rows.{file_id, section_id, line_id, DocRow, HeaderRow, SectionRow, LineRow, MarkRow, ContextRow, DotsRow, BlankRow, ShownSection, ShownFile, Document, file_rows, message_height}
+use Rattle.scm_widgets.specs.Pictures.{IdPicture, box_picture, box_part}
+use Rattle.scm_document.specs.Pictures.{changed_picture, context_picture, row_picture, rows_picture, sections_picture, shown_file_picture, file_mask, mask_row, pinned_header, pinned_picture, one_file_picture, files_picture, message_picture, no_files_picture, body_picture, document_picture}
+use Rattle.scm_document.specs.Strips.{is_over}
+use Rattle.scm_document.specs.Places.{line_places, rows_places, sections_places, files_places, places}
+use Rattle.scm_view.specs.Window.{rows_of_box}
+use Rattle.scm_document.specs.DocumentRows.{rows_of_key}
+use Rattle.scm_widgets.proofs.DrawsStrips.{none_of, box-part}
+use Rattle.scm_overlay.proofs.MenuLemmas.{differ}
+use Rattle.scm_document.proofs.StripLemmas.{under-open}
+use Rattle.scm_view.proofs.OwnerLemmas.{is_item, rank_of, IsAmong, IsFrom, IsOf, IsSectionFrom, line_parts, context_parts, line_row, context_row, line_box, context_box, row_owns, rows_own, section_owns, sections_own, index-of}
+use Rattle.scm_document.proofs.OwnerLemmas.{rows-inner}
+use Rattle.scm_document.proofs.FileBoxLemmas.{section-span, file-span}
 use Rattle.scm_view.proofs.FileOwnerLemmas.{file_of, IsHeadOf, IsOfFile, header-owns, not-file, parts-ids, pinned-owns, one_file-ids, IsFileFrom, files-ids}
-use Rattle.scm_view.proofs.DocumentOwnerLemmas.{IsOfMessage, message-owns, no_files-none, document_part}
-use Rattle.scm_view.proofs.WindowLemmas.{body_sight, open-below, row-below}
+use Rattle.scm_view.proofs.DocumentOwnerLemmas.{IsOfMessage, message-owns, no_files-none}
+use Rattle.scm_document.proofs.DocumentOwnerLemmas.{document_part}
+use Rattle.scm_document.proofs.WindowLemmas.{body_sight, open-below, row-below}
 use Rattle.scm_view.proofs.PlaceLemmas.{Places, IsKeyless, places_keyless, places_beside, places_after, places_as, places_below, places_part, places_still, keyless_of}
 
 -- ---- ids that are of no key

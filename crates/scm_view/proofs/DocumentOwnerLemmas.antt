@@ -14,26 +14,28 @@ use Rattle.scm_render.specs.Hits.{IsLawful, has_id, first_of_two, hit}
 use Rattle.scm_render.specs.Lines.{line}
 use Rattle.scm_render.proofs.HitLemmas.{Each, each-append, each_more, hit_apart, hit_still, two_assoc}
 use Rattle.scm_types.specs.declared.keys.FileKey.{FileKey}
-use Rattle.scm_view.specs.declared.ids.ComponentId.{ComponentId}
-use Rattle.scm_view.specs.declared.ids.ComponentId.TheVariants as ids
-use Rattle.scm_view.specs.Clicks.{is_clickable}
-use Rattle.scm_view.proofs.Parts.{Body, part_of}
-use Rattle.scm_view.specs.Laws.{IsOpen}
-use Rattle.scm_view.specs.Layers.{clear, owned_by}
-use Rattle.scm_view.specs.Blanks.{blank_strip}
-use Rattle.scm_view.specs.Texts.{no_files_text, message_text}
-use Rattle.scm_view.proofs.FilesOf.{AreFilesOf, HasItsIds}
-use Rattle.scm_view.specs.Rows.{ShownFile, Document, message_height}
-use Rattle.scm_view.specs.Pictures.{IdPicture, mask_row, body_picture, files_picture, button_picture, beside_button, message_picture, no_files_picture, document_picture, button_row_picture}
-use Rattle.scm_view.specs.Strips.{files_strips, pinned_strips, message_strip, message_strips, no_files_gap, no_files_strip, no_files_layers, document_layers, pinned_layer}
+use Rattle.scm_widgets.specs.declared.ids.ComponentId.{ComponentId}
+use Rattle.scm_widgets.specs.declared.ids.ComponentId.TheVariants as ids
+use Rattle.scm_widgets.specs.Clicks.{is_clickable}
+use Rattle.scm_overlay.proofs.Parts.{Body, part_of}
+use Rattle.scm_document.specs.OpenSights.{IsOpen}
+use Rattle.scm_widgets.specs.Layers.{clear, owned_by}
+use Rattle.scm_widgets.specs.Blanks.{blank_strip}
+use Rattle.scm_document.specs.Texts.{no_files_text, message_text}
+use Rattle.scm_document.proofs.FilesOf.{AreFilesOf, HasItsIds}
+use Rattle.scm_document.specs.Rows.{ShownFile, Document, message_height}
+use Rattle.scm_document.specs.Pictures.{mask_row, body_picture, files_picture, beside_button, message_picture, no_files_picture, document_picture, button_row_picture}
+use Rattle.scm_widgets.specs.Pictures.{button_picture}
+use Rattle.scm_document.specs.Strips.{files_strips, pinned_strips, message_strip, message_strips, no_files_gap, no_files_strip, no_files_layers, document_layers, pinned_layer}
 use Rattle.scm_view.specs.Window.{body_layers}
-use Rattle.scm_view.proofs.WindowLemmas.{body_sight, open-below, row-below}
-use Rattle.scm_view.proofs.DrawsStrips.{Apart, apart, draws_nothing, draws_still}
-use Rattle.scm_view.proofs.MenuLemmas.{IsPart, differ}
-use Rattle.scm_view.proofs.ButtonLemmas.{holds-text}
-use Rattle.scm_view.proofs.DocumentLemmas.{length-message}
+use Rattle.scm_document.proofs.WindowLemmas.{body_sight, open-below, row-below}
+use Rattle.scm_widgets.proofs.DrawsStrips.{Apart, apart, draws_nothing, draws_still}
+use Rattle.scm_overlay.proofs.MenuLemmas.{IsPart, differ}
+use Rattle.scm_widgets.proofs.ButtonLemmas.{holds-text}
+use Rattle.scm_document.proofs.DocumentLemmas.{length-message}
 use Rattle.scm_view.proofs.OwnerLemmas.{no_rows, Owns, none-seen, no-owner, text-none}
 use Rattle.scm_view.proofs.FileOwnerLemmas.{file_of, owner_at, both-owners, none-owner, IsFileFrom, files-ids, files-own}
+use Rattle.scm_document.proofs.DocumentOwnerLemmas.{document_part}
 
 -- ---- messages
 
@@ -184,12 +186,6 @@ module _ (same : ComponentId → ComponentId → Bool) (law : IsLawful same) whe
       each-append (IsPart Body) (part ids.CommitMessageView (message_picture d.commit d.message s (pos 0) (pos top))).boxes (body_picture d.files s (pos 0) (pos top) (pos (top + message_height d.message))).boxes
       (each_more (IsOfMessage d.commit) (IsPart Body) _ (λ i p. part-message d.commit i p) (message-owns same law d.commit d.message s w (pos top)).ids)
       (below-ids d.commit d.files s w m top (top + message_height d.message) fits o row e)
-
--- ---- the document below the menu bar, as the inline view draws it
-
--- the document with all its parts
-abbrev pub document_part : Document → ℕ → ℕ → ℕ → IdPicture
-document_part d w h s = part ids.AppFiles (document_picture d (body_sight w h s) (pos 0) (pos 1))
 
 module _ (same : ComponentId → ComponentId → Bool) (law : IsLawful same) where
   pub body-owners : (d : Document) (w h s : ℕ) → 10 ≤ w → 2 ≤ h → HasItsIds d → (rep : ComponentId → Bool) → ((i : ComponentId) → IsPart Body i → rep i ≡ false) → (y x : ℕ) → x < w

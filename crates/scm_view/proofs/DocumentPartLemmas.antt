@@ -3,19 +3,21 @@ use Rattle.std.proofs.Common.{◌≡◌, ℕ, zero, suc, ◌+◌, ◌-◌, ◌<�
 use Rattle.std.specs.Prelude.{Option, Some, None, if◌then◌else◌}
 use Rattle.std.proofs.lemmas.List.{length-map, get_or-append_right}
 use Rattle.scm_render.specs.Canvas.{Row}
-use Rattle.scm_view.specs.declared.quit_dialog.QuitDialog.{QuitDialog}
-use Rattle.scm_view.specs.Rows.{ShownFile, Document, message_height}
-use Rattle.scm_view.specs.FilesRows.{files_rows}
-use Rattle.scm_view.specs.Shown.{Shown}
-use Rattle.scm_view.specs.Strips.{message_strips}
+use Rattle.scm_overlay.specs.declared.quit_dialog.QuitDialog.{QuitDialog}
+use Rattle.scm_document.specs.Rows.{ShownFile, Document, message_height}
+use Rattle.scm_document.specs.FilesRows.{files_rows}
+use Rattle.scm_view.specs.ViewState.{ViewState}
+use Rattle.scm_document.specs.Strips.{message_strips}
 use Rattle.scm_view.specs.Window.{inline_document, window}
-use Rattle.scm_view.specs.DocumentParts.{window_of_document, files_to, files_from, part_of, rows_left_out, header_kept, end_of_document, PartsShowWindows}
-use Rattle.scm_view.proofs.SameWindowLemmas.{drawn_by, as_it_is, shows_of, Alike, windows-alike}
-use Rattle.scm_view.proofs.LeftOutLemmas.{to-rows, to-pinned, pinned-moved, from-pinned, from-rows, out-to, some-of, some-to, some-from, to-none, none-out, from-none}
+use Rattle.scm_view.specs.DocumentParts.{window_of_document, part_of, end_of_document, PartsShowWindows}
+use Rattle.scm_document.specs.DocumentParts.{files_to, files_from, rows_left_out, header_kept}
+use Rattle.scm_document.proofs.SameWindowLemmas.{drawn_by, as_it_is}
+use Rattle.scm_view.proofs.SameWindowLemmas.{shows_of, Alike, windows-alike}
+use Rattle.scm_document.proofs.LeftOutLemmas.{to-rows, to-pinned, pinned-moved, from-pinned, from-rows, out-to, some-of, some-to, some-from, to-none, none-out, from-none}
 
 -- ---- the window of a session is the window of its document
 
-pub window-of : (w h s : ℕ) (shown : Shown) → window w h s shown ≡ window_of_document w h s (inline_document shown) shown.open_menu shown.quit_dialog shown.is_help_open
+pub window-of : (w h s : ℕ) (shown : ViewState) → window w h s shown ≡ window_of_document w h s (inline_document shown) shown.open_menu shown.quit_dialog shown.is_help_open
 unfolding window window_of_document
 window-of w h s shown = refl
 

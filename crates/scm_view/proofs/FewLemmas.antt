@@ -12,19 +12,22 @@ use Rattle.scm_render.specs.Canvas.{Sight, under}
 use Rattle.scm_render.specs.Drawing.{has_row}
 use Rattle.scm_render.proofs.DrawLemmas.{off_cases}
 use Rattle.scm_view.specs.declared.app_view.AppView.{AppView}
-use Rattle.scm_view.specs.declared.commit_view.CommitView.{CommitView}
-use Rattle.scm_view.specs.declared.menu.Menu.{Menu}
-use Rattle.scm_view.specs.declared.quit_dialog.QuitDialog.{QuitDialog}
-use Rattle.scm_view.specs.Rows.{DocRow, HeaderRow, SectionRow, LineRow, MarkRow, ContextRow, DotsRow, BlankRow, ShownSection, ShownFile, Document, document_of, file_rows, sections_rows, message_height}
-use Rattle.scm_view.specs.Pictures.{mask_row, is_pinned, no_files_place}
-use Rattle.scm_view.specs.Counts.{drawn, on_row, row_calls, rows_counts, header_counts, sections_counts, file_counts, pinned_counts, files_counts, message_counts, document_counts, first_calls, bar_calls, quit_calls, help_calls}
-use Rattle.scm_view.specs.Menus.{menus_before}
-use Rattle.scm_view.specs.Tables.{all_menus, menus_with}
-use Rattle.scm_view.specs.Screens.{sight}
-use Rattle.scm_view.specs.declared.commit_view.CommitViewMode.TheVariants.{Inline}
-use Rattle.scm_view.specs.AppView.{view_mask, views_counts, has_help, app_counts}
+use Rattle.scm_document.specs.declared.commit_view.CommitView.{CommitView}
+use Rattle.scm_overlay.specs.declared.menu.Menu.{Menu}
+use Rattle.scm_overlay.specs.declared.quit_dialog.QuitDialog.{QuitDialog}
+use Rattle.scm_document.specs.Rows.{DocRow, HeaderRow, SectionRow, LineRow, MarkRow, ContextRow, DotsRow, BlankRow, ShownSection, ShownFile, Document, document_of, file_rows, sections_rows, message_height}
+use Rattle.scm_document.specs.Pictures.{mask_row, is_pinned, no_files_place}
+use Rattle.scm_widgets.specs.Counts.{drawn, on_row}
+use Rattle.scm_document.specs.Counts.{row_calls, rows_counts, header_counts, sections_counts, file_counts, pinned_counts, files_counts, message_counts, document_counts}
+use Rattle.scm_overlay.specs.Counts.{first_calls, bar_calls, quit_calls, help_calls}
+use Rattle.scm_overlay.specs.Menus.{menus_before}
+use Rattle.scm_overlay.specs.Tables.{all_menus, menus_with}
+use Rattle.scm_widgets.specs.Screens.{sight}
+use Rattle.scm_document.specs.declared.commit_view.CommitViewMode.TheVariants.{Inline}
+use Rattle.scm_document.specs.ViewColumns.{view_mask, views_counts}
+use Rattle.scm_view.specs.AppView.{has_help, app_counts}
 use Rattle.scm_view.specs.Window.{IsFew, AppsTakeFewCalls}
-use Rattle.scm_view.proofs.HiddenLemmas.{on_row-shown, on_row-hidden}
+use Rattle.scm_widgets.proofs.HiddenLemmas.{on_row-shown, on_row-hidden}
 
 -- how many rows of the screen lie above a row of the document
 abbrev before : Rect → ℤ → ℕ
@@ -45,7 +48,7 @@ none-above v y p = omega (arith, places)
 none-below : (v : Rect) (y : ℤ) → end_y_of v ≤ℤ y → before v y ≡ before v (y +ℤ pos 1)
 none-below v y p = omega (arith, places)
 
--- so many rows and calls on rows from y on to before z: each row of the screen counts once, with at most four calls
+-- the counts of rows `y..z`: each row of the screen counts once, with at most four calls
 record Few (v : Rect) (y z : ℤ) (c : Counts) : Type 0 where
   rows : c.rows + before v y ≡ before v z
   calls : c.calls ≤ 4 * c.rows
@@ -110,7 +113,7 @@ few-message (Some text) v y =
 
 -- ---- files, of which at most one is pinned
 
--- so many rows of a document from y on, and that many more
+-- the counts of a document's rows from row `y` on: at most the screen's rows and `more`, with at most four calls each
 record FewFrom (v : Rect) (y : ℤ) (more : ℕ) (c : Counts) : Type 0 where
   rows : c.rows + before v y ≤ v.height + more
   calls : c.calls ≤ 4 * c.rows

@@ -16,23 +16,24 @@ use Rattle.scm_types.specs.declared.keys.FileKey.{FileKey}
 use Rattle.scm_types.specs.declared.keys.SectionKey.{SectionKey}
 use Rattle.scm_types.specs.declared.keys.SelectionKey.{SelectionKey}
 use Rattle.scm_types.specs.declared.keys.SelectionKey.TheVariants as selection
-use Rattle.scm_view.specs.declared.ids.ComponentId.{ComponentId}
-use Rattle.scm_view.specs.declared.ids.ComponentId.TheVariants as ids
-use Rattle.scm_view.specs.Clicks.{is_clickable}
-use Rattle.scm_view.specs.Laws.{IsOpen}
-use Rattle.scm_view.specs.Layers.{Strip, clear, owned}
+use Rattle.scm_widgets.specs.declared.ids.ComponentId.{ComponentId}
+use Rattle.scm_widgets.specs.declared.ids.ComponentId.TheVariants as ids
+use Rattle.scm_widgets.specs.Clicks.{is_clickable}
+use Rattle.scm_document.specs.OpenSights.{IsOpen}
+use Rattle.scm_widgets.specs.Layers.{Strip, clear, owned}
 use Rattle.scm_types.specs.Keys.{section_of_line, file_of_section}
-use Rattle.scm_view.specs.Owners.{AreSectionsOf}
-use Rattle.scm_view.proofs.FilesOf.{IsHeadingOf, IsFileOf, AreFilesOf}
-use Rattle.scm_view.specs.Rows.{file_id, Heading, HeaderRow, ShownFile, file_rows}
-use Rattle.scm_view.specs.Pictures.{box_picture, heading_picture, row_picture, sections_picture, shown_file_picture, file_mask, pinned_mask, mask_row, pinned_header, pinned_picture, one_file_picture, files_picture}
-use Rattle.scm_view.specs.Strips.{everywhere, heading_strip, row_strip, header_strip, sections_strips, file_strips, is_over, files_strips, pinned_strips}
-use Rattle.scm_view.proofs.DrawsStrips.{Apart, none_of, apart, line-more, line-owned, draws_nothing, draws_part, box-part}
-use Rattle.scm_view.proofs.MenuLemmas.{differ}
-use Rattle.scm_view.proofs.StripLemmas.{under-open, length-file_strips}
-use Rattle.scm_view.proofs.BoxLemmas.{row-spans, has_box}
-use Rattle.scm_view.proofs.DocumentLemmas.{none-pinned, over-below}
-use Rattle.scm_view.proofs.FileBoxLemmas.{file-span}
+use Rattle.scm_document.specs.Owners.{AreSectionsOf}
+use Rattle.scm_document.proofs.FilesOf.{IsHeadingOf, IsFileOf, AreFilesOf}
+use Rattle.scm_document.specs.Rows.{file_id, Heading, HeaderRow, ShownFile, file_rows}
+use Rattle.scm_widgets.specs.Pictures.{box_picture}
+use Rattle.scm_document.specs.Pictures.{heading_picture, row_picture, sections_picture, shown_file_picture, file_mask, pinned_mask, mask_row, pinned_header, pinned_picture, one_file_picture, files_picture}
+use Rattle.scm_document.specs.Strips.{everywhere, heading_strip, row_strip, header_strip, sections_strips, file_strips, is_over, files_strips, pinned_strips}
+use Rattle.scm_widgets.proofs.DrawsStrips.{Apart, none_of, apart, line-more, line-owned, draws_nothing, draws_part, box-part}
+use Rattle.scm_overlay.proofs.MenuLemmas.{differ}
+use Rattle.scm_document.proofs.StripLemmas.{under-open, length-file_strips}
+use Rattle.scm_document.proofs.BoxLemmas.{row-spans, has_box}
+use Rattle.scm_document.proofs.DocumentLemmas.{none-pinned, over-below}
+use Rattle.scm_document.proofs.FileBoxLemmas.{file-span}
 use Rattle.scm_view.proofs.OwnerLemmas.{no_rows, Owns, no-owner, heading-boxes, heading_owns, section_of, IsSectionFrom, sections_own}
 
 -- ---- whose the ids are
@@ -274,7 +275,7 @@ module _ (same : ComponentId → ComponentId → Bool) (law : IsLawful same) whe
 
 -- ---- files one below another
 
--- a part of a file of the commit, from this one on
+-- a part of file `n` of the commit, or of a later file
 pub record IsFileFrom (commit n : ℕ) (i : ComponentId) : Type 0 where
   pub key : FileKey
   pub file : file_of i ≡ Some key

@@ -12,55 +12,61 @@ use Rattle.scm_render.specs.Hits.{first_of_two}
 use Rattle.scm_render.specs.Lines.{line}
 use Rattle.scm_render.proofs.LineLemmas.{line-above}
 use Rattle.scm_render.proofs.HitLemmas.{two_none, two_assoc}
-use Rattle.scm_view.specs.declared.ids.ComponentId.{ComponentId}
-use Rattle.scm_view.specs.declared.ids.ComponentId.TheVariants as ids
+use Rattle.scm_widgets.specs.declared.ids.ComponentId.{ComponentId}
+use Rattle.scm_widgets.specs.declared.ids.ComponentId.TheVariants as ids
 use Rattle.scm_view.specs.declared.app_view.AppView.{AppView}
-use Rattle.scm_view.specs.declared.commit_view.CommitView.{CommitView}
-use Rattle.scm_view.specs.declared.commit_view.CommitViewMode.{CommitViewMode}
-use Rattle.scm_view.specs.declared.file_view.FileView.{FileView}
-use Rattle.scm_view.specs.declared.spots.Spot.{Spot}
-use Rattle.scm_view.specs.declared.quit_dialog.QuitDialog.{QuitDialog}
-use Rattle.scm_view.specs.declared.tops.FileTop.{FileTop}
-use Rattle.scm_view.specs.declared.tops.SectionTop.{SectionTop}
-use Rattle.scm_view.specs.Layers.{Strip, Layer, clear, strip_at, owned_by, end_of, rows_around}
-use Rattle.scm_view.specs.Rows.{Document, document_of, shown_file, file_rows, message_height}
-use Rattle.scm_view.specs.Shown.{Shown, Shows}
-use Rattle.scm_view.specs.AppView.{ShowInOrder, views_shown, has_help}
-use Rattle.scm_view.specs.Strips.{message_strips, file_strips, is_over, files_strips, pinned_strips, pinned_layer, no_files_layers, no_files_strip, no_files_gap, document_layers}
-use Rattle.scm_view.specs.Places.{places}
-use Rattle.scm_view.specs.Window.{IsPlain, rows_layers, body_layers, owner, span, extent, rows_of_key}
-use Rattle.scm_view.specs.Overlays.{overlays, quit_layers, help_layers}
-use Rattle.scm_view.specs.Menus.{menu_layer, opened}
-use Rattle.scm_view.specs.Tables.{menus_with, quit_dialog, help_dialog}
-use Rattle.scm_view.specs.Index.{is_from, spot_owner, files_owner, rows_owner, sections_owner}
-use Rattle.scm_view.specs.Pieces.{piece_places, files_pieces}
-use Rattle.scm_view.specs.Tops.{file_height, files_height, file_tops, tops_in_files}
-use Rattle.scm_view.specs.Spots.{far, message_spots, pinned_spots, bar_spots, quit_spots, help_spots}
+use Rattle.scm_document.specs.declared.commit_view.CommitView.{CommitView}
+use Rattle.scm_document.specs.declared.commit_view.CommitViewMode.{CommitViewMode}
+use Rattle.scm_document.specs.declared.file_view.FileView.{FileView}
+use Rattle.scm_widgets.specs.declared.overlay_rects.OverlayRect.{OverlayRect}
+use Rattle.scm_overlay.specs.declared.quit_dialog.QuitDialog.{QuitDialog}
+use Rattle.scm_document.specs.declared.index_pieces.FilePiece.{FilePiece}
+use Rattle.scm_document.specs.declared.index_pieces.SectionPiece.{SectionPiece}
+use Rattle.scm_widgets.specs.Layers.{Strip, Layer, clear, strip_at, owned_by, end_of, rows_around}
+use Rattle.scm_document.specs.Rows.{Document, document_of, shown_file, file_rows, message_height}
+use Rattle.scm_view.specs.ViewState.{ViewState, Shows}
+use Rattle.scm_view.specs.AppView.{ShowInOrder, has_help}
+use Rattle.scm_document.specs.ViewColumns.{view_count}
+use Rattle.scm_document.specs.Strips.{message_strips, file_strips, is_over, files_strips, pinned_strips, pinned_layer, no_files_layers, no_files_strip, no_files_gap, document_layers}
+use Rattle.scm_document.specs.Places.{places}
+use Rattle.scm_view.specs.Window.{IsPlain, body_layers, owner, span, extent}
+use Rattle.scm_document.specs.DocumentRows.{rows_layers, rows_of_key}
+use Rattle.scm_overlay.specs.Overlays.{overlays, quit_layers, help_layers}
+use Rattle.scm_overlay.specs.Menus.{menu_layer, open_menu_with_column}
+use Rattle.scm_overlay.specs.Tables.{menus_with, quit_dialog, help_dialog}
+use Rattle.scm_widgets.specs.OverlayRects.{is_from, overlay_owner, shift}
+use Rattle.scm_document.specs.PieceOwners.{files_owner, rows_owner, sections_owner}
+use Rattle.scm_document.specs.Pieces.{piece_places, files_pieces}
+use Rattle.scm_document.specs.ViewPieces.{file_height, files_height, file_piece_list, sections_in_files}
+use Rattle.scm_document.specs.HeaderRects.{message_rects, pinned_rects}
+use Rattle.scm_overlay.specs.OverlayRects.{menu_bar_rects, quit_dialog_rects, help_dialog_rects, dialog_run, open_menu_height, IsShortMenu}
 use Rattle.scm_render.specs.Centring.{centred_gap, centred_size}
-use Rattle.scm_view.specs.Dialogs.{ShownDialog, widest_line, dialog_layer}
-use Rattle.scm_view.specs.Spots.{dialog_run, open_height, IsShortMenu}
+use Rattle.scm_widgets.specs.ShownDialogs.{ShownDialog}
+use Rattle.scm_overlay.specs.Dialogs.{widest_line, dialog_layer}
 use Rattle.scm_view.specs.Runs.{joined, joined_with, words_run, document_run}
-use Rattle.scm_view.specs.declared.menu_bar.MenuBar.{MenuBar}
-use Rattle.scm_view.proofs.Ranges as short
-use Rattle.scm_view.specs.declared.menu.Menu.{Menu}
-use Rattle.scm_view.proofs.DialogLemmas.{centred_20}
-use Rattle.scm_view.proofs.FilesOf.{AreFilesOf, HasItsIds}
-use Rattle.scm_view.specs.FilesRows.{files_rows}
-use Rattle.scm_view.proofs.ButtonLemmas.{no-owner}
-use Rattle.scm_view.proofs.DocumentLemmas.{length-message}
+use Rattle.scm_overlay.specs.declared.menu_bar.MenuBar.{MenuBar}
+use Rattle.scm_overlay.proofs.Ranges as short
+use Rattle.scm_overlay.specs.declared.menu.Menu.{Menu}
+use Rattle.scm_overlay.proofs.DialogLemmas.{centred_20}
+use Rattle.scm_document.proofs.FilesOf.{AreFilesOf, HasItsIds}
+use Rattle.scm_document.specs.FilesRows.{files_rows}
+use Rattle.scm_widgets.proofs.ButtonLemmas.{no-owner}
+use Rattle.scm_document.proofs.DocumentLemmas.{length-message}
 use Rattle.scm_view.proofs.DocumentOwnerLemmas.{message-cell}
-use Rattle.scm_view.proofs.OverlayLemmas.{owned-append}
+use Rattle.scm_overlay.proofs.OverlayLemmas.{owned-append}
 use Rattle.scm_view.proofs.LimitLemmas.{session-few}
 use Rattle.scm_view.proofs.SessionLemmas.{session-ids}
-use Rattle.scm_view.proofs.TopLemmas.{file-strips-length, owner_of, upper, lower, files-owned, file-height}
-use Rattle.scm_view.proofs.PieceLemmas.{files-places}
-use Rattle.scm_view.proofs.SpotLemmas.{spots-append, on_row, far-among, pinned-spots}
-use Rattle.scm_view.proofs.OverSpotLemmas.{overlays-owner, length-bar, length-placed}
+use Rattle.scm_document.proofs.ViewPieceLemmas.{file-strips-length, owner_of, upper, lower, files-owned, file-height}
+use Rattle.scm_document.proofs.PieceLemmas.{files-places}
+use Rattle.scm_overlay.proofs.OverlayRectLemmas.{spots-append}
+use Rattle.scm_widgets.proofs.OverlayRectLemmas.{on_row, far-among}
+use Rattle.scm_document.proofs.OverlayRectLemmas.{pinned-spots}
+use Rattle.scm_overlay.proofs.OverlayOwnerLemmas.{overlays-owner, length-bar, length-placed}
 
 -- ---- the message
 
 message-button : (y x commit : ℕ) → ◌≡◌ {A = Option ComponentId}
-    (if is_from 2 3 y && is_from (far 0) (far 14) (x + 65536) then Some (ids.CommitEditMessageButton commit) else None)
+    (if is_from 2 3 y && is_from (shift 0) (shift 14) (x + 65536) then Some (ids.CommitEditMessageButton commit) else None)
     (cond (int_eq (pos y) (pos 2) && (nat_le 0 x && nat_lt x 14)) (Some (ids.CommitEditMessageButton commit)) None)
 message-button y x commit = rw (on_row 2 y, far-among 0 14 x) refl
 
@@ -68,13 +74,13 @@ no-message-strips : (w commit y x : ℕ) → None ≡ (line clear (message_strip
 unfolding message_strips line
 no-message-strips w commit y x = refl
 
-message-owner : (w commit y x : ℕ) (message : Option (List ℕ)) → spot_owner (message_spots commit (is_some message)) y x ≡ owner_of (message_strips w commit message) 1 y x
+message-owner : (w commit y x : ℕ) (message : Option (List ℕ)) → overlay_owner (message_rects commit (is_some message)) y x ≡ owner_of (message_strips w commit message) 1 y x
 unfolding owner_of
 message-owner w commit y x None = no-message-strips w commit y x
 message-owner w commit y x (Some t) = message-button y x commit ∙ message-cell w commit t (pos 1) (pos y) x
 
 -- no file stands above the first
-files-above : (w m top y x : ℕ) (o : Option ComponentId) (vs : List FileView) → y < top → files_owner w (file_tops m top vs) o y x ≡ None
+files-above : (w m top y x : ℕ) (o : Option ComponentId) (vs : List FileView) → y < top → files_owner w (file_piece_list m top vs) o y x ≡ None
 files-above w m top y x o [] h = refl
 files-above w m top y x o (v ∷ vs) h =
     let out : is_from top (top + file_height v) y ≡ false = grind (arith, nat_tests, h) in
@@ -92,16 +98,16 @@ words-none : (w row y x : ℕ) → (line clear (no_files_strip w ∷ []) (pos ro
 words-none w row y x = sym (no-owner (no_files_strip w) (pos row) (pos y) x refl)
 
 no-files-owner : (w h y x commit : ℕ) (message : Option (List ℕ))
-    → owned_by (no_files_layers w h 1 commit message) y x ≡ first_of_two (spot_owner (message_spots commit (is_some message)) y x) None
+    → owned_by (no_files_layers w h 1 commit message) y x ≡ first_of_two (overlay_owner (message_rects commit (is_some message)) y x) None
 unfolding owned_by owner_of
 no-files-owner w h y x commit None = words-none w (1 + no_files_gap h) y x
 no-files-owner w h y x commit (Some t) =
     ap (λ o. first_of_two o (owner_of (message_strips w commit (Some t)) 1 y x)) (words-none w (1 + no_files_gap h) y x)
-    ∙ sym (message-owner w commit y x (Some t)) ∙ sym (two_none (spot_owner (message_spots commit true) y x))
+    ∙ sym (message-owner w commit y x (Some t)) ∙ sym (two_none (overlay_owner (message_rects commit true) y x))
 
 some-files-owner : (w m y x commit : ℕ) (message : Option (List ℕ)) (vs : List FileView) → AreFilesOf commit 0 (map shown_file vs)
     → owner_of (message_strips w commit message ++ files_strips w m (1 + message_height message) (map shown_file vs)) 1 y x
-    ≡ first_of_two (spot_owner (message_spots commit (is_some message)) y x) (rows_owner w (file_tops m (1 + message_height message) vs) (tops_in_files (1 + message_height message) vs) y x)
+    ≡ first_of_two (overlay_owner (message_rects commit (is_some message)) y x) (rows_owner w (file_piece_list m (1 + message_height message) vs) (sections_in_files (1 + message_height message) vs) y x)
 some-files-owner w m y x commit message vs e = go (nat_lt y (1 + message_height message)) refl
   where
     top : ℕ
@@ -109,25 +115,25 @@ some-files-owner w m y x commit message vs e = go (nat_lt y (1 + message_height 
 
     go : (t : Bool) → nat_lt y (1 + message_height message) ≡ t
         → owner_of (message_strips w commit message ++ files_strips w m (1 + message_height message) (map shown_file vs)) 1 y x
-        ≡ first_of_two (spot_owner (message_spots commit (is_some message)) y x) (rows_owner w (file_tops m (1 + message_height message) vs) (tops_in_files (1 + message_height message) vs) y x)
+        ≡ first_of_two (overlay_owner (message_rects commit (is_some message)) y x) (rows_owner w (file_piece_list m (1 + message_height message) vs) (sections_in_files (1 + message_height message) vs) y x)
     go true q =
         let less : y < 1 + message_height message = grind (arith, nat_tests) in
         let n = length-message w commit message in
-        let none = files-above w m (1 + message_height message) y x (sections_owner w (tops_in_files (1 + message_height message) vs) y x) vs less in
+        let none = files-above w m (1 + message_height message) y x (sections_owner w (sections_in_files (1 + message_height message) vs) y x) vs less in
         upper (message_strips w commit message) (files_strips w m (1 + message_height message) (map shown_file vs)) 1 y x (omega (arith, less, n))
-        ∙ sym (message-owner w commit y x message) ∙ sym (two_none (spot_owner (message_spots commit (is_some message)) y x))
-        ∙ ap (first_of_two (spot_owner (message_spots commit (is_some message)) y x)) (sym none)
+        ∙ sym (message-owner w commit y x message) ∙ sym (two_none (overlay_owner (message_rects commit (is_some message)) y x))
+        ∙ ap (first_of_two (overlay_owner (message_rects commit (is_some message)) y x)) (sym none)
     go false q =
         let more : 1 + message_height message ≤ y = grind (arith, nat_tests) in
         let n = length-message w commit message in
         let none = message-owner w commit y x message ∙ past-message w commit y x message more in
         lower (message_strips w commit message) (files_strips w m (1 + message_height message) (map shown_file vs)) 1 (1 + message_height message) y x (omega (arith, n)) more
         ∙ files-owned w x y m commit 0 (1 + message_height message) vs e more
-        ∙ ap (λ o. first_of_two o (rows_owner w (file_tops m (1 + message_height message) vs) (tops_in_files (1 + message_height message) vs) y x)) (sym none)
+        ∙ ap (λ o. first_of_two o (rows_owner w (file_piece_list m (1 + message_height message) vs) (sections_in_files (1 + message_height message) vs) y x)) (sym none)
 
 one-layer : (w h m y x commit : ℕ) (message : Option (List ℕ)) (f : FileView) (fs : List FileView) → AreFilesOf commit 0 (map shown_file (f ∷ fs))
     → owned_by (document_layers w h m 1 (record { commit = commit; message = message; files = map shown_file (f ∷ fs) })) y x
-    ≡ first_of_two (spot_owner (message_spots commit (is_some message)) y x) (rows_owner w (file_tops m (1 + message_height message) (f ∷ fs)) (tops_in_files (1 + message_height message) (f ∷ fs)) y x)
+    ≡ first_of_two (overlay_owner (message_rects commit (is_some message)) y x) (rows_owner w (file_piece_list m (1 + message_height message) (f ∷ fs)) (sections_in_files (1 + message_height message) (f ∷ fs)) y x)
 unfolding owned_by owner_of
 one-layer w h m y x commit message f fs e =
     let n = length-message w commit message in
@@ -138,7 +144,7 @@ one-layer w h m y x commit message f fs e =
 document-owner : (w h s y x : ℕ) (v : CommitView) → HasItsIds (document_of v)
     → let d = document_of v in
     owned_by (rows_layers w h s d) y x
-    ≡ first_of_two (spot_owner (message_spots d.commit (is_some d.message)) y x) (rows_owner w (file_tops (s + 1) (1 + message_height d.message) v.file_views) (tops_in_files (1 + message_height d.message) v.file_views) y x)
+    ≡ first_of_two (overlay_owner (message_rects d.commit (is_some d.message)) y x) (rows_owner w (file_piece_list (s + 1) (1 + message_height d.message) v.file_views) (sections_in_files (1 + message_height d.message) v.file_views) y x)
 document-owner w h s y x v e = go v.file_views e
   where
     commit : ℕ
@@ -146,14 +152,14 @@ document-owner w h s y x v e = go v.file_views e
 
     go : (vs : List FileView) → AreFilesOf v.commit_message_view.commit_idx 0 (map shown_file vs)
         → owned_by (rows_layers w h s (record { commit = v.commit_message_view.commit_idx; message = v.commit_message_view.commit.now.message; files = map shown_file vs })) y x
-        ≡ first_of_two (spot_owner (message_spots v.commit_message_view.commit_idx (is_some v.commit_message_view.commit.now.message)) y x)
-        (rows_owner w (file_tops (s + 1) (1 + message_height v.commit_message_view.commit.now.message) vs) (tops_in_files (1 + message_height v.commit_message_view.commit.now.message) vs) y x)
+        ≡ first_of_two (overlay_owner (message_rects v.commit_message_view.commit_idx (is_some v.commit_message_view.commit.now.message)) y x)
+        (rows_owner w (file_piece_list (s + 1) (1 + message_height v.commit_message_view.commit.now.message) vs) (sections_in_files (1 + message_height v.commit_message_view.commit.now.message) vs) y x)
     go [] q = no-files-owner w (h - 1) y x v.commit_message_view.commit_idx v.commit_message_view.commit.now.message
     go (f ∷ fs) q = one-layer w (h - 1) (s + 1) y x v.commit_message_view.commit_idx v.commit_message_view.commit.now.message f fs q
 
 -- the pinned header
 pinned-owner : (w m y x : ℕ) (v : CommitView) → x < w → 3 ≤ w → HasItsIds (document_of v)
-    → (strip_at y (pinned_layer w m 1 (document_of v))).owner x ≡ spot_owner (pinned_spots w m (file_tops m (1 + message_height (document_of v).message) v.file_views)) y x
+    → (strip_at y (pinned_layer w m 1 (document_of v))).owner x ≡ overlay_owner (pinned_rects w m (file_piece_list m (1 + message_height (document_of v).message) v.file_views)) y x
 pinned-owner w m y x v within wide e =
     let d = document_of v in
     ap (λ k. (line clear (pinned_strips w m (1 + k) (map shown_file v.file_views)) (pos m) (pos y)).owner x) (length-message w d.commit d.message)
@@ -169,28 +175,28 @@ four o p m r = two_assoc (first_of_two o p) m r ∙ two_assoc o p (first_of_two 
 -- the whole of it, over one another
 all-owner : (w h s y x : ℕ) (menu : Option ℕ) (quit : Option QuitDialog) (help : Bool) (v : CommitView) → HasItsIds (document_of v) → 10 ≤ w → 2 ≤ h → x < w
     → let d = document_of v in
-    first_of_two (spot_owner (message_spots d.commit (is_some d.message) ++ (pinned_spots w (s + 1) (file_tops (s + 1) (1 + message_height d.message) v.file_views)
-    ++ (bar_spots w s (menus_with menu) ++ (quit_spots w h s quit ++ help_spots w h s help)))) y x)
-    (rows_owner w (file_tops (s + 1) (1 + message_height d.message) v.file_views) (tops_in_files (1 + message_height d.message) v.file_views) y x)
+    first_of_two (overlay_owner (message_rects d.commit (is_some d.message) ++ (pinned_rects w (s + 1) (file_piece_list (s + 1) (1 + message_height d.message) v.file_views)
+    ++ (menu_bar_rects w s (menus_with menu) ++ (quit_dialog_rects w h s quit ++ help_dialog_rects w h s help)))) y x)
+    (rows_owner w (file_piece_list (s + 1) (1 + message_height d.message) v.file_views) (sections_in_files (1 + message_height d.message) v.file_views) y x)
     ≡ owned_by (body_layers w h s d ++ overlays w h s menu quit help) y x
 all-owner w h s y x menu quit help v e wide high within =
     let d = document_of v in
-    let ms = message_spots d.commit (is_some d.message) in
-    let ps = pinned_spots w (s + 1) (file_tops (s + 1) (1 + message_height d.message) v.file_views) in
-    let os = bar_spots w s (menus_with menu) ++ (quit_spots w h s quit ++ help_spots w h s help) in
-    let r = rows_owner w (file_tops (s + 1) (1 + message_height d.message) v.file_views) (tops_in_files (1 + message_height d.message) v.file_views) y x in
-    ap (λ o. first_of_two o r) (spots-append ms (ps ++ os) y x ∙ ap (λ o. first_of_two o (spot_owner ms y x)) (spots-append ps os y x))
-    ∙ four (spot_owner os y x) (spot_owner ps y x) (spot_owner ms y x) r
+    let ms = message_rects d.commit (is_some d.message) in
+    let ps = pinned_rects w (s + 1) (file_piece_list (s + 1) (1 + message_height d.message) v.file_views) in
+    let os = menu_bar_rects w s (menus_with menu) ++ (quit_dialog_rects w h s quit ++ help_dialog_rects w h s help) in
+    let r = rows_owner w (file_piece_list (s + 1) (1 + message_height d.message) v.file_views) (sections_in_files (1 + message_height d.message) v.file_views) y x in
+    ap (λ o. first_of_two o r) (spots-append ms (ps ++ os) y x ∙ ap (λ o. first_of_two o (overlay_owner ms y x)) (spots-append ps os y x))
+    ∙ four (overlay_owner os y x) (overlay_owner ps y x) (overlay_owner ms y x) r
     ∙ ap₂ first_of_two (overlays-owner w h s y x menu quit help within (omega (arith, wide)) high)
     (ap₂ first_of_two (sym (pinned-owner w (s + 1) y x v within (omega (arith, wide)) e) ∙ sym (alone (pinned_layer w (s + 1) 1 d) y x)) (sym (document-owner w h s y x v e))
     ∙ sym (owned-append (λ i j. false) (λ i. false) (rows_layers w h s d) (pinned_layer w (s + 1) 1 d ∷ []) y x))
     ∙ sym (owned-append (λ i j. false) (λ i. false) (body_layers w h s d) (overlays w h s menu quit help) y x)
 
-pub index-owner : (w h s y x : ℕ) (shown : Shown) (v : CommitView) → Shows v shown 0 → 10 ≤ w → 2 ≤ h → x < w
+pub index-owner : (w h s y x : ℕ) (shown : ViewState) (v : CommitView) → Shows v shown 0 → 10 ≤ w → 2 ≤ h → x < w
     → let d = document_of v in
-    first_of_two (spot_owner (message_spots d.commit (is_some d.message) ++ (pinned_spots w (s + 1) (file_tops (s + 1) (1 + message_height d.message) v.file_views)
-    ++ (bar_spots w s (menus_with shown.open_menu) ++ (quit_spots w h s shown.quit_dialog ++ help_spots w h s shown.is_help_open)))) y x)
-    (rows_owner w (file_tops (s + 1) (1 + message_height d.message) v.file_views) (tops_in_files (1 + message_height d.message) v.file_views) y x)
+    first_of_two (overlay_owner (message_rects d.commit (is_some d.message) ++ (pinned_rects w (s + 1) (file_piece_list (s + 1) (1 + message_height d.message) v.file_views)
+    ++ (menu_bar_rects w s (menus_with shown.open_menu) ++ (quit_dialog_rects w h s shown.quit_dialog ++ help_dialog_rects w h s shown.is_help_open)))) y x)
+    (rows_owner w (file_piece_list (s + 1) (1 + message_height d.message) v.file_views) (sections_in_files (1 + message_height d.message) v.file_views) y x)
     ≡ owner w h s shown y x
 unfolding owner
 index-owner w h s y x shown v shows wide high within =
@@ -199,7 +205,7 @@ index-owner w h s y x shown v shows wide high within =
 
 -- ---- keys
 
-pub index-span : (m : ℕ) (shown : Shown) (v : CommitView) (k : SelectionKey) → Shows v shown 0
+pub index-span : (m : ℕ) (shown : ViewState) (v : CommitView) (k : SelectionKey) → Shows v shown 0
     → rows_of_key k (flat_map piece_places (files_pieces m (1 + message_height (document_of v).message) v.file_views)) ≡ span shown k
 unfolding span
 index-span m shown v k shows = ap (rows_of_key k) (files-places m (1 + message_height (document_of v).message) v.file_views) ∙ ap (λ (d : Document). rows_of_key k (places 1 d)) shows
@@ -215,20 +221,20 @@ message-few : (message : Option (List ℕ)) → message_height message ≤ 3
 message-few None = omega arith
 message-few (Some t) = omega arith
 
-pub index-few : (shown : Shown) (v : CommitView) → is_accepted_state shown.state ≡ true → Shows v shown 0 → 1 + message_height (document_of v).message + files_height v.file_views < 2 ^ 62
+pub index-few : (shown : ViewState) (v : CommitView) → is_accepted_state shown.state ≡ true → Shows v shown 0 → 1 + message_height (document_of v).message + files_height v.file_views < 2 ^ 62
 index-few shown v a shows =
     let few = session-few shown 0 v a shows in
     let size = files-rows-height v.file_views in
     let message = message-few (document_of v).message in
     omega (arith, few, size, message)
 
-first-shows : (vs : List CommitView) (shown : Shown) (v : CommitView) → ShowInOrder vs shown 0 → 1 ≤ length vs → v ≡ get_or vs 0 v → Shows v shown 0
+first-shows : (vs : List CommitView) (shown : ViewState) (v : CommitView) → ShowInOrder vs shown 0 → 1 ≤ length vs → v ≡ get_or vs 0 v → Shows v shown 0
 first-shows [] shown v e n f = absurd (omega (arith, n))
 first-shows (u ∷ us) shown v e n f = subst (λ (t : CommitView). Shows t shown 0) (sym f) e.0
 
-pub shows-first : (a : AppView) (shown : Shown) (w h : ℕ) (v : CommitView) → IsPlain a shown w h → v ≡ get_or a.commit_views 0 v → Shows v shown 0
+pub shows-first : (a : AppView) (shown : ViewState) (w h : ℕ) (v : CommitView) → IsPlain a shown w h → v ≡ get_or a.commit_views 0 v → Shows v shown 0
 shows-first a shown w h v plain f =
-    let one : 1 ≤ length a.commit_views = subst (λ (mode : CommitViewMode). views_shown mode ≤ length a.commit_views) plain.view_mode plain.shows.count in
+    let one : 1 ≤ length a.commit_views = subst (λ (mode : CommitViewMode). view_count mode ≤ length a.commit_views) plain.view_mode plain.shows.count in
     first-shows a.commit_views shown v plain.shows.views one f
 
 pub short-menu : (m : Option (ℕ × Menu)) → short.IsShortMenu m → IsShortMenu m
@@ -300,13 +306,13 @@ unfolding around
 help-around w h s true r high = dialog-around w h s help_dialog r high
 help-around w h s false r high = refl
 
-bar-end : (w s : ℕ) (b : MenuBar) → end_of (menu_layer w s b) ≡ s + 1 + open_height (opened 0 b.menus b.expanded_menu_idx)
+bar-end : (w s : ℕ) (b : MenuBar) → end_of (menu_layer w s b) ≡ s + 1 + open_menu_height (open_menu_with_column 0 b.menus b.expanded_menu_idx)
 bar-end w s b = length-bar w s b
 
-pub index-extent : (w h s : ℕ) (shown : Shown) (v : CommitView) → Shows v shown 0 → 2 ≤ h
+pub index-extent : (w h s : ℕ) (shown : ViewState) (v : CommitView) → Shows v shown 0 → 2 ≤ h
     → let b = menus_with shown.open_menu in
     let d = document_of v in
-    let r = joined_with (joined_with (joined (s, s + 1 + open_height (opened 0 b.menus b.expanded_menu_idx)) (document_run (h - 1) (message_height d.message) (length v.file_views == 0) (1 + message_height d.message + files_height v.file_views)))
+    let r = joined_with (joined_with (joined (s, s + 1 + open_menu_height (open_menu_with_column 0 b.menus b.expanded_menu_idx)) (document_run (h - 1) (message_height d.message) (length v.file_views == 0) (1 + message_height d.message + files_height v.file_views)))
     (option_map (λ q. dialog_run w h s (quit_dialog q)) shown.quit_dialog)) (if shown.is_help_open then Some (dialog_run w h s help_dialog) else None) in
     r.1 - r.0 ≡ extent w h s shown
 unfolding extent
@@ -316,7 +322,7 @@ index-extent w h s shown v shows high =
     let rows = rows_layers w h s d in
     let quit = quit_layers w h s shown.quit_dialog in
     let help = help_layers w h s shown.is_help_open in
-    let all : around (s, end_of (menu_layer w s b)) (rows ++ (quit ++ help)) ≡ joined_with (joined_with (joined (s, s + 1 + open_height (opened 0 b.menus b.expanded_menu_idx)) (document_run (h - 1) (message_height d.message) (length v.file_views == 0) (1 + message_height d.message + files_height v.file_views)))
+    let all : around (s, end_of (menu_layer w s b)) (rows ++ (quit ++ help)) ≡ joined_with (joined_with (joined (s, s + 1 + open_menu_height (open_menu_with_column 0 b.menus b.expanded_menu_idx)) (document_run (h - 1) (message_height d.message) (length v.file_views == 0) (1 + message_height d.message + files_height v.file_views)))
     (option_map (λ q. dialog_run w h s (quit_dialog q)) shown.quit_dialog)) (if shown.is_help_open then Some (dialog_run w h s help_dialog) else None) =
     ap (λ e. around (s, e) (rows ++ (quit ++ help))) (bar-end w s b)
     ∙ around-append rows (quit ++ help) _ ∙ ap (λ r. around r (quit ++ help)) (document-around w (h - 1) (s + 1) d.commit d.message v.file_views _)
@@ -326,7 +332,7 @@ index-extent w h s shown v shows high =
 
 -- ---- all that the index answers
 
-spots-all : (ms ps bs qs hs m1 m2 m3 m4 : List Spot) → m1 ≡ ms ++ ps → m2 ≡ m1 ++ bs → m3 ≡ m2 ++ qs → m4 ≡ m3 ++ hs → m4 ≡ ms ++ (ps ++ (bs ++ (qs ++ hs)))
+spots-all : (ms ps bs qs hs m1 m2 m3 m4 : List OverlayRect) → m1 ≡ ms ++ ps → m2 ≡ m1 ++ bs → m3 ≡ m2 ++ qs → m4 ≡ m3 ++ hs → m4 ≡ ms ++ (ps ++ (bs ++ (qs ++ hs)))
 spots-all ms ps bs qs hs m1 m2 m3 m4 a b c d =
     d ∙ ap (λ k. k ++ hs) (c ∙ ap (λ k. k ++ qs) (b ∙ ap (λ k. k ++ bs) a))
     ∙ append_assoc ((ms ++ ps) ++ bs) qs hs ∙ append_assoc (ms ++ ps) bs (qs ++ hs) ∙ append_assoc ms ps (bs ++ (qs ++ hs))
@@ -335,39 +341,39 @@ if-same : (t : Bool) (a b : Option ComponentId) → (t ≡ true → a ≡ b) →
 if-same true a b h = h refl
 if-same false a b h = refl
 
-pub answers-owner : (w h s y x : ℕ) (a : AppView) (shown : Shown) (v : CommitView) (m0 m1 m2 m3 m4 : List Spot) (fs : List FileTop) (ss : List SectionTop) → IsPlain a shown w h → Shows v shown 0
-    → m0 ≡ message_spots (document_of v).commit (is_some (document_of v).message) → m1 ≡ m0 ++ pinned_spots w (s + 1) fs → m2 ≡ m1 ++ bar_spots w s a.menu_bar
-    → m3 ≡ m2 ++ quit_spots w h s a.quit_dialog → m4 ≡ m3 ++ help_spots w h s (has_help a.help_dialog)
-    → fs ≡ file_tops (s + 1) (1 + message_height (document_of v).message) v.file_views → ss ≡ tops_in_files (1 + message_height (document_of v).message) v.file_views
-    → (if nat_lt x w then first_of_two (spot_owner m4 y x) (rows_owner w fs ss y x) else None) ≡ (if nat_lt x w then owner w h s shown y x else None)
+pub answers-owner : (w h s y x : ℕ) (a : AppView) (shown : ViewState) (v : CommitView) (m0 m1 m2 m3 m4 : List OverlayRect) (fs : List FilePiece) (ss : List SectionPiece) → IsPlain a shown w h → Shows v shown 0
+    → m0 ≡ message_rects (document_of v).commit (is_some (document_of v).message) → m1 ≡ m0 ++ pinned_rects w (s + 1) fs → m2 ≡ m1 ++ menu_bar_rects w s a.menu_bar
+    → m3 ≡ m2 ++ quit_dialog_rects w h s a.quit_dialog → m4 ≡ m3 ++ help_dialog_rects w h s (has_help a.help_dialog)
+    → fs ≡ file_piece_list (s + 1) (1 + message_height (document_of v).message) v.file_views → ss ≡ sections_in_files (1 + message_height (document_of v).message) v.file_views
+    → (if nat_lt x w then first_of_two (overlay_owner m4 y x) (rows_owner w fs ss y x) else None) ≡ (if nat_lt x w then owner w h s shown y x else None)
 answers-owner w h s y x a shown v m0 m1 m2 m3 m4 fs ss plain shows e0 e1 e2 e3 e4 ef es =
-    let bar : bar_spots w s a.menu_bar ≡ bar_spots w s (menus_with shown.open_menu) = ap (bar_spots w s) plain.shows.menu_bar in
-    let quit : quit_spots w h s a.quit_dialog ≡ quit_spots w h s shown.quit_dialog = ap (quit_spots w h s) plain.shows.quit_dialog in
-    let help : help_spots w h s (has_help a.help_dialog) ≡ help_spots w h s shown.is_help_open = ap (help_spots w h s) plain.shows.help_dialog in
+    let bar : menu_bar_rects w s a.menu_bar ≡ menu_bar_rects w s (menus_with shown.open_menu) = ap (menu_bar_rects w s) plain.shows.menu_bar in
+    let quit : quit_dialog_rects w h s a.quit_dialog ≡ quit_dialog_rects w h s shown.quit_dialog = ap (quit_dialog_rects w h s) plain.shows.quit_dialog in
+    let help : help_dialog_rects w h s (has_help a.help_dialog) ≡ help_dialog_rects w h s shown.is_help_open = ap (help_dialog_rects w h s) plain.shows.help_dialog in
     let d = document_of v in
-    let ps = pinned_spots w (s + 1) (file_tops (s + 1) (1 + message_height d.message) v.file_views) in
-    let all : m4 ≡ message_spots d.commit (is_some d.message) ++ (ps ++ (bar_spots w s (menus_with shown.open_menu) ++ (quit_spots w h s shown.quit_dialog ++ help_spots w h s shown.is_help_open))) =
-    spots-all (message_spots d.commit (is_some d.message)) ps (bar_spots w s (menus_with shown.open_menu)) (quit_spots w h s shown.quit_dialog) (help_spots w h s shown.is_help_open) m1 m2 m3 m4
-    (e1 ∙ ap₂ (λ i j. i ++ j) e0 (ap (pinned_spots w (s + 1)) ef)) (e2 ∙ ap (λ k. m1 ++ k) bar) (e3 ∙ ap (λ k. m2 ++ k) quit) (e4 ∙ ap (λ k. m3 ++ k) help) in
+    let ps = pinned_rects w (s + 1) (file_piece_list (s + 1) (1 + message_height d.message) v.file_views) in
+    let all : m4 ≡ message_rects d.commit (is_some d.message) ++ (ps ++ (menu_bar_rects w s (menus_with shown.open_menu) ++ (quit_dialog_rects w h s shown.quit_dialog ++ help_dialog_rects w h s shown.is_help_open))) =
+    spots-all (message_rects d.commit (is_some d.message)) ps (menu_bar_rects w s (menus_with shown.open_menu)) (quit_dialog_rects w h s shown.quit_dialog) (help_dialog_rects w h s shown.is_help_open) m1 m2 m3 m4
+    (e1 ∙ ap₂ (λ i j. i ++ j) e0 (ap (pinned_rects w (s + 1)) ef)) (e2 ∙ ap (λ k. m1 ++ k) bar) (e3 ∙ ap (λ k. m2 ++ k) quit) (e4 ∙ ap (λ k. m3 ++ k) help) in
     if-same (nat_lt x w) _ _ (λ q.
     let within : x < w = grind (arith, nat_tests) in
-    ap₂ first_of_two (ap (λ k. spot_owner k y x) all) (ap₂ (λ f g. rows_owner w f g y x) ef es)
+    ap₂ first_of_two (ap (λ k. overlay_owner k y x) all) (ap₂ (λ f g. rows_owner w f g y x) ef es)
     ∙ index-owner w h s y x shown v shows plain.wide plain.high within)
 
-pub answers-extent : (w h s : ℕ) (a : AppView) (shown : Shown) (v : CommitView) (run : ℕ × ℕ) (below n e : ℕ) (none : Bool) (quit help : Option (ℕ × ℕ)) → IsPlain a shown w h → Shows v shown 0
+pub answers-extent : (w h s : ℕ) (a : AppView) (shown : ViewState) (v : CommitView) (run : ℕ × ℕ) (below n e : ℕ) (none : Bool) (quit help : Option (ℕ × ℕ)) → IsPlain a shown w h → Shows v shown 0
     → run ≡ joined_with (joined_with (joined (s, below) (document_run (h - 1) n none e)) quit) help
-    → below ≡ s + 1 + open_height (opened 0 a.menu_bar.menus a.menu_bar.expanded_menu_idx) → n ≡ message_height (document_of v).message → none ≡ (length v.file_views == 0)
+    → below ≡ s + 1 + open_menu_height (open_menu_with_column 0 a.menu_bar.menus a.menu_bar.expanded_menu_idx) → n ≡ message_height (document_of v).message → none ≡ (length v.file_views == 0)
     → e ≡ 1 + message_height (document_of v).message + files_height v.file_views
     → quit ≡ option_map (λ q. dialog_run w h s (quit_dialog q)) a.quit_dialog → help ≡ (if has_help a.help_dialog then Some (dialog_run w h s help_dialog) else None)
     → run.1 - run.0 ≡ extent w h s shown
 answers-extent w h s a shown v run below n e none quit help plain shows er eb en ez ee eq eh =
-    let bar = eb ∙ ap (λ (b : MenuBar). s + 1 + open_height (opened 0 b.menus b.expanded_menu_idx)) plain.shows.menu_bar in
+    let bar = eb ∙ ap (λ (b : MenuBar). s + 1 + open_menu_height (open_menu_with_column 0 b.menus b.expanded_menu_idx)) plain.shows.menu_bar in
     let q = eq ∙ ap (option_map (λ q. dialog_run w h s (quit_dialog q))) plain.shows.quit_dialog in
     let k = eh ∙ ap (λ t. if t then Some (dialog_run w h s help_dialog) else None) plain.shows.help_dialog in
     let d = document_of v in
     let doc : document_run (h - 1) n none e ≡ document_run (h - 1) (message_height d.message) (length v.file_views == 0) (1 + message_height d.message + files_height v.file_views) = rw (en, ez, ee) refl in
     let b = menus_with shown.open_menu in
-    let all : run ≡ joined_with (joined_with (joined (s, s + 1 + open_height (opened 0 b.menus b.expanded_menu_idx)) (document_run (h - 1) (message_height d.message) (length v.file_views == 0) (1 + message_height d.message + files_height v.file_views)))
+    let all : run ≡ joined_with (joined_with (joined (s, s + 1 + open_menu_height (open_menu_with_column 0 b.menus b.expanded_menu_idx)) (document_run (h - 1) (message_height d.message) (length v.file_views == 0) (1 + message_height d.message + files_height v.file_views)))
     (option_map (λ q. dialog_run w h s (quit_dialog q)) shown.quit_dialog)) (if shown.is_help_open then Some (dialog_run w h s help_dialog) else None) =
     er ∙ ap₂ joined_with (ap₂ joined_with (ap₂ joined (ap (λ z. (s, z)) bar) doc) q) k in
     ap (λ (r : ℕ × ℕ). r.1 - r.0) all ∙ index-extent w h s shown v shows plain.high

@@ -31,21 +31,24 @@ use Rattle.scm_render.specs.Picture.{PictureInRange}
 use Rattle.scm_render.specs.Canvas.{Sight}
 use Rattle.scm_render.specs.Drawing.{texts_width}
 use Rattle.scm_types.specs.declared.keys.FileKey.{FileKey}
-use Rattle.scm_view.specs.declared.tristate_box.TristateIconStyle.{TristateIconStyle}
-use Rattle.scm_view.specs.declared.tristate_box.TristateIconStyle.TheVariants.{Check, Expand}
-use Rattle.scm_view.specs.declared.section_view.SectionView.{SectionView}
-use Rattle.scm_view.specs.declared.commit_view.CommitView.{CommitView}
-use Rattle.scm_view.specs.Texts.{icon_text, bracketed, box_text, path_text, section_text, mode_change_text, binary_text, number_text, sign_text, dots_text, message_text}
-use Rattle.scm_view.specs.Rows.{Document, message_height, IdBox, Heading, DocRow, DotsRow, BlankRow, ShownSection, line_texts, line_box, section_box, is_first, is_fold_open, are_all_shown, lines_above, has_dots, first_below, rows_below, shown_lines, context_rows, lines_height, section_height, changed_rows, numbered_rows, rows_of, section_rows, is_shown, is_open, is_first_open, shown_section, shown_sections, sections_rows, shown_file, lent_text, file_rows, document_of, line_number, section_heading}
-use Rattle.scm_view.specs.FilesRows.{files_rows}
-use Rattle.scm_view.specs.Pictures.{commit_picture}
+use Rattle.scm_widgets.specs.declared.tristate_box.TristateIconStyle.{TristateIconStyle}
+use Rattle.scm_widgets.specs.declared.tristate_box.TristateIconStyle.TheVariants.{Check, Expand}
+use Rattle.scm_document.specs.declared.section_view.SectionView.{SectionView}
+use Rattle.scm_document.specs.declared.commit_view.CommitView.{CommitView}
+use Rattle.scm_widgets.specs.Texts.{icon_text, bracketed, box_text}
+use Rattle.scm_document.specs.Texts.{path_text, section_text, mode_change_text, binary_text, number_text, sign_text, dots_text, message_text}
+use Rattle.scm_document.specs.Rows.{Document, message_height, Heading, DocRow, DotsRow, BlankRow, ShownSection, line_texts, line_box, section_box, is_first, are_all_shown, lines_above, has_dots, first_below, rows_below, shown_lines, context_rows, lines_height, section_height, changed_rows, numbered_rows, rows_of, section_rows, is_section_visible, is_open, is_first_open, shown_section, shown_sections, sections_rows, shown_file, lent_text, file_rows, document_of, line_number, section_heading}
+use Rattle.scm_widgets.specs.Boxes.{IdBox, is_fold_open}
+use Rattle.scm_document.specs.FilesRows.{files_rows}
+use Rattle.scm_document.specs.Pictures.{commit_picture}
 use Rattle.scm_types.specs.Keys.{section_key_of}
-use Rattle.scm_view.specs.Shown.{Shown, Shows, lent, Totals, totals_of, section_view_of, section_views_of, file_view_of, file_views_of, commit_at, commit_view_of, old_lines}
-use Rattle.scm_view.specs.Close.{IsClose, SightIsClose}
-use Rattle.scm_view.specs.Here.{IsHere, SightIsHere}
-use Rattle.scm_view.proofs.Near.{IsNarrow, IsNarrowBox, IsNarrowHeading, AreNarrow, AreNarrowSections, IsNarrowFile, AreNarrowFiles, IsNarrowMessage, IsNarrowDocument}
-use Rattle.scm_view.proofs.SectionsLemmas.{at_most, height-of, length-sections}
-use Rattle.scm_view.proofs.NearLemmas.{document-near}
+use Rattle.scm_view.specs.ViewState.{ViewState, Shows, borrow_of, Totals, totals_of, section_view_of, section_views_of, file_view_of, file_views_of, commit_at, commit_view_of, old_lines}
+use Rattle.scm_document.specs.ScrollBounds.{IsInScrollBounds, SightIsInScrollBounds}
+use Rattle.scm_widgets.specs.DrawBounds.{IsInDrawBounds}
+use Rattle.scm_document.specs.DrawBounds.{SightIsInDrawBounds}
+use Rattle.scm_document.proofs.Near.{IsNarrow, IsNarrowBox, IsNarrowHeading, AreNarrow, AreNarrowSections, IsNarrowFile, AreNarrowFiles, IsNarrowMessage, IsNarrowDocument}
+use Rattle.scm_document.proofs.SectionsLemmas.{at_most, height-of, length-sections}
+use Rattle.scm_document.proofs.NearLemmas.{document-near}
 
 -- ---- tests that pass
 
@@ -283,7 +286,7 @@ unfolding section_rows
 shown-narrow true v h = (rows-narrow v v.section.now h, tt)
 shown-narrow false v h = tt
 
-sections-narrow : (s : Shown) (totals : Totals) (k : FileKey) (before : Bool) (i editable line : ℕ) (sections : List Section) → list_all has_short_texts sections ≡ true
+sections-narrow : (s : ViewState) (totals : Totals) (k : FileKey) (before : Bool) (i editable line : ℕ) (sections : List Section) → list_all has_short_texts sections ≡ true
     → AreNarrowSections (shown_sections before (section_views_of s totals k i editable line sections))
 unfolding shown_sections section_views_of
 sections-narrow s totals k before i editable line [] h = tt
@@ -296,7 +299,7 @@ pub shown_if-narrow : (b : Bool) (ps : List ShownSection) → AreNarrowSections 
 shown_if-narrow true ps h = h
 shown_if-narrow false ps h = tt
 
-file-narrow : (s : Shown) (k : FileKey) (f : File) → has_short_texts_in_file f ≡ true → IsNarrowFile (shown_file (file_view_of s k f))
+file-narrow : (s : ViewState) (k : FileKey) (f : File) → has_short_texts_in_file f ≡ true → IsNarrowFile (shown_file (file_view_of s k f))
 unfolding shown_file
 file-narrow s k f h =
     let paths = first_true (is_short_option f.old_path && is_short_text f.path) (list_all has_short_texts f.sections) h in
@@ -307,11 +310,11 @@ file-narrow s k f h =
       sections = shown_if-narrow (is_fold_open v.expand_box) (shown_sections false v.section_views) (sections-narrow s (totals_of f.sections) k false 0 0 0 f.sections texts);
     }
   where
-    old : (o : Option (List ℕ)) → is_short_option o ≡ true → is_short_option (option_map (λ b. b.now) (option_map lent o)) ≡ true
+    old : (o : Option (List ℕ)) → is_short_option o ≡ true → is_short_option (option_map (λ b. b.now) (option_map borrow_of o)) ≡ true
     old None h = refl
     old (Some t) h = h
 
-files-narrow : (s : Shown) (commit i : ℕ) (fs : List File) → list_all has_short_texts_in_file fs ≡ true → AreNarrowFiles (map shown_file (file_views_of s commit i fs))
+files-narrow : (s : ViewState) (commit i : ℕ) (fs : List File) → list_all has_short_texts_in_file fs ≡ true → AreNarrowFiles (map shown_file (file_views_of s commit i fs))
 unfolding file_views_of
 files-narrow s commit i [] h = tt
 files-narrow s commit i (f ∷ fs) h =
@@ -345,23 +348,23 @@ unfolding sections_rows section_rows
 shown-few true v = omega (arith, length-append (rows_of v v.section.now) [], height-of v v.section.now, rows-few v v.section.now)
 shown-few false v = omega arith
 
-sections-few : (s : Shown) (totals : Totals) (k : FileKey) (before : Bool) (i editable line : ℕ) (sections : List Section)
+sections-few : (s : ViewState) (totals : Totals) (k : FileKey) (before : Bool) (i editable line : ℕ) (sections : List Section)
     → length (sections_rows (shown_sections before (section_views_of s totals k i editable line sections))) ≤ 2 * sum_by section_size sections + length sections
 unfolding shown_sections section_views_of sections_rows
 sections-few s totals k before i editable line [] = omega arith
 sections-few s totals k before i editable line (section ∷ more) =
     let v = section_view_of s totals (section_key_of k i) editable line section in
     let rest = shown_sections (is_open v) (section_views_of s totals k (suc i) (if is_editable_section section then editable + 1 else editable) (line + old_lines section) more) in
-    let first = shown_section (is_shown before v (is_first_open (section_views_of s totals k (suc i) (if is_editable_section section then editable + 1 else editable) (line + old_lines section) more))) v in
+    let first = shown_section (is_section_visible before v (is_first_open (section_views_of s totals k (suc i) (if is_editable_section section then editable + 1 else editable) (line + old_lines section) more))) v in
     omega (
       arith,
       length-sections first rest,
-      shown-few (is_shown before v (is_first_open (section_views_of s totals k (suc i) (if is_editable_section section then editable + 1 else editable) (line + old_lines section) more))) v,
+      shown-few (is_section_visible before v (is_first_open (section_views_of s totals k (suc i) (if is_editable_section section then editable + 1 else editable) (line + old_lines section) more))) v,
       sections-few s totals k (is_open v) (suc i) (if is_editable_section section then editable + 1 else editable) (line + old_lines section) more,
       sum_by-cons section_size section more,
     )
 
-file-few : (s : Shown) (k : FileKey) (f : File) → length (file_rows (shown_file (file_view_of s k f))) ≤ 2 * file_size f + 1
+file-few : (s : ViewState) (k : FileKey) (f : File) → length (file_rows (shown_file (file_view_of s k f))) ≤ 2 * file_size f + 1
 unfolding file_rows shown_file sections_rows
 file-few s k f = go _ (sections-few s (totals_of f.sections) k false 0 0 0 f.sections)
   where
@@ -370,7 +373,7 @@ file-few s k f = go _ (sections-few s (totals_of f.sections) k false 0 0 0 f.sec
     go true h = omega (arith, h)
     go false h = omega arith
 
-files-few : (s : Shown) (commit i : ℕ) (fs : List File) → length (files_rows (map shown_file (file_views_of s commit i fs))) ≤ 2 * sum_by file_size fs + length fs
+files-few : (s : ViewState) (commit i : ℕ) (fs : List File) → length (files_rows (map shown_file (file_views_of s commit i fs))) ≤ 2 * sum_by file_size fs + length fs
 unfolding file_views_of files_rows
 files-few s commit i [] = omega arith
 files-few s commit i (f ∷ fs) =
@@ -386,14 +389,14 @@ short-commit zero (c ∷ cs) h = first_true (is_short_option c.message) (list_al
 short-commit (suc n) (c ∷ cs) h = short-commit n cs (second_true (is_short_option c.message) (list_all (λ (c : Commit). is_short_option c.message) cs) h)
 
 -- close places are here
-pub close-here : (z : ℤ) → IsClose z → IsHere z
+pub close-here : (z : ℤ) → IsInScrollBounds z → IsInDrawBounds z
 close-here z c = record { low = omega (arith, places, c.low); high = omega (arith, places, c.high, scroll_room) }
 
-pub sight-here : (s : Sight) → SightIsClose s → SightIsHere s
+pub sight-here : (s : Sight) → SightIsInScrollBounds s → SightIsInDrawBounds s
 sight-here s c = record { x = close-here _ c.x; end_x = close-here _ c.end_x; mask_x = close-here _ c.mask_x; mask_y = close-here _ c.mask_y }
 
 -- the texts of an accepted state are narrow
-pub session-narrow : (shown : Shown) (commit : ℕ) → is_accepted_state shown.state ≡ true → IsNarrowDocument (document_of (commit_view_of shown commit))
+pub session-narrow : (shown : ViewState) (commit : ℕ) → is_accepted_state shown.state ≡ true → IsNarrowDocument (document_of (commit_view_of shown commit))
 session-narrow shown commit a =
     let cs = shown.state.commits in
     let fs = shown.state.files in
@@ -404,8 +407,8 @@ session-narrow shown commit a =
     let first = first_true ((two && messages) && size) texts a in
     record { message = message-narrow _ (short-commit commit cs (second_true two messages (first_true (two && messages) size first))); files = files-narrow shown commit 0 fs (second_true ((two && messages) && size) texts a) }
 
-pub commits-in-range : (shown : Shown) (commit : ℕ) (v : CommitView) (s : Sight) (x y : ℤ) → is_accepted_state shown.state ≡ true → Shows v shown commit
-    → SightIsClose s → IsClose x → IsClose y → PictureInRange (commit_picture v s x y)
+pub commits-in-range : (shown : ViewState) (commit : ℕ) (v : CommitView) (s : Sight) (x y : ℤ) → is_accepted_state shown.state ≡ true → Shows v shown commit
+    → SightIsInScrollBounds s → IsInScrollBounds x → IsInScrollBounds y → PictureInRange (commit_picture v s x y)
 unfolding commit_picture
 commits-in-range shown commit v s x y a e c p q =
     let cs = shown.state.commits in
@@ -420,7 +423,7 @@ commits-in-range shown commit v s x y a e c p q =
     (record { message = message-narrow _ (short-commit commit cs (second_true two messages (first_true (two && messages) size first))); files = files-narrow shown commit 0 fs (second_true ((two && messages) && size) texts a) }))
 
 -- an accepted state has few rows
-pub few-rows : (shown : Shown) (commit : ℕ) (v : CommitView) → is_accepted_state shown.state ≡ true → Shows v shown commit → length (files_rows (map shown_file v.file_views)) ≤ 2 ^ 42
+pub few-rows : (shown : ViewState) (commit : ℕ) (v : CommitView) → is_accepted_state shown.state ≡ true → Shows v shown commit → length (files_rows (map shown_file v.file_views)) ≤ 2 ^ 42
 few-rows shown commit v a e =
     let cs = shown.state.commits in
     let fs = shown.state.files in
@@ -438,5 +441,5 @@ message-most None = omega arith
 message-most (Some text) = omega arith
 
 -- and a document of an accepted session too
-pub session-few : (shown : Shown) (commit : ℕ) (v : CommitView) → is_accepted_state shown.state ≡ true → Shows v shown commit → length (files_rows (document_of v).files) ≤ 2 ^ 43
+pub session-few : (shown : ViewState) (commit : ℕ) (v : CommitView) → is_accepted_state shown.state ≡ true → Shows v shown commit → length (files_rows (document_of v).files) ≤ 2 ^ 43
 session-few shown commit v a e = omega (arith, few-rows shown commit v a e)

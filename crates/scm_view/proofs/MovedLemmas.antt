@@ -6,11 +6,11 @@ use Rattle.std.proofs.lemmas.Int.{ints}
 use Rattle.std.proofs.lemmas.Bool.Decides.{Decides-int_eq, Decides-like, same_from_decides}
 use Rattle.scm_render.specs.Canvas.{Row}
 use Rattle.scm_render.specs.Lines.{line}
-use Rattle.scm_view.specs.declared.ids.ComponentId.{ComponentId}
-use Rattle.scm_view.specs.declared.quit_dialog.QuitDialog.{QuitDialog}
-use Rattle.scm_view.specs.Blanks.{blank_row}
-use Rattle.scm_view.specs.Layers.{Strip, Layer, strip_at, shown_by}
-use Rattle.scm_view.specs.Overlays.{overlays}
+use Rattle.scm_widgets.specs.declared.ids.ComponentId.{ComponentId}
+use Rattle.scm_overlay.specs.declared.quit_dialog.QuitDialog.{QuitDialog}
+use Rattle.scm_widgets.specs.Blanks.{blank_row}
+use Rattle.scm_widgets.specs.Layers.{Strip, Layer, strip_at, shown_by}
+use Rattle.scm_overlay.specs.Overlays.{overlays}
 use Rattle.scm_view.specs.Window.{rows_from}
 
 -- ---- values on consecutive rows

@@ -17,22 +17,26 @@ use Rattle.scm_types.specs.declared.keys.SectionKey.{SectionKey}
 use Rattle.scm_types.specs.declared.keys.LineKey.{LineKey}
 use Rattle.scm_types.specs.declared.keys.SelectionKey.{SelectionKey}
 use Rattle.scm_types.specs.declared.keys.SelectionKey.TheVariants as selection
-use Rattle.scm_view.specs.declared.ids.ComponentId.{ComponentId}
-use Rattle.scm_view.specs.declared.ids.ComponentId.TheVariants as ids
-use Rattle.scm_view.specs.Clicks.{is_clickable}
-use Rattle.scm_view.specs.Laws.{IsOpen}
-use Rattle.scm_view.specs.Layers.{Strip, clear, over, owned, strip_at}
+use Rattle.scm_widgets.specs.declared.ids.ComponentId.{ComponentId}
+use Rattle.scm_widgets.specs.declared.ids.ComponentId.TheVariants as ids
+use Rattle.scm_widgets.specs.Clicks.{is_clickable}
+use Rattle.scm_document.specs.OpenSights.{IsOpen}
+use Rattle.scm_widgets.specs.Layers.{Strip, clear, over, owned, strip_at}
 use Rattle.scm_types.specs.Keys.{section_of_line, file_of_section}
-use Rattle.scm_view.specs.Owners.{IsRowOf, after_row, AreRowsOf, AreSectionsOf}
-use Rattle.scm_view.specs.Texts.{box_text}
-use Rattle.scm_view.specs.Rows.{IdBox, section_id, line_id, Heading, DocRow, HeaderRow, SectionRow, LineRow, MarkRow, ContextRow, DotsRow, BlankRow, ShownSection}
-use Rattle.scm_view.specs.Pictures.{IdPicture, box_picture, box_part, heading_width, title_picture, heading_picture, changed_picture, context_picture, highlight, row_picture, rows_picture, sections_picture}
-use Rattle.scm_view.specs.Strips.{box_strip, heading_strip, row_strip, is_wide, is_of_section, everywhere, section_strips, sections_strips}
-use Rattle.scm_view.proofs.DrawsStrips.{DrawsStrips, HasBox, draws_nothing, draws_both, draws_below, draws_part}
-use Rattle.scm_view.proofs.ButtonLemmas.{IsId, holds-text, holds-nothing}
-use Rattle.scm_view.proofs.MenuLemmas.{differ, line-beside}
-use Rattle.scm_view.proofs.StripLemmas.{fold-place, beside_fold, AreInner}
-use Rattle.scm_view.proofs.BoxLemmas.{box-none, box-width, rows-span, has_box, changed-spans, context-spans}
+use Rattle.scm_document.specs.Owners.{IsRowOf, after_row, AreRowsOf, AreSectionsOf}
+use Rattle.scm_widgets.specs.Texts.{box_text}
+use Rattle.scm_widgets.specs.Boxes.{IdBox}
+use Rattle.scm_document.specs.Rows.{section_id, line_id, Heading, DocRow, HeaderRow, SectionRow, LineRow, MarkRow, ContextRow, DotsRow, BlankRow, ShownSection}
+use Rattle.scm_widgets.specs.Pictures.{IdPicture, box_picture, box_part, highlight}
+use Rattle.scm_document.specs.Pictures.{heading_width, title_picture, heading_picture, changed_picture, context_picture, row_picture, rows_picture, sections_picture}
+use Rattle.scm_document.specs.Strips.{box_strip, heading_strip, row_strip, is_wide, is_of_section, everywhere, section_strips, sections_strips}
+use Rattle.scm_widgets.proofs.DrawsStrips.{DrawsStrips, HasBox, draws_nothing, draws_both, draws_below, draws_part}
+use Rattle.scm_widgets.proofs.ButtonLemmas.{IsId, holds-text, holds-nothing}
+use Rattle.scm_overlay.proofs.MenuLemmas.{differ, line-beside}
+use Rattle.scm_document.proofs.StripLemmas.{fold-place, beside_fold}
+use Rattle.scm_document.proofs.BoxLemmas.{box-none, rows-span, has_box, changed-spans, context-spans}
+use Rattle.scm_widgets.proofs.BoxLemmas.{box-width}
+use Rattle.scm_document.proofs.OwnerLemmas.{rows-inner}
 
 -- a screen of w columns of which no row is seen: what is drawn there are boxes alone
 abbrev pub no_rows : ℕ → Rect
@@ -331,18 +335,6 @@ module _ (same : ComponentId → ComponentId → Bool) (law : IsLawful same) whe
       (λ i p. record { section = p.section; low = p.low; inner = p.inner })
       (λ i p. record { section = p.section; low = omega (arith, more, p.low); inner = p.inner })
 
--- ---- sections
-
-pub rows-inner : (k : SectionKey) (n : ℕ) (ds : List DocRow) → AreRowsOf k n ds → AreInner ds
-rows-inner k n [] e = tt
-rows-inner k n (HeaderRow key h ∷ ds) e = absurd e.0
-rows-inner k n (SectionRow selected h ∷ ds) e = (refl, rows-inner k _ ds e.1)
-rows-inner k n (LineRow key b ts ∷ ds) e = (refl, rows-inner k _ ds e.1)
-rows-inner k n (MarkRow selected b t ∷ ds) e = (refl, rows-inner k _ ds e.1)
-rows-inner k n (ContextRow key ts ∷ ds) e = (refl, rows-inner k _ ds e.1)
-rows-inner k n (DotsRow t ∷ ds) e = (refl, rows-inner k _ ds e.1)
-rows-inner k n (BlankRow ∷ ds) e = (refl, rows-inner k _ ds e.1)
-
 -- a section or a part of it
 abbrev pub IsOf : SectionKey → ComponentId → Type 0
 IsOf k i = section_of i ≡ Some k
@@ -378,7 +370,7 @@ module _ (same : ComponentId → ComponentId → Bool) (law : IsLawful same) whe
   section_owns k [] s w y fits o e = none_own k s w y
   section_owns k (d ∷ ds) s w y fits o e = some_own k d ds s w y fits o e
 
--- a section of the file, or a part of one, from this one on
+-- a section of the file, or a part of a section, from section `n` on
 pub record IsSectionFrom (f : FileKey) (n : ℕ) (i : ComponentId) : Type 0 where
   pub key : SectionKey
   pub section : section_of i ≡ Some key

@@ -3,26 +3,27 @@ use Rattle.std.proofs.Common.{◌≡◌, ℕ, List, [], ◌∷◌, replicate, re
 use Rattle.std.specs.Prelude.{ℤ, pos, take, slice_get, Some, None}
 use Rattle.scm_cells.specs.Counts.{Counts, no_counts, added}
 use Rattle.scm_render.specs.Picture.{PictureInRange, nothing, followed_by, part}
-use Rattle.scm_render.specs.Canvas.{Row, Sight, Canvas, painted, with_picture, under}
+use Rattle.scm_render.specs.Canvas.{Row, Sight, Canvas, paint_rows, with_picture, under}
 use Rattle.scm_render.proofs.CountLemmas.{added-none}
 use Rattle.scm_render.proofs.PictureLemmas.{PictureInRange-left, PictureInRange-part}
 use Rattle.scm_render.proofs.StepLemmas.{three}
-use Rattle.scm_view.specs.declared.ids.ComponentId.{ComponentId}
-use Rattle.scm_view.specs.declared.commit_view.CommitView.{CommitView}
-use Rattle.scm_view.specs.Pictures.{IdPicture}
-use Rattle.scm_view.specs.Rows.{document_of}
-use Rattle.scm_view.specs.Counts.{document_counts}
+use Rattle.scm_widgets.specs.declared.ids.ComponentId.{ComponentId}
+use Rattle.scm_document.specs.declared.commit_view.CommitView.{CommitView}
+use Rattle.scm_widgets.specs.Pictures.{IdPicture}
+use Rattle.scm_document.specs.Rows.{document_of}
+use Rattle.scm_document.specs.Counts.{document_counts}
 use Rattle.scm_view.specs.declared.app_view.AppView.{AppView}
-use Rattle.scm_view.specs.Shown.{Shown}
-use Rattle.scm_view.specs.Blanks.{blank_row}
-use Rattle.scm_view.specs.Screens.{screen, sight}
+use Rattle.scm_view.specs.ViewState.{ViewState}
+use Rattle.scm_widgets.specs.Blanks.{blank_row}
+use Rattle.scm_widgets.specs.Screens.{screen, sight}
 use Rattle.scm_view.specs.Window.{IsPlain, IsFew, window}
 use Rattle.scm_view.proofs.WindowLemmas.{shows-window}
 use Rattle.scm_view.proofs.FewLemmas.{few-calls-inline}
-use Rattle.scm_view.specs.AppView.{app_picture, app_counts, view_mask, view_picture, views_picture, views_counts}
-use Rattle.scm_view.specs.Paints.{IsPainted}
-use Rattle.scm_view.proofs.CountLemmas.{plus-none}
-use Rattle.scm_view.proofs.PaintsLemmas.{painted-as, painted-step-drawn}
+use Rattle.scm_view.specs.AppView.{app_picture, app_counts, views_picture}
+use Rattle.scm_document.specs.ViewColumns.{view_mask, view_picture, views_counts}
+use Rattle.scm_widgets.specs.Paints.{IsPainted}
+use Rattle.scm_document.proofs.CountLemmas.{plus-none}
+use Rattle.scm_document.proofs.PaintsLemmas.{painted-as, painted-step-drawn}
 
 pub first-is : (vs : List CommitView) (v : CommitView) → Some v ≡ slice_get vs 0 → take 1 vs ≡ v ∷ []
 first-is [] v e = absurd (cc e)
@@ -61,13 +62,13 @@ four-painted c d e f g a b h i p q r t = painted-step-drawn c d g a (λ s. follo
 -- ---- the whole, on a cleared grid
 
 pub window-painted : (c d : Canvas ComponentId) (a : AppView) (w h s : ℕ) (rows : List Row) → c.sight ≡ sight w h s → c.rows ≡ replicate h (blank_row w) → rows ≡ d.rows
-    → IsPainted c d (app_picture a c.sight (pos 0) (pos 0)) → (shown : Shown) → IsPlain a shown w h → rows ≡ window w h s shown
+    → IsPainted c d (app_picture a c.sight (pos 0) (pos 0)) → (shown : ViewState) → IsPlain a shown w h → rows ≡ window w h s shown
 window-painted c d a w h s rows seen blank e p shown plain =
-    e ∙ p.rows ∙ ap (λ (t : Sight). painted t.rect (app_picture a t (pos 0) (pos 0)).puts t.rect.y c.rows) seen
-    ∙ ap (λ q. painted (screen w h s) (app_picture a (sight w h s) (pos 0) (pos 0)).puts (pos s) q) blank
+    e ∙ p.rows ∙ ap (λ (t : Sight). paint_rows t.rect (app_picture a t (pos 0) (pos 0)).puts t.rect.y c.rows) seen
+    ∙ ap (λ q. paint_rows (screen w h s) (app_picture a (sight w h s) (pos 0) (pos 0)).puts (pos s) q) blank
     ∙ shows-window shown a w h s plain
 
-pub few-painted : (n m k : Counts) (a : AppView) (shown : Shown) (w h s : ℕ) (t : Sight) → IsPlain a shown w h → t ≡ sight w h s → n ≡ no_counts → k ≡ m → m ≡ added n (app_counts a t (pos 0)) → IsFew h k
+pub few-painted : (n m k : Counts) (a : AppView) (shown : ViewState) (w h s : ℕ) (t : Sight) → IsPlain a shown w h → t ≡ sight w h s → n ≡ no_counts → k ≡ m → m ≡ added n (app_counts a t (pos 0)) → IsFew h k
 few-painted n m k a shown w h s t plain seen none e p =
     let all : k ≡ added no_counts (app_counts a (sight w h s) (pos 0)) = e ∙ p ∙ ap (λ q. added q (app_counts a t (pos 0))) none ∙ ap (λ u. added no_counts (app_counts a u (pos 0))) seen in
     subst (λ q. IsFew h q) (sym all) (few-calls-inline shown a w h s plain).1

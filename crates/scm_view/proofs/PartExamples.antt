@@ -3,10 +3,11 @@ use Rattle.std.proofs.Common.{◌≡◌, ℕ, Bool, true, false, List, [], ◌�
 use Rattle.std.specs.Prelude.{Some, None}
 use Rattle.scm_types.specs.declared.keys.FileKey.{FileKey}
 use Rattle.scm_types.specs.declared.keys.SectionKey.{SectionKey}
-use Rattle.scm_view.specs.Rows.{Heading, BlankRow, ShownSection, ShownFile, Document, sections_rows, file_rows}
+use Rattle.scm_document.specs.Rows.{Heading, BlankRow, ShownSection, ShownFile, Document, sections_rows, file_rows}
 use Rattle.scm_view.specs.declared.document_part.DocumentPart.{DocumentPart}
 use Rattle.scm_view.specs.declared.document_part.Anchor.{Anchor}
-use Rattle.scm_view.specs.DocumentParts.{files_to, files_from, part_of}
+use Rattle.scm_document.specs.DocumentParts.{files_to, files_from}
+use Rattle.scm_view.specs.DocumentParts.{part_of}
 use Rattle.scm_view.specs.Anchors.{section_anchors, file_anchors, anchors, visible_part, visible_part_offset}
 
 module _ (k : FileKey) (h : Heading) (q : SectionKey) where

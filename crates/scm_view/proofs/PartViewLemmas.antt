@@ -5,45 +5,48 @@ use Rattle.std.proofs.lemmas.Int.{ints}
 use Rattle.std.proofs.lemmas.Bool.{cases_lt}
 use Rattle.scm_types.specs.Limits.{is_accepted_state, max_scroll}
 use Rattle.scm_cells.specs.declared.rect.Rect.{Rect}
-use Rattle.scm_render.specs.Canvas.{Row, under, paint, painted}
+use Rattle.scm_render.specs.Canvas.{Row, under, paint, paint_rows}
 use Rattle.scm_render.specs.Picture.{Picture, PictureInRange, followed_by, part}
 use Rattle.scm_render.proofs.PaintLemmas.{paint-append}
 use Rattle.scm_render.proofs.PictureLemmas.{PictureInRange-as_part, PictureInRange-followed, PictureInRange-part, PictureInRange-right}
-use Rattle.scm_view.specs.declared.ids.ComponentId.{ComponentId}
-use Rattle.scm_view.specs.declared.ids.ComponentId.TheVariants as ids
+use Rattle.scm_widgets.specs.declared.ids.ComponentId.{ComponentId}
+use Rattle.scm_widgets.specs.declared.ids.ComponentId.TheVariants as ids
 use Rattle.scm_view.specs.declared.app_view.AppView.{AppView}
-use Rattle.scm_view.specs.declared.commit_view.CommitView.{CommitView}
-use Rattle.scm_view.specs.declared.quit_dialog.QuitDialog.{QuitDialog}
-use Rattle.scm_view.specs.Rows.{ShownSection, ShownFile, Document, document_of}
-use Rattle.scm_view.specs.FilesRows.{files_rows}
-use Rattle.scm_view.specs.Close.{IsClose}
-use Rattle.scm_view.specs.Pictures.{commit_picture}
-use Rattle.scm_view.specs.Shown.{Shown, commit_view_of}
-use Rattle.scm_view.specs.Blanks.{blank_row}
-use Rattle.scm_view.specs.Clicks.{is_clickable}
-use Rattle.scm_view.specs.Layers.{shown_by}
-use Rattle.scm_view.specs.Tables.{menus_with}
-use Rattle.scm_view.specs.Overlays.{quit_layers, help_layers, overlays}
-use Rattle.scm_view.specs.Screens.{screen, sight}
+use Rattle.scm_document.specs.declared.commit_view.CommitView.{CommitView}
+use Rattle.scm_overlay.specs.declared.quit_dialog.QuitDialog.{QuitDialog}
+use Rattle.scm_document.specs.Rows.{ShownSection, ShownFile, Document, document_of}
+use Rattle.scm_document.specs.FilesRows.{files_rows}
+use Rattle.scm_document.specs.ScrollBounds.{IsInScrollBounds}
+use Rattle.scm_document.specs.Pictures.{commit_picture}
+use Rattle.scm_view.specs.ViewState.{ViewState, commit_view_of}
+use Rattle.scm_widgets.specs.Blanks.{blank_row}
+use Rattle.scm_widgets.specs.Clicks.{is_clickable}
+use Rattle.scm_widgets.specs.Layers.{shown_by}
+use Rattle.scm_overlay.specs.Tables.{menus_with}
+use Rattle.scm_overlay.specs.Overlays.{quit_layers, help_layers, overlays}
+use Rattle.scm_widgets.specs.Screens.{screen, sight}
 use Rattle.scm_view.specs.AppView.{app_view_of, app_picture}
 use Rattle.scm_view.specs.Window.{inline_document, body_layers, rows_from}
-use Rattle.scm_view.proofs.Near.{AreNarrowSections, AreNarrowFiles, IsNarrowMessage, IsNarrowDocument}
-use Rattle.scm_view.proofs.NearLemmas.{document-near}
+use Rattle.scm_document.proofs.Near.{AreNarrowSections, AreNarrowFiles, IsNarrowMessage, IsNarrowDocument}
+use Rattle.scm_document.proofs.NearLemmas.{document-near}
 use Rattle.scm_view.proofs.LimitLemmas.{close-here, sight-here, session-narrow, session-few}
 use Rattle.scm_view.proofs.AppRangeLemmas.{close-sight, close-row, apps-in-range}
-use Rattle.scm_view.proofs.AppShapeLemmas.{below_bar, whole-mask, one-view, app-inline}
+use Rattle.scm_document.proofs.AppShapeLemmas.{below_bar}
+use Rattle.scm_view.proofs.AppShapeLemmas.{whole-mask, one-view, app-inline}
 use Rattle.scm_view.proofs.AlikeLemmas.{view-shows}
-use Rattle.scm_view.proofs.OverlaysPicture.{overlays_picture}
-use Rattle.scm_view.proofs.OverlayLemmas.{shown-append, overlays_draw}
-use Rattle.scm_view.proofs.DrawsStrips.{length-paint}
-use Rattle.scm_view.proofs.DocumentLemmas.{commits-painted}
+use Rattle.scm_overlay.proofs.OverlaysPicture.{overlays_picture}
+use Rattle.scm_overlay.proofs.OverlayLemmas.{shown-append, overlays_draw}
+use Rattle.scm_widgets.proofs.DrawsStrips.{length-paint}
+use Rattle.scm_document.proofs.DocumentLemmas.{commits-painted}
 use Rattle.scm_view.proofs.FewLemmas.{few-on_grid}
-use Rattle.scm_view.proofs.SameLemmas.{same_component, same_component-lawful}
-use Rattle.scm_view.proofs.WindowLemmas.{body_sight, reach-below, open-below, row-below, has_row-below, hides, first-keeps, blank-length, on_screen}
+use Rattle.scm_widgets.proofs.SameLemmas.{same_component, same_component-lawful}
+use Rattle.scm_document.proofs.WindowLemmas.{body_sight, reach-below, open-below, row-below}
+use Rattle.scm_view.proofs.WindowLemmas.{has_row-below, hides, first-keeps, blank-length, on_screen}
 use Rattle.scm_view.specs.declared.document_part.DocumentPart.{DocumentPart}
-use Rattle.scm_view.specs.DocumentParts.{files_to, files_from, part_of, document_layers_over, window_of_document}
+use Rattle.scm_document.specs.DocumentParts.{files_to, files_from}
+use Rattle.scm_view.specs.DocumentParts.{part_of, document_layers_over, window_of_document}
 use Rattle.scm_view.specs.PartViews.{IsFirst, ShowsDocument, IsPlainScreen, AppsShowDocuments, PartsAreInRange, DocumentsTakeFewCalls}
-use Rattle.scm_view.proofs.LeftOutLemmas.{less-to, less-from}
+use Rattle.scm_document.proofs.LeftOutLemmas.{less-to, less-from}
 
 -- ---- the picture of a view: its document, and what lies over it
 
@@ -102,20 +105,20 @@ module _ (v : CommitView) (menu : Option ℕ) (quit : Option QuitDialog) (help :
       (cases_lt s z)
 
   rows-are : (w h s z n : ℕ) → IsPlainScreen w h → s ≤ z → z + n ≤ s + h
-      → painted (screen w h s) ((body_drawn w h s).puts ++ (over_drawn w h s).puts) (pos z) (replicate n (blank_row w)) ≡ rows_from w (document_layers_over w h s (document_of v) menu quit help) z n
-  unfolding painted rows_from
+      → paint_rows (screen w h s) ((body_drawn w h s).puts ++ (over_drawn w h s).puts) (pos z) (replicate n (blank_row w)) ≡ rows_from w (document_layers_over w h s (document_of v) menu quit help) z n
+  unfolding paint_rows rows_from
   rows-are w h s z zero plain a b = refl
   rows-are w h s z (suc n) plain a b =
       let next : pos z +ℤ pos 1 ≡ pos (suc z) = omega (arith, ints) in
       ap₂ (λ r rs. r ∷ rs) (row-is w h s z plain a (omega (arith, b)))
-      (ap (λ y. painted (screen w h s) ((body_drawn w h s).puts ++ (over_drawn w h s).puts) y (replicate n (blank_row w))) next
+      (ap (λ y. paint_rows (screen w h s) ((body_drawn w h s).puts ++ (over_drawn w h s).puts) y (replicate n (blank_row w))) next
       ∙ rows-are w h s (suc z) n plain (omega (arith, a)) (omega (arith, b)))
 
   view-shows-document : (a : AppView) (vs : List CommitView) (w h s : ℕ) → ShowsDocument a (document_of v) menu quit help → a.commit_views ≡ v ∷ vs → IsPlainScreen w h
-      → painted (screen w h s) (app_picture a (sight w h s) (pos 0) (pos 0)).puts (pos s) (replicate h (blank_row w)) ≡ window_of_document w h s (document_of v) menu quit help
+      → paint_rows (screen w h s) (app_picture a (sight w h s) (pos 0) (pos 0)).puts (pos s) (replicate h (blank_row w)) ≡ window_of_document w h s (document_of v) menu quit help
   unfolding part followed_by window_of_document
   view-shows-document a vs w h s shows views plain =
-      ap (λ (m : Picture ComponentId). painted (screen w h s) m.puts (pos s) (replicate h (blank_row w))) (app-is a vs w h s shows views)
+      ap (λ (m : Picture ComponentId). paint_rows (screen w h s) m.puts (pos s) (replicate h (blank_row w))) (app-is a vs w h s shows views)
       ∙ rows-are w h s s h plain (omega arith) (omega arith)
 
 -- a view of a document has a first view, v
@@ -125,7 +128,7 @@ by-first P d (v ∷ vs) first f = f v vs refl first
 
 pub shows-document : AppsShowDocuments
 shows-document a d menu quit help w h s shows plain =
-    by-first (painted (screen w h s) (app_picture a (sight w h s) (pos 0) (pos 0)).puts (pos s) (replicate h (blank_row w)) ≡ window_of_document w h s d menu quit help) d a.commit_views shows.first
+    by-first (paint_rows (screen w h s) (app_picture a (sight w h s) (pos 0) (pos 0)).puts (pos s) (replicate h (blank_row w)) ≡ window_of_document w h s d menu quit help) d a.commit_views shows.first
     (λ v vs views e.
     let own : ShowsDocument a (document_of v) menu quit help = subst (λ c. ShowsDocument a c menu quit help) (sym e) shows in
     view-shows-document v menu quit help a vs w h s own views plain ∙ ap (λ c. window_of_document w h s c menu quit help) e)
@@ -164,11 +167,11 @@ part-narrow p d n = record { message = narrow-message p.has_message d.message n.
 pub part-few : (p : DocumentPart) (d : Document) → length (files_rows (part_of p d).files) ≤ length (files_rows d.files)
 part-few p d = omega (arith, less-from p.first_file p.first_section (files_to p.last_file p.end_section d.files), less-to p.last_file p.end_section d.files)
 
-close-first : IsClose (pos 0)
+close-first : IsInScrollBounds (pos 0)
 close-first = record { low = omega (arith, ints); high = omega (arith, ints) }
 
 -- the rows of the part
-part-in-range : (shown : Shown) (p : DocumentPart) (v : CommitView) (w h s : ℕ) → is_accepted_state shown.state ≡ true → document_of v ≡ part_of p (inline_document shown) → IsPlainScreen w h → s ≤ max_scroll
+part-in-range : (shown : ViewState) (p : DocumentPart) (v : CommitView) (w h s : ℕ) → is_accepted_state shown.state ≡ true → document_of v ≡ part_of p (inline_document shown) → IsPlainScreen w h → s ≤ max_scroll
     → PictureInRange (commit_picture v (under (below_bar w s) (sight w h s)) (pos 0) (pos 1))
 unfolding commit_picture
 part-in-range shown p v w h s a e plain low =

@@ -1,22 +1,24 @@
 -- The boxes of keys are on the rows of the keys' places: pictures put together, one below the other and one within the other.
-use Rattle.std.proofs.Common.{◌≡◌, ℕ, ◌<◌, ◌==◌, Bool, true, false, List, [], ◌∷◌, ◌++◌, refl, sym, ap, ◌∙◌, arith, subst}
+use Rattle.std.proofs.Common.{◌≡◌, ℕ, ◌<◌, Bool, true, false, List, [], ◌∷◌, ◌++◌, refl, sym, ap, ◌∙◌, subst}
 use Rattle.std.specs.Prelude.{pos, ◌||◌, if◌then◌else◌, Some, None, option_map}
 use Rattle.scm_render.specs.Picture.{Box, followed_by, part, box_rect}
 use Rattle.scm_render.specs.Hits.{IsLawful, has_id, second_or, first_of_two, box_of}
 use Rattle.scm_render.proofs.HitLemmas.{Each, not_true, two_none}
 use Rattle.scm_types.specs.declared.keys.SelectionKey.{SelectionKey}
-use Rattle.scm_view.specs.declared.ids.ComponentId.{ComponentId}
-use Rattle.scm_view.specs.declared.ids.ComponentId.TheVariants as ids
-use Rattle.scm_view.specs.Clicks.{is_clickable}
+use Rattle.scm_widgets.specs.declared.ids.ComponentId.{ComponentId}
+use Rattle.scm_widgets.specs.declared.ids.ComponentId.TheVariants as ids
+use Rattle.scm_widgets.specs.Clicks.{is_clickable}
 use Rattle.scm_types.specs.Keys.{numbers_of, is_key}
-use Rattle.scm_view.specs.Pictures.{IdPicture}
-use Rattle.scm_view.specs.Places.{Place}
-use Rattle.scm_view.specs.Window.{rows_of_box, rows_of_place, rows_of_key}
-use Rattle.scm_view.proofs.DrawsStrips.{none_of}
-use Rattle.scm_view.proofs.MenuLemmas.{differ}
+use Rattle.scm_widgets.specs.Pictures.{IdPicture}
+use Rattle.scm_document.specs.Places.{Place}
+use Rattle.scm_view.specs.Window.{rows_of_box}
+use Rattle.scm_document.specs.DocumentRows.{rows_of_place, rows_of_key}
+use Rattle.scm_widgets.proofs.DrawsStrips.{none_of}
+use Rattle.scm_overlay.proofs.MenuLemmas.{differ}
 use Rattle.scm_view.proofs.OwnerLemmas.{is_item}
-use Rattle.scm_view.proofs.SameLemmas.{numbers-same, numbers-self, key_at, key-back}
-use Rattle.scm_view.proofs.IdBoxLemmas.{second_none, box_of-append, box_of-absent, box_of-first, box_of-other, box_of-before}
+use Rattle.scm_widgets.proofs.SameLemmas.{numbers-same, numbers-self, key_at, key-back}
+use Rattle.scm_widgets.proofs.IdBoxLemmas.{second_none, box_of-append, box_of-absent, box_of-first, box_of-other, box_of-before}
+use Rattle.scm_document.proofs.PlaceLemmas.{AllHaveRows, some-rows, rows-append}
 
 -- ---- keys and places
 
@@ -26,27 +28,9 @@ key-same a b e = sym (key-back a) ∙ ap key_at (numbers-same (numbers_of a) (nu
 key-self : (a : SelectionKey) → is_key a a ≡ true
 key-self a = numbers-self (numbers_of a)
 
--- each place has rows
-abbrev pub AllHaveRows : List Place → Type 0
-AllHaveRows [] = Unit {0}
-AllHaveRows (p ∷ ps) = (0 < p.rows) × AllHaveRows ps
-
 pub all-append : (ps qs : List Place) → AllHaveRows ps → AllHaveRows qs → AllHaveRows (ps ++ qs)
 all-append [] qs h k = k
 all-append (p ∷ ps) qs h k = (h.0, all-append ps qs h.1 k)
-
-some-rows : (p : Place) → 0 < p.rows → rows_of_place p ≡ Some (p.top, p.rows)
-some-rows p h = let some : (p.rows == 0) ≡ false = grind (arith, h) in rw some refl
-
-pub rows-append : (k : SelectionKey) (ps qs : List Place) → AllHaveRows ps → rows_of_key k (ps ++ qs) ≡ first_of_two (rows_of_key k ps) (rows_of_key k qs)
-unfolding rows_of_key
-rows-append k [] qs h = refl
-rows-append k (p ∷ ps) qs h = go (is_key k p.key) (rows-append k ps qs h.1)
-  where
-    go : (b : Bool) → rows_of_key k (ps ++ qs) ≡ first_of_two (rows_of_key k ps) (rows_of_key k qs)
-        → (if b then rows_of_place p else rows_of_key k (ps ++ qs)) ≡ first_of_two (if b then rows_of_place p else rows_of_key k ps) (rows_of_key k qs)
-    go true e = rw (some-rows p h.0) refl
-    go false e = e
 
 -- ---- the boxes of keys
 

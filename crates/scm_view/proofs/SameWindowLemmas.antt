@@ -6,33 +6,27 @@ use Rattle.std.proofs.lemmas.List.{map-append}
 use Rattle.scm_render.specs.Canvas.{Row}
 use Rattle.scm_render.specs.Lines.{line}
 use Rattle.scm_render.proofs.LineLemmas.{line-get}
-use Rattle.scm_view.specs.declared.ids.ComponentId.{ComponentId}
-use Rattle.scm_view.specs.declared.quit_dialog.QuitDialog.{QuitDialog}
-use Rattle.scm_view.specs.Blanks.{blank_row}
-use Rattle.scm_view.specs.Clicks.{is_clickable}
-use Rattle.scm_view.specs.Layers.{Strip, clear, owned, strip_at, shown_by}
-use Rattle.scm_view.specs.Tables.{menus_with}
-use Rattle.scm_view.specs.Overlays.{quit_layers, help_layers, overlays}
-use Rattle.scm_view.specs.Rows.{DocRow, HeaderRow, ShownSection, ShownFile, Document, section_id, file_id, sections_rows, file_rows}
-use Rattle.scm_view.specs.FilesRows.{files_rows}
-use Rattle.scm_view.specs.Strips.{row_strip, is_of_section, everywhere, section_strips, sections_strips, header_strip, file_strips, is_over, files_strips, pinned_strips, message_strips, files_layer, pinned_layer}
+use Rattle.scm_widgets.specs.declared.ids.ComponentId.{ComponentId}
+use Rattle.scm_overlay.specs.declared.quit_dialog.QuitDialog.{QuitDialog}
+use Rattle.scm_widgets.specs.Blanks.{blank_row}
+use Rattle.scm_widgets.specs.Clicks.{is_clickable}
+use Rattle.scm_widgets.specs.Layers.{Strip, clear, owned, strip_at, shown_by}
+use Rattle.scm_overlay.specs.Tables.{menus_with}
+use Rattle.scm_overlay.specs.Overlays.{quit_layers, help_layers, overlays}
+use Rattle.scm_document.specs.Rows.{DocRow, HeaderRow, ShownSection, ShownFile, Document, section_id, file_id, sections_rows, file_rows}
+use Rattle.scm_document.specs.FilesRows.{files_rows}
+use Rattle.scm_document.specs.Strips.{row_strip, is_of_section, everywhere, section_strips, sections_strips, header_strip, file_strips, is_over, files_strips, pinned_strips, message_strips, files_layer, pinned_layer}
 use Rattle.scm_view.specs.Window.{body_layers}
-use Rattle.scm_view.proofs.DrawsStrips.{shows-line}
-use Rattle.scm_view.proofs.OverlayLemmas.{shown-append}
-use Rattle.scm_view.proofs.SameLemmas.{same_component}
+use Rattle.scm_widgets.proofs.DrawsStrips.{shows-line}
+use Rattle.scm_overlay.proofs.OverlayLemmas.{shown-append}
+use Rattle.scm_widgets.proofs.SameLemmas.{same_component}
 use Rattle.scm_view.proofs.WindowLemmas.{hides, first-keeps, blank-length}
 use Rattle.scm_view.specs.DocumentParts.{document_layers_over, window_of_document}
 use Rattle.scm_view.proofs.MovedLemmas.{line-moved, rows-alike, overlays-moved}
+use Rattle.scm_document.proofs.SameWindowLemmas.{drawn_by, as_it_is}
 
 abbrev pub shows_of : Strip ComponentId → Row → Row
 shows_of s = s.shows
-
--- how a row of the document is drawn over a row of the screen
-abbrev pub drawn_by : ℕ → DocRow → Row → Row
-drawn_by w r = (row_strip w r).shows
-
-abbrev pub as_it_is : Row → Row
-as_it_is row = row
 
 -- the same for each row of document d, from row 1 on
 abbrev pub drawn : ℕ → Document → List (Row → Row)

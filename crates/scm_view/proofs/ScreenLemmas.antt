@@ -8,8 +8,8 @@ use Rattle.scm_cells.specs.Rect.{RectInRange}
 use Rattle.scm_cells.specs.Screen.{blank_screen}
 use Rattle.scm_cells.proofs.RectLemmas.{places}
 use Rattle.scm_render.specs.Places.{whole_sight}
-use Rattle.scm_view.specs.Blanks.{blank_row}
-use Rattle.scm_view.specs.Screens.{screen, sight}
+use Rattle.scm_widgets.specs.Blanks.{blank_row}
+use Rattle.scm_widgets.specs.Screens.{screen, sight}
 
 -- a screen that isn't scrolled too far is in range
 pub screen-in_range : (w h s : ℕ) → w ≤ 65535 → h ≤ 65535 → s ≤ max_scroll → RectInRange (screen w h s)

@@ -11,14 +11,15 @@ use Rattle.scm_types.specs.Marks.{is_editable_section}
 use Rattle.scm_types.specs.declared.keys.FileKey.{FileKey}
 use Rattle.scm_types.specs.declared.keys.SectionKey.{SectionKey}
 use Rattle.scm_types.specs.declared.keys.SelectionKey.TheVariants as selection
-use Rattle.scm_view.specs.declared.ids.ComponentId.TheVariants as ids
-use Rattle.scm_view.specs.declared.section_view.SectionView.{SectionView}
-use Rattle.scm_view.specs.Texts.{dots_text}
-use Rattle.scm_view.specs.Rows.{DocRow, HeaderRow, SectionRow, LineRow, MarkRow, ContextRow, DotsRow, BlankRow, ShownSection, is_fold_open, is_open, is_first_open, is_shown, is_first, is_last, has_dots, first_below, lines_above, shown_lines, rows_below, context_rows, changed_rows, numbered_rows, rows_of, section_rows, shown_section, shown_sections, shown_file, document_of}
+use Rattle.scm_widgets.specs.declared.ids.ComponentId.TheVariants as ids
+use Rattle.scm_document.specs.declared.section_view.SectionView.{SectionView}
+use Rattle.scm_document.specs.Texts.{dots_text}
+use Rattle.scm_document.specs.Rows.{DocRow, HeaderRow, SectionRow, LineRow, MarkRow, ContextRow, DotsRow, BlankRow, ShownSection, is_open, is_first_open, is_section_visible, is_first, is_last, has_dots, first_below, lines_above, shown_lines, rows_below, context_rows, changed_rows, numbered_rows, rows_of, section_rows, shown_section, shown_sections, shown_file, document_of}
+use Rattle.scm_widgets.specs.Boxes.{is_fold_open}
 use Rattle.scm_types.specs.Keys.{section_key_of}
-use Rattle.scm_view.specs.Shown.{Shown, Totals, totals_of, old_lines, section_view_of, section_views_of, file_view_of, file_views_of, commit_view_of}
-use Rattle.scm_view.specs.Owners.{IsRowOf, after_row, AreRowsOf, AreSectionsOf}
-use Rattle.scm_view.proofs.FilesOf.{HaveRows, IsFileOf, AreFilesOf, HasItsIds}
+use Rattle.scm_view.specs.ViewState.{ViewState, Totals, totals_of, old_lines, section_view_of, section_views_of, file_view_of, file_views_of, commit_view_of}
+use Rattle.scm_document.specs.Owners.{IsRowOf, after_row, AreRowsOf, AreSectionsOf}
+use Rattle.scm_document.proofs.FilesOf.{HaveRows, IsFileOf, AreFilesOf, HasItsIds}
 
 -- ---- from an earlier rank or index on
 
@@ -184,12 +185,12 @@ rows-some v (Binary checked old new) h = omega arith
 
 -- ---- the sections of a file
 
-sections-of : (s : Shown) (totals : Totals) (k : FileKey) (before : Bool) (i editable line : ℕ) (sections : List Section)
+sections-of : (s : ViewState) (totals : Totals) (k : FileKey) (before : Bool) (i editable line : ℕ) (sections : List Section)
     → AreSectionsOf k i (shown_sections before (section_views_of s totals k i editable line sections))
 unfolding section_views_of shown_sections section_rows
 sections-of s totals k before i editable line [] = tt
 sections-of s totals k before i editable line (section ∷ more) =
-    go (is_shown before v (is_first_open vs)) (sections-of s totals k (is_open v) (suc i) next below more)
+    go (is_section_visible before v (is_first_open vs)) (sections-of s totals k (is_open v) (suc i) next below more)
   where
     v : SectionView
     v = section_view_of s totals (section_key_of k i) editable line section
@@ -207,7 +208,7 @@ sections-of s totals k before i editable line (section ∷ more) =
     go true rest = (omega arith, refl, rows-are v section (record { key = refl; toggle = refl; fold = refl }), rest)
     go false rest = sections-earlier k i (suc i) (shown_sections (is_open v) vs) (omega arith) rest
 
-open-more : (s : Shown) (totals : Totals) (k : FileKey) (i editable line : ℕ) (sections : List Section) → is_first_open (section_views_of s totals k i editable line sections) ≡ true → 0 < length sections
+open-more : (s : ViewState) (totals : Totals) (k : FileKey) (i editable line : ℕ) (sections : List Section) → is_first_open (section_views_of s totals k i editable line sections) ≡ true → 0 < length sections
 unfolding section_views_of
 open-more s totals k i editable line [] h = absurd (cc h)
 open-more s totals k i editable line (section ∷ more) h = omega arith
@@ -226,12 +227,12 @@ shown-which true false after first last h p q = inr (λ e. absurd (cc (e, p refl
 shown-which false false true first last h p q = inr (λ e. q refl)
 shown-which false false false first last h p q = absurd (cc h)
 
-sections-some : (s : Shown) (totals : Totals) (k : FileKey) (before : Bool) (i editable line : ℕ) (sections : List Section) → totals.sections ≡ i + length sections → (before ≡ true → 0 < i)
+sections-some : (s : ViewState) (totals : Totals) (k : FileKey) (before : Bool) (i editable line : ℕ) (sections : List Section) → totals.sections ≡ i + length sections → (before ≡ true → 0 < i)
     → HaveRows (shown_sections before (section_views_of s totals k i editable line sections))
 unfolding section_views_of shown_sections section_rows
 sections-some s totals k before i editable line [] e h = tt
 sections-some s totals k before i editable line (section ∷ more) e h =
-    go (is_shown before v (is_first_open vs)) refl (sections-some s totals k (is_open v) (suc i) next below more (omega (arith, e)) (λ _. omega arith))
+    go (is_section_visible before v (is_first_open vs)) refl (sections-some s totals k (is_open v) (suc i) next below more (omega (arith, e)) (λ _. omega arith))
   where
     v : SectionView
     v = section_view_of s totals (section_key_of k i) editable line section
@@ -245,7 +246,7 @@ sections-some s totals k before i editable line (section ∷ more) e h =
     vs : List SectionView
     vs = section_views_of s totals k (suc i) next below more
 
-    go : (b : Bool) → is_shown before v (is_first_open vs) ≡ b → HaveRows (shown_sections (is_open v) vs) → HaveRows (shown_section b v ++ shown_sections (is_open v) vs)
+    go : (b : Bool) → is_section_visible before v (is_first_open vs) ≡ b → HaveRows (shown_sections (is_open v) vs) → HaveRows (shown_section b v ++ shown_sections (is_open v) vs)
     go true shown rest = (
       rows-some v section (shown-which before (is_editable_section section) (is_first_open vs) (is_first v) (is_last v) shown
           (λ p. not-zero i (h p)) (λ p. not-last i (length more) totals.sections e (open-more s totals k (suc i) next below more p))),
@@ -263,7 +264,7 @@ if-rows : (b : Bool) (ps : List ShownSection) → HaveRows ps → HaveRows (if b
 if-rows true ps e = e
 if-rows false ps e = tt
 
-file-of : (s : Shown) (k : FileKey) (n : ℕ) (f : File) → n ≤ k.file_idx → IsFileOf k.commit_idx n (shown_file (file_view_of s k f))
+file-of : (s : ViewState) (k : FileKey) (n : ℕ) (f : File) → n ≤ k.file_idx → IsFileOf k.commit_idx n (shown_file (file_view_of s k f))
 unfolding shown_file
 file-of s k n f h =
     let v = file_view_of s k f in
@@ -275,11 +276,11 @@ file-of s k n f h =
       rows = if-rows (is_fold_open v.expand_box) (shown_sections false v.section_views) (sections-some s (totals_of f.sections) k false 0 0 0 f.sections (omega arith) (λ e. absurd (cc e)));
     }
 
-files-of : (s : Shown) (commit i : ℕ) (fs : List File) → AreFilesOf commit i (map shown_file (file_views_of s commit i fs))
+files-of : (s : ViewState) (commit i : ℕ) (fs : List File) → AreFilesOf commit i (map shown_file (file_views_of s commit i fs))
 unfolding file_views_of shown_file
 files-of s commit i [] = tt
 files-of s commit i (f ∷ fs) = (file-of s (record { commit_idx = commit; file_idx = i }) i f (omega arith), files-of s commit (suc i) fs)
 
 -- the document that is shown of a commit has the ids of its keys
-pub session-ids : (shown : Shown) (commit : ℕ) → HasItsIds (document_of (commit_view_of shown commit))
+pub session-ids : (shown : ViewState) (commit : ℕ) → HasItsIds (document_of (commit_view_of shown commit))
 session-ids shown commit = files-of shown commit 0 shown.state.files

@@ -11,32 +11,34 @@ use Rattle.scm_render.specs.Centring.{centred_gap, centred_size}
 use Rattle.scm_render.specs.Hits.{IsLawful, has_id, box_of}
 use Rattle.scm_render.proofs.AroundLemmas.{join-assoc}
 use Rattle.scm_render.proofs.HitLemmas.{Each, each-append, each_more}
-use Rattle.scm_view.specs.declared.ids.ComponentId.{ComponentId}
-use Rattle.scm_view.specs.declared.ids.ComponentId.TheVariants as ids
+use Rattle.scm_widgets.specs.declared.ids.ComponentId.{ComponentId}
+use Rattle.scm_widgets.specs.declared.ids.ComponentId.TheVariants as ids
 use Rattle.scm_view.specs.declared.app_view.AppView.{AppView}
-use Rattle.scm_view.specs.declared.quit_dialog.QuitDialog.{QuitDialog}
-use Rattle.scm_view.specs.Clicks.{is_clickable}
-use Rattle.scm_view.proofs.Parts.{Leaving, Help, Body, Whole, part_of}
-use Rattle.scm_view.specs.Layers.{Layer, end_of}
-use Rattle.scm_view.specs.Menus.{menu_bar_picture, menu_strips, menu_layer}
-use Rattle.scm_view.proofs.OwnButtons.{IsDialog}
-use Rattle.scm_view.specs.Dialogs.{ShownDialog, dialog_layer, dialog_picture, widest_line}
-use Rattle.scm_view.specs.Tables.{menus_with, quit_dialog, help_dialog, named_dialog_picture}
-use Rattle.scm_view.specs.Overlays.{quit_picture, help_picture, quit_layers, help_layers}
-use Rattle.scm_view.specs.Screens.{sight}
-use Rattle.scm_view.specs.Shown.{Shown}
+use Rattle.scm_overlay.specs.declared.quit_dialog.QuitDialog.{QuitDialog}
+use Rattle.scm_widgets.specs.Clicks.{is_clickable}
+use Rattle.scm_overlay.proofs.Parts.{Leaving, Help, Body, Whole, part_of}
+use Rattle.scm_widgets.specs.Layers.{Layer, end_of}
+use Rattle.scm_overlay.specs.Menus.{menu_bar_picture, menu_strips, menu_layer}
+use Rattle.scm_widgets.proofs.OwnButtons.{IsDialog}
+use Rattle.scm_widgets.specs.ShownDialogs.{ShownDialog}
+use Rattle.scm_overlay.specs.Dialogs.{dialog_layer, dialog_picture, widest_line}
+use Rattle.scm_overlay.specs.Tables.{menus_with, quit_dialog, help_dialog, named_dialog_picture}
+use Rattle.scm_overlay.specs.Overlays.{quit_picture, help_picture, quit_layers, help_layers}
+use Rattle.scm_widgets.specs.Screens.{sight}
+use Rattle.scm_view.specs.ViewState.{ViewState}
 use Rattle.scm_view.specs.AppView.{app_picture}
-use Rattle.scm_view.specs.Window.{inline_document, rows_layers, height_of_box, extent, IsPlain, AppsHaveExtents}
-use Rattle.scm_view.proofs.DrawsStrips.{none_of, box-followed, box-part}
-use Rattle.scm_view.proofs.DialogLemmas.{centred_60, centred_20, join-none, box-none, box-placed, length-dialog, dialog-is}
-use Rattle.scm_view.proofs.FixedLemmas.{open_is_wide, quit_is_dialog, help_is_dialog}
-use Rattle.scm_view.proofs.RunLemmas.{Runs, runs_more, runs_as, runs_of, lowest, highest}
+use Rattle.scm_view.specs.Window.{inline_document, height_of_box, extent, IsPlain, AppsHaveExtents}
+use Rattle.scm_document.specs.DocumentRows.{rows_layers}
+use Rattle.scm_widgets.proofs.DrawsStrips.{none_of, box-followed, box-part}
+use Rattle.scm_overlay.proofs.DialogLemmas.{centred_60, centred_20, join-none, box-none, box-placed, length-dialog, dialog-is}
+use Rattle.scm_overlay.proofs.FixedLemmas.{open_is_wide, quit_is_dialog, help_is_dialog}
+use Rattle.scm_document.proofs.RunLemmas.{Runs, runs_more, runs_as, runs_of, lowest, highest}
 use Rattle.scm_view.proofs.SessionLemmas.{session-ids}
 use Rattle.scm_view.proofs.DocumentOwnerLemmas.{body-ids}
-use Rattle.scm_view.proofs.DocumentExtentLemmas.{body-runs}
-use Rattle.scm_view.proofs.IdBoxLemmas.{box_of-first}
-use Rattle.scm_view.proofs.MenuLemmas.{IsPart, differ, bar_spans}
-use Rattle.scm_view.proofs.OverlayLemmas.{IsOver, overlays_draw}
+use Rattle.scm_document.proofs.DocumentExtentLemmas.{body-runs}
+use Rattle.scm_widgets.proofs.IdBoxLemmas.{box_of-first}
+use Rattle.scm_overlay.proofs.MenuLemmas.{IsPart, differ, bar_spans}
+use Rattle.scm_overlay.proofs.OverlayLemmas.{IsOver, overlays_draw}
 use Rattle.scm_view.proofs.WindowLemmas.{over_drawn, app-is}
 use Rattle.scm_view.proofs.WindowOwnerLemmas.{body_part}
 
@@ -87,7 +89,7 @@ module _ (same : ComponentId → ComponentId → Bool) (law : IsLawful same) whe
 -- ---- all that is drawn
 
 -- the document's box, around another run of rows
-abbrev pub BodyRuns : ℕ → ℕ → ℕ → Shown → Type 0
+abbrev pub BodyRuns : ℕ → ℕ → ℕ → ViewState → Type 0
 BodyRuns w h s shown =
     (r : Rect) (a b : ℕ) → Runs r (pos a) (pos b)
     → Runs (join (box_rect (body_part w h s shown)) r) (pos (lowest a (rows_layers w h s (inline_document shown)))) (pos (highest b (rows_layers w h s (inline_document shown))))
@@ -107,7 +109,7 @@ height_of : (r : Rect) (a b : ℕ) → Runs r (pos a) (pos b) → r.height ≡ b
 height_of r a b h = omega (arith, ints, h.top, h.end)
 
 module _ (same : ComponentId → ComponentId → Bool) (law : IsLawful same) where
-  app-runs : (shown : Shown) (w h s : ℕ) → 10 ≤ w → 2 ≤ h → BodyRuns w h s shown
+  app-runs : (shown : ViewState) (w h s : ℕ) → 10 ≤ w → 2 ≤ h → BodyRuns w h s shown
       → Runs (box_rect (followed_by (body_part w h s shown) (over_drawn w h s shown)))
       (pos (lowest s (rows_layers w h s (inline_document shown) ++ (quit_layers w h s shown.quit_dialog ++ help_layers w h s shown.is_help_open))))
       (pos (highest (end_of (menu_layer w s (menus_with shown.open_menu))) (rows_layers w h s (inline_document shown) ++ (quit_layers w h s shown.quit_dialog ++ help_layers w h s shown.is_help_open))))
@@ -132,7 +134,7 @@ module _ (same : ComponentId → ComponentId → Bool) (law : IsLawful same) whe
       let all = help-more same law w h s shown.is_help_open _ _ _ columns high three in
       rw (box, fold-append low_step s rows (quit ++ help), fold-append high_step last rows (quit ++ help), fold-append low_step (lowest s rows) quit help, fold-append high_step (highest last rows) quit help) all
 
-  pub extent-from : (shown : Shown) (a : AppView) (w h s : ℕ) → IsPlain a shown w h → Each (IsPart Body) (body_part w h s shown).boxes → BodyRuns w h s shown
+  pub extent-from : (shown : ViewState) (a : AppView) (w h s : ℕ) → IsPlain a shown w h → Each (IsPart Body) (body_part w h s shown).boxes → BodyRuns w h s shown
       → height_of_box (box_of same ids.App (part ids.App (app_picture a (sight w h s) (pos 0) (pos 0))).boxes) ≡ extent w h s shown
   unfolding part followed_by extent
   extent-from shown a w h s plain of_body runs =

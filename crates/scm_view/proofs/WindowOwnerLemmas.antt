@@ -5,50 +5,51 @@ use Rattle.scm_render.specs.Picture.{Picture, followed_by, part, box_rect}
 use Rattle.scm_render.specs.Hits.{IsLawful, has_id, box_of, first_of_two, hit, latest}
 use Rattle.scm_render.proofs.HitLemmas.{Each, hit_apart, hit_still}
 use Rattle.scm_types.specs.declared.keys.SelectionKey.{SelectionKey}
-use Rattle.scm_view.specs.declared.ids.ComponentId.{ComponentId}
-use Rattle.scm_view.specs.declared.ids.ComponentId.TheVariants as ids
+use Rattle.scm_widgets.specs.declared.ids.ComponentId.{ComponentId}
+use Rattle.scm_widgets.specs.declared.ids.ComponentId.TheVariants as ids
 use Rattle.scm_view.specs.declared.app_view.AppView.{AppView}
-use Rattle.scm_view.specs.Clicks.{is_clickable}
-use Rattle.scm_view.proofs.Parts.{Body}
-use Rattle.scm_view.specs.Layers.{owned_by}
-use Rattle.scm_view.specs.Overlays.{overlays}
-use Rattle.scm_view.specs.Places.{places}
-use Rattle.scm_view.specs.Screens.{sight}
-use Rattle.scm_view.specs.Shown.{Shown}
+use Rattle.scm_widgets.specs.Clicks.{is_clickable}
+use Rattle.scm_overlay.proofs.Parts.{Body}
+use Rattle.scm_widgets.specs.Layers.{owned_by}
+use Rattle.scm_overlay.specs.Overlays.{overlays}
+use Rattle.scm_document.specs.Places.{places}
+use Rattle.scm_widgets.specs.Screens.{sight}
+use Rattle.scm_view.specs.ViewState.{ViewState}
 use Rattle.scm_view.specs.AppView.{app_picture}
-use Rattle.scm_view.specs.Window.{inline_document, body_layers, owner, rows_of_box, rows_of_key, span, IsPlain, ClicksFindOwners, KeysHaveRows}
-use Rattle.scm_view.proofs.DrawsStrips.{none_of, apart}
-use Rattle.scm_view.proofs.IdBoxLemmas.{box_of-other, box_of-before}
-use Rattle.scm_view.proofs.MenuLemmas.{IsPart, differ}
-use Rattle.scm_view.proofs.OverlayLemmas.{DrawsLayers, owned-append, IsOver, body_or_over, overlays_draw}
+use Rattle.scm_view.specs.Window.{inline_document, body_layers, owner, rows_of_box, span, IsPlain, ClicksFindOwners, KeysHaveRows}
+use Rattle.scm_document.specs.DocumentRows.{rows_of_key}
+use Rattle.scm_widgets.proofs.DrawsStrips.{none_of, apart}
+use Rattle.scm_widgets.proofs.IdBoxLemmas.{box_of-other, box_of-before}
+use Rattle.scm_overlay.proofs.MenuLemmas.{IsPart, differ}
+use Rattle.scm_overlay.proofs.OverlayLemmas.{DrawsLayers, owned-append, IsOver, body_or_over, overlays_draw}
 use Rattle.scm_view.proofs.SessionLemmas.{session-ids}
 use Rattle.scm_view.proofs.DocumentOwnerLemmas.{body-owners, body-ids}
 use Rattle.scm_view.proofs.DocumentKeyLemmas.{body-keys}
 use Rattle.scm_view.proofs.WindowLemmas.{body_drawn, over_drawn, app-is}
 
 -- the document's part of the picture
-abbrev pub body_part : ℕ → ℕ → ℕ → Shown → Picture ComponentId
+abbrev pub body_part : ℕ → ℕ → ℕ → ViewState → Picture ComponentId
 body_part w h s shown = part ids.AppFiles (body_drawn w h s shown)
 
 module _ (same : ComponentId → ComponentId → Bool) (law : IsLawful same) where
   -- the document's boxes own what its layers say, where none of them is replaced later
-  abbrev pub BodyOwns : ℕ → ℕ → ℕ → Shown → Type 0
+  abbrev pub BodyOwns : ℕ → ℕ → ℕ → ViewState → Type 0
   BodyOwns w h s shown =
       (rep : ComponentId → Bool) → ((i : ComponentId) → IsPart Body i → rep i ≡ false) → (y x : ℕ) → x < w
       → hit same is_clickable rep (body_part w h s shown).boxes (pos y) (pos x) ≡ owned_by (body_layers w h s (inline_document shown)) y x
 
   -- each key's box among them is on the key's rows
-  abbrev pub BodyHasKeys : ℕ → ℕ → ℕ → Shown → Type 0
+  abbrev pub BodyHasKeys : ℕ → ℕ → ℕ → ViewState → Type 0
   BodyHasKeys w h s shown =
       (k : SelectionKey) → option_map rows_of_box (box_of same (ids.SelectableItem k) (body_part w h s shown).boxes) ≡ rows_of_key k (places 1 (inline_document shown))
 
-  over_draws : (shown : Shown) (a : AppView) (w h s : ℕ) → IsPlain a shown w h
+  over_draws : (shown : ViewState) (a : AppView) (w h s : ℕ) → IsPlain a shown w h
       → DrawsLayers same is_clickable w h s IsOver (over_drawn w h s shown) (overlays w h s shown.open_menu shown.quit_dialog shown.is_help_open)
   over_draws shown a w h s plain =
       let wide = plain.wide in
       overlays_draw same law w h s shown.open_menu shown.quit_dialog shown.is_help_open (omega (arith, wide)) plain.high
 
-  pub owners-from : (shown : Shown) (a : AppView) (w h s : ℕ) → IsPlain a shown w h → Each (IsPart Body) (body_part w h s shown).boxes → BodyOwns w h s shown → (y x : ℕ) → x < w
+  pub owners-from : (shown : ViewState) (a : AppView) (w h s : ℕ) → IsPlain a shown w h → Each (IsPart Body) (body_part w h s shown).boxes → BodyOwns w h s shown → (y x : ℕ) → x < w
       → latest same is_clickable (part ids.App (app_picture a (sight w h s) (pos 0) (pos 0))).boxes (pos y) (pos x) ≡ owner w h s shown y x
   unfolding part followed_by owner
   owners-from shown a w h s plain of_body owns y x within =
@@ -62,7 +63,7 @@ module _ (same : ComponentId → ComponentId → Bool) (law : IsLawful same) whe
       ∙ ap₂ first_of_two (over.owns none (λ i p. refl) y x within) (owns none (λ i p. refl) y x within)
       ∙ sym (owned-append same is_clickable (body_layers w h s (inline_document shown)) (overlays w h s shown.open_menu shown.quit_dialog shown.is_help_open) y x)
 
-  pub keys-from : (shown : Shown) (a : AppView) (w h s : ℕ) → IsPlain a shown w h → BodyHasKeys w h s shown → (k : SelectionKey)
+  pub keys-from : (shown : ViewState) (a : AppView) (w h s : ℕ) → IsPlain a shown w h → BodyHasKeys w h s shown → (k : SelectionKey)
       → option_map rows_of_box (box_of same (ids.SelectableItem k) (part ids.App (app_picture a (sight w h s) (pos 0) (pos 0))).boxes) ≡ span shown k
   unfolding part followed_by span
   keys-from shown a w h s plain keys k =

@@ -1,11 +1,12 @@
 -- Anchors: the headers of files and the sections of a document with their first rows. From these rows alone two searches find the
 -- part of the document that covers a screen.
 use Rattle.std.specs.Prelude.{◌≡◌, ℕ, suc, ◌+◌, ◌-◌, ◌≤◌, nat_le, nat_lt, Bool, true, if◌then◌else◌, List, [], ◌∷◌, ◌++◌, length, Option}
-use Rattle.scm_view.specs.declared.quit_dialog.QuitDialog.{QuitDialog}
+use Rattle.scm_overlay.specs.declared.quit_dialog.QuitDialog.{QuitDialog}
 use Rattle.scm_view.specs.declared.document_part.DocumentPart.{DocumentPart}
 use Rattle.scm_view.specs.declared.document_part.Anchor.{Anchor}
-use Rattle.scm_view.specs.Rows.{ShownSection, ShownFile, Document, file_rows, message_height}
-use Rattle.scm_view.specs.DocumentParts.{part_of, header_kept, window_of_document}
+use Rattle.scm_document.specs.Rows.{ShownSection, ShownFile, Document, file_rows, message_height}
+use Rattle.scm_view.specs.DocumentParts.{part_of, window_of_document}
+use Rattle.scm_document.specs.DocumentParts.{header_kept}
 
 -- ---- the anchors of a document
 

@@ -1,15 +1,16 @@
 -- A part of a document: which files, sections and rows it keeps, and when a screen that is drawn from the part alone looks like one
 -- that is drawn from the whole document.
-use Rattle.std.specs.Prelude.{◌≡◌, ℕ, zero, suc, ◌+◌, ◌-◌, ◌<◌, ◌≤◌, ◌⊎◌, min, Bool, false, List, [], ◌∷◌, ◌++◌, length, take, drop, if◌then◌else◌, Option, None}
+use Rattle.std.specs.Prelude.{◌≡◌, ℕ, ◌+◌, ◌-◌, ◌<◌, ◌≤◌, ◌⊎◌, min, Bool, false, List, ◌++◌, length, if◌then◌else◌, Option, None}
 use Rattle.scm_render.specs.Canvas.{Row}
-use Rattle.scm_view.specs.declared.ids.ComponentId.{ComponentId}
-use Rattle.scm_view.specs.declared.quit_dialog.QuitDialog.{QuitDialog}
+use Rattle.scm_widgets.specs.declared.ids.ComponentId.{ComponentId}
+use Rattle.scm_overlay.specs.declared.quit_dialog.QuitDialog.{QuitDialog}
 use Rattle.scm_view.specs.declared.document_part.DocumentPart.{DocumentPart}
-use Rattle.scm_view.specs.Rows.{ShownFile, Document, sections_rows, file_rows, message_height}
-use Rattle.scm_view.specs.FilesRows.{files_rows}
-use Rattle.scm_view.specs.Layers.{Layer}
-use Rattle.scm_view.specs.Overlays.{overlays}
+use Rattle.scm_document.specs.Rows.{ShownFile, Document, message_height}
+use Rattle.scm_document.specs.FilesRows.{files_rows}
+use Rattle.scm_widgets.specs.Layers.{Layer}
+use Rattle.scm_overlay.specs.Overlays.{overlays}
 use Rattle.scm_view.specs.Window.{body_layers, rows_from}
+use Rattle.scm_document.specs.DocumentParts.{files_to, files_from, rows_left_out, header_kept}
 
 -- ---- the window of a document
 
@@ -24,28 +25,6 @@ unfoldable pub window_of_document :
 window_of_document w h s d menu quit help =
     rows_from w (document_layers_over w h s d menu quit help) s h
 
--- ---- a part of a document
-
--- file f with its first b sections alone
-abbrev pub with_first : ℕ → ShownFile → ShownFile
-with_first b f = record { key = f.key; heading = f.heading; sections = take b f.sections }
-
--- file f without its first a sections
-abbrev pub without_first : ℕ → ShownFile → ShownFile
-without_first a f = record { key = f.key; heading = f.heading; sections = drop a f.sections }
-
--- the files before index k, and the file at index k with its first b sections alone
-unfoldable pub files_to : ℕ → ℕ → List ShownFile → List ShownFile
-files_to k b [] = []
-files_to zero b (f ∷ fs) = with_first b f ∷ []
-files_to (suc k) b (f ∷ fs) = f ∷ files_to k b fs
-
--- the file at index i without its first a sections, and the files after it
-unfoldable pub files_from : ℕ → ℕ → List ShownFile → List ShownFile
-files_from i a [] = []
-files_from zero a (f ∷ fs) = without_first a f ∷ fs
-files_from (suc i) a (f ∷ fs) = files_from i a fs
-
 -- the files that part p keeps
 abbrev pub files_in : DocumentPart → List ShownFile → List ShownFile
 files_in p fs = files_from p.first_file p.first_section (files_to p.last_file p.end_section fs)
@@ -57,19 +36,6 @@ part_of p d = record {
   message = if p.has_message then d.message else None;
   files = files_in p d.files;
 }
-
--- ---- how many rows are left out
-
--- how many rows files_from i a leaves out
-unfoldable pub rows_left_out : ℕ → ℕ → List ShownFile → ℕ
-rows_left_out i a [] = 0
-rows_left_out zero a (f ∷ fs) = length (sections_rows (take a f.sections))
-rows_left_out (suc i) a (f ∷ fs) = length (file_rows f) + rows_left_out i a fs
-
--- the row of a file's header, which is kept, if the first a sections of the file are left out
-abbrev pub header_kept : ℕ → ℕ
-header_kept zero = 0
-header_kept (suc a) = 1
 
 -- how many rows part p leaves out above: what it keeps is drawn that many rows higher
 abbrev pub part_offset : DocumentPart → Document → ℕ

@@ -1,81 +1,56 @@
-//! All that the selector shows.
+//! The whole screen: the documents, the menu bar and the open dialogs.
 ghost use Rattle.std.specs.Prelude.{◌≡◌, ◌≤◌, ℤ, pos, ◌+ℤ◌, OnOk, IfOk, IfErr, take, length};
 ghost use Rattle.scm_cells.specs.Rect.{InRange, RectInRange, end_x_of};
 ghost use Rattle.scm_cells.specs.Mask.{MaskInRange};
-ghost use Rattle.scm_render.specs.Picture.{PictureInRange, part};
-ghost use Rattle.scm_render.specs.Canvas.{under};
-ghost use Rattle.scm_view.specs.Rows.{document_of};
-ghost use Rattle.scm_view.specs.Counts.{drawn, document_counts, quit_calls, help_calls};
 ghost use Rattle.scm_errors.specs.declared.error.RecordError.TheVariants.{OutOfMemory};
-ghost use Rattle.scm_view.specs.declared.ids.ComponentId.TheVariants as ids;
-ghost use Rattle.scm_view.specs.Overlays.{quit_picture, help_picture};
-ghost use Rattle.scm_view.specs.Shown.{Shown};
+ghost use Rattle.scm_view.specs.ViewState.{ViewState};
 ghost use Rattle.scm_view.specs.Window.{IsPlain, ShowsInline, window, IsFew};
-ghost use Rattle.scm_view.specs.AppView.{views_shown, view_width, held, view_mask, view_picture, next_view, views_picture, views_counts, has_help, app_picture, app_counts};
-ghost use Rattle.scm_view.specs.declared.commit_view.CommitViewMode.TheVariants.{Inline};
-ghost use Rattle.scm_render.specs.Draws.{Draws};
-ghost use Rattle.scm_view.specs.Paints.{Paints};
+ghost use Rattle.scm_document.specs.ViewColumns.{view_count, view_width, nearest_column, view_mask, next_view};
+ghost use Rattle.scm_view.specs.AppView.{view_call, view_rows_call, views_call, has_help, app_picture, app_counts, app_call};
+ghost use Rattle.scm_document.specs.declared.commit_view.CommitViewMode.TheVariants.{Inline};
+ghost use Rattle.scm_render.specs.Draws.{CanDraw, HasDrawn};
+ghost use Rattle.scm_overlay.specs.OverlayCalls.{quit_call, help_call};
+ghost use Rattle.scm_widgets.specs.Paints.{HasDrawnIn};
+ghost use Rattle.scm_widgets.specs.declared.paint_pass.Pass.TheVariants as passes;
 ghost use Rattle.scm_view.specs.PartViews.{HasWindowOf, ShowsPartInline};
 
-use crate::commit_view::{CommitView, CommitViewMode};
-use crate::help_dialog::HelpDialog;
-use crate::ids::ComponentId;
-use crate::menu_bar::MenuBar;
-use crate::pass::Pass;
-use crate::quit_dialog::QuitDialog;
-use crate::reach::columns;
-use scm_cells::{Grid, Mask, Rect};
+use scm_cells::{Grid, Mask, Rect, gap};
+use scm_document::commit_view::{CommitView, CommitViewMode};
+use scm_overlay::help_dialog::HelpDialog;
+use scm_overlay::menu_bar::MenuBar;
+use scm_overlay::quit_dialog::QuitDialog;
 use scm_render::{Component, Viewport};
 use scm_types::{Items, RecordError};
+use scm_widgets::ids::ComponentId;
+use scm_widgets::paint_pass::Pass;
 use std::alloc::Global;
 use std::mem;
 
-/// All that the selector shows: documents of commits below the menu bar, and the dialogs that are open.
+/// The whole screen: the documents of the commits below the menu bar, and the open dialogs.
 #[derive(Drop)]
 pub struct AppView<'a> {
     /// The menu bar, on the screen's first row.
     pub menu_bar: MenuBar<'a>,
-    /// How many of the commits are drawn.
+    /// Whether one document is drawn, or two side by side.
     pub commit_view_mode: CommitViewMode,
-    /// The documents, of which the first or the first two are drawn.
+    /// The documents. The first one or the first two are drawn, by the mode.
     pub commit_views: Items<CommitView<'a>>,
     /// The quit dialog, if it is open.
     pub quit_dialog: Option<QuitDialog>,
-    /// The help, if it is open.
+    /// The help dialog, if it is open.
     pub help_dialog: Option<HelpDialog>,
 }
 
-impl CommitViewMode {
-    /// How many commits are drawn, as far as there are any.
-    fn views_shown(self) -> usize
-        ensures { result ≡ views_shown self }
-    {
-        match self {
-            CommitViewMode::Inline => 1,
-            CommitViewMode::Adjacent => 2,
-        }
-    }
-
-    /// How many columns each of them has on a screen of so many columns.
-    fn view_width(self, columns: usize) -> usize
-        ensures { result ≡ view_width self columns }
-    {
-        match self {
-            CommitViewMode::Inline => columns,
-            CommitViewMode::Adjacent => (columns.saturating_sub(1) / 2).min(120),
-        }
-    }
-}
-
-/// The nearest column of a rectangle, or the first after it.
-fn held(rect: Rect, x: isize) -> isize
+/// Returns the column of `rect`, or its end column, that is nearest to `x`.
+fn nearest_column(rect: Rect, x: isize) -> isize
     requires { RectInRange rect }
-    ensures { result ≡ held rect x }
+    ensures { result ≡ nearest_column rect x }
 {
     x.max(rect.x).min(rect.end_x())
 }
 
-/// The rows below the menu bar, and those of so many columns from one on that are on the screen.
+/// Returns the mask of a document: the rows below the menu bar, and the columns `x..x + width` as far
+/// as they lie on the screen.
 fn view_mask(viewport: &Viewport<ComponentId>, x: isize, width: usize) -> Mask
     requires { InRange (viewport.now.canvas.sight.rect.y +ℤ pos 1) }
     ensures mask { result ≡ view_mask viewport.now.canvas.sight x width }
@@ -83,9 +58,9 @@ fn view_mask(viewport: &Viewport<ComponentId>, x: isize, width: usize) -> Mask
     ensures end { InRange (end_x_of viewport.now.canvas.sight.rect) }
 {
     let rect = viewport.rect();
-    let left = held(rect, x);
-    let hidden = columns(x, left);
-    let room = columns(left, rect.end_x());
+    let left = nearest_column(rect, x);
+    let hidden = gap(x, left);
+    let room = gap(left, rect.end_x());
     Mask {
         x: left,
         y: rect.y + 1,
@@ -94,8 +69,8 @@ fn view_mask(viewport: &Viewport<ComponentId>, x: isize, width: usize) -> Mask
     }
 }
 
-/// Draws the document of a commit below the menu bar, in so many columns from one on, and gives the
-/// column where the next would begin: one after those that were drawn.
+/// Draws the document `view` below the menu bar, in columns `x..x + width`. Returns the column
+/// where the next document would begin, after one free column.
 fn draw_view(
     viewport: &mut Viewport<ComponentId>,
     x: isize,
@@ -103,8 +78,8 @@ fn draw_view(
     view: &CommitView<'_>,
 ) -> Result<isize, RecordError>
     requires below { InRange (viewport.old.canvas.sight.rect.y +ℤ pos 1) }
-    requires picture { PictureInRange (part ids.AppFiles (view_picture view.now viewport.old.canvas.sight x width)) }
-    ensures draws { Draws viewport.old viewport.new result (part ids.AppFiles (view_picture view.now viewport.old.canvas.sight x width)) (document_counts (document_of view.now) (under (view_mask viewport.old.canvas.sight x width) viewport.old.canvas.sight) (pos 1)) }
+    requires picture { CanDraw viewport.old (view_call view.now x width) }
+    ensures draws { HasDrawn viewport.old viewport.new result (view_call view.now x width) }
     ensures next { IfOk result (λ c. c ≡ next_view view.now viewport.old.canvas.sight x width) }
 {
     let mask = view_mask(viewport, x, width);
@@ -114,7 +89,7 @@ fn draw_view(
     Ok(x.strict_add_unsigned(mask.apply(drawn).width) + 1)
 }
 
-/// Draws documents of commits beside each other, each in so many columns.
+/// Draws the documents `views` side by side from column `x` on, each in `width` columns.
 fn draw_views(
     viewport: &mut Viewport<ComponentId>,
     x: isize,
@@ -123,8 +98,8 @@ fn draw_views(
 ) -> Result<(), RecordError>
     requires below { InRange (viewport.old.canvas.sight.rect.y +ℤ pos 1) }
     requires end { InRange (end_x_of viewport.old.canvas.sight.rect) }
-    requires picture { PictureInRange (views_picture views.now width viewport.old.canvas.sight x) }
-    ensures { Draws viewport.old viewport.new result (views_picture views.now width viewport.old.canvas.sight x) (views_counts views.now width viewport.old.canvas.sight x) }
+    requires picture { CanDraw viewport.old (views_call views.now x width) }
+    ensures { HasDrawn viewport.old viewport.new result (views_call views.now x width) }
 {
     let mut left = x;
     for view in views {
@@ -133,13 +108,13 @@ fn draw_views(
     Ok(())
 }
 
-/// Draws the quit dialog, if it is open.
+/// If the quit dialog is open, draws it.
 fn draw_quit(
     viewport: &mut Viewport<ComponentId>,
     dialog: &Option<QuitDialog>,
 ) -> Result<(), RecordError>
-    requires { PictureInRange (quit_picture dialog.now viewport.old.canvas.sight) }
-    ensures { Draws viewport.old viewport.new result (quit_picture dialog.now viewport.old.canvas.sight) (drawn 0 (quit_calls dialog.now)) }
+    requires { CanDraw viewport.old (quit_call dialog.now) }
+    ensures { HasDrawn viewport.old viewport.new result (quit_call dialog.now) }
 {
     match dialog {
         Some(quit_dialog) => {
@@ -150,13 +125,13 @@ fn draw_quit(
     }
 }
 
-/// Draws the help, if it is open.
+/// If the help dialog is open, draws it.
 fn draw_help(
     viewport: &mut Viewport<ComponentId>,
     dialog: &Option<HelpDialog>,
 ) -> Result<(), RecordError>
-    requires { PictureInRange (help_picture (has_help dialog.now) viewport.old.canvas.sight) }
-    ensures { Draws viewport.old viewport.new result (help_picture (has_help dialog.now) viewport.old.canvas.sight) (drawn 0 (help_calls (has_help dialog.now))) }
+    requires { CanDraw viewport.old (help_call (has_help dialog.now)) }
+    ensures { HasDrawn viewport.old viewport.new result (help_call (has_help dialog.now)) }
 {
     match dialog {
         Some(help_dialog) => {
@@ -168,21 +143,22 @@ fn draw_help(
 }
 
 impl<'a> AppView<'a> {
-    /// The documents that are drawn.
+    /// Returns the documents that are drawn.
     fn shown_views(&self) -> &[CommitView<'a>]
-        ensures { result.now ≡ take (views_shown self.now.commit_view_mode) self.now.commit_views }
+        ensures { result.now
+            ≡ take (view_count self.now.commit_view_mode) self.now.commit_views }
     {
         let count = self
             .commit_view_mode
-            .views_shown()
+            .view_count()
             .min(self.commit_views.len());
         let (shown, _) = self.commit_views.as_slice().split_at(count);
         shown
     }
 }
 
-/// Paints what the screen shows of the document of a commit, below the menu bar, in so many columns
-/// from one on.
+/// Paints what the screen shows of the document `view`, below the menu bar and in columns
+/// `x..x + width`.
 fn paint_view(
     alloc: Global,
     viewport: &mut Viewport<ComponentId>,
@@ -191,8 +167,9 @@ fn paint_view(
     view: &CommitView<'_>,
 ) -> Result<(), RecordError>
     requires below { InRange (viewport.old.canvas.sight.rect.y +ℤ pos 1) }
-    requires picture { PictureInRange (view_picture view.now viewport.old.canvas.sight x width) }
-    ensures { Paints viewport.old viewport.new result (view_picture view.now viewport.old.canvas.sight x width) (document_counts (document_of view.now) (under (view_mask viewport.old.canvas.sight x width) viewport.old.canvas.sight) (pos 1)) }
+    requires picture { CanDraw viewport.old (view_rows_call view.now x width) }
+    ensures { HasDrawnIn passes.Paint viewport.old viewport.new result
+        (view_rows_call view.now x width) }
 {
     let mask = view_mask(viewport, x, width);
     let outer = viewport.swap_mask(Some(mask));
@@ -201,7 +178,7 @@ fn paint_view(
     Ok(())
 }
 
-/// Paints what the screen shows of the first document.
+/// If there is a document, paints what the screen shows of the first one, in columns `0..width`.
 fn paint_first(
     alloc: Global,
     viewport: &mut Viewport<ComponentId>,
@@ -209,8 +186,9 @@ fn paint_first(
     views: &[CommitView<'_>],
 ) -> Result<(), RecordError>
     requires below { InRange (viewport.old.canvas.sight.rect.y +ℤ pos 1) }
-    requires picture { PictureInRange (views_picture (take 1 views.now) width viewport.old.canvas.sight (pos 0)) }
-    ensures { Paints viewport.old viewport.new result (views_picture (take 1 views.now) width viewport.old.canvas.sight (pos 0)) (views_counts (take 1 views.now) width viewport.old.canvas.sight (pos 0)) }
+    requires picture { CanDraw viewport.old (views_call (take 1 views.now) (pos 0) width) }
+    ensures { HasDrawnIn passes.Paint viewport.old viewport.new result
+        (views_call (take 1 views.now) (pos 0) width) }
 {
     match views.first() {
         Some(view) => paint_view(alloc, viewport, 0, width, view),
@@ -219,15 +197,16 @@ fn paint_first(
 }
 
 impl<'a> AppView<'a> {
-    /// Paints what the screen shows inline.
+    /// Paints what the screen shows of the inline view.
     fn paint_inline(
         &self,
         alloc: Global,
         viewport: &mut Viewport<ComponentId>,
     ) -> Result<(), RecordError>
         requires inline { self.now.commit_view_mode ≡ Inline }
-        requires picture { PictureInRange (app_picture self.now viewport.old.canvas.sight (pos 0) (pos 0)) }
-        ensures { Paints viewport.old viewport.new result (app_picture self.now viewport.old.canvas.sight (pos 0) (pos 0)) (app_counts self.now viewport.old.canvas.sight (pos 0)) }
+        requires picture { CanDraw viewport.old (app_call self.now (pos 0) (pos 0)) }
+        ensures { HasDrawnIn passes.Paint viewport.old viewport.new result
+            (app_call self.now (pos 0) (pos 0)) }
     {
         let screen = viewport.rect();
         paint_first(alloc, viewport, screen.width, self.commit_views.as_slice())?;
@@ -236,11 +215,16 @@ impl<'a> AppView<'a> {
         draw_help(viewport, &self.help_dialog)
     }
 
-    /// Clears the grid, and paints what the view shows inline, from this row of the document on: only
-    /// what is on the screen, with few rows and calls. Where memory is refused the grid keeps its size.
+    /// Clears `grid` and paints the inline view, scrolled to row `scroll` of the document. Paints
+    /// only what the screen shows, with few rows and calls.
+    ///
+    /// # Errors
+    ///
+    /// `OutOfMemory`: an allocation failed; the grid keeps its size.
     pub fn paint(&self, alloc: Global, grid: &mut Grid, scroll: usize) -> Result<(), RecordError>
         requires shows { ShowsInline self.now grid.old.width (length grid.old.rows) scroll }
-        ensures ok { OnOk result ((shown : Shown) → IsPlain self.now shown grid.old.width (length grid.old.rows) →
+        ensures ok { OnOk result
+            ((shown : ViewState) → IsPlain self.now shown grid.old.width (length grid.old.rows) →
             grid.new.rows ≡ window grid.old.width (length grid.old.rows) scroll shown) }
         ensures few { OnOk result (IsFew (length grid.old.rows) grid.new.counts) }
         ensures width { grid.new.width ≡ grid.old.width }
@@ -250,9 +234,9 @@ impl<'a> AppView<'a> {
         self.paint_part(alloc, grid, scroll)
     }
 
-    /// Clears the grid, and paints what the view shows inline, if the view has only a part of a session's
-    /// document. The first row of the screen shows row `scroll` of that part. With `parts_show_windows`
-    /// this is what the session shows, if the part covers the screen.
+    /// Clears `grid` and paints the inline view, which may have only a part of a session's
+    /// document. The first row of the screen shows row `scroll` of that part. If the part covers
+    /// the screen, this is what the session shows, by `parts_show_windows`.
     ///
     /// # Errors
     ///
@@ -290,7 +274,7 @@ impl<'a> AppView<'a> {
 impl<'a> Component for AppView<'a> {
     type Id = ComponentId;
 
-    ghost use Rattle.scm_view.specs.declared.ids.ComponentId.TheVariants.{App};
+    ghost use Rattle.scm_widgets.specs.declared.ids.ComponentId.TheVariants.{App};
 
     ghost key = { λ a. App };
 
@@ -304,7 +288,7 @@ impl<'a> Component for AppView<'a> {
         ComponentId::App
     }
 
-    /// The rows are those of the screen, whatever `y` is.
+    /// Draws on the screen's rows, whatever `y` is.
     fn draw(
         &self,
         _alloc: Global,

@@ -54,8 +54,8 @@ fn first_visible(anchors: &[Anchor], scroll: usize) -> Anchor
     }
 }
 
-/// Returns a part that covers a screen of `height` rows, the first of which shows row `scroll` of the
-/// document that has these `anchors`. The law `searches_show_windows` says that it shows the same.
+/// Returns a part that covers a screen of `height` rows, the first of which shows row `scroll` of
+/// the document with these `anchors`. The law `searches_show_windows` says that it shows the same.
 pub fn visible_part(anchors: &[Anchor], scroll: usize, height: usize) -> DocumentPart
     requires rising { IsNonDecreasingBy (λ (y : Anchor). y.top) anchors.now }
     requires high { 2 ≤ height }
@@ -83,8 +83,8 @@ pub fn visible_part(anchors: &[Anchor], scroll: usize, height: usize) -> Documen
     }
 }
 
-/// Returns how many rows of the document `visible_part` leaves out above: the part is painted from row
-/// `scroll` less this number on.
+/// Returns how many rows of the document `visible_part` leaves out above. The part is painted from
+/// row `scroll` minus this number on.
 pub fn visible_part_offset(anchors: &[Anchor], scroll: usize) -> usize
     requires rising { IsNonDecreasingBy (λ (y : Anchor). y.top) anchors.now }
     requires row { scroll + 1 < 2 ^ 64 }

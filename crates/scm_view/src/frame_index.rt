@@ -1,57 +1,57 @@
-//! The index of a frame that is shown inline.
+//! The index of an inline frame: hit tests, the row ranges of keys, and the extent.
 ghost use Rattle.std.specs.Prelude.{◌≡◌, ◌<◌, ◌≤◌, ◌^◌, ◌++◌, ℕ, nat_lt, if◌then◌else◌, None, Some, option_map, IfOk, IfErr, OnOk};
 ghost use Rattle.scm_types.specs.Limits.{max_scroll};
 ghost use Rattle.scm_errors.specs.declared.error.RecordError.TheVariants.{OutOfMemory};
-ghost use Rattle.scm_view.specs.Shown.{Shown};
+ghost use Rattle.scm_view.specs.ViewState.{ViewState};
 ghost use Rattle.scm_view.specs.Window.{IsPlain, ShowsInline, extent, owner, span};
 ghost use Rattle.scm_view.specs.AppView.{has_help};
-ghost use Rattle.scm_view.specs.Tables.{help_dialog, quit_dialog};
+ghost use Rattle.scm_overlay.specs.Tables.{help_dialog, quit_dialog};
 ghost use Rattle.scm_view.specs.Runs.{document_run, joined, joined_with};
-ghost use Rattle.scm_view.specs.Spots.{dialog_run, help_spots, quit_spots};
+ghost use Rattle.scm_overlay.specs.OverlayRects.{dialog_run, help_dialog_rects, quit_dialog_rects};
 ghost use Rattle.scm_view.specs.Index.{HasNear, IsIndexOf, OwnAlike, owner_in};
 
 use crate::app_view::AppView;
-use crate::commit_view::push_pieces;
-use crate::dialog::middle;
-use crate::help_dialog::HelpDialog;
-use crate::ids::ComponentId;
-use crate::key_rows::find_in;
-use crate::quit_dialog::QuitDialog;
-use crate::spots::{Spot, spot_owner};
-use crate::tops::{Piece, pieces_near, push_pinned, rows_owner};
+use scm_document::commit_view::push_pieces;
+use scm_document::index_pieces::{Piece, pieces_near, push_pinned, rows_owner};
+use scm_document::key_rows::find_in;
+use scm_overlay::help_dialog::HelpDialog;
+use scm_overlay::quit_dialog::QuitDialog;
+use scm_render::centred_gap;
 use scm_types::{RecordError, SelectionKey};
-use std::alloc::Global;
+use scm_widgets::ids::ComponentId;
+use scm_widgets::overlay_rects::{OverlayRect, overlay_owner};
+use std::alloc::{AllocError, Global};
 
-/// What clicks and moves ask of a frame that is shown inline: who owns each point, on which rows each key
-/// stands, and how many rows all of it spans. Its size is that of the files and sections, whatever lines
-/// they have.
+/// The index of an inline frame: the owner of each place, the rows of each key, and the extent. It
+/// needs memory for each file and section, but not for their lines.
 #[derive(Drop)]
 pub struct FrameIndex {
-    /// The screen's columns.
+    /// The width of the screen, in columns.
     width: u16,
-    /// What lies over the rows of files: the message's button, the pinned header, the menu bar with its
-    /// open menu, the dialogs; each over those before it.
-    spots: Vec<Spot>,
-    /// Where the files stand, and their sections that are shown.
+    /// The rectangles over the rows of files: the message's button, the pinned header, the menu bar
+    /// with its open menu, and the dialogs. Where two overlap, the later one owns the place.
+    rects: Vec<OverlayRect>,
+    /// The files and their visible sections, with their row ranges.
     pieces: Vec<Piece>,
-    /// The screen's first row, in the document.
+    /// The screen's first row, counted from the document's row 0.
     first: usize,
-    /// The row below the screen's last one.
+    /// The screen's end row (exclusive).
     last: usize,
-    /// Those of the pieces that stand on the screen's rows.
+    /// The pieces that have a row on the screen.
     near: Vec<Piece>,
-    /// How many rows all of it spans.
+    /// The extent: the number of rows that the frame spans.
     extent: usize,
 }
 
-/// The least run of rows around two. A run is its first row, and the row below its last.
+/// Returns the least row range that holds both. A row range is its first row and its end row
+/// (exclusive).
 fn joined(run: (usize, usize), other: (usize, usize)) -> (usize, usize)
     ensures { result ≡ joined run other }
 {
     (run.0.min(other.0), run.1.max(other.1))
 }
 
-/// The least run around a run and another, if there is one.
+/// Returns the least row range that holds `run` and, if there is one, `other`.
 fn joined_with(run: (usize, usize), other: Option<(usize, usize)>) -> (usize, usize)
     ensures { result ≡ joined_with run other }
 {
@@ -61,8 +61,9 @@ fn joined_with(run: (usize, usize), other: Option<(usize, usize)>) -> (usize, us
     }
 }
 
-/// The rows of a document, of which so many are shown, with a message of so many rows: to before a row,
-/// or without files around the words that say so.
+/// Returns the row range that a document covers: `1..end`, or without files the rows of the message
+/// and of the empty-state text. The message has `message` rows; `height` rows of the document are
+/// visible.
 fn document_run(height: usize, message: usize, is_empty: bool, end: usize) -> (usize, usize)
     requires height { height < 2 ^ 16 }
     requires message { message ≤ 3 }
@@ -71,7 +72,7 @@ fn document_run(height: usize, message: usize, is_empty: bool, end: usize) -> (u
     if !is_empty {
         return (1, end);
     }
-    let row = 1 + middle(height, 1, 50).1;
+    let row = 1 + centred_gap(height, 1, 50);
     let words = (row, row + 1);
     if message == 0 {
         words
@@ -80,49 +81,54 @@ fn document_run(height: usize, message: usize, is_empty: bool, end: usize) -> (u
     }
 }
 
-/// Adds the spots of the quit dialog, if it is open, and gives its rows.
+/// If the quit dialog is open, adds its rectangles and returns its row range.
 fn push_quit(
     alloc: Global,
-    spots: &mut Vec<Spot>,
+    rects: &mut Vec<OverlayRect>,
     width: u16,
     height: u16,
     row: usize,
     dialog: &Option<QuitDialog>,
-) -> Result<Option<(usize, usize)>, RecordError>
+) -> Result<Option<(usize, usize)>, AllocError>
     requires { row ≤ max_scroll }
-    ensures rows { IfOk result (λ r. r ≡ option_map (λ q. dialog_run width height row (quit_dialog q)) dialog.now) }
-    ensures ok { OnOk result (spots.new.items ≡ spots.old.items ++ quit_spots width height row dialog.now) }
-    ensures err { IfErr result (λ e. e ≡ OutOfMemory) }
+    ensures rows { IfOk result (λ r. r
+        ≡ option_map (λ q. dialog_run width height row (quit_dialog q)) dialog.now) }
+    ensures ok { OnOk result
+        (rects.new.items ≡ rects.old.items ++ quit_dialog_rects width height row dialog.now) }
 {
     match dialog {
         None => Ok(None),
-        Some(dialog) => Ok(Some(dialog.push_spots(alloc, spots, width, height, row)?)),
+        Some(dialog) => Ok(Some(dialog.push_rects(alloc, rects, width, height, row)?)),
     }
 }
 
-/// Adds the spots of the help, if it is open, and gives its rows.
+/// If the help dialog is open, adds its rectangles and returns its row range.
 fn push_help(
-    alloc: Global,
-    spots: &mut Vec<Spot>,
+    rects: &mut Vec<OverlayRect>,
     width: u16,
     height: u16,
     row: usize,
     dialog: &Option<HelpDialog>,
-) -> Result<Option<(usize, usize)>, RecordError>
+) -> Result<Option<(usize, usize)>, AllocError>
     requires { row ≤ max_scroll }
-    ensures rows { IfOk result (λ r. r ≡ (if has_help dialog.now then Some (dialog_run width height row help_dialog) else None)) }
-    ensures ok { OnOk result (spots.new.items ≡ spots.old.items ++ help_spots width height row (has_help dialog.now)) }
-    ensures err { IfErr result (λ e. e ≡ OutOfMemory) }
+    ensures rows { IfOk result (λ r. r
+        ≡ (if has_help dialog.now then Some (dialog_run width height row help_dialog) else None)) }
+    ensures ok { OnOk result (rects.new.items
+        ≡ rects.old.items ++ help_dialog_rects width height row (has_help dialog.now)) }
 {
     match dialog {
         None => Ok(None),
-        Some(dialog) => Ok(Some(dialog.push_spots(alloc, spots, width, height, row)?)),
+        Some(dialog) => Ok(Some(dialog.push_rects(rects, width, height, row)?)),
     }
 }
 
 impl FrameIndex {
-    /// The index of what a view shows on a screen of so many columns and rows, whose first row shows
-    /// this row of the document.
+    /// Returns the index of the frame of `view` on a screen of `width` columns and `height` rows.
+    /// The screen's first row shows row `scroll` of the document.
+    ///
+    /// # Errors
+    ///
+    /// `OutOfMemory`: an allocation failed.
     #[tactic(auto, using(scm_types::proofs::LimitLemmas::scroll_room))]
     pub fn new(
         alloc: Global,
@@ -132,23 +138,22 @@ impl FrameIndex {
         scroll: usize,
     ) -> Result<FrameIndex, RecordError>
         requires shows { ShowsInline view.now width height scroll }
-        ensures ok { IfOk result (λ index. (shown : Shown) → IsPlain view.now shown width height → IsIndexOf width height scroll shown index) }
+        ensures ok { IfOk result (λ index. (shown : ViewState) → IsPlain view.now shown width height
+            → IsIndexOf width height scroll shown index) }
         ensures err { IfErr result (λ e. e ≡ OutOfMemory) }
     {
         let commit = &view.commit_views.as_slice()[0];
         let message = commit.commit_message_view.height();
         let views = commit.file_views.as_slice();
         let columns = usize::from(width);
-        let mut spots = Vec::new(alloc);
+        let mut rects = Vec::new(alloc);
         let mut pieces = Vec::new(alloc);
         let end = push_pieces(&mut pieces, scroll + 1, 1 + message, views)?;
-        commit.commit_message_view.push_spots(&mut spots)?;
-        push_pinned(&mut spots, columns, scroll + 1, &pieces)?;
-        let below = view
-            .menu_bar
-            .push_spots(alloc, &mut spots, columns, scroll)?;
-        let quit = push_quit(alloc, &mut spots, width, height, scroll, &view.quit_dialog)?;
-        let help = push_help(alloc, &mut spots, width, height, scroll, &view.help_dialog)?;
+        commit.commit_message_view.push_rects(&mut rects)?;
+        push_pinned(&mut rects, columns, scroll + 1, &pieces)?;
+        let below = view.menu_bar.push_rects(&mut rects, columns, scroll)?;
+        let quit = push_quit(alloc, &mut rects, width, height, scroll, &view.quit_dialog)?;
+        let help = push_help(&mut rects, width, height, scroll, &view.help_dialog)?;
         let rows = usize::from(height).saturating_sub(1);
         let document = document_run(rows, message, views.is_empty(), end);
         let run = joined_with(joined_with(joined((scroll, below), document), quit), help);
@@ -156,7 +161,7 @@ impl FrameIndex {
         let near = pieces_near(alloc, pieces.as_slice(), scroll, last)?;
         Ok(FrameIndex {
             width,
-            spots,
+            rects,
             pieces,
             first: scroll,
             last,
@@ -165,30 +170,34 @@ impl FrameIndex {
         })
     }
 
-    /// Who owns a column of a row of the document, if anything does. Nothing off the screen's columns has
-    /// an owner.
+    /// Returns the component that owns the place at `row` of the document and `column` of the
+    /// screen, if any. Columns off the screen have no owner.
     pub fn owner(&self, row: usize, column: usize) -> Option<ComponentId>
-        ensures { (w h s : ℕ) (shown : Shown) → IsIndexOf w h s shown self.now →
+        ensures { (w h s : ℕ) (shown : ViewState) → IsIndexOf w h s shown self.now →
             result ≡ (if nat_lt column w then owner w h s shown row column else None) }
     {
         self.owner_in(row, column)
     }
 
-    /// The first row of a key in the document and how many rows it has, where it is shown.
+    /// If the item of `key` is visible, returns its first row in the document and its number of
+    /// rows.
     pub fn span(&self, key: SelectionKey) -> Option<(usize, usize)>
-        ensures { (w h s : ℕ) (shown : Shown) → IsIndexOf w h s shown self.now → result ≡ span shown key }
+        ensures { (w h s : ℕ) (shown : ViewState) → IsIndexOf w h s shown self.now →
+            result ≡ span shown key }
     {
         find_in(&self.pieces, key)
     }
 
-    /// How many rows all that is shown spans.
+    /// Returns the number of rows that the document, the menu bar and the open dialogs span.
     pub fn extent(&self) -> usize
-        ensures { (w h s : ℕ) (shown : Shown) → IsIndexOf w h s shown self.now → result ≡ extent w h s shown }
+        ensures { (w h s : ℕ) (shown : ViewState) → IsIndexOf w h s shown self.now →
+            result ≡ extent w h s shown }
     {
         self.extent
     }
 
-    /// Returns pieces among which are all those on row `row`: few, if it is one of the screen's.
+    /// Returns pieces that include all those on row `row`. If the screen shows the row, they are
+    /// few.
     fn pieces_on(&self, row: usize) -> &[Piece]
         ensures { OwnAlike self.now row result.now }
     {
@@ -199,7 +208,7 @@ impl FrameIndex {
         }
     }
 
-    /// Who owns a point.
+    /// Returns the owner of the place at `row` and `column`, if any.
     fn owner_in(&self, row: usize, column: usize) -> Option<ComponentId>
         ensures { HasNear self.now → result ≡ owner_in self.now row column }
     {
@@ -207,8 +216,9 @@ impl FrameIndex {
         if width <= column {
             return None;
         }
-        match spot_owner(&self.spots, row, column) {
-            Some(id) => Some(id),
+        let overlay = overlay_owner(&self.rects, row, column);
+        match overlay {
+            Some(_) => overlay,
             None => rows_owner(width, self.pieces_on(row), row, column),
         }
     }

@@ -1,44 +1,35 @@
-//! An index of a document's rows: what stands on each, and where each key stands.
+//! An index of a document's rows: what each row shows, and which rows each key has.
 ghost use Rattle.std.specs.Prelude.{◌≡◌, length, slice_get, IfOk, IfErr};
 ghost use Rattle.std.specs.List.{flat_map};
 ghost use Rattle.scm_errors.specs.declared.error.RecordError.TheVariants.{OutOfMemory};
-ghost use Rattle.scm_view.specs.Rows.{document_of};
-ghost use Rattle.scm_view.specs.Window.{rows_of_key};
-ghost use Rattle.scm_view.specs.RowIndex.{ShowsAccepted, index_of, part_on, top_in, rows_in};
-ghost use Rattle.scm_view.specs.Pieces.{piece_parts};
+ghost use Rattle.scm_document.specs.Rows.{document_of};
+ghost use Rattle.scm_document.specs.DocumentRows.{rows_of_key};
+ghost use Rattle.scm_view.specs.RowIndex.{ShowsAccepted};
+ghost use Rattle.scm_document.specs.RowIndex.{index_of, part_on, top_in, rows_in};
+ghost use Rattle.scm_document.specs.Pieces.{piece_parts};
 
-use crate::commit_view::{CommitView, push_pieces};
-use crate::key_rows::find_in;
-use crate::tops::Piece;
-use scm_types::{FileKey, RecordError, SectionKey, SelectionKey};
+use scm_document::commit_view::{CommitView, push_pieces};
+use scm_document::index_pieces::Piece;
+use scm_document::key_rows::find_in;
+use scm_document::row_place::RowPlace;
+use scm_types::{RecordError, SelectionKey};
 use std::alloc::Global;
 use std::marker::Model;
 
-/// What stands on a row of a document. Rows of a message and of a section count from 0.
-#[derive(Clone, Copy, Debug, PartialEq, Eq)]
-pub enum RowPlace {
-    /// A row of the message.
-    Message(usize),
-    /// The header of a file.
-    File(FileKey),
-    /// A row of a section.
-    Section(SectionKey, usize),
-}
-
-/// The rows of a document: those of its message, and where its files and sections stand.
+/// The rows of a document: how many its message has, and the row ranges of its files and sections.
 #[derive(Drop)]
 pub struct RowIndex {
-    /// How many rows the message has.
+    /// Number of rows of the message.
     message: usize,
-    /// The files, each followed by its sections that are shown.
+    /// The files, each followed by its visible sections.
     pieces: Vec<Piece>,
 }
 
 impl Model for RowIndex {
     ghost use Rattle.std.specs.Prelude.{◌++◌};
     ghost use Rattle.std.specs.List.{flat_map};
-    ghost use Rattle.scm_view.specs.RowIndex.{Index, message_parts};
-    ghost use Rattle.scm_view.specs.Pieces.{piece_places, piece_parts};
+    ghost use Rattle.scm_document.specs.RowIndex.{Index, message_parts};
+    ghost use Rattle.scm_document.specs.Pieces.{piece_places, piece_parts};
 
     ghost Value = { Index };
 
@@ -48,39 +39,7 @@ impl Model for RowIndex {
     } };
 }
 
-impl Piece {
-    /// How many rows are its own; a file's others are its sections'.
-    fn own_rows(&self) -> usize
-        ensures { result ≡ length (piece_parts self.now) }
-    {
-        match self {
-            Piece::File(_) => 1,
-            Piece::Section(section) => section.end.saturating_sub(section.top),
-        }
-    }
-
-    /// What stands on one of its own rows.
-    fn part(&self, row: usize) -> Option<RowPlace>
-        ensures { result ≡ slice_get (piece_parts self.now) row }
-    {
-        match self {
-            Piece::File(file) => if row == 0 {
-                Some(RowPlace::File(file.key))
-            } else {
-                None
-            },
-            Piece::Section(section) => {
-                if row < section.end.saturating_sub(section.top) {
-                    Some(RowPlace::Section(section.key, row))
-                } else {
-                    None
-                }
-            }
-        }
-    }
-}
-
-/// What stands on a row of files and sections one below another.
+/// Returns what row `row` of the files and sections shows, counted from 0, if there is one.
 fn place_in(pieces: &[Piece], row: usize) -> Option<RowPlace>
     ensures { result ≡ slice_get (flat_map piece_parts pieces.now) row }
 {
@@ -96,7 +55,10 @@ fn place_in(pieces: &[Piece], row: usize) -> Option<RowPlace>
 }
 
 impl RowIndex {
-    /// The index of the document of a commit.
+    /// Returns the index of the document that `view` shows.
+    ///
+    /// # Errors
+    /// `OutOfMemory`: an allocation failed.
     pub fn new(alloc: Global, view: &CommitView<'_>) -> Result<RowIndex, RecordError>
         requires { ShowsAccepted view.now }
         ensures ok { IfOk result (λ index. index ≡ index_of (document_of view.now)) }
@@ -108,7 +70,7 @@ impl RowIndex {
         Ok(RowIndex { message, pieces })
     }
 
-    /// What stands on a row of the document, if anything does. No memory is taken.
+    /// Returns what row `row` of the document shows, if anything. Allocates no memory.
     pub fn place(&self, row: usize) -> Option<RowPlace>
         ensures { result ≡ part_on self.now.parts row }
     {
@@ -121,14 +83,14 @@ impl RowIndex {
         }
     }
 
-    /// The first row of a key and how many rows it has, if it has any.
+    /// Returns the first row of `key` and how many rows it has, if it has any.
     fn find(&self, key: SelectionKey) -> Option<(usize, usize)>
         ensures { result ≡ rows_of_key key self.now.places }
     {
         find_in(self.pieces.as_slice(), key)
     }
 
-    /// The first row of a key, if it is drawn. No memory is taken.
+    /// Returns the first row of `key`, if it has rows. Allocates no memory.
     pub fn top(&self, key: SelectionKey) -> Option<usize>
         ensures { result ≡ top_in self.now key }
     {
@@ -138,7 +100,7 @@ impl RowIndex {
         }
     }
 
-    /// How many rows a key has, if it is drawn. No memory is taken.
+    /// Returns how many rows `key` has, if it has any. Allocates no memory.
     pub fn rows(&self, key: SelectionKey) -> Option<usize>
         ensures { result ≡ rows_in self.now key }
     {

@@ -6,7 +6,7 @@ use Rattle.scm_render.specs.Picture.{box_rect}
 use Rattle.scm_render.specs.Canvas.{under}
 use Rattle.scm_render.proofs.PictureLemmas.{PictureInRange-part, RectInRange-box_rect}
 use Rattle.scm_render.proofs.CanvasLemmas.{with_picture-masked}
-use Rattle.scm_view.specs.AppView.{view_mask, view_picture, next_view}
+use Rattle.scm_document.specs.ViewColumns.{view_mask, view_picture, next_view}
 use Rattle.scm_view.proofs.AppLemmas.{next-fits}
 use Rattle.scm_view.proofs.app_view.draw_view.Goals as goal
 

@@ -6,13 +6,13 @@ use Rattle.scm_render.specs.Canvas.{Sight}
 use Rattle.scm_render.specs.Picture.{Picture, part}
 use Rattle.scm_render.proofs.PictureLemmas.{PictureInRange-left, PictureInRange-part}
 use Rattle.scm_render.proofs.StepLemmas.{left-part, left-more, left-none}
-use Rattle.scm_view.specs.declared.ids.ComponentId.{ComponentId}
-use Rattle.scm_view.specs.declared.ids.ComponentId.TheVariants as ids
-use Rattle.scm_view.specs.declared.commit_view.CommitView.{CommitView}
-use Rattle.scm_view.specs.AppView.{view_picture, next_view}
+use Rattle.scm_widgets.specs.declared.ids.ComponentId.{ComponentId}
+use Rattle.scm_widgets.specs.declared.ids.ComponentId.TheVariants as ids
+use Rattle.scm_document.specs.declared.commit_view.CommitView.{CommitView}
+use Rattle.scm_document.specs.ViewColumns.{view_picture, next_view}
 use Rattle.scm_view.proofs.AppLemmas.{views_picture-more, views_picture-end, after-fits}
 use Rattle.scm_render.proofs.CountLemmas.{counts-more, counts-end}
-use Rattle.scm_view.proofs.CountLemmas.{views_counts-more, views_counts-end}
+use Rattle.scm_document.proofs.CountLemmas.{views_counts-more, views_counts-end}
 use Rattle.scm_view.proofs.app_view.draw_views.Goals as goal
 
 abbrev one : CommitView → ℤ → ℕ → Sight → Picture ComponentId

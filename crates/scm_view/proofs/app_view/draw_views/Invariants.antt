@@ -1,7 +1,8 @@
 use Rattle.std.proofs.Common.{◌≡◌, drop}
 use Rattle.scm_render.specs.Left.{IsLeft}
 use Rattle.scm_cells.specs.Counts.{added}
-use Rattle.scm_view.specs.AppView.{views_picture, views_counts}
+use Rattle.scm_view.specs.AppView.{views_picture}
+use Rattle.scm_document.specs.ViewColumns.{views_counts}
 use Rattle.scm_view.proofs.app_view.draw_views.Given as goal
 
 abbrev pub invariant-loop-view : goal.invariant-loop-view

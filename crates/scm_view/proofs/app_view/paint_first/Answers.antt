@@ -1,7 +1,7 @@
 use Rattle.std.proofs.Common.{rules}
 use Rattle.std.specs.Prelude.{pos}
-use Rattle.scm_view.proofs.RowsLemmas.{on-ok}
-use Rattle.scm_view.proofs.PaintsLemmas.{painted-nothing}
+use Rattle.scm_document.proofs.RowsLemmas.{on-ok}
+use Rattle.scm_document.proofs.PaintsLemmas.{painted-nothing}
 use Rattle.scm_view.proofs.PaintsAppLemmas.{first-is, first-none, view-in, view-painted, view-counted, no-view-counted}
 use Rattle.scm_view.specs.AppView.{views_picture}
 use Rattle.scm_view.proofs.app_view.paint_first.Goals as goal

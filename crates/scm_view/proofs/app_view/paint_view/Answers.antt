@@ -2,10 +2,11 @@ use Rattle.std.proofs.Common.{rules, ◌≡◌, ◌∙◌, ap, FitsSigned, w64}
 use Rattle.std.specs.Prelude.{ℤ, pos}
 use Rattle.std.proofs.lemmas.Int.{to_z-of_z}
 use Rattle.scm_render.specs.Canvas.{Sight, under}
-use Rattle.scm_view.specs.declared.commit_view.CommitView.{CommitView}
-use Rattle.scm_view.specs.Pictures.{IdPicture, commit_picture}
-use Rattle.scm_view.specs.AppView.{view_mask}
-use Rattle.scm_view.proofs.PaintsLemmas.{painted-masked}
+use Rattle.scm_document.specs.declared.commit_view.CommitView.{CommitView}
+use Rattle.scm_widgets.specs.Pictures.{IdPicture}
+use Rattle.scm_document.specs.Pictures.{commit_picture}
+use Rattle.scm_document.specs.ViewColumns.{view_mask}
+use Rattle.scm_document.proofs.PaintsLemmas.{painted-masked}
 use Rattle.scm_view.proofs.app_view.paint_view.Goals as goal
 
 abbrev one : CommitView → ℤ → Sight → IdPicture

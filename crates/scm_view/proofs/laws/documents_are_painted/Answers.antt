@@ -1,4 +1,4 @@
-use Rattle.scm_view.proofs.DocumentLemmas.{commits-painted}
+use Rattle.scm_document.proofs.DocumentLemmas.{commits-painted}
 use Rattle.scm_view.proofs.laws.documents_are_painted.Goals as goal
 
 pub returns : goal.returns

@@ -1,5 +1,5 @@
 use Rattle.std.proofs.Common.{◌∙◌}
-use Rattle.scm_view.proofs.IndexLemmas.{place-first, place-rest}
+use Rattle.scm_document.proofs.IndexLemmas.{place-first, place-rest}
 use Rattle.scm_view.proofs.row_index.place_in.Goals as goal
 
 pub returns-then-left-own : goal.returns-then-left-own

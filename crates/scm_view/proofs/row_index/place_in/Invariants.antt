@@ -1,7 +1,7 @@
 use Rattle.std.proofs.Common.{◌≡◌, drop}
 use Rattle.std.specs.Prelude.{slice_get}
 use Rattle.std.specs.List.{flat_map}
-use Rattle.scm_view.specs.Pieces.{piece_parts}
+use Rattle.scm_document.specs.Pieces.{piece_parts}
 use Rattle.scm_view.proofs.row_index.place_in.Given as goal
 
 abbrev pub invariant-loop-piece : goal.invariant-loop-piece

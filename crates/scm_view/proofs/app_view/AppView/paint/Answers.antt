@@ -1,5 +1,5 @@
 use Rattle.std.proofs.Common.{length}
-use Rattle.scm_view.proofs.RowsLemmas.{on-ok}
+use Rattle.scm_document.proofs.RowsLemmas.{on-ok}
 use Rattle.scm_view.proofs.PaintPartLemmas.{all-shown, window-left}
 use Rattle.scm_view.proofs.app_view.AppView.paint.Goals as goal
 

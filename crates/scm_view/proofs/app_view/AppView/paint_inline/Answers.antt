@@ -1,26 +1,24 @@
-use Rattle.std.proofs.Common.{rules, FitsSigned, w64}
-use Rattle.std.specs.Prelude.{ℤ, Option}
+use Rattle.std.proofs.Common.{rules, FitsSigned, w64, ◌≡◌}
+use Rattle.std.specs.Prelude.{ℤ, Option, pos}
 use Rattle.std.proofs.lemmas.Int.{to_z-of_z}
 use Rattle.scm_cells.specs.Rect.{RectInRange}
 use Rattle.scm_render.specs.Canvas.{Sight}
 use Rattle.scm_render.specs.Picture.{Picture, followed_by, part}
 use Rattle.scm_render.proofs.PictureLemmas.{PictureInRange-left, PictureInRange-right, PictureInRange-part}
 use Rattle.scm_render.proofs.StepLemmas.{InRange-fits, rest}
-use Rattle.scm_view.proofs.PaintsLemmas.{rest-in}
+use Rattle.scm_document.proofs.PaintsLemmas.{rest-in}
 use Rattle.scm_view.proofs.PaintsAppLemmas.{four-painted}
-use Rattle.std.proofs.Common.{◌≡◌}
-use Rattle.std.specs.Prelude.{pos}
 use Rattle.scm_cells.specs.Counts.{added}
-use Rattle.scm_view.specs.AppView.{shown_views, view_width, views_counts}
-use Rattle.scm_view.specs.declared.ids.ComponentId.{ComponentId}
-use Rattle.scm_view.specs.declared.ids.ComponentId.TheVariants as ids
-use Rattle.scm_view.specs.declared.menu_bar.MenuBar.{MenuBar}
-use Rattle.scm_view.specs.declared.quit_dialog.QuitDialog.{QuitDialog}
-use Rattle.scm_view.specs.declared.help_dialog.HelpDialog.{HelpDialog}
-use Rattle.scm_view.specs.Menus.{menu_bar_picture}
-use Rattle.scm_view.specs.Overlays.{quit_picture, help_picture}
-use Rattle.scm_view.specs.AppView.{has_help, app_picture}
-use Rattle.scm_view.proofs.RowsLemmas.{on-ok}
+use Rattle.scm_view.specs.AppView.{shown_views, has_help, app_picture}
+use Rattle.scm_document.specs.ViewColumns.{view_width, views_counts}
+use Rattle.scm_widgets.specs.declared.ids.ComponentId.{ComponentId}
+use Rattle.scm_widgets.specs.declared.ids.ComponentId.TheVariants as ids
+use Rattle.scm_overlay.specs.declared.menu_bar.MenuBar.{MenuBar}
+use Rattle.scm_overlay.specs.declared.quit_dialog.QuitDialog.{QuitDialog}
+use Rattle.scm_overlay.specs.declared.help_dialog.HelpDialog.{HelpDialog}
+use Rattle.scm_overlay.specs.Menus.{menu_bar_picture}
+use Rattle.scm_overlay.specs.Overlays.{quit_picture, help_picture}
+use Rattle.scm_document.proofs.RowsLemmas.{on-ok}
 use Rattle.scm_view.proofs.AppLemmas.{bar-below}
 use Rattle.scm_view.proofs.CountLemmas.{app-counted}
 use Rattle.scm_view.proofs.app_view.AppView.paint_inline.Goals as goal

@@ -5,10 +5,10 @@ use Rattle.scm_types.proofs.LimitLemmas.{scroll_room}
 use Rattle.scm_cells.specs.Counts.{no_counts}
 use Rattle.scm_cells.specs.Screen.{Screen}
 use Rattle.scm_render.specs.Canvas.{Canvas}
-use Rattle.scm_view.specs.declared.ids.ComponentId.{ComponentId}
-use Rattle.scm_view.specs.Blanks.{blank_row}
-use Rattle.scm_view.specs.Screens.{sight}
-use Rattle.scm_view.proofs.RowsLemmas.{on-ok}
+use Rattle.scm_widgets.specs.declared.ids.ComponentId.{ComponentId}
+use Rattle.scm_widgets.specs.Blanks.{blank_row}
+use Rattle.scm_widgets.specs.Screens.{sight}
+use Rattle.scm_document.proofs.RowsLemmas.{on-ok}
 use Rattle.scm_view.proofs.PartViewLemmas.{parts-in-range}
 use Rattle.scm_view.proofs.PaintPartLemmas.{document-painted, few-on}
 use Rattle.scm_view.proofs.app_view.AppView.paint_part.Goals as goal

@@ -1,14 +1,14 @@
 use Rattle.std.proofs.Common.{◌≡◌, ◌∙◌, ◌+◌, ◌++◌, ap, arith, ℕ, map, List}
 use Rattle.std.specs.List.{flat_map}
-use Rattle.scm_view.specs.declared.tops.Piece.{Piece}
-use Rattle.scm_view.specs.declared.commit_view.CommitView.{CommitView}
-use Rattle.scm_view.specs.Rows.{message_height, shown_file, document_of}
-use Rattle.scm_view.specs.Places.{files_places}
-use Rattle.scm_view.specs.Pieces.{piece_places, piece_parts, files_pieces}
-use Rattle.scm_view.specs.RowIndex.{Index, message_parts, files_parts, index_of}
+use Rattle.scm_document.specs.declared.index_pieces.Piece.{Piece}
+use Rattle.scm_document.specs.declared.commit_view.CommitView.{CommitView}
+use Rattle.scm_document.specs.Rows.{message_height, shown_file, document_of}
+use Rattle.scm_document.specs.Places.{files_places}
+use Rattle.scm_document.specs.Pieces.{piece_places, piece_parts, files_pieces}
+use Rattle.scm_document.specs.RowIndex.{Index, message_parts, files_parts, index_of}
 use Rattle.scm_view.proofs.FrameIndexLemmas.{files-rows-height}
 use Rattle.scm_view.proofs.LimitLemmas.{few-rows, message-most}
-use Rattle.scm_view.proofs.PieceLemmas.{files-places, files-parts}
+use Rattle.scm_document.proofs.PieceLemmas.{files-places, files-parts}
 use Rattle.scm_view.proofs.row_index.RowIndex.new.Goals as goal
 
 -- the pieces of a document are its index

@@ -1,9 +1,9 @@
 use Rattle.std.proofs.Common.{◌≡◌, ◌∙◌, ◌+◌, ◌<◌, suc, sym, ap, arith, length}
 use Rattle.std.specs.Prelude.{slice_get}
 use Rattle.std.specs.List.{flat_map}
-use Rattle.scm_view.specs.RowIndex.{message_parts}
-use Rattle.scm_view.specs.Pieces.{piece_parts}
-use Rattle.scm_view.proofs.IndexLemmas.{message-at, length-message, get-first, get-rest}
+use Rattle.scm_document.specs.RowIndex.{message_parts}
+use Rattle.scm_document.specs.Pieces.{piece_parts}
+use Rattle.scm_document.proofs.IndexLemmas.{message-at, length-message, get-first, get-rest}
 use Rattle.scm_view.proofs.row_index.RowIndex.place.Goals as goal
 
 pub returns-in-None-checked_sub : goal.returns-in-None-checked_sub

@@ -1,0 +1,35 @@
+-- ---- definitions that proofs alone cite
+pub mod Near
+pub mod FilesOf
+-- ---- lemmas
+pub mod HeadingLemmas
+pub mod WidthLemmas
+pub mod CountLemmas
+pub mod PaintsLemmas
+-- Drawing in either pass: one picture after another, under a mask, and a loop of parts.
+pub mod PassLemmas
+pub mod RowsLemmas
+pub mod SectionsLemmas
+pub mod FilesLemmas
+pub mod NearLemmas
+pub mod StripLemmas
+pub mod DocumentLemmas
+pub mod AppShapeLemmas
+pub mod BoxLemmas
+pub mod OwnerLemmas
+pub mod SectionPieceLemmas
+pub mod ViewPieceLemmas
+pub mod OverlayRectLemmas
+pub mod FileBoxLemmas
+pub mod KeepLemmas
+pub mod WindowLemmas
+pub mod DocumentOwnerLemmas
+pub mod PlaceLemmas
+pub mod IndexLemmas
+pub mod PieceLemmas
+pub mod RunLemmas
+pub mod DocumentExtentLemmas
+pub mod LeftOutLemmas
+pub mod SameWindowLemmas
+-- the pieces near the screen own what all pieces do on its rows
+pub mod NearPieceLemmas

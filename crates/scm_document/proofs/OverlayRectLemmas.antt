@@ -1,0 +1,82 @@
+-- Overlay rectangles have the owners that the layers over the rows of files name.
+use Rattle.std.proofs.Common.{◌≡◌, ℕ, suc, ◌+◌, ◌-◌, ◌<◌, ◌≤◌, Bool, true, false, ◌&&◌, cond, List, [], ◌∷◌, map, nat_lt, refl, sym, ap, ◌∙◌, arith, subst}
+use Rattle.std.specs.Prelude.{ℤ, pos, if◌then◌else◌, Option, Some, None}
+use Rattle.std.specs.Ordering.{int_eq}
+use Rattle.scm_types.specs.declared.keys.FileKey.{FileKey}
+use Rattle.scm_types.specs.declared.keys.SelectionKey.TheVariants as selection
+use Rattle.scm_render.specs.Hits.{first_of_two}
+use Rattle.scm_render.specs.Lines.{line}
+use Rattle.scm_render.proofs.HitLemmas.{two_assoc}
+use Rattle.scm_widgets.specs.declared.ids.ComponentId.{ComponentId}
+use Rattle.scm_widgets.specs.declared.ids.ComponentId.TheVariants as ids
+use Rattle.scm_document.specs.declared.file_view.FileView.{FileView}
+use Rattle.scm_widgets.specs.Layers.{clear, is_among}
+use Rattle.scm_document.specs.Rows.{HeaderRow, ShownFile, shown_file}
+use Rattle.scm_document.specs.Strips.{row_strip, pinned_strips}
+use Rattle.scm_widgets.specs.OverlayRects.{is_from, overlay_owner, shift}
+use Rattle.scm_document.specs.ViewPieces.{file_height, file_piece_list}
+use Rattle.scm_document.specs.HeaderRects.{header_rects, pinned_rects}
+use Rattle.scm_document.proofs.FilesOf.{IsHeadingOf, AreFilesOf}
+use Rattle.scm_document.proofs.ViewPieceLemmas.{file-height}
+use Rattle.scm_widgets.proofs.OverlayRectLemmas.{on_row, far-among, far-all, line-one}
+
+-- ---- the pinned header
+
+pinned-owner : (w x : ℕ) (f : ShownFile) → x < w → 3 ≤ w → IsHeadingOf f.key f.heading
+    → first_of_two (if is_from (shift 0) (shift 3) (x + 65536) then Some (ids.ToggleBox (selection.File f.key)) else None)
+    (first_of_two (if is_from (shift (w - 3)) (shift w) (x + 65536) then Some (ids.ExpandBox (selection.File f.key)) else None)
+    (if is_from (shift 0) (shift w) (x + 65536) then Some (ids.FileViewHeader f.key) else None))
+    ≡ (row_strip w (HeaderRow f.key f.heading)).owner x
+unfolding row_strip
+pinned-owner w x f within fits ids_are =
+    let end : (w - 3) + 3 ≡ w = omega (arith, fits) in
+    let fold : is_from (shift (w - 3)) (shift w) (x + 65536) ≡ is_among (w - 3) 3 x = ap (λ e. is_from (shift (w - 3)) (shift e) (x + 65536)) (sym end) ∙ far-among (w - 3) 3 x in
+    rw (far-all w x within, fold, far-among 0 3 x, ids_are.toggle, ids_are.fold)
+    (three (is_among 0 3 x) (is_among (w - 3) 3 x) (ids.ToggleBox (selection.File f.key)) (ids.ExpandBox (selection.File f.key)) (ids.FileViewHeader f.key))
+  where
+    three : (t u : Bool) (a b c : ComponentId)
+        → ◌≡◌ {A = Option ComponentId} (first_of_two (if t then Some a else None) (first_of_two (if u then Some b else None) (Some c)))
+        (first_of_two (first_of_two None (first_of_two (cond t (Some a) None) (first_of_two None (cond u (Some b) None)))) (Some c))
+    three true u a b c = refl
+    three false true a b c = refl
+    three false false a b c = refl
+
+header-row : (w m y x : ℕ) (f : ShownFile) → x < w → 3 ≤ w → IsHeadingOf f.key f.heading
+    → overlay_owner (header_rects w m f.key) y x ≡ (line clear (row_strip w (HeaderRow f.key f.heading) ∷ []) (pos m) (pos y)).owner x
+header-row w m y x f within fits ids_are =
+    rw (on_row m y, line-one (row_strip w (HeaderRow f.key f.heading)) (pos m) (pos y) x)
+    (go (int_eq (pos y) (pos m)))
+  where
+    go : (t : Bool) → first_of_two (first_of_two (first_of_two None (if t && is_from (shift 0) (shift 3) (x + 65536) then Some (ids.ToggleBox (selection.File f.key)) else None))
+        (if t && is_from (shift (w - 3)) (shift w) (x + 65536) then Some (ids.ExpandBox (selection.File f.key)) else None))
+        (if t && is_from (shift 0) (shift w) (x + 65536) then Some (ids.FileViewHeader f.key) else None)
+        ≡ (if t then (row_strip w (HeaderRow f.key f.heading)).owner x else None)
+    go true =
+        two_assoc (if is_from (shift 0) (shift 3) (x + 65536) then Some (ids.ToggleBox (selection.File f.key)) else None)
+        (if is_from (shift (w - 3)) (shift w) (x + 65536) then Some (ids.ExpandBox (selection.File f.key)) else None)
+        (if is_from (shift 0) (shift w) (x + 65536) then Some (ids.FileViewHeader f.key) else None)
+        ∙ pinned-owner w x f within fits ids_are
+    go false = refl
+
+line-none : (y z : ℤ) (x : ℕ) → None ≡ (line (clear {K = ComponentId}) [] y z).owner x
+unfolding line
+line-none y z x = refl
+
+key-is : (v : FileView) (P : FileKey → Type 0) → P (shown_file v).key → P v.file_key
+unfolding shown_file
+key-is v P p = p
+
+pub pinned-spots : (w m y x commit n top : ℕ) (vs : List FileView) → x < w → 3 ≤ w → AreFilesOf commit n (map shown_file vs)
+    → overlay_owner (pinned_rects w m (file_piece_list m top vs)) y x ≡ (line clear (pinned_strips w m top (map shown_file vs)) (pos m) (pos y)).owner x
+unfolding pinned_strips
+pinned-spots w m y x commit n top [] within fits e = line-none (pos m) (pos y) x
+pinned-spots w m y x commit n top (v ∷ vs) within fits e =
+    subst (λ k. overlay_owner (if nat_lt top m && nat_lt m (top + file_height v) then header_rects w m v.file_key else pinned_rects w m (file_piece_list m (top + file_height v) vs)) y x
+    ≡ (line clear (cond (nat_lt top m && nat_lt m (top + k)) (row_strip w (HeaderRow (shown_file v).key (shown_file v).heading) ∷ []) (pinned_strips w m (top + k) (map shown_file vs))) (pos m) (pos y)).owner x) (sym (file-height v))
+    (go (pinned-spots w m y x commit (suc (shown_file v).key.file_idx) (top + file_height v) vs within fits e.1) (nat_lt top m && nat_lt m (top + file_height v)))
+  where
+    go : overlay_owner (pinned_rects w m (file_piece_list m (top + file_height v) vs)) y x ≡ (line clear (pinned_strips w m (top + file_height v) (map shown_file vs)) (pos m) (pos y)).owner x → (t : Bool)
+        → overlay_owner (if t then header_rects w m v.file_key else pinned_rects w m (file_piece_list m (top + file_height v) vs)) y x
+        ≡ (line clear (cond t (row_strip w (HeaderRow (shown_file v).key (shown_file v).heading) ∷ []) (pinned_strips w m (top + file_height v) (map shown_file vs))) (pos m) (pos y)).owner x
+    go more true = key-is v (λ k. overlay_owner (header_rects w m k) y x ≡ (line clear (row_strip w (HeaderRow (shown_file v).key (shown_file v).heading) ∷ []) (pos m) (pos y)).owner x) (header-row w m y x (shown_file v) within fits e.0.heading)
+    go more false = more

@@ -1,0 +1,192 @@
+-- Rows below one another.
+use Rattle.std.proofs.Common.{◌≡◌, ℕ, ◌+◌, ◌<◌, ◌≤◌, ℤ, pos, ◌+ℤ◌, List, [], ◌∷◌, length, drop, get_or, refl, ap, ◌∙◌, sym, arith, add-one, drop-cons, suc, ◌++◌, append_assoc, append-nil, FitsSigned, w64}
+use Rattle.std.proofs.lemmas.List.{drop_all, take_all, length-drop, length-take}
+use Rattle.std.specs.Prelude.{Result, Ok, Err, OnOk, take, ◌-◌}
+use Rattle.std.proofs.lemmas.Int.{ints}
+use Rattle.scm_cells.specs.Rect.{InRange}
+use Rattle.scm_types.specs.declared.line.SectionChangedLine.{SectionChangedLine}
+use Rattle.scm_render.specs.Picture.{PictureInRange, nothing, followed_by, covering, part}
+use Rattle.scm_render.specs.Canvas.{Sight, Canvas, with_picture}
+use Rattle.scm_render.proofs.PictureLemmas.{PictureInRange-left, PictureInRange-right, PictureInRange-part, RectInRange-covering}
+use Rattle.scm_widgets.specs.declared.ids.ComponentId.{ComponentId}
+use Rattle.scm_types.specs.declared.keys.LineKey.{LineKey}
+use Rattle.scm_document.specs.declared.section_view.SectionView.{SectionView}
+use Rattle.scm_document.specs.declared.section_view.Lines.{Lines}
+use Rattle.scm_document.specs.declared.section_view.Lines.TheVariants as lines
+use Rattle.scm_document.specs.declared.section_line_view.SectionLineView.{SectionLineView}
+use Rattle.scm_document.specs.declared.section_line_view.SectionLineViewInner.{SectionLineViewInner}
+use Rattle.scm_document.specs.declared.section_line_view.SectionLineViewInner.TheVariants as inner
+use Rattle.scm_widgets.specs.Boxes.{IdBox}
+use Rattle.scm_document.specs.Rows.{DocRow, HeaderRow, SectionRow, LineRow, MarkRow, ContextRow, DotsRow, BlankRow, changed_row, changed_rows, numbered_row, numbered_rows, lines_count, line_rows, rows_from, view_row, line_id}
+use Rattle.scm_widgets.specs.Pictures.{IdPicture, rest_of_row, box_picture}
+use Rattle.scm_document.specs.Pictures.{inner_picture, line_picture, row_picture, rows_picture, changed_picture, context_picture}
+use Rattle.scm_render.proofs.StepLemmas.{step, rest, span-place, text-place, InRange-fits}
+use Rattle.scm_document.proofs.HeadingLemmas.{heading-rect}
+use Rattle.scm_render.proofs.DrawLemmas.{blank_in_range}
+
+-- the row below one that is in range is too
+pub row-end : (r : DocRow) (s : Sight) (x y : ℤ) → PictureInRange (row_picture r s x y) → InRange (y +ℤ pos 1)
+unfolding row_picture changed_picture context_picture
+row-end (HeaderRow k h) s x y r = (heading-rect h s x y (PictureInRange-part _ _ r)).end_y
+row-end (SectionRow b h) s x y r = (heading-rect h s x y (PictureInRange-left _ _ r)).end_y
+row-end (LineRow k b ts) s x y r = (RectInRange-covering _ (PictureInRange-left _ _ r)).end_y
+row-end (MarkRow b c t) s x y r = (RectInRange-covering _ (PictureInRange-left _ _ r)).end_y
+row-end (ContextRow k ts) s x y r = (RectInRange-covering _ (PictureInRange-left _ _ r)).end_y
+row-end (DotsRow t) s x y r = (RectInRange-covering _ (PictureInRange-left _ _ r)).end_y
+row-end BlankRow s x y r = (blank_in_range {K = ComponentId} s (rest_of_row s x y) r).end_y
+
+pub rows_picture-more : (rows : List DocRow) (r : DocRow) (rs : List DocRow) (s : Sight) (x y : ℤ) → rows ≡ r ∷ rs → rows_picture rows s x y ≡ followed_by (row_picture r s x y) (rows_picture rs s x (y +ℤ pos 1))
+unfolding rows_picture
+rows_picture-more rows r rs s x y e = rw e refl
+
+pub rows_picture-end : (rows : List DocRow) (s : Sight) (x y : ℤ) → rows ≡ [] → rows_picture rows s x y ≡ nothing
+unfolding rows_picture
+rows_picture-end rows s x y e = rw e refl
+
+pub changed_rows-more : (v : SectionView) (first : ℕ) (ls : List SectionChangedLine) (i : ℕ) (d : SectionChangedLine) → i < length ls
+    → changed_rows v (first + i) (drop i ls) ≡ changed_row v (first + i) (get_or ls i d) ∷ changed_rows v (first + (i + 1)) (drop (i + 1) ls)
+unfolding changed_rows
+changed_rows-more v first ls i d h =
+    let next : suc (first + i) ≡ first + suc i = omega arith in
+    rw (add-one, drop-cons ls i d h) (ap (λ n. changed_row v (first + i) (get_or ls i d) ∷ changed_rows v n (drop (suc i) ls)) next)
+
+pub changed_rows-end : (v : SectionView) (first : ℕ) (ls : List SectionChangedLine) (i : ℕ) → length ls ≤ i → changed_rows v (first + i) (drop i ls) ≡ []
+unfolding changed_rows
+changed_rows-end v first ls i h = rw (drop_all i ls h) refl
+
+pub numbered_rows-more : (v : SectionView) (first : ℕ) (ls : List (List ℕ)) (i : ℕ) (d : List ℕ) → i < length ls
+    → numbered_rows v (first + i) (drop i ls) ≡ numbered_row v (first + i) (get_or ls i d) ∷ numbered_rows v (first + (i + 1)) (drop (i + 1) ls)
+unfolding numbered_rows
+numbered_rows-more v first ls i d h =
+    let next : suc (first + i) ≡ first + suc i = omega arith in
+    rw (add-one, drop-cons ls i d h) (ap (λ n. numbered_row v (first + i) (get_or ls i d) ∷ numbered_rows v n (drop (suc i) ls)) next)
+
+pub numbered_rows-end : (v : SectionView) (first : ℕ) (ls : List (List ℕ)) (i : ℕ) → length ls ≤ i → numbered_rows v (first + i) (drop i ls) ≡ []
+unfolding numbered_rows
+numbered_rows-end v first ls i h = rw (drop_all i ls h) refl
+
+-- the place of a line that is in range is too
+pub changed-place : (b : IdBox) (ts : List (List ℕ)) (s : Sight) (x y : ℤ) → PictureInRange (changed_picture b ts s x y) → InRange x
+unfolding changed_picture box_picture
+changed-place b ts s x y r = (span-place s x y _ (PictureInRange-part _ _ (PictureInRange-left _ _ (PictureInRange-right _ _ r)))).0
+
+pub context-place : (ts : List (List ℕ)) (s : Sight) (x y : ℤ) → PictureInRange (context_picture ts s x y) → InRange x
+unfolding context_picture
+context-place ts s x y r = (text-place s x y ts (PictureInRange-right _ _ r)).0
+
+-- ---- lines of either kind
+
+pub from-first : (v : SectionView) (first : ℕ) (ls : Lines) → rows_from v first ls 0 ≡ line_rows v first ls
+from-first v first (lines.Context ls) = let same : first + 0 ≡ first = omega arith in ap (λ n. numbered_rows v n ls.now) same
+from-first v first (lines.Changed ls) = let same : first + 0 ≡ first = omega arith in ap (λ n. changed_rows v n ls.now) same
+
+pub from-end : (v : SectionView) (first : ℕ) (ls : Lines) (i : ℕ) → lines_count ls ≤ i → rows_from v first ls i ≡ []
+from-end v first (lines.Context ls) i h = numbered_rows-end v first ls.now i h
+from-end v first (lines.Changed ls) i h = changed_rows-end v first ls.now i h
+
+inner-picture : (k : LineKey) (i : SectionLineViewInner) (s : Sight) (x y : ℤ)
+    → row_picture (view_row (record { line_key = k; inner = i })) s x y ≡ followed_by (covering (rest_of_row s x y)) (part (line_id k) (inner_picture i s (x +ℤ pos 2) y))
+unfolding row_picture
+inner-picture k (inner.Unchanged l n) s x y = refl
+inner-picture k (inner.Changed b change l) s x y = refl
+
+pub view_row-picture : (w : SectionLineView) (s : Sight) (x y : ℤ) → row_picture (view_row w) s x y ≡ followed_by (covering (rest_of_row s x y)) (part (line_id w.line_key) (line_picture w s (x +ℤ pos 2) y))
+unfolding line_picture
+view_row-picture w s x y = inner-picture w.line_key w.inner s x y
+
+inner-place : (i : SectionLineViewInner) (s : Sight) (x y : ℤ) → PictureInRange (inner_picture i s x y) → InRange x
+inner-place (inner.Unchanged l n) s x y r = context-place _ s x y r
+inner-place (inner.Changed b change l) s x y r = changed-place b _ s x y r
+
+pub view-place : (w : SectionLineView) (s : Sight) (x y : ℤ) → PictureInRange (row_picture (view_row w) s x y) → InRange (x +ℤ pos 2)
+view-place w s x y r = inner-place w.inner s (x +ℤ pos 2) y (PictureInRange-part _ _ (PictureInRange-right _ _ (rw (inner-picture w.line_key w.inner s x y) at r)))
+
+-- ---- lists of rows
+
+picture-same : (a b : IdPicture) → a.puts ≡ b.puts → a.boxes ≡ b.boxes → a.areas ≡ b.areas → a ≡ b
+picture-same a b p q r =
+    let e : ◌≡◌ {A = IdPicture} (record { puts = a.puts; boxes = a.boxes; areas = a.areas }) (record { puts = b.puts; boxes = b.boxes; areas = b.areas }) = cc in e
+
+pub followed-assoc : (a b c : IdPicture) → followed_by (followed_by a b) c ≡ followed_by a (followed_by b c)
+unfolding followed_by
+followed-assoc a b c =
+    picture-same _ _ (append_assoc a.puts b.puts c.puts) (append_assoc a.boxes b.boxes c.boxes) (append_assoc a.areas b.areas c.areas)
+
+pub nothing-followed : (a : IdPicture) → followed_by nothing a ≡ a
+unfolding followed_by nothing
+nothing-followed a = picture-same _ _ refl refl refl
+
+pub followed-nothing : (a : IdPicture) → followed_by a nothing ≡ a
+unfolding followed_by nothing
+followed-nothing a = picture-same _ _ (append-nil a.puts) (append-nil a.boxes) (append-nil a.areas)
+
+-- rows, and below them others
+pub rows_picture-append : (rs qs : List DocRow) (s : Sight) (x y : ℤ) → rows_picture (rs ++ qs) s x y ≡ followed_by (rows_picture rs s x y) (rows_picture qs s x (y +ℤ pos (length rs)))
+unfolding rows_picture
+rows_picture-append [] qs s x y =
+    ap (rows_picture qs s x) (omega (arith, ints)) ∙ sym (nothing-followed (rows_picture qs s x (y +ℤ pos 0)))
+rows_picture-append (r ∷ rs) qs s x y =
+    ap (followed_by (row_picture r s x y)) (rows_picture-append rs qs s x (y +ℤ pos 1) ∙ ap (λ z. followed_by (rows_picture rs s x (y +ℤ pos 1)) (rows_picture qs s x z)) (omega (arith, ints)))
+    ∙ sym (followed-assoc (row_picture r s x y) (rows_picture rs s x (y +ℤ pos 1)) (rows_picture qs s x (y +ℤ pos (suc (length rs)))))
+
+-- the row below the last fits
+pub rows-fit : (rs : List DocRow) (s : Sight) (x y : ℤ) → FitsSigned w64 y → PictureInRange (rows_picture rs s x y) → FitsSigned w64 (y +ℤ pos (length rs))
+unfolding rows_picture
+rows-fit [] s x y f r = let same : y ≡ y +ℤ pos 0 = omega (arith, ints) in rw (sym same) f
+rows-fit (a ∷ rs) s x y f r =
+    let one : FitsSigned w64 (y +ℤ pos 1) = InRange-fits _ (row-end a s x y (PictureInRange-left _ _ r)) in
+    let more = rows-fit rs s x (y +ℤ pos 1) one (PictureInRange-right _ _ r) in
+    let same : (y +ℤ pos 1) +ℤ pos (length rs) ≡ y +ℤ pos (suc (length rs)) = omega (arith, ints) in
+    rw same at more
+
+pub length-numbered : (v : SectionView) (i : ℕ) (ls : List (List ℕ)) → length (numbered_rows v i ls) ≡ length ls
+unfolding numbered_rows
+length-numbered v i [] = refl
+length-numbered v i (l ∷ ls) = ap suc (length-numbered v (suc i) ls)
+
+-- ---- calls that draw rows
+
+-- a row, and below it others
+pub row-first : (r : DocRow) (rs : List DocRow) (s : Sight) (x y : ℤ) → PictureInRange (rows_picture (r ∷ rs) s x y) → PictureInRange (row_picture r s x y)
+unfolding rows_picture
+row-first r rs s x y h = PictureInRange-left _ _ h
+
+pub row-rest : (c d : Canvas ComponentId) (r : DocRow) (rs : List DocRow) (x y : ℤ) → d ≡ with_picture c (row_picture r c.sight x y) → PictureInRange (rows_picture (r ∷ rs) c.sight x y)
+    → PictureInRange (rows_picture rs d.sight x (y +ℤ pos 1))
+unfolding rows_picture
+row-rest c d r rs x y p h = rest c d (row_picture r c.sight x y) (λ s. rows_picture rs s x (y +ℤ pos 1)) p h
+
+pub row-then : (c d e : Canvas ComponentId) (r : DocRow) (rs : List DocRow) (x y : ℤ) → d ≡ with_picture c (row_picture r c.sight x y) → e ≡ with_picture d (rows_picture rs d.sight x (y +ℤ pos 1))
+    → e ≡ with_picture c (rows_picture (r ∷ rs) c.sight x y)
+unfolding rows_picture
+row-then c d e r rs x y p q = step c d e (row_picture r c.sight x y) (λ s. rows_picture rs s x (y +ℤ pos 1)) p q
+
+pub row-alone : (c d : Canvas ComponentId) (r : DocRow) (x y : ℤ) → d ≡ with_picture c (row_picture r c.sight x y) → d ≡ with_picture c (rows_picture (r ∷ []) c.sight x y)
+unfolding rows_picture
+row-alone c d r x y p = p ∙ ap (with_picture c) (sym (followed-nothing (row_picture r c.sight x y)))
+
+-- rows, and below them others
+pub rows-first : (rs qs : List DocRow) (s : Sight) (x y : ℤ) → PictureInRange (rows_picture (rs ++ qs) s x y) → PictureInRange (rows_picture rs s x y)
+rows-first rs qs s x y h = PictureInRange-left _ _ (rw (rows_picture-append rs qs s x y) at h)
+
+pub rows-rest : (c d : Canvas ComponentId) (rs qs : List DocRow) (n : ℕ) (x y : ℤ) → length rs ≡ n → d ≡ with_picture c (rows_picture rs c.sight x y) → PictureInRange (rows_picture (rs ++ qs) c.sight x y)
+    → PictureInRange (rows_picture qs d.sight x (y +ℤ pos n))
+rows-rest c d rs qs n x y e p h =
+    rw e at (rest c d (rows_picture rs c.sight x y) (λ s. rows_picture qs s x (y +ℤ pos (length rs))) p (rw (rows_picture-append rs qs c.sight x y) at h))
+
+pub rows-then : (c d e : Canvas ComponentId) (rs qs : List DocRow) (n : ℕ) (x y : ℤ) → length rs ≡ n → d ≡ with_picture c (rows_picture rs c.sight x y) → e ≡ with_picture d (rows_picture qs d.sight x (y +ℤ pos n))
+    → e ≡ with_picture c (rows_picture (rs ++ qs) c.sight x y)
+rows-then c d e rs qs n x y l p q =
+    step c d e (rows_picture rs c.sight x y) (λ s. rows_picture qs s x (y +ℤ pos (length rs))) p (rw l q) ∙ ap (with_picture c) (sym (rows_picture-append rs qs c.sight x y))
+
+-- where a call that may fail succeeds
+pub on-ok : {T E P Q : Type 0} (r : Result T E) → (P → Q) → OnOk r P → OnOk r Q
+on-ok (Ok v) f p = f p
+on-ok (Err e) f p = tt
+
+-- the elements from index `k` on, by the length of the slice
+pub take-rest : {T : Type 0} (k : ℕ) (xs : List T) → take (length xs - k) (drop k xs) ≡ drop k xs
+take-rest k xs = take_all (length xs - k) (drop k xs) (omega (arith, length-drop k xs))
+
+pub length-taken : (v : SectionView) (n : ℕ) (ls : List (List ℕ)) → n ≤ length ls → length (numbered_rows v 0 (take n ls)) ≡ n
+length-taken v n ls h = length-numbered v 0 (take n ls) ∙ (length-take n ls ∙ omega arith)

@@ -1,0 +1,275 @@
+-- Where files and sections stand answers for the document: who owns each point, and on which rows each key stands.
+use Rattle.std.proofs.Common.{◌≡◌, ℕ, suc, ◌+◌, ◌-◌, ◌<◌, ◌≤◌, ◌==◌, Bool, true, false, ◌&&◌, cond, List, [], ◌∷◌, ◌++◌, length, map, nat_lt, refl, sym, ap, ap₂, ◌∙◌, arith, subst}
+use Rattle.std.specs.Prelude.{ℤ, pos, ◌+ℤ◌, int_le, int_lt, if◌then◌else◌, Option, Some, None}
+use Rattle.std.specs.Ordering.{int_eq}
+use Rattle.std.proofs.lemmas.Bool.Decides.{nat_tests, Decides-int_eq}
+use Rattle.std.proofs.lemmas.Int.{ints}
+use Rattle.std.proofs.lemmas.List.{length-map, length-append}
+use Rattle.scm_types.specs.declared.keys.FileKey.{FileKey}
+use Rattle.scm_types.specs.declared.keys.SelectionKey.TheVariants as selection
+use Rattle.scm_render.specs.Hits.{first_of_two}
+use Rattle.scm_render.specs.Lines.{line}
+use Rattle.scm_render.proofs.LineLemmas.{line-left, line-right}
+use Rattle.scm_widgets.specs.declared.ids.ComponentId.{ComponentId}
+use Rattle.scm_widgets.specs.declared.ids.ComponentId.TheVariants as ids
+use Rattle.scm_document.specs.declared.section_view.SectionView.{SectionView}
+use Rattle.scm_document.specs.declared.file_view.FileView.{FileView}
+use Rattle.scm_document.specs.declared.index_pieces.FilePiece.{FilePiece}
+use Rattle.scm_document.specs.declared.index_pieces.SectionPiece.{SectionPiece}
+use Rattle.scm_widgets.specs.Layers.{Strip, clear, owned, is_among}
+use Rattle.scm_document.specs.Owners.{AreRowsOf, AreSectionsOf}
+use Rattle.scm_document.specs.Rows.{file_id, section_id, section_height, section_rows, is_open, is_section_visible, is_first_open, ShownSection, ShownFile, shown_section, shown_sections, sections_rows, shown_file, file_rows}
+use Rattle.scm_widgets.specs.Boxes.{is_fold_open}
+use Rattle.scm_document.specs.Strips.{everywhere, is_of_section, row_strip, section_strips, sections_strips, header_strip, file_strips, is_over, files_strips}
+use Rattle.scm_widgets.specs.OverlayRects.{is_from}
+use Rattle.scm_document.specs.PieceOwners.{section_owner, sections_owner, header_owner, file_owner, files_owner, rows_owner}
+use Rattle.scm_document.specs.ViewPieces.{section_piece_of, height_where, section_piece_where, sections_height, section_piece_list, file_height, sections_in_file, file_piece_of, file_piece_list, sections_in_files}
+use Rattle.scm_widgets.proofs.DrawsStrips.{line-owned}
+use Rattle.scm_document.proofs.FilesOf.{IsHeadingOf, IsFileOf, AreFilesOf}
+use Rattle.scm_document.proofs.SectionPieceLemmas.{shown_of_view, section-height, length-section, section-owner, row-within, two_boxes}
+
+-- ---- how many rows there are
+
+height-shown : (b : Bool) (v : SectionView) (rest : List ShownSection) → length (sections_rows (shown_section b v ++ rest)) ≡ height_where b v + length (sections_rows rest)
+unfolding sections_rows
+height-shown true v rest = length-append (section_rows v) (sections_rows rest) ∙ ap (λ n. n + length (sections_rows rest)) (section-height v)
+height-shown false v rest = omega arith
+
+pub sections-height : (before : Bool) (vs : List SectionView) → length (sections_rows (shown_sections before vs)) ≡ sections_height before vs
+unfolding shown_sections sections_rows
+sections-height before [] = refl
+sections-height before (v ∷ vs) =
+    height-shown (is_section_visible before v (is_first_open vs)) v (shown_sections (is_open v) vs)
+    ∙ ap (λ n. height_where (is_section_visible before v (is_first_open vs)) v + n) (sections-height (is_open v) vs)
+
+pub file-height : (v : FileView) → length (file_rows (shown_file v)) ≡ file_height v
+unfolding shown_file file_rows sections_rows
+file-height v = go (is_fold_open v.expand_box)
+  where
+    go : (b : Bool) → suc (length (sections_rows (if b then shown_sections false v.section_views else []))) ≡ 1 + (if b then sections_height false v.section_views else 0)
+    go true = ap suc (sections-height false v.section_views) ∙ omega arith
+    go false = omega arith
+
+-- the strips of sections, and of a file
+length-strips : (w : ℕ) (ps : List ShownSection) → length (sections_strips w ps) ≡ length (sections_rows ps)
+unfolding sections_strips sections_rows section_strips
+length-strips w [] = refl
+length-strips w (p ∷ ps) =
+    let one : length (map (owned (section_id p.key) (is_of_section p.rows)) (map (row_strip w) p.rows)) ≡ length p.rows =
+    length-map (map (row_strip w) p.rows) (owned (section_id p.key) (is_of_section p.rows)) ∙ length-map p.rows (row_strip w) in
+    length-append (map (owned (section_id p.key) (is_of_section p.rows)) (map (row_strip w) p.rows)) (sections_strips w ps)
+    ∙ ap₂ (λ a b. a + b) one (length-strips w ps) ∙ sym (length-append p.rows (sections_rows ps))
+
+length-file : (w : ℕ) (b : Bool) (f : ShownFile) → length (file_strips w b f) ≡ length (file_rows f)
+unfolding file_strips file_rows
+length-file w b f = length-map (header_strip w b f ∷ sections_strips w f.sections) (owned (file_id f.key) everywhere) ∙ ap suc (length-strips w f.sections)
+
+-- ---- who owns a point among sections
+
+unfoldable pub owner_of : List (Strip ComponentId) → ℕ → ℕ → ℕ → Option ComponentId
+owner_of ss top y x = (line clear ss (pos top) (pos y)).owner x
+
+from-true : (top end y : ℕ) → is_from top end y ≡ true → (top ≤ y) × (y < end)
+from-true top end y e = (grind (arith, nat_tests), grind (arith, nat_tests))
+
+from-false : (top end y : ℕ) → is_from top end y ≡ false → top ≤ y → end ≤ y
+from-false top end y e h = grind (arith, nat_tests, h)
+
+pub upper : (ms ns : List (Strip ComponentId)) (top y x : ℕ) → y < top + length ms → owner_of (ms ++ ns) top y x ≡ owner_of ms top y x
+unfolding owner_of
+upper ms ns top y x h = ap (λ (s : Strip ComponentId). s.owner x) (line-left clear ms ns (pos top) (pos y) (omega (arith, ints, h)))
+
+pub lower : (ms ns : List (Strip ComponentId)) (top next y x : ℕ) → top + length ms ≡ next → next ≤ y → owner_of (ms ++ ns) top y x ≡ owner_of ns next y x
+unfolding owner_of
+lower ms ns top next y x e h =
+    let at : pos top +ℤ pos (length ms) ≡ pos next = omega (arith, ints, e) in
+    ap (λ (s : Strip ComponentId). s.owner x) (line-right clear ms ns (pos top) (pos y) (omega (arith, ints, e, h)) ∙ ap (λ z. line clear ns z (pos y)) at)
+
+no-strips : (top y x : ℕ) → owner_of [] top y x ≡ None
+unfolding owner_of line
+no-strips top y x = refl
+
+no-sections : (w : ℕ) (z y : ℤ) (x : ℕ) → (line clear (sections_strips w []) z y).owner x ≡ None
+unfolding line sections_strips
+no-sections w z y x = refl
+
+section-there : (w x top y : ℕ) (v : SectionView) → AreRowsOf v.section_key 0 (section_rows v) → top ≤ y → y < top + section_height v v.section.now
+    → owner_of (section_strips w (shown_of_view v)) top y x ≡ section_owner w (section_piece_of v top) (y - top) x
+unfolding owner_of
+section-there w x top y v e low high =
+    let there : top + (y - top) ≡ y = omega (arith, low) in
+    ap (λ z. (line clear (section_strips w (shown_of_view v)) (pos top) (pos z)).owner x) (sym there)
+    ∙ section-owner w x top (y - top) v e (omega (arith, low, high))
+
+sections-owned : (w x y : ℕ) (f : FileKey) (n top : ℕ) (before : Bool) (vs : List SectionView) → AreSectionsOf f n (shown_sections before vs) → top ≤ y
+    → owner_of (sections_strips w (shown_sections before vs)) top y x ≡ sections_owner w (section_piece_list top before vs) y x
+unfolding shown_sections sections_strips
+sections-owned w x y f n top before [] e h = no-strips top y x
+sections-owned w x y f n top before (v ∷ vs) e h =
+    go (is_section_visible before v (is_first_open vs)) e (λ m next q p. sections-owned w x y f m next (is_open v) vs q p)
+  where
+    here : ((m next : ℕ) → AreSectionsOf f m (shown_sections (is_open v) vs) → next ≤ y → owner_of (sections_strips w (shown_sections (is_open v) vs)) next y x ≡ sections_owner w (section_piece_list next (is_open v) vs) y x)
+        → AreSectionsOf f n (shown_of_view v ∷ shown_sections (is_open v) vs) → (t : Bool) → is_from top (top + section_height v v.section.now) y ≡ t
+        → owner_of (section_strips w (shown_of_view v) ++ sections_strips w (shown_sections (is_open v) vs)) top y x
+        ≡ (if t then section_owner w (section_piece_of v top) (y - top) x else sections_owner w (section_piece_list (top + section_height v v.section.now) (is_open v) vs) y x)
+    here more e true q =
+        let in_it = from-true top (top + section_height v v.section.now) y q in
+        let size = length-section w v in
+        upper (section_strips w (shown_of_view v)) (sections_strips w (shown_sections (is_open v) vs)) top y x (omega (arith, in_it.1, size))
+        ∙ section-there w x top y v e.2 in_it.0 in_it.1
+    here more e false q =
+        let size = length-section w v in
+        let past = from-false top (top + section_height v v.section.now) y q h in
+        lower (section_strips w (shown_of_view v)) (sections_strips w (shown_sections (is_open v) vs)) top (top + section_height v v.section.now) y x (omega (arith, size)) past
+        ∙ more (suc v.section_key.section_idx) (top + section_height v v.section.now) e.3 past
+
+    go : (b : Bool) → AreSectionsOf f n (shown_section b v ++ shown_sections (is_open v) vs)
+        → ((m next : ℕ) → AreSectionsOf f m (shown_sections (is_open v) vs) → next ≤ y → owner_of (sections_strips w (shown_sections (is_open v) vs)) next y x ≡ sections_owner w (section_piece_list next (is_open v) vs) y x)
+        → owner_of (sections_strips w (shown_section b v ++ shown_sections (is_open v) vs)) top y x ≡ sections_owner w (section_piece_where b v top ++ section_piece_list (top + height_where b v) (is_open v) vs) y x
+    go true e more = here more e (is_from top (top + section_height v v.section.now) y) refl
+    go false e more = let same : top + 0 ≡ top = omega arith in rw same (more n top e h)
+
+-- the sections of a file are above those of the files below it
+sections-past : (w x y top : ℕ) (before : Bool) (vs : List SectionView) (rest : List SectionPiece) → top + sections_height before vs ≤ y
+    → sections_owner w (section_piece_list top before vs ++ rest) y x ≡ sections_owner w rest y x
+sections-past w x y top before [] rest h = refl
+sections-past w x y top before (v ∷ vs) rest h = go (is_section_visible before v (is_first_open vs)) h (λ next p. sections-past w x y next (is_open v) vs rest p)
+  where
+    go : (b : Bool) → top + (height_where b v + sections_height (is_open v) vs) ≤ y
+        → ((next : ℕ) → next + sections_height (is_open v) vs ≤ y → sections_owner w (section_piece_list next (is_open v) vs ++ rest) y x ≡ sections_owner w rest y x)
+        → sections_owner w ((section_piece_where b v top ++ section_piece_list (top + height_where b v) (is_open v) vs) ++ rest) y x ≡ sections_owner w rest y x
+    go true p more =
+        let out : is_from top (top + section_height v v.section.now) y ≡ false = grind (arith, nat_tests, p) in
+        rw out (more (top + section_height v v.section.now) (omega (arith, p)))
+    go false p more = more (top + 0) (omega (arith, p))
+
+sections-within : (w x y top : ℕ) (before : Bool) (vs : List SectionView) (rest : List SectionPiece) → top ≤ y → y < top + sections_height before vs
+    → sections_owner w (section_piece_list top before vs ++ rest) y x ≡ sections_owner w (section_piece_list top before vs) y x
+sections-within w x y top before [] rest low h = absurd (omega (arith, low, h))
+sections-within w x y top before (v ∷ vs) rest low h = go (is_section_visible before v (is_first_open vs)) h (λ next q p. sections-within w x y next (is_open v) vs rest q p)
+  where
+    go : (b : Bool) → y < top + (height_where b v + sections_height (is_open v) vs)
+        → ((next : ℕ) → next ≤ y → y < next + sections_height (is_open v) vs → sections_owner w (section_piece_list next (is_open v) vs ++ rest) y x ≡ sections_owner w (section_piece_list next (is_open v) vs) y x)
+        → sections_owner w ((section_piece_where b v top ++ section_piece_list (top + height_where b v) (is_open v) vs) ++ rest) y x ≡ sections_owner w (section_piece_where b v top ++ section_piece_list (top + height_where b v) (is_open v) vs) y x
+    go true p more = found (is_from top (top + section_height v v.section.now) y) refl
+      where
+        found : (t : Bool) → is_from top (top + section_height v v.section.now) y ≡ t
+            → (if t then section_owner w (section_piece_of v top) (y - top) x else sections_owner w (section_piece_list (top + section_height v v.section.now) (is_open v) vs ++ rest) y x)
+            ≡ (if t then section_owner w (section_piece_of v top) (y - top) x else sections_owner w (section_piece_list (top + section_height v v.section.now) (is_open v) vs) y x)
+        found true q = refl
+        found false q = more (top + section_height v v.section.now) (from-false top (top + section_height v v.section.now) y q low) (omega (arith, p))
+    go false p more = more (top + 0) (omega (arith, low)) (omega (arith, p))
+
+-- ---- who owns a point among files
+
+same-row : (top y : ℕ) (t : Bool) → (y == top) ≡ t → int_eq (pos y) (pos top) ≡ t
+same-row top y true e = let same : y ≡ top = grind (arith, e) in grind (arith, ints, Decides-int_eq (pos y) (pos top), same)
+same-row top y false e =
+    let differ : y ≡ top → ⊥ = λ q. grind (arith, e, q) in
+    grind (arith, ints, Decides-int_eq (pos y) (pos top), differ)
+
+header-strip-owner : (w x : ℕ) (f : ShownFile) (t : FilePiece) → t.key ≡ f.key → IsHeadingOf f.key f.heading → (b : Bool) → b ≡ t.is_pinned → (header_strip w b f).owner x ≡ header_owner w t x
+unfolding row_strip
+header-strip-owner w x f t e ids_are true q = rw (sym q) refl
+header-strip-owner w x f t e ids_are false q =
+    rw (sym q, e, ids_are.toggle, ids_are.fold)
+    (ap (λ o. first_of_two o (Some (ids.FileViewHeader f.key))) (two_boxes (is_among 0 3 x) (is_among (w - 3) 3 x) (ids.ToggleBox (selection.File f.key)) (ids.ExpandBox (selection.File f.key))))
+
+file-parts : (w x y m top : ℕ) (v : FileView) (b : Bool) → IsHeadingOf v.file_key (shown_file v).heading → AreSectionsOf v.file_key 0 (shown_file v).sections → b ≡ (file_piece_of m top v).is_pinned → top ≤ y
+    → owner_of (header_strip w b (shown_file v) ∷ sections_strips w (shown_file v).sections) top y x
+    ≡ (if y == top then header_owner w (file_piece_of m top v) x else sections_owner w (sections_in_file top v) y x)
+unfolding owner_of line shown_file
+file-parts w x y m top v b heading sections pinned h = go (y == top) refl
+  where
+    below : (c : Bool) → AreSectionsOf v.file_key 0 (if c then shown_sections false v.section_views else []) → suc top ≤ y
+        → (line clear (sections_strips w (if c then shown_sections false v.section_views else [])) (pos (top + 1)) (pos y)).owner x
+        ≡ sections_owner w (if c then section_piece_list (top + 1) false v.section_views else []) y x
+    below true e p = sections-owned w x y v.file_key 0 (top + 1) false v.section_views e (omega (arith, p))
+    below false e p = no-sections w (pos (top + 1)) (pos y) x
+
+    go : (t : Bool) → (y == top) ≡ t
+        → (cond (int_eq (pos y) (pos top)) (header_strip w b (shown_file v)) (line clear (sections_strips w (shown_file v).sections) (pos top +ℤ pos 1) (pos y))).owner x
+        ≡ (if t then header_owner w (file_piece_of m top v) x else sections_owner w (sections_in_file top v) y x)
+    go true e = rw (same-row top y true e) (header-strip-owner w x (shown_file v) (file_piece_of m top v) refl heading b pinned)
+    go false e =
+        let differ : y ≡ top → ⊥ = λ q. grind (arith, e, q) in
+        rw (same-row top y false e) (below (is_fold_open v.expand_box) sections (grind (arith, differ, h)))
+
+pub file-strips-length : (w : ℕ) (b : Bool) (v : FileView) → length (file_strips w b (shown_file v)) ≡ file_height v
+file-strips-length w b v = length-file w b (shown_file v) ∙ file-height v
+
+own-file : (o : Option ComponentId) (t : Bool) (i : ComponentId) → t ≡ true → first_of_two o (cond (t && true) (Some i) None) ≡ first_of_two o (Some i)
+own-file o t i e = rw e refl
+
+file-owned : (w x y m commit n top : ℕ) (v : FileView) (b : Bool) → IsFileOf commit n (shown_file v) → b ≡ (file_piece_of m top v).is_pinned → top ≤ y → y < top + file_height v
+    → owner_of (file_strips w b (shown_file v)) top y x ≡ file_owner w (file_piece_of m top v) (sections_owner w (sections_in_file top v) y x) y x
+unfolding owner_of file_strips shown_file
+file-owned w x y m commit n top v b is pinned low high =
+    let inner : List (Strip ComponentId) = header_strip w b (shown_file v) ∷ sections_strips w (shown_file v).sections in
+    let size : length inner ≡ file_height v = sym (length-map inner (owned (file_id v.file_key) everywhere)) ∙ file-strips-length w b v in
+    let there : top + (y - top) ≡ y = omega (arith, low) in
+    let seen : (int_le (pos top) (pos y) && int_lt (pos y) (pos top +ℤ pos (length inner))) ≡ true =
+    subst (λ z. (int_le (pos top) (pos z) && int_lt (pos z) (pos top +ℤ pos (length inner))) ≡ true) there (row-within top (y - top) (length inner) (omega (arith, low, high, size))) in
+    sym (line-owned (file_id v.file_key) everywhere inner (pos top) (pos y) x)
+    ∙ own-file ((line clear inner (pos top) (pos y)).owner x) _ (file_id v.file_key) seen
+    ∙ ap (λ o. first_of_two o (Some (file_id v.file_key))) (file-parts w x y m top v b is.heading is.sections pinned low)
+
+pinned-is : (m top : ℕ) (v : FileView) → is_over m top (shown_file v) ≡ (file_piece_of m top v).is_pinned
+pinned-is m top v = ap (λ n. nat_lt top m && nat_lt m (top + n)) (file-height v)
+
+-- of the sections of a file and of files below it
+tops-within : (w x y top : ℕ) (v : FileView) (rest : List SectionPiece) → (y == top) ≡ false → top ≤ y → y < top + file_height v
+    → sections_owner w (sections_in_file top v ++ rest) y x ≡ sections_owner w (sections_in_file top v) y x
+tops-within w x y top v rest e low high = go (is_fold_open v.expand_box) high
+  where
+    differ : y ≡ top → ⊥
+    differ q = grind (arith, e, q)
+
+    go : (b : Bool) → y < top + (1 + (if b then sections_height false v.section_views else 0))
+        → sections_owner w ((if b then section_piece_list (top + 1) false v.section_views else []) ++ rest) y x ≡ sections_owner w (if b then section_piece_list (top + 1) false v.section_views else []) y x
+    go true h = sections-within w x y (top + 1) false v.section_views rest (grind (arith, differ, low)) (omega (arith, h))
+    go false h = absurd (differ (omega (arith, h, low)))
+
+tops-past : (w x y top : ℕ) (v : FileView) (rest : List SectionPiece) → top + file_height v ≤ y → sections_owner w (sections_in_file top v ++ rest) y x ≡ sections_owner w rest y x
+tops-past w x y top v rest high = go (is_fold_open v.expand_box) high
+  where
+    go : (b : Bool) → top + (1 + (if b then sections_height false v.section_views else 0)) ≤ y
+        → sections_owner w ((if b then section_piece_list (top + 1) false v.section_views else []) ++ rest) y x ≡ sections_owner w rest y x
+    go true h = sections-past w x y (top + 1) false v.section_views rest (omega (arith, h))
+    go false h = refl
+
+-- the header's row asks no section
+file-alone : (w x y : ℕ) (t : FilePiece) (a b : Option ComponentId) → ((y == t.top) ≡ false → a ≡ b) → file_owner w t a y x ≡ file_owner w t b y x
+file-alone w x y t a b h = go (y == t.top) refl
+  where
+    go : (s : Bool) → (y == t.top) ≡ s → first_of_two (if s then header_owner w t x else a) (Some (file_id t.key)) ≡ first_of_two (if s then header_owner w t x else b) (Some (file_id t.key))
+    go true e = refl
+    go false e = ap (λ o. first_of_two o (Some (file_id t.key))) (h e)
+
+pub files-owned : (w x y m commit n top : ℕ) (vs : List FileView) → AreFilesOf commit n (map shown_file vs) → top ≤ y
+    → owner_of (files_strips w m top (map shown_file vs)) top y x ≡ rows_owner w (file_piece_list m top vs) (sections_in_files top vs) y x
+unfolding files_strips
+files-owned w x y m commit n top [] e h = no-strips top y x
+files-owned w x y m commit n top (v ∷ vs) e h =
+    let more = λ (p : top + file_height v ≤ y). files-owned w x y m commit (suc (shown_file v).key.file_idx) (top + file_height v) vs e.1 p in
+    subst (λ k. owner_of (file_strips w (is_over m top (shown_file v)) (shown_file v) ++ files_strips w m (top + k) (map shown_file vs)) top y x
+    ≡ rows_owner w (file_piece_list m top (v ∷ vs)) (sections_in_files top (v ∷ vs)) y x) (sym (file-height v))
+    (go more (is_from top (top + file_height v) y) refl)
+  where
+    go : (top + file_height v ≤ y → owner_of (files_strips w m (top + file_height v) (map shown_file vs)) (top + file_height v) y x ≡ rows_owner w (file_piece_list m (top + file_height v) vs) (sections_in_files (top + file_height v) vs) y x)
+        → (t : Bool) → is_from top (top + file_height v) y ≡ t
+        → owner_of (file_strips w (is_over m top (shown_file v)) (shown_file v) ++ files_strips w m (top + file_height v) (map shown_file vs)) top y x
+        ≡ (if t then file_owner w (file_piece_of m top v) (sections_owner w (sections_in_file top v ++ sections_in_files (top + file_height v) vs) y x) y x
+        else files_owner w (file_piece_list m (top + file_height v) vs) (sections_owner w (sections_in_file top v ++ sections_in_files (top + file_height v) vs) y x) y x)
+    go more true q =
+        let in_it = from-true top (top + file_height v) y q in
+        let size = file-strips-length w (is_over m top (shown_file v)) v in
+        upper (file_strips w (is_over m top (shown_file v)) (shown_file v)) (files_strips w m (top + file_height v) (map shown_file vs)) top y x (omega (arith, in_it.1, size))
+        ∙ file-owned w x y m commit n top v (is_over m top (shown_file v)) e.0 (pinned-is m top v) in_it.0 in_it.1
+        ∙ file-alone w x y (file_piece_of m top v) _ _ (λ other. sym (tops-within w x y top v (sections_in_files (top + file_height v) vs) other in_it.0 in_it.1))
+    go more false q =
+        let past = from-false top (top + file_height v) y q h in
+        let size = file-strips-length w (is_over m top (shown_file v)) v in
+        lower (file_strips w (is_over m top (shown_file v)) (shown_file v)) (files_strips w m (top + file_height v) (map shown_file vs)) top (top + file_height v) y x (omega (arith, size)) past
+        ∙ more past
+        ∙ ap (λ o. files_owner w (file_piece_list m (top + file_height v) vs) o y x) (sym (tops-past w x y top v (sections_in_files (top + file_height v) vs) past))

@@ -1,0 +1,75 @@
+use Rattle.std.proofs.Common.{rules, FitsSigned, w64, List, [], ◌∷◌, ℕ}
+use Rattle.std.specs.Prelude.{ℤ, pos, ◌+ℤ◌}
+use Rattle.std.proofs.lemmas.Int.{to_z-of_z}
+use Rattle.scm_render.specs.Canvas.{Sight}
+use Rattle.scm_render.specs.Drawing.{text_picture}
+use Rattle.scm_render.proofs.PictureLemmas.{PictureInRange-left}
+use Rattle.scm_widgets.specs.Boxes.{IdBox}
+use Rattle.scm_document.specs.Titles.{title_text}
+use Rattle.scm_widgets.specs.Pictures.{IdPicture, box_part}
+use Rattle.scm_document.specs.Pictures.{title_picture}
+use Rattle.scm_render.proofs.StepLemmas.{three, second, third, text-place, InRange-fits}
+use Rattle.scm_document.proofs.CountLemmas.{on_row-three}
+use Rattle.scm_document.proofs.heading.draw_before_fold.Goals as goal
+
+abbrev box : IdBox → ℤ → ℤ → Sight → IdPicture
+box b x y s = box_part b s x y
+
+abbrev text : List ℕ → ℤ → ℤ → Sight → IdPicture
+text t x y s = text_picture s (x +ℤ pos 4) y (t ∷ [])
+
+pub show_blank-requires : goal.show_blank-requires
+unfolding title_picture
+show_blank-requires c =
+    let fx : FitsSigned w64 c.args.x = c.ranges.x in
+    let fy : FitsSigned w64 c.args.y = c.ranges.y in
+    simp to_z-of_z (PictureInRange-left _ _ c.requires)
+
+pub show_box-requires : goal.show_box-requires
+unfolding title_picture
+show_box-requires c =
+    let fx : FitsSigned w64 c.args.x = c.ranges.x in
+    let fy : FitsSigned w64 c.args.y = c.ranges.y in
+    let blank = simp to_z-of_z at c.in_ok-show_blank.ensures.ok in
+    simp to_z-of_z (second _ _ _ (box c.args.toggle_box.now c.args.x c.args.y) (text (title_text c.args.title.now) c.args.x c.args.y) blank c.requires)
+
+pub overflow_add-x : goal.overflow_add-x
+unfolding title_picture
+overflow_add-x c =
+    let fx : FitsSigned w64 c.args.x = c.ranges.x in
+    let fy : FitsSigned w64 c.args.y = c.ranges.y in
+    let blank = simp to_z-of_z at c.in_ok-show_blank.ensures.ok in
+    let toggle = simp to_z-of_z at c.in_ok-show_box.ensures.ok in
+    simp to_z-of_z (InRange-fits _ (text-place _ _ _ _ (third _ _ _ _ (box c.args.toggle_box.now c.args.x c.args.y) (text (title_text c.args.title.now) c.args.x c.args.y) blank toggle c.requires)).0)
+
+pub show_title-requires : goal.show_title-requires
+unfolding title_picture
+show_title-requires c =
+    let fx : FitsSigned w64 c.args.x = c.ranges.x in
+    let fy : FitsSigned w64 c.args.y = c.ranges.y in
+    let blank = simp to_z-of_z at c.in_ok-show_blank.ensures.ok in
+    let toggle = simp to_z-of_z at c.in_ok-show_box.ensures.ok in
+    let last = third _ _ _ _ (box c.args.toggle_box.now c.args.x c.args.y) (text (title_text c.args.title.now) c.args.x c.args.y) blank toggle c.requires in
+    let fits : FitsSigned w64 (c.args.x +ℤ pos 4) = InRange-fits _ (text-place _ _ _ _ last).0 in
+    simp to_z-of_z last
+
+pub returns : goal.returns
+unfolding title_picture
+returns c =
+    let fx : FitsSigned w64 c.args.x = c.ranges.x in
+    let fy : FitsSigned w64 c.args.y = c.ranges.y in
+    record {
+      ok =
+          let blank = simp to_z-of_z at c.in_ok-show_blank.ensures.ok in
+          let toggle = simp to_z-of_z at c.in_ok-show_box.ensures.ok in
+          let last = third _ _ _ _ (box c.args.toggle_box.now c.args.x c.args.y) (text (title_text c.args.title.now) c.args.x c.args.y) blank toggle c.requires in
+          let fits : FitsSigned w64 (c.args.x +ℤ pos 4) = InRange-fits _ (text-place _ _ _ _ last).0 in
+          three _ _ _ _ _ (box c.args.toggle_box.now c.args.x c.args.y) (text (title_text c.args.title.now) c.args.x c.args.y) blank toggle (simp to_z-of_z at c.in_ok-show_title.ensures.ok);
+      counts =
+          let blank = simp to_z-of_z at c.in_ok-show_blank.ensures.counts in
+          let toggle = simp to_z-of_z at c.in_ok-show_box.ensures.counts in
+          let title = simp to_z-of_z at c.in_ok-show_title.ensures.counts in
+          on_row-three _ _ _ _ _ _ _ _ _ _ _ c.in_ok-show_blank.ensures.rect c.in_ok-show_box.ensures.rect blank toggle title;
+      rect = search rules;
+      err = search rules;
+    }

@@ -1,0 +1,28 @@
+use Rattle.std.proofs.Common.{rules, ◌∙◌, sym, FitsSigned, w64}
+use Rattle.std.proofs.lemmas.Int.{to_z-of_z}
+use Rattle.scm_cells.specs.Replaced.{line_pieces}
+use Rattle.scm_document.specs.Rows.{line_texts}
+use Rattle.scm_widgets.proofs.HiddenLemmas.{counted-hidden}
+use Rattle.scm_widgets.proofs.CoverLemmas.{front-width, cover-in-range, cover-hidden}
+use Rattle.scm_document.proofs.section_line_view.draw_line_texts.Goals as goal
+
+pub cover_line-requires : goal.cover_line-requires
+cover_line-requires c =
+    let fx : FitsSigned w64 c.args.x = c.ranges.x in
+    let fy : FitsSigned w64 c.args.y = c.ranges.y in
+    let width = front-width c.text_width.result c.args.front.now (line_pieces c.args.line.now) c.text_width.ensures.value in
+    simp to_z-of_z (cover-in-range _ _ _ _ (line_texts c.args.front.now c.args.line.now) width c.requires)
+
+pub returns-else-is_on_screen : goal.returns-else-is_on_screen
+returns-else-is_on_screen c =
+    let fx : FitsSigned w64 c.args.x = c.ranges.x in
+    let fy : FitsSigned w64 c.args.y = c.ranges.y in
+    let test = simp to_z-of_z at c.is_on_screen.ensures.test in
+    let rows = c.is_on_screen.ensures.rows in
+    let width = front-width c.text_width.result c.args.front.now (line_pieces c.args.line.now) c.text_width.ensures.value in
+    record {
+      ok = simp to_z-of_z at c.cover_line.ensures.new ∙ cover-hidden c.args.viewport.now.canvas c.args.x c.args.y _ (line_texts c.args.front.now c.args.line.now) width rows (sym test ∙ c.if-is_on_screen.false);
+      counts = counted-hidden _ _ _ _ _ (sym test ∙ c.if-is_on_screen.false) c.cover_line.ensures.counts;
+      rect = search rules;
+      err = search rules;
+    }

@@ -1,0 +1,26 @@
+-- The overlay rectangles of a message's button and of the headers of files.
+use Rattle.std.specs.Prelude.{ℕ, ◌-◌, List, [], ◌∷◌, if◌then◌else◌, Bool, true, false}
+use Rattle.scm_types.specs.declared.keys.FileKey.{FileKey}
+use Rattle.scm_types.specs.declared.keys.SelectionKey.TheVariants as selection
+use Rattle.scm_widgets.specs.declared.ids.ComponentId.TheVariants as ids
+use Rattle.scm_widgets.specs.declared.overlay_rects.OverlayRect.{OverlayRect}
+use Rattle.scm_document.specs.declared.index_pieces.FilePiece.{FilePiece}
+use Rattle.scm_widgets.specs.OverlayRects.{row_overlay_rect, shift}
+
+-- The button of the commit's message, if there is a message.
+abbrev pub message_rects : ℕ → Bool → List OverlayRect
+message_rects commit true = row_overlay_rect (ids.CommitEditMessageButton commit) 2 (shift 0) (shift 14) ∷ []
+message_rects commit false = []
+
+-- The header of a file on row `m`, its expand box and its checkbox.
+abbrev pub header_rects : ℕ → ℕ → FileKey → List OverlayRect
+header_rects w m k =
+    row_overlay_rect (ids.FileViewHeader k) m (shift 0) (shift w)
+    ∷ (row_overlay_rect (ids.ExpandBox (selection.File k)) m (shift (w - 3)) (shift w)
+    ∷ (row_overlay_rect (ids.ToggleBox (selection.File k)) m (shift 0) (shift 3)
+    ∷ []))
+
+-- The header that is pinned on row `m`, if any.
+abbrev pub pinned_rects : ℕ → ℕ → List FilePiece → List OverlayRect
+pinned_rects w m [] = []
+pinned_rects w m (f ∷ fs) = if f.is_pinned then header_rects w m f.key else pinned_rects w m fs

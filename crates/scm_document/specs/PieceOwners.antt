@@ -1,0 +1,90 @@
+-- The owners of the columns of a document's rows, by its pieces alone.
+use Rattle.std.specs.Prelude.{ℕ, ◌-◌, ◌==◌, nat_le, nat_lt, Bool, ◌&&◌, ◌||◌, if◌then◌else◌, List, [], ◌∷◌, Option, Some, None, option_map}
+use Rattle.std.specs.List.{filter}
+use Rattle.scm_render.specs.Hits.{first_of_two}
+use Rattle.scm_types.specs.declared.keys.SectionKey.{SectionKey}
+use Rattle.scm_types.specs.declared.keys.LineKey.{LineKey}
+use Rattle.scm_types.specs.declared.keys.SelectionKey.{SelectionKey}
+use Rattle.scm_types.specs.declared.keys.SelectionKey.TheVariants as selection
+use Rattle.scm_widgets.specs.declared.ids.ComponentId.{ComponentId}
+use Rattle.scm_widgets.specs.declared.ids.ComponentId.TheVariants as ids
+use Rattle.scm_document.specs.declared.index_pieces.FilePiece.{FilePiece}
+use Rattle.scm_document.specs.declared.index_pieces.SectionPiece.{SectionPiece}
+use Rattle.scm_document.specs.declared.index_pieces.Piece.{Piece}
+use Rattle.scm_document.specs.declared.index_pieces.Piece.TheVariants.{File, Section}
+use Rattle.scm_document.specs.declared.index_pieces.RowKinds.{RowKinds}
+use Rattle.scm_document.specs.declared.index_pieces.RowKinds.TheVariants.{Changed, Mark, Context}
+use Rattle.scm_document.specs.Rows.{file_id, section_id, line_id}
+use Rattle.scm_types.specs.Keys.{line_key_of}
+use Rattle.scm_widgets.specs.Layers.{is_among}
+use Rattle.scm_widgets.specs.OverlayRects.{is_from}
+
+-- ---- the rows of a section
+
+-- the owner of column x of a heading on w columns: the checkbox from column c on, or the fold box in the last three columns
+abbrev pub box_owner : ℕ → ℕ → SelectionKey → ℕ → Option ComponentId
+box_owner w c k x =
+    if is_among c 3 x then Some (ids.ToggleBox k) else if is_among (w - 3) 3 x then Some (ids.ExpandBox k) else None
+
+-- the owner of column x of changed line k: its checkbox, or else the line
+abbrev pub line_owner : LineKey → ℕ → ComponentId
+line_owner k x = if is_among 4 3 x then ids.ToggleBox (selection.Line k) else line_id k
+
+-- the line on row j of a section with r rows and n lines of context, if any: the first lines from the top, the last lines from
+-- the bottom
+abbrev pub context_line : ℕ → ℕ → ℕ → ℕ → ℕ → Option ℕ
+context_line above first n r j = if nat_lt j above then Some j else if nat_lt j first then None else Some (n - (r - j))
+
+-- the part of section k that owns column x of its row j, if any; the section has r rows
+unfoldable pub part_owner : ℕ → RowKinds → SectionKey → ℕ → ℕ → ℕ → Option ComponentId
+part_owner w Changed k r j x =
+    if j == 0 then box_owner w 2 (selection.Section k) x else Some (line_owner (line_key_of k (j - 1)) x)
+part_owner w Mark k r j x = if is_among 2 3 x then Some (ids.ToggleBox (selection.Section k)) else None
+part_owner w (Context above first n) k r j x = option_map (λ line. line_id (line_key_of k line)) (context_line above first n r j)
+
+-- the owner of column x of row j of section s: a part of it, or the section itself, in columns 0 and 1 only if it is wide
+abbrev pub section_owner : ℕ → SectionPiece → ℕ → ℕ → Option ComponentId
+section_owner w s j x =
+    first_of_two (part_owner w s.kinds s.key (s.end - s.top) j x)
+    (if s.is_wide || nat_le 2 x then Some (section_id s.key) else None)
+
+-- the owner of row y and column x among sections, if any
+abbrev pub sections_owner : ℕ → List SectionPiece → ℕ → ℕ → Option ComponentId
+sections_owner w [] y x = None
+sections_owner w (s ∷ ss) y x = if is_from s.top s.end y then section_owner w s (y - s.top) x else sections_owner w ss y x
+
+-- ---- the rows of files
+
+-- the owner of column x of file f's header row; none if the header is pinned elsewhere
+abbrev pub header_owner : ℕ → FilePiece → ℕ → Option ComponentId
+header_owner w f x =
+    if f.is_pinned then None
+    else first_of_two (box_owner w 0 (selection.File f.key) x) (Some (ids.FileViewHeader f.key))
+
+-- the owner of row y and column x of file f: a part of its header, o (the owner among sections), or else the file
+abbrev pub file_owner : ℕ → FilePiece → Option ComponentId → ℕ → ℕ → Option ComponentId
+file_owner w f o y x = first_of_two (if y == f.top then header_owner w f x else o) (Some (file_id f.key))
+
+-- the owner of row y and column x among files, if any; o is the owner among sections
+abbrev pub files_owner : ℕ → List FilePiece → Option ComponentId → ℕ → ℕ → Option ComponentId
+files_owner w [] o y x = None
+files_owner w (f ∷ fs) o y x = if is_from f.top f.end y then file_owner w f o y x else files_owner w fs o y x
+
+-- the owner of row y and column x among files and their sections, if any
+abbrev pub rows_owner : ℕ → List FilePiece → List SectionPiece → ℕ → ℕ → Option ComponentId
+rows_owner w fs ss y x = files_owner w fs (sections_owner w ss y x) y x
+
+-- ---- the pieces near the screen
+
+-- whether rows first..last and rows top..end overlap
+abbrev pub meets : ℕ → ℕ → ℕ → ℕ → Bool
+meets first last top end = nat_lt top last && nat_lt first end
+
+-- whether a piece has one of the rows first..last
+abbrev pub is_near : ℕ → ℕ → Piece → Bool
+is_near first last (File f) = meets first last f.top f.end
+is_near first last (Section s) = meets first last s.top s.end
+
+-- the pieces that have one of the rows first..last
+abbrev pub near : ℕ → ℕ → List Piece → List Piece
+near first last ps = filter (is_near first last) ps

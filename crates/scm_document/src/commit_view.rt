@@ -1,0 +1,309 @@
+//! The document of a commit.
+ghost use Rattle.scm_document.specs.declared.commit_view.CommitViewMode.TheVariants.{Inline};
+ghost use Rattle.scm_document.specs.ViewColumns.{view_count, view_width};
+ghost use Rattle.std.specs.Prelude.{◌≡◌, ◌+◌, ◌<◌, ◌^◌, ◌++◌, ◌&&◌, int_lt, pos, ◌+ℤ◌, Some, None, map, OnOk, IfOk, length};
+ghost use Rattle.scm_cells.specs.Rect.{InRange};
+ghost use Rattle.scm_cells.specs.Mask.{MaskInRange};
+ghost use Rattle.scm_document.specs.Counts.{document_counts};
+ghost use Rattle.scm_document.specs.DocumentCalls.{pinned_header_call, pinned_call, file_part_call, one_file_call, files_call, body_call, commit_call};
+ghost use Rattle.scm_document.specs.Rows.{shown_file, file_rows, document_of};
+ghost use Rattle.scm_document.specs.ViewPieces.{files_height};
+ghost use Rattle.scm_document.specs.Pieces.{files_pieces};
+ghost use Rattle.scm_document.specs.Pictures.{mask_row, file_mask, pinned_mask, commit_picture};
+ghost use Rattle.scm_render.specs.Draws.{CanDraw, HasDrawn};
+ghost use Rattle.scm_widgets.specs.Paints.{HasDrawnIn};
+
+use crate::commit_message_view::CommitMessageView;
+use crate::file_view::FileView;
+use crate::index_pieces::Piece;
+use crate::no_files::draw_no_files;
+use scm_cells::Mask;
+use scm_render::{Component, Viewport};
+use scm_types::{Items, RecordError};
+use scm_widgets::ids::ComponentId;
+use scm_widgets::mask_extent::{draw_under, to_end};
+use scm_widgets::paint_pass::Pass;
+use std::alloc::{AllocError, Global};
+
+/// Whether one commit is shown, or two side by side.
+#[derive(Clone, Copy)]
+pub enum CommitViewMode {
+    /// The first commit alone.
+    Inline,
+    /// The first two commits, side by side.
+    Adjacent,
+}
+
+/// The document of a commit: its message, and its files below.
+#[derive(Drop)]
+pub struct CommitView<'a> {
+    /// View of the message.
+    pub commit_message_view: CommitMessageView<'a>,
+    /// Views of the files.
+    pub file_views: Items<FileView<'a>>,
+}
+
+/// Returns the first row that the mask shows.
+fn mask_row(viewport: &Viewport<ComponentId>) -> isize
+    ensures row { result ≡ mask_row viewport.now.canvas.sight }
+    ensures in_range { InRange result }
+{
+    let mask = viewport.mask();
+    mask.y
+}
+
+/// Returns the mask from column `x` to the end of the mask in sight, on all rows from row `y` on.
+fn file_mask(viewport: &Viewport<ComponentId>, x: isize, y: isize) -> Mask
+    requires x { InRange x }
+    requires y { InRange y }
+    ensures mask { result ≡ file_mask viewport.now.canvas.sight x y }
+    ensures in_range { MaskInRange result }
+{
+    let width = to_end(viewport, x);
+    Mask {
+        x,
+        y,
+        width: Some(width),
+        height: None,
+    }
+}
+
+/// Returns the mask from column `x` to the end of the mask in sight, on row `y` alone.
+fn pinned_mask(viewport: &Viewport<ComponentId>, x: isize, y: isize) -> Mask
+    requires x { InRange x }
+    requires y { InRange y }
+    requires end { InRange (y +ℤ pos 1) }
+    ensures mask { result ≡ pinned_mask viewport.now.canvas.sight x y }
+    ensures in_range { MaskInRange result }
+{
+    let width = to_end(viewport, x);
+    Mask {
+        x,
+        y,
+        width: Some(width),
+        height: Some(1),
+    }
+}
+
+/// Returns whether `row` is below row `above` and above row `below`.
+fn is_between(above: isize, row: isize, below: isize) -> bool
+    ensures { result ≡ (int_lt above row && int_lt row below) }
+{
+    // `&`: one branch for the prover
+    (above < row) & (row < below)
+}
+
+/// Draws the header of `file` under a mask of one row.
+fn draw_header(
+    viewport: &mut Viewport<ComponentId>,
+    x: isize,
+    y: isize,
+    file: &FileView<'_>,
+) -> Result<(), RecordError>
+    requires { CanDraw viewport.old (pinned_header_call (shown_file file.now) x y) }
+    ensures { HasDrawn viewport.old viewport.new result
+        (pinned_header_call (shown_file file.now) x y) }
+{
+    let header = file.header();
+    let row = pinned_mask(viewport, x, y);
+    draw_under(viewport, row, x, y, &header)
+}
+
+/// Draws the sticky header of `file` on the mask's first row, if the file begins above that row and
+/// ends below it. The file has the rows `y..below`.
+fn draw_pinned(
+    viewport: &mut Viewport<ComponentId>,
+    x: isize,
+    y: isize,
+    below: isize,
+    file: &FileView<'_>,
+) -> Result<(), RecordError>
+    requires below { below ≡ y +ℤ pos (length (file_rows (shown_file file.now))) }
+    requires picture { CanDraw viewport.old (pinned_call (shown_file file.now) x y) }
+    ensures { HasDrawn viewport.old viewport.new result (pinned_call (shown_file file.now) x y) }
+{
+    let row = mask_row(viewport);
+    if is_between(y, row, below) {
+        draw_header(viewport, x, row, file)
+    } else {
+        Ok(())
+    }
+}
+
+/// Draws in this pass the rows `y..below`, which are those of `file`.
+fn draw_rows(
+    alloc: Global,
+    viewport: &mut Viewport<ComponentId>,
+    x: isize,
+    y: isize,
+    below: isize,
+    file: &FileView<'_>,
+    pass: Pass,
+) -> Result<(), RecordError>
+    requires below { below ≡ y +ℤ pos (length (file_rows (shown_file file.now))) }
+    requires picture { CanDraw viewport.old (file_part_call file.now x y) }
+    ensures { HasDrawnIn pass viewport.old viewport.new result (file_part_call file.now x y) }
+{
+    match pass {
+        Pass::Draw => {
+            viewport.draw_component(x, y, file)?;
+            Ok(())
+        }
+        Pass::Paint => file.paint(alloc, viewport, x, y, below),
+    }
+}
+
+/// Draws `file` and its sticky header in this pass, and returns the row below the file.
+fn draw_file(
+    alloc: Global,
+    viewport: &mut Viewport<ComponentId>,
+    x: isize,
+    y: isize,
+    file: &FileView<'_>,
+    pass: Pass,
+) -> Result<isize, RecordError>
+    requires { CanDraw viewport.old (one_file_call (shown_file file.now) x y) }
+    ensures draws { HasDrawnIn pass viewport.old viewport.new result
+        (one_file_call (shown_file file.now) x y) }
+    ensures below { IfOk result (λ row. row ≡ y +ℤ pos (length (file_rows (shown_file file.now)))) }
+{
+    let below = file.row_below(y);
+    let rows = file_mask(viewport, x, y);
+    let outer = viewport.swap_mask(Some(rows));
+    draw_rows(alloc, viewport, x, y, below, file, pass)?;
+    viewport.swap_mask(outer);
+    draw_pinned(viewport, x, y, below, file)?;
+    Ok(below)
+}
+
+/// Draws `files` in this pass, from row `y` on.
+fn draw_files(
+    alloc: Global,
+    viewport: &mut Viewport<ComponentId>,
+    x: isize,
+    y: isize,
+    files: &[FileView<'_>],
+    pass: Pass,
+) -> Result<(), RecordError>
+    requires { CanDraw viewport.old (files_call (map shown_file files.now) x y) }
+    ensures { HasDrawnIn pass viewport.old viewport.new result
+        (files_call (map shown_file files.now) x y) }
+{
+    let mut row = y;
+    for file in files {
+        row = draw_file(alloc, viewport, x, row, file, pass)?;
+    }
+    Ok(())
+}
+
+/// Draws in this pass the files below a message of `height` rows, or the empty-state text.
+fn draw_body(
+    alloc: Global,
+    viewport: &mut Viewport<ComponentId>,
+    x: isize,
+    y: isize,
+    height: usize,
+    files: &[FileView<'_>],
+    pass: Pass,
+) -> Result<(), RecordError>
+    requires { CanDraw viewport.old (body_call (map shown_file files.now) x y (y +ℤ pos height)) }
+    ensures { HasDrawnIn pass viewport.old viewport.new result
+        (body_call (map shown_file files.now) x y (y +ℤ pos height)) }
+{
+    if files.is_empty() {
+        draw_no_files(viewport, x, y)
+    } else {
+        let first = y.strict_add_unsigned(height);
+        draw_files(alloc, viewport, x, first, files, pass)
+    }
+}
+
+/// Adds the pieces of files and their sections, and returns the row below them. The first file
+/// begins on row `top`; a header may be pinned to row `pinned`.
+pub fn push_pieces(
+    pieces: &mut Vec<Piece>,
+    pinned: usize,
+    top: usize,
+    views: &[FileView<'_>],
+) -> Result<usize, AllocError>
+    requires { top + files_height views.now < 2 ^ 62 }
+    ensures end { IfOk result (λ end. end ≡ top + files_height views.now) }
+    ensures ok { OnOk result
+        (pieces.new.items ≡ pieces.old.items ++ files_pieces pinned top views.now) }
+{
+    let mut row = top;
+    for view in views {
+        row = view.push_pieces(pieces, pinned, row)?;
+    }
+    Ok(row)
+}
+
+impl<'a> CommitView<'a> {
+    /// Draws the document in this pass.
+    pub fn draw_rows(
+        &self,
+        alloc: Global,
+        viewport: &mut Viewport<ComponentId>,
+        x: isize,
+        y: isize,
+        pass: Pass,
+    ) -> Result<(), RecordError>
+        requires { CanDraw viewport.old (commit_call self.now x y) }
+        ensures { HasDrawnIn pass viewport.old viewport.new result (commit_call self.now x y) }
+    {
+        let height = self.commit_message_view.height();
+        let files = self.file_views.as_slice();
+        viewport.draw_component(x, y, &self.commit_message_view)?;
+        draw_body(alloc, viewport, x, y, height, files, pass)
+    }
+}
+
+impl<'a> Component for CommitView<'a> {
+    type Id = ComponentId;
+
+    ghost use Rattle.scm_widgets.specs.declared.ids.ComponentId.TheVariants as ids;
+
+    ghost key = { λ v. ids.AppFiles };
+
+    ghost picture = { commit_picture };
+
+    ghost rows = { λ v s x y. (document_counts (document_of v) s y).rows };
+
+    ghost calls = { λ v s x y. (document_counts (document_of v) s y).calls };
+
+    fn id(&self) -> ComponentId {
+        ComponentId::AppFiles
+    }
+
+    fn draw(
+        &self,
+        alloc: Global,
+        viewport: &mut Viewport<ComponentId>,
+        x: isize,
+        y: isize,
+    ) -> Result<(), RecordError> {
+        self.draw_rows(alloc, viewport, x, y, Pass::Draw)
+    }
+}
+
+impl CommitViewMode {
+    /// Returns the number of documents that this mode draws, at most.
+    pub fn view_count(self) -> usize
+        ensures { result ≡ view_count self }
+    {
+        match self {
+            CommitViewMode::Inline => 1,
+            CommitViewMode::Adjacent => 2,
+        }
+    }
+
+    /// Returns the width of each document on a screen of `columns` columns.
+    pub fn view_width(self, columns: usize) -> usize
+        ensures { result ≡ view_width self columns }
+    {
+        match self {
+            CommitViewMode::Inline => columns,
+            CommitViewMode::Adjacent => (columns.saturating_sub(1) / 2).min(120),
+        }
+    }
+}

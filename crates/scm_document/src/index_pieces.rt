@@ -1,0 +1,360 @@
+//! The pieces of an index: files and sections with their row ranges, as plain data, and hit tests
+//! among them.
+ghost use Rattle.std.specs.Prelude.{◌≡◌, ◌<◌, ◌^◌, ◌+◌, ◌-◌, ◌++◌, ◌||◌, nat_le, if◌then◌else◌, Some, None, OnOk, IfOk};
+ghost use Rattle.scm_document.specs.HeaderRects.{header_rects, pinned_rects};
+ghost use Rattle.scm_render.specs.Hits.{first_of_two};
+ghost use Rattle.scm_document.specs.Rows.{line_id as id_of_line, section_id};
+ghost use Rattle.scm_types.specs.Keys.{line_key_of};
+ghost use Rattle.scm_widgets.specs.Layers.{is_among as among};
+ghost use Rattle.scm_document.specs.PieceOwners.{box_owner, context_line, file_owner, files_owner, header_owner, is_near, line_owner, near, part_owner, rows_owner, section_owner, sections_owner};
+ghost use Rattle.scm_document.specs.Pieces.{files_of, sections_of};
+
+use scm_types::{FileKey, LineKey, SectionKey, SelectionKey};
+use scm_widgets::ids::ComponentId;
+use scm_widgets::overlay_rects::{OverlayRect, is_from, row_overlay_rect, shift};
+use std::alloc::{AllocError, Global};
+
+/// The kinds of a section's rows.
+#[derive(Clone, Copy)]
+pub enum RowKinds {
+    /// A header and, if the section is unfolded, its changed lines below.
+    Changed,
+    /// The only row of a `FileMode` or `Binary` section.
+    Mark,
+    /// Lines of context: the first lines, then rows without a line, then the last lines.
+    Context {
+        /// Number of lines at the top.
+        above: usize,
+        /// Number of rows above the last lines.
+        first: usize,
+        /// Number of lines, visible or hidden.
+        lines: usize,
+    },
+}
+
+/// A section with its row range, in rows of the document.
+#[derive(Clone, Copy)]
+pub struct SectionPiece {
+    /// Key of the section.
+    pub key: SectionKey,
+    /// First row.
+    pub top: usize,
+    /// End of the rows, exclusive.
+    pub end: usize,
+    /// Whether the section owns columns 0 and 1 of its rows.
+    pub is_wide: bool,
+    /// Kinds of the rows.
+    pub kinds: RowKinds,
+}
+
+/// A file with its row range, in rows of the document.
+#[derive(Clone, Copy)]
+pub struct FilePiece {
+    /// Key of the file.
+    pub key: FileKey,
+    /// First row, which is the header's.
+    pub top: usize,
+    /// End of the rows, exclusive.
+    pub end: usize,
+    /// Whether the header is pinned elsewhere.
+    pub is_pinned: bool,
+}
+
+/// A file or a section with its row range. A list of pieces has each file before its sections.
+#[derive(Clone, Copy)]
+pub enum Piece {
+    /// A file.
+    File(FilePiece),
+    /// A visible section.
+    Section(SectionPiece),
+}
+
+/// Returns `first`, or `second` if `first` is `None`.
+fn first_of_two(first: Option<ComponentId>, second: Option<ComponentId>) -> Option<ComponentId>
+    ensures { result ≡ first_of_two first second }
+{
+    match first {
+        Some(_) => first,
+        None => second,
+    }
+}
+
+/// Returns whether `column` is in `first..first + 3`.
+fn is_among(first: usize, column: usize) -> bool
+    ensures { result ≡ among first 3 column }
+{
+    first <= column && column - first < 3
+}
+
+/// Returns the box of a heading that owns `column`, if any: the checkbox from column `first` on, or
+/// the fold box in the last three of `width` columns.
+pub(crate) fn box_owner(
+    width: usize,
+    first: usize,
+    key: SelectionKey,
+    column: usize,
+) -> Option<ComponentId>
+    ensures { result ≡ box_owner width first key column }
+{
+    if is_among(first, column) {
+        Some(ComponentId::ToggleBox(key))
+    } else if is_among(width.saturating_sub(3), column) {
+        Some(ComponentId::ExpandBox(key))
+    } else {
+        None
+    }
+}
+
+/// Returns the component id of line `line` of `section`.
+fn line_id(section: SectionKey, line: usize) -> ComponentId
+    ensures { result ≡ id_of_line (line_key_of section line) }
+{
+    ComponentId::SelectableItem(SelectionKey::Line(section.line(line)))
+}
+
+/// Returns the owner of `column` of a changed line: its checkbox, or else the line.
+fn line_owner(section: SectionKey, line: usize, column: usize) -> ComponentId
+    ensures { result ≡ line_owner (line_key_of section line) column }
+{
+    if is_among(4, column) {
+        ComponentId::ToggleBox(SelectionKey::Line(section.line(line)))
+    } else {
+        line_id(section, line)
+    }
+}
+
+/// Returns the line on `row` of a section of `lines` lines of context and `rows` rows, if any.
+/// `above` lines are at the top. The last lines begin on row `first`, counted from 0.
+fn context_line(above: usize, first: usize, lines: usize, rows: usize, row: usize) -> Option<usize>
+    ensures { result ≡ context_line above first lines rows row }
+{
+    if row < above {
+        Some(row)
+    } else if row < first {
+        None
+    } else {
+        Some(lines.saturating_sub(rows.saturating_sub(row)))
+    }
+}
+
+impl RowKinds {
+    /// Returns the part of a section of `rows` rows that owns `column` of `row`, if any.
+    #[tactic(auto, unfolding(crate::specs::PieceOwners::part_owner))]
+    fn part_owner(
+        self,
+        width: usize,
+        key: SectionKey,
+        rows: usize,
+        row: usize,
+        column: usize,
+    ) -> Option<ComponentId>
+        ensures { result ≡ part_owner width self key rows row column }
+    {
+        match self {
+            RowKinds::Changed => {
+                if row == 0 {
+                    box_owner(width, 2, SelectionKey::Section(key), column)
+                } else {
+                    Some(line_owner(key, row - 1, column))
+                }
+            }
+            RowKinds::Mark => {
+                if is_among(2, column) {
+                    Some(ComponentId::ToggleBox(SelectionKey::Section(key)))
+                } else {
+                    None
+                }
+            }
+            RowKinds::Context {
+                above,
+                first,
+                lines,
+            } => match context_line(above, first, lines, rows, row) {
+                Some(line) => Some(line_id(key, line)),
+                None => None,
+            },
+        }
+    }
+}
+
+impl SectionPiece {
+    /// Returns the section's id, if the section owns `column` of its rows where no part of it does.
+    fn own_id(&self, column: usize) -> Option<ComponentId>
+        ensures { result ≡ (if self.now.is_wide || nat_le 2 column
+            then Some (section_id self.now.key) else None) }
+    {
+        if self.is_wide || 2 <= column {
+            Some(ComponentId::SelectableItem(SelectionKey::Section(self.key)))
+        } else {
+            None
+        }
+    }
+
+    /// Returns the owner of `column` of the section's row `row`, counted from 0, if any.
+    fn owner(&self, width: usize, row: usize, column: usize) -> Option<ComponentId>
+        ensures { result ≡ section_owner width self.now row column }
+    {
+        let rows = self.end.saturating_sub(self.top);
+        let part = self.kinds.part_owner(width, self.key, rows, row, column);
+        first_of_two(part, self.own_id(column))
+    }
+}
+
+/// Returns the owner of `row` and `column` among the sections, if any.
+fn sections_owner(width: usize, pieces: &[Piece], row: usize, column: usize) -> Option<ComponentId>
+    ensures { result ≡ sections_owner width (sections_of pieces.now) row column }
+{
+    for piece in pieces {
+        match piece {
+            Piece::File(_) => {}
+            Piece::Section(section) => {
+                if is_from(section.top, section.end, row) {
+                    return section.owner(width, row - section.top, column);
+                }
+            }
+        }
+    }
+    None
+}
+
+impl FilePiece {
+    /// Returns the part of the header that owns `column`; none if the header is pinned elsewhere.
+    fn header_owner(self, width: usize, column: usize) -> Option<ComponentId>
+        ensures { result ≡ header_owner width self column }
+    {
+        if self.is_pinned {
+            return None;
+        }
+        let part = box_owner(width, 0, SelectionKey::File(self.key), column);
+        first_of_two(part, Some(ComponentId::FileViewHeader(self.key)))
+    }
+
+    /// Returns the owner of `row` and `column` of the file; `owner` is the owner among sections.
+    fn owner(
+        self,
+        width: usize,
+        owner: Option<ComponentId>,
+        row: usize,
+        column: usize,
+    ) -> Option<ComponentId>
+        ensures { result ≡ file_owner width self owner row column }
+    {
+        let part = if row == self.top {
+            self.header_owner(width, column)
+        } else {
+            owner
+        };
+        let id = ComponentId::SelectableItem(SelectionKey::File(self.key));
+        first_of_two(part, Some(id))
+    }
+}
+
+/// Returns the owner of `row` and `column` among files; `owner` is the owner among sections.
+fn files_owner(
+    width: usize,
+    pieces: &[Piece],
+    owner: Option<ComponentId>,
+    row: usize,
+    column: usize,
+) -> Option<ComponentId>
+    ensures { result ≡ files_owner width (files_of pieces.now) owner row column }
+{
+    for piece in pieces {
+        match piece {
+            Piece::File(file) => {
+                if is_from(file.top, file.end, row) {
+                    return file.owner(width, owner, row, column);
+                }
+            }
+            Piece::Section(_) => {}
+        }
+    }
+    None
+}
+
+/// Returns the owner of `row` and `column` among files and their sections, if any.
+pub fn rows_owner(width: usize, pieces: &[Piece], row: usize, column: usize) -> Option<ComponentId>
+    ensures { result ≡ rows_owner width (files_of pieces.now) (sections_of pieces.now) row column }
+{
+    let owner = sections_owner(width, pieces, row, column);
+    files_owner(width, pieces, owner, row, column)
+}
+
+impl Piece {
+    /// Returns whether the piece has one of the rows `first..last`.
+    fn is_near(&self, first: usize, last: usize) -> bool
+        ensures { result ≡ is_near first last self.now }
+    {
+        match self {
+            Piece::File(file) => file.top < last && first < file.end,
+            Piece::Section(section) => section.top < last && first < section.end,
+        }
+    }
+}
+
+/// Returns the pieces that have one of the rows `first..last`.
+pub fn pieces_near(
+    alloc: Global,
+    pieces: &[Piece],
+    first: usize,
+    last: usize,
+) -> Result<Vec<Piece>, AllocError>
+    ensures ok { IfOk result (λ list. list.items ≡ near first last pieces.now) }
+{
+    let mut near = Vec::new(alloc);
+    for piece in pieces {
+        if piece.is_near(first, last) {
+            near.push(*piece)?;
+        }
+    }
+    Ok(near)
+}
+
+/// Adds the overlay rectangles of the header of file `key` on `row`.
+fn push_header(
+    rects: &mut Vec<OverlayRect>,
+    width: usize,
+    row: usize,
+    key: FileKey,
+) -> Result<(), AllocError>
+    requires width { width < 2 ^ 63 }
+    requires row { row < 2 ^ 63 }
+    ensures ok { OnOk result (rects.new.items ≡ rects.old.items ++ header_rects width row key) }
+{
+    let fold = ComponentId::ExpandBox(SelectionKey::File(key));
+    let mark = ComponentId::ToggleBox(SelectionKey::File(key));
+    rects.push(row_overlay_rect(
+        ComponentId::FileViewHeader(key),
+        row,
+        shift(0),
+        shift(width),
+    ))?;
+    rects.push(row_overlay_rect(fold, row, shift(width.saturating_sub(3)), shift(width)))?;
+    rects.push(row_overlay_rect(mark, row, shift(0), shift(3)))?;
+    Ok(())
+}
+
+/// Adds the overlay rectangles of the sticky header on `row`, if there is one.
+pub fn push_pinned(
+    rects: &mut Vec<OverlayRect>,
+    width: usize,
+    row: usize,
+    pieces: &[Piece],
+) -> Result<(), AllocError>
+    requires width { width < 2 ^ 63 }
+    requires row { row < 2 ^ 63 }
+    ensures ok { OnOk result
+        (rects.new.items ≡ rects.old.items ++ pinned_rects width row (files_of pieces.now)) }
+{
+    for piece in pieces {
+        match piece {
+            Piece::File(file) => {
+                if file.is_pinned {
+                    return push_header(rects, width, row, file.key);
+                }
+            }
+            Piece::Section(_) => {}
+        }
+    }
+    Ok(())
+}

@@ -1,0 +1,17 @@
+-- ---- definitions that proofs alone cite
+pub mod Ranges
+pub mod Parts
+pub mod OpenMenus
+pub mod OverlaysPicture
+-- ---- lemmas
+pub mod CountLemmas
+pub mod ButtonRowLemmas
+pub mod DialogPlaceLemmas
+pub mod MenuPartsLemmas
+pub mod MenuLemmas
+pub mod DialogLemmas
+pub mod RangeLemmas
+pub mod FixedLemmas
+pub mod OverlayLemmas
+pub mod OverlayRectLemmas
+pub mod OverlayOwnerLemmas

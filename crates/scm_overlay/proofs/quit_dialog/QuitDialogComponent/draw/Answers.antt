@@ -1,0 +1,17 @@
+use Rattle.std.proofs.Common.{rules}
+use Rattle.scm_overlay.specs.Tables.{named_dialog_picture}
+use Rattle.scm_overlay.proofs.quit_dialog.QuitDialogComponent.draw.Goals as goal
+
+pub draw_component-requires : goal.draw_component-requires
+unfolding named_dialog_picture
+draw_component-requires c = rw (c.from.ensures, c.as_str.ensures.value, c.in_ok-text.ensures.ok, c.quit_button.ensures, c.go_back_button.ensures) c.requires
+
+pub returns : goal.returns
+unfolding named_dialog_picture
+returns c =
+    record {
+      ok = rw (c.from.ensures, c.as_str.ensures.value, c.in_ok-text.ensures.ok, c.quit_button.ensures, c.go_back_button.ensures) at c.in_ok-draw_component.ensures.draws.ok;
+      counts = search rules;
+      rect = search rules;
+      err = search rules;
+    }

@@ -1,8 +1,0 @@
-use Rattle.std.proofs.Common.{◌≡◌, drop}
-use Rattle.std.specs.List.{flat_map}
-use Rattle.scm_view.specs.Window.{rows_of_key}
-use Rattle.scm_view.specs.Pieces.{piece_places}
-use Rattle.scm_view.proofs.key_rows.find_in.Given as goal
-
-abbrev pub invariant-loop-piece : goal.invariant-loop-piece
-invariant-loop-piece l = rows_of_key l.key (flat_map piece_places (drop l.piece-index l.pieces)) ≡ rows_of_key l.key (flat_map piece_places l.pieces)

@@ -1,8 +1,0 @@
-use Rattle.std.proofs.Common.{arith}
-use Rattle.scm_view.proofs.WidthLemmas.{width-path}
-use Rattle.scm_view.proofs.widths.renamed_width.Goals as goal
-
-pub returns-clause-ok : goal.returns-clause-ok
-returns-clause-ok c =
-    let whole = width-path c.args.old_path.now c.args.path.now c.utf8.old_path c.utf8.path in
-    omega (arith, whole, c.in_ok-joined_width.ensures.ok, c.text_width.ensures.value, c.text_width-2.ensures.value)

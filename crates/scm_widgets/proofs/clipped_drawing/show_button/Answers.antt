@@ -1,0 +1,44 @@
+use Rattle.std.proofs.Common.{rules, ◌∙◌, sym, FitsSigned, w64}
+use Rattle.std.proofs.lemmas.Int.{to_z-of_z}
+use Rattle.scm_render.proofs.PictureLemmas.{PictureInRange-part}
+use Rattle.scm_render.proofs.DrawLemmas.{span_in_range}
+use Rattle.scm_widgets.specs.Pictures.{button_picture}
+use Rattle.scm_widgets.specs.Buttons.{button_width}
+use Rattle.scm_widgets.proofs.HiddenLemmas.{button-hidden, counted-shown, counted-hidden}
+use Rattle.scm_widgets.proofs.clipped_drawing.show_button.Goals as goal
+
+pub note_box-requires : goal.note_box-requires
+unfolding button_picture button_width
+note_box-requires c =
+    let fx : FitsSigned w64 c.args.x = c.ranges.x in
+    let fy : FitsSigned w64 c.args.y = c.ranges.y in
+    let test = simp to_z-of_z at c.is_on_screen.ensures.test in
+    let rows = c.is_on_screen.ensures.rows in
+    rw (c.row_of.ensures, c.in_ok-width.ensures.ok) (simp to_z-of_z (span_in_range _ _ _ _ (PictureInRange-part _ _ c.requires)))
+
+pub returns-in_ok-note_box : goal.returns-in_ok-note_box
+returns-in_ok-note_box c =
+    let fx : FitsSigned w64 c.args.x = c.ranges.x in
+    let fy : FitsSigned w64 c.args.y = c.ranges.y in
+    let test = simp to_z-of_z at c.is_on_screen.ensures.test in
+    let rows = c.is_on_screen.ensures.rows in
+    let drawn = rw (c.row_of.ensures, c.in_ok-width.ensures.ok) at c.in_ok-note_box.ensures.ok in
+    record {
+      ok = simp to_z-of_z at drawn ∙ button-hidden c.args.viewport.now.canvas c.args.button.now c.args.x c.args.y rows (sym test ∙ c.if-is_on_screen.false);
+      counts = (counted-hidden _ _ _ _ _ (sym test ∙ c.if-is_on_screen.false) c.note_box.ensures.counts);
+      rect = search rules;
+      err = search rules;
+    }
+
+pub returns-in_ok-draw_component : goal.returns-in_ok-draw_component
+returns-in_ok-draw_component c =
+    let fx : FitsSigned w64 c.args.x = c.ranges.x in
+    let fy : FitsSigned w64 c.args.y = c.ranges.y in
+    let test = simp to_z-of_z at c.is_on_screen.ensures.test in
+    let rows = c.is_on_screen.ensures.rows in
+    record {
+      ok = search rules;
+      counts = (counted-shown _ _ _ _ _ (sym test ∙ c.if-is_on_screen.true) c.in_ok-draw_component.ensures.draws.counts);
+      rect = search rules;
+      err = search rules;
+    }
