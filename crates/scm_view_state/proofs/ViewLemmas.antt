@@ -1,0 +1,112 @@
+-- The views of a view state, section by section and file by file.
+use Rattle.std.proofs.Common.{◌≡◌, ℕ, zero, suc, ◌+◌, ◌<◌, ◌≤◌, Bool, true, false, ◌&&◌, List, [], ◌∷◌, ◌++◌, length, drop, get_or, refl, ap, sym, ◌∙◌, add-one, drop-cons, arith}
+use Rattle.std.specs.List.{list_all}
+use Rattle.std.specs.Prelude.{map, sum_by, None, slice_get, unwrap_or, if◌then◌else◌}
+use Rattle.std.proofs.lemmas.List.{drop_all}
+use Rattle.std.proofs.lemmas.List.Sums.{count_by-le-length, sum_by-cons}
+use Rattle.scm_types.specs.declared.file.File.{File}
+use Rattle.scm_types.specs.declared.section.Section.{Section}
+use Rattle.scm_types.specs.declared.section.Section.TheVariants.{Unchanged, Changed, FileMode, Binary}
+use Rattle.scm_types.specs.declared.state.Commit.{Commit}
+use Rattle.scm_types.specs.Limits.{section_size}
+use Rattle.scm_types.specs.Marks.{is_editable_section}
+use Rattle.scm_types.specs.declared.keys.FileKey.{FileKey}
+use Rattle.scm_types.specs.declared.keys.SelectionKey.TheVariants as keys
+use Rattle.scm_types.specs.declared.keys.SectionKey.{SectionKey}
+use Rattle.scm_types.specs.declared.tristate.Tristate.TheVariants as tristate
+use Rattle.scm_types.specs.Keys.{section_key_of, has_key}
+use Rattle.scm_document.specs.declared.section_view.SectionView.{SectionView}
+use Rattle.scm_view_state.specs.Views.{lent_sections}
+use Rattle.scm_view_state.specs.Folds.{has_no_fold, is_full}
+use Rattle.scm_view.specs.ViewState.{ViewState, Totals, are_all_expanded, commit_at, file_view_of, file_views_of, is_changed, is_removed, old_lines, section_view_of, section_views_of}
+
+-- ---- lists
+
+-- adding the next one to the end of the results takes it from the rest
+pub pushed : {A B : Type 0} (f : A → B) (made : List A) (next : A) (left : List B) → map f (made ++ next ∷ []) ++ left ≡ map f made ++ (f next ∷ left)
+pushed f [] next left = refl
+pushed f (x ∷ xs) next left = ap (λ ys. f x ∷ ys) (pushed f xs next left)
+
+pub at_most_one_more : (b : Bool) (n m : ℕ) → n ≤ m → (if b then n + 1 else n) ≤ m + 1
+at_most_one_more true n m h = omega arith
+at_most_one_more false n m h = omega arith
+
+-- ---- folds
+
+section-fold : (s : ViewState) (t : Totals) (k : SectionKey) (editable line : ℕ) (section : Section)
+    → has_no_fold (section_view_of s t k editable line section) ≡ (if is_changed section then has_key s.expanded (keys.Section k) else true)
+section-fold s t k editable line section = go (is_changed section) (has_key s.expanded (keys.Section k))
+  where
+    go : (b c : Bool) → (if b then is_full (if c then tristate.True else tristate.False) else true) ≡ (if b then c else true)
+    go true true = refl
+    go true false = refl
+    go false c = refl
+
+-- no view of a file's sections shows a fold just where all of changed lines are expanded
+folds-of : (s : ViewState) (t : Totals) (k : FileKey) (i editable line : ℕ) (sections : List Section)
+    → list_all has_no_fold (section_views_of s t k i editable line sections) ≡ are_all_expanded s k i sections
+unfolding section_views_of are_all_expanded
+folds-of s t k i editable line [] = refl
+folds-of s t k i editable line (section ∷ more) =
+    rw (section-fold s t (section_key_of k i) editable line section, folds-of s t k (suc i) (if is_editable_section section then editable + 1 else editable) (line + old_lines section) more) refl
+
+folds-lent : (vs : List SectionView) → list_all has_no_fold (lent_sections vs) ≡ list_all has_no_fold vs
+folds-lent [] = refl
+folds-lent (v ∷ vs) = ap (λ b. has_no_fold v && b) (folds-lent vs)
+
+pub folds-are : (s : ViewState) (t : Totals) (k : FileKey) (sections : List Section) (vs : List SectionView) → lent_sections vs ≡ section_views_of s t k 0 0 0 sections
+    → list_all has_no_fold vs ≡ are_all_expanded s k 0 sections
+folds-are s t k sections vs e = sym (folds-lent vs) ∙ ap (list_all has_no_fold) e ∙ folds-of s t k 0 0 0 sections
+
+-- ---- sections
+
+pub section_views-more : (s : ViewState) (t : Totals) (k : FileKey) (i editable line : ℕ) (sections : List Section) (d : Section) → i < length sections
+    → section_views_of s t k i editable line (drop i sections)
+    ≡ section_view_of s t (section_key_of k i) editable line (get_or sections i d)
+    ∷ section_views_of s t k (i + 1) (if is_editable_section (get_or sections i d) then editable + 1 else editable) (line + old_lines (get_or sections i d)) (drop (i + 1) sections)
+unfolding section_views_of
+section_views-more s t k i editable line sections d h =
+    let more : drop i sections ≡ get_or sections i d ∷ drop (i + 1) sections = rw add-one (drop-cons sections i d h) in
+    let next : i + 1 ≡ suc i = omega arith in
+    rw (more, next) refl
+
+pub section_views-end : (s : ViewState) (t : Totals) (k : FileKey) (i editable line : ℕ) (sections : List Section) → length sections ≤ i → section_views_of s t k i editable line (drop i sections) ≡ []
+unfolding section_views_of
+section_views-end s t k i editable line sections h = rw (drop_all i sections h) refl
+
+pub old_lines-more : (i : ℕ) (sections : List Section) (d : Section) → i < length sections → sum_by old_lines (drop i sections) ≡ old_lines (get_or sections i d) + sum_by old_lines (drop (i + 1) sections)
+old_lines-more i sections d h =
+    let more : drop i sections ≡ get_or sections i d ∷ drop (i + 1) sections = rw add-one (drop-cons sections i d h) in
+    rw more (sum_by-cons old_lines (get_or sections i d) (drop (i + 1) sections))
+
+old_lines-le : (section : Section) → old_lines section ≤ section_size section
+old_lines-le (Unchanged lines) = omega arith
+old_lines-le (Changed lines) = count_by-le-length is_removed lines
+old_lines-le (FileMode checked mode) = omega arith
+old_lines-le (Binary checked old new) = omega arith
+
+pub old_lines-fit : (sections : List Section) → sum_by old_lines sections ≤ sum_by section_size sections
+old_lines-fit [] = omega arith
+old_lines-fit (s ∷ ss) = omega (arith, sum_by-cons old_lines s ss, sum_by-cons section_size s ss, old_lines-le s, old_lines-fit ss)
+
+-- ---- files
+
+pub file_views-more : (s : ViewState) (commit i : ℕ) (files : List File) (d : File) → i < length files
+    → file_views_of s commit i (drop i files) ≡ file_view_of s (record { commit_idx = commit; file_idx = i }) (get_or files i d) ∷ file_views_of s commit (i + 1) (drop (i + 1) files)
+unfolding file_views_of
+file_views-more s commit i files d h =
+    let more : drop i files ≡ get_or files i d ∷ drop (i + 1) files = rw add-one (drop-cons files i d h) in
+    let next : i + 1 ≡ suc i = omega arith in
+    rw (more, next) refl
+
+pub file_views-end : (s : ViewState) (commit i : ℕ) (files : List File) → length files ≤ i → file_views_of s commit i (drop i files) ≡ []
+unfolding file_views_of
+file_views-end s commit i files h = rw (drop_all i files h) refl
+
+-- ---- commits
+
+pub commit_at-get : (i : ℕ) (commits : List Commit) → commit_at i commits ≡ unwrap_or (slice_get commits i) (record { message = None })
+unfolding commit_at
+commit_at-get i [] = refl
+commit_at-get zero (c ∷ cs) = refl
+commit_at-get (suc i) (c ∷ cs) = commit_at-get i cs
