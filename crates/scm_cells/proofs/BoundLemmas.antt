@@ -20,11 +20,11 @@ use Rattle.unicode_width.specs.declared.state.Change.TheVariants.{Less, Same, On
 use Rattle.unicode_width.specs.Kind.{kind}
 use Rattle.unicode_width.specs.Width.{before, is_striking, is_line_feed, is_plain, plain, single, of_kind, alone, changed, Reading, added, joined_or, past_selectors, in_context, past_emoji, joins, step, read_before, str_width, if_kept}
 use Rattle.scm_cells.specs.Cluster.{Cluster, IsNarrow}
-use Rattle.scm_cells.specs.Clusters.{has_control, kept, kept_width, with_width, clusters, text_width}
+use Rattle.scm_cells.specs.Clusters.{has_control, visible_clusters, visible_width, with_width, clusters, text_width}
 
 -- ---- the bytes of a character
 
--- at least so many bytes spell a character
+-- a lower bound of the bytes of a character
 abbrev pub size : ℕ → ℕ
 size c = if nat_lt c 128 then 1 else 2
 
@@ -37,7 +37,7 @@ size-some c = grind arith
 size-le : (c : ℕ) → size c ≤ 2
 size-le c = grind arith
 
--- a character whose first bytes, so many, stand before, and that has n more
+-- the bytes that remain of a character, after `before` of its bytes, if `n` more follow
 sizes-after : (n c before : ℕ) (bs : List ℕ) → (n ≡ 0 → size c ≤ before) → (0 < n → 1 ≤ before) → sum_by size (chars_after n c bs) ≤ before + length bs
 sizes-after zero c before [] last more = let e = sum_by-cons size c [] in let p = last refl in omega (arith, e, p)
 sizes-after zero c before (b ∷ bs) last more =
@@ -170,8 +170,8 @@ if_none true o n w h e = absurd (cc e)
 if_none false o n w h e = h e
 
 -- a cluster takes at most two columns a byte
-pub kept_width-le : (piece : List ℕ) (w : ℕ) → kept_width piece ≡ Some w → w ≤ 2 * length piece
-unfolding kept_width
+pub kept_width-le : (piece : List ℕ) (w : ℕ) → visible_width piece ≡ Some w → w ≤ 2 * length piece
+unfolding visible_width
 kept_width-le piece w e =
     let width = str_width false (chars piece) in
     if_none (has_control piece) (if width == 0 then None else Some width) (2 * length piece) w (if_some (width == 0) width (2 * length piece) w (str_width-le piece)) e
@@ -181,10 +181,10 @@ narrow_more : (o : Option ℕ) (piece : List ℕ) (rest : List Cluster) → ((w 
 narrow_more None piece rest h all = all
 narrow_more (Some w) piece rest h all = All-cons IsNarrow (piece, w) rest (h w refl) all
 
-pub kept-narrow : (pieces : List (List ℕ)) → All IsNarrow (kept pieces)
-unfolding kept with_width
+pub kept-narrow : (pieces : List (List ℕ)) → All IsNarrow (visible_clusters pieces)
+unfolding visible_clusters with_width
 kept-narrow [] = All-nil IsNarrow
-kept-narrow (p ∷ ps) = narrow_more (kept_width p) p (filter_map with_width ps) (kept_width-le p) (kept-narrow ps)
+kept-narrow (p ∷ ps) = narrow_more (visible_width p) p (filter_map with_width ps) (kept_width-le p) (kept-narrow ps)
 
 pub clusters-narrow : (text : List ℕ) → All IsNarrow (clusters text)
 unfolding clusters
@@ -209,7 +209,7 @@ unfolding with_width
 columns-le [] = omega arith
 columns-le (p ∷ ps) =
     let piece = encode_utf8_all p in
-    let e = one_more (kept_width piece) piece (filter_map with_width (map encode_utf8_all ps)) (2 * length piece) (kept_width-le piece) in
+    let e = one_more (visible_width piece) piece (filter_map with_width (map encode_utf8_all ps)) (2 * length piece) (kept_width-le piece) in
     let rest = columns-le ps in
     let sum = sum_by-cons bytes p ps in
     omega (arith, e, rest, sum)
@@ -240,7 +240,7 @@ bytes-cut rule before (c ∷ cs) after =
 
 -- a text takes at most two columns for each byte that its characters have in UTF-8
 text_width-chars : (text : List ℕ) → text_width text ≤ 2 * bytes (chars text)
-unfolding text_width clusters kept segments
+unfolding text_width clusters visible_clusters segments
 text_width-chars text =
     let e = columns-le (cut (is_grapheme_break true) [] (chars text) []) in
     let f = bytes-cut (is_grapheme_break true) [] (chars text) [] in

@@ -5,7 +5,7 @@ abbrev pub map_from : {X : Type 0} → (ℕ → X → X) → ℕ → List X → 
 map_from f i [] = []
 map_from f i (x ∷ xs) = f i x ∷ map_from f (suc i) xs
 
--- so many elements were written
+-- the list after the elements before index `i` are written
 abbrev pub so_far : {X : Type 0} → (ℕ → X → X) → List X → ℕ → List X
 so_far f xs i = take i (map_from f 0 xs) ++ drop i xs
 

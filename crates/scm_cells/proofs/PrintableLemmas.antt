@@ -20,7 +20,7 @@ use Rattle.unicode_segmentation.proofs.GraphemeLemmas.{is_grapheme_break-others}
 use Rattle.unicode_width.specs.Width.{str_width}
 use Rattle.unicode_width.proofs.Rules.{str_width-printable}
 use Rattle.scm_cells.specs.Cluster.{Cluster, is_printable, is_unprintable, bytes_as_clusters}
-use Rattle.scm_cells.specs.Clusters.{clusters, kept, kept_width, has_control, with_width, text_width}
+use Rattle.scm_cells.specs.Clusters.{clusters, visible_clusters, visible_width, has_control, with_width, text_width}
 
 -- ---- a printable character
 
@@ -52,7 +52,7 @@ printable-class c h =
     grapheme_cluster_break_number_injective _ _ (grind (arith, nat_tests))
 
 pub printable-kept : (c : ℕ) → is_printable_char c ≡ true → with_width (c ∷ []) ≡ Some (c ∷ [], 1)
-unfolding with_width kept_width has_control
+unfolding with_width visible_width has_control
 printable-kept c h =
     let one : is_printable (c ∷ []) ≡ true = rw h refl in
     let same = chars-printable (c ∷ []) one in
@@ -69,12 +69,12 @@ printable-breaks c before (d ∷ cs) h g =
     let small = printable-ascii d parts.0 in
     sym (is_grapheme_break-others true (c ∷ before) d (cs ++ []) (omega arith) (omega arith) (printable-class c h) (printable-class d parts.0))
 
-kept-printable_first : (c : ℕ) (pieces : List (List ℕ)) → is_printable_char c ≡ true → kept (encode_utf8_all (c ∷ []) ∷ pieces) ≡ (c ∷ [], 1) ∷ kept pieces
-unfolding kept
+kept-printable_first : (c : ℕ) (pieces : List (List ℕ)) → is_printable_char c ≡ true → visible_clusters (encode_utf8_all (c ∷ []) ∷ pieces) ≡ (c ∷ [], 1) ∷ visible_clusters pieces
+unfolding visible_clusters
 kept-printable_first c pieces h = rw (printable-encodes c h, printable-kept c h) refl
 
-cut-printable : (cs before : List ℕ) → is_printable cs ≡ true → kept (map encode_utf8_all (cut (is_grapheme_break true) before cs [])) ≡ bytes_as_clusters cs
-unfolding cut kept bytes_as_clusters
+cut-printable : (cs before : List ℕ) → is_printable cs ≡ true → visible_clusters (map encode_utf8_all (cut (is_grapheme_break true) before cs [])) ≡ bytes_as_clusters cs
+unfolding cut visible_clusters bytes_as_clusters
 cut-printable [] before h = refl
 cut-printable (c ∷ cs) before h =
     let parts = and_parts (is_printable_char c) (is_printable cs) h in
@@ -83,7 +83,7 @@ cut-printable (c ∷ cs) before h =
 
 pub clusters-printable : (text : List ℕ) → is_printable text ≡ true → clusters text ≡ bytes_as_clusters text
 unfolding clusters segments
-clusters-printable text h = ap (λ cs. kept (map encode_utf8_all (cut (is_grapheme_break true) [] cs []))) (chars-printable text h) ∙ cut-printable text [] h
+clusters-printable text h = ap (λ cs. visible_clusters (map encode_utf8_all (cut (is_grapheme_break true) [] cs []))) (chars-printable text h) ∙ cut-printable text [] h
 
 pub width-bytes_as_clusters : (text : List ℕ) → sum_by (λ c. c.1) (bytes_as_clusters text) ≡ length text
 unfolding bytes_as_clusters

@@ -13,11 +13,11 @@ use Rattle.std.proofs.lemmas.List.{nil_from_length}
 use Rattle.std.proofs.lemmas.Str.{chars_past_char, chars-nil, IsUtf8-past_char, length-encode, len_utf8_bounds, IsCharBoundary-at_seam}
 use Rattle.scm_cells.specs.Cluster.{is_printable, is_unprintable}
 use Rattle.scm_cells.proofs.PrintableLemmas.{is_printable_char, printable-encodes, printable-front, count-le}
-use Rattle.scm_cells.specs.Clusters.{text_width, clusters, kept, with_width, kept_width, has_control}
+use Rattle.scm_cells.specs.Clusters.{text_width, clusters, visible_clusters, with_width, visible_width, has_control}
 use Rattle.scm_cells.proofs.BoundLemmas.{size, size-some, sizes-le, encode-size, text_width-le, text_width-utf8}
 use Rattle.scm_cells.specs.Replaced.{replacement, pieces_from, line_pieces, last_piece}
 
--- a line of which so many bytes were read, without a replaced character, before the rest
+-- the first `n` bytes of the line have no replaced character, and `rest` follows
 pub record HasRead (line : List ℕ) (n : ℕ) (rest : List ℕ) : Type 0 where
   pub read : List ℕ
   pub size : length read ≡ n
@@ -25,7 +25,7 @@ pub record HasRead (line : List ℕ) (n : ℕ) (rest : List ℕ) : Type 0 where
   pub parts : line ≡ read ++ rest
   pub pieces : line_pieces line ≡ pieces_from read (chars rest)
 
--- what stands for a character that is known
+-- the replacement of a known character
 pub replacement-at : (c n : ℕ) (r : Option (List ℕ)) → c ≡ n → r ≡ replacement n → r ≡ replacement c
 replacement-at c n r e at = at ∙ ap replacement (sym e)
 
@@ -81,7 +81,7 @@ HasRead-front line rest n u count e =
     let printable : is_printable (take n line) ≡ true = subst (λ k. is_printable (take k line) ≡ true) (sym count) (printable-front line) in
     HasRead-printable line (take n line) rest 0 n (HasRead-none line (take n line ++ rest) u (ap (λ t. take n line ++ t) e ∙ take-append-drop n line)) printable (omega (arith, length-take-le n line le))
 
--- a replaced character after so many bytes of the line
+-- a replaced character after the first `n` bytes of the line
 pub pieces-cut : (line rest next r front : List ℕ) (n c : ℕ) → HasRead line n rest → rest ≡ encode_utf8 c ++ next → replacement c ≡ Some r → front ≡ slice_range line 0 n
     → line_pieces line ≡ front ∷ (r ∷ line_pieces next)
 unfolding line_pieces
@@ -114,7 +114,7 @@ width-char c s =
     omega (arith, e, length-encode c, (len_utf8_bounds c).1)
 
 width-tab : text_width (encode_utf8 0x2192 ++ 0x20 ∷ 0x20 ∷ 0x20 ∷ []) ≡ 4
-unfolding text_width clusters kept with_width kept_width has_control unicode_segmentation unicode_width
+unfolding text_width clusters visible_clusters with_width visible_width has_control unicode_segmentation unicode_width
 width-tab = refl
 
 control-picture : (c : ℕ) → nat_lt c 0x20 ≡ true → all_scalars ((0x2400 + c) ∷ []) ≡ true

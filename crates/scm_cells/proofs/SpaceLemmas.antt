@@ -43,7 +43,7 @@ fit-spaces (suc n) room h =
     fit-cons room space (replicate n space) (omega (arith, h))
     ∙ rw (cells-space, fit-spaces n (room - 1) (omega (arith, h))) refl
 
--- so many spaces put within the limits are so many blanks over the row
+-- `n` spaces put within the limits are `n` blanks over the row
 pub put-spaces : (row : List Cell) (at n low high : ℕ) → low ≤ at → at + n ≤ high → put row (pos at) (replicate n 32) low high ≡ overlay row at (replicate n blank)
 unfolding put
 put-spaces row at n low high l h =

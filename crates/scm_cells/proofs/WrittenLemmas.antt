@@ -23,16 +23,16 @@ use Rattle.unicode_segmentation.specs.Grapheme.{graphemes, is_grapheme_break}
 use Rattle.unicode_width.specs.Width.{str_width}
 use Rattle.scm_cells.specs.Rect.{or_zero}
 use Rattle.scm_cells.specs.Cluster.{Cluster, bytes_as_clusters}
-use Rattle.scm_cells.specs.Clusters.{clusters, text_width, clusters_left, rest_left, kept, with_width, kept_width, has_control, IsMeasured}
+use Rattle.scm_cells.specs.Clusters.{clusters, text_width, clusters_left, rest_left, visible_clusters, with_width, visible_width, has_control, IsMeasured}
 use Rattle.scm_cells.specs.declared.text.Clusters.{Clusters}
 use Rattle.scm_cells.specs.declared.text.Rest.{Rest}
 use Rattle.scm_cells.specs.declared.text.Rest.TheVariants.{Bytes, Graphemes}
-use Rattle.scm_cells.specs.Cell.{Cell, Place, blank, shown, laid}
-use Rattle.scm_cells.specs.Row.{placed, passes, cells_past, cells_of, written, overlay, put}
+use Rattle.scm_cells.specs.Cell.{Cell, ColumnCells, blank, shown, laid}
+use Rattle.scm_cells.specs.Row.{with_columns, passes, cells_past, cells_of, written, overlay, put}
 use Rattle.scm_cells.specs.Laying.{fit, columns_of, IsPassed, IsBegun}
-use Rattle.scm_cells.specs.Ruled.{chars_as_clusters, cut_left}
-use Rattle.scm_cells.specs.declared.cutting.Cut.{Cut}
-use Rattle.scm_cells.specs.declared.cutting.Cut.TheVariants as cuts
+use Rattle.scm_cells.specs.FrameText.{chars_as_clusters, fast_clusters_left}
+use Rattle.scm_cells.specs.declared.fast_clusters.FastClusters.{FastClusters}
+use Rattle.scm_cells.specs.declared.fast_clusters.FastClusters.TheVariants as cuts
 use Rattle.scm_cells.specs.declared.row.Laid.{Laid}
 use Rattle.scm_cells.proofs.RectLemmas.{places}
 use Rattle.scm_cells.proofs.SingleLemmas.{IsSingle, single-graphemes}
@@ -47,26 +47,26 @@ abbrev pub AllKept : List Cluster → Type 0
 AllKept [] = Unit {0}
 AllKept (c ∷ cs) = IsKept c × AllKept cs
 
-empty_width : kept_width [] ≡ None
-unfolding kept_width has_control str_width
+empty_width : visible_width [] ≡ None
+unfolding visible_width has_control str_width
 empty_width = rw chars-nil refl
 
-pub kept_columns : (piece : List ℕ) (width : ℕ) → kept_width piece ≡ Some width → 0 < width
-unfolding kept_width
+pub kept_columns : (piece : List ℕ) (width : ℕ) → visible_width piece ≡ Some width → 0 < width
+unfolding visible_width
 kept_columns piece width e = grind (arith, nat_tests)
 
-pub kept_bytes : (piece : List ℕ) (width : ℕ) → kept_width piece ≡ Some width → 0 < length piece
+pub kept_bytes : (piece : List ℕ) (width : ℕ) → visible_width piece ≡ Some width → 0 < length piece
 kept_bytes [] width e = let none = sym empty_width ∙ e in cc
 kept_bytes (b ∷ bs) width e = omega arith
 
-AllKept-cons : (piece : List ℕ) (pieces : List (List ℕ)) (width : Option ℕ) → kept_width piece ≡ width → AllKept (filter_map with_width pieces) → AllKept (filter_map with_width (piece ∷ pieces))
+AllKept-cons : (piece : List ℕ) (pieces : List (List ℕ)) (width : Option ℕ) → visible_width piece ≡ width → AllKept (filter_map with_width pieces) → AllKept (filter_map with_width (piece ∷ pieces))
 unfolding with_width
 AllKept-cons piece pieces None e h = rw e h
 AllKept-cons piece pieces (Some width) e h = rw e (record { bytes = kept_bytes piece width e; columns = kept_columns piece width e }, h)
 
 AllKept-pieces : (pieces : List (List ℕ)) → AllKept (filter_map with_width pieces)
 AllKept-pieces [] = tt
-AllKept-pieces (p ∷ ps) = AllKept-cons p ps (kept_width p) refl (AllKept-pieces ps)
+AllKept-pieces (p ∷ ps) = AllKept-cons p ps (visible_width p) refl (AllKept-pieces ps)
 
 AllKept-bytes : (text : List ℕ) → AllKept (bytes_as_clusters text)
 unfolding bytes_as_clusters
@@ -74,7 +74,7 @@ AllKept-bytes [] = tt
 AllKept-bytes (b ∷ bs) = (record { bytes = omega arith; columns = omega arith }, AllKept-bytes bs)
 
 AllKept-rest : (rest : Rest) → AllKept (rest_left rest)
-unfolding kept
+unfolding visible_clusters
 AllKept-rest (Bytes text) = AllKept-bytes _
 AllKept-rest (Graphemes pieces) = AllKept-pieces _
 
@@ -87,12 +87,12 @@ unfolding chars_as_clusters
 AllKept-chars [] = tt
 AllKept-chars (c ∷ cs) = (record { bytes = grind (arith, nat_tests, length-encode c); columns = omega arith }, AllKept-chars cs)
 
-pub AllKept-cut : (s : Cut) → AllKept (cut_left s)
-AllKept-cut (cuts.Ruled text) = AllKept-chars _
+pub AllKept-cut : (s : FastClusters) → AllKept (fast_clusters_left s)
+AllKept-cut (cuts.FrameText text) = AllKept-chars _
 AllKept-cut (cuts.Clusters text) = AllKept-left text
 
 pub AllKept-clusters : (text : List ℕ) → AllKept (clusters text)
-unfolding clusters kept
+unfolding clusters visible_clusters
 AllKept-clusters text = AllKept-pieces (graphemes true text)
 
 -- ---- clusters have the columns that are measured of them, and are UTF-8
@@ -129,7 +129,7 @@ texts-segments rule text u =
     let all = scalars-cut rule [] (chars text) [] (scalars-chars text u) in
     All-map IsText encode_utf8_all (cut rule [] (chars text) []) (λ k d h. is_utf8-from_IsUtf8 _ (get_or (cut rule [] (chars text) []) k d, (all k d h, refl)))
 
-AllMeasured-cons : (piece : List ℕ) (pieces : List (List ℕ)) (width : Option ℕ) → kept_width piece ≡ width → IsText piece → IsSingle piece
+AllMeasured-cons : (piece : List ℕ) (pieces : List (List ℕ)) (width : Option ℕ) → visible_width piece ≡ width → IsText piece → IsSingle piece
     → All IsMeasured (filter_map with_width pieces) → All IsMeasured (filter_map with_width (piece ∷ pieces))
 unfolding with_width
 AllMeasured-cons piece pieces None e u s h = rw e h
@@ -138,10 +138,10 @@ AllMeasured-cons piece pieces (Some width) e u s h = rw e (All-cons IsMeasured (
 AllMeasured-pieces : (pieces : List (List ℕ)) → All IsText pieces → All IsSingle pieces → All IsMeasured (filter_map with_width pieces)
 AllMeasured-pieces [] all single = All-nil IsMeasured
 AllMeasured-pieces (p ∷ ps) all single =
-    AllMeasured-cons p ps (kept_width p) refl (All-head IsText p ps all) (All-head IsSingle p ps single) (AllMeasured-pieces ps (All-tail IsText p ps all) (All-tail IsSingle p ps single))
+    AllMeasured-cons p ps (visible_width p) refl (All-head IsText p ps all) (All-head IsSingle p ps single) (AllMeasured-pieces ps (All-tail IsText p ps all) (All-tail IsSingle p ps single))
 
 pub AllMeasured-clusters : (text : List ℕ) → IsUtf8 text → All IsMeasured (clusters text)
-unfolding clusters kept
+unfolding clusters visible_clusters
 AllMeasured-clusters text u = AllMeasured-pieces (graphemes true text) (texts-segments (is_grapheme_break true) text u) (single-graphemes text)
 
 measured-from : (piece : List ℕ) (width : Option ℕ) (n : ℕ) → option_map {U = Cluster} (λ w. (piece, w)) width ≡ Some (piece, n) → width ≡ Some n
@@ -150,7 +150,7 @@ measured-from piece (Some w) n e = let same : ◌≡◌ {A = Cluster} (piece, w)
 
 pub measured : (c : Cluster) → with_width c.0 ≡ Some c → is_utf8 c.0 ≡ true → IsSingle c.0 → IsMeasured c
 unfolding with_width
-measured c e u s = record { columns = measured-from c.0 (kept_width c.0) c.1 e; utf8 = u; single = s }
+measured c e u s = record { columns = measured-from c.0 (visible_width c.0) c.1 e; utf8 = u; single = s }
 
 pub utf8-ascii : (b : ℕ) → b < 128 → is_utf8 (b ∷ []) ≡ true
 utf8-ascii b h = is_utf8-from_IsUtf8 (b ∷ []) (IsUtf8-from_ascii (b ∷ []) (IsAscii-cons b [] h IsAscii-nil))
@@ -172,19 +172,19 @@ take_while-stop : {X : Type 0} (p : X → Bool) (x : X) (xs : List X) → p x �
 take_while-stop p x xs e = rw e refl
 
 pub written-none : (column : ℤ) (low high : ℕ) → written column [] low high ≡ []
-unfolding written placed
+unfolding written with_columns
 written-none column low high = refl
 
 pub written-cons : (column : ℤ) (c : Cluster) (cs : List Cluster) (low high : ℕ) → passes low high (column, c) ≡ false
     → written column (c ∷ cs) low high ≡ cells_past low high (column, c) ++ written (column +ℤ pos c.1) cs low high
-unfolding written placed
+unfolding written with_columns
 written-cons column c cs low high e =
-    ap (flat_map (cells_past low high)) (take_while-pass (λ p. not (passes low high p)) (column, c) (placed (column +ℤ pos c.1) cs) (ap not e))
+    ap (flat_map (cells_past low high)) (take_while-pass (λ p. not (passes low high p)) (column, c) (with_columns (column +ℤ pos c.1) cs) (ap not e))
 
 pub written-stop : (column : ℤ) (c : Cluster) (cs : List Cluster) (low high : ℕ) → passes low high (column, c) ≡ true → written column (c ∷ cs) low high ≡ []
-unfolding written placed
+unfolding written with_columns
 written-stop column c cs low high e =
-    ap (flat_map (cells_past low high)) (take_while-stop (λ p. not (passes low high p)) (column, c) (placed (column +ℤ pos c.1) cs) (ap not e))
+    ap (flat_map (cells_past low high)) (take_while-stop (λ p. not (passes low high p)) (column, c) (with_columns (column +ℤ pos c.1) cs) (ap not e))
 
 pub written-skipped : (column : ℤ) (c : Cluster) (cs : List Cluster) (low high : ℕ) → low < high → (column +ℤ pos c.1) ≤ℤ pos low
     → written column (c ∷ cs) low high ≡ written (column +ℤ pos c.1) cs low high
@@ -274,7 +274,7 @@ written-closed_cons c cs column low high h none =
 
 -- ---- clusters before the low limit
 
--- clusters laid so many columns before a limit write what the rest, laid nearer to it, write
+-- laid `columns` columns before a limit, `cs` writes what `rest` writes from `before` columns before it
 abbrev pub IsNearer : ℕ → List Cluster → ℕ → List Cluster → Type 0
 IsNearer columns cs before rest = (low high : ℕ) → low < high → written (pos low -ℤ pos columns) cs low high ≡ written (pos low -ℤ pos before) rest low high
 
@@ -339,7 +339,7 @@ IsPassed-crossed columns before width cs now rest c kept h e w some le =
     subst (λ n. IsPassed columns cs n rest) (sym none) (IsPassed-at_limit columns (before - width) cs rest kept nearer (omega arith)))
     (cases_lt before width)
 
--- clusters that begin before the limit and have so many columns were passed over
+-- clusters of `passed` columns that begin before the limit were skipped
 pub record HasPassed (columns : ℕ) (cs : List Cluster) (passed : ℕ) (rest : List Cluster) : Type 0 where
   pub nearer : passed < columns → IsNearer columns cs (columns - passed) rest
   pub reached : columns ≤ passed → IsPassed columns cs (passed - columns) rest
@@ -404,9 +404,9 @@ written-past column low high from blanks cs rest h kept lt le =
     let none : min blanks (high - from) ≡ 0 = omega arith in
     h high lt ∙ ap₂ (λ n t. replicate n blank ++ t) none (fit-full rest (high - from - blanks) kept (omega arith))
 
--- ---- a symbol laid after those before it
+-- ---- a symbol laid after other symbols
 
-pub laid-step : (columns sub : List Place) (e k : ℕ) (c : Cluster) (now rest : List Cluster) (total : List Cell) → k ≡ e + c.1 - e → e ≤ length columns → c.1 ≤ length columns - e
+pub laid-step : (columns sub : List ColumnCells) (e k : ℕ) (c : Cluster) (now rest : List Cluster) (total : List Cell) → k ≡ e + c.1 - e → e ≤ length columns → c.1 ≤ length columns - e
     → now ≡ c ∷ rest → length sub ≡ k → map laid sub ≡ cells_of c → map laid (take e columns) ++ fit (length columns - e) now ≡ total
     → map laid (take (e + c.1) (put_mid e k columns sub)) ++ fit (length columns - (e + c.1)) rest ≡ total
 laid-step columns sub e k c now rest total f within room g size l h =
@@ -418,11 +418,11 @@ laid-step columns sub e k c now rest total f within room g size l h =
     ∙ ap (λ t. map laid (take e columns) ++ t) (sym (fit-cons (length columns - e) c rest room) ∙ ap (fit (length columns - e)) (sym g))
     ∙ h
 
-pub length-put_mid : (columns sub : List Place) (e k : ℕ) → length sub ≡ k → e + k ≤ length columns → length (put_mid e k columns sub) ≡ length columns
+pub length-put_mid : (columns sub : List ColumnCells) (e k : ℕ) → length sub ≡ k → e + k ≤ length columns → length (put_mid e k columns sub) ≡ length columns
 length-put_mid columns sub e k size le = simp (length-append, length-take, length-drop) (omega arith)
 
 -- what is shown stays where a part of the row shows what it did
-pub shown-put_mid : (columns sub : List Place) (e k : ℕ) → map shown sub ≡ map shown (take k (drop e columns)) → map shown (put_mid e k columns sub) ≡ map shown columns
+pub shown-put_mid : (columns sub : List ColumnCells) (e k : ℕ) → map shown sub ≡ map shown (take k (drop e columns)) → map shown (put_mid e k columns sub) ≡ map shown columns
 shown-put_mid columns sub e k h =
     map-append shown (take e columns) (sub ++ drop k (drop e columns))
     ∙ ap (λ t. map shown (take e columns) ++ t) (map-append shown sub (drop k (drop e columns)) ∙ ap (λ t. t ++ map shown (drop k (drop e columns))) h
@@ -439,7 +439,7 @@ pub put-none : (row : List Cell) (column : ℤ) (text : List ℕ) (low high : �
 unfolding put overlay
 put-none row column text low high e = rw e refl
 
-part-put_mid : (columns sub : List Place) (from k width : ℕ) → from ≤ length columns → width ≤ length sub
+part-put_mid : (columns sub : List ColumnCells) (from k width : ℕ) → from ≤ length columns → width ≤ length sub
     → slice_range (put_mid from k columns sub) from (from + width) ≡ take width sub
 part-put_mid columns sub from k width le within =
     let n : from + width - from ≡ width = omega arith in
@@ -449,7 +449,7 @@ pub on_err : {T E P : Type 0} (r : Result T E) → P → OnErr r P
 on_err (Ok x) p = tt
 on_err (Err e) p = p
 
-pub put-some : (columns now new : List Place) (column : ℤ) (text : List ℕ) (low high from blanks width : ℕ) (sub : List Place) (cs rest : List Cluster)
+pub put-some : (columns now new : List ColumnCells) (column : ℤ) (text : List ℕ) (low high from blanks width : ℕ) (sub : List ColumnCells) (cs rest : List Cluster)
     → from ≡ or_zero (int_max column (pos low)) → cs ≡ clusters text → IsBegun column low cs from blanks rest → low < high → from < high → high ≤ length columns
     → now ≡ put_mid from (high - from) columns sub → length sub ≡ high - from → width ≤ high - from
     → map shown sub ≡ map shown (take (high - from) (drop from columns))
@@ -466,13 +466,13 @@ put-some columns now new column text low high from blanks width sub cs rest at c
     ∙ ap (λ n. overlay (map shown columns) n (written column (clusters text) low high)) at
 
 -- what is shown stays where the beginning of the row shows what it did
-pub shown-put_front : (columns sub : List Place) (k : ℕ) → map shown sub ≡ map shown (take k columns) → map shown (sub ++ drop k columns) ≡ map shown columns
+pub shown-put_front : (columns sub : List ColumnCells) (k : ℕ) → map shown sub ≡ map shown (take k columns) → map shown (sub ++ drop k columns) ≡ map shown columns
 shown-put_front columns sub k h =
     map-append shown sub (drop k columns) ∙ ap (λ t. t ++ map shown (drop k columns)) h ∙ sym (map-append shown (take k columns) (drop k columns))
     ∙ ap (map shown) (take-append-drop k columns)
 
 -- spaces, and then the clusters that have room
-pub laid-after_blanks : {E : Type 0} (columns sub new : List Place) (blanks k : ℕ) (result : Result Laid E) (cs : List Cluster) → k ≡ min blanks (length columns) → length sub ≡ k → map laid sub ≡ replicate k blank
+pub laid-after_blanks : {E : Type 0} (columns sub new : List ColumnCells) (blanks k : ℕ) (result : Result Laid E) (cs : List Cluster) → k ≡ min blanks (length columns) → length sub ≡ k → map laid sub ≡ replicate k blank
     → IfOk result (λ r. map laid (take r.end new) ≡ map laid (take k (sub ++ drop k columns)) ++ fit (length (sub ++ drop k columns) - k) cs)
     → IfOk result (λ r. map laid (take r.end new) ≡ replicate (min blanks (length columns)) blank ++ fit (length columns - blanks) cs)
 laid-after_blanks columns sub new blanks k result cs e size l h =

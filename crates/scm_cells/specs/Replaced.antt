@@ -1,11 +1,11 @@
--- The characters of a line that a screen cannot show, and what stands for them.
+-- The characters of a line that a screen cannot show, and their replacements.
 use Rattle.std.specs.Prelude.{ℕ, false, ◌+◌, ◌==◌, nat_lt, List, [], ◌∷◌, ◌++◌, if◌then◌else◌, Option, Some, None, unwrap_or, encode_utf8}
 use Rattle.std.specs.Option.{option_map_or}
 use Rattle.std.specs.Str.{chars}
 use Rattle.unicode_width.specs.Width.{char_width}
 
--- what stands for a character that is replaced: an arrow and three spaces for a tab, the return symbol for a newline,
--- the pictures of the other control characters of ASCII, and U+FFFD for what takes no column
+-- the replacement of a character, if it has one: an arrow and three spaces for a tab, the return symbol for a newline,
+-- the Unicode picture of another control character of ASCII, and U+FFFD for another character of width 0
 unfoldable pub replacement : ℕ → Option (List ℕ)
 replacement c =
     if c == 0x09 then Some (encode_utf8 0x2192 ++ 0x20 ∷ 0x20 ∷ 0x20 ∷ [])
@@ -15,17 +15,17 @@ replacement c =
     else if unwrap_or (char_width false c) 0 == 0 then Some (encode_utf8 0xFFFD)
     else None
 
--- the last piece of a line, if it has a byte
+-- the last piece of a line as a list; an empty one is left out
 abbrev pub last_piece : List ℕ → List (List ℕ)
 last_piece [] = []
 last_piece (b ∷ bs) = (b ∷ bs) ∷ []
 
--- the pieces of a line from these characters on, after the bytes of the piece so far
+-- the pieces of the characters, where `piece` holds the bytes of the piece so far
 unfoldable pub pieces_from : List ℕ → List ℕ → List (List ℕ)
 pieces_from piece [] = last_piece piece
 pieces_from piece (c ∷ cs) =
     option_map_or (λ r. piece ∷ (r ∷ pieces_from [] cs)) (replacement c) (pieces_from (piece ++ encode_utf8 c) cs)
 
--- the pieces of a line: for each replaced character the text before it and what stands for it, and then the rest, if any
+-- the pieces of a line: for each replaced character the text before it and the replacement; then the rest, unless it is empty
 unfoldable pub line_pieces : List ℕ → List (List ℕ)
 line_pieces line = pieces_from [] (chars line)

@@ -7,36 +7,40 @@ use std::alloc::{AllocError, Global};
 use std::marker::Model;
 use std::mem;
 
-/// A column: what it shows, and what was laid on it to be shown next. Each of the two is a symbol
-/// that begins here with its width in columns, or, at an offset, a later column of one. A first
-/// column without a symbol is a space.
+/// A column with two cells: the visible one, and the one that is laid and becomes visible next. A
+/// cell is a column of a symbol, at its offset from the symbol's first column. An empty symbol at
+/// offset 0 is a space.
 #[derive(Drop)]
 pub(crate) struct Column {
-    /// The symbol that is shown and begins here, or nothing.
+    /// The visible symbol that begins here, or empty.
     symbol: String,
 
-    /// How many columns that symbol has.
+    /// The width of the visible symbol, in columns.
     width: usize,
 
-    /// How many of them are before this one.
+    /// The number of its columns before this one.
     offset: usize,
 
-    /// The same three of what was laid.
+    /// The laid symbol that begins here, or empty.
     next_symbol: String,
+
+    /// The width of the laid symbol, in columns.
     next_width: usize,
+
+    /// The number of its columns before this one.
     next_offset: usize,
 }
 
 impl Model for Column {
-    ghost use Rattle.scm_cells.specs.Cell.{Place, place_of};
+    ghost use Rattle.scm_cells.specs.Cell.{ColumnCells, column_cells};
 
-    ghost Value = { Place };
+    ghost Value = { ColumnCells };
 
-    ghost view = { place_of };
+    ghost view = { column_cells };
 }
 
 impl Column {
-    /// A column that shows a space, and on which one was laid.
+    /// Returns a column with a visible space and a laid space.
     pub(crate) fn blank(alloc: Global) -> Column
         ensures { result ≡ record { shown = blank; laid = blank } }
     {
@@ -50,7 +54,7 @@ impl Column {
         }
     }
 
-    /// Shows a space.
+    /// Makes the visible cell a space.
     pub(crate) fn clear(&mut self)
         ensures { self.new ≡ record self.old { shown = blank } }
     {
@@ -59,11 +63,13 @@ impl Column {
         self.offset = 0;
     }
 
-    /// Lays the first column of a symbol. Both texts of the column get room for it, so that to lay it
-    /// here again takes no memory, whichever of them is then shown.
+    /// Lays the first column of a symbol of `width` columns. Reserves room for it in both texts, so
+    /// that laying it here again does not allocate.
     pub(crate) fn lay_first(&mut self, symbol: &str, width: usize) -> Result<(), AllocError>
         requires { 0 < length symbol.now }
-        ensures ok { OnOk result (self.new ≡ record self.old { laid = record { symbol = symbol.now; width = width; offset = 0 } }) }
+        ensures ok { OnOk result (self.new ≡ record self.old {
+          laid = record { symbol = symbol.now; width = width; offset = 0 };
+        }) }
         ensures err { OnErr result (self.new.shown ≡ self.old.shown) }
     {
         if symbol == " " && width == 1 {
@@ -79,10 +85,12 @@ impl Column {
         Ok(())
     }
 
-    /// Lays a later column of a symbol.
+    /// Lays a later column of a symbol of `width` columns, `offset` columns after its first.
     pub(crate) fn lay_later(&mut self, width: usize, offset: usize)
         requires { 0 < offset }
-        ensures { self.new ≡ record self.old { laid = record { symbol = []; width = width; offset = offset } } }
+        ensures { self.new ≡ record self.old {
+          laid = record { symbol = []; width = width; offset = offset };
+        } }
     {
         self.next_symbol.clear();
         self.next_width = width;
@@ -98,7 +106,7 @@ impl Column {
         self.next_offset = 0;
     }
 
-    /// Shows what was laid, and keeps what was shown in its place.
+    /// Swaps the visible and the laid cell.
     pub(crate) fn show(&mut self)
         ensures { self.new ≡ record { shown = self.old.laid; laid = self.old.shown } }
     {
@@ -107,7 +115,7 @@ impl Column {
         mem::swap(&mut self.offset, &mut self.next_offset);
     }
 
-    /// The symbol that is shown, nothing at a later column of one.
+    /// Returns the visible symbol, or the empty text at a later column of one.
     pub(crate) fn symbol(&self) -> &str
         ensures { result.now ≡ self.now.shown.symbol }
     {
@@ -118,7 +126,7 @@ impl Column {
         }
     }
 
-    /// The symbol that is shown and begins here, if one does.
+    /// Returns the visible symbol that begins here, if one does.
     pub(crate) fn first_symbol(&self) -> Option<&str>
         ensures { option_map (λ s. s.now) result ≡ symbol_of self.now.shown }
     {
@@ -129,14 +137,14 @@ impl Column {
         }
     }
 
-    /// How many columns are shown from this one on to the end of its symbol.
+    /// Returns the number of columns from this one to the end of its visible symbol.
     pub(crate) fn columns_left(&self) -> usize
         ensures { result ≡ self.now.shown.width - self.now.shown.offset }
     {
         self.width.saturating_sub(self.offset)
     }
 
-    /// How many columns of the symbol that is shown are before this one.
+    /// Returns the number of columns of the visible symbol before this one.
     pub(crate) fn offset(&self) -> usize
         ensures { result ≡ self.now.shown.offset }
     {

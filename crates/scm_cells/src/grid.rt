@@ -1,37 +1,37 @@
-//! A grid of cells, as a screen shows it.
+//! A grid of cells, the content of a screen.
 ghost use Rattle.std.specs.Prelude.{◌≡◌, ◌+◌, ◌<◌, ◌≤◌, IfOk, IfErr, OnOk, OnErr, length, option_map, string_bytes};
 ghost use Rattle.scm_cells.specs.Clusters.{text_width};
-ghost use Rattle.scm_cells.specs.Ruled.{cut_left};
+ghost use Rattle.scm_cells.specs.FrameText.{fast_clusters_left};
 ghost use Rattle.scm_cells.specs.Laying.{columns_of};
 ghost use Rattle.scm_cells.specs.Counts.{one_row, one_call};
-ghost use Rattle.scm_cells.specs.Screen.{IsScreen, blank_screen, counted, put_on, view_of};
+ghost use Rattle.scm_cells.specs.Screen.{IsScreen, blank_screen, after_count, put_on, view_of};
 ghost use Rattle.scm_cells.specs.Symbols.{symbol_at};
 ghost use Rattle.scm_errors.specs.declared.error.RecordError.TheVariants.{OutOfMemory};
 
 use crate::column::Column;
-use crate::cutting::Cut;
+use crate::fast_clusters::FastClusters;
 use crate::row;
 use scm_errors::RecordError;
-use std::alloc::Global;
+use std::alloc::{AllocError, Global};
 use std::marker::Model;
 
-/// Rows of symbols, whose columns and rows count from 0. A row has as many columns as the grid is
-/// wide, and is a list of whole symbols, each of which takes as many of them as it has. Whoever draws a
-/// document counts here how much of it was drawn.
+/// Rows of symbols; rows and columns are counted from 0. Each row consists of whole symbols, whose
+/// widths sum to the width of the grid. The grid also counts rows of a document and draw calls, for
+/// whoever draws into it.
 #[derive(Drop)]
 pub struct Grid {
     alloc: Global,
 
-    /// How many columns each row has.
+    /// The number of columns of each row.
     width: usize,
 
     /// The columns of each row, from the top.
     rows: Vec<Vec<Column>>,
 
-    /// How many rows of a document were drawn.
+    /// The number of rows of a document that were drawn.
     rows_drawn: usize,
 
-    /// How many calls drew.
+    /// The number of draw calls.
     calls: usize,
 }
 
@@ -47,7 +47,10 @@ impl Model for Grid {
 }
 
 impl Grid {
-    /// A grid of spaces.
+    /// Returns a grid of spaces.
+    ///
+    /// # Errors
+    /// `OutOfMemory`: an allocation failed.
     pub fn new(alloc: Global, width: u16, height: u16) -> Result<Grid, RecordError>
         ensures ok { IfOk result (λ grid. grid ≡ blank_screen width height) }
         ensures err { IfErr result (λ e. e ≡ OutOfMemory) }
@@ -67,7 +70,7 @@ impl Grid {
         })
     }
 
-    /// How many columns each row has.
+    /// Returns the number of columns of each row.
     pub fn width(&self) -> usize
         ensures value { result ≡ self.now.width }
         ensures sizes { IsScreen self.now }
@@ -75,7 +78,7 @@ impl Grid {
         self.width
     }
 
-    /// How many rows there are.
+    /// Returns the number of rows.
     pub fn height(&self) -> usize
         ensures value { result ≡ length self.now.rows }
         ensures sizes { IsScreen self.now }
@@ -83,37 +86,37 @@ impl Grid {
         self.rows.len()
     }
 
-    /// How many rows of a document were drawn since the grid was made or cleared.
+    /// Returns the number of rows of a document that were counted since `new` or the last `clear`.
     pub fn rows_drawn(&self) -> usize
         ensures { result ≡ self.now.counts.rows }
     {
         self.rows_drawn
     }
 
-    /// How many calls drew since the grid was made or cleared.
+    /// Returns the number of draw calls that were counted since `new` or the last `clear`.
     pub fn calls(&self) -> usize
         ensures { result ≡ self.now.counts.calls }
     {
         self.calls
     }
 
-    /// Counts a row of a document. The greatest count is kept.
-    #[tactic(auto, unfolding(crate::specs::Counts::added, crate::specs::Counts::raised_by))]
+    /// Counts one row of a document, saturating.
+    #[tactic(auto, unfolding(crate::specs::Counts::added, crate::specs::Counts::saturating_plus))]
     pub fn add_row(&mut self)
-        ensures { self.new ≡ counted self.old one_row }
+        ensures { self.new ≡ after_count self.old one_row }
     {
         self.rows_drawn = self.rows_drawn.saturating_add(1);
     }
 
-    /// Counts a call that draws. The greatest count is kept.
-    #[tactic(auto, unfolding(crate::specs::Counts::added, crate::specs::Counts::raised_by))]
+    /// Counts one draw call, saturating.
+    #[tactic(auto, unfolding(crate::specs::Counts::added, crate::specs::Counts::saturating_plus))]
     pub fn add_call(&mut self)
-        ensures { self.new ≡ counted self.old one_call }
+        ensures { self.new ≡ after_count self.old one_call }
     {
         self.calls = self.calls.saturating_add(1);
     }
 
-    /// Makes every column a space and both counts 0, and keeps the room for symbols.
+    /// Makes every column a space and both counts 0. Keeps the memory of the symbols.
     pub fn clear(&mut self)
         ensures { self.new ≡ blank_screen self.old.width (length self.old.rows) }
     {
@@ -124,11 +127,13 @@ impl Grid {
         }
     }
 
-    /// Puts a text on a row: its clusters stand one after another from a column on, which may be
-    /// before the first. Those that end by the column `low` are left out, one that goes on past it
-    /// gives spaces from there, and the text ends before the first later one that would pass the
-    /// column `high`. Of a symbol that is covered in part the other columns become spaces. Other
-    /// columns and rows stay, and the counts. Where memory is refused the grid stays as it was.
+    /// Puts a text on a row, its clusters side by side from `column`, which may be negative. Clips
+    /// it to the columns `low..high`. A cluster that crosses `low` becomes spaces. The text ends
+    /// before the first cluster that would cross `high`. The other columns of a symbol that is
+    /// covered in part become spaces.
+    ///
+    /// # Errors
+    /// `OutOfMemory`: an allocation failed; the grid is unchanged.
     pub fn put(
         &mut self,
         row: usize,
@@ -147,8 +152,11 @@ impl Grid {
         Ok(())
     }
 
-    /// Puts a text as `put` does, and measures it whole, also where it goes on past the limits; how
-    /// many columns it takes.
+    /// Puts a text like `put`. Returns the width of the whole text in columns, with its clipped
+    /// parts.
+    ///
+    /// # Errors
+    /// `OutOfMemory`: an allocation failed; the grid is unchanged.
     pub fn put_measured(
         &mut self,
         row: usize,
@@ -168,7 +176,8 @@ impl Grid {
         Ok(before + rest.columns_left())
     }
 
-    /// Puts a text; its clusters that are left, and how many columns those before them have.
+    /// Puts a text like `put`. Returns its remaining clusters, and the width of the clusters before
+    /// them.
     fn put_text<'a>(
         &mut self,
         row: usize,
@@ -176,21 +185,21 @@ impl Grid {
         text: &'a str,
         low: usize,
         high: usize,
-    ) -> Result<(Cut<'a>, usize), RecordError>
+    ) -> Result<(FastClusters<'a>, usize), AllocError>
         requires row { row < length self.old.rows }
         requires high { high ≤ self.old.width }
         ensures ok { OnOk result (self.new ≡ put_on self.old row column text.now low high) }
-        ensures taken { IfOk result (λ r. text_width text.now ≡ r.1 + columns_of (cut_left r.0)) }
+        ensures taken { IfOk result (λ r.
+            text_width text.now ≡ r.1 + columns_of (fast_clusters_left r.0)) }
         ensures unchanged { OnErr result (self.new ≡ self.old) }
-        ensures err { IfErr result (λ e. e ≡ OutOfMemory) }
     {
         let columns = &mut self.rows[row];
         let rest = row::put_row(columns.as_mut_slice(), column, text, low, high)?;
         Ok(rest)
     }
 
-    /// The symbol that begins at a row and column, if one does: none begins at a later column of a
-    /// symbol that takes more than one, nor past the last row and column.
+    /// Returns the symbol that begins at `row` and `column`. Returns `None` at a later column of a
+    /// wide symbol, and outside the grid.
     pub fn symbol(&self, row: usize, column: usize) -> Option<&str>
         ensures { option_map (λ s. s.now) result ≡ symbol_at self.now.rows row column }
     {
@@ -198,8 +207,11 @@ impl Grid {
         row::symbol_in(columns.as_slice(), column)
     }
 
-    /// The rows as text: for each a quote, its symbols, a quote and a newline. A grid without columns
-    /// gives the empty text.
+    /// Returns the rows as text: for each row a quote, its symbols, a quote and a newline. The text
+    /// of a grid without columns is empty.
+    ///
+    /// # Errors
+    /// `OutOfMemory`: an allocation failed.
     pub fn view(&self) -> Result<String, RecordError>
         ensures ok { IfOk result (λ text. string_bytes text ≡ view_of self.now.rows) }
         ensures err { IfErr result (λ e. e ≡ OutOfMemory) }

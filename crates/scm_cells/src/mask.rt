@@ -1,22 +1,27 @@
-//! Masks: rectangles that may be open to the right and below.
+//! Masks: clip rectangles that may be open to the right and below.
 ghost use Rattle.std.specs.Prelude.{◌≡◌, ℤ, ◌↔◌, Some};
 ghost use Rattle.scm_cells.specs.Rect.{RectInRange, HasPoint};
 ghost use Rattle.scm_cells.specs.Mask.{MaskInRange, InMask, apply_of, end_of, side_or};
 
 use crate::rect::{Rect, gap};
 
-/// A limit on what is drawn: the columns from `x` on, as many as `width`, and the rows from `y` on,
-/// as many as `height`. A side of `None` has no end.
+/// A clip rectangle of `width` columns from `x` and `height` rows from `y`. A side of `None` has no
+/// end.
 #[derive(Clone, Copy, Debug, Default, Eq, Hash, Ord, PartialEq, PartialOrd)]
 pub struct Mask {
+    /// The first column.
     pub x: isize,
+    /// The first row.
     pub y: isize,
+    /// The number of columns, or `None` without an end.
     pub width: Option<usize>,
+    /// The number of rows, or `None` without an end.
     pub height: Option<usize>,
 }
 
 impl From<Rect> for Mask {
-    ghost from_gives = { λ r m. (m.x ≡ r.x) × (m.y ≡ r.y) × (m.width ≡ Some r.width) × (m.height ≡ Some r.height) };
+    ghost from_gives = { λ r m.
+        (m.x ≡ r.x) × (m.y ≡ r.y) × (m.width ≡ Some r.width) × (m.height ≡ Some r.height) };
 
     fn from(rect: Rect) -> Mask {
         Mask {
@@ -28,7 +33,7 @@ impl From<Rect> for Mask {
     }
 }
 
-/// A side of the mask that begins at `from`, or as far as `end`.
+/// Returns the length of a side of the mask that begins at `from`. An open side reaches to `end`.
 fn side(side: Option<usize>, from: isize, end: isize) -> usize
     ensures { result ≡ side_or side from end }
 {
@@ -39,7 +44,7 @@ fn side(side: Option<usize>, from: isize, end: isize) -> usize
 }
 
 impl Mask {
-    /// The first column after the mask, if it has an end.
+    /// Returns the first column after the mask, or `None` if the mask has no end.
     pub fn end_x(self) -> Option<isize>
         requires { MaskInRange self }
         ensures { result ≡ end_of self.x self.width }
@@ -50,7 +55,7 @@ impl Mask {
         }
     }
 
-    /// The first row below the mask, if it has an end.
+    /// Returns the first row below the mask, or `None` if the mask has no end.
     pub fn end_y(self) -> Option<isize>
         requires { MaskInRange self }
         ensures { result ≡ end_of self.y self.height }
@@ -61,8 +66,7 @@ impl Mask {
         }
     }
 
-    /// The part of the rectangle that the mask lets through, where both are in range: a cell is in it
-    /// exactly if it is in the rectangle and the mask lets it through.
+    /// Returns the part of `rect` that the mask lets through.
     pub fn apply(self, rect: Rect) -> Rect
         requires mask { MaskInRange self }
         requires rect { RectInRange rect }

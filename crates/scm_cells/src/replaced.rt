@@ -1,5 +1,5 @@
-//! Lines as a screen can show them: characters that take no column, or that a terminal acts on, are
-//! replaced by others.
+//! Replacements for characters that a screen cannot show: control characters, and characters of
+//! width 0.
 ghost use Rattle.std.specs.Prelude.{◌≡◌, ◌++◌, ◌∷◌, [], ◌+◌, ◌<◌, ◌≤◌, length, encode_utf8, option_map, IfNone, IfSome, OnOk, OnErr, IfErr, vec_len, vec_capacity};
 ghost use Rattle.scm_cells.specs.Replaced.{replacement, line_pieces, last_piece};
 ghost use Rattle.scm_cells.specs.Spans.{span_texts};
@@ -10,7 +10,7 @@ use crate::text::Span;
 use scm_errors::RecordError;
 use unicode_width::UnicodeWidthChar;
 
-/// The picture of an ASCII control character.
+/// Returns the Unicode picture of the ASCII control character `code`.
 fn picture(code: u32) -> &'static str
     requires { code < 32 }
     ensures { result.now ≡ encode_utf8 (0x2400 + code) }
@@ -52,9 +52,9 @@ fn picture(code: u32) -> &'static str
     }
 }
 
-/// What stands for a character that a screen cannot show: an arrow and three spaces for a tab, `⏎`
-/// for a newline, the Unicode picture of any other ASCII control character, and U+FFFD for any
-/// other character that takes no column. `None` for one that stays.
+/// Returns the replacement of a character that a screen cannot show, and `None` for any other. A
+/// tab becomes an arrow and three spaces, and a newline becomes `⏎`. Another ASCII control
+/// character becomes its Unicode picture. Another character of width 0 becomes U+FFFD.
 #[tactic(auto, unfolding(crate::specs::Replaced::replacement))]
 pub fn replace_control_character(character: char) -> Option<&'static str>
     ensures { option_map (λ s. s.now) result ≡ replacement character }
@@ -77,11 +77,12 @@ pub fn replace_control_character(character: char) -> Option<&'static str>
     }
 }
 
-/// The text before the first replaced character, what stands for it, and the text after it. Printable
-/// ASCII, of which nothing is replaced, is passed byte by byte.
+/// Returns the text before the first replaced character, its replacement, and the text after it.
+/// Returns `None` if no character is replaced. Skips the printable ASCII at the start byte by byte.
 fn cut_at_replaced(line: &str) -> Option<(&str, &'static str, &str)>
     ensures none { IfNone result (line_pieces line.now ≡ last_piece line.now) }
-    ensures some { IfSome result (λ cut. line_pieces line.now ≡ cut.0.now ∷ (cut.1.now ∷ line_pieces cut.2.now)) }
+    ensures some { IfSome result (λ cut.
+        line_pieces line.now ≡ cut.0.now ∷ (cut.1.now ∷ line_pieces cut.2.now)) }
     ensures shorter { IfSome result (λ cut. length cut.2.now < length line.now) }
 {
     let mut read = count_printable(line);
@@ -95,7 +96,7 @@ fn cut_at_replaced(line: &str) -> Option<(&str, &'static str, &str)>
     None
 }
 
-/// How many spans a line makes.
+/// Returns the number of spans that `push_spans_from_line` adds for the line.
 fn count_pieces(line: &str) -> usize
     ensures { result ≡ length (line_pieces line.now) }
 {
@@ -108,7 +109,7 @@ fn count_pieces(line: &str) -> usize
     if line.is_empty() { count } else { count + 1 }
 }
 
-/// Adds a span, for which the list has room.
+/// Adds a span to a list with spare capacity.
 fn push_within<'a>(spans: &mut Vec<Span<'a>>, text: &'a str)
     requires { vec_len spans.old < vec_capacity spans.old }
     ensures texts { span_texts spans.new.items ≡ span_texts spans.old.items ++ text.now ∷ [] }
@@ -121,12 +122,14 @@ fn push_within<'a>(spans: &mut Vec<Span<'a>>, text: &'a str)
     }
 }
 
-/// Adds the spans of a line to the list, where each replaced character stands as a span of its
-/// own: the text before it (which may be empty), what stands for it, and at the end the rest, if
-/// there is any. The list has room for all of them before the first is added, so where memory
-/// is refused it stays as it was.
+/// Adds the spans of a line to the list. Each replaced character adds the text before it, which may
+/// be empty, and its replacement. The rest of the line follows, unless it is empty.
+///
+/// # Errors
+/// `OutOfMemory`: an allocation failed; the list is unchanged.
 pub fn push_spans_from_line<'a>(line: &'a str, spans: &mut Vec<Span<'a>>) -> Result<(), RecordError>
-    ensures ok { OnOk result (span_texts spans.new.items ≡ span_texts spans.old.items ++ line_pieces line.now) }
+    ensures ok { OnOk result (
+        span_texts spans.new.items ≡ span_texts spans.old.items ++ line_pieces line.now) }
     ensures unchanged { OnErr result (spans.new.items ≡ spans.old.items) }
     ensures err { IfErr result (λ e. e ≡ OutOfMemory) }
 {

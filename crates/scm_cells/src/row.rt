@@ -1,20 +1,20 @@
-//! A row of the grid: what a text put on it makes of its columns.
+//! A row of the grid as columns, and how a text is put on it.
 ghost use Rattle.std.specs.Prelude.{◌≡◌, IsTrue, is_some, ◌+◌, ◌-◌, ◌^◌, ◌<◌, ◌≤◌, ◌++◌, pos, IfOk, OnOk, OnErr, length, map, take, slice_range, replicate, min, option_map, string_bytes};
 ghost use Rattle.std.specs.Int.{int_max};
 ghost use Rattle.scm_cells.specs.Rect.{or_zero};
 ghost use Rattle.scm_cells.specs.Cell.{blank, shown, laid};
 ghost use Rattle.scm_cells.specs.Clusters.{text_width};
 ghost use Rattle.scm_cells.specs.Row.{IsWhole, cells_of, later_cells, whole_before, whole_after, overlay, put, row_text};
-ghost use Rattle.scm_cells.specs.Ruled.{cut_left};
+ghost use Rattle.scm_cells.specs.FrameText.{fast_clusters_left};
 ghost use Rattle.scm_cells.specs.Symbols.{symbol_in};
 ghost use Rattle.scm_cells.specs.Laying.{fit, columns_of, IsPassed, IsBegun};
 
 use crate::column::Column;
-use crate::cutting::Cut;
+use crate::fast_clusters::FastClusters;
 use crate::text::{NextCluster, Rest};
 use std::alloc::{AllocError, Global};
 
-/// A row of spaces.
+/// Returns a row of `width` spaces.
 pub(crate) fn blank_row(alloc: Global, width: usize) -> Result<Vec<Column>, AllocError>
     ensures { IfOk result (λ row. map shown row.items ≡ replicate width blank) }
 {
@@ -25,7 +25,7 @@ pub(crate) fn blank_row(alloc: Global, width: usize) -> Result<Vec<Column>, Allo
     Ok(row)
 }
 
-/// Shows a space in each column.
+/// Makes each visible cell a space.
 pub(crate) fn clear_row(columns: &mut [Column])
     ensures { map shown columns.new ≡ replicate (length columns.old) blank }
 {
@@ -34,7 +34,7 @@ pub(crate) fn clear_row(columns: &mut [Column])
     }
 }
 
-/// Blanks the symbols that went on past the end, unless it is known that none did.
+/// Replaces a symbol that is cut by the end of `columns` by spaces. Does nothing if `is_whole`.
 fn mend_before(columns: &mut [Column], is_whole: bool)
     requires { IsTrue is_whole → whole_before (map shown columns.old) ≡ map shown columns.old }
     ensures { map shown columns.new ≡ whole_before (map shown columns.old) }
@@ -51,7 +51,7 @@ fn mend_before(columns: &mut [Column], is_whole: bool)
     }
 }
 
-/// Blanks what is left of the symbols that began before the first column, unless it is known that none did.
+/// Replaces a symbol that begins before `columns` by spaces. Does nothing if `is_whole`.
 fn mend_after(columns: &mut [Column], is_whole: bool)
     requires { IsTrue is_whole → whole_after 0 (map shown columns.old) ≡ map shown columns.old }
     ensures { map shown columns.new ≡ whole_after 0 (map shown columns.old) }
@@ -68,7 +68,7 @@ fn mend_after(columns: &mut [Column], is_whole: bool)
     }
 }
 
-/// Shows what was laid on each column.
+/// Makes the laid cell of each column visible.
 fn show_all(columns: &mut [Column])
     ensures { map shown columns.new ≡ map laid columns.old }
 {
@@ -77,7 +77,7 @@ fn show_all(columns: &mut [Column])
     }
 }
 
-/// Lays spaces.
+/// Lays a space on each column.
 fn lay_blanks(columns: &mut [Column])
     ensures shown { map shown columns.new ≡ map shown columns.old }
     ensures laid { map laid columns.new ≡ replicate (length columns.old) blank }
@@ -87,7 +87,7 @@ fn lay_blanks(columns: &mut [Column])
     }
 }
 
-/// Lays the later columns of a symbol.
+/// Lays the columns of a symbol of `width` columns after its first.
 fn lay_rest(columns: &mut [Column], width: usize)
     requires { length columns.old + 1 ≡ width }
     ensures shown { map shown columns.new ≡ map shown columns.old }
@@ -100,7 +100,7 @@ fn lay_rest(columns: &mut [Column], width: usize)
     }
 }
 
-/// Lays a symbol on the columns that it takes.
+/// Lays a symbol over all of `columns`.
 fn lay_symbol(columns: &mut [Column], symbol: &str) -> Result<(), AllocError>
     requires symbol { 0 < length symbol.now }
     requires width { 0 < length columns.old }
@@ -113,17 +113,17 @@ fn lay_symbol(columns: &mut [Column], symbol: &str) -> Result<(), AllocError>
     Ok(())
 }
 
-/// What laying clusters on a row came to.
+/// The outcome of laying clusters on a row.
 #[derive(Clone, Copy)]
 struct Laid {
-    /// The column after the last that was laid.
+    /// The first column after the laid clusters.
     end: usize,
 
-    /// How many columns the clusters have that were taken, with the one that had no room.
+    /// The width of the clusters that were read, with the one that did not fit.
     taken: usize,
 }
 
-/// Lays the clusters that have room, from a column on, up to the first one that has not.
+/// Lays clusters from the column `start`, up to the first that does not fit.
 fn lay_each<'a, C: NextCluster<'a>>(
     columns: &mut [Column],
     clusters: &mut C,
@@ -133,8 +133,11 @@ fn lay_each<'a, C: NextCluster<'a>>(
     requires few { columns_of (C.left clusters.old) < 2 ^ 64 }
     ensures shown { map shown columns.new ≡ map shown columns.old }
     ensures within { IfOk result (λ r. r.end ≤ length columns.old) }
-    ensures laid { IfOk result (λ r. map laid (take r.end columns.new) ≡ map laid (take start columns.old) ++ fit (length columns.old - start) (C.left clusters.old)) }
-    ensures taken { IfOk result (λ r. columns_of (C.left clusters.old) ≡ r.taken + columns_of (C.left clusters.new)) }
+    ensures laid { IfOk result (λ r. map laid (take r.end columns.new)
+        ≡ map laid (take start columns.old)
+        ++ fit (length columns.old - start) (C.left clusters.old)) }
+    ensures taken { IfOk result (λ r.
+        columns_of (C.left clusters.old) ≡ r.taken + columns_of (C.left clusters.new)) }
 {
     let mut end = start;
     'clusters: while let Some((symbol, width)) = clusters.next_cluster() {
@@ -149,36 +152,40 @@ fn lay_each<'a, C: NextCluster<'a>>(
     Ok(Laid { end, taken })
 }
 
-/// Lays the clusters that have room, in a loop of its own for each of the ways to cut a text: one loop
-/// that chose at each cluster would be slower.
+/// Lays clusters like `lay_each`, with one loop per kind of text. A single loop that chooses at
+/// each cluster is slower.
 #[tactic(auto, unfolding(crate::specs::Clusters::clusters_left))]
 fn lay_clusters(
     columns: &mut [Column],
-    clusters: &mut Cut<'_>,
+    clusters: &mut FastClusters<'_>,
     start: usize,
 ) -> Result<Laid, AllocError>
     requires start { start ≤ length columns.old }
-    requires few { columns_of (cut_left clusters.old) < 2 ^ 64 }
+    requires few { columns_of (fast_clusters_left clusters.old) < 2 ^ 64 }
     ensures shown { map shown columns.new ≡ map shown columns.old }
     ensures within { IfOk result (λ r. r.end ≤ length columns.old) }
-    ensures laid { IfOk result (λ r. map laid (take r.end columns.new) ≡ map laid (take start columns.old) ++ fit (length columns.old - start) (cut_left clusters.old)) }
-    ensures taken { IfOk result (λ r. columns_of (cut_left clusters.old) ≡ r.taken + columns_of (cut_left clusters.new)) }
+    ensures laid { IfOk result (λ r. map laid (take r.end columns.new)
+        ≡ map laid (take start columns.old)
+        ++ fit (length columns.old - start) (fast_clusters_left clusters.old)) }
+    ensures taken { IfOk result (λ r. columns_of (fast_clusters_left clusters.old)
+        ≡ r.taken + columns_of (fast_clusters_left clusters.new)) }
 {
     match clusters {
-        Cut::Ruled(text) => lay_each(columns, text, start),
-        Cut::Clusters(text) => match &mut text.rest {
+        FastClusters::FrameText(text) => lay_each(columns, text, start),
+        FastClusters::Clusters(text) => match &mut text.rest {
             Rest::Bytes(text) => lay_each(columns, text, start),
             Rest::Graphemes(pieces) => lay_each(columns, pieces, start),
         },
     }
 }
 
-/// Passes over the clusters that begin within so many columns before a limit; how many columns they
-/// take.
-fn pass_over(clusters: &mut Cut<'_>, columns: usize) -> usize
-    requires few { columns_of (cut_left clusters.old) < 2 ^ 64 }
-    ensures passed { IsPassed columns (cut_left clusters.old) (result - columns) (cut_left clusters.new) }
-    ensures taken { columns_of (cut_left clusters.old) ≡ result + columns_of (cut_left clusters.new) }
+/// Skips the clusters that begin within the next `columns` columns. Returns their width.
+fn pass_over(clusters: &mut FastClusters<'_>, columns: usize) -> usize
+    requires few { columns_of (fast_clusters_left clusters.old) < 2 ^ 64 }
+    ensures passed { IsPassed columns (fast_clusters_left clusters.old)
+        (result - columns) (fast_clusters_left clusters.new) }
+    ensures taken { columns_of (fast_clusters_left clusters.old)
+        ≡ result + columns_of (fast_clusters_left clusters.new) }
 {
     let mut passed = 0;
     'clusters: while passed < columns {
@@ -190,26 +197,28 @@ fn pass_over(clusters: &mut Cut<'_>, columns: usize) -> usize
     passed
 }
 
-/// Where the first clusters of a text that are not before the low limit stand.
+/// Where the clipped text begins on the row.
 #[derive(Clone, Copy)]
 struct Start {
     /// The first column that is written.
     from: usize,
 
-    /// How many spaces are written there, for a cluster that crosses the limit.
+    /// The number of spaces for a cluster that crosses the low limit.
     blanks: usize,
 
-    /// How many columns the clusters have that begin before the limit.
+    /// The width of the clusters that begin before the low limit.
     passed: usize,
 }
 
-/// Passes over the clusters that begin before the low limit, where the first is laid at a column.
-fn begin(clusters: &mut Cut<'_>, column: isize, low: usize) -> Start
+/// Skips the clusters that begin before the column `low`, if the first begins at `column`.
+fn begin(clusters: &mut FastClusters<'_>, column: isize, low: usize) -> Start
     requires low { low < 2 ^ 63 }
-    requires few { columns_of (cut_left clusters.old) < 2 ^ 64 }
+    requires few { columns_of (fast_clusters_left clusters.old) < 2 ^ 64 }
     ensures from { result.from ≡ or_zero (int_max column (pos low)) }
-    ensures begun { IsBegun column low (cut_left clusters.old) result.from result.blanks (cut_left clusters.new) }
-    ensures taken { columns_of (cut_left clusters.old) ≡ result.passed + columns_of (cut_left clusters.new) }
+    ensures begun { IsBegun column low (fast_clusters_left clusters.old)
+        result.from result.blanks (fast_clusters_left clusters.new) }
+    ensures taken { columns_of (fast_clusters_left clusters.old)
+        ≡ result.passed + columns_of (fast_clusters_left clusters.new) }
 {
     let limit = low as isize;
     if column < limit {
@@ -229,20 +238,21 @@ fn begin(clusters: &mut Cut<'_>, column: isize, low: usize) -> Start
     }
 }
 
-/// Whether a symbol begins at the column.
+/// Returns whether a symbol begins at `column`.
 fn is_start(columns: &[Column], column: usize) -> bool
     ensures { result ≡ is_some (symbol_in (map shown columns.now) column) }
 {
     symbol_in(columns, column).is_some()
 }
 
-/// Shows what was laid on some columns, over what stood there. Where a symbol begins, none goes on from
-/// before, so the columns beside are looked at one by one only where a symbol is covered in part.
+/// Makes the laid cells of `from..end` visible. The other columns of a symbol that they cover in
+/// part become spaces. Reads the columns beside only if `from` or `end` is inside a symbol.
 fn show_between(columns: &mut [Column], from: usize, end: usize)
     requires from { from ≤ end }
     requires end { end ≤ length columns.old }
     requires whole { IsWhole (map shown columns.old) }
-    ensures { map shown columns.new ≡ overlay (map shown columns.old) from (map laid (slice_range columns.old from end)) }
+    ensures { map shown columns.new
+        ≡ overlay (map shown columns.old) from (map laid (slice_range columns.old from end)) }
 {
     if from < end {
         let is_from_start = is_start(columns, from);
@@ -255,34 +265,44 @@ fn show_between(columns: &mut [Column], from: usize, end: usize)
     }
 }
 
-/// Lays spaces and then clusters, as far as there are columns.
-fn lay(columns: &mut [Column], blanks: usize, clusters: &mut Cut<'_>) -> Result<Laid, AllocError>
-    requires few { columns_of (cut_left clusters.old) < 2 ^ 64 }
+/// Lays `blanks` spaces and then clusters, as far as they fit.
+fn lay(
+    columns: &mut [Column],
+    blanks: usize,
+    clusters: &mut FastClusters<'_>,
+) -> Result<Laid, AllocError>
+    requires few { columns_of (fast_clusters_left clusters.old) < 2 ^ 64 }
     ensures shown { map shown columns.new ≡ map shown columns.old }
     ensures within { IfOk result (λ r. r.end ≤ length columns.old) }
-    ensures laid { IfOk result (λ r. map laid (take r.end columns.new) ≡ replicate (min blanks (length columns.old)) blank ++ fit (length columns.old - blanks) (cut_left clusters.old)) }
-    ensures taken { IfOk result (λ r. columns_of (cut_left clusters.old) ≡ r.taken + columns_of (cut_left clusters.new)) }
+    ensures laid { IfOk result (λ r. map laid (take r.end columns.new)
+        ≡ replicate (min blanks (length columns.old)) blank
+        ++ fit (length columns.old - blanks) (fast_clusters_left clusters.old)) }
+    ensures taken { IfOk result (λ r. columns_of (fast_clusters_left clusters.old)
+        ≡ r.taken + columns_of (fast_clusters_left clusters.new)) }
 {
     let blanks = blanks.min(columns.len());
     lay_blanks(&mut columns[..blanks]);
     lay_clusters(columns, clusters, blanks)
 }
 
-/// Puts a text on the row; its clusters that are left, and how many columns those before them have.
+/// Puts a text on the row. Returns its remaining clusters, and the width of the clusters before
+/// them.
 pub(crate) fn put_row<'a>(
     columns: &mut [Column],
     column: isize,
     text: &'a str,
     low: usize,
     high: usize,
-) -> Result<(Cut<'a>, usize), AllocError>
+) -> Result<(FastClusters<'a>, usize), AllocError>
     requires high { high ≤ length columns.old }
     requires whole { IsWhole (map shown columns.old) }
-    ensures ok { OnOk result (map shown columns.new ≡ put (map shown columns.old) column text.now low high) }
+    ensures ok { OnOk result (
+        map shown columns.new ≡ put (map shown columns.old) column text.now low high) }
     ensures err { OnErr result (map shown columns.new ≡ map shown columns.old) }
-    ensures taken { IfOk result (λ r. text_width text.now ≡ r.1 + columns_of (cut_left r.0)) }
+    ensures taken { IfOk result (λ r.
+        text_width text.now ≡ r.1 + columns_of (fast_clusters_left r.0)) }
 {
-    let mut clusters = Cut::new(text);
+    let mut clusters = FastClusters::new(text);
     if low >= high {
         return Ok((clusters, 0));
     }
@@ -295,16 +315,18 @@ pub(crate) fn put_row<'a>(
     Ok((clusters, start.passed + laid.taken))
 }
 
-/// The symbol that begins at a column of the row, if one does.
+/// Returns the symbol that begins at `column`, if one does.
 pub(crate) fn symbol_in(columns: &[Column], column: usize) -> Option<&str>
     ensures { option_map (λ s. s.now) result ≡ symbol_in (map shown columns.now) column }
 {
     columns.get(column)?.first_symbol()
 }
 
-/// Adds the row's symbols between quotes, and a newline; nothing for a row without columns.
+/// Adds the symbols of the row between quotes, and a newline. Adds nothing for a row without
+/// columns.
 pub(crate) fn push_row(text: &mut String, columns: &[Column]) -> Result<(), AllocError>
-    ensures { OnOk result (string_bytes text.new ≡ string_bytes text.old ++ row_text (map shown columns.now)) }
+    ensures { OnOk result (
+        string_bytes text.new ≡ string_bytes text.old ++ row_text (map shown columns.now)) }
 {
     if columns.is_empty() {
         return Ok(());

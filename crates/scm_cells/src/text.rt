@@ -1,25 +1,25 @@
-//! The clusters of a text that a screen shows. A text is cut into extended grapheme clusters
-//! (Unicode Standard Annex 29), and a cluster takes the columns that a terminal gives it.
+//! The visible clusters of a text, which are extended grapheme clusters (Unicode Standard Annex
+//! 29). Each has the number of columns that a terminal uses for it.
 ghost use Rattle.std.specs.Prelude.{◌≡◌, List, ◌+◌, ◌*◌, ◌≤◌, ◌<◌, ◌^◌, length, chars, sum_by, IfSome};
 ghost use Rattle.std.specs.Iterator.{YieldsFirstBy, item_count};
 ghost use Rattle.unicode_segmentation.specs.Iter.{graphemes_left};
 ghost use Rattle.scm_cells.specs.Cluster.{Cluster, cluster, bytes_as_clusters};
-ghost use Rattle.scm_cells.specs.Clusters.{has_control, kept_width, kept, text_width};
+ghost use Rattle.scm_cells.specs.Clusters.{has_control, visible_width, visible_clusters, text_width};
 ghost use Rattle.scm_cells.specs.Laying.{columns_of};
 
 use crate::printable::{Printable, is_printable};
 use unicode_segmentation::{Graphemes, UnicodeSegmentation};
 use unicode_width::UnicodeWidthStr;
 
-/// A piece of text that is drawn in one go.
+/// A piece of text.
 #[derive(Clone, Copy, Debug, Eq, PartialEq)]
 pub struct Span<'a>(pub &'a str);
 
-/// Spans that stand one after another on a row.
+/// Spans side by side on one row.
 #[derive(Debug, Drop)]
 pub struct Line<'a>(pub Vec<Span<'a>>);
 
-/// Whether the text holds a control character.
+/// Returns whether the text has a control character.
 #[tactic(auto, unfolding(crate::specs::Clusters::has_control))]
 fn has_control(text: &str) -> bool
     ensures { result ≡ has_control text.now }
@@ -27,10 +27,10 @@ fn has_control(text: &str) -> bool
     text.chars().any(|c| c.is_control())
 }
 
-/// The columns of a cluster, if it is kept.
-#[tactic(auto, unfolding(crate::specs::Clusters::kept_width))]
-fn kept_width(piece: &str) -> Option<usize>
-    ensures value { result ≡ kept_width piece.now }
+/// Returns the width of a grapheme cluster in columns, or `None` if the cluster is dropped.
+#[tactic(auto, unfolding(crate::specs::Clusters::visible_width))]
+fn visible_width(piece: &str) -> Option<usize>
+    ensures value { result ≡ visible_width piece.now }
     ensures bound { IfSome result (λ width. width ≤ 2 * length piece.now) }
 {
     if has_control(piece) {
@@ -40,17 +40,17 @@ fn kept_width(piece: &str) -> Option<usize>
     if width == 0 { None } else { Some(width) }
 }
 
-/// A text that gives its clusters one after another.
+/// An iterator over the clusters of a text.
 pub(crate) trait NextCluster<'a>: Drop {
     ghost left: { Self → List Cluster };
 
-    /// The first cluster that is left, with its columns.
+    /// Returns the next cluster with its width in columns.
     fn next_cluster(&mut self) -> Option<(&'a str, usize)>
         ensures steps { YieldsFirstBy cluster left self.old result self.new }
         ensures bytes { IfSome result (λ c. 0 < length c.0.now) }
         ensures columns { IfSome result (λ c. 0 < c.1) };
 
-    /// How many columns the clusters that are left have.
+    /// Returns the width of the remaining clusters, in columns.
     fn columns_left(self) -> usize
         requires { columns_of (left self) < 2 ^ 64 }
         ensures { result ≡ columns_of (left self) };
@@ -74,23 +74,23 @@ impl<'a> NextCluster<'a> for Printable<'a> {
 }
 
 impl<'a> NextCluster<'a> for Graphemes<'a> {
-    ghost left = { λ pieces. kept (graphemes_left pieces) };
+    ghost left = { λ pieces. visible_clusters (graphemes_left pieces) };
 
-    #[tactic(auto, unfolding(crate::specs::Clusters::kept, crate::specs::Clusters::with_width))]
+    #[tactic(auto, unfolding(crate::specs::Clusters::visible_clusters, crate::specs::Clusters::with_width))]
     fn next_cluster(&mut self) -> Option<(&'a str, usize)> {
         'pieces: while let Some(piece) = self.next() {
-            if let Some(width) = kept_width(piece) {
+            if let Some(width) = visible_width(piece) {
                 return Some((piece, width));
             }
         }
         None
     }
 
-    #[tactic(auto, unfolding(crate::specs::Clusters::kept, crate::specs::Clusters::with_width))]
+    #[tactic(auto, unfolding(crate::specs::Clusters::visible_clusters, crate::specs::Clusters::with_width))]
     fn columns_left(self) -> usize {
         let mut width = 0;
         'pieces: for piece in self {
-            if let Some(columns) = kept_width(piece) {
+            if let Some(columns) = visible_width(piece) {
                 width += columns;
             }
         }
@@ -98,15 +98,17 @@ impl<'a> NextCluster<'a> for Graphemes<'a> {
     }
 }
 
-/// What is left of a text, by the way in which it is cut.
+/// The remaining text: one byte per cluster, or grapheme clusters.
 #[derive(Drop)]
 pub(crate) enum Rest<'a> {
+    /// Printable ASCII.
     Bytes(Printable<'a>),
+    /// Any other text.
     Graphemes(Graphemes<'a>),
 }
 
-/// The clusters of a text that a screen shows, each with the number of its columns. Dropped are
-/// clusters with a control character (U+0000 to U+001F, U+007F to U+009F) and those of width 0.
+/// An iterator over the visible clusters of a text, each with its width in columns. It drops
+/// clusters with a control character (U+0000 to U+001F, U+007F to U+009F) and clusters of width 0.
 #[derive(Drop)]
 pub struct Clusters<'a> {
     pub(crate) rest: Rest<'a>,
@@ -117,7 +119,7 @@ impl<'a> Clusters<'a> {
     ghost use Rattle.scm_cells.specs.Cluster.{IsNarrow};
     ghost use Rattle.scm_cells.specs.Clusters.{clusters, clusters_left};
 
-    /// The clusters of the text, none of which takes more than two columns a byte.
+    /// Returns an iterator over the clusters of `text`. A cluster has at most two columns per byte.
     pub fn new(text: &'a str) -> Clusters<'a>
         ensures clusters { clusters_left result ≡ clusters text.now }
         ensures narrow { All IsNarrow (clusters_left result) }
@@ -130,7 +132,7 @@ impl<'a> Clusters<'a> {
         Clusters { rest }
     }
 
-    /// Whether each byte that is left is known to be a cluster.
+    /// Returns whether each remaining byte is known to be a cluster.
     pub(crate) fn is_of_bytes(&self) -> bool {
         match self.rest {
             Rest::Bytes(_) => true,
@@ -138,7 +140,7 @@ impl<'a> Clusters<'a> {
         }
     }
 
-    /// How many columns the clusters that are left have.
+    /// Returns the width of the remaining clusters, in columns.
     #[tactic(auto, unfolding(crate::specs::Clusters::clusters_left))]
     pub(crate) fn columns_left(self) -> usize
         requires { columns_of (clusters_left self) < 2 ^ 64 }
@@ -169,7 +171,7 @@ impl<'a> Iterator for Clusters<'a> {
     }
 }
 
-/// How many columns a text takes: the sum over its kept clusters.
+/// Returns the width of a text in columns: the sum over its visible clusters.
 #[tactic(auto, unfolding(crate::specs::Clusters::text_width))]
 pub fn text_width(text: &str) -> usize
     ensures value { result ≡ text_width text.now }

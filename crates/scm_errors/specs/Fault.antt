@@ -1,8 +1,9 @@
--- The faults with which a selection ends, by their texts.
+-- The errors with which a selection ends, by their kinds and texts.
 use Rattle.std.specs.Prelude.{ℕ, List, Bool, false, Option, Some, None, string_bytes, bytes_eq, codes}
 use Rattle.scm_errors.specs.declared.error.RecordError.{RecordError}
 use Rattle.scm_errors.specs.declared.error.RecordError.TheVariants as errors
 
+-- an error other than an allocation failure, with its text
 pub data Fault : Type 0 where
   Cancelled : Fault
   SetUpTerminal : List ℕ → Fault
@@ -14,7 +15,7 @@ pub data Fault : Type 0 where
   Other : List ℕ → Fault
   Bug : List ℕ → Fault
 
--- the fault that an error is, none for running out of memory
+-- the fault of an error, or `None` for an allocation failure
 abbrev pub fault_of : RecordError → Option Fault
 fault_of errors.Cancelled = Some Cancelled
 fault_of (errors.SetUpTerminal text) = Some (SetUpTerminal (string_bytes text))
@@ -27,7 +28,7 @@ fault_of (errors.Other text) = Some (Other (string_bytes text))
 fault_of (errors.Bug text) = Some (Bug (string_bytes text))
 fault_of errors.OutOfMemory = None
 
--- a read was due, and no event was left
+-- whether a read failed because no events were left
 abbrev pub is_no_events_left : RecordError → Bool
 is_no_events_left (errors.ReadInput text) = bytes_eq (string_bytes text) (codes "no events left")
 is_no_events_left errors.Cancelled = false

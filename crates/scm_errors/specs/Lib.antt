@@ -1,2 +1,2 @@
--- the faults with which a selection ends
+-- the errors with which a selection ends, by their kinds and texts
 pub mod Fault

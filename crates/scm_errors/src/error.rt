@@ -1,4 +1,4 @@
-//! Why a selection ends without a state.
+//! The errors with which a selection ends.
 ghost use Rattle.std.specs.Prelude.{◌≡◌};
 ghost use Rattle.scm_errors.specs.declared.error.RecordError.TheVariants.{OutOfMemory};
 ghost use Rattle.scm_errors.specs.Fault.{is_no_events_left};
@@ -6,7 +6,7 @@ ghost use Rattle.scm_errors.specs.Fault.{is_no_events_left};
 use std::alloc::{AllocError, AllocFailed};
 use thiserror::Error;
 
-/// Why a selection ends without a state. Causes are texts: an error has no `source`.
+/// The reason why a selection ends without a state. Causes are texts: an error has no `source`.
 #[derive(Debug, Drop, Error)]
 pub enum RecordError {
     /// The user cancelled.
@@ -25,7 +25,7 @@ pub enum RecordError {
     #[error("failed to render new frame: {0}")]
     RenderFrame(String),
 
-    /// The input failed, or it has no more events.
+    /// The input failed, or it has no events left.
     #[error("failed to read user input: {0}")]
     ReadInput(String),
 
@@ -37,22 +37,23 @@ pub enum RecordError {
     #[error("failed to wrote file: {0}")]
     WriteFile(String),
 
-    /// Another cause.
+    /// Any other failure.
     #[error("{0}")]
     Other(String),
 
-    /// A fault of the selector itself.
+    /// A bug of the selector itself.
     #[error("bug: {0}")]
     Bug(String),
 
-    /// A request for memory was refused.
+    /// An allocation failed.
     #[error("out of memory")]
     OutOfMemory,
 }
 
 impl RecordError {
-    /// A read was due, and no event was left: how a run ends whose script neither accepts nor gives
-    /// up.
+    /// Returns whether a read failed because no events were left.
+    ///
+    /// A run ends so if its script neither accepts nor cancels.
     pub fn is_no_events_left(&self) -> bool
         ensures { result ≡ is_no_events_left self.now }
     {

@@ -1,4 +1,4 @@
-//! Why a selection ends without a state.
+//! The errors with which a selection ends.
 #![tactic(auto)]
 
 pub mod error;

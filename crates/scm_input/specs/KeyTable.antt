@@ -1,4 +1,4 @@
--- The key table: the event of each key with what is held, and of the mouse.
+-- The key table: the event of each key with its modifiers, and of each mouse action.
 use Prim.Native.String.{String}
 use Rattle.std.specs.Prelude.{ℕ, List, [], ◌∷◌, Bool, true, false, ◌&&◌, ◌==◌, codes, not, if◌then◌else◌}
 use Rattle.scm_input.specs.declared.events.Event.{Event}
@@ -14,35 +14,40 @@ use Rattle.scm_input.specs.declared.terminal.MouseEventKind.{MouseEventKind}
 use Rattle.scm_input.specs.declared.terminal.MouseEventKind.TheVariants as mouse
 use Rattle.scm_input.specs.declared.terminal.MouseEvent.{MouseEvent}
 use Rattle.scm_input.specs.declared.terminal.TerminalEvent.{TerminalEvent}
-use Rattle.scm_input.specs.declared.terminal.TerminalEvent.TheVariants as told
+use Rattle.scm_input.specs.declared.terminal.TerminalEvent.TheVariants as terminal
 
--- what is held: nothing, shift alone, control alone
+-- no modifier
 abbrev pub none : KeyModifiers
 none = record { shift = false; control = false; alt = false; other = false }
 
+-- only shift
 abbrev pub shift : KeyModifiers
 shift = record { shift = true; control = false; alt = false; other = false }
 
+-- only control
 abbrev pub control : KeyModifiers
 control = record { shift = false; control = true; alt = false; other = false }
 
--- the key of a character, which is written as a text of one
+-- the key of the first character of a text
 abbrev pub first_char : List ℕ → KeyCode
 first_char [] = key.Other
 first_char (c ∷ _) = key.Char c
 
+-- the key of a character, written as a string
 abbrev pub char : String → KeyCode
 char text = first_char (codes text)
 
--- a row: with exactly this held, this key is this event
+-- a row of the table: with exactly these modifiers, this key is this event
 pub record KeyRow : Type 0 where
-  pub held : KeyModifiers
+  pub modifiers : KeyModifiers
   pub code : KeyCode
   pub event : Event
 
+-- a row of the table
 abbrev pub on : KeyModifiers → KeyCode → Event → KeyRow
-on held code event = record { held = held; code = code; event = event }
+on modifiers code event = record { modifiers = modifiers; code = code; event = event }
 
+-- all rows of the table
 abbrev pub key_table : List KeyRow
 key_table =
     on none (char "q") QuitCancel
@@ -83,15 +88,17 @@ key_table =
     ∷ on none (char "e") EditCommitMessage
     ∷ []
 
--- whether exactly the same is held
+-- whether the two truth values are equal
 abbrev pub same_bool : Bool → Bool → Bool
 same_bool true b = b
 same_bool false b = not b
 
+-- whether exactly the same modifiers are held
 abbrev pub same_modifiers : KeyModifiers → KeyModifiers → Bool
 same_modifiers a b =
     (same_bool a.shift b.shift && same_bool a.control b.control) && (same_bool a.alt b.alt && same_bool a.other b.other)
 
+-- whether the two keys are equal
 abbrev pub same_key : KeyCode → KeyCode → Bool
 same_key (key.Char c) (key.Char d) = d == c
 same_key key.Up key.Up = true
@@ -105,25 +112,27 @@ same_key key.Esc key.Esc = true
 same_key key.Other key.Other = true
 same_key _ _ = false
 
--- the event of the first row that fits, else `None`
+-- the event of the first row that matches, or else `None`
 abbrev pub first_fit : List KeyRow → KeyModifiers → KeyCode → Event
-first_fit [] held code = None
-first_fit (row ∷ rows) held code =
-    if same_modifiers row.held held && same_key row.code code then row.event else first_fit rows held code
+first_fit [] modifiers code = None
+first_fit (row ∷ rows) modifiers code =
+    if same_modifiers row.modifiers modifiers && same_key row.code code then row.event else first_fit rows modifiers code
 
+-- the event of pressing a key
 abbrev pub event_of_press : KeyModifiers → KeyCode → Event
 event_of_press = first_fit key_table
 
--- a key counts only as it goes down
+-- the event of a key by the kind of the key event: only a press counts
 abbrev pub event_of_key_kind : KeyEventKind → KeyModifiers → KeyCode → Event
-event_of_key_kind Press held code = event_of_press held code
-event_of_key_kind Repeat held code = None
-event_of_key_kind Release held code = None
+event_of_key_kind Press modifiers code = event_of_press modifiers code
+event_of_key_kind Repeat modifiers code = None
+event_of_key_kind Release modifiers code = None
 
+-- the event of a key event
 abbrev pub event_of_key : KeyEvent → Event
 event_of_key e = event_of_key_kind e.kind e.modifiers e.code
 
--- the mouse, whatever is held: its wheel, and its left button as that goes down
+-- The event of the mouse at a row and column. Only the wheel and a press of the left button count.
 abbrev pub event_of_mouse_kind : MouseEventKind → ℕ → ℕ → Event
 event_of_mouse_kind mouse.ScrollUp row column = ScrollUp
 event_of_mouse_kind mouse.ScrollDown row column = ScrollDown
@@ -135,11 +144,12 @@ event_of_mouse_kind (mouse.Drag b) row column = None
 event_of_mouse_kind mouse.Moved row column = None
 event_of_mouse_kind mouse.Other row column = None
 
+-- the event of a mouse event, with any modifiers
 abbrev pub event_of_mouse : MouseEvent → Event
 event_of_mouse e = event_of_mouse_kind e.kind e.row e.column
 
--- the event of what a terminal tells
+-- the event of a terminal event
 abbrev pub event_of : TerminalEvent → Event
-event_of (told.Key e) = event_of_key e
-event_of (told.Mouse e) = event_of_mouse e
-event_of told.Other = None
+event_of (terminal.Key e) = event_of_key e
+event_of (terminal.Mouse e) = event_of_mouse e
+event_of terminal.Other = None

@@ -1,12 +1,12 @@
--- what an input gives
+-- the script of an input: reads and replies
 pub mod Script
--- the event of each key, and of the mouse
+-- the key table: the event of each key and mouse action
 pub mod KeyTable
--- the script of a testing input
-pub mod Testing
--- the script of a script input
-pub mod Scripted
+-- the script of a `TestingInput`
+pub mod TestingInput
+-- the script of a `ScriptInput`
+pub mod ScriptInput
 -- the store of screens
 pub mod Store
--- what the fields of a store stand for
-pub mod Stored
+-- the contents of a store from its fields
+pub mod StoreView

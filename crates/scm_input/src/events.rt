@@ -1,16 +1,16 @@
-//! What a user does, as the recorder is told of it.
+//! The events that a recorder handles.
 
-/// A place of the store of screens, to which a screenshot is taken.
+/// A slot of the store of screens, for one screenshot.
 #[derive(Clone, Copy, Debug, PartialEq, Eq)]
 pub struct TestingScreenshot {
-    /// The index of the place in its store, from 0.
+    /// The index of the slot in its store, counted from 0.
     pub place: usize,
 }
 
 impl TestingScreenshot {
     ghost use Rattle.std.specs.Prelude.{◌≡◌};
 
-    /// The event that takes a screenshot to this place.
+    /// Returns the event that takes a screenshot into this slot.
     pub fn event(&self) -> Event
         ensures { result ≡ Event.TakeScreenshot self.now }
     {
@@ -18,75 +18,75 @@ impl TestingScreenshot {
     }
 }
 
-/// One thing that a user does, or that the recorder tells itself to do.
+/// An action of the user, or one that the recorder queues itself.
 #[derive(Clone, Copy, Debug, PartialEq, Eq)]
 pub enum Event {
     /// Nothing.
     None,
-    /// Accept the changes as marked.
+    /// Accept the marks.
     QuitAccept,
-    /// Give up, or ask whether to where something would be lost.
+    /// Cancel. If changes would be lost, ask first.
     QuitCancel,
-    /// Give up as `QuitCancel` does, and at once while that is being asked.
+    /// Cancel as `QuitCancel` does, but at once if the quit dialog is open.
     QuitInterrupt,
-    /// Close what is open.
+    /// Close what is open, for example a dialog.
     QuitEscape,
-    /// Keep the text of the screen.
+    /// Store the text of the screen.
     TakeScreenshot(TestingScreenshot),
-    /// Clear the screen, and draw it anew.
+    /// Clear the screen and redraw it.
     Redraw,
-    /// Scroll so far that the selection shows.
+    /// Scroll until the selection is visible.
     EnsureSelectionInViewport,
     /// Scroll up by one row.
     ScrollUp,
     /// Scroll down by one row.
     ScrollDown,
-    /// Scroll up by the screen's rows.
+    /// Scroll up by the height of the screen.
     PageUp,
-    /// Scroll down by the screen's rows.
+    /// Scroll down by the height of the screen.
     PageDown,
-    /// Select the item before.
+    /// Select the previous item.
     FocusPrev,
-    /// Select the item before of the same kind.
+    /// Select the previous item of the same kind.
     FocusPrevSameKind,
-    /// Select an item half a screen up.
+    /// Select an item half a screen further up.
     FocusPrevPage,
-    /// Select the item after.
+    /// Select the next item.
     FocusNext,
-    /// Select the item after of the same kind.
+    /// Select the next item of the same kind.
     FocusNextSameKind,
-    /// Select an item half a screen down.
+    /// Select an item half a screen further down.
     FocusNextPage,
     /// Select the first item inside.
     FocusInner,
-    /// Select the item around, or fold.
+    /// Select the enclosing item, or fold.
     FocusOuter {
-        /// An expanded section is folded first, where it is selected.
+        /// Whether a selected, expanded section is folded first.
         fold_section: bool,
     },
-    /// Toggle what is selected.
+    /// Toggle the selected item.
     ToggleItem,
-    /// Toggle what is selected, and select the next item of its kind.
+    /// Toggle the selected item, and select the next item of its kind.
     ToggleItemAndAdvance,
     /// Invert every mark.
     ToggleAll,
-    /// Check everything, or uncheck everything where all is checked.
+    /// Check everything, or uncheck everything if all is checked.
     ToggleAllUniform,
-    /// Fold or unfold what is selected.
+    /// Fold or unfold the selected item.
     ExpandItem,
     /// Fold or unfold everything.
     ExpandAll,
-    /// A click on a place of the screen.
+    /// Click on a place of the screen.
     Click {
-        /// The row, from 0 at the top.
+        /// The row, counted from 0 at the top.
         row: usize,
-        /// The column, from 0 on the left.
+        /// The column, counted from 0 on the left.
         column: usize,
     },
-    /// Show one commit, or two side by side.
+    /// Switch between one commit and two side by side.
     ToggleCommitViewMode,
-    /// Change the message of the commit.
+    /// Edit the message of the commit.
     EditCommitMessage,
-    /// Show the help, or close it.
+    /// Open or close the help.
     Help,
 }

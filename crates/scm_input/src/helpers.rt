@@ -1,4 +1,4 @@
-//! What the Rust crate has in its module of this name: an input of events, and a text for binary sections.
+//! The contents of the Rust crate's module `helpers`.
 
 pub use crate::testing_input::TestingInput;
 pub use scm_types::helpers::make_binary_description;

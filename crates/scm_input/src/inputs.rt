@@ -1,4 +1,4 @@
-//! What a recorder reads from.
+//! The source of a recorder's events and edited messages.
 ghost use Rattle.std.specs.Prelude.{◌≡◌, List, length};
 ghost use Rattle.scm_input.specs.Script.{Read, Reply, Replies, Takes, read_of, edit_of};
 ghost use Rattle.scm_input.specs.declared.inputs.TerminalKind.{TerminalKind};
@@ -11,44 +11,53 @@ use scm_types::RecordError;
 pub enum TerminalKind {
     /// A screen in memory.
     Testing {
-        /// Its columns.
+        /// The width, in columns.
         width: usize,
-        /// Its rows.
+        /// The height, in rows.
         height: usize,
     },
 }
 
-/// Where a recorder's events and edited messages come from.
+/// The source of a recorder's events and edited messages.
 ///
-/// An input has a script, and keeps to it: each read gives and removes the first of its reads, and
-/// each edit removes the first of its edits, and gives what that makes of the message that the
-/// user is asked with. No fault in a script is `OutOfMemory`: a call for which memory is refused
-/// returns that, and leaves the script as it was.
+/// An input follows a script. Each read returns and removes the first of its reads. Each edit
+/// removes the first of its edits, and returns what that edit makes of the given message.
+///
+/// No fault of a script is `OutOfMemory`. If an allocation fails, a call returns `OutOfMemory` and
+/// leaves the script unchanged.
 pub trait RecordInput {
-    /// The screen that it gives, always the same.
+    /// The screen to draw to, always the same.
     ghost kind: { Self → TerminalKind };
 
-    /// The reads that are left.
+    /// The remaining reads.
     ghost reads: { Self → List Read };
 
-    /// The edits that are left: what the user makes of a message, whichever it is.
+    /// The remaining edits, each a function of the message.
     ghost edits: { Self → List Reply };
 
-    /// The screen to draw to.
+    /// Returns the screen to draw to.
     fn terminal_kind(&self) -> TerminalKind
         ensures { result ≡ kind self.now };
 
-    /// How many reads are left.
+    /// Returns the number of remaining reads.
     fn batches_left(&self) -> usize
         ensures { result ≡ length (reads self.now) };
 
-    /// The next batch of events, or the fault that stands in its place.
+    /// Returns the next batch of events.
+    ///
+    /// # Errors
+    /// The fault that the script has in place of the batch.
+    /// `OutOfMemory`: an allocation failed; the script is unchanged.
     fn next_events(&mut self) -> Result<Vec<Event>, RecordError>
         ensures read { Takes (read_of result) (reads self.old) (reads self.new) }
         ensures edits { edits self.new ≡ edits self.old }
         ensures kind { kind self.new ≡ kind self.old };
 
-    /// What the user makes of a commit's message, or the fault that stands in its place.
+    /// Returns the edited `message` of a commit.
+    ///
+    /// # Errors
+    /// The fault that the script has in place of the edit.
+    /// `OutOfMemory`: an allocation failed; the script is unchanged.
     fn edit_commit_message(&mut self, message: &str) -> Result<String, RecordError>
         ensures edit { Replies message.now (edit_of result) (edits self.old) (edits self.new) }
         ensures reads { reads self.new ≡ reads self.old }

@@ -1,4 +1,4 @@
-//! The key table: the event of what a terminal tells.
+//! The key table: the event for each key and mouse action of a terminal.
 ghost use Rattle.std.specs.Prelude.{◌≡◌};
 ghost use Rattle.scm_input.specs.KeyTable.{event_of, event_of_key, event_of_mouse, event_of_press};
 
@@ -8,21 +8,21 @@ use crate::terminal::{
     TerminalEvent,
 };
 
-/// Nothing is held.
+/// No modifier is held.
 const NONE: KeyModifiers = KeyModifiers::NONE;
 
-/// Shift alone is held.
+/// Only shift is held.
 const SHIFT: KeyModifiers = KeyModifiers::SHIFT;
 
-/// Control alone is held.
+/// Only control is held.
 const CONTROL: KeyModifiers = KeyModifiers::CONTROL;
 
 impl From<TerminalEvent> for Event {
-    ghost from_gives = { λ told event. event ≡ event_of told };
+    ghost from_gives = { λ terminal_event event. event ≡ event_of terminal_event };
 
-    /// The event of a key or of the mouse by the key table, else `None`. It takes no memory.
-    fn from(told: TerminalEvent) -> Event {
-        match told {
+    /// Converts by the key table; what is not in the table becomes `None`. It takes no memory.
+    fn from(terminal_event: TerminalEvent) -> Event {
+        match terminal_event {
             TerminalEvent::Key(key) => key_event(key),
             TerminalEvent::Mouse(mouse) => mouse_event(mouse),
             TerminalEvent::Other => Event::None,
@@ -30,7 +30,7 @@ impl From<TerminalEvent> for Event {
     }
 }
 
-/// The event of what is done to a key: only one that goes down counts.
+/// Returns the event of a key action. Only a press counts.
 fn key_event(key: KeyEvent) -> Event
     ensures { result ≡ event_of_key key }
 {
@@ -40,11 +40,11 @@ fn key_event(key: KeyEvent) -> Event
     }
 }
 
-/// The event of a key that goes down while exactly this is held.
-fn press_event(held: KeyModifiers, code: KeyCode) -> Event
-    ensures { result ≡ event_of_press held code }
+/// Returns the event of pressing the key `code` while exactly `modifiers` are held.
+fn press_event(modifiers: KeyModifiers, code: KeyCode) -> Event
+    ensures { result ≡ event_of_press modifiers code }
 {
-    match (held, code) {
+    match (modifiers, code) {
         (NONE, KeyCode::Char('q')) => Event::QuitCancel,
         (NONE, KeyCode::Esc) => Event::QuitEscape,
         (CONTROL, KeyCode::Char('c')) => Event::QuitInterrupt,
@@ -76,7 +76,9 @@ fn press_event(held: KeyModifiers, code: KeyCode) -> Event
     }
 }
 
-/// The event of what the mouse does, whatever is held: its wheel, and its left button as that goes down.
+/// Returns the event of a mouse action: the wheel or a press of the left button.
+///
+/// Modifiers do not matter.
 fn mouse_event(mouse: MouseEvent) -> Event
     ensures { result ≡ event_of_mouse mouse }
 {

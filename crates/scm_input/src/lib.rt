@@ -1,5 +1,4 @@
-//! What a user does: events, and what a terminal tells that is one; inputs of scripts; and the store of the
-//! screens that a script asks for.
+//! Events and the key table, inputs that follow a script, and the store of screens.
 #![tactic(auto)]
 
 pub mod events;

@@ -1,4 +1,4 @@
-//! The store of screens.
+//! The store of screens that runs keep for their caller.
 ghost use Rattle.std.specs.Prelude.{◌≡◌, Some, map, option_map, string_bytes};
 ghost use Rattle.scm_types.specs.Edits.{modify};
 
@@ -7,12 +7,12 @@ use scm_types::RecordError;
 use std::alloc::Global;
 use std::marker::Model;
 
-/// The screens that runs took, by their places, and a count of the frames that they drew.
+/// The screens that runs stored, by slot, and the number of frames that they drew.
 #[derive(Drop)]
 pub struct Screens {
-    /// For each place the last text that was kept there, if any was.
+    /// The last text stored in each slot, if any.
     texts: Vec<Option<String>>,
-    /// How many frames were drawn.
+    /// The number of frames drawn.
     frames: usize,
 }
 
@@ -21,7 +21,7 @@ impl Model for Screens {
 
     ghost Value = { Store };
 
-    ghost use Rattle.scm_input.specs.Stored.{store_of};
+    ghost use Rattle.scm_input.specs.StoreView.{store_of};
 
     ghost view = { store_of };
 }
@@ -31,7 +31,7 @@ impl Screens {
     ghost use Rattle.scm_errors.specs.declared.error.RecordError.TheVariants.{OutOfMemory};
     ghost use Rattle.scm_input.specs.Store.{Store, text_at, with_place, with_frame, with_text_at};
 
-    /// A store without places and frames.
+    /// Returns a store without slots, with a count of 0 frames.
     pub fn new(alloc: Global) -> Screens
         ensures { result ≡ record { texts = []; frames = 0 } }
     {
@@ -41,7 +41,10 @@ impl Screens {
         }
     }
 
-    /// A new place: 0, then 1 and so on. After `OutOfMemory` the store is unchanged.
+    /// Adds a slot and returns it: 0, then 1 and so on.
+    ///
+    /// # Errors
+    /// `OutOfMemory`: an allocation failed; the store is unchanged.
     pub fn place(&mut self) -> Result<TestingScreenshot, RecordError>
         ensures place { IfOk result (λ shot. shot.place ≡ length self.old.texts) }
         ensures ok { OnOk result (self.new ≡ with_place self.old) }
@@ -53,7 +56,7 @@ impl Screens {
         Ok(TestingScreenshot { place })
     }
 
-    /// The last screen taken at a place, else `<this screenshot was never assigned>`.
+    /// Returns the last screen stored in a slot, or else `<this screenshot was never assigned>`.
     pub fn text(&self, shot: TestingScreenshot) -> &str
         ensures { result.now ≡ text_at self.now shot.place }
     {
@@ -63,28 +66,28 @@ impl Screens {
         }
     }
 
-    /// How many frames runs drew over the store, `usize::MAX` where there were more.
+    /// Returns the number of frames that runs drew, or `usize::MAX` if there were more.
     pub fn frames(&self) -> usize
         ensures { result ≡ self.now.frames }
     {
         self.frames
     }
 
-    /// Whether there is such a place.
+    /// Returns whether the store has the slot `place`.
     pub fn has_place(&self, place: usize) -> bool
         ensures { result ≡ nat_lt place (length self.now.texts) }
     {
         place < self.texts.len()
     }
 
-    /// Keeps a screen at a place, if there is one.
+    /// Stores the screen `text` in the slot `place`, if the store has it.
     pub fn keep(&mut self, place: usize, text: String)
         ensures { self.new ≡ with_text_at self.old place (string_bytes text) }
     {
         put_at(&mut self.texts, place, text);
     }
 
-    /// Counts a frame.
+    /// Adds 1 to the number of frames.
     pub fn add_frame(&mut self)
         ensures { self.new ≡ with_frame self.old }
     {
@@ -92,10 +95,11 @@ impl Screens {
     }
 }
 
-/// Puts a text at a place, if there is one.
+/// Replaces the text at index `place`, if there is one.
 fn put_at(texts: &mut Vec<Option<String>>, place: usize, text: String)
     ensures { map (λ t. option_map string_bytes t) texts.new.items
-        ≡ modify (λ _. Some (string_bytes text)) (map (λ t. option_map string_bytes t) texts.old.items) place }
+        ≡ modify (λ _. Some (string_bytes text))
+        (map (λ t. option_map string_bytes t) texts.old.items) place }
 {
     if place < texts.len() {
         texts[place] = Some(text);

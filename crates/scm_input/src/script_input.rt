@@ -1,4 +1,4 @@
-//! An input that is a script of batches, answers and faults.
+//! An input with a script of batches, answers and faults.
 use crate::events::Event;
 use crate::inputs::{RecordInput, TerminalKind};
 use scm_types::RecordError;
@@ -8,9 +8,9 @@ use std::collections::VecDeque;
 /// A read of a script.
 #[derive(Drop)]
 pub enum ScriptRead {
-    /// The events of a batch, perhaps none.
+    /// The events of a batch, which can be empty.
     Batch(Vec<Event>),
-    /// The read fails with `ReadInput` of this text.
+    /// A failure with `ReadInput` and this text.
     Fault(String),
 }
 
@@ -19,33 +19,36 @@ pub enum ScriptRead {
 pub enum ScriptEdit {
     /// The new message.
     Answer(String),
-    /// The edit fails with `Other` of this text.
+    /// A failure with `Other` and this text.
     Fault(String),
 }
 
-/// An input that gives its reads and edits in order, each once.
+/// An input that returns its reads and edits in order, each once.
 ///
-/// Past the reads a read fails with `ReadInput("no events left")`, past the edits an edit with
-/// `Other("No more commit messages available")`. Where memory for these words is refused the
-/// script is as it was.
+/// If no reads are left, a read fails with `ReadInput("no events left")`. If no edits are left, an
+/// edit fails with `Other("No more commit messages available")`. If an allocation for these texts
+/// fails, the script is unchanged.
 #[derive(Drop)]
 pub struct ScriptInput {
-    /// Where memory for the words of faults comes from.
+    /// The allocator for the texts of faults.
     alloc: Global,
-    /// The screen's columns.
+    /// The width of the screen, in columns.
     width: usize,
-    /// The screen's rows.
+    /// The height of the screen, in rows.
     height: usize,
-    /// The reads that are left.
+    /// The remaining reads.
     reads: VecDeque<ScriptRead>,
-    /// The edits that are left.
+    /// The remaining edits.
     edits: VecDeque<ScriptEdit>,
 }
 
 impl ScriptInput {
     ghost use Rattle.std.specs.Prelude.{◌≡◌, IsOk, IfOk, length};
 
-    /// An input of these reads and edits, with a screen of so many columns and rows.
+    /// Returns an input of `reads` and `edits` for a screen of `width` columns and `height` rows.
+    ///
+    /// # Errors
+    /// None: it always succeeds.
     pub fn new(
         alloc: Global,
         width: usize,
@@ -67,7 +70,7 @@ impl ScriptInput {
         })
     }
 
-    /// How many edits are left: answers and faults that no message was asked for.
+    /// Returns the number of remaining edits.
     pub fn edits_left(&self) -> usize
         ensures { result ≡ length self.now.edits.items }
     {
@@ -78,8 +81,8 @@ impl ScriptInput {
 impl RecordInput for ScriptInput {
     ghost use Rattle.std.specs.Prelude.{◌≡◌, List, IfErr, IfOk};
     ghost use Rattle.scm_input.specs.Script.{Read, Reply, BrokenRead, Replies, TakesOr, no_events_left, read_of, edit_of};
-    ghost use Rattle.scm_input.specs.Testing.{kind_of};
-    ghost use Rattle.scm_input.specs.Scripted.{edits_in, reads_in};
+    ghost use Rattle.scm_input.specs.TestingInput.{kind_of};
+    ghost use Rattle.scm_input.specs.ScriptInput.{edits_in, reads_in};
 
     ghost kind = { λ i. kind_of i.width i.height };
 
@@ -98,12 +101,13 @@ impl RecordInput for ScriptInput {
         self.reads.len()
     }
 
-    /// The next batch, or its fault; past the last the fault `no events left`.
+    /// Returns the next batch or its fault, and after the last one `ReadInput("no events left")`.
     fn next_events(&mut self) -> Result<Vec<Event>, RecordError>
         ensures read { TakesOr (BrokenRead no_events_left) (read_of result)
             (reads_in self.old.reads.items) (reads_in self.new.reads.items) }
         ensures edits { edits_in self.new.edits.items ≡ edits_in self.old.edits.items }
-        ensures kind { kind_of self.new.width self.new.height ≡ kind_of self.old.width self.old.height }
+        ensures kind { kind_of self.new.width self.new.height
+            ≡ kind_of self.old.width self.old.height }
     {
         match self.reads.pop_front() {
             Some(ScriptRead::Batch(events)) => Ok(events),
@@ -112,12 +116,14 @@ impl RecordInput for ScriptInput {
         }
     }
 
-    /// The next answer, or its fault; past the last the fault `No more commit messages available`.
+    /// Returns the next answer or its fault, and after the last one
+    /// `Other("No more commit messages available")`.
     fn edit_commit_message(&mut self, message: &str) -> Result<String, RecordError>
         ensures edit { Replies message.now (edit_of result)
             (edits_in self.old.edits.items) (edits_in self.new.edits.items) }
         ensures reads { reads_in self.new.reads.items ≡ reads_in self.old.reads.items }
-        ensures kind { kind_of self.new.width self.new.height ≡ kind_of self.old.width self.old.height }
+        ensures kind { kind_of self.new.width self.new.height
+            ≡ kind_of self.old.width self.old.height }
     {
         match self.edits.pop_front() {
             Some(ScriptEdit::Answer(text)) => Ok(text),

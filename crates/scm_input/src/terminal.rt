@@ -1,20 +1,20 @@
-//! What a terminal tells of keys and of the mouse.
+//! Key and mouse events of a terminal.
 
-/// The keys that are held with a key or while the mouse is used.
+/// The modifier keys that are held during a key or mouse event.
 #[derive(Clone, Copy, Debug, PartialEq, Eq)]
 pub struct KeyModifiers {
-    /// A shift key.
+    /// Whether a shift key is held.
     pub shift: bool,
-    /// A control key.
+    /// Whether a control key is held.
     pub control: bool,
-    /// An alt key.
+    /// Whether an alt key is held.
     pub alt: bool,
-    /// Any other key of this kind.
+    /// Whether any other modifier key is held.
     pub other: bool,
 }
 
 impl KeyModifiers {
-    /// No key is held.
+    /// No modifier.
     pub const NONE: KeyModifiers = KeyModifiers {
         shift: false,
         control: false,
@@ -22,7 +22,7 @@ impl KeyModifiers {
         other: false,
     };
 
-    /// A shift key alone.
+    /// Only shift.
     pub const SHIFT: KeyModifiers = KeyModifiers {
         shift: true,
         control: false,
@@ -30,7 +30,7 @@ impl KeyModifiers {
         other: false,
     };
 
-    /// A control key alone.
+    /// Only control.
     pub const CONTROL: KeyModifiers = KeyModifiers {
         shift: false,
         control: true,
@@ -42,7 +42,7 @@ impl KeyModifiers {
 /// A key.
 #[derive(Clone, Copy, Debug, PartialEq, Eq)]
 pub enum KeyCode {
-    /// The key that gives this character, as shift makes it.
+    /// The key that types this character; shift is already applied.
     Char(char),
     /// The arrow up.
     Up,
@@ -64,47 +64,47 @@ pub enum KeyCode {
     Other,
 }
 
-/// What is done to a key.
+/// The kind of a key event.
 #[derive(Clone, Copy, Debug, PartialEq, Eq)]
 pub enum KeyEventKind {
-    /// It goes down.
+    /// The key is pressed.
     Press,
-    /// It is held, and repeats itself.
+    /// The key is held and repeats.
     Repeat,
-    /// It goes up.
+    /// The key is released.
     Release,
 }
 
-/// A key, and what is done to it.
+/// A key event.
 #[derive(Clone, Copy, Debug, PartialEq, Eq)]
 pub struct KeyEvent {
     /// The key.
     pub code: KeyCode,
-    /// What is held with it.
+    /// The modifiers held with it.
     pub modifiers: KeyModifiers,
-    /// What is done to it.
+    /// Whether the key is pressed, repeated or released.
     pub kind: KeyEventKind,
 }
 
 /// A button of the mouse.
 #[derive(Clone, Copy, Debug, PartialEq, Eq)]
 pub enum MouseButton {
-    /// The left one.
+    /// The left button.
     Left,
-    /// The right one.
+    /// The right button.
     Right,
-    /// The middle one.
+    /// The middle button.
     Middle,
 }
 
-/// What the mouse does.
+/// The kind of a mouse event.
 #[derive(Clone, Copy, Debug, PartialEq, Eq)]
 pub enum MouseEventKind {
-    /// A button goes down.
+    /// A button is pressed.
     Down(MouseButton),
-    /// A button goes up.
+    /// A button is released.
     Up(MouseButton),
-    /// The mouse moves with a button down.
+    /// The mouse moves while a button is held.
     Drag(MouseButton),
     /// The mouse moves.
     Moved,
@@ -116,25 +116,25 @@ pub enum MouseEventKind {
     Other,
 }
 
-/// What the mouse does, and where.
+/// A mouse event and its place.
 #[derive(Clone, Copy, Debug, PartialEq, Eq)]
 pub struct MouseEvent {
-    /// What it does.
+    /// The kind of the event.
     pub kind: MouseEventKind,
-    /// The column, from 0 on the left.
+    /// The column, counted from 0 on the left.
     pub column: u16,
-    /// The row, from 0 at the top.
+    /// The row, counted from 0 at the top.
     pub row: u16,
-    /// What is held while it does so.
+    /// The modifiers held during the event.
     pub modifiers: KeyModifiers,
 }
 
-/// What a terminal tells.
+/// An event of a terminal.
 #[derive(Clone, Copy, Debug, PartialEq, Eq)]
 pub enum TerminalEvent {
-    /// Of a key.
+    /// A key event.
     Key(KeyEvent),
-    /// Of the mouse.
+    /// A mouse event.
     Mouse(MouseEvent),
     /// Anything else.
     Other,

@@ -1,4 +1,4 @@
-//! An input that is a list of events.
+//! An input with a list of events and messages.
 ghost use Rattle.std.specs.Prelude.{◌≡◌};
 
 use crate::events::Event;
@@ -7,23 +7,27 @@ use scm_types::RecordError;
 use std::alloc::Global;
 use std::collections::VecDeque;
 
-/// An input of single events, one a batch, and of messages.
+/// An input that returns its events one by one, and its messages in order.
 #[derive(Drop)]
 pub struct TestingInput {
-    /// The screen's columns.
+    /// The width of the screen, in columns.
     pub width: usize,
-    /// The screen's rows.
+    /// The height of the screen, in rows.
     pub height: usize,
-    /// The events that are left. Past them each batch is one `Event::None`.
+    /// The remaining events. If none is left, each batch is one `Event::None`.
     pub events: VecDeque<Event>,
-    /// The messages that edits return. Past them an edit is a fault.
+    /// The remaining messages that edits return. If none is left, an edit fails.
     pub commit_messages: VecDeque<String>,
 }
 
 impl TestingInput {
     ghost use Rattle.std.specs.Prelude.{◌≡◌, IsOk, IfOk, []};
 
-    /// An input of these events, without messages.
+    /// Returns an input of `events`, without messages, for a screen of `width` columns and `height`
+    /// rows.
+    ///
+    /// # Errors
+    /// None: it always succeeds.
     pub fn new(
         alloc: Global,
         width: usize,
@@ -48,7 +52,7 @@ impl RecordInput for TestingInput {
     ghost use Rattle.std.specs.Prelude.{◌≡◌, ◌<◌, List, IfErr, IfOk, OnErr, drop, length, map, IsOk};
     ghost use Rattle.scm_errors.specs.declared.error.RecordError.TheVariants.{OutOfMemory};
     ghost use Rattle.scm_input.specs.Script.{Read, Reply, Replies, Takes, read_of, edit_of};
-    ghost use Rattle.scm_input.specs.Testing.{kind_of, single_events, answers, first_batch};
+    ghost use Rattle.scm_input.specs.TestingInput.{kind_of, single_events, answers, first_batch};
 
     ghost kind = { λ i. kind_of i.width i.height };
 
@@ -67,12 +71,14 @@ impl RecordInput for TestingInput {
         self.events.len()
     }
 
-    /// The next event alone, or `Event::None` past the last.
+    /// Returns a batch of the next event alone, or of `Event::None` after the last one.
     fn next_events(&mut self) -> Result<Vec<Event>, RecordError>
         ensures read { Takes (read_of result)
             (single_events self.old.events.items) (single_events self.new.events.items) }
-        ensures edits { answers self.new.commit_messages.items ≡ answers self.old.commit_messages.items }
-        ensures kind { kind_of self.new.width self.new.height ≡ kind_of self.old.width self.old.height }
+        ensures edits { answers self.new.commit_messages.items
+            ≡ answers self.old.commit_messages.items }
+        ensures kind { kind_of self.new.width self.new.height
+            ≡ kind_of self.old.width self.old.height }
         ensures batch { IfOk result (λ batch. batch.items ≡ first_batch self.old.events.items) }
         ensures err { IfErr result (λ e. e ≡ OutOfMemory) }
     {
@@ -82,12 +88,14 @@ impl RecordInput for TestingInput {
         Ok(batch)
     }
 
-    /// The next message, or the fault `No more commit messages available` past the last.
+    /// Returns the next message, and after the last one
+    /// `Other("No more commit messages available")`.
     fn edit_commit_message(&mut self, message: &str) -> Result<String, RecordError>
         ensures edit { Replies message.now (edit_of result)
             (answers self.old.commit_messages.items) (answers self.new.commit_messages.items) }
         ensures reads { single_events self.new.events.items ≡ single_events self.old.events.items }
-        ensures kind { kind_of self.new.width self.new.height ≡ kind_of self.old.width self.old.height }
+        ensures kind { kind_of self.new.width self.new.height
+            ≡ kind_of self.old.width self.old.height }
         ensures answers { 0 < length self.old.commit_messages.items → IsOk result }
     {
         match self.commit_messages.pop_front() {

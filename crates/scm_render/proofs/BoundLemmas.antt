@@ -34,7 +34,7 @@ PictureInRange-within b p i w = record { areas = AllRectsInRange-within b p.area
 
 -- ---- rectangles
 
--- a row of so many columns
+-- a row of `n` columns
 pub row-within : (b : Bounds) (x y : ℤ) (n : ℕ) → b.left ≤ℤ x → (x +ℤ pos n) ≤ℤ b.right → b.top ≤ℤ y → y <ℤ b.bottom → RectWithin b (row_rect x y n)
 row-within b x y n p q t e = record { x = p; end_x = q; y = t; end_y = omega (arith, places) }
 
@@ -96,7 +96,7 @@ module _ {K : Type 0} where
   unfolding line_picture
   line-within b s x y ts p q u v = record { areas = (row-within b x y (texts_width ts) p q u v, tt) }
 
-  -- the ellipsis stands in the last column that drawing reaches
+  -- the ellipsis is in the last visible column
   ellipsis-within : (b : Bounds) (s : Sight) (y : ℤ) → SightWithin b s → b.top ≤ℤ y → y <ℤ b.bottom → PictureWithin {K = K} b (span_picture s (end_x_of (reach s) -ℤ pos 1) y ellipsis)
   ellipsis-within b s y w u v =
       let r = reach-within b s w in

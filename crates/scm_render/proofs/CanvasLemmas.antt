@@ -5,7 +5,7 @@ use Rattle.scm_cells.specs.declared.rect.Rect.{Rect}
 use Rattle.scm_cells.specs.declared.mask.Mask.{Mask}
 use Rattle.scm_render.specs.Picture.{Box, Picture, nothing, part, followed_by, covering, box_rect}
 use Rattle.scm_render.specs.Around.{around, join, no_rect}
-use Rattle.scm_render.specs.Canvas.{Canvas, painted, with_mask, with_picture}
+use Rattle.scm_render.specs.Canvas.{Canvas, paint_rows, with_mask, with_picture}
 use Rattle.scm_render.proofs.AroundLemmas.{around-join, around-append, around-one, around-none}
 use Rattle.scm_render.proofs.PaintLemmas.{painted-none, painted-append}
 
@@ -18,7 +18,7 @@ module _ {K : Type 0} where
   unfolding with_picture
   with_picture-sight c m = refl
 
-  pub with_picture-rows : (c : Canvas K) (m : Picture K) → (with_picture c m).rows ≡ painted c.sight.rect m.puts c.sight.rect.y c.rows
+  pub with_picture-rows : (c : Canvas K) (m : Picture K) → (with_picture c m).rows ≡ paint_rows c.sight.rect m.puts c.sight.rect.y c.rows
   unfolding with_picture
   with_picture-rows c m = refl
 
@@ -27,7 +27,7 @@ module _ {K : Type 0} where
   with_picture-boxes c m = refl
 
   -- a picture without a box
-  pub with_picture-plain : (c d : Canvas K) (m : Picture K) → d.sight ≡ c.sight → d.rows ≡ painted c.sight.rect m.puts c.sight.rect.y c.rows → d.area ≡ around c.area m.areas → d.boxes ≡ c.boxes → m.boxes ≡ []
+  pub with_picture-plain : (c d : Canvas K) (m : Picture K) → d.sight ≡ c.sight → d.rows ≡ paint_rows c.sight.rect m.puts c.sight.rect.y c.rows → d.area ≡ around c.area m.areas → d.boxes ≡ c.boxes → m.boxes ≡ []
       → d ≡ with_picture c m
   unfolding with_picture
   with_picture-plain c d m s w a b none = canvas-same d (with_picture c m) s w a (b ∙ sym (append-nil c.boxes) ∙ ap (λ v. c.boxes ++ v) (sym none))
@@ -90,7 +90,7 @@ module _ {K : Type 0} where
       ∙ set-place c.boxes m.boxes taken (id, around no_rect m.areas))
 
   -- what a part leaves on the rows, and among the boxes
-  pub part-rows : (c d : Canvas K) (id : K) (m : Picture K) → d ≡ with_picture c (part id m) → d.rows ≡ painted c.sight.rect m.puts c.sight.rect.y c.rows
+  pub part-rows : (c d : Canvas K) (id : K) (m : Picture K) → d ≡ with_picture c (part id m) → d.rows ≡ paint_rows c.sight.rect m.puts c.sight.rect.y c.rows
   unfolding part
   part-rows c d id m h = ap (λ v. v.rows) h ∙ with_picture-rows c (part id m)
 

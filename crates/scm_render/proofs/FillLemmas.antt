@@ -19,7 +19,7 @@ use Rattle.scm_render.proofs.PaintLemmas.{paint-none, int_eq-false}
 use Rattle.scm_render.proofs.DrawLemmas.{off_cases, row_text-more, rows_puts-more, rows_puts-none}
 use Rattle.scm_render.proofs.RowLemmas.{OneRow, PutsRows, IsReached, not_seen, one_text, one_row_paints, paints_none, paints_more}
 
--- the row with a text over the columns of a rectangle, from its first one on
+-- the row with a text from the first column of a rectangle, clipped to it
 abbrev pub put_over : Rect → Rect → List ℕ → Row → Row
 put_over v r t row = put_within v r r.x t row
 

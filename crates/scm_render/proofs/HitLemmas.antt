@@ -65,7 +65,7 @@ module _ {K : Type 0} (same_id : K → K → Bool) (is_clickable : K → Bool) w
   pub hit_apart : (rep : K → Bool) (cs bs : List (Box K)) (y x : ℤ) → Each (λ i. has_id same_id i bs ≡ false) cs → hit same_id is_clickable rep (cs ++ bs) y x ≡ first_of_two (hit same_id is_clickable rep bs y x) (hit same_id is_clickable rep cs y x)
   hit_apart rep cs bs y x h = hit-append rep cs bs y x ∙ ap (first_of_two (hit same_id is_clickable rep bs y x)) (hit_same (λ i. rep i || has_id same_id i bs) rep cs y x (each_more (λ i. has_id same_id i bs ≡ false) (λ i. (rep i || has_id same_id i bs) ≡ rep i) cs (λ i e. rw e (or_false (rep i))) h))
 
-  -- a box of an id that stands nowhere else
+  -- a box whose id no later box has
   pub hit_box : (rep : K → Bool) (b : Box K) (bs : List (Box K)) (y x : ℤ) → is_clickable b.0 ≡ true → rep b.0 ≡ false → has_id same_id b.0 bs ≡ false
       → hit same_id is_clickable rep (b ∷ bs) y x ≡ first_of_two (hit same_id is_clickable rep bs y x) (cond (holds b.1 y x) (Some b.0) None)
   unfolding hit

@@ -6,7 +6,7 @@ use Rattle.std.proofs.lemmas.Int.{ints}
 use Rattle.std.proofs.lemmas.Bool.Decides.{Decides-int_eq}
 use Rattle.scm_cells.specs.declared.rect.Rect.{Rect}
 use Rattle.scm_render.specs.Picture.{Put}
-use Rattle.scm_render.specs.Canvas.{Row, SurfaceState, put_at, paint, painted, with_puts}
+use Rattle.scm_render.specs.Canvas.{Row, SurfaceState, put_at, paint, paint_rows, with_puts}
 
 pub paint-none : (v : Rect) (z : ℤ) (row : Row) → paint v [] z row ≡ row
 unfolding paint
@@ -21,20 +21,20 @@ unfolding paint
 paint-append v [] qs z row = refl
 paint-append v (p ∷ ps) qs z row = paint-append v ps qs z (cond (int_eq z p.row) (put_at v p row) row)
 
-pub painted-none : (v : Rect) (z : ℤ) (rows : List Row) → painted v [] z rows ≡ rows
-unfolding painted paint
+pub painted-none : (v : Rect) (z : ℤ) (rows : List Row) → paint_rows v [] z rows ≡ rows
+unfolding paint_rows paint
 painted-none v z [] = refl
 painted-none v z (row ∷ rows) = ap (λ w. row ∷ w) (painted-none v (z +ℤ pos 1) rows)
 
-pub painted-append : (v : Rect) (ps qs : List Put) (z : ℤ) (rows : List Row) → painted v (ps ++ qs) z rows ≡ painted v qs z (painted v ps z rows)
-unfolding painted
+pub painted-append : (v : Rect) (ps qs : List Put) (z : ℤ) (rows : List Row) → paint_rows v (ps ++ qs) z rows ≡ paint_rows v qs z (paint_rows v ps z rows)
+unfolding paint_rows
 painted-append v ps qs z [] = refl
 painted-append v ps qs z (row ∷ rows) =
-    ap (λ w. w ∷ painted v (ps ++ qs) (z +ℤ pos 1) rows) (paint-append v ps qs z row)
+    ap (λ w. w ∷ paint_rows v (ps ++ qs) (z +ℤ pos 1) rows) (paint-append v ps qs z row)
     ∙ ap (λ w. paint v qs z (paint v ps z row) ∷ w) (painted-append v ps qs (z +ℤ pos 1) rows)
 
-pub length-painted : (v : Rect) (ps : List Put) (z : ℤ) (rows : List Row) → length (painted v ps z rows) ≡ length rows
-unfolding painted
+pub length-painted : (v : Rect) (ps : List Put) (z : ℤ) (rows : List Row) → length (paint_rows v ps z rows) ≡ length rows
+unfolding paint_rows
 length-painted v ps z [] = refl
 length-painted v ps z (row ∷ rows) = ap suc (length-painted v ps (z +ℤ pos 1) rows)
 
@@ -48,23 +48,23 @@ same : (z : ℤ) → int_eq z z ≡ true
 same z = (Decides-int_eq z z).1 refl
 
 -- a put on a row above the first one
-pub painted-above : (v : Rect) (p : Put) (z : ℤ) (rows : List Row) → p.row <ℤ z → painted v (p ∷ []) z rows ≡ rows
-unfolding painted paint
+pub painted-above : (v : Rect) (p : Put) (z : ℤ) (rows : List Row) → p.row <ℤ z → paint_rows v (p ∷ []) z rows ≡ rows
+unfolding paint_rows paint
 painted-above v p z [] h = refl
 painted-above v p z (row ∷ rows) h =
     rw (past z p.row h) (ap (λ w. row ∷ w) (painted-above v p (z +ℤ pos 1) rows (omega (arith, ints))))
 
 -- a put on a row below the last one
-pub painted-below : (v : Rect) (p : Put) (z : ℤ) (rows : List Row) → (z +ℤ pos (length rows)) ≤ℤ p.row → painted v (p ∷ []) z rows ≡ rows
-unfolding painted paint
+pub painted-below : (v : Rect) (p : Put) (z : ℤ) (rows : List Row) → (z +ℤ pos (length rows)) ≤ℤ p.row → paint_rows v (p ∷ []) z rows ≡ rows
+unfolding paint_rows paint
 painted-below v p z [] h = refl
 painted-below v p z (row ∷ rows) h =
     rw (apart z p.row (omega (arith, ints))) (ap (λ w. row ∷ w) (painted-below v p (z +ℤ pos 1) rows (omega (arith, ints))))
 
 -- a put on the k-th row
 pub painted-at : (v : Rect) (p : Put) (z : ℤ) (rows : List Row) (k : ℕ) (d : Row) → k < length rows → p.row ≡ z +ℤ pos k
-    → painted v (p ∷ []) z rows ≡ set rows k (put_at v p (get_or rows k d))
-unfolding painted paint
+    → paint_rows v (p ∷ []) z rows ≡ set rows k (put_at v p (get_or rows k d))
+unfolding paint_rows paint
 painted-at v p z [] k d h e = absurd (omega arith)
 painted-at v p z (row ∷ rows) zero d h e =
     let here : p.row ≡ z = omega (arith, ints) in
@@ -88,7 +88,7 @@ unfolding with_puts
 with_puts-counts ps a s e = ap (λ (w : SurfaceState). w.counts) e
 
 -- puts that leave the rows as they are
-pub with_puts-same : (ps : List Put) (s : SurfaceState) → painted s.rect ps s.rect.y s.rows ≡ s.rows → with_puts ps s ≡ s
+pub with_puts-same : (ps : List Put) (s : SurfaceState) → paint_rows s.rect ps s.rect.y s.rows ≡ s.rows → with_puts ps s ≡ s
 unfolding with_puts
 with_puts-same ps s e = ap (λ rows. record { rect = s.rect; rows = rows; counts = s.counts }) e
 

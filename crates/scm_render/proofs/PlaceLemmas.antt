@@ -1,7 +1,7 @@
 -- The part of a rectangle that is on the screen.
 use Rattle.std.proofs.Common.{◌≡◌, ℕ, ◌<◌, ◌^◌, refl, sym, ap, ◌∙◌, arith, true, false}
 use Rattle.std.specs.Prelude.{Some, None}
-use Rattle.scm_render.specs.Places.{translated, on_screen}
+use Rattle.scm_render.specs.Places.{screen_part, on_screen}
 use Rattle.std.specs.Prelude.{ℤ, pos, ◌+ℤ◌, ◌-ℤ◌, ◌≤ℤ◌}
 use Rattle.std.specs.Int.{int_min, int_max}
 use Rattle.std.proofs.lemmas.Bool.Decides.{nat_tests}
@@ -51,14 +51,14 @@ IsSmall-part v r p w h e f =
     }
 
 pub translated-some : (v w r p : Rect) (x y : ℕ) → v ≡ w → p ≡ intersect_of v r → false ≡ is_empty p → x ≡ or_zero (p.x -ℤ v.x) → y ≡ or_zero (p.y -ℤ v.y)
-    → Some (record { x = x; y = y; width = p.width; height = p.height }) ≡ translated w r
-unfolding translated
+    → Some (record { x = x; y = y; width = p.width; height = p.height }) ≡ screen_part w r
+unfolding screen_part
 translated-some v w r p x y k e f a b =
     let full : is_empty (intersect_of v r) ≡ false = ap is_empty (sym e) ∙ sym f in
     rw (sym k, full, a, b) (ap (λ q. Some (on_screen v q)) e)
 
-pub translated-none : (v w r p : Rect) → v ≡ w → p ≡ intersect_of v r → true ≡ is_empty p → None ≡ translated w r
-unfolding translated
+pub translated-none : (v w r p : Rect) → v ≡ w → p ≡ intersect_of v r → true ≡ is_empty p → None ≡ screen_part w r
+unfolding screen_part
 translated-none v w r p k e f =
     let none : is_empty (intersect_of v r) ≡ true = ap is_empty (sym e) ∙ sym f in
     rw (sym k, none) refl

@@ -1,4 +1,4 @@
--- What stands on a row of the document after drawing, one row at a time.
+-- A row of the document after drawing, one row at a time.
 use Rattle.std.proofs.Common.{◌≡◌, ℕ, ◌<◌, ◌≤◌, List, [], ◌∷◌, ◌++◌, length, refl, sym, ap, ◌∙◌, arith, cond, true, false, Bool, inl, inr}
 use Rattle.std.specs.Prelude.{ℤ, pos, ◌+ℤ◌, ◌-ℤ◌, ◌≤ℤ◌, int_lt, if◌then◌else◌}
 use Rattle.std.specs.Int.{int_min, int_max}

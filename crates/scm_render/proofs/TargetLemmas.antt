@@ -9,7 +9,7 @@ use Rattle.std.proofs.lemmas.List.Elements.{Contains-push, Contains-push_cases, 
 use Rattle.std.proofs.lemmas.Map.Views.{Contains-from_lookup, lookup-from_Contains}
 use Rattle.scm_cells.specs.declared.rect.Rect.{Rect}
 use Rattle.scm_render.specs.Picture.{Box}
-use Rattle.scm_render.specs.Places.{timed}
+use Rattle.scm_render.specs.Places.{with_times}
 use Rattle.scm_render.specs.Hits.{holds, Catches, IsLawful, second_or, box_of, latest}
 use Rattle.scm_render.proofs.Latest.{IsLatest, drawn_of}
 use Rattle.scm_render.proofs.LatestLemmas.{first_or_later, hit_is_latest, no_hit_is_none}
@@ -158,11 +158,11 @@ module _ {K : Type 0} (same_id : K → K → Bool) where
 
 module _ {K S : Type 0} (same_id : K → K → Bool) (law : IsLawful same_id) where
   -- what the map has for an id
-  pub in_map : (bs : List (Box K)) (boxes : HashMap K DrawnRect S) → IsFromIterResult same_id (timed bs) boxes → (i : K) → get same_id boxes i ≡ drawn_of same_id 0 i bs
+  pub in_map : (bs : List (Box K)) (boxes : HashMap K DrawnRect S) → IsFromIterResult same_id (with_times bs) boxes → (i : K) → get same_id boxes i ≡ drawn_of same_id 0 i bs
   in_map bs boxes made i = made.0 i ∙ drawn_in_map same_id law bs i
 
   -- and its rectangle
-  pub rect_in_map : (bs : List (Box K)) (boxes : HashMap K DrawnRect S) → IsFromIterResult same_id (timed bs) boxes → (i : K) → option_map (λ (d : DrawnRect). d.rect) (get same_id boxes i) ≡ box_of same_id i bs
+  pub rect_in_map : (bs : List (Box K)) (boxes : HashMap K DrawnRect S) → IsFromIterResult same_id (with_times bs) boxes → (i : K) → option_map (λ (d : DrawnRect). d.rect) (get same_id boxes i) ≡ box_of same_id i bs
   rect_in_map bs boxes made i = ap (option_map (λ (d : DrawnRect). d.rect)) (in_map bs boxes made i) ∙ rect-drawn same_id 0 i bs
 
   -- the latest box in the map that catches a point is the last in the list

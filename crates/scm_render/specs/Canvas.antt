@@ -1,4 +1,4 @@
--- What a viewport holds, and what a picture makes of it.
+-- The content of a viewport, and its content after a picture is drawn.
 use Rattle.std.specs.Prelude.{ℕ, min, ℤ, pos, ◌+ℤ◌, ◌-ℤ◌, List, [], ◌∷◌, ◌++◌, Option, Some, None, cond}
 use Rattle.std.specs.Ordering.{int_eq}
 use Rattle.scm_cells.specs.Rect.{or_zero}
@@ -11,11 +11,11 @@ use Rattle.scm_cells.specs.Row.{put}
 use Rattle.scm_render.specs.Picture.{Put, Box, Picture}
 use Rattle.scm_render.specs.Around.{around}
 
--- a row of the screen, as its cells
+-- a row of the screen as cells
 abbrev pub Row : Type 0
 Row = List Cell
 
--- where a component is drawn: the part of the document on the screen, and the mask that was set, if one was
+-- what is in sight: the part of the document on the screen, and the mask, if one is set
 pub record Sight : Type 0 where
   pub rect : Rect
   pub mask : Option Mask
@@ -25,62 +25,62 @@ abbrev pub MaskIsInRange : Option Mask → Type 0
 MaskIsInRange (Some m) = MaskInRange m
 MaskIsInRange None = Unit {0}
 
--- the sight with this mask set
+-- the sight with mask `m`
 abbrev pub under : Mask → Sight → Sight
 under m s = record s { mask = Some m }
 
--- the sight, the rows of the screen, the least rectangle around what the component that is being drawn drew so far, and
--- the boxes of all components that began
+-- the content of a viewport: its sight, the rows of the screen, the least rectangle around all that the current component drew
+-- so far, and the boxes of all components that have begun
 pub record Canvas (K : Type 0) : Type 0 where
   pub sight : Sight
   pub rows : List Row
   pub area : Rect
   pub boxes : List (Box K)
 
--- rows of the screen, the part of the document that they show, and how much was drawn
+-- the part of the document on the screen, the rows of the screen, and the counts
 pub record SurfaceState : Type 0 where
   pub rect : Rect
   pub rows : List Row
   pub counts : Counts
 
--- what a contract sees of a viewport: what it holds, and how much was drawn
+-- a viewport in contracts: its canvas and its counts
 pub record ViewportState (K : Type 0) : Type 0 where
   pub canvas : Canvas K
   pub counts : Counts
 
--- a place as a number of columns, at most the limit
-abbrev pub clipped : ℕ → ℤ → ℕ
-clipped n z = min n (or_zero z)
+-- the column `z`, clamped to `0..=n`
+abbrev pub clamp_column : ℕ → ℤ → ℕ
+clamp_column n z = min n (or_zero z)
 
--- the row with the put, whose places count from the screen's corner and whose limits are kept on the screen
+-- a row of the screen after the put, where the screen shows the rectangle `v` of the document
 abbrev pub put_at : Rect → Put → Row → Row
 put_at v p row =
-    put row (p.column -ℤ v.x) p.text (clipped v.width (p.low -ℤ v.x)) (clipped v.width (p.high -ℤ v.x))
+    put row (p.column -ℤ v.x) p.text (clamp_column v.width (p.low -ℤ v.x)) (clamp_column v.width (p.high -ℤ v.x))
 
--- what stands on a row of the document after those of the puts that are on this row, in order
+-- row `z` of the document after the puts of this row, in order
 unfoldable pub paint : Rect → List Put → ℤ → Row → Row
 paint v [] z row = row
 paint v (p ∷ ps) z row = paint v ps z (cond (int_eq z p.row) (put_at v p row) row)
 
--- rows of the screen, the first of which shows this row of the document, after the puts
-unfoldable pub painted : Rect → List Put → ℤ → List Row → List Row
-painted v ps z [] = []
-painted v ps z (row ∷ rows) = paint v ps z row ∷ painted v ps (z +ℤ pos 1) rows
+-- the rows of the screen after the puts, where the first one shows row `z` of the document
+unfoldable pub paint_rows : Rect → List Put → ℤ → List Row → List Row
+paint_rows v ps z [] = []
+paint_rows v ps z (row ∷ rows) = paint v ps z row ∷ paint_rows v ps (z +ℤ pos 1) rows
 
--- the rows with the puts
+-- the surface after the puts
 unfoldable pub with_puts : List Put → SurfaceState → SurfaceState
-with_puts ps s = record { rect = s.rect; rows = painted s.rect ps s.rect.y s.rows; counts = s.counts }
+with_puts ps s = record { rect = s.rect; rows = paint_rows s.rect ps s.rect.y s.rows; counts = s.counts }
 
 module _ {K : Type 0} where
-  -- the canvas with this mask set, or with none
+  -- the canvas with this mask, or with none
   abbrev pub with_mask : Option Mask → Canvas K → Canvas K
   with_mask mask c = record c { sight = record c.sight { mask = mask } }
 
-  -- the canvas with the picture
+  -- the canvas after the picture is drawn
   unfoldable pub with_picture : Canvas K → Picture K → Canvas K
   with_picture c m = record {
     sight = c.sight;
-    rows = painted c.sight.rect m.puts c.sight.rect.y c.rows;
+    rows = paint_rows c.sight.rect m.puts c.sight.rect.y c.rows;
     area = around c.area m.areas;
     boxes = c.boxes ++ m.boxes;
   }

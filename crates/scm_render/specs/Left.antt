@@ -1,9 +1,9 @@
--- What a loop of parts has left to draw.
+-- The remaining picture of a loop that draws part by part.
 use Rattle.std.specs.Prelude.{◌≡◌}
 use Rattle.scm_render.specs.Picture.{Picture, PictureInRange}
 use Rattle.scm_render.specs.Canvas.{Canvas, with_picture}
 
--- of the whole that is drawn on c, d has all but what is left
+-- `d` is the canvas `c` with the picture `whole`, except for the remaining picture `left`
 pub record IsLeft {K : Type 0} (c d : Canvas K) (left whole : Picture K) : Type 0 where
   pub sight : d.sight ≡ c.sight
   pub in_range : PictureInRange left

@@ -1,28 +1,30 @@
 -- The least rectangle around several.
 pub mod Around
--- What drawing makes: texts that are put, boxes of components, rectangles that are covered.
+-- Pictures: puts of texts, boxes of components, and covered rectangles.
 pub mod Picture
--- What a viewport holds, and what a picture makes of it.
+-- The content of a viewport, and its content after a picture is drawn.
 pub mod Canvas
--- The picture that each drawing call makes.
+-- The picture of each draw call.
 pub mod Drawing
--- What a drawing call does, in one word.
+-- The effect of a draw call on a viewport.
 pub mod Draws
--- Places on the screen, and boxes with their times.
+-- The draw calls of a viewport, each as its picture and its counts.
+pub mod DrawCalls
+-- Places on the screen, and boxes with their timestamps.
 pub mod Places
--- A rectangle in the middle of another.
+-- Rectangles in the middle of other rectangles.
 pub mod Centring
--- Which component owns a point, by the list of boxes.
+-- The owner of a point, by the list of boxes.
 pub mod Hits
--- What a click hits, by the map of boxes.
+-- The target of a click, by the map of boxes.
 pub mod Target
--- Bounds that what is drawn stays within.
+-- Bounds of a picture.
 pub mod Bounds
--- What texts make of a row.
+-- A row of the screen after texts are put on it.
 pub mod Rows
--- Values that stand on consecutive rows.
+-- Values of consecutive rows.
 pub mod Lines
--- What a loop of parts has left to draw.
+-- The remaining picture of a loop that draws part by part.
 pub mod Left
--- What follows from the definitions for whoever draws.
+-- Laws for whoever writes or draws a component.
 pub mod Laws

@@ -1,12 +1,12 @@
-//! A rectangle in the middle of another.
+//! Rectangles in the middle of other rectangles.
 ghost use Rattle.std.specs.Prelude.{◌≡◌, ◌≤◌, ◌*◌};
 ghost use Rattle.scm_cells.specs.Rect.{RectInRange};
-ghost use Rattle.scm_render.specs.Centring.{hundredths, centred_size, centred_gap, centred};
+ghost use Rattle.scm_render.specs.Centring.{hundredths, centred_size, centred_gap, centred_rect};
 
 use scm_cells::{Rect, RectSize};
 
-/// A size in hundredths of a cell: `percent` per cent of `room`, at least `least` cells, and at most
-/// the room.
+/// Returns a size in hundredths of a cell: `percent` per cent of `room`. It is at least `least`
+/// cells, if `room` has that many.
 fn hundredths(room: usize, least: usize, percent: usize) -> u128
     requires { percent ≤ 100 }
     ensures size { result ≡ hundredths room least percent }
@@ -16,16 +16,18 @@ fn hundredths(room: usize, least: usize, percent: usize) -> u128
     preferred.max(100 * least.min(room) as u128)
 }
 
-/// The whole cells of that size.
-fn centred_size(room: usize, least: usize, percent: usize) -> usize
+/// Returns a size in cells: `percent` per cent of `room`, rounded down. It is at least `least`, if
+/// `room` has that many.
+pub fn centred_size(room: usize, least: usize, percent: usize) -> usize
     requires { percent ≤ 100 }
     ensures { result ≡ centred_size room least percent }
 {
     (hundredths(room, least, percent) / 100) as usize
 }
 
-/// The whole cells before it: half of the hundredths that are left.
-fn centred_gap(room: usize, least: usize, percent: usize) -> usize
+/// Returns the number of cells before [`centred_size`] cells in the middle of `room`. It is half of
+/// the rest, computed in hundredths of a cell and rounded down.
+pub fn centred_gap(room: usize, least: usize, percent: usize) -> usize
     requires { percent ≤ 100 }
     ensures gap { result ≡ centred_gap room least percent }
     ensures within { 2 * result ≤ room }
@@ -33,10 +35,10 @@ fn centred_gap(room: usize, least: usize, percent: usize) -> usize
     ((100 * room as u128 - hundredths(room, least, percent)) / 200) as usize
 }
 
-/// The rectangle in the middle of `rect` that takes so many per cent of its columns and rows, and at
-/// least the size `least` as far as `rect` has room for it. Columns and rows are reckoned apart, in
-/// hundredths of a cell; its place and its size are then rounded down to whole cells.
-#[tactic(auto, unfolding(crate::specs::Centring::centred))]
+/// Returns a rectangle in the middle of `rect`. It has `percent_width` per cent of its columns and
+/// `percent_height` per cent of its rows. It is at least as large as `least`, if `rect` has room.
+/// Place and size are computed in hundredths of a cell and rounded down.
+#[tactic(auto, unfolding(crate::specs::Centring::centred_rect))]
 pub fn centered_rect(
     rect: Rect,
     least: RectSize,
@@ -46,7 +48,7 @@ pub fn centered_rect(
     requires rect { RectInRange rect }
     requires width { percent_width ≤ 100 }
     requires height { percent_height ≤ 100 }
-    ensures value { result ≡ centred rect least percent_width percent_height }
+    ensures value { result ≡ centred_rect rect least percent_width percent_height }
     ensures in_range { RectInRange result }
 {
     let left = centred_gap(rect.width, least.width, percent_width);

@@ -1,4 +1,4 @@
-//! What draws itself in a viewport.
+//! Components, which draw themselves in a viewport.
 ghost use Rattle.std.specs.Prelude.{◌≡◌, ℕ, ℤ};
 ghost use Rattle.scm_render.specs.Picture.{Picture, PictureInRange};
 ghost use Rattle.scm_render.specs.Canvas.{Sight};
@@ -10,32 +10,33 @@ use scm_errors::RecordError;
 use std::alloc::Global;
 use std::hash::Hash;
 
-/// What draws itself in a viewport. Its law: drawing adds the component's picture to what the
-/// viewport holds, and to the viewport's counts the rows that it begins and the calls that it makes. All
-/// three depend on the component, on the part of the document that is on the screen, on the mask, and on
-/// the place.
+/// A component, which draws itself in a viewport. Drawing adds its picture to the viewport's
+/// canvas, and its rows and calls to the viewport's counts. These depend on the component, its
+/// place, the part of the document on the screen, and the mask.
 pub trait Component: Sized {
-    /// What tells components apart.
+    /// The type of ids, which identify components.
     type Id: Copy + Eq + Hash + Drop;
 
     // The id of a component.
     ghost key: { Self → Self.Id };
 
-    // What it draws at a place in a sight.
+    // The picture of the component at a column and row of the document, by what is in sight.
     ghost picture: { Self → Sight → ℤ → ℤ → Picture Self.Id };
 
-    // How many rows of the document it begins there.
+    // The number of rows of the document that it begins there.
     ghost rows: { Self → Sight → ℤ → ℤ → ℕ };
 
-    // How many calls draw it there.
+    // The number of draw calls that it makes there.
     ghost calls: { Self → Sight → ℤ → ℤ → ℕ };
 
-    /// The component's id.
+    /// Returns the id of the component.
     fn id(&self) -> Self::Id
         ensures { result ≡ key self.now };
 
-    /// Draws the component with its corner at a column and a row of the document. Fails with
-    /// `OutOfMemory` alone; the frame is then to be given up, and the viewport's rectangle is as before.
+    /// Draws the component with its corner at column `x` and row `y` of the document.
+    ///
+    /// # Errors
+    /// `OutOfMemory`: an allocation failed; the frame is incomplete.
     fn draw(
         &self,
         alloc: Global,
@@ -44,5 +45,10 @@ pub trait Component: Sized {
         y: isize,
     ) -> Result<(), RecordError>
         requires { PictureInRange (picture self.now viewport.old.canvas.sight x y) }
-        ensures { Draws viewport.old viewport.new result (picture self.now viewport.old.canvas.sight x y) (record { rows = rows self.now viewport.old.canvas.sight x y; calls = calls self.now viewport.old.canvas.sight x y }) };
+        ensures { Draws viewport.old viewport.new result
+            (picture self.now viewport.old.canvas.sight x y)
+            (record {
+              rows = rows self.now viewport.old.canvas.sight x y;
+              calls = calls self.now viewport.old.canvas.sight x y;
+            }) };
 }

@@ -1,11 +1,18 @@
-//! Texts, blanks and frames in a viewport.
+//! Draw calls of a viewport: texts, spaces and frames.
 ghost use Rattle.std.specs.Prelude.{◌≡◌, IfOk};
 ghost use Rattle.scm_cells.specs.Spans.{span_texts};
 ghost use Rattle.scm_cells.specs.Clusters.{text_width};
-ghost use Rattle.scm_cells.specs.Counts.{added, no_counts, one_call};
-ghost use Rattle.scm_render.specs.Picture.{PictureInRange};
-ghost use Rattle.scm_render.specs.Drawing.{texts_width, row_rect, span_picture, line_picture, text_picture, body_texts, blank_picture, frame_picture};
-ghost use Rattle.scm_render.specs.Draws.{Draws};
+ghost use Rattle.scm_cells.specs.Counts.{added, one_call};
+ghost use Rattle.scm_render.specs.Drawing.{texts_width, row_rect, body_texts};
+ghost use Rattle.scm_render.specs.Draws.{CanDraw, HasDrawn};
+ghost use Rattle.scm_render.specs.DrawCalls.{
+  blank_call,
+  frame_call,
+  line_call,
+  span_call,
+  text_call,
+  uncounted,
+};
 
 use crate::filling::Filling;
 use crate::viewport::{Viewport, grown};
@@ -13,7 +20,7 @@ use scm_cells::{Line, Rect, Span};
 use scm_errors::RecordError;
 use std::hash::Hash;
 
-/// One row of a rectangle.
+/// Returns the rectangle of `width` columns of row `y` from column `x`.
 fn row_rect(x: isize, y: isize, width: usize) -> Rect
     ensures { result ≡ row_rect x y width }
 {
@@ -26,69 +33,89 @@ fn row_rect(x: isize, y: isize, width: usize) -> Rect
 }
 
 impl<K: Copy + Eq + Hash + Drop> Viewport<K> {
-    /// Draws a text with its first column at `x` on the row `y`, cut to the mask. The box is the whole
-    /// text's.
+    /// Draws a text from column `x` of row `y`, clipped to the mask. Returns the rectangle of the
+    /// whole text.
+    ///
+    /// # Errors
+    /// `OutOfMemory`: an allocation failed.
     pub fn draw_span(&mut self, x: isize, y: isize, span: &Span) -> Result<Rect, RecordError>
-        requires { PictureInRange {K = K} (span_picture self.old.canvas.sight x y span.now.0.now) }
-        ensures draws { Draws self.old self.new result (span_picture self.old.canvas.sight x y span.now.0.now) one_call }
+        requires { CanDraw self.old (span_call x y span.now.0.now) }
+        ensures draws { HasDrawn self.old self.new result (span_call x y span.now.0.now) }
         ensures drawn { IfOk result (λ r. r ≡ row_rect x y (text_width span.now.0.now)) }
     {
         self.count_call();
         self.add_text(x, y, span.0)
     }
 
-    /// Draws a line, its spans one after another, cut to the mask. The box is the whole line's.
+    /// Draws a line from column `x` of row `y`, clipped to the mask. Returns the rectangle of the
+    /// whole line.
+    ///
+    /// # Errors
+    /// `OutOfMemory`: an allocation failed.
     pub fn draw_line(&mut self, x: isize, y: isize, line: &Line) -> Result<Rect, RecordError>
-        requires { PictureInRange {K = K} (line_picture self.old.canvas.sight x y (span_texts line.now.0.items)) }
-        ensures draws { Draws self.old self.new result (line_picture self.old.canvas.sight x y (span_texts line.now.0.items)) one_call }
-        ensures drawn { IfOk result (λ r. r ≡ row_rect x y (texts_width (span_texts line.now.0.items))) }
+        requires { CanDraw self.old (line_call x y (span_texts line.now.0.items)) }
+        ensures draws { HasDrawn self.old self.new result
+            (line_call x y (span_texts line.now.0.items)) }
+        ensures drawn { IfOk result (λ r.
+            r ≡ row_rect x y (texts_width (span_texts line.now.0.items))) }
     {
         self.count_call();
         self.add_spans(x, y, line.0.as_slice())
     }
 
-    /// Draws spans one after another, cut to the mask, and an ellipsis in the last column that the
-    /// mask lets through if they go past it, even if they begin past it. The box that is given is the
-    /// one of the whole spans.
+    /// Draws spans side by side from column `x` of row `y`, clipped to the mask. If they end past
+    /// the mask, draws an ellipsis in the last column of the mask. Returns the rectangle of the
+    /// whole spans.
+    ///
+    /// # Errors
+    /// `OutOfMemory`: an allocation failed.
     pub fn draw_text(&mut self, x: isize, y: isize, spans: &[Span]) -> Result<Rect, RecordError>
-        requires { PictureInRange {K = K} (text_picture self.old.canvas.sight x y (span_texts spans.now)) }
-        ensures draws { Draws self.old self.new result (text_picture self.old.canvas.sight x y (span_texts spans.now)) one_call }
+        requires { CanDraw self.old (text_call x y (span_texts spans.now)) }
+        ensures draws { HasDrawn self.old self.new result (text_call x y (span_texts spans.now)) }
         ensures drawn { IfOk result (λ r. r ≡ row_rect x y (texts_width (span_texts spans.now))) }
     {
         self.count_call();
         self.add_cut(x, y, spans)
     }
 
-    /// Draws spaces over the rectangle, as far as the mask goes, and gives the rectangle.
+    /// Draws spaces over a rectangle, clipped to the mask. Returns the rectangle.
+    ///
+    /// # Errors
+    /// `OutOfMemory`: an allocation failed.
     pub fn draw_blank(&mut self, rect: Rect) -> Result<Rect, RecordError>
-        requires { PictureInRange {K = K} (blank_picture self.old.canvas.sight rect) }
-        ensures draws { Draws self.old self.new result (blank_picture self.old.canvas.sight rect) one_call }
+        requires { CanDraw self.old (blank_call rect) }
+        ensures draws { HasDrawn self.old self.new result (blank_call rect) }
         ensures drawn { IfOk result (λ r. r ≡ rect) }
     {
         self.count_call();
         self.add_blank(rect)
     }
 
-    /// Draws a frame over the rectangle, as far as the mask goes, and gives the rectangle: a border of
-    /// line symbols with spaces inside, a title on its top row, and below that the lines of a body, as
-    /// many as there are rows before the bottom row. Title and body begin one column after the
-    /// border's first and end before its last, without an ellipsis. Nothing shows of a frame without a
-    /// column or a row; one of a single column has the left half of the border alone.
+    /// Draws a frame over a rectangle, clipped to the mask. Returns the rectangle.
+    ///
+    /// The frame has a border of line symbols with spaces inside, and the title on its top row. The
+    /// lines of the body are below the title, as many as fit. Title and body are clipped to the
+    /// columns inside the border, without an ellipsis. A frame of one column has only the left half
+    /// of the border. An empty frame draws nothing.
+    ///
+    /// # Errors
+    /// `OutOfMemory`: an allocation failed.
     pub fn draw_frame(
         &mut self,
         rect: Rect,
         title: &str,
         body: &[&str],
     ) -> Result<Rect, RecordError>
-        requires { PictureInRange {K = K} (frame_picture self.old.canvas.sight rect title.now (body_texts body.now)) }
-        ensures draws { Draws self.old self.new result (frame_picture self.old.canvas.sight rect title.now (body_texts body.now)) one_call }
+        requires { CanDraw self.old (frame_call rect title.now (body_texts body.now)) }
+        ensures draws { HasDrawn self.old self.new result
+            (frame_call rect title.now (body_texts body.now)) }
         ensures drawn { IfOk result (λ r. r ≡ rect) }
     {
         self.count_call();
         self.add_frame(rect, title, body)
     }
 
-    /// Counts a call that draws, whether or not it shows.
+    /// Counts a draw call, visible or not.
     fn count_call(&mut self)
         ensures canvas { self.new.canvas ≡ self.old.canvas }
         ensures counts { self.new.counts ≡ added self.old.counts one_call }
@@ -96,10 +123,10 @@ impl<K: Copy + Eq + Hash + Drop> Viewport<K> {
         self.surface.add_call();
     }
 
-    /// Adds a text to what is drawn.
+    /// Draws a text like `draw_span`, without counting a call.
     fn add_text(&mut self, x: isize, y: isize, text: &str) -> Result<Rect, RecordError>
-        requires { PictureInRange {K = K} (span_picture self.old.canvas.sight x y text.now) }
-        ensures draws { Draws self.old self.new result (span_picture self.old.canvas.sight x y text.now) no_counts }
+        requires { CanDraw self.old (span_call x y text.now) }
+        ensures draws { HasDrawn self.old self.new result (uncounted (span_call x y text.now)) }
         ensures drawn { IfOk result (λ r. r ≡ row_rect x y (text_width text.now)) }
     {
         let within = self.mask_rect();
@@ -109,10 +136,11 @@ impl<K: Copy + Eq + Hash + Drop> Viewport<K> {
         Ok(drawn)
     }
 
-    /// Adds spans one after another to what is drawn.
+    /// Draws spans like `draw_line`, without counting a call.
     fn add_spans(&mut self, x: isize, y: isize, spans: &[Span]) -> Result<Rect, RecordError>
-        requires { PictureInRange {K = K} (line_picture self.old.canvas.sight x y (span_texts spans.now)) }
-        ensures draws { Draws self.old self.new result (line_picture self.old.canvas.sight x y (span_texts spans.now)) no_counts }
+        requires { CanDraw self.old (line_call x y (span_texts spans.now)) }
+        ensures draws { HasDrawn self.old self.new result
+            (uncounted (line_call x y (span_texts spans.now))) }
         ensures drawn { IfOk result (λ r. r ≡ row_rect x y (texts_width (span_texts spans.now))) }
     {
         let within = self.mask_rect();
@@ -122,10 +150,11 @@ impl<K: Copy + Eq + Hash + Drop> Viewport<K> {
         Ok(drawn)
     }
 
-    /// Adds spans to what is drawn, and an ellipsis where they go past the mask.
+    /// Draws spans like `draw_text`, without counting a call.
     fn add_cut(&mut self, x: isize, y: isize, spans: &[Span]) -> Result<Rect, RecordError>
-        requires { PictureInRange {K = K} (text_picture self.old.canvas.sight x y (span_texts spans.now)) }
-        ensures draws { Draws self.old self.new result (text_picture self.old.canvas.sight x y (span_texts spans.now)) no_counts }
+        requires { CanDraw self.old (text_call x y (span_texts spans.now)) }
+        ensures draws { HasDrawn self.old self.new result
+            (uncounted (text_call x y (span_texts spans.now))) }
         ensures drawn { IfOk result (λ r. r ≡ row_rect x y (texts_width (span_texts spans.now))) }
     {
         let drawn = self.add_spans(x, y, spans)?;
@@ -136,10 +165,10 @@ impl<K: Copy + Eq + Hash + Drop> Viewport<K> {
         Ok(drawn)
     }
 
-    /// Adds spaces over the rectangle to what is drawn.
+    /// Draws spaces like `draw_blank`, without counting a call.
     fn add_blank(&mut self, rect: Rect) -> Result<Rect, RecordError>
-        requires { PictureInRange {K = K} (blank_picture self.old.canvas.sight rect) }
-        ensures draws { Draws self.old self.new result (blank_picture self.old.canvas.sight rect) no_counts }
+        requires { CanDraw self.old (blank_call rect) }
+        ensures draws { HasDrawn self.old self.new result (uncounted (blank_call rect)) }
         ensures drawn { IfOk result (λ r. r ≡ rect) }
     {
         let part = rect.intersect(self.mask_rect());
@@ -148,10 +177,11 @@ impl<K: Copy + Eq + Hash + Drop> Viewport<K> {
         Ok(rect)
     }
 
-    /// Adds a frame over the rectangle to what is drawn.
+    /// Draws a frame like `draw_frame`, without counting a call.
     fn add_frame(&mut self, rect: Rect, title: &str, body: &[&str]) -> Result<Rect, RecordError>
-        requires { PictureInRange {K = K} (frame_picture self.old.canvas.sight rect title.now (body_texts body.now)) }
-        ensures draws { Draws self.old self.new result (frame_picture self.old.canvas.sight rect title.now (body_texts body.now)) no_counts }
+        requires { CanDraw self.old (frame_call rect title.now (body_texts body.now)) }
+        ensures draws { HasDrawn self.old self.new result
+            (uncounted (frame_call rect title.now (body_texts body.now))) }
         ensures drawn { IfOk result (λ r. r ≡ rect) }
     {
         let within = self.mask_rect();

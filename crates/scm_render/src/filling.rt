@@ -1,13 +1,12 @@
-//! What a rectangle is filled with.
-ghost use Rattle.std.specs.Prelude.{◌≡◌, pos, ◌+ℤ◌, OnOk, IfErr, string_bytes};
+//! Fillings of rectangles: spaces, or the border of a frame.
+ghost use Rattle.std.specs.Prelude.{◌≡◌, pos, ◌+ℤ◌, OnOk, string_bytes};
 ghost use Rattle.scm_cells.specs.Rect.{InRange, RectInRange};
 ghost use Rattle.scm_render.specs.Drawing.{edge_symbol, border_symbol, symbol_at, row_text, FillingIsInRange};
-ghost use Rattle.scm_errors.specs.declared.error.RecordError.TheVariants.{OutOfMemory};
 
 use scm_cells::Rect;
-use scm_errors::RecordError;
+use std::alloc::AllocError;
 
-/// The characters of the cells of a rectangle.
+/// The characters that fill a rectangle.
 #[derive(Clone, Copy)]
 pub(crate) enum Filling {
     /// Spaces.
@@ -16,7 +15,7 @@ pub(crate) enum Filling {
     Border(Rect),
 }
 
-/// A symbol of a frame's row: `first` in its first column, `last` in its last, else `between`.
+/// Returns the symbol of column `x` in a row of a frame: `first`, `last`, or `between`.
 fn edge_symbol(rect: Rect, x: isize, first: char, between: char, last: char) -> char
     requires { RectInRange rect }
     ensures { result ≡ edge_symbol rect x first between last }
@@ -30,7 +29,7 @@ fn edge_symbol(rect: Rect, x: isize, first: char, between: char, last: char) -> 
     }
 }
 
-/// The symbol of a frame's cell: a corner, an edge, or a space inside.
+/// Returns the symbol of a cell of a frame: a corner, an edge, or a space inside.
 fn border_symbol(rect: Rect, x: isize, y: isize) -> char
     requires { RectInRange rect }
     ensures { result ≡ border_symbol rect x y }
@@ -45,7 +44,7 @@ fn border_symbol(rect: Rect, x: isize, y: isize) -> char
 }
 
 impl Filling {
-    /// The character of the cell in a column and a row.
+    /// Returns the character of the cell in column `x` of row `y`.
     #[tactic(auto, unfolding(crate::specs::Drawing::symbol_at))]
     fn symbol(self, x: isize, y: isize) -> char
         requires { FillingIsInRange self }
@@ -57,19 +56,18 @@ impl Filling {
         }
     }
 
-    /// Makes a text of the cells of a row, `width` of them from a column on.
+    /// Replaces `text` by the characters of `width` cells from column `x` of row `y`.
     pub(crate) fn write_row(
         self,
         text: &mut String,
         x: isize,
         y: isize,
         width: usize,
-    ) -> Result<(), RecordError>
+    ) -> Result<(), AllocError>
         requires filling { FillingIsInRange self }
         requires x { InRange x }
         requires end { InRange (x +ℤ pos width) }
-        ensures ok { OnOk result (string_bytes text.new ≡ row_text self x y width) }
-        ensures err { IfErr result (λ e. e ≡ OutOfMemory) }
+        ensures { OnOk result (string_bytes text.new ≡ row_text self x y width) }
     {
         text.clear();
         for offset in 0..width {

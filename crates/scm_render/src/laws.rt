@@ -1,5 +1,5 @@
-//! Laws of drawing, for whoever writes a component of his own, or draws one: each is the contract of a
-//! function that does nothing. Most are of drawing with ids of one type, and a caller names it.
+//! Laws of drawing, for whoever writes or draws a component. Each law is the contract of a function
+//! that does nothing. Most are for ids of one type, which the caller names.
 ghost use Rattle.scm_render.specs.Hits.{IsLawful};
 ghost use Rattle.scm_render.specs.Laws.{
   CallsHaveRects,
@@ -14,36 +14,35 @@ use crate::target::Clickable;
 use crate::trace::DrawnRects;
 use std::hash::Hash;
 
-/// What a component draws by several calls: by one after another, under a mask that is set and put
-/// back, and in a loop.
+/// The picture of several draw calls: in turn, under a temporary mask, and in a loop.
 pub fn pictures_are_composed<K>()
     ensures { PicturesAreComposed K }
 {}
 
-/// What is drawn by several calls is in range just if what each of them draws is, and likewise a
-/// component's picture, as a part of another and alone.
+/// The picture of several calls is in range if and only if the picture of each call is. The same
+/// holds for a component, within another and alone.
 pub fn parts_are_in_range<K>()
     ensures { PartsAreInRange K }
 {}
 
-/// A call that is in range draws over a rectangle that is: so its place fits, and its end.
+/// If the picture of a call is in range, so is the rectangle that the call draws over.
 pub fn calls_have_rects<K>()
     ensures { CallsHaveRects K }
 {}
 
-/// What is drawn within bounds that are in range is in range, and each call stays within the bounds that
-/// hold its place and its width, on the screen or off it.
+/// A picture within bounds that are in range is in range. A call stays within bounds that contain
+/// its place and width, visible or not.
 pub fn drawing_stays_within<K>()
     ensures { DrawingStaysWithin K }
 {}
 
-/// What several calls draw is counted as the sum of what each draws.
+/// The counts of several calls are the sum of the counts of each.
 pub fn counts_add_up()
     ensures { CountsAddUp }
 {}
 
-/// A map that was made of the boxes of a drawing, for ids that `==` tells apart, has the last box of each
-/// id, and what [`find_target`](crate::find_target) finds in it is the last box under the point.
+/// If `==` is equality of ids, the map of the boxes of a drawing has the last box of each id.
+/// [`find_target`](crate::find_target) finds the last clickable box under the point.
 pub fn maps_have_last_boxes<K: Copy + Eq + Hash + Drop + Clickable>(boxes: &DrawnRects<K>)
     ensures { IsLawful K.eq → HasLastBoxes K.eq K.clicks boxes.now }
 {}

@@ -1,7 +1,7 @@
-//! Drawing components on a part of a document: the picture that each call makes, and the boxes of components.
+//! Components that draw themselves on a part of a document, their pictures and their boxes.
 #![tactic(auto)]
 
-pub use centring::centered_rect;
+pub use centring::{centered_rect, centred_gap, centred_size};
 pub use component::Component;
 pub use target::{Clickable, find_target};
 pub use trace::{DrawTrace, DrawnRect, DrawnRects};

@@ -10,11 +10,11 @@ ghost use Rattle.scm_render.specs.Drawing.{has_row, whole_put, title_room, body_
 ghost use Rattle.scm_errors.specs.declared.error.RecordError.TheVariants.{OutOfMemory};
 
 use crate::filling::Filling;
-use scm_cells::{Grid, Rect, Span, text_width};
+use scm_cells::{Grid, Rect, Span, gap, text_width};
 use scm_errors::RecordError;
 use std::marker::Model;
 
-/// Whether the rectangle has the row.
+/// Returns whether the rectangle has row `y`.
 fn has_row(rect: Rect, y: isize) -> bool
     requires { RectInRange rect }
     ensures test { result ≡ has_row rect y }
@@ -23,7 +23,7 @@ fn has_row(rect: Rect, y: isize) -> bool
     rect.y <= y && y < rect.end_y()
 }
 
-/// A frame's top row without its corners, where the title stands.
+/// Returns the place of the title: the top row of a frame without its corners.
 fn title_room(frame: Rect) -> Rect
     requires frame { RectInRange frame }
     requires width { 0 < frame.width }
@@ -39,7 +39,7 @@ fn title_room(frame: Rect) -> Rect
     }
 }
 
-/// What a frame's border leaves free, where the lines of the body stand.
+/// Returns the place of the body: a frame without its border.
 fn body_room(frame: Rect) -> Rect
     requires frame { RectInRange frame }
     requires width { 0 < frame.width }
@@ -55,12 +55,14 @@ fn body_room(frame: Rect) -> Rect
     }
 }
 
-/// A grid, and the part of the document that it shows, which has the grid's size. Texts are put at
-/// places of the document; rows that the grid does not show are left out, and texts are cut to the
-/// columns of a rectangle `within`.
+/// A grid, and the part of the document that it shows, of the same size. Texts are put at columns
+/// and rows of the document. They are clipped to the grid and to a rectangle `within`.
 #[derive(Drop)]
 pub(crate) struct Surface {
+    /// The grid.
     grid: Grid,
+
+    /// The part of the document that the grid shows.
     rect: Rect,
 }
 
@@ -82,7 +84,7 @@ impl Model for Surface {
 }
 
 impl Surface {
-    /// The grid as the part `rect` of the document, of the same size.
+    /// Returns a surface whose grid shows the part `rect` of the document, of the same size.
     pub(crate) fn new(grid: Grid, rect: Rect) -> Surface
         requires rect { RectInRange rect }
         requires width { grid.width ≡ rect.width }
@@ -92,7 +94,7 @@ impl Surface {
         Surface { grid, rect }
     }
 
-    /// The grid.
+    /// Returns the grid.
     pub(crate) fn into_grid(self) -> Grid
         ensures width { result.width ≡ self.rect.width }
         ensures height { length result.rows ≡ self.rect.height }
@@ -103,21 +105,21 @@ impl Surface {
         grid
     }
 
-    /// Counts a row of the document.
+    /// Counts one row of the document.
     pub(crate) fn add_row(&mut self)
         ensures { self.new ≡ record self.old { counts = added self.old.counts one_row } }
     {
         self.grid.add_row();
     }
 
-    /// Counts a call that draws.
+    /// Counts one draw call.
     pub(crate) fn add_call(&mut self)
         ensures { self.new ≡ record self.old { counts = added self.old.counts one_call } }
     {
         self.grid.add_call();
     }
 
-    /// The part of the document that the grid shows.
+    /// Returns the part of the document that the grid shows.
     pub(crate) fn rect(&self) -> Rect
         ensures value { result ≡ self.now.rect }
         ensures in_range { RectInRange result }
@@ -132,20 +134,15 @@ impl Surface {
         }
     }
 
-    /// A column of the document as a column of the grid, where columns past its edges are those
-    /// edges.
+    /// Returns column `x` of the document as a column of the grid, clamped to the grid.
     fn column(&self, x: isize) -> usize
         ensures value { result ≡ limit self.now.rect x }
         ensures bound { result ≤ self.now.rect.width }
     {
-        if self.rect.x < x {
-            self.rect.x.abs_diff(x).min(self.rect.width)
-        } else {
-            0
-        }
+        self.rect.width.min(gap(self.rect.x, x))
     }
 
-    /// Puts a text on a row that the grid shows, and gives the columns that it takes.
+    /// Puts a text on a row that the grid shows. Returns the width of the whole text.
     fn put_row(
         &mut self,
         within: Rect,
@@ -157,7 +154,8 @@ impl Surface {
         requires x { InRange x }
         requires top { self.old.rect.y ≤ℤ y }
         requires bottom { y <ℤ end_y_of self.old.rect }
-        ensures ok { OnOk result (self.new ≡ with_puts (whole_put within x y text.now ∷ []) self.old) }
+        ensures ok { OnOk result (
+            self.new ≡ with_puts (whole_put within x y text.now ∷ []) self.old) }
         ensures columns { IfOk result (λ n. n ≡ text_width text.now) }
         ensures rect { self.new.rect ≡ self.old.rect }
         ensures err { IfErr result (λ e. e ≡ OutOfMemory) }
@@ -171,7 +169,7 @@ impl Surface {
         Ok(columns)
     }
 
-    /// Puts a text, if `within` and the grid have its row, and gives the columns that it takes.
+    /// Puts a text, if `within` and the grid have its row. Returns the width of the whole text.
     pub(crate) fn put_text(
         &mut self,
         within: Rect,
@@ -192,7 +190,7 @@ impl Surface {
         Ok(text_width(text))
     }
 
-    /// Puts the texts of spans one after another, and gives the columns that they take.
+    /// Puts the texts of spans side by side. Returns their width.
     pub(crate) fn put_spans(
         &mut self,
         within: Rect,
@@ -203,7 +201,8 @@ impl Surface {
         requires within { RectInRange within }
         requires x { InRange x }
         requires end { InRange (x +ℤ pos (texts_width (span_texts spans.now))) }
-        ensures ok { OnOk result (self.new ≡ with_puts (texts_puts within x y (span_texts spans.now)) self.old) }
+        ensures ok { OnOk result (
+            self.new ≡ with_puts (texts_puts within x y (span_texts spans.now)) self.old) }
         ensures columns { IfOk result (λ n. n ≡ texts_width (span_texts spans.now)) }
         ensures rect { self.new.rect ≡ self.old.rect }
         ensures err { IfErr result (λ e. e ≡ OutOfMemory) }
@@ -216,7 +215,7 @@ impl Surface {
         Ok(columns)
     }
 
-    /// Puts texts one below another.
+    /// Puts texts one below the other.
     fn put_lines(
         &mut self,
         within: Rect,
@@ -227,7 +226,8 @@ impl Surface {
         requires within { RectInRange within }
         requires x { InRange x }
         requires end { InRange (y +ℤ pos (length lines.now)) }
-        ensures ok { OnOk result (self.new ≡ with_puts (lines_puts within x y (body_texts lines.now)) self.old) }
+        ensures ok { OnOk result (
+            self.new ≡ with_puts (lines_puts within x y (body_texts lines.now)) self.old) }
         ensures rect { self.new.rect ≡ self.old.rect }
         ensures err { IfErr result (λ e. e ≡ OutOfMemory) }
     {
@@ -237,7 +237,7 @@ impl Surface {
         Ok(())
     }
 
-    /// Fills a rectangle, row by row. The text `scratch` is written anew for each row.
+    /// Fills a rectangle row by row. Overwrites the buffer `scratch`.
     pub(crate) fn fill(
         &mut self,
         scratch: &mut String,
@@ -258,8 +258,8 @@ impl Surface {
         Ok(())
     }
 
-    /// Puts a frame that has a cell: its border with spaces inside, its title, and the lines of its
-    /// body that it has rows for.
+    /// Puts a frame: its border with spaces inside, its title, and the lines of the body that fit.
+    /// Overwrites the buffer `scratch`.
     pub(crate) fn put_frame(
         &mut self,
         scratch: &mut String,
@@ -272,7 +272,8 @@ impl Surface {
         requires frame { RectInRange frame }
         requires columns { 0 < frame.width }
         requires lines { 0 < frame.height }
-        ensures ok { OnOk result (self.new ≡ with_puts (frame_puts within frame title.now (body_texts body.now)) self.old) }
+        ensures ok { OnOk result (self.new
+            ≡ with_puts (frame_puts within frame title.now (body_texts body.now)) self.old) }
         ensures rect { self.new.rect ≡ self.old.rect }
         ensures err { IfErr result (λ e. e ≡ OutOfMemory) }
     {

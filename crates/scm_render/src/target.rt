@@ -1,4 +1,4 @@
-//! What a click hits, by where each component drew.
+//! The target of a click, by the boxes of components.
 ghost use Rattle.std.specs.Prelude.{◌≡◌, Bool, ◌&&◌, int_le, int_lt, ◌+ℤ◌, pos, None, option_map, fold};
 ghost use Rattle.std.specs.HashMap.{IsUnique};
 ghost use Rattle.scm_render.specs.Hits.{holds, IsLawful};
@@ -8,34 +8,35 @@ use crate::trace::{DrawnRect, DrawnRects};
 use scm_cells::Rect;
 use std::hash::Hash;
 
-/// An id whose component a click may act on.
+/// An id of a component that may be clickable.
 pub trait Clickable {
-    // Whether a click acts on it.
+    // Whether a click acts on the component.
     ghost clicks: { Self → Bool };
 
-    /// Whether a click acts on it.
+    /// Returns whether a click acts on the component.
     fn is_clickable(&self) -> bool
         ensures { result ≡ clicks self.now };
 }
 
-/// Whether a place is one of so many from another on, wherever both are.
+/// Returns whether `place` lies in `from..from + size`. Never overflows.
 fn is_among(from: isize, size: usize, place: isize) -> bool
     ensures { result ≡ (int_le from place && int_lt place (from +ℤ pos size)) }
 {
     from <= place && from.abs_diff(place) < size
 }
 
-/// Whether the rectangle holds the point, wherever both are.
+/// Returns whether the rectangle contains row `y` and column `x`. Never overflows.
 #[tactic(auto, unfolding(crate::specs::Hits::holds))]
 fn holds(rect: Rect, y: isize, x: isize) -> bool
     ensures { result ≡ holds rect y x }
 {
     let rows = is_among(rect.y, rect.height, y);
     let columns = is_among(rect.x, rect.width, x);
+    // `&`: one branch for the prover
     rows & columns
 }
 
-/// The later of what was found and another box.
+/// Returns the later of the box that was found so far, if any, and the box `entry`.
 fn later_of<K: Copy + Drop>(
     found: Option<(K, DrawnRect)>,
     entry: (K, DrawnRect),
@@ -54,7 +55,7 @@ fn later_of<K: Copy + Drop>(
     }
 }
 
-/// Of the clickable boxes that hold the point in row `y` and column `x`, the latest, with its id.
+/// Returns the latest clickable box that contains row `y` and column `x`, with its id.
 fn latest_box<K: Copy + Eq + Hash + Drop + Clickable>(
     boxes: &DrawnRects<K>,
     y: isize,
@@ -72,19 +73,16 @@ fn latest_box<K: Copy + Eq + Hash + Drop + Clickable>(
     found
 }
 
-/// The id of what was found.
+/// Returns the id of the box that was found.
 fn id_of<K: Copy + Drop>(found: Option<(K, DrawnRect)>) -> Option<K>
     ensures { result ≡ option_map (λ e. e.0) found }
 {
-    match found {
-        Some((id, _)) => Some(id),
-        None => None,
-    }
+    let (id, _) = found?;
+    Some(id)
 }
 
-/// What a click on the point in row `y` and column `x` hits, for ids that `==` tells apart: the id of a
-/// clickable box of the map that holds the point, where none of those boxes is later, and `None` only
-/// where there is none. In a map of all boxes of a drawing no two have one time.
+/// Returns the id that a click on row `y` and column `x` hits. It is the id of the latest clickable
+/// box that contains the point, or `None` without such a box.
 pub fn find_target<K: Copy + Eq + Hash + Drop + Clickable>(
     boxes: &DrawnRects<K>,
     y: isize,

@@ -1,4 +1,4 @@
-//! Where components drew.
+//! The boxes of components.
 ghost use Rattle.std.specs.Prelude.{◌≡◌, [], OnOk, OnErr, IfErr};
 ghost use Rattle.std.specs.HashMap.{InsertsAll, IsUnchanged};
 ghost use Rattle.scm_cells.specs.Rect.{RectInRange, union_of};
@@ -11,26 +11,30 @@ use std::alloc::Global;
 use std::collections::HashMap;
 use std::hash::Hash;
 
-/// Where a component drew: the least rectangle around all that it and its parts drew or covered, in
-/// places of the document, and its rank in the order in which components began, from 0.
+/// The box of a component, with its timestamp.
 #[derive(Clone, Copy, Debug, Eq, Ord, PartialEq, PartialOrd)]
 pub struct DrawnRect {
+    /// The least rectangle around all that the component and its parts drew or covered. Columns and
+    /// rows are those of the document.
     pub rect: Rect,
+    /// The rank of the component in the order in which components began, counted from 0.
     pub timestamp: usize,
 }
 
-/// Where each component drew, by its id.
+/// The box of each component, by its id.
 pub type DrawnRects<Id> = HashMap<Id, DrawnRect>;
 
-/// The least rectangle around what was drawn, and where each component drew.
+/// The bounding rectangle of a drawing, and the boxes of its components.
 #[derive(Drop)]
 pub struct DrawTrace<Id: Eq + Hash> {
+    /// The least rectangle around all that was drawn.
     pub rect: Rect,
+    /// The box of each component.
     pub components: DrawnRects<Id>,
 }
 
 impl<Id: Copy + Eq + Hash + Drop> DrawTrace<Id> {
-    /// A trace of nothing: a rectangle of zeros, and no boxes.
+    /// Returns an empty trace: a rectangle of zeros, and no boxes.
     pub fn new(alloc: Global) -> DrawTrace<Id>
         ensures rect { result.rect ≡ no_rect }
         ensures boxes { result.components.entries ≡ [] }
@@ -41,7 +45,7 @@ impl<Id: Copy + Eq + Hash + Drop> DrawTrace<Id> {
         }
     }
 
-    /// Makes the rectangle the least around itself and another, where an empty one counts as nothing.
+    /// Grows the rectangle to contain `rect`. An empty rectangle is ignored.
     pub fn merge_rect(&mut self, rect: Rect)
         requires left { RectInRange self.old.rect }
         requires right { RectInRange rect }
@@ -51,14 +55,17 @@ impl<Id: Copy + Eq + Hash + Drop> DrawTrace<Id> {
         self.rect = self.rect.union_bounding(rect);
     }
 
-    /// Takes over what another trace drew: its rectangle by [`DrawTrace::merge_rect`], and its boxes,
-    /// which take the place of those of the same ids. Where memory is refused the trace is as
-    /// before.
+    /// Adds another trace: its rectangle by [`DrawTrace::merge_rect`], and its boxes. They replace
+    /// boxes of the same ids.
+    ///
+    /// # Errors
+    /// `OutOfMemory`: an allocation failed; the trace is unchanged.
     pub fn merge(&mut self, other: DrawTrace<Id>) -> Result<(), RecordError>
         requires left { RectInRange self.old.rect }
         requires right { RectInRange other.rect }
         ensures rect { OnOk result (self.new.rect ≡ union_of self.old.rect other.rect) }
-        ensures boxes { OnOk result (InsertsAll Id.eq self.old.components other.components.entries self.new.components) }
+        ensures boxes { OnOk result (
+            InsertsAll Id.eq self.old.components other.components.entries self.new.components) }
         ensures kept_rect { OnErr result (self.new.rect ≡ self.old.rect) }
         ensures kept_boxes { OnErr result (IsUnchanged self.old.components self.new.components) }
         ensures err { IfErr result (λ e. e ≡ OutOfMemory) }

@@ -5,12 +5,13 @@ ghost use Rattle.scm_cells.specs.Mask.{MaskInRange};
 ghost use Rattle.scm_cells.specs.Counts.{added, one_row};
 ghost use Rattle.scm_render.specs.Around.{join, no_rect};
 ghost use Rattle.scm_render.specs.Picture.{PictureInRange, part, box_rect, covering};
-ghost use Rattle.scm_render.specs.Canvas.{painted, with_mask, with_picture, MaskIsInRange};
+ghost use Rattle.scm_render.specs.Canvas.{paint_rows, with_mask, with_picture, MaskIsInRange};
 ghost use Rattle.scm_render.specs.Drawing.{mask_or, reach};
-ghost use Rattle.scm_render.specs.Places.{translated, timed, screen_rect, whole_sight};
+ghost use Rattle.scm_render.specs.Places.{screen_part, with_times, screen_rect, whole_sight};
 ghost use Rattle.std.specs.HashMap.{IsFromIterResult};
 ghost use Rattle.scm_errors.specs.declared.error.RecordError.TheVariants.{OutOfMemory};
-ghost use Rattle.scm_render.specs.Draws.{Draws};
+ghost use Rattle.scm_render.specs.Draws.{CanDraw, HasDrawn};
+ghost use Rattle.scm_render.specs.DrawCalls.{part_call};
 
 use crate::component::Component;
 use crate::surface::Surface;
@@ -22,7 +23,7 @@ use std::hash::Hash;
 use std::marker::Model;
 use std::mem;
 
-/// The rectangle grown to hold another, unless that one is empty.
+/// Returns the least rectangle around `area` and `rect`, or `area` if `rect` is empty.
 #[tactic(auto, unfolding(crate::specs::Around::join))]
 pub(crate) fn grown(area: Rect, rect: Rect) -> Rect
     requires area { RectInRange area }
@@ -36,16 +37,26 @@ pub(crate) fn grown(area: Rect, rect: Rect) -> Rect
     }
 }
 
-/// A part of a document on a grid. What is drawn outside that part, or outside the mask if one is set,
-/// does not show, and still counts for the boxes of components. The grid counts the rows that are begun,
-/// and the calls that draw, whether or not they show.
+/// A part of a document on a grid. Drawing outside that part, or outside the mask if one is set, is
+/// invisible. It still counts for the boxes of components. The grid counts rows that are begun and
+/// draw calls, visible or not.
 #[derive(Drop)]
 pub struct Viewport<K> {
     alloc: Global,
+
+    /// The grid with the part of the document that it shows.
     pub(crate) surface: Surface,
+
+    /// The mask, if one is set.
     mask: Option<Mask>,
+
+    /// The least rectangle around all that the current component drew so far.
     pub(crate) area: Rect,
+
+    /// The boxes of the components that have begun, in order.
     boxes: Vec<(K, Rect)>,
+
+    /// A buffer for rows.
     pub(crate) scratch: String,
 }
 
@@ -74,13 +85,18 @@ impl<K> Model for Viewport<K> {
 }
 
 impl<K: Copy + Eq + Hash + Drop> Viewport<K> {
-    /// A viewport that shows the part `rect` of the document on a grid of the same size, without a
-    /// mask.
+    /// Returns a viewport without a mask. It shows the part `rect` of the document on a grid of the
+    /// same size.
     pub fn new(alloc: Global, grid: Grid, rect: Rect) -> Viewport<K>
         requires rect { RectInRange rect }
         requires width { grid.width ≡ rect.width }
         requires height { length grid.rows ≡ rect.height }
-        ensures canvas { result.canvas ≡ record { sight = record { rect = rect; mask = None }; rows = grid.rows; area = no_rect; boxes = [] } }
+        ensures canvas { result.canvas ≡ record {
+          sight = record { rect = rect; mask = None };
+          rows = grid.rows;
+          area = no_rect;
+          boxes = [];
+        } }
         ensures counts { result.counts ≡ grid.counts }
     {
         Viewport {
@@ -93,7 +109,7 @@ impl<K: Copy + Eq + Hash + Drop> Viewport<K> {
         }
     }
 
-    /// The grid that was drawn on.
+    /// Returns the grid.
     pub fn into_grid(self) -> Grid
         ensures width { result.width ≡ self.canvas.sight.rect.width }
         ensures height { length result.rows ≡ self.canvas.sight.rect.height }
@@ -104,7 +120,7 @@ impl<K: Copy + Eq + Hash + Drop> Viewport<K> {
         surface.into_grid()
     }
 
-    /// The part of the document that is on the screen.
+    /// Returns the part of the document on the screen.
     pub fn rect(&self) -> Rect
         ensures value { result ≡ self.now.canvas.sight.rect }
         ensures in_range { RectInRange result }
@@ -113,7 +129,7 @@ impl<K: Copy + Eq + Hash + Drop> Viewport<K> {
         self.surface.rect()
     }
 
-    /// The mask that was set, else the rectangle's.
+    /// Returns the mask, or that of the whole rectangle if none is set.
     pub fn mask(&self) -> Mask
         ensures value { result ≡ mask_or self.now.canvas.sight.mask self.now.canvas.sight.rect }
         ensures in_range { MaskInRange result }
@@ -124,7 +140,7 @@ impl<K: Copy + Eq + Hash + Drop> Viewport<K> {
         }
     }
 
-    /// The part of the rectangle that the mask lets through.
+    /// Returns the part of the rectangle that the mask lets through.
     #[tactic(auto, unfolding(crate::specs::Drawing::reach))]
     pub fn mask_rect(&self) -> Rect
         ensures value { result ≡ reach self.now.canvas.sight }
@@ -133,7 +149,7 @@ impl<K: Copy + Eq + Hash + Drop> Viewport<K> {
         self.mask().apply(self.surface.rect())
     }
 
-    /// Sets or takes away the mask, and gives the one that was set before.
+    /// Sets or removes the mask. Returns the previous one.
     pub fn swap_mask(&mut self, mask: Option<Mask>) -> Option<Mask>
         requires { MaskIsInRange mask }
         ensures old { result ≡ self.old.canvas.sight.mask }
@@ -144,12 +160,12 @@ impl<K: Copy + Eq + Hash + Drop> Viewport<K> {
         mem::replace(&mut self.mask, mask)
     }
 
-    /// The part of a rectangle that is on the screen, its places counted from the screen's corner, or
-    /// `None` where no cell of it is there.
-    #[tactic(auto, unfolding(crate::specs::Places::translated))]
+    /// Returns the part of a rectangle that is on the screen, in columns and rows of the screen.
+    /// Returns `None` if no cell of it is there.
+    #[tactic(auto, unfolding(crate::specs::Places::screen_part))]
     pub fn translate_rect(&self, rect: Rect) -> Option<ScreenRect>
         requires { RectInRange rect }
-        ensures { result ≡ translated self.now.canvas.sight.rect rect }
+        ensures { result ≡ screen_part self.now.canvas.sight.rect rect }
     {
         let screen = self.surface.rect();
         let part = screen.intersect(rect);
@@ -165,7 +181,8 @@ impl<K: Copy + Eq + Hash + Drop> Viewport<K> {
         }
     }
 
-    /// Records that a rectangle is covered, and gives it back. Nothing is put on the grid.
+    /// Grows the box of the current component to contain `rect`. Returns `rect`. Leaves the grid
+    /// unchanged.
     pub fn cover(&mut self, rect: Rect) -> Rect
         requires { RectInRange rect }
         ensures new { self.new.canvas ≡ with_picture self.old.canvas (covering rect) }
@@ -176,7 +193,7 @@ impl<K: Copy + Eq + Hash + Drop> Viewport<K> {
         rect
     }
 
-    /// Begins a row of the document: counts it.
+    /// Counts one row of the document.
     pub fn begin_row(&mut self)
         ensures canvas { self.new.canvas ≡ self.old.canvas }
         ensures counts { self.new.counts ≡ added self.old.counts one_row }
@@ -184,12 +201,16 @@ impl<K: Copy + Eq + Hash + Drop> Viewport<K> {
         self.surface.add_row();
     }
 
-    /// Notes the box of a component that would only cover a rectangle, and draws nothing: its box is the
-    /// next one, and the component around it grows as if it had drawn there. The box of an empty
-    /// rectangle is that of a component that draws nothing, a rectangle of zeros.
+    /// Adds the box of a component that covers the rectangle `covered`, without drawing. Grows the
+    /// box of the current component to contain it. If `covered` is empty, the new box is a
+    /// rectangle of zeros.
+    ///
+    /// # Errors
+    /// `OutOfMemory`: an allocation failed.
     pub fn note_box(&mut self, id: K, covered: Rect) -> Result<(), RecordError>
         requires { RectInRange covered }
-        ensures ok { OnOk result (self.new.canvas ≡ with_picture self.old.canvas (part id (covering covered))) }
+        ensures ok { OnOk result (
+            self.new.canvas ≡ with_picture self.old.canvas (part id (covering covered))) }
         ensures counts { self.new.counts ≡ self.old.counts }
         ensures rect { self.new.canvas.sight.rect ≡ self.old.canvas.sight.rect }
         ensures err { IfErr result (λ e. e ≡ OutOfMemory) }
@@ -200,17 +221,23 @@ impl<K: Copy + Eq + Hash + Drop> Viewport<K> {
         Ok(())
     }
 
-    /// Draws a component as a part of the one that is being drawn, and gives its box: the least
-    /// rectangle around all that it and its parts drew or covered, shown or not.
+    /// Draws a component within the current one. Returns its box: the least rectangle around all
+    /// that it and its parts drew or covered.
+    ///
+    /// # Errors
+    /// `OutOfMemory`: an allocation failed.
     pub fn draw_component<C: Component<Id = K>>(
         &mut self,
         x: isize,
         y: isize,
         component: &C,
     ) -> Result<Rect, RecordError>
-        requires { PictureInRange (part (C.key component.now) (C.picture component.now self.old.canvas.sight x y)) }
-        ensures draws { Draws self.old self.new result (part (C.key component.now) (C.picture component.now self.old.canvas.sight x y)) (record { rows = C.rows component.now self.old.canvas.sight x y; calls = C.calls component.now self.old.canvas.sight x y }) }
-        ensures drawn { IfOk result (λ r. r ≡ box_rect (C.picture component.now self.old.canvas.sight x y)) }
+        requires { CanDraw self.old (part_call (C.key component.now) (C.picture component.now)
+            (C.rows component.now) (C.calls component.now) x y) }
+        ensures draws { HasDrawn self.old self.new result (part_call (C.key component.now)
+            (C.picture component.now) (C.rows component.now) (C.calls component.now) x y) }
+        ensures drawn { IfOk result (λ r.
+            r ≡ box_rect (C.picture component.now self.old.canvas.sight x y)) }
     {
         let id = component.id();
         let place = self.boxes.len();
@@ -224,10 +251,12 @@ impl<K: Copy + Eq + Hash + Drop> Viewport<K> {
         Ok(rect)
     }
 
-    /// Draws a component at the document's column 0 and row 0 on a grid that shows the document from
-    /// its column `x` and row `y` on, over what the grid holds, and gives the boxes of all components
-    /// that were drawn. Where memory is
-    /// refused, too, the grid has its size.
+    /// Draws a component at column 0 and row 0 of the document. The grid shows the document from
+    /// column `x` and row `y`. Keeps the symbols that nothing is drawn over. Returns the boxes of
+    /// all components.
+    ///
+    /// # Errors
+    /// `OutOfMemory`: an allocation failed; the grid has the same size.
     pub fn render_top_level<C: Component<Id = K>>(
         alloc: Global,
         grid: &mut Grid,
@@ -236,10 +265,17 @@ impl<K: Copy + Eq + Hash + Drop> Viewport<K> {
         component: &C,
     ) -> Result<DrawnRects<K>, RecordError>
         requires place { RectInRange (screen_rect grid.old x y) }
-        requires picture { PictureInRange (part (C.key component.now) (C.picture component.now (whole_sight grid.old x y) (pos 0) (pos 0))) }
-        ensures rows { OnOk result (grid.new.rows ≡ painted (screen_rect grid.old x y) (C.picture component.now (whole_sight grid.old x y) (pos 0) (pos 0)).puts y grid.old.rows) }
-        ensures boxes { IfOk result (IsFromIterResult K.eq (timed (part (C.key component.now) (C.picture component.now (whole_sight grid.old x y) (pos 0) (pos 0))).boxes)) }
-        ensures counts { OnOk result (grid.new.counts ≡ added grid.old.counts (record { rows = C.rows component.now (whole_sight grid.old x y) (pos 0) (pos 0); calls = C.calls component.now (whole_sight grid.old x y) (pos 0) (pos 0) })) }
+        requires picture { PictureInRange (part (C.key component.now)
+            (C.picture component.now (whole_sight grid.old x y) (pos 0) (pos 0))) }
+        ensures rows { OnOk result (grid.new.rows ≡ paint_rows (screen_rect grid.old x y)
+            (C.picture component.now (whole_sight grid.old x y) (pos 0) (pos 0)).puts
+            y grid.old.rows) }
+        ensures boxes { IfOk result (IsFromIterResult K.eq (with_times (part (C.key component.now)
+            (C.picture component.now (whole_sight grid.old x y) (pos 0) (pos 0))).boxes)) }
+        ensures counts { OnOk result (grid.new.counts ≡ added grid.old.counts (record {
+          rows = C.rows component.now (whole_sight grid.old x y) (pos 0) (pos 0);
+          calls = C.calls component.now (whole_sight grid.old x y) (pos 0) (pos 0);
+        })) }
         ensures width { grid.new.width ≡ grid.old.width }
         ensures height { length grid.new.rows ≡ length grid.old.rows }
         ensures err { IfErr result (λ e. e ≡ OutOfMemory) }
@@ -261,7 +297,7 @@ impl<K: Copy + Eq + Hash + Drop> Viewport<K> {
         Ok(rects)
     }
 
-    /// The grid that was drawn on, and the boxes.
+    /// Returns the grid and the boxes.
     fn into_parts(self) -> (Grid, Vec<(K, Rect)>)
         ensures width { result.0.width ≡ self.canvas.sight.rect.width }
         ensures height { length result.0.rows ≡ self.canvas.sight.rect.height }
@@ -273,13 +309,12 @@ impl<K: Copy + Eq + Hash + Drop> Viewport<K> {
     }
 }
 
-/// Each box with its time, its place in the list.
+/// Returns each box with its timestamp, which is its index.
 fn time_boxes<K: Copy + Eq + Hash + Drop>(
     alloc: Global,
     boxes: &[(K, Rect)],
-) -> Result<Vec<(K, DrawnRect)>, RecordError>
-    ensures ok { IfOk result (λ rects. rects.items ≡ timed boxes.now) }
-    ensures err { IfErr result (λ e. e ≡ OutOfMemory) }
+) -> Result<Vec<(K, DrawnRect)>, AllocError>
+    ensures { IfOk result (λ rects. rects.items ≡ with_times boxes.now) }
 {
     let mut rects = Vec::new(alloc);
     for (timestamp, (id, rect)) in boxes.iter().enumerate() {
@@ -292,7 +327,7 @@ fn time_boxes<K: Copy + Eq + Hash + Drop>(
     Ok(rects)
 }
 
-/// The map of boxes, where a later one takes the place of an earlier one of the same id.
+/// Returns the boxes by id. A later box replaces an earlier one of the same id.
 fn by_id<K: Copy + Eq + Hash + Drop>(
     alloc: Global,
     boxes: Vec<(K, DrawnRect)>,

@@ -4,7 +4,7 @@ pub mod KeyListLemmas
 pub mod MoveLemmas
 pub mod PartLemmas
 pub mod RelationLemmas
-pub mod StepLemmas
+pub mod FindLemmas
 pub mod WalkLemmas
 -- toggles, and the files that they keep coherent
 pub mod ToggleLemmas

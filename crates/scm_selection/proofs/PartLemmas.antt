@@ -15,10 +15,10 @@ use Rattle.scm_types.specs.declared.keys.SectionKey.{SectionKey}
 use Rattle.scm_types.specs.declared.keys.LineKey.{LineKey}
 use Rattle.scm_types.specs.declared.keys.SelectionKey.TheVariants as keys
 use Rattle.scm_selection.specs.KeySet.{is_key}
-use Rattle.scm_selection.specs.Steps.{lines_of, is_key_of, keys_before, keys_after}
+use Rattle.scm_selection.specs.KeysAround.{lines_of, is_key_of, keys_before, keys_after}
 use Rattle.scm_selection.specs.KeyLists.{file_key, section_key, line_key, line_keys, section_keys, sections_keys, files_keys}
 
--- what stands before and after the first key that passes a test
+-- the keys before and after the first key that passes a test
 abbrev pub parted_on : Bool → SelectionKey → List SelectionKey → Option (List SelectionKey × List SelectionKey) → Option (List SelectionKey × List SelectionKey)
 parted_on true k ks rest = Some ([], ks)
 parted_on false k ks None = None
@@ -66,7 +66,7 @@ module _ (q : SelectionKey → Bool) where
   around ys zs xs None = refl
   around ys zs xs (Some p) = refl
 
-  -- only what stands in the middle passes
+  -- only the middle part passes
   pub parted-middle : (xs ys zs : List SelectionKey) → parted q xs ≡ None → parted q zs ≡ None → parted q (xs ++ (ys ++ zs)) ≡ within xs zs (parted q ys)
   parted-middle xs ys zs a b =
       parted-append xs (ys ++ zs)

@@ -1,4 +1,4 @@
--- The moves on lists, by what stands before and after the selection.
+-- The moves on lists, by the keys before and after the selection.
 use Rattle.std.proofs.Common.{◌≡◌, ℕ, zero, suc, ◌+◌, ◌<◌, Bool, true, false, cond, not, ◌&&◌, List, [], ◌∷◌, length, drop, refl, ap, sym, ◌∙◌, arith, nat_eq, nat_lt, Option, Some, None}
 use Rattle.std.specs.Prelude.{slice_get, find, filter, if◌then◌else◌}
 use Rattle.std.specs.Option.{option_or, unwrap_or}
@@ -11,10 +11,10 @@ use Rattle.scm_types.specs.declared.keys.SelectionKey.TheVariants as keys
 use Rattle.scm_selection.specs.KeySet.{is_key, numbers_of, same_numbers}
 use Rattle.scm_selection.specs.KeyLists.{files_keys}
 use Rattle.scm_selection.specs.Moves.{is_same_kind, next_at, previous_at, next_key, previous_key, keys_behind}
-use Rattle.scm_selection.specs.Steps.{find_last, is_key_of, keys_before, keys_after}
+use Rattle.scm_selection.specs.KeysAround.{find_last, is_key_of, keys_before, keys_after}
 use Rattle.scm_selection.proofs.PartLemmas.{parted_on, parted, if_there, parts}
 
--- what is known of the place where the first key stands that passes
+-- the index of the first key that passes, and what follows from it
 module _ (q : SelectionKey → Bool) where
   abbrev pub IsPlaced : Option (List SelectionKey × List SelectionKey) → List SelectionKey → ℕ → Type 0
   IsPlaced None ks place = place ≡ length ks
@@ -57,7 +57,7 @@ next-is ks sel o = go (parted (is_key sel) ks) (position_or_len (is_key sel) ks)
         let inside : nat_lt (length p.0) (length ks) ≡ true = grind (arith, nat_tests) in
         rw (e, inside, h.2) refl
 
--- of a part of the keys
+-- the same for a part of the keys
 abbrev pub kept : Bool → (SelectionKey → Bool) → Option (List SelectionKey × List SelectionKey) → Option (List SelectionKey × List SelectionKey)
 kept b test None = None
 kept false test (Some p) = None

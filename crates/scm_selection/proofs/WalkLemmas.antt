@@ -12,7 +12,7 @@ use Rattle.scm_types.specs.declared.keys.SelectionKey.TheVariants as keys
 use Rattle.scm_selection.specs.KeySet.{is_key, numbers_of, same_numbers}
 use Rattle.scm_selection.specs.KeyLists.{line_keys, sections_keys, files_keys}
 use Rattle.scm_selection.specs.Moves.{next_key, previous_key, keys_behind}
-use Rattle.scm_selection.specs.Steps.{find_last, is_key_of, sections_at, lines_at, after_file, after_section, keys_before, keys_after}
+use Rattle.scm_selection.specs.KeysAround.{find_last, is_key_of, sections_at, lines_at, keys_after_file, keys_after_section, keys_before, keys_after}
 use Rattle.scm_selection.proofs.PartLemmas.{parted_on, parted, joined, if_there, parted-append, both_none, lines-away, sections-away, files-away, not-above, eq-self, file-other, section-other, line-other}
 use Rattle.scm_selection.proofs.RelationLemmas.{IsPlaced, placed, next_part, previous_part, behind, kept, next-is, previous-is, behind-is, kept-is, kept-parts, key-same}
 
@@ -22,7 +22,7 @@ use Rattle.scm_selection.proofs.RelationLemmas.{IsPlaced, placed, next_part, pre
 never-after : (fs : List File) (key : SelectionKey) → parted (is_key key) (keys_after fs key) ≡ None
 never-after fs keys.None = refl
 never-after fs (keys.File k) =
-    both_none (is_key (keys.File k)) (sections_keys k.file_idx 0 (sections_at fs k.file_idx)) (after_file fs k.file_idx)
+    both_none (is_key (keys.File k)) (sections_keys k.file_idx 0 (sections_at fs k.file_idx)) (keys_after_file fs k.file_idx)
     (sections-away (is_key (keys.File k)) k.file_idx 0 (sections_at fs k.file_idx) (λ j lo hi. (refl, λ i. refl)))
     (files-away (is_key (keys.File k)) (k.file_idx + 1) (drop (k.file_idx + 1) fs) (λ j lo hi. file-other k j (both (nat_eq k.commit_idx 0) (nat_eq k.file_idx j) (not-above k.file_idx j (omega (arith, lo))))))
   where
@@ -30,9 +30,9 @@ never-after fs (keys.File k) =
     both true b e = e
     both false b e = refl
 never-after fs (keys.Section k) =
-    both_none (is_key (keys.Section k)) (line_keys k.file_idx k.section_idx 0 (lines_at (sections_at fs k.file_idx) k.section_idx)) (after_section fs k.file_idx k.section_idx)
+    both_none (is_key (keys.Section k)) (line_keys k.file_idx k.section_idx 0 (lines_at (sections_at fs k.file_idx) k.section_idx)) (keys_after_section fs k.file_idx k.section_idx)
     (lines-away (is_key (keys.Section k)) k.file_idx k.section_idx 0 (lines_at (sections_at fs k.file_idx) k.section_idx) (λ i lo hi. refl))
-    (both_none (is_key (keys.Section k)) (sections_keys k.file_idx (k.section_idx + 1) (drop (k.section_idx + 1) (sections_at fs k.file_idx))) (after_file fs k.file_idx)
+    (both_none (is_key (keys.Section k)) (sections_keys k.file_idx (k.section_idx + 1) (drop (k.section_idx + 1) (sections_at fs k.file_idx))) (keys_after_file fs k.file_idx)
     (sections-away (is_key (keys.Section k)) k.file_idx (k.section_idx + 1) (drop (k.section_idx + 1) (sections_at fs k.file_idx)) (λ j lo hi. (later (nat_eq k.commit_idx 0) (nat_eq k.file_idx k.file_idx) (nat_eq k.section_idx j) (not-above k.section_idx j (omega (arith, lo))), λ i. refl)))
     (files-away (is_key (keys.Section k)) (k.file_idx + 1) (drop (k.file_idx + 1) fs) (λ j lo hi. section-other k j (both (nat_eq k.commit_idx 0) (nat_eq k.file_idx j) (not-above k.file_idx j (omega (arith, lo)))))))
   where
@@ -45,9 +45,9 @@ never-after fs (keys.Section k) =
     later true false c e = refl
     later false b c e = refl
 never-after fs (keys.Line k) =
-    both_none (is_key (keys.Line k)) (line_keys k.file_idx k.section_idx (k.line_idx + 1) (drop (k.line_idx + 1) (lines_at (sections_at fs k.file_idx) k.section_idx))) (after_section fs k.file_idx k.section_idx)
+    both_none (is_key (keys.Line k)) (line_keys k.file_idx k.section_idx (k.line_idx + 1) (drop (k.line_idx + 1) (lines_at (sections_at fs k.file_idx) k.section_idx))) (keys_after_section fs k.file_idx k.section_idx)
     (lines-away (is_key (keys.Line k)) k.file_idx k.section_idx (k.line_idx + 1) (drop (k.line_idx + 1) (lines_at (sections_at fs k.file_idx) k.section_idx)) (λ i lo hi. later (nat_eq k.commit_idx 0) (nat_eq k.file_idx k.file_idx) (nat_eq k.section_idx k.section_idx) (nat_eq k.line_idx i) (not-above k.line_idx i (omega (arith, lo)))))
-    (both_none (is_key (keys.Line k)) (sections_keys k.file_idx (k.section_idx + 1) (drop (k.section_idx + 1) (sections_at fs k.file_idx))) (after_file fs k.file_idx)
+    (both_none (is_key (keys.Line k)) (sections_keys k.file_idx (k.section_idx + 1) (drop (k.section_idx + 1) (sections_at fs k.file_idx))) (keys_after_file fs k.file_idx)
     (sections-away (is_key (keys.Line k)) k.file_idx (k.section_idx + 1) (drop (k.section_idx + 1) (sections_at fs k.file_idx)) (λ j lo hi. (refl, λ i. sooner (nat_eq k.commit_idx 0) (nat_eq k.file_idx k.file_idx) (nat_eq k.section_idx j) (nat_eq k.line_idx i) (not-above k.section_idx j (omega (arith, lo))))))
     (files-away (is_key (keys.Line k)) (k.file_idx + 1) (drop (k.file_idx + 1) fs) (λ j lo hi. line-other k j (both (nat_eq k.commit_idx 0) (nat_eq k.file_idx j) (not-above k.file_idx j (omega (arith, lo)))))))
   where
@@ -66,7 +66,7 @@ never-after fs (keys.Line k) =
     later true false c d e = refl
     later false b c d e = refl
 
--- no key stands again behind its first place
+-- no key occurs again after its first occurrence
 abbrev pub Once : List SelectionKey → Type 0
 Once ks = (k : SelectionKey) → parted (is_key k) (behind (parted (is_key k) ks)) ≡ None
 
@@ -145,7 +145,7 @@ cut k (x ∷ xs) before after e = go (is_key k x) refl (parted (is_key k) xs) re
         let rest : p.1 ≡ after = ap behind e in
         rw (← first, ← rest) (ap (λ js. x ∷ js) (more p.0 p.1 h))
 
--- a key that stands in a list without repeats doesn't stand before that place
+-- a key of a list without repeats does not occur before its index
 no-twice : (ks : List SelectionKey) → Once ks → (k : SelectionKey) (xs ys : List SelectionKey) → ks ≡ xs ++ (k ∷ ys) → parted (is_key k) xs ≡ None
 no-twice ks once k xs ys e = go (parted (is_key k) xs) refl
   where
@@ -162,7 +162,7 @@ no-twice ks once k xs ys e = go (parted (is_key k) xs) refl
         let both : joined p.1 (k ∷ ys) (parted (is_key k) p.1) (Some ([], ys)) ≡ None = ap (joined p.1 (k ∷ ys) (parted (is_key k) p.1)) (sym found) ∙ sym (parted-append (is_key k) p.1 (k ∷ ys)) ∙ again in
         absurd (cc (never p.1 (k ∷ ys) (parted (is_key k) p.1) ([], ys) both))
 
--- ---- the list turned round
+-- ---- the reversed list
 
 turn-cons : (x : SelectionKey) (xs : List SelectionKey) → reverse (x ∷ xs) ≡ reverse xs ++ (x ∷ [])
 turn-cons x xs = reverse_onto xs x []
@@ -207,7 +207,7 @@ last-is : (ks : List SelectionKey) → find_last (λ _. true) ks ≡ slice_get (
 last-is [] = refl
 last-is (x ∷ xs) = ap (λ r. option_or r (Some x)) (last-is xs) ∙ sym (ap (λ js. slice_get js 0) (turn-cons x xs) ∙ head-append (reverse xs) (x ∷ []))
 
--- the key before is the next one of the list turned round
+-- the key before is the next one of the reversed list
 pub previous-turned : (ks : List SelectionKey) → Once ks → (key other : SelectionKey) → previous_key ks key other ≡ next_key (reverse ks) key other
 previous-turned ks once key other =
     previous-is ks key other
@@ -218,7 +218,7 @@ previous-turned ks once key other =
     go None = refl
     go (Some p) = ap (λ r. unwrap_or r key) (last-is p.0)
 
--- what stands in a list stands in it turned round
+-- what is in a list is in the reversed list
 pub among-turned : (ks : List SelectionKey) → Once ks → (key : SelectionKey) → is_some (position (is_key key) (reverse ks)) ≡ is_some (position (is_key key) ks)
 among-turned ks once key =
     is-placed (is_key key) (reverse ks)
@@ -243,7 +243,7 @@ module _ (ks : List SelectionKey) (once : Once ks) (key : SelectionKey) where
   ended-at None none e = refl
   ended-at (Some p) none e = ended p.1 none e
 
-  -- where the step stays at the key, nothing stands behind it
+  -- if the step stays at the key, no key comes after it
   pub step-stays : is_key key (next_key ks key key) ≡ true → keys_behind ks key ≡ []
   step-stays e = behind-is ks key ∙ ended-at (parted (is_key key) ks) (once key) (ap (is_key key) (sym (next-is ks key key)) ∙ e)
 
@@ -259,7 +259,7 @@ module _ (ks : List SelectionKey) (once : Once ks) (key : SelectionKey) where
   gone-at None h e = absurd (cc (sym (key-self key) ∙ e))
   gone-at (Some p) h e = gone p.0 p.1 h e
 
-  -- where it goes on, it goes to the first of those behind the key, and the rest of them stand behind that
+  -- if it goes on, it goes to the first key after it, and the others come after that one
   pub step-goes : is_key key (next_key ks key key) ≡ false → keys_behind ks key ≡ next_key ks key key ∷ keys_behind ks (next_key ks key key)
   step-goes e =
       let next : next_key ks key key ≡ next_part key key (parted (is_key key) ks) = next-is ks key key in

@@ -1,12 +1,12 @@
-//! What a user would lose, as the quit dialog counts it.
+//! What the quit dialog counts as lost.
 ghost use Rattle.std.specs.Prelude.{◌≡◌, count_by};
-ghost use Rattle.scm_selection.specs.Counts.{changed_count, is_changed, is_text, message_count};
+ghost use Rattle.scm_selection.specs.Counts.{changed_count, is_changed, is_nonempty_message, message_count};
 
 use scm_types::{Commit, File, RecordState, Tristate};
 
-/// Whether the commit has a message that isn't empty.
+/// Returns whether `commit` has a message and it is not empty.
 fn has_text(commit: &Commit) -> bool
-    ensures { result ≡ is_text commit.now.message }
+    ensures { result ≡ is_nonempty_message commit.now.message }
 {
     match &commit.message {
         Some(message) => !message.as_str().is_empty(),
@@ -14,7 +14,7 @@ fn has_text(commit: &Commit) -> bool
     }
 }
 
-/// How many commits have a message that isn't empty.
+/// Returns the number of commits whose message is not empty.
 pub fn message_count(state: &RecordState<'_>) -> usize
     ensures { result ≡ message_count state.now }
 {
@@ -26,7 +26,7 @@ pub fn message_count(state: &RecordState<'_>) -> usize
         .count()
 }
 
-/// Whether the file isn't wholly unchecked.
+/// Returns whether `file` is not wholly unchecked.
 fn is_changed(file: &File<'_>) -> bool
     ensures { result ≡ is_changed file.now }
 {
@@ -36,7 +36,7 @@ fn is_changed(file: &File<'_>) -> bool
     }
 }
 
-/// How many files aren't wholly unchecked.
+/// Returns the number of files that are not wholly unchecked.
 pub fn changed_count(state: &RecordState<'_>) -> usize
     ensures { result ≡ changed_count state.now }
 {

@@ -1,14 +1,14 @@
-//! Lists of the keys of a state, in order.
+//! Lists of the keys of a state, in the order of the screen. Indexes count from 0.
 ghost use Rattle.std.specs.Prelude.{◌≡◌, ◌++◌, filter, IfErr, IfOk, OnOk};
 ghost use Rattle.scm_errors.specs.declared.error.RecordError.TheVariants.{OutOfMemory};
 ghost use Rattle.scm_selection.specs.KeyLists.{all_keys, file_key, first_key, is_section, line_key, line_keys, section_key, section_keys, sections_keys};
 
 use scm_types::{
-    File, FileKey, LineKey, RecordError, Section, SectionChangedLine, SectionKey, SelectionKey,
+    File, FileKey, RecordError, Section, SectionChangedLine, SectionKey, SelectionKey,
 };
-use std::alloc::Global;
+use std::alloc::{AllocError, Global};
 
-/// The key of a file.
+/// Returns the key of file `file` in the view of the first commit.
 pub fn file_key(file: usize) -> SelectionKey
     ensures { result ≡ file_key file }
 {
@@ -18,7 +18,7 @@ pub fn file_key(file: usize) -> SelectionKey
     })
 }
 
-/// The key of a section of a file.
+/// Returns the key of section `section` of file `file` in the view of the first commit.
 pub fn section_key(file: usize, section: usize) -> SelectionKey
     ensures { result ≡ section_key file section }
 {
@@ -29,19 +29,18 @@ pub fn section_key(file: usize, section: usize) -> SelectionKey
     })
 }
 
-/// The key of a line of a section.
+/// Returns the key of line `line` of a section in the view of the first commit.
 pub fn line_key(file: usize, section: usize, line: usize) -> SelectionKey
     ensures { result ≡ line_key file section line }
 {
-    SelectionKey::Line(LineKey {
+    let file = FileKey {
         commit_idx: 0,
         file_idx: file,
-        section_idx: section,
-        line_idx: line,
-    })
+    };
+    SelectionKey::Line(file.section(section).line(line))
 }
 
-/// The first file, if there is one.
+/// Returns the key of the first file, or `SelectionKey::None` if there is no file.
 pub fn first_key(files: &[File<'_>]) -> SelectionKey
     ensures { result ≡ first_key files.now }
 {
@@ -52,15 +51,15 @@ pub fn first_key(files: &[File<'_>]) -> SelectionKey
     }
 }
 
-/// Adds a key for each line.
+/// Adds the key of each line of a section to `keys`.
 fn push_lines(
     keys: &mut Vec<SelectionKey>,
     file: usize,
     section: usize,
     lines: &[SectionChangedLine<'_>],
-) -> Result<(), RecordError>
-    ensures ok { OnOk result (keys.new.items ≡ keys.old.items ++ line_keys file section 0 lines.now) }
-    ensures err { IfErr result (λ e. e ≡ OutOfMemory) }
+) -> Result<(), AllocError>
+    ensures { OnOk result
+        (keys.new.items ≡ keys.old.items ++ line_keys file section 0 lines.now) }
 {
     for line in 0..lines.len() {
         keys.push(line_key(file, section, line))?;
@@ -68,15 +67,15 @@ fn push_lines(
     Ok(())
 }
 
-/// Adds the keys of a section.
+/// Adds the keys of section `index` to `keys`: its own and those of its changed lines.
 fn push_section(
     keys: &mut Vec<SelectionKey>,
     file: usize,
     index: usize,
     section: &Section<'_>,
-) -> Result<(), RecordError>
-    ensures ok { OnOk result (keys.new.items ≡ keys.old.items ++ section_keys file index section.now) }
-    ensures err { IfErr result (λ e. e ≡ OutOfMemory) }
+) -> Result<(), AllocError>
+    ensures { OnOk result
+        (keys.new.items ≡ keys.old.items ++ section_keys file index section.now) }
 {
     match section {
         Section::Unchanged { .. } => Ok(()),
@@ -91,14 +90,14 @@ fn push_section(
     }
 }
 
-/// Adds the keys of sections.
+/// Adds the keys of all sections of file `file` to `keys`.
 fn push_sections(
     keys: &mut Vec<SelectionKey>,
     file: usize,
     sections: &[Section<'_>],
-) -> Result<(), RecordError>
-    ensures ok { OnOk result (keys.new.items ≡ keys.old.items ++ sections_keys file 0 sections.now) }
-    ensures err { IfErr result (λ e. e ≡ OutOfMemory) }
+) -> Result<(), AllocError>
+    ensures { OnOk result
+        (keys.new.items ≡ keys.old.items ++ sections_keys file 0 sections.now) }
 {
     for (index, section) in sections.iter().enumerate() {
         push_section(keys, file, index, section)?;
@@ -106,7 +105,10 @@ fn push_sections(
     Ok(())
 }
 
-/// All keys in order.
+/// Returns all keys of `files`.
+///
+/// # Errors
+/// `OutOfMemory`: an allocation failed.
 pub fn all_keys(alloc: Global, files: &[File<'_>]) -> Result<Vec<SelectionKey>, RecordError>
     ensures ok { IfOk result (λ keys. keys.items ≡ all_keys files.now) }
     ensures err { IfErr result (λ e. e ≡ OutOfMemory) }
@@ -119,16 +121,16 @@ pub fn all_keys(alloc: Global, files: &[File<'_>]) -> Result<Vec<SelectionKey>, 
     Ok(keys)
 }
 
-/// Adds the key of a section that is more than context.
+/// Adds the key of section `index` to `keys`, unless it is context.
 fn push_section_key(
     keys: &mut Vec<SelectionKey>,
     file: usize,
     index: usize,
     section: &Section<'_>,
-) -> Result<(), RecordError>
-    ensures ok { OnOk result (keys.new.items ≡ keys.old.items
-        ++ filter is_section (section_keys file index section.now)) }
-    ensures err { IfErr result (λ e. e ≡ OutOfMemory) }
+) -> Result<(), AllocError>
+    ensures { OnOk result
+        (keys.new.items
+        ≡ keys.old.items ++ filter is_section (section_keys file index section.now)) }
 {
     if !section.is_editable() {
         return Ok(());
@@ -137,15 +139,15 @@ fn push_section_key(
     Ok(())
 }
 
-/// Adds a key for each section that is more than context.
+/// Adds the key of each section of file `file` that is not context to `keys`.
 fn push_section_keys(
     keys: &mut Vec<SelectionKey>,
     file: usize,
     sections: &[Section<'_>],
-) -> Result<(), RecordError>
-    ensures ok { OnOk result (keys.new.items ≡ keys.old.items
-        ++ filter is_section (sections_keys file 0 sections.now)) }
-    ensures err { IfErr result (λ e. e ≡ OutOfMemory) }
+) -> Result<(), AllocError>
+    ensures { OnOk result
+        (keys.new.items
+        ≡ keys.old.items ++ filter is_section (sections_keys file 0 sections.now)) }
 {
     for (index, section) in sections.iter().enumerate() {
         push_section_key(keys, file, index, section)?;
@@ -153,7 +155,10 @@ fn push_section_keys(
     Ok(())
 }
 
-/// The keys of all sections that are more than context, in order.
+/// Returns the keys of all sections of `files` that are not context.
+///
+/// # Errors
+/// `OutOfMemory`: an allocation failed.
 pub fn section_keys(alloc: Global, files: &[File<'_>]) -> Result<Vec<SelectionKey>, RecordError>
     ensures ok { IfOk result (λ keys. keys.items ≡ filter is_section (all_keys files.now)) }
     ensures err { IfErr result (λ e. e ≡ OutOfMemory) }

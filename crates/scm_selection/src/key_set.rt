@@ -1,7 +1,7 @@
-//! A set of keys, as of those that are expanded.
+//! A set of keys, as that of the unfolded files and sections.
 ghost use Rattle.std.specs.Prelude.{◌≡◌, [], IfErr, OnErr, OnOk, IfOk};
 ghost use Rattle.scm_errors.specs.declared.error.RecordError.TheVariants.{OutOfMemory};
-ghost use Rattle.scm_selection.specs.KeySet.{has_key, key_set, same_set, with_key, with_key_flipped, without_key};
+ghost use Rattle.scm_selection.specs.KeySet.{has_key, key_set, is_same_set, with_key, with_key_flipped, without_key};
 
 use scm_types::{RecordError, SelectionKey};
 use std::alloc::Global;
@@ -25,7 +25,7 @@ impl Model for KeySet {
 }
 
 impl KeySet {
-    /// The empty set, which takes its memory from `alloc`.
+    /// Returns the empty set. It allocates from `alloc`.
     pub fn new(alloc: Global) -> KeySet
         ensures { result ≡ [] }
     {
@@ -34,21 +34,24 @@ impl KeySet {
         }
     }
 
-    /// Whether the set has the key.
+    /// Returns whether the set has `key`.
     pub fn contains(&self, key: SelectionKey) -> bool
         ensures { result ≡ has_key self.now key }
     {
         self.keys.contains(&key)
     }
 
-    /// Whether two sets have the same keys.
+    /// Returns whether the set and `other` have the same keys.
     pub fn is_same(&self, other: &KeySet) -> bool
-        ensures { result ≡ same_set self.now other.now }
+        ensures { result ≡ is_same_set self.now other.now }
     {
         self.keys == other.keys
     }
 
-    /// Adds the key. Where memory is refused the set is as it was.
+    /// Adds `key`.
+    ///
+    /// # Errors
+    /// `OutOfMemory`: an allocation failed; the set is unchanged.
     pub fn insert(&mut self, key: SelectionKey) -> Result<(), RecordError>
         ensures ok { OnOk result (self.new ≡ with_key self.old key) }
         ensures unchanged { OnErr result (self.new ≡ self.old) }
@@ -58,14 +61,17 @@ impl KeySet {
         Ok(())
     }
 
-    /// Takes the key out, if the set has it.
+    /// Removes `key`, if the set has it.
     pub fn remove(&mut self, key: SelectionKey)
         ensures { self.new ≡ without_key self.old key }
     {
         self.keys.remove(&key);
     }
 
-    /// Adds the key, or takes it out if the set has it. Where memory is refused the set is as it was.
+    /// Removes `key` if the set has it, else adds it.
+    ///
+    /// # Errors
+    /// `OutOfMemory`: an allocation failed; the set is unchanged.
     pub fn flip(&mut self, key: SelectionKey) -> Result<(), RecordError>
         ensures ok { OnOk result (self.new ≡ with_key_flipped self.old key) }
         ensures unchanged { OnErr result (self.new ≡ self.old) }
@@ -80,7 +86,10 @@ impl KeySet {
     }
 }
 
-/// The set of these keys.
+/// Returns the set of `keys`.
+///
+/// # Errors
+/// `OutOfMemory`: an allocation failed.
 pub fn key_set_of(alloc: Global, keys: &[SelectionKey]) -> Result<KeySet, RecordError>
     ensures ok { IfOk result (λ set. set ≡ key_set keys.now) }
     ensures err { IfErr result (λ e. e ≡ OutOfMemory) }

@@ -1,13 +1,13 @@
-//! What can be selected of a state, where the selection moves to, and what a toggle makes of the files.
+//! The keys of a state, the moves of the selection, and the toggles of marks.
 //!
-//! The keys of a state are lists in the order of the screen. A [`KeySet`] says which of them are unfolded.
+//! Lists of keys are in the order of the screen. A [`KeySet`] has the unfolded files and sections.
 #![tactic(auto)]
 
 pub mod counts;
+pub mod key_kinds;
 pub mod key_lists;
 pub mod key_set;
 pub mod moves;
-pub mod steps;
 pub mod toggles;
 
 pub use key_set::KeySet;

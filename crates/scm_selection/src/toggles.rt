@@ -1,4 +1,5 @@
-//! Toggles of files, sections and lines, in place, with all that follows from them in the same file.
+//! Toggles of files, sections and lines, in place. Other marks of the same file may follow.
+//! Indexes of files, sections and lines count from 0.
 ghost use Rattle.std.specs.Prelude.{◌≡◌, MatchOption, false, map, not, option_and_then, slice_get, true};
 ghost use Rattle.std.specs.List.{list_all};
 ghost use Rattle.scm_types.specs.Marks.{file_with_marks, line_with_mark, section_with_marks};
@@ -9,7 +10,7 @@ ghost use Rattle.scm_selection.specs.Toggle.{after_lines, after_mode, after_sect
 use scm_types::repair::{check_modes, uncheck_deletions};
 use scm_types::{File, FileMode, Section, SectionChangedLine, SelectionKey, Tristate};
 
-/// The mark that a toggle sets.
+/// Returns the mark after a toggle: checked if nothing was checked, else unchecked.
 fn mark_after(tristate: Tristate) -> bool
     ensures { result ≡ mark_after tristate }
 {
@@ -19,7 +20,7 @@ fn mark_after(tristate: Tristate) -> bool
     }
 }
 
-/// Sets every line, if the section is one of changed lines.
+/// Sets every changed line of `section` to `checked`.
 fn set_changed(section: &mut Section<'_>, checked: bool)
     ensures { section.new ≡ with_changed_set checked section.old }
 {
@@ -29,7 +30,7 @@ fn set_changed(section: &mut Section<'_>, checked: bool)
     }
 }
 
-/// Checks every changed line.
+/// Checks every changed line of `sections`.
 fn check_all_changed(sections: &mut [Section<'_>])
     ensures { sections.new ≡ map (with_changed_set true) sections.old }
 {
@@ -38,7 +39,7 @@ fn check_all_changed(sections: &mut [Section<'_>])
     }
 }
 
-/// Unchecks every section.
+/// Unchecks everything in `sections`.
 fn uncheck_all(sections: &mut [Section<'_>])
     ensures { sections.new ≡ map (section_with_marks (λ _. false)) sections.old }
 {
@@ -47,7 +48,7 @@ fn uncheck_all(sections: &mut [Section<'_>])
     }
 }
 
-/// What follows from setting changed lines of a file of this mode.
+/// Sets the marks that follow after changed lines were set to `checked` in a file of mode `mode`.
 fn follow_lines(mode: FileMode, checked: bool, sections: &mut [Section<'_>])
     ensures { sections.new ≡ after_lines mode checked sections.old }
 {
@@ -58,7 +59,7 @@ fn follow_lines(mode: FileMode, checked: bool, sections: &mut [Section<'_>])
     }
 }
 
-/// What follows from setting a change to the new mode, in a file of this mode.
+/// Sets the marks that follow after a change from `mode` to `new_mode` was set to `checked`.
 fn follow_mode(mode: FileMode, new_mode: FileMode, checked: bool, sections: &mut [Section<'_>])
     ensures { sections.new ≡ after_mode mode new_mode checked sections.old }
 {
@@ -71,7 +72,7 @@ fn follow_mode(mode: FileMode, new_mode: FileMode, checked: bool, sections: &mut
     }
 }
 
-/// Sets the section at an index.
+/// Sets section `index` to `checked`, if there is one. No other marks follow.
 fn set_section_at(sections: &mut [Section<'_>], index: usize, checked: bool)
     ensures { sections.new ≡ modify (section_with_marks (λ _. checked)) sections.old index }
 {
@@ -80,7 +81,8 @@ fn set_section_at(sections: &mut [Section<'_>], index: usize, checked: bool)
     }
 }
 
-/// Sets the section at an index, if there is one, in a file of this mode, with what follows.
+/// Sets section `index` of a file of mode `mode` to `checked`, and the marks that follow.
+/// If there is no such section, it is a no-op.
 fn set_section(mode: FileMode, sections: &mut [Section<'_>], index: usize, checked: bool)
     ensures { MatchOption (slice_get sections.old index) (sections.new ≡ sections.old)
         (λ section. sections.new ≡ after_section mode checked section
@@ -105,7 +107,7 @@ fn set_section(mode: FileMode, sections: &mut [Section<'_>], index: usize, check
     }
 }
 
-/// The mark of a line of the section.
+/// Returns the mark of line `line` of `section`, if it has such a changed line.
 fn line_mark(section: &Section<'_>, line: usize) -> Option<bool>
     ensures { result ≡ line_mark line section.now }
 {
@@ -117,7 +119,7 @@ fn line_mark(section: &Section<'_>, line: usize) -> Option<bool>
     }
 }
 
-/// The mark of a line of the section at an index.
+/// Returns the mark of line `line` of section `section`, if there is such a changed line.
 fn line_mark_at(sections: &[Section<'_>], section: usize, line: usize) -> Option<bool>
     ensures { result ≡ option_and_then (line_mark line) (slice_get sections.now section) }
 {
@@ -126,7 +128,7 @@ fn line_mark_at(sections: &[Section<'_>], section: usize, line: usize) -> Option
         .and_then(|section| line_mark(section, line))
 }
 
-/// Inverts the line at an index.
+/// Inverts line `line`, if there is one.
 fn invert_in(lines: &mut [SectionChangedLine<'_>], line: usize)
     ensures { lines.new ≡ modify (line_with_mark not) lines.old line }
 {
@@ -136,7 +138,7 @@ fn invert_in(lines: &mut [SectionChangedLine<'_>], line: usize)
     }
 }
 
-/// Inverts a line of the section.
+/// Inverts line `line` of `section`, if it has such a changed line.
 fn invert_line(section: &mut Section<'_>, line: usize)
     ensures { section.new ≡ with_line_inverted line section.old }
 {
@@ -146,7 +148,7 @@ fn invert_line(section: &mut Section<'_>, line: usize)
     }
 }
 
-/// Inverts a line of the section at an index.
+/// Inverts line `line` of section `section`, if there is such a changed line.
 fn invert_line_at(sections: &mut [Section<'_>], section: usize, line: usize)
     ensures { sections.new ≡ modify (with_line_inverted line) sections.old section }
 {
@@ -155,7 +157,7 @@ fn invert_line_at(sections: &mut [Section<'_>], section: usize, line: usize)
     }
 }
 
-/// Inverts a line, which gets this mark, in a file of this mode, with what follows.
+/// Inverts a line of a file of mode `mode`, and sets the marks that follow. `checked` is the new mark.
 fn set_line(
     mode: FileMode,
     sections: &mut [Section<'_>],
@@ -163,13 +165,14 @@ fn set_line(
     line: usize,
     checked: bool,
 )
-    ensures { sections.new ≡ after_lines mode checked (modify (with_line_inverted line) sections.old section) }
+    ensures { sections.new
+        ≡ after_lines mode checked (modify (with_line_inverted line) sections.old section) }
 {
     invert_line_at(sections, section, line);
     follow_lines(mode, checked, sections);
 }
 
-/// Toggles the file as a whole.
+/// Toggles the whole file.
 fn toggle_file(file: &mut File<'_>)
     ensures { file.new ≡ with_file_toggled file.old }
 {
@@ -177,7 +180,7 @@ fn toggle_file(file: &mut File<'_>)
     file.set_checked(checked);
 }
 
-/// Toggles a section of the file.
+/// Toggles section `index` of `file`, if there is one.
 fn toggle_section(file: &mut File<'_>, index: usize)
     ensures { file.new ≡ with_section_toggled index file.old }
 {
@@ -187,7 +190,7 @@ fn toggle_section(file: &mut File<'_>, index: usize)
     }
 }
 
-/// Toggles a line of the file.
+/// Toggles line `line` of section `section` of `file`, if there is such a changed line.
 fn toggle_line(file: &mut File<'_>, section: usize, line: usize)
     ensures { file.new ≡ with_line_toggled section line file.old }
 {
@@ -202,7 +205,7 @@ fn toggle_line(file: &mut File<'_>, section: usize, line: usize)
     }
 }
 
-/// Toggles what the key names, if it is there, with all that follows in the same file.
+/// Toggles what `key` names, if it is there, and sets the marks that follow in the same file.
 pub fn toggle_key(files: &mut [File<'_>], key: SelectionKey)
     ensures { files.new ≡ with_key_toggled key files.old }
 {
@@ -226,7 +229,7 @@ pub fn toggle_key(files: &mut [File<'_>], key: SelectionKey)
     }
 }
 
-/// Inverts every mark of a file, and repairs it.
+/// Inverts every mark of `file`, and repairs it.
 fn invert(file: &mut File<'_>)
     ensures { file.new ≡ with_file_inverted file.old }
 {
@@ -234,7 +237,7 @@ fn invert(file: &mut File<'_>)
     file.repair();
 }
 
-/// Inverts every mark, and repairs each file.
+/// Inverts every mark of `files`, and repairs each file.
 pub fn invert_all(files: &mut [File<'_>])
     ensures { files.new ≡ with_all_inverted files.old }
 {
@@ -243,7 +246,7 @@ pub fn invert_all(files: &mut [File<'_>])
     }
 }
 
-/// Whether the file is wholly checked.
+/// Returns whether `file` is wholly checked.
 fn is_checked(file: &File<'_>) -> bool
     ensures { result ≡ is_checked_file file.now }
 {
@@ -253,14 +256,14 @@ fn is_checked(file: &File<'_>) -> bool
     }
 }
 
-/// Whether each file is wholly checked.
+/// Returns whether each of `files` is wholly checked.
 fn is_each_checked(files: &[File<'_>]) -> bool
     ensures { result ≡ list_all is_checked_file files.now }
 {
     files.iter().all(|file| is_checked(file))
 }
 
-/// Whether there are files, and each is wholly checked.
+/// Returns whether there are files and each is wholly checked.
 fn is_all_checked(files: &[File<'_>]) -> bool
     ensures { result ≡ is_all_checked files.now }
 {
@@ -271,7 +274,7 @@ fn is_all_checked(files: &[File<'_>]) -> bool
     }
 }
 
-/// Gives every item the mark.
+/// Sets every mark of `files` to `checked`.
 fn mark_all(files: &mut [File<'_>], checked: bool)
     ensures { files.new ≡ map (file_with_marks (λ _. checked)) files.old }
 {
@@ -280,7 +283,7 @@ fn mark_all(files: &mut [File<'_>], checked: bool)
     }
 }
 
-/// Unchecks everything where there are files and all is checked, and else checks everything.
+/// Unchecks everything if there are files and all are wholly checked, else checks everything.
 pub fn set_all(files: &mut [File<'_>])
     ensures { files.new ≡ with_all_set files.old }
 {
@@ -288,8 +291,8 @@ pub fn set_all(files: &mut [File<'_>])
     mark_all(files, checked);
 }
 
-/// A toggle of any key, one of everything to the same mark, and the inversion of everything keep each
-/// file coherent that was so, unless the file is new and is also deleted.
+/// Each file that was coherent stays so, unless it is new and also deleted. This is proved of
+/// [`toggle_key`], [`set_all`] and [`invert_all`]. The call is a no-op.
 pub fn toggles_keep_coherence(_files: &[File<'_>], _key: SelectionKey)
     ensures key { KeepsCoherent _files.now (with_key_toggled _key _files.now) }
     ensures all { KeepsCoherent _files.now (with_all_set _files.now) }

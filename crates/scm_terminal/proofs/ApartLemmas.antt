@@ -8,9 +8,9 @@ use Rattle.std.proofs.lemmas.Bool.Decides.{nat_tests}
 use Rattle.std.proofs.lemmas.List.Elements.{All-nil, All-cons}
 use Rattle.scm_terminal.specs.declared.style.Style.{Style}
 use Rattle.scm_terminal.specs.declared.pen.Pen.{Pen}
-use Rattle.scm_terminal.specs.Place.{Place, First, Later, laters}
+use Rattle.scm_terminal.specs.StyledCell.{StyledCell, First, Later, laters}
 use Rattle.scm_terminal.specs.Terminal.{Terminal, Command, MoveTo, SetStyle, Put, IsNear, Before, Moved, Byte, behind, MayFollow, AreApart, spots_of, over, put, after, after_all}
-use Rattle.scm_terminal.specs.Painting.{Line, is_set, moves, sets, place_commands, pen_after, new_pen, row_commands, painting}
+use Rattle.scm_terminal.specs.Painting.{Line, is_style_set, move_commands, style_commands, cell_commands, pen_after, new_pen, row_commands, painting}
 
 -- ---- what runs stays on the screen
 
@@ -65,18 +65,18 @@ runs-near (c ∷ cs) t u wide high e = at (after c t) refl (λ v w h run. runs-n
 -- ---- moves before and after symbols of more bytes
 
 put-apart : (is : Option Style) (style : Style) (symbol : List ℕ) (columns : ℕ) (before : Before) (rest : List Command) → MayFollow before symbol → AreApart (behind symbol) rest
-    → AreApart before ((sets is style ++ (Put symbol columns ∷ [])) ++ rest)
-put-apart is style symbol columns before rest follows more = at (is_set is style)
+    → AreApart before ((style_commands is style ++ (Put symbol columns ∷ [])) ++ rest)
+put-apart is style symbol columns before rest follows more = at (is_style_set is style)
   where
     at : (b : Bool) → AreApart before (((if b then [] else SetStyle style ∷ []) ++ (Put symbol columns ∷ [])) ++ rest)
     at true = (follows, more)
     at false = (follows, more)
 
-place-apart : (row column : ℕ) (pen : Pen) (symbol : List ℕ) (style : Style) (columns : ℕ) (before : Before) (rest : List Command) → (pen.is_there ≡ true → before ≡ Byte)
-    → AreApart (behind symbol) rest → AreApart before (place_commands row column pen (First symbol style) columns ++ rest)
-place-apart row column pen symbol style columns before rest there more = at (pen.is_there && (length symbol == 1)) refl
+cell-apart : (row column : ℕ) (pen : Pen) (symbol : List ℕ) (style : Style) (columns : ℕ) (before : Before) (rest : List Command) → (pen.is_there ≡ true → before ≡ Byte)
+    → AreApart (behind symbol) rest → AreApart before (cell_commands row column pen (First symbol style) columns ++ rest)
+cell-apart row column pen symbol style columns before rest there more = at (pen.is_there && (length symbol == 1)) refl
   where
-    at : (b : Bool) → (pen.is_there && (length symbol == 1)) ≡ b → AreApart before ((moves b row column ++ (sets pen.style style ++ (Put symbol columns ∷ []))) ++ rest)
+    at : (b : Bool) → (pen.is_there && (length symbol == 1)) ≡ b → AreApart before ((move_commands b row column ++ (style_commands pen.style style ++ (Put symbol columns ∷ []))) ++ rest)
     at true e =
         let parts = and_parts pen.is_there (length symbol == 1) e in
         let one : length symbol ≡ 1 = grind (arith, nat_tests) in
@@ -86,16 +86,16 @@ place-apart row column pen symbol style columns before rest there more = at (pen
 behind-byte : (symbol : List ℕ) → (length symbol == 1) ≡ true → behind symbol ≡ Byte
 behind-byte symbol e = rw e refl
 
-row-apart : (row column : ℕ) (pen : Pen) (places : List Place) (before : Before) (rest : List Command) → (pen.is_there ≡ true → before ≡ Byte) → ((b : Before) → AreApart b rest)
-    → AreApart before (row_commands row column pen places ++ rest)
+row-apart : (row column : ℕ) (pen : Pen) (cells : List StyledCell) (before : Before) (rest : List Command) → (pen.is_there ≡ true → before ≡ Byte) → ((b : Before) → AreApart b rest)
+    → AreApart before (row_commands row column pen cells ++ rest)
 unfolding row_commands
 row-apart row column pen [] before rest there more = more before
 row-apart row column pen (Later ∷ ps) before rest there more = row-apart row (column + 1) (pen_after pen Later) ps before rest (λ e. absurd (cc)) more
 row-apart row column pen (First symbol style ∷ ps) before rest there more =
-    let first = place_commands row column pen (First symbol style) (1 + laters ps) in
+    let first = cell_commands row column pen (First symbol style) (1 + laters ps) in
     let others = row_commands row (column + 1) (pen_after pen (First symbol style)) ps in
     subst (AreApart before) (sym (append_assoc first others rest))
-    (place-apart row column pen symbol style (1 + laters ps) before (others ++ rest) there
+    (cell-apart row column pen symbol style (1 + laters ps) before (others ++ rest) there
     (row-apart row (column + 1) (pen_after pen (First symbol style)) ps (behind symbol) rest (behind-byte symbol) more))
 
 pub painting-apart : (row : ℕ) (lines : List Line) (before : Before) → AreApart before (painting row lines)
@@ -104,6 +104,6 @@ painting-apart row [] before = tt
 painting-apart row (line ∷ lines) before = at line.is_changed (λ b. painting-apart (row + 1) lines b)
   where
     at : (b : Bool) → ((later : Before) → AreApart later (painting (row + 1) lines))
-        → AreApart before ((if b then row_commands row 0 new_pen line.places else []) ++ painting (row + 1) lines)
-    at true rest = row-apart row 0 new_pen line.places before (painting (row + 1) lines) (λ e. absurd (cc)) rest
+        → AreApart before ((if b then row_commands row 0 new_pen line.cells else []) ++ painting (row + 1) lines)
+    at true rest = row-apart row 0 new_pen line.cells before (painting (row + 1) lines) (λ e. absurd (cc)) rest
     at false rest = rest before

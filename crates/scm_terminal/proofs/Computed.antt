@@ -3,7 +3,7 @@
 use Rattle.std.proofs.Common.{◌≡◌, ℕ, true, false, List, [], ◌∷◌, ◌++◌, codes, refl, arith, Some, None}
 use Rattle.scm_terminal.specs.declared.style.Colour.TheVariants.{Red, Green}
 use Rattle.scm_terminal.specs.declared.style.Style.{Style}
-use Rattle.scm_terminal.specs.Place.{Place, First, Later}
+use Rattle.scm_terminal.specs.StyledCell.{StyledCell, First, Later}
 use Rattle.scm_terminal.specs.Reading.{parts_of, read_commands, text_commands}
 use Rattle.scm_terminal.specs.Style.{style_code, style_of}
 use Rattle.scm_terminal.specs.Terminal.{Spot, Symbol, AreApart, MoveTo, SetStyle, Put, over, put, after, after_all}
@@ -18,14 +18,14 @@ red = record { colour = Some Red; bold = true; dim = false; underlined = false; 
 abbrev wide : List ℕ
 wide = 0xE6 ∷ (0x97 ∷ (0xA5 ∷ []))
 
-abbrev first : List Place
+abbrev first : List StyledCell
 first = First (97 ∷ []) plain ∷ (First wide red ∷ (Later ∷ []))
 
-abbrev second : List Place
+abbrev second : List StyledCell
 second = First (98 ∷ []) red ∷ (First (99 ∷ []) red ∷ (First (100 ∷ []) plain ∷ []))
 
 abbrev lines : List Line
-lines = record { places = first; is_changed = true } ∷ (record { places = second; is_changed = false } ∷ [])
+lines = record { cells = first; is_changed = true } ∷ (record { cells = second; is_changed = false } ∷ [])
 
 abbrev known_row : List Spot
 known_row = Some (First (98 ∷ []) red) ∷ (Some (First (99 ∷ []) red) ∷ (Some (First (100 ∷ []) plain) ∷ []))

@@ -3,14 +3,14 @@ use Rattle.std.proofs.Common.{◌≡◌, refl, sym, ◌∙◌, ap, subst, ℕ, �
 use Rattle.std.proofs.lemmas.List.{append-nil}
 use Rattle.std.proofs.lemmas.List.Sums.{fold-append}
 use Rattle.scm_input.specs.declared.terminal.TerminalEvent.{TerminalEvent}
-use Rattle.scm_terminal.specs.declared.keys.Decoder.{Decoder}
-use Rattle.scm_terminal.specs.declared.keys.EventPair.{EventPair}
+use Rattle.scm_terminal.specs.declared.decoder.Decoder.{Decoder}
+use Rattle.scm_terminal.specs.declared.decoder.EventPair.{EventPair}
 use Rattle.scm_terminal.specs.declared.tokens.Token.{Token}
-use Rattle.scm_terminal.specs.declared.states.State.{State}
-use Rattle.scm_terminal.specs.declared.states.State.TheVariants as state
-use Rattle.scm_terminal.specs.declared.states.Transition.{Transition}
-use Rattle.scm_terminal.specs.declared.states.Transition.TheVariants.{Continue, Emit, EmitAndRetry}
-use Rattle.scm_terminal.specs.Streams.{Finished, first, Split, with_token, split, token_event, token_events, pasted_after, decoded, is_pasted_after, rest, event_at_end, silent}
+use Rattle.scm_terminal.specs.declared.transitions.State.{State}
+use Rattle.scm_terminal.specs.declared.transitions.State.TheVariants as state
+use Rattle.scm_terminal.specs.declared.transitions.Transition.{Transition}
+use Rattle.scm_terminal.specs.declared.transitions.Transition.TheVariants.{Continue, Emit, EmitAndRetry}
+use Rattle.scm_terminal.specs.Streams.{Finished, first, Split, with_token, split, token_event, token_events, pasted_after, stream_events, is_pasted_after, rest, event_at_end, idle_event}
 use Rattle.scm_terminal.specs.Transitions.{ground_transition, transition_of, pending_event}
 use Rattle.scm_terminal.specs.Decoders.{decoder, events_of, Step, step_by, step_retry, step, hears, HasHeard, Hears, Adds, IsFront, Rests}
 use Rattle.scm_terminal.proofs.StreamLemmas.{by_move, goes_on, ground_goes, moves, Later, later, Ends, ground_ends, before, split_says, skip, skip_one, with_one, length_with_one, ended_later, ended_some, Waits, Stands, stands_ends, waits_alone}
@@ -163,14 +163,14 @@ token_events-append p [] ys = refl
 token_events-append p (x ∷ xs) ys = ap (λ (l : List TerminalEvent). token_event p x ∷ l) (token_events-append (pasted_after p x) xs ys)
 
 pub hears_event : (d : Decoder) (p : Bool) (bytes : List ℕ) (k : Knows p bytes d) (b : ℕ)
-    → decoded p (bytes ++ (b ∷ [])) ≡ decoded p bytes ++ events_of (step d b).events
+    → stream_events p (bytes ++ (b ∷ [])) ≡ stream_events p bytes ++ events_of (step d b).events
 unfolding knows_next
 hears_event d p bytes k b =
     let n = next_of d k.waiting k.stands b in
     ap (λ (x : Split). token_events p x.tokens) (whole p (bytes ++ (b ∷ [])) (hears d b) (knows_next p bytes d k b))
     ∙ token_events-append p k.tokens n.tokens
     ∙ ap (λ (l : List TerminalEvent). l ++ token_events (fold pasted_after p k.tokens) n.tokens) (ap (λ (x : Split). token_events p x.tokens) (sym (whole p bytes d k)))
-    ∙ ap (λ (l : List TerminalEvent). decoded p bytes ++ l) (ap (λ q. token_events q n.tokens) (sym k.pasted) ∙ sym n.events)
+    ∙ ap (λ (l : List TerminalEvent). stream_events p bytes ++ l) (ap (λ q. token_events q n.tokens) (sym k.pasted) ∙ sym n.events)
 
 pub heard_next : (d : Decoder) (p : Bool) (bytes : List ℕ) → HasHeard d p bytes → (b : ℕ) → HasHeard (hears d b) p (bytes ++ (b ∷ []))
 unfolding HasHeard
@@ -182,7 +182,7 @@ pub hears_byte : (old new : Decoder) (pair : EventPair) (b : ℕ) → pair ≡ (
     → (p : Bool) (bytes : List ℕ) → HasHeard old p bytes → Hears new (b ∷ []) (events_of pair) p bytes
 hears_byte old new pair b e f p bytes h = record {
   heard = subst (λ (d : Decoder). HasHeard d p (bytes ++ (b ∷ []))) (sym f) (heard_next old p bytes h b);
-  events = hears_event old p bytes (knows old p bytes h) b ∙ ap (λ (t : EventPair). decoded p bytes ++ events_of t) (sym e);
+  events = hears_event old p bytes (knows old p bytes h) b ∙ ap (λ (t : EventPair). stream_events p bytes ++ events_of t) (sym e);
 }
 
 -- no byte
@@ -192,7 +192,7 @@ adds_none d more events e = record {
   is = sym (append-nil events);
   hears = λ p bytes h. record {
     heard = subst (λ (l : List ℕ). HasHeard d p (bytes ++ l)) (sym e) (subst (λ (l : List ℕ). HasHeard d p l) (sym (append-nil bytes)) h);
-    events = ap (λ (l : List ℕ). decoded p (bytes ++ l)) e ∙ ap (decoded p) (append-nil bytes) ∙ sym (append-nil (decoded p bytes));
+    events = ap (λ (l : List ℕ). stream_events p (bytes ++ l)) e ∙ ap (stream_events p) (append-nil bytes) ∙ sym (append-nil (stream_events p bytes));
   };
 }
 
@@ -209,7 +209,7 @@ adds_more old d new more longer b before events after pair a step e f = record {
       let joins : bytes ++ longer ≡ (bytes ++ more) ++ (b ∷ []) = ap (λ (l : List ℕ). bytes ++ l) f ∙ sym (append_assoc bytes more (b ∷ [])) in
       record {
         heard = subst (λ (l : List ℕ). HasHeard new p l) (sym joins) two.heard;
-        events = ap (decoded p) joins ∙ two.events ∙ ap (λ (l : List TerminalEvent). l ++ events_of pair) one.events ∙ append_assoc (decoded p bytes) a.found (events_of pair);
+        events = ap (stream_events p) joins ∙ two.events ∙ ap (λ (l : List TerminalEvent). l ++ events_of pair) one.events ∙ append_assoc (stream_events p bytes) a.found (events_of pair);
       };
 }
 
@@ -237,7 +237,7 @@ rest_ends d p bytes h =
 pub rests_pasted : (d : Decoder) → d.is_pasted ≡ true → (p : Bool) (bytes : List ℕ) → HasHeard d p bytes → Rests d None p bytes
 rests_pasted d e p bytes h =
     let is : is_pasted_after p bytes ≡ true = pasted_is d p bytes h ∙ e in record {
-      event = sym (ap (λ q. silent q (rest bytes)) is);
+      event = sym (ap (λ q. idle_event q (rest bytes)) is);
       heard = subst (λ q. MatchBool q (HasHeard d p bytes) (HasHeard d false [])) (sym is) h;
     }
 
@@ -250,7 +250,7 @@ pub rests_quiet : (d new : Decoder) (event : Option TerminalEvent) → d.is_past
     → (p : Bool) (bytes : List ℕ) → HasHeard d p bytes → Rests new event p bytes
 rests_quiet d new event e f g p bytes h =
     let is : is_pasted_after p bytes ≡ false = pasted_is d p bytes h ∙ e in record {
-      event = g ∙ sym (rest_ends d p bytes h) ∙ sym (ap (λ q. silent q (rest bytes)) is);
+      event = g ∙ sym (rest_ends d p bytes h) ∙ sym (ap (λ q. idle_event q (rest bytes)) is);
       heard = subst (λ q. MatchBool q (HasHeard new p bytes) (HasHeard new false [])) (sym is)
           (subst (λ (x : Decoder). HasHeard x false []) (sym f) heard_nothing);
     }

@@ -4,9 +4,9 @@ use Rattle.std.proofs.lemmas.Bool.{eqb-true}
 use Rattle.std.proofs.lemmas.List.Sums.{fold-append}
 use Rattle.scm_input.specs.declared.terminal.TerminalEvent.{TerminalEvent}
 use Rattle.scm_input.specs.declared.terminal.TerminalEvent.TheVariants.{Other}
-use Rattle.scm_terminal.specs.declared.keys.Decoder.{Decoder}
-use Rattle.scm_terminal.specs.declared.states.State.{State}
-use Rattle.scm_terminal.specs.declared.states.State.TheVariants as state
+use Rattle.scm_terminal.specs.declared.decoder.Decoder.{Decoder}
+use Rattle.scm_terminal.specs.declared.transitions.State.{State}
+use Rattle.scm_terminal.specs.declared.transitions.State.TheVariants as state
 use Rattle.scm_terminal.specs.Bytes.{is_parameter, is_final, is_continuation}
 use Rattle.scm_terminal.specs.Sequences.{new_sequence, with_parameter, token_of, trailing_bytes}
 use Rattle.scm_terminal.specs.Streams.{Split, split, token_event, token_events, pasted_after, escape_key, is_pasted_after, rest, event_at_end, IsCut, paste_end}

@@ -8,7 +8,7 @@ pub mod PaintingLemmas
 -- ---- what a grid shows
 pub mod PictureLemmas
 -- ---- what the code keeps and writes
-pub mod PlaceLemmas
+pub mod StyledCellLemmas
 pub mod ShowingLemmas
 pub mod UpdateLemmas
 pub mod PushLemmas

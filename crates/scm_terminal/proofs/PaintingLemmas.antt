@@ -13,46 +13,46 @@ use Rattle.scm_cells.proofs.WholeLemmas.{HasColumn}
 use Rattle.scm_terminal.specs.declared.style.Style.{Style}
 use Rattle.scm_terminal.specs.declared.row.Row.{Row}
 use Rattle.scm_terminal.specs.declared.pen.Pen.{Pen}
-use Rattle.scm_terminal.specs.Place.{Place, First, Later, laters, styled_row, picture}
+use Rattle.scm_terminal.specs.StyledCell.{StyledCell, First, Later, laters, styled_row, picture}
 use Rattle.scm_terminal.specs.Terminal.{Terminal, Spot, Command, MoveTo, SetStyle, Put, IsOfSize, IsSafe, IsNear, Symbol, bytes_of}
 use Rattle.scm_terminal.specs.Reading.{read_commands}
-use Rattle.scm_terminal.specs.Painting.{Line, AreUpdates, is_set, moves, sets, place_commands, pen_after, new_pen, row_commands, line_commands, painting}
-use Rattle.scm_terminal.specs.Promise.{known, HasSize, HasChanged, MovesTo, Paints}
-use Rattle.scm_terminal.specs.PainterView.{places_of}
+use Rattle.scm_terminal.specs.Painting.{Line, AreUpdates, is_style_set, move_commands, style_commands, cell_commands, pen_after, new_pen, row_commands, line_commands, painting}
+use Rattle.scm_terminal.specs.Promise.{known_spots, HasSize, HasChanged, MovesTo, Paints}
+use Rattle.scm_terminal.specs.PainterView.{cells_of_row}
 use Rattle.scm_terminal.specs.RowView.{line_of}
 use Rattle.scm_terminal.proofs.RunLemmas.{Runs, Runs-none, terminal}
 use Rattle.scm_terminal.proofs.RowLemmas.{Ends, Ends-append, left-none, row-runs}
 use Rattle.scm_terminal.proofs.PictureLemmas.{styled_from, styled-row, length-styled}
 use Rattle.scm_terminal.proofs.ApartLemmas.{runs-near, painting-apart}
 use Rattle.scm_terminal.proofs.ReadingLemmas.{read_back}
-use Rattle.scm_terminal.proofs.UpdateLemmas.{line_places, places-lines}
+use Rattle.scm_terminal.proofs.UpdateLemmas.{line_cells, cells-lines}
 
--- a line shows whole symbols on so many columns
+-- a line shows whole symbols on `w` columns
 pub record IsWholeLine (w : ℕ) (line : Line) : Type 0 where
   pub style : ℕ → Style
   pub symbols : List Cluster
   pub wide : All HasColumn symbols
   pub kept : All IsMeasured symbols
-  pub shows : line.places ≡ styled_from style 0 (flat_map cells_of symbols)
-  pub size : length line.places ≡ w
+  pub shows : line.cells ≡ styled_from style 0 (flat_map cells_of symbols)
+  pub size : length line.cells ≡ w
 
 -- what stood on a row before it is painted: anything, or what it shows if it is left out
 abbrev pub Stood : ℕ → Line → List Spot → Type 0
-Stood w line old = (length old ≡ w) × (line.is_changed ≡ false → old ≡ known line.places)
+Stood w line old = (length old ≡ w) × (line.is_changed ≡ false → old ≡ known_spots line.cells)
 
 abbrev pub lines_shown : List Line → List (List Spot)
-lines_shown lines = map (λ line. known line.places) lines
+lines_shown lines = map (λ line. known_spots line.cells) lines
 
 line-runs : (r w : ℕ) (before after : List (List Spot)) (line : Line) (old : List Spot) (cursor : Option (ℕ × ℕ)) (was : Option Style)
     → length before ≡ r → IsWholeLine w line → Stood w line old
-    → Ends w (line_commands r line) (terminal w (before ++ old ∷ after) cursor was) (before ++ known line.places ∷ after)
+    → Ends w (line_commands r line) (terminal w (before ++ old ∷ after) cursor was) (before ++ known_spots line.cells ∷ after)
 line-runs r w before after line old cursor was above whole stood = at line.is_changed refl
   where
-    at : (b : Bool) → line.is_changed ≡ b → Ends w (if b then row_commands r 0 new_pen line.places else []) (terminal w (before ++ old ∷ after) cursor was) (before ++ known line.places ∷ after)
+    at : (b : Bool) → line.is_changed ≡ b → Ends w (if b then row_commands r 0 new_pen line.cells else []) (terminal w (before ++ old ∷ after) cursor was) (before ++ known_spots line.cells ∷ after)
     at true e =
         let count : length old ≡ length (flat_map cells_of whole.symbols) = stood.0 ∙ sym whole.size ∙ ap length whole.shows ∙ length-styled whole.style 0 (flat_map cells_of whole.symbols) in
         let full : 0 + length old ≡ w = let long = stood.0 in omega arith in
-        subst (λ (ps : List Place). Ends w (row_commands r 0 new_pen ps) (terminal w (before ++ old ∷ after) cursor was) (before ++ known ps ∷ after)) (sym whole.shows)
+        subst (λ (ps : List StyledCell). Ends w (row_commands r 0 new_pen ps) (terminal w (before ++ old ∷ after) cursor was) (before ++ known_spots ps ∷ after)) (sym whole.shows)
         (row-runs r w whole.style before after above whole.symbols 0 new_pen cursor was [] old whole.wide whole.kept refl count full (left-none old) (λ t. absurd (cc)) (λ s t. absurd (cc)))
     at false e = record {
       cursor = cursor;
@@ -79,7 +79,7 @@ painting-runs w r before [] (old ∷ olds) cursor was above whole stood = absurd
 painting-runs w r before (line ∷ lines) [] cursor was above whole stood = absurd stood
 painting-runs w r before (line ∷ lines) (old ∷ olds) cursor was above whole stood =
     let first = line-runs r w before olds line old cursor was above (All-head (IsWholeLine w) line lines whole) stood.0 in
-    let row = known line.places in
+    let row = known_spots line.cells in
     let moved : (rows : List (List Spot)) → before ++ row ∷ rows ≡ (before ++ row ∷ []) ++ rows = λ rows. sym (append_assoc before (row ∷ []) rows) in
     let above' : length (before ++ row ∷ []) ≡ r + 1 = length-append before (row ∷ []) ∙ (let e = above in omega arith) in
     let rest = painting-runs w (r + 1) (before ++ row ∷ []) lines olds first.cursor first.style above' (All-tail (IsWholeLine w) line lines whole) stood.1 in
@@ -90,7 +90,7 @@ painting-runs w r before (line ∷ lines) (old ∷ olds) cursor was above whole 
 
 -- ---- what stood
 
-stood-all : (w : ℕ) (lasts : List (List Place)) (lines : List Line) (olds : List (List Spot)) → AreUpdates true lasts lines → length olds ≡ length lines
+stood-all : (w : ℕ) (lasts : List (List StyledCell)) (lines : List Line) (olds : List (List Spot)) → AreUpdates true lasts lines → length olds ≡ length lines
     → All (λ row. length row ≡ w) olds → AllZip (Stood w) lines olds
 stood-all w [] [] [] updates size wide = tt
 stood-all w [] [] (old ∷ olds) updates size wide = absurd (omega arith)
@@ -102,37 +102,37 @@ stood-all w (last ∷ lasts) (line ∷ lines) (old ∷ olds) updates size wide =
   stood-all w lasts lines olds updates.1 (omega arith) (All-tail (λ row. length row ≡ w) old olds wide),
 )
 
-stood-known : (w : ℕ) (lasts : List (List Place)) (lines : List Line) → AreUpdates false lasts lines
-    → All (λ row. length row ≡ w) (map known lasts) → AllZip (Stood w) lines (map known lasts)
+stood-known : (w : ℕ) (lasts : List (List StyledCell)) (lines : List Line) → AreUpdates false lasts lines
+    → All (λ row. length row ≡ w) (map known_spots lasts) → AllZip (Stood w) lines (map known_spots lasts)
 stood-known w [] [] updates wide = tt
 stood-known w [] (line ∷ lines) updates wide = absurd updates
 stood-known w (last ∷ lasts) [] updates wide = absurd updates
 stood-known w (last ∷ lasts) (line ∷ lines) updates wide = (
-  (All-head (λ row. length row ≡ w) (known last) (map known lasts) wide, λ e. ap known (sym (updates.0.0 e).1)),
-  stood-known w lasts lines updates.1 (All-tail (λ row. length row ≡ w) (known last) (map known lasts) wide),
+  (All-head (λ row. length row ≡ w) (known_spots last) (map known_spots lasts) wide, λ e. ap known_spots (sym (updates.0.0 e).1)),
+  stood-known w lasts lines updates.1 (All-tail (λ row. length row ≡ w) (known_spots last) (map known_spots lasts) wide),
 )
 
-pub stands : (is_all : Bool) (w : ℕ) (lasts : List (List Place)) (lines : List Line) (olds : List (List Spot)) → AreUpdates is_all lasts lines → length olds ≡ length lines
-    → All (λ row. length row ≡ w) olds → (is_all ≡ false → olds ≡ map known lasts) → AllZip (Stood w) lines olds
+pub stands : (is_all : Bool) (w : ℕ) (lasts : List (List StyledCell)) (lines : List Line) (olds : List (List Spot)) → AreUpdates is_all lasts lines → length olds ≡ length lines
+    → All (λ row. length row ≡ w) olds → (is_all ≡ false → olds ≡ map known_spots lasts) → AllZip (Stood w) lines olds
 stands true w lasts lines olds updates size wide is = stood-all w lasts lines olds updates size wide
 stands false w lasts lines olds updates size wide is =
     subst (AllZip (Stood w) lines) (sym (is refl)) (stood-known w lasts lines updates (subst (All (λ row. length row ≡ w)) (is refl) wide))
 
 -- ---- the rows of a grid
 
-shown-known : (lines : List Line) → lines_shown lines ≡ map known (map line_places lines)
+shown-known : (lines : List Line) → lines_shown lines ≡ map known_spots (map line_cells lines)
 shown-known [] = refl
-shown-known (line ∷ lines) = ap (λ t. known line.places ∷ t) (shown-known lines)
+shown-known (line ∷ lines) = ap (λ t. known_spots line.cells ∷ t) (shown-known lines)
 
-picture-at : (style : ℕ → ℕ → Style) (grid : Screen) (lines : List Line) (k : ℕ) (d : Line) → map line_places lines ≡ picture style grid → k < length lines
-    → (get_or lines k d).places ≡ styled_row style grid k
+picture-at : (style : ℕ → ℕ → Style) (grid : Screen) (lines : List Line) (k : ℕ) (d : Line) → map line_cells lines ≡ picture style grid → k < length lines
+    → (get_or lines k d).cells ≡ styled_row style grid k
 picture-at style grid lines k d e h =
-    let size : length lines ≡ length grid.rows = sym (length-map lines line_places) ∙ ap length e ∙ length-map-range_with_len (styled_row style grid) 0 (length grid.rows) in
-    sym (get_or-map line_places lines k d [] h) ∙ ap (λ xs. get_or xs k []) e ∙ get_or-map-range_with_len (styled_row style grid) 0 (length grid.rows) k k [] (omega arith) (omega arith)
+    let size : length lines ≡ length grid.rows = sym (length-map lines line_cells) ∙ ap length e ∙ length-map-range_with_len (styled_row style grid) 0 (length grid.rows) in
+    sym (get_or-map line_cells lines k d [] h) ∙ ap (λ xs. get_or xs k []) e ∙ get_or-map-range_with_len (styled_row style grid) 0 (length grid.rows) k k [] (omega arith) (omega arith)
 
-pub whole-lines : (style : ℕ → ℕ → Style) (grid : Screen) (lines : List Line) → IsScreen grid → map line_places lines ≡ picture style grid → All (IsWholeLine grid.width) lines
+pub whole-lines : (style : ℕ → ℕ → Style) (grid : Screen) (lines : List Line) → IsScreen grid → map line_cells lines ≡ picture style grid → All (IsWholeLine grid.width) lines
 whole-lines style grid lines screen e k d h =
-    let size : length lines ≡ length grid.rows = sym (length-map lines line_places) ∙ ap length e ∙ length-map-range_with_len (styled_row style grid) 0 (length grid.rows) in
+    let size : length lines ≡ length grid.rows = sym (length-map lines line_cells) ∙ ap length e ∙ length-map-range_with_len (styled_row style grid) 0 (length grid.rows) in
     let inside : k < length grid.rows = omega arith in
     let whole : IsWhole (get_or grid.rows k []) = screen.symbols k [] inside in
     let wide : length (get_or grid.rows k []) ≡ grid.width = screen.columns k [] inside in
@@ -145,34 +145,34 @@ whole-lines style grid lines screen e k d h =
       size = ap length (picture-at style grid lines k d e h ∙ styled-row style grid k inside wide) ∙ length-styled (style k) 0 (get_or grid.rows k []) ∙ wide;
     }
 
-pub few-columns : (style : ℕ → ℕ → Style) (grid : Screen) (rows : List Row) → IsScreen grid → map places_of rows ≡ picture style grid → All (λ row. length (places_of row) < 2 ^ 16) rows
+pub few-columns : (style : ℕ → ℕ → Style) (grid : Screen) (rows : List Row) → IsScreen grid → map cells_of_row rows ≡ picture style grid → All (λ row. length (cells_of_row row) < 2 ^ 16) rows
 few-columns style grid rows screen e k d h =
     let lines = map line_of rows in
     let size : length lines ≡ length rows = length-map rows line_of in
-    let whole : IsWholeLine grid.width (get_or lines k (line_of d)) = whole-lines style grid lines screen (places-lines rows ∙ e) k (line_of d) (omega arith) in
+    let whole : IsWholeLine grid.width (get_or lines k (line_of d)) = whole-lines style grid lines screen (cells-lines rows ∙ e) k (line_of d) (omega arith) in
     let same : get_or lines k (line_of d) ≡ line_of (get_or rows k d) = get_or-map line_of rows k d (line_of d) h in
-    let long : length (places_of (get_or rows k d)) ≡ grid.width = ap (λ (line : Line). length line.places) (sym same) ∙ whole.size in
+    let long : length (cells_of_row (get_or rows k d)) ≡ grid.width = ap (λ (line : Line). length line.cells) (sym same) ∙ whole.size in
     let small = screen.width in omega arith
 
-pub few-rows : (style : ℕ → ℕ → Style) (grid : Screen) (rows : List Row) → IsScreen grid → map places_of rows ≡ picture style grid → length rows < 2 ^ 16
+pub few-rows : (style : ℕ → ℕ → Style) (grid : Screen) (rows : List Row) → IsScreen grid → map cells_of_row rows ≡ picture style grid → length rows < 2 ^ 16
 few-rows style grid rows screen e =
-    let size : length rows ≡ length grid.rows = sym (length-map rows places_of) ∙ ap length e ∙ length-map-range_with_len (styled_row style grid) 0 (length grid.rows) in
+    let size : length rows ≡ length grid.rows = sym (length-map rows cells_of_row) ∙ ap length e ∙ length-map-range_with_len (styled_row style grid) 0 (length grid.rows) in
     let small = screen.height in omega arith
 
 -- ---- the rows to which the cursor moves
 
-row-moves : (IsOne : ℕ → Type 0) (row column : ℕ) (pen : Pen) (places : List Place) → IsOne row → All (MovesTo IsOne) (row_commands row column pen places)
+row-moves : (IsOne : ℕ → Type 0) (row column : ℕ) (pen : Pen) (cells : List StyledCell) → IsOne row → All (MovesTo IsOne) (row_commands row column pen cells)
 unfolding row_commands
 row-moves IsOne row column pen [] one = All-nil (MovesTo IsOne)
 row-moves IsOne row column pen (Later ∷ ps) one = row-moves IsOne row (column + 1) (pen_after pen Later) ps one
 row-moves IsOne row column pen (First symbol style ∷ ps) one =
-    All-append (MovesTo IsOne) (place_commands row column pen (First symbol style) (1 + laters ps)) (row_commands row (column + 1) (pen_after pen (First symbol style)) ps)
-    (All-append (MovesTo IsOne) (moves (pen.is_there && (length symbol == 1)) row column) (sets pen.style style ++ (Put symbol (1 + laters ps) ∷ [])) (at (pen.is_there && (length symbol == 1)))
-    (All-append (MovesTo IsOne) (sets pen.style style) (Put symbol (1 + laters ps) ∷ []) (set (is_set pen.style style))
+    All-append (MovesTo IsOne) (cell_commands row column pen (First symbol style) (1 + laters ps)) (row_commands row (column + 1) (pen_after pen (First symbol style)) ps)
+    (All-append (MovesTo IsOne) (move_commands (pen.is_there && (length symbol == 1)) row column) (style_commands pen.style style ++ (Put symbol (1 + laters ps) ∷ [])) (at (pen.is_there && (length symbol == 1)))
+    (All-append (MovesTo IsOne) (style_commands pen.style style) (Put symbol (1 + laters ps) ∷ []) (set (is_style_set pen.style style))
     (All-cons (MovesTo IsOne) (Put symbol (1 + laters ps)) [] tt (All-nil (MovesTo IsOne)))))
     (row-moves IsOne row (column + 1) (pen_after pen (First symbol style)) ps one)
   where
-    at : (b : Bool) → All (MovesTo IsOne) (moves b row column)
+    at : (b : Bool) → All (MovesTo IsOne) (move_commands b row column)
     at true = All-nil (MovesTo IsOne)
     at false = All-cons (MovesTo IsOne) (MoveTo row column) [] one (All-nil (MovesTo IsOne))
 
@@ -183,8 +183,8 @@ row-moves IsOne row column pen (First symbol style ∷ ps) one =
 line-moves : (IsOne : ℕ → Type 0) (row : ℕ) (line : Line) → (line.is_changed ≡ true → IsOne row) → All (MovesTo IsOne) (line_commands row line)
 line-moves IsOne row line one = at line.is_changed refl
   where
-    at : (b : Bool) → line.is_changed ≡ b → All (MovesTo IsOne) (if b then row_commands row 0 new_pen line.places else [])
-    at true e = row-moves IsOne row 0 new_pen line.places (one e)
+    at : (b : Bool) → line.is_changed ≡ b → All (MovesTo IsOne) (if b then row_commands row 0 new_pen line.cells else [])
+    at true e = row-moves IsOne row 0 new_pen line.cells (one e)
     at false e = All-nil (MovesTo IsOne)
 
 -- the cursor moves only to rows that are written
@@ -198,8 +198,8 @@ painting-moves IsOne row (line ∷ lines) one =
     (painting-moves IsOne (row + 1) lines (λ k l h read e. let there : row + suc k ≡ row + 1 + k = omega arith in subst IsOne there (one (suc k) l (omega arith) read e)))
 
 -- a row that is written is one that changed
-update-changed : (is_all : Bool) (last : List (List Place)) (lines : List Line) (k : ℕ) (line : Line) → AreUpdates is_all last lines → k < length lines → line ≡ get_or lines k line
-    → line.is_changed ≡ true → is_all ≡ false → get_or last k [] ≡ get_or (map line_places lines) k [] → ⊥
+update-changed : (is_all : Bool) (last : List (List StyledCell)) (lines : List Line) (k : ℕ) (line : Line) → AreUpdates is_all last lines → k < length lines → line ≡ get_or lines k line
+    → line.is_changed ≡ true → is_all ≡ false → get_or last k [] ≡ get_or (map line_cells lines) k [] → ⊥
 update-changed is_all last [] k line updates h read e f same = absurd (omega arith)
 update-changed is_all [] (l ∷ lines) k line updates h read e f same = absurd updates
 update-changed is_all (b ∷ last) (l ∷ lines) zero line updates h read e f same =
@@ -210,22 +210,22 @@ update-changed is_all (b ∷ last) (l ∷ lines) (suc k) line updates h read e f
 
 -- ---- a paint
 
-pub paints : (style : ℕ → ℕ → Style) (grid : Screen) (is_all : Bool) (last lasts : List (List Place)) (rows : List Row) (bytes : List ℕ)
-    → IsScreen grid → map places_of rows ≡ picture style grid → AreUpdates is_all lasts (map line_of rows)
+pub paints : (style : ℕ → ℕ → Style) (grid : Screen) (is_all : Bool) (last lasts : List (List StyledCell)) (rows : List Row) (bytes : List ℕ)
+    → IsScreen grid → map cells_of_row rows ≡ picture style grid → AreUpdates is_all lasts (map line_of rows)
     → (is_all ≡ false → lasts ≡ last) → (is_all ≡ false → HasSize grid.width (length grid.rows) last) → (HasSize grid.width (length grid.rows) last → is_all ≡ false)
     → bytes ≡ flat_map bytes_of (painting 0 (map line_of rows))
     → Paints grid.width last (picture style grid) bytes
 paints style grid is_all last lasts rows bytes screen e updates same fits fitted made =
     let lines = map line_of rows in
-    let shows : map line_places lines ≡ picture style grid = places-lines rows ∙ e in
+    let shows : map line_cells lines ≡ picture style grid = cells-lines rows ∙ e in
     let whole = whole-lines style grid lines screen shows in
     let height : length (picture style grid) ≡ length grid.rows = length-map-range_with_len (styled_row style grid) 0 (length grid.rows) in
-    let count' : length lines ≡ length grid.rows = sym (length-map lines line_places) ∙ ap length shows ∙ height in
-    let count : length lines ≡ length (picture style grid) = sym (length-map lines line_places) ∙ ap length shows in
-    let run = λ (t : Terminal) (size : IsOfSize t grid.width (length (picture style grid))) (stood : HasSize grid.width (length (picture style grid)) last → t.rows ≡ map known last).
+    let count' : length lines ≡ length grid.rows = sym (length-map lines line_cells) ∙ ap length shows ∙ height in
+    let count : length lines ≡ length (picture style grid) = sym (length-map lines line_cells) ∙ ap length shows in
+    let run = λ (t : Terminal) (size : IsOfSize t grid.width (length (picture style grid))) (stood : HasSize grid.width (length (picture style grid)) last → t.rows ≡ map known_spots last).
     painting-runs grid.width 0 [] lines t.rows t.cursor t.style refl whole
     (stands is_all grid.width lasts lines t.rows updates (size.high ∙ sym count) size.all_wide
-    (λ (f : is_all ≡ false). stood (subst (λ (n : ℕ). HasSize grid.width n last) (sym height) (fits f)) ∙ ap (map known) (sym (same f)))) in
+    (λ (f : is_all ≡ false). stood (subst (λ (n : ℕ). HasSize grid.width n last) (sym height) (fits f)) ∙ ap (map known_spots) (sym (same f)))) in
     record {
       commands = painting 0 lines;
       written = made;
@@ -236,7 +236,7 @@ paints style grid is_all last lasts rows bytes screen e updates same fits fitted
           let not_all : is_all ≡ false = fitted (subst (λ (n : ℕ). HasSize grid.width n last) height size) in
           let here : 0 + k ≡ k = omega arith in
           let equal' : get_or last k [] ≡ get_or (picture style grid) k [] = subst (λ (n : ℕ). get_or last n [] ≡ get_or (picture style grid) n []) here equal in
-          update-changed is_all lasts lines k line updates h read written not_all (ap (λ (xs : List (List Place)). get_or xs k []) (same not_all) ∙ equal' ∙ ap (λ (xs : List (List Place)). get_or xs k []) (sym shows)));
+          update-changed is_all lasts lines k line updates h read written not_all (ap (λ (xs : List (List StyledCell)). get_or xs k []) (same not_all) ∙ equal' ∙ ap (λ (xs : List (List StyledCell)). get_or xs k []) (sym shows)));
       shows = λ t size stood.
           let ends = run t size stood in
           let start : terminal grid.width t.rows t.cursor t.style ≡ t = ap (λ (n : ℕ). terminal n t.rows t.cursor t.style) (sym size.wide) in
@@ -244,7 +244,7 @@ paints style grid is_all last lasts rows bytes screen e updates same fits fitted
             end = terminal grid.width (lines_shown lines) ends.cursor ends.style;
             runs = subst (λ (u : Terminal). Runs (painting 0 lines) u (terminal grid.width (lines_shown lines) ends.cursor ends.style)) start ends.runs;
             stays_wide = sym size.wide;
-            shows = shown-known lines ∙ ap (map known) shows;
+            shows = shown-known lines ∙ ap (map known_spots) shows;
           };
     }
   where
@@ -253,7 +253,7 @@ paints style grid is_all last lasts rows bytes screen e updates same fits fitted
     stood-own [] whole = tt
     stood-own (line ∷ lines) whole =
         let first = All-head (IsWholeLine grid.width) line lines whole in
-        ((length-map line.places Some ∙ first.size, λ h. refl), stood-own lines (All-tail (IsWholeLine grid.width) line lines whole))
+        ((length-map line.cells Some ∙ first.size, λ h. refl), stood-own lines (All-tail (IsWholeLine grid.width) line lines whole))
 
     own : (lines : List Line) → All (IsWholeLine grid.width) lines
         → Ends grid.width (painting 0 lines) (terminal grid.width (lines_shown lines) None None) (lines_shown lines)
@@ -263,7 +263,7 @@ paints style grid is_all last lasts rows bytes screen e updates same fits fitted
     near : (lines : List Line) → All (IsWholeLine grid.width) lines → length lines ≡ length grid.rows → All IsNear (painting 0 lines)
     near lines whole count =
         let high = screen.height in
-        let all = length-map lines (λ line. known line.places) in
+        let all = length-map lines (λ line. known_spots line.cells) in
         let start = terminal grid.width (lines_shown lines) None None in
         let ends = own lines whole in
         runs-near (painting 0 lines) start (terminal grid.width (lines_shown lines) ends.cursor ends.style) screen.width (omega (arith, count, all)) ends.runs

@@ -6,20 +6,20 @@ use Rattle.std.proofs.Math.Utf8.{scalar}
 use Rattle.scm_input.specs.declared.terminal.TerminalEvent.{TerminalEvent}
 use Rattle.scm_input.specs.declared.terminal.TerminalEvent.TheVariants.{Other}
 use Rattle.scm_terminal.specs.declared.characters.Character.{Character}
-use Rattle.scm_terminal.specs.declared.characters.Joined.{Joined}
-use Rattle.scm_terminal.specs.declared.characters.Joined.TheVariants.{Whole, Part}
-use Rattle.scm_terminal.specs.declared.keys.Decoder.{Decoder}
+use Rattle.scm_terminal.specs.declared.characters.CharacterProgress.{CharacterProgress}
+use Rattle.scm_terminal.specs.declared.characters.CharacterProgress.TheVariants.{Whole, Part}
+use Rattle.scm_terminal.specs.declared.decoder.Decoder.{Decoder}
 use Rattle.scm_terminal.specs.declared.tokens.Token.{Token}
 use Rattle.scm_terminal.specs.declared.tokens.Token.TheVariants.{Event, PasteBegins, PasteEnds}
-use Rattle.scm_terminal.specs.declared.states.State.{State}
-use Rattle.scm_terminal.specs.declared.states.State.TheVariants as state
-use Rattle.scm_terminal.specs.declared.states.Transition.{Transition}
-use Rattle.scm_terminal.specs.declared.states.Transition.TheVariants.{Continue, Emit, EmitAndRetry}
+use Rattle.scm_terminal.specs.declared.transitions.State.{State}
+use Rattle.scm_terminal.specs.declared.transitions.State.TheVariants as state
+use Rattle.scm_terminal.specs.declared.transitions.Transition.{Transition}
+use Rattle.scm_terminal.specs.declared.transitions.Transition.TheVariants.{Continue, Emit, EmitAndRetry}
 use Rattle.scm_terminal.specs.Bytes.{is_parameter, is_final, is_continuation}
 use Rattle.scm_terminal.specs.Sequences.{new_sequence, with_parameter, token_of, trailing_bytes}
 use Rattle.scm_terminal.specs.Characters.{lead_character, with_continuation, char_token, bits_with}
-use Rattle.scm_terminal.specs.Streams.{split_from, decoded, paste_begin, paste_end, HasNoEscape, AreOther, IsQuiet}
-use Rattle.scm_terminal.specs.Transitions.{lead_transition, ground_transition, joined_transition, transition_of}
+use Rattle.scm_terminal.specs.Streams.{split_from, stream_events, paste_begin, paste_end, HasNoEscape, AreOther, IsQuiet}
+use Rattle.scm_terminal.specs.Transitions.{lead_transition, ground_transition, progress_transition, transition_of}
 use Rattle.scm_terminal.specs.Decoders.{decoder, events_of, Step, step_by, step_retry, step, hears, HasHeard}
 use Rattle.scm_terminal.proofs.HeardLemmas.{hears_event, heard_next, knows}
 use Rattle.scm_terminal.proofs.StreamLemmas.{with_one}
@@ -37,23 +37,23 @@ along-append d (x ∷ xs) ys =
     ap (λ (l : List TerminalEvent). events_of (step d x).events ++ l) (along-append (hears d x) xs ys)
     ∙ sym (append_assoc (events_of (step d x).events) (along (hears d x) xs) (along (fold hears (hears d x) xs) ys))
 
-decoded_along_from : (d : Decoder) (p : Bool) (bytes : List ℕ) → HasHeard d p bytes → (bs : List ℕ) → decoded p (bytes ++ bs) ≡ decoded p bytes ++ along d bs
-decoded_along_from d p bytes h [] = ap (decoded p) (append-nil bytes) ∙ sym (append-nil (decoded p bytes))
+decoded_along_from : (d : Decoder) (p : Bool) (bytes : List ℕ) → HasHeard d p bytes → (bs : List ℕ) → stream_events p (bytes ++ bs) ≡ stream_events p bytes ++ along d bs
+decoded_along_from d p bytes h [] = ap (stream_events p) (append-nil bytes) ∙ sym (append-nil (stream_events p bytes))
 decoded_along_from d p bytes h (b ∷ bs) =
-    ap (decoded p) (sym (with_one bytes b bs))
+    ap (stream_events p) (sym (with_one bytes b bs))
     ∙ decoded_along_from (hears d b) p (bytes ++ (b ∷ [])) (heard_next d p bytes h b) bs
     ∙ ap (λ (l : List TerminalEvent). l ++ along (hears d b) bs) (hears_event d p bytes (knows d p bytes h) b)
-    ∙ append_assoc (decoded p bytes) (events_of (step d b).events) (along (hears d b) bs)
+    ∙ append_assoc (stream_events p bytes) (events_of (step d b).events) (along (hears d b) bs)
 
 heard_none : (p : Bool) → HasHeard (decoder p state.Ground) p []
 unfolding HasHeard
 heard_none p = refl
 
-decoded_none : (p : Bool) → decoded p [] ≡ []
+decoded_none : (p : Bool) → stream_events p [] ≡ []
 unfolding split_from
 decoded_none p = refl
 
-decoded_along : (p : Bool) (bytes : List ℕ) → decoded p bytes ≡ along (decoder p state.Ground) bytes
+decoded_along : (p : Bool) (bytes : List ℕ) → stream_events p bytes ≡ along (decoder p state.Ground) bytes
 decoded_along p bytes =
     decoded_along_from (decoder p state.Ground) p [] (heard_none p) bytes
     ∙ ap (λ (l : List TerminalEvent). l ++ along (decoder p state.Ground) bytes) (decoded_none p)
@@ -79,7 +79,7 @@ Stays (Continue s) = IsPlain s
 Stays (Emit token) = IsTell token
 Stays (EmitAndRetry token) = IsTell token
 
-abbrev Joins : Joined → Type 0
+abbrev Joins : CharacterProgress → Type 0
 Joins (Whole token) = IsTell token
 Joins (Part c) = Unit {0}
 
@@ -87,7 +87,7 @@ tell_if : (t : Bool) (x y : Token) → IsTell x → IsTell y → IsTell (if t th
 tell_if true x y p q = p
 tell_if false x y p q = q
 
-joins_if : (t : Bool) (x y : Joined) → Joins x → Joins y → Joins (if t then x else y)
+joins_if : (t : Bool) (x y : CharacterProgress) → Joins x → Joins y → Joins (if t then x else y)
 joins_if true x y p q = p
 joins_if false x y p q = q
 
@@ -107,7 +107,7 @@ unfolding with_continuation
 extended_joins c b =
     joins_if (nat_le c.left 1) _ _ (char_joins c.alt c.least (bits_with c b)) (joins_if (nat_le (bits_with c b) 65535) _ _ tt tt)
 
-joined_stays : (joined : Joined) → Joins joined → Stays (joined_transition joined)
+joined_stays : (joined : CharacterProgress) → Joins joined → Stays (progress_transition joined)
 joined_stays (Whole token) h = h
 joined_stays (Part c) h = tt
 

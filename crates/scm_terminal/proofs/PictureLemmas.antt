@@ -10,12 +10,12 @@ use Rattle.scm_cells.specs.Row.{cells_of, later_cells}
 use Rattle.scm_cells.specs.Screen.{Screen}
 use Rattle.scm_cells.specs.Symbols.{symbol_of, symbol_in, symbol_at}
 use Rattle.scm_terminal.specs.declared.style.Style.{Style}
-use Rattle.scm_terminal.specs.Place.{Place, First, Later, place_of, laters, place_at, styled_row}
+use Rattle.scm_terminal.specs.StyledCell.{StyledCell, First, Later, cell_of, laters, cell_at, styled_row}
 
 -- cells from a column on, in the styles of their columns
-abbrev pub styled_from : (ℕ → Style) → ℕ → List Cell → List Place
+abbrev pub styled_from : (ℕ → Style) → ℕ → List Cell → List StyledCell
 styled_from style column [] = []
-styled_from style column (cell ∷ cells) = place_of (symbol_of cell) (style column) ∷ styled_from style (column + 1) cells
+styled_from style column (cell ∷ cells) = cell_of (symbol_of cell) (style column) ∷ styled_from style (column + 1) cells
 
 pub length-styled : (style : ℕ → Style) (column : ℕ) (cells : List Cell) → length (styled_from style column cells) ≡ length cells
 length-styled style column [] = refl
@@ -28,10 +28,10 @@ cell-read cells k cell e = ap (option_and_then symbol_of) e
 
 range-styled : (symbol : ℕ → Option (List ℕ)) (style : ℕ → Style) (cells : List Cell) (column : ℕ)
     → ((i j : ℕ) → i < length cells → column + i ≡ j → symbol j ≡ symbol_in cells i)
-    → map (λ k. place_of (symbol k) (style k)) (range_with_len column (length cells)) ≡ styled_from style column cells
+    → map (λ k. cell_of (symbol k) (style k)) (range_with_len column (length cells)) ≡ styled_from style column cells
 range-styled symbol style [] column h = refl
 range-styled symbol style (cell ∷ cells) column h =
-    ap₂ (λ (o : Option (List ℕ)) (ps : List Place). place_of o (style column) ∷ ps) (h 0 column (omega arith) (omega arith))
+    ap₂ (λ (o : Option (List ℕ)) (ps : List StyledCell). cell_of o (style column) ∷ ps) (h 0 column (omega arith) (omega arith))
     (range-styled symbol style cells (column + 1) (λ i j below e. h (suc i) j (omega arith) (omega arith)))
 
 row-got : {X : Type 0} (rows : List X) (row : ℕ) (d : X) → row < length rows → slice_get rows row ≡ Some (get_or rows row d)
@@ -43,11 +43,11 @@ pub styled-row : (style : ℕ → ℕ → Style) (grid : Screen) (row : ℕ) →
     → styled_row style grid row ≡ styled_from (style row) 0 (get_or grid.rows row [])
 styled-row style grid row h size =
     let cells = get_or grid.rows row [] in
-    ap (λ n. map (place_at style grid row) (range_with_len 0 n)) (sym size)
+    ap (λ n. map (cell_at style grid row) (range_with_len 0 n)) (sym size)
     ∙ range-styled (λ k. symbol_at grid.rows row k) (style row) cells 0
     (λ i j below e. let same : j ≡ i = omega arith in ap (λ (o : Option (List Cell)). option_and_then (λ (cs : List Cell). symbol_in cs j) o) (row-got grid.rows row [] h) ∙ ap (symbol_in cells) same)
 
--- ---- symbols as places
+-- ---- symbols as cells
 
 styled-later : (style : ℕ → Style) (column width offset k : ℕ) (cells : List Cell) → 0 < offset
     → styled_from style column (later_cells width offset k ++ cells) ≡ replicate k Later ++ styled_from style (column + k) cells
@@ -57,7 +57,7 @@ styled-later style column width offset (suc k) cells h =
     let not : (offset == 0) ≡ false = grind (arith, nat_tests) in
     let e : column + 1 + k ≡ column + suc k = omega arith in
     let more = styled-later style (column + 1) width (offset + 1) k cells (omega arith) in
-    ap₂ (λ (b : Bool) (ps : List Place). place_of (if b then Some [] else None) (style column) ∷ ps) not (more ∙ ap (λ n. replicate k Later ++ styled_from style n cells) e)
+    ap₂ (λ (b : Bool) (ps : List StyledCell). cell_of (if b then Some [] else None) (style column) ∷ ps) not (more ∙ ap (λ n. replicate k Later ++ styled_from style n cells) e)
 
 pub styled-cells : (style : ℕ → Style) (column : ℕ) (c : Cluster) (cells : List Cell)
     → styled_from style column (cells_of c ++ cells) ≡ First c.0 (style column) ∷ (replicate (c.1 - 1) Later ++ styled_from style (column + 1 + (c.1 - 1)) cells)
@@ -69,6 +69,6 @@ unfolding cells_of
 laters-styled style column [] = refl
 laters-styled style column (c ∷ cs) = refl
 
-pub laters-more : (k : ℕ) (ps : List Place) → laters ps ≡ 0 → laters (replicate k Later ++ ps) ≡ k
+pub laters-more : (k : ℕ) (ps : List StyledCell) → laters ps ≡ 0 → laters (replicate k Later ++ ps) ≡ k
 laters-more zero ps e = e
 laters-more (suc k) ps e = ap suc (laters-more k ps e)

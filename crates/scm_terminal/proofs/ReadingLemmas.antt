@@ -12,7 +12,7 @@ use Rattle.std.proofs.lemmas.List.Elements.{All-head, All-tail}
 use Rattle.std.proofs.lemmas.Str.{IsUtf8-from_is_utf8, encodes-chars, encode_ascii, length-encode}
 use Rattle.std.proofs.lemmas.Str.Parse.{IsNumeralModel, numerals_by_fold, tells_digits, digit_from_value}
 use Rattle.scm_cells.specs.Cluster.{Cluster, is_printable}
-use Rattle.scm_cells.specs.Clusters.{kept_width, with_width, IsMeasured}
+use Rattle.scm_cells.specs.Clusters.{visible_width, with_width, IsMeasured}
 use Rattle.scm_cells.proofs.PrintableLemmas.{is_printable_char, printable-kept}
 use Rattle.scm_terminal.specs.declared.style.Colour.{Colour}
 use Rattle.scm_terminal.specs.declared.style.Colour.TheVariants.{Black, Red, Green, Yellow, Blue, Magenta, Cyan, White}
@@ -20,8 +20,8 @@ use Rattle.scm_terminal.specs.declared.style.Style.{Style}
 use Rattle.scm_terminal.specs.Bytes.{is_digit}
 use Rattle.scm_terminal.specs.Style.{colour_bytes, text_if, flag_bytes, style_bytes, with_number, style_of}
 use Rattle.scm_terminal.specs.Streams.{HasNoEscape}
-use Rattle.scm_terminal.specs.Terminal.{Command, MoveTo, SetStyle, Put, IsSafe, IsPlain, IsNear, Before, Moved, Byte, Symbol, behind, MayFollow, AreApart, AreReadable, bytes_of}
-use Rattle.scm_terminal.specs.Reading.{put_byte, text_commands, joined, sequence, escaped, Parts, with_byte, parts_of, all_escaped, read_commands}
+use Rattle.scm_terminal.specs.Terminal.{Command, MoveTo, SetStyle, Put, IsSafe, IsNotControl, IsNear, Before, Moved, Byte, Symbol, behind, MayFollow, AreApart, AreReadable, bytes_of}
+use Rattle.scm_terminal.specs.Reading.{put_byte, text_commands, commands_of_both, sequence_commands, part_commands, Parts, with_byte, parts_of, all_part_commands, read_commands}
 use Rattle.scm_terminal.proofs.ControlLemmas.{holds_no_control}
 
 -- ---- bytes between escapes
@@ -30,9 +30,9 @@ no_escape-append : (xs ys : List ℕ) → HasNoEscape xs → HasNoEscape ys → 
 no_escape-append [] ys h g = g
 no_escape-append (x ∷ xs) ys h g = (h.0, no_escape-append xs ys h.1 g)
 
-no_escape-plain : (xs : List ℕ) → All IsPlain xs → HasNoEscape xs
+no_escape-plain : (xs : List ℕ) → All IsNotControl xs → HasNoEscape xs
 no_escape-plain [] all = tt
-no_escape-plain (x ∷ xs) all = let first = All-head IsPlain x xs all in (λ e. omega arith, no_escape-plain xs (All-tail IsPlain x xs all))
+no_escape-plain (x ∷ xs) all = let first = All-head IsNotControl x xs all in (λ e. omega arith, no_escape-plain xs (All-tail IsNotControl x xs all))
 
 abbrev text_before : List ℕ → Parts → Parts
 text_before xs parts = record { text = xs ++ parts.text; behind = parts.behind }
@@ -62,15 +62,15 @@ numerals = numerals_by_fold _ tells_digits read_on (record { empty = λ n. refl;
 digit-is : (d : ℕ) → 48 ≤ d → d ≤ 57 → is_digit d ≡ true
 digit-is d h g = grind (arith, nat_tests)
 
-sequence-digits : (n : ℕ) (ns ds rest : List ℕ) → AllDigits 10 ds → sequence (n ∷ ns) (ds ++ rest) ≡ sequence (read_on n ds ∷ ns) rest
+sequence-digits : (n : ℕ) (ns ds rest : List ℕ) → AllDigits 10 ds → sequence_commands (n ∷ ns) (ds ++ rest) ≡ sequence_commands (read_on n ds ∷ ns) rest
 sequence-digits n ns [] rest h = refl
 sequence-digits n ns (d ∷ ds) rest h =
     let k = digit_from_value d h.0 in
     rw (digit-is d k.0 k.1) (sequence-digits (n * 10 + (d - 48)) ns ds rest h.1)
 
-sequence-decimal : (n : ℕ) (ns rest : List ℕ) → n < 2 ^ 64 → sequence (0 ∷ ns) (decimal n ++ rest) ≡ sequence (n ∷ ns) rest
+sequence-decimal : (n : ℕ) (ns rest : List ℕ) → n < 2 ^ 64 → sequence_commands (0 ∷ ns) (decimal n ++ rest) ≡ sequence_commands (n ∷ ns) rest
 sequence-decimal n ns rest h =
-    sequence-digits 0 ns (decimal n) rest (digits_decimal numerals n h) ∙ ap (λ (m : ℕ). sequence (m ∷ ns) rest) (digits_value-decimal numerals n h)
+    sequence-digits 0 ns (decimal n) rest (digits_decimal numerals n h) ∙ ap (λ (m : ℕ). sequence_commands (m ∷ ns) rest) (digits_value-decimal numerals n h)
 
 no_escape-digits : (ds : List ℕ) → AllDigits 10 ds → HasNoEscape ds
 no_escape-digits [] h = tt
@@ -96,18 +96,18 @@ move-body row column h g = (
 )
 
 move-read : (row column : ℕ) (text : List ℕ) → row < 2 ^ 16 → column < 2 ^ 16
-    → escaped (move_body row column ++ text) ≡ joined (Some (MoveTo row column ∷ [])) (text_commands text)
+    → part_commands (move_body row column ++ text) ≡ commands_of_both (Some (MoveTo row column ∷ [])) (text_commands text)
 move-read row column text h g =
     let first : (decimal (row + 1) ++ (59 ∷ (decimal (column + 1) ++ (72 ∷ [])))) ++ text ≡ decimal (row + 1) ++ (59 ∷ ((decimal (column + 1) ++ (72 ∷ [])) ++ text)) =
     append_assoc (decimal (row + 1)) (59 ∷ (decimal (column + 1) ++ (72 ∷ []))) text in
     let second : (decimal (column + 1) ++ (72 ∷ [])) ++ text ≡ decimal (column + 1) ++ (72 ∷ text) = append_assoc (decimal (column + 1)) (72 ∷ []) text in
     let same : (row + 1) - 1 ≡ row = omega arith in
     let same' : (column + 1) - 1 ≡ column = omega arith in
-    ap (sequence (0 ∷ [])) first
+    ap (sequence_commands (0 ∷ [])) first
     ∙ sequence-decimal (row + 1) [] (59 ∷ ((decimal (column + 1) ++ (72 ∷ [])) ++ text)) (omega arith)
-    ∙ ap (sequence (0 ∷ ((row + 1) ∷ []))) second
+    ∙ ap (sequence_commands (0 ∷ ((row + 1) ∷ []))) second
     ∙ sequence-decimal (column + 1) ((row + 1) ∷ []) (72 ∷ text) (omega arith)
-    ∙ ap₂ (λ (r c : ℕ). joined (Some (MoveTo r c ∷ [])) (text_commands text)) same same'
+    ∙ ap₂ (λ (r c : ℕ). commands_of_both (Some (MoveTo r c ∷ [])) (text_commands text)) same same'
 
 -- ---- a style
 
@@ -169,14 +169,14 @@ style-of s =
     colour-of s.colour s.bold s.dim s.underlined s.reversed _
     (reversed-of s.bold s.dim s.underlined s.reversed _ (underlined-of s.bold s.dim s.underlined _ (dim-of s.bold s.dim _ (bold-of s.bold))))
 
-flag-sequence : (b : Bool) (n : ℕ) (ns rest : List ℕ) → n < 10 → sequence ns (text_if b (59 ∷ ((48 + n) ∷ [])) ++ rest) ≡ sequence (numbers_if b n ns) rest
+flag-sequence : (b : Bool) (n : ℕ) (ns rest : List ℕ) → n < 10 → sequence_commands ns (text_if b (59 ∷ ((48 + n) ∷ [])) ++ rest) ≡ sequence_commands (numbers_if b n ns) rest
 flag-sequence true n ns rest h =
     let digit : is_digit (48 + n) ≡ true = digit-is (48 + n) (omega arith) (omega arith) in
     let value : 0 * 10 + ((48 + n) - 48) ≡ n = omega arith in
     rw (digit, value) refl
 flag-sequence false n ns rest h = refl
 
-colour-sequence : (c : Option Colour) (ns rest : List ℕ) → sequence ns (colour_bytes c ++ rest) ≡ sequence (colour_numbers c ns) rest
+colour-sequence : (c : Option Colour) (ns rest : List ℕ) → sequence_commands ns (colour_bytes c ++ rest) ≡ sequence_commands (colour_numbers c ns) rest
 colour-sequence None ns rest = refl
 colour-sequence (Some Black) ns rest = refl
 colour-sequence (Some Red) ns rest = refl
@@ -226,26 +226,26 @@ style-body s = (
 )
 
 flags-sequence : (s : Style) (rest : List ℕ)
-    → sequence (0 ∷ []) (flag_bytes s ++ rest) ≡ sequence (numbers_if s.reversed 7 (numbers_if s.underlined 4 (numbers_if s.dim 2 (numbers_if s.bold 1 (0 ∷ []))))) rest
+    → sequence_commands (0 ∷ []) (flag_bytes s ++ rest) ≡ sequence_commands (numbers_if s.reversed 7 (numbers_if s.underlined 4 (numbers_if s.dim 2 (numbers_if s.bold 1 (0 ∷ []))))) rest
 flags-sequence s rest =
     let bold = text_if s.bold (59 ∷ (49 ∷ [])) in
     let dim = text_if s.dim (59 ∷ (50 ∷ [])) in
     let lined = text_if s.underlined (59 ∷ (52 ∷ [])) in
     let reversed = text_if s.reversed (59 ∷ (55 ∷ [])) in
-    ap (sequence (0 ∷ [])) (append_assoc bold (dim ++ (lined ++ reversed)) rest ∙ ap (λ t. bold ++ t) (append_assoc dim (lined ++ reversed) rest ∙ ap (λ t. dim ++ t) (append_assoc lined reversed rest)))
+    ap (sequence_commands (0 ∷ [])) (append_assoc bold (dim ++ (lined ++ reversed)) rest ∙ ap (λ t. bold ++ t) (append_assoc dim (lined ++ reversed) rest ∙ ap (λ t. dim ++ t) (append_assoc lined reversed rest)))
     ∙ flag-sequence s.bold 1 (0 ∷ []) (dim ++ (lined ++ (reversed ++ rest))) (omega arith)
     ∙ flag-sequence s.dim 2 (numbers_if s.bold 1 (0 ∷ [])) (lined ++ (reversed ++ rest)) (omega arith)
     ∙ flag-sequence s.underlined 4 (numbers_if s.dim 2 (numbers_if s.bold 1 (0 ∷ []))) (reversed ++ rest) (omega arith)
     ∙ flag-sequence s.reversed 7 (numbers_if s.underlined 4 (numbers_if s.dim 2 (numbers_if s.bold 1 (0 ∷ [])))) rest (omega arith)
 
-style-read : (s : Style) (text : List ℕ) → escaped (style_body s ++ text) ≡ joined (Some (SetStyle s ∷ [])) (text_commands text)
+style-read : (s : Style) (text : List ℕ) → part_commands (style_body s ++ text) ≡ commands_of_both (Some (SetStyle s ∷ [])) (text_commands text)
 style-read s text =
     let first : (flag_bytes s ++ (colour_bytes s.colour ++ (109 ∷ []))) ++ text ≡ flag_bytes s ++ (colour_bytes s.colour ++ (109 ∷ text)) =
     append_assoc (flag_bytes s) (colour_bytes s.colour ++ (109 ∷ [])) text ∙ ap (λ t. flag_bytes s ++ t) (append_assoc (colour_bytes s.colour) (109 ∷ []) text) in
-    ap (sequence (0 ∷ [])) first
+    ap (sequence_commands (0 ∷ [])) first
     ∙ flags-sequence s (colour_bytes s.colour ++ (109 ∷ text))
     ∙ colour-sequence s.colour _ (109 ∷ text)
-    ∙ ap (λ (o : Option Style). joined (option_map (λ command. command ∷ []) (option_map SetStyle o)) (text_commands text)) (style-of s)
+    ∙ ap (λ (o : Option Style). commands_of_both (option_map (λ command. command ∷ []) (option_map SetStyle o)) (text_commands text)) (style-of s)
 
 -- ---- symbols
 
@@ -272,7 +272,7 @@ byte-low b u = at (chars (b ∷ [])) (encodes-chars (b ∷ []) (IsUtf8-from_is_u
 -- a kept symbol of one byte is printable ASCII of one column
 byte-printable : (b columns : ℕ) → IsMeasured (b ∷ [], columns) → is_printable_char b ≡ true
 byte-printable b columns m =
-    let plain = All-head IsPlain b [] (holds_no_control (b ∷ []) columns m).1 in
+    let plain = All-head IsNotControl b [] (holds_no_control (b ∷ []) columns m).1 in
     let low = byte-low b m.utf8 in
     let some : b ≢ 127 = plain.1 in
     let within : b ≤ 126 = omega arith in
@@ -281,7 +281,7 @@ byte-printable b columns m =
 byte-columns : (b columns : ℕ) → IsMeasured (b ∷ [], columns) → columns ≡ 1
 unfolding with_width
 byte-columns b columns m =
-    let one : option_map {U = Cluster} (λ w. (b ∷ [], w)) (kept_width (b ∷ [])) ≡ Some (b ∷ [], 1) = printable-kept b (byte-printable b columns m) in
+    let one : option_map {U = Cluster} (λ w. (b ∷ [], w)) (visible_width (b ∷ [])) ≡ Some (b ∷ [], 1) = printable-kept b (byte-printable b columns m) in
     let own : option_map {U = Cluster} (λ w. (b ∷ [], w)) (Some columns) ≡ Some (b ∷ [], 1) = ap (option_map {U = Cluster} (λ w. (b ∷ [], w))) (sym m.columns) ∙ one in
     let same : ◌≡◌ {A = Cluster} (b ∷ [], columns) (b ∷ [], 1) = cc in
     ap (λ (c : Cluster). c.1) same
@@ -295,7 +295,7 @@ text-symbol : (symbol : List ℕ) (columns : ℕ) → IsMeasured (symbol, column
 unfolding text_commands
 text-symbol symbol columns m long = at (is_printable symbol) refl
   where
-    at : (b : Bool) → is_printable symbol ≡ b → (if b then Some (map put_byte symbol) else option_map (λ n. Put symbol n ∷ []) (kept_width symbol)) ≡ Some (Put symbol columns ∷ [])
+    at : (b : Bool) → is_printable symbol ≡ b → (if b then Some (map put_byte symbol) else option_map (λ n. Put symbol n ∷ []) (visible_width symbol)) ≡ Some (Put symbol columns ∷ [])
     at true e = let one = m.single e in absurd (grind (arith, nat_tests))
     at false e = ap (option_map (λ n. Put symbol n ∷ [])) m.columns
 
@@ -322,26 +322,26 @@ record Reads (before : Before) (commands : List Command) (parts : Parts) : Type 
   pub others : List Command
   pub is : commands ≡ puts ++ others
   pub text : text_commands parts.text ≡ Some puts
-  pub behind : all_escaped parts.behind ≡ Some others
+  pub behind : all_part_commands parts.behind ≡ Some others
   pub kind : IsText before parts.text puts
 
 abbrev bytes : List Command → List ℕ
 bytes commands = flat_map bytes_of commands
 
 reads-command : (before later : Before) (command : Command) (cs : List Command) (body : List ℕ) → bytes_of command ≡ 27 ∷ body → HasNoEscape body
-    → ((text : List ℕ) → escaped (body ++ text) ≡ joined (Some (command ∷ [])) (text_commands text))
+    → ((text : List ℕ) → part_commands (body ++ text) ≡ commands_of_both (Some (command ∷ [])) (text_commands text))
     → Reads later cs (parts_of (bytes cs)) → Reads before (command ∷ cs) (parts_of (bytes (command ∷ cs)))
 reads-command before later command cs body written clean read more =
     let parts = parts_of (bytes cs) in
     let cut : parts_of (bytes (command ∷ cs)) ≡ record { text = []; behind = (body ++ parts.text) ∷ parts.behind } =
     ap (λ (t : List ℕ). parts_of (t ++ bytes cs)) written ∙ parts-escape body (bytes cs) clean in
-    let first : escaped (body ++ parts.text) ≡ Some (command ∷ more.puts) = read parts.text ∙ ap (joined (Some (command ∷ []))) more.text in
+    let first : part_commands (body ++ parts.text) ≡ Some (command ∷ more.puts) = read parts.text ∙ ap (commands_of_both (Some (command ∷ []))) more.text in
     let made : Reads before (command ∷ cs) (record { text = []; behind = (body ++ parts.text) ∷ parts.behind }) = record {
       puts = [];
       others = command ∷ (more.puts ++ more.others);
       is = ap (λ t. command ∷ t) more.is;
       text = text-none;
-      behind = ap₂ joined first more.behind;
+      behind = ap₂ commands_of_both first more.behind;
       kind = is_text-none before;
     } in
     subst (Reads before (command ∷ cs)) (sym cut) made
@@ -424,7 +424,7 @@ pub read_back : (before : Before) (commands : List Command) → All IsSafe comma
 unfolding read_commands
 read_back before commands safe near apart =
     let all = reads before commands safe near apart in
-    ap₂ joined all.text all.behind ∙ ap (λ (cs : List Command). Some cs) (sym all.is)
+    ap₂ commands_of_both all.text all.behind ∙ ap (λ (cs : List Command). Some cs) (sym all.is)
 
 pub read-readable : (commands : List Command) → AreReadable commands → read_commands (flat_map bytes_of commands) ≡ Some commands
 read-readable commands h = read_back Symbol commands h.safe h.near h.apart

@@ -1,4 +1,4 @@
--- The commands of a row make it show its places.
+-- The commands of a row make it show its cells.
 use Rattle.std.proofs.Common.{◌≡◌, ℕ, ◌&&◌, zero, suc, ◌+◌, ◌-◌, ◌<◌, ◌==◌, nat_lt, Bool, true, false, List, [], ◌∷◌, ◌++◌, length, take, drop, get_or, set, replicate, refl, sym, ap, ap₂, subst, ◌∙◌, arith, Option, Some, None, append_assoc, length-append, length-drop}
 use Rattle.std.specs.Prelude.{if◌then◌else◌}
 use Rattle.std.specs.List.{All, flat_map}
@@ -12,11 +12,11 @@ use Rattle.scm_cells.proofs.PutLemmas.{length-cells}
 use Rattle.scm_cells.proofs.WholeLemmas.{HasColumn}
 use Rattle.scm_terminal.specs.declared.style.Style.{Style}
 use Rattle.scm_terminal.specs.declared.pen.Pen.{Pen}
-use Rattle.scm_terminal.specs.Place.{Place, First, Later, laters}
+use Rattle.scm_terminal.specs.StyledCell.{StyledCell, First, Later, laters}
 use Rattle.scm_terminal.specs.Terminal.{Terminal, Spot, Command, MoveTo, SetStyle, Put, IsSafe, spots_of, goes_on, left_of, rest_of, over}
-use Rattle.scm_terminal.specs.Painting.{moves, sets, is_set, place_commands, pen_after, row_commands}
-use Rattle.scm_terminal.specs.Promise.{known}
-use Rattle.scm_terminal.proofs.RunLemmas.{Runs, Runs-none, Runs-append, terminal, cursor_behind, place-runs}
+use Rattle.scm_terminal.specs.Painting.{move_commands, style_commands, is_style_set, cell_commands, pen_after, row_commands}
+use Rattle.scm_terminal.specs.Promise.{known_spots}
+use Rattle.scm_terminal.proofs.RunLemmas.{Runs, Runs-none, Runs-append, terminal, cursor_behind, cell-runs}
 use Rattle.scm_terminal.proofs.PictureLemmas.{styled_from, styled-cells, laters-styled, laters-more}
 
 -- ---- a symbol over a row
@@ -58,7 +58,7 @@ over-at done rest symbol column h left =
 length-spots : (symbol : List ℕ) (columns : ℕ) (style : Style) → 0 < columns → length (spots_of symbol columns style) ≡ columns
 length-spots symbol columns style h = let e = length-replicate {A = Spot} (columns - 1) (Some Later) in omega (arith, e)
 
-known-laters : (k : ℕ) (ps : List Place) → known (replicate k Later ++ ps) ≡ replicate k (Some Later) ++ known ps
+known-laters : (k : ℕ) (ps : List StyledCell) → known_spots (replicate k Later ++ ps) ≡ replicate k (Some Later) ++ known_spots ps
 known-laters zero ps = refl
 known-laters (suc k) ps = ap (λ t. Some Later ∷ t) (known-laters k ps)
 
@@ -83,38 +83,38 @@ unfolding pen_past
 past-there zero pen h = (refl, h)
 past-there (suc k) pen h = absurd (cc)
 
-commands-laters : (row column k : ℕ) (pen : Pen) (ps : List Place) → row_commands row column pen (replicate k Later ++ ps) ≡ row_commands row (column + k) (pen_past k pen) ps
+commands-laters : (row column k : ℕ) (pen : Pen) (ps : List StyledCell) → row_commands row column pen (replicate k Later ++ ps) ≡ row_commands row (column + k) (pen_past k pen) ps
 unfolding row_commands pen_past
 commands-laters row column zero pen ps = let e : column + 0 ≡ column = omega arith in ap (λ n. row_commands row n pen ps) (sym e)
 commands-laters row column (suc k) pen ps =
     let e : column + 1 + k ≡ column + suc k = omega arith in
     commands-laters row (column + 1) k (pen_after pen Later) ps ∙ ap₂ (λ n p. row_commands row n p ps) e (past-again k pen)
 
-row-first : (row column k : ℕ) (pen : Pen) (symbol : List ℕ) (style : Style) (ps : List Place) → laters ps ≡ 0
+row-first : (row column k : ℕ) (pen : Pen) (symbol : List ℕ) (style : Style) (ps : List StyledCell) → laters ps ≡ 0
     → row_commands row column pen (First symbol style ∷ (replicate k Later ++ ps))
-    ≡ place_commands row column pen (First symbol style) (1 + k) ++ row_commands row (column + 1 + k) (pen_past k (pen_after pen (First symbol style))) ps
+    ≡ cell_commands row column pen (First symbol style) (1 + k) ++ row_commands row (column + 1 + k) (pen_past k (pen_after pen (First symbol style))) ps
 unfolding row_commands
 row-first row column k pen symbol style ps none =
-    ap₂ (λ (n : ℕ) (cs : List Command). place_commands row column pen (First symbol style) (1 + n) ++ cs) (laters-more k ps none)
+    ap₂ (λ (n : ℕ) (cs : List Command). cell_commands row column pen (First symbol style) (1 + n) ++ cs) (laters-more k ps none)
     (commands-laters row (column + 1) k (pen_after pen (First symbol style)) ps)
 
 -- ---- what is put is safe
 
-moves-safe : (b : Bool) (row column : ℕ) → All IsSafe (moves b row column)
+moves-safe : (b : Bool) (row column : ℕ) → All IsSafe (move_commands b row column)
 moves-safe true row column = All-nil IsSafe
 moves-safe false row column = All-cons IsSafe (MoveTo row column) [] tt (All-nil IsSafe)
 
-sets-safe : (pen : Option Style) (style : Style) → All IsSafe (sets pen style)
-sets-safe pen style = at (is_set pen style)
+sets-safe : (pen : Option Style) (style : Style) → All IsSafe (style_commands pen style)
+sets-safe pen style = at (is_style_set pen style)
   where
     at : (b : Bool) → All IsSafe (if b then [] else SetStyle style ∷ [])
     at true = All-nil IsSafe
     at false = All-cons IsSafe (SetStyle style) [] tt (All-nil IsSafe)
 
-place-safe : (row column : ℕ) (pen : Pen) (style : Style) (c : Cluster) → IsMeasured c → All IsSafe (place_commands row column pen (First c.0 style) c.1)
-place-safe row column pen style c measured =
-    All-append IsSafe (moves (pen.is_there && (length c.0 == 1)) row column) (sets pen.style style ++ (Put c.0 c.1 ∷ [])) (moves-safe (pen.is_there && (length c.0 == 1)) row column)
-    (All-append IsSafe (sets pen.style style) (Put c.0 c.1 ∷ []) (sets-safe pen.style style) (All-cons IsSafe (Put c.0 c.1) [] measured (All-nil IsSafe)))
+cell-safe : (row column : ℕ) (pen : Pen) (style : Style) (c : Cluster) → IsMeasured c → All IsSafe (cell_commands row column pen (First c.0 style) c.1)
+cell-safe row column pen style c measured =
+    All-append IsSafe (move_commands (pen.is_there && (length c.0 == 1)) row column) (style_commands pen.style style ++ (Put c.0 c.1 ∷ [])) (moves-safe (pen.is_there && (length c.0 == 1)) row column)
+    (All-append IsSafe (style_commands pen.style style) (Put c.0 c.1 ∷ []) (sets-safe pen.style style) (All-cons IsSafe (Put c.0 c.1) [] measured (All-nil IsSafe)))
 
 -- ---- a row
 
@@ -165,7 +165,7 @@ module _ (r w : ℕ) (style : ℕ → Style) (before after : List (List Spot)) (
       → All HasColumn cs → All IsMeasured cs → length done ≡ column → length rest ≡ length (flat_map cells_of cs) → column + length rest ≡ w
       → left_of column (done ++ rest) ≡ done → (pen.is_there ≡ true → 0 < length rest → cursor ≡ Some (r, column)) → ((s : Style) → pen.style ≡ Some s → was ≡ Some s)
       → Ends w (row_commands r column pen (styled_from style column (flat_map cells_of cs))) (terminal w (rows_with (done ++ rest)) cursor was)
-      (rows_with (done ++ known (styled_from style column (flat_map cells_of cs))))
+      (rows_with (done ++ known_spots (styled_from style column (flat_map cells_of cs))))
   row-runs [] column pen cursor was done rest wide kept size long fills left there same = row-none column pen cursor was done rest long
   row-runs (c ∷ cs) column pen cursor was done rest wide kept size long fills left there same =
       let some = All-head HasColumn c cs wide in
@@ -182,21 +182,21 @@ module _ (r w : ℕ) (style : ℕ → Style) (before after : List (List Spot)) (
       let done_count : length (done ++ spots) ≡ column + 1 + k = let e = length-append done spots in omega arith in
       let at_cursor = cursor_behind c.0 c.1 r column w in
       let pen' = pen_past k (pen_after pen (First c.0 st)) in
-      let head : Runs (place_commands r column pen (First c.0 st) c.1) (terminal w (rows_with (done ++ rest)) cursor was) (terminal w (rows_with ((done ++ spots) ++ rest')) at_cursor (Some st)) =
-      place-runs c.0 c.1 r column w (rows_with (done ++ rest)) cursor st was pen (rows-in (done ++ rest)) some (omega arith) (λ t. there t (omega arith)) same
+      let head : Runs (cell_commands r column pen (First c.0 st) c.1) (terminal w (rows_with (done ++ rest)) cursor was) (terminal w (rows_with ((done ++ spots) ++ rest')) at_cursor (Some st)) =
+      cell-runs c.0 c.1 r column w (rows_with (done ++ rest)) cursor st was pen (rows-in (done ++ rest)) some (omega arith) (λ t. there t (omega arith)) same
       ∙ ap (λ (rows : List (List Spot)). Some (terminal w rows at_cursor (Some st))) (rows-put done rest spots column size left) in
       let tail = row-runs cs (column + 1 + k) pen' at_cursor (Some st) (done ++ spots) rest' (All-tail HasColumn c cs wide) (All-tail IsMeasured c cs kept) done_count
       (omega arith) (omega arith) (left-at (done ++ spots) rest' (column + 1 + k) done_count (goes_on-rest (drop (length spots) rest)))
       (λ t some_left. let is = past-there k (pen_after pen (First c.0 st)) t in ap (λ (m : ℕ). cursor_behind c.0 m r column w) (sym n) ∙ behind-there c.0 r column k w is.1 (omega arith))
       (λ s e. sym (past-style k (pen_after pen (First c.0 st))) ∙ e) in
-      let made : Ends w (place_commands r column pen (First c.0 st) c.1 ++ row_commands r (column + 1 + k) pen' more) (terminal w (rows_with (done ++ rest)) cursor was) (rows_with ((done ++ spots) ++ known more)) =
-      Ends-append w _ _ _ (rows_with ((done ++ spots) ++ rest')) _ at_cursor (Some st) head (place-safe r column pen st c (All-head IsMeasured c cs kept)) tail in
-      let commands : row_commands r column pen (styled_from style column (cells_of c ++ flat_map cells_of cs)) ≡ place_commands r column pen (First c.0 st) c.1 ++ row_commands r (column + 1 + k) pen' more =
+      let made : Ends w (cell_commands r column pen (First c.0 st) c.1 ++ row_commands r (column + 1 + k) pen' more) (terminal w (rows_with (done ++ rest)) cursor was) (rows_with ((done ++ spots) ++ known_spots more)) =
+      Ends-append w _ _ _ (rows_with ((done ++ spots) ++ rest')) _ at_cursor (Some st) head (cell-safe r column pen st c (All-head IsMeasured c cs kept)) tail in
+      let commands : row_commands r column pen (styled_from style column (cells_of c ++ flat_map cells_of cs)) ≡ cell_commands r column pen (First c.0 st) c.1 ++ row_commands r (column + 1 + k) pen' more =
       ap (row_commands r column pen) (styled-cells style column c (flat_map cells_of cs))
       ∙ row-first r column k pen c.0 st more (laters-styled style (column + 1 + k) cs)
-      ∙ ap (λ (m : ℕ). place_commands r column pen (First c.0 st) m ++ row_commands r (column + 1 + k) pen' more) n in
-      let shows : (done ++ spots) ++ known more ≡ done ++ known (styled_from style column (cells_of c ++ flat_map cells_of cs)) =
-      append_assoc done spots (known more)
-      ∙ ap (λ (t : List Spot). done ++ t) (ap (λ (t : List Spot). Some (First c.0 st) ∷ t) (sym (known-laters k more)) ∙ ap known (sym (styled-cells style column c (flat_map cells_of cs)))) in
-      subst (λ (cmds : List Command). Ends w cmds (terminal w (rows_with (done ++ rest)) cursor was) (rows_with (done ++ known (styled_from style column (cells_of c ++ flat_map cells_of cs))))) (sym commands)
-      (subst (λ (row : List Spot). Ends w (place_commands r column pen (First c.0 st) c.1 ++ row_commands r (column + 1 + k) pen' more) (terminal w (rows_with (done ++ rest)) cursor was) (rows_with row)) shows made)
+      ∙ ap (λ (m : ℕ). cell_commands r column pen (First c.0 st) m ++ row_commands r (column + 1 + k) pen' more) n in
+      let shows : (done ++ spots) ++ known_spots more ≡ done ++ known_spots (styled_from style column (cells_of c ++ flat_map cells_of cs)) =
+      append_assoc done spots (known_spots more)
+      ∙ ap (λ (t : List Spot). done ++ t) (ap (λ (t : List Spot). Some (First c.0 st) ∷ t) (sym (known-laters k more)) ∙ ap known_spots (sym (styled-cells style column c (flat_map cells_of cs)))) in
+      subst (λ (cmds : List Command). Ends w cmds (terminal w (rows_with (done ++ rest)) cursor was) (rows_with (done ++ known_spots (styled_from style column (cells_of c ++ flat_map cells_of cs))))) (sym commands)
+      (subst (λ (row : List Spot). Ends w (cell_commands r column pen (First c.0 st) c.1 ++ row_commands r (column + 1 + k) pen' more) (terminal w (rows_with (done ++ rest)) cursor was) (rows_with row)) shows made)

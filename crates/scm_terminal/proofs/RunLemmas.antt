@@ -6,10 +6,10 @@ use Rattle.std.proofs.lemmas.Bool.{and_parts}
 use Rattle.std.proofs.lemmas.Bool.Decides.{nat_tests}
 use Rattle.scm_terminal.specs.declared.style.Style.{Style}
 use Rattle.scm_terminal.specs.declared.pen.Pen.{Pen}
-use Rattle.scm_terminal.specs.Place.{First}
+use Rattle.scm_terminal.specs.StyledCell.{First}
 use Rattle.scm_terminal.specs.Style.{style_code}
 use Rattle.scm_terminal.specs.Terminal.{Terminal, Spot, Command, MoveTo, SetStyle, Put, spots_of, over, put, after, after_all}
-use Rattle.scm_terminal.specs.Painting.{moves, sets, place_commands}
+use Rattle.scm_terminal.specs.Painting.{move_commands, style_commands, cell_commands}
 use Rattle.scm_terminal.proofs.StyleLemmas.{style-same}
 
 abbrev pub terminal : ℕ → List (List Spot) → Option (ℕ × ℕ) → Option Style → Terminal
@@ -39,13 +39,13 @@ pub Runs-one : (c : Command) (t u : Terminal) → after c t ≡ Some u → Runs 
 unfolding after_all
 Runs-one c t u e = ap (option_and_then (after_all [])) e
 
--- ---- the commands of a place
+-- ---- the commands of a cell
 
 both_below : (m n k l : ℕ) → m < n → k < l → (nat_lt m n && nat_lt k l) ≡ true
 both_below m n k l h g = grind (arith, nat_tests)
 
 pub move-runs : (is_there : Bool) (r c w : ℕ) (rows : List (List Spot)) (cursor : Option (ℕ × ℕ)) (style : Option Style) → r < length rows → c < w
-    → (is_there ≡ true → cursor ≡ Some (r, c)) → Runs (moves is_there r c) (terminal w rows cursor style) (terminal w rows (Some (r, c)) style)
+    → (is_there ≡ true → cursor ≡ Some (r, c)) → Runs (move_commands is_there r c) (terminal w rows cursor style) (terminal w rows (Some (r, c)) style)
 unfolding after
 move-runs true r c w rows cursor style h g there =
     Runs-none (terminal w rows cursor style) ∙ ap (λ (at : Option (ℕ × ℕ)). Some (terminal w rows at style)) (there refl)
@@ -53,7 +53,7 @@ move-runs false r c w rows cursor style h g there =
     Runs-one (MoveTo r c) (terminal w rows cursor style) (terminal w rows (Some (r, c)) style) (rw (both_below r (length rows) c w h g) refl)
 
 pub set-runs : (pen : Option Style) (style : Style) (w : ℕ) (rows : List (List Spot)) (cursor : Option (ℕ × ℕ)) (was : Option Style)
-    → ((s : Style) → pen ≡ Some s → was ≡ Some s) → Runs (sets pen style) (terminal w rows cursor was) (terminal w rows cursor (Some style))
+    → ((s : Style) → pen ≡ Some s → was ≡ Some s) → Runs (style_commands pen style) (terminal w rows cursor was) (terminal w rows cursor (Some style))
 unfolding after
 set-runs None style w rows cursor was same = Runs-one (SetStyle style) (terminal w rows cursor was) (terminal w rows cursor (Some style)) refl
 set-runs (Some p) style w rows cursor was same = at (style_code p == style_code style) refl
@@ -77,13 +77,13 @@ put-runs symbol columns r c w rows style h =
     let room : nat_le (c + columns) w ≡ true = grind (arith, nat_tests) in
     Runs-one (Put symbol columns) _ _ (rw room refl)
 
--- a symbol is put at a place, after the moves and styles that it takes
-pub place-runs : (symbol : List ℕ) (columns r c w : ℕ) (rows : List (List Spot)) (cursor : Option (ℕ × ℕ)) (style : Style) (was : Option Style) (pen : Pen)
+-- a symbol is put at a cell, after the moves and styles that it takes
+pub cell-runs : (symbol : List ℕ) (columns r c w : ℕ) (rows : List (List Spot)) (cursor : Option (ℕ × ℕ)) (style : Style) (was : Option Style) (pen : Pen)
     → r < length rows → 0 < columns → c + columns ≤ w
     → (pen.is_there ≡ true → cursor ≡ Some (r, c)) → ((s : Style) → pen.style ≡ Some s → was ≡ Some s)
-    → Runs (place_commands r c pen (First symbol style) columns) (terminal w rows cursor was)
+    → Runs (cell_commands r c pen (First symbol style) columns) (terminal w rows cursor was)
     (terminal w (set rows r (over (get_or rows r []) c (spots_of symbol columns style))) (cursor_behind symbol columns r c w) (Some style))
-place-runs symbol columns r c w rows cursor style was pen h some room there same =
-    Runs-append (moves (pen.is_there && (length symbol == 1)) r c) (sets pen.style style ++ (Put symbol columns ∷ [])) _ _ _
+cell-runs symbol columns r c w rows cursor style was pen h some room there same =
+    Runs-append (move_commands (pen.is_there && (length symbol == 1)) r c) (style_commands pen.style style ++ (Put symbol columns ∷ [])) _ _ _
     (move-runs (pen.is_there && (length symbol == 1)) r c w rows cursor was h (omega arith) (λ e. there (and_parts pen.is_there (length symbol == 1) e).0))
-    (Runs-append (sets pen.style style) (Put symbol columns ∷ []) _ _ _ (set-runs pen.style style w rows (Some (r, c)) was same) (put-runs symbol columns r c w rows style room))
+    (Runs-append (style_commands pen.style style) (Put symbol columns ∷ []) _ _ _ (set-runs pen.style style w rows (Some (r, c)) was same) (put-runs symbol columns r c w rows style room))

@@ -1,4 +1,4 @@
--- Places that show a row of a grid, column by column, and rows of a size.
+-- Cells that show a row of a grid, column by column, and rows of a size.
 use Rattle.std.proofs.Common.{◌≡◌, ℕ, ◌+◌, ◌<◌, Bool, true, false, ◌&&◌, ◌==◌, List, [], ◌∷◌, ◌++◌, length, get_or, map, refl, sym, ap, subst, ◌∙◌, arith, IsTrue}
 use Rattle.std.specs.Prelude.{◌↔◌}
 use Rattle.std.specs.List.{All, range_with_len}
@@ -7,13 +7,13 @@ use Rattle.std.proofs.lemmas.Bool.Decides.{nat_tests}
 use Rattle.std.proofs.lemmas.List.{get_or-map, length-map, length_push, map_push}
 use Rattle.std.proofs.lemmas.List.Elements.{All-map, All-append, All-cons, All-nil}
 use Rattle.std.proofs.lemmas.List.FromFn.{get_or-map-range_with_len, fill_by_all}
-use Rattle.scm_terminal.specs.Place.{Place, Later}
+use Rattle.scm_terminal.specs.StyledCell.{StyledCell, Later}
 use Rattle.scm_terminal.specs.Promise.{HasSize}
 
--- a place that shows something else is one of a row that does
-pub differs : (f : ℕ → Place) (places : List Place) (n column : ℕ) (p q : Place) (b : Bool) → column < length places → length places ≡ n → p ≡ get_or places column p → q ≡ f column
-    → (IsTrue b ↔ (p ≡ q)) → b ≡ false → (IsTrue false ↔ (places ≡ map f (range_with_len 0 n)))
-differs f places n column p q b h size read e says not = (
+-- a cell that shows something else is one of a row that does
+pub differs : (f : ℕ → StyledCell) (cells : List StyledCell) (n column : ℕ) (p q : StyledCell) (b : Bool) → column < length cells → length cells ≡ n → p ≡ get_or cells column p → q ≡ f column
+    → (IsTrue b ↔ (p ≡ q)) → b ≡ false → (IsTrue false ↔ (cells ≡ map f (range_with_len 0 n)))
+differs f cells n column p q b h size read e says not = (
   λ t. absurd (cc),
   λ same. let zero : 0 + column ≡ column = omega arith in
       let is : p ≡ q = read ∙ ap (λ ps. get_or ps column p) same ∙ get_or-map-range_with_len f 0 n column column p (omega arith) zero ∙ sym e in
@@ -21,18 +21,18 @@ differs f places n column p q b h size read e says not = (
       absurd (cc),
 )
 
-pub all_shown : (f : ℕ → Place) (places : List Place) (n : ℕ) → length places ≡ n → ((k : ℕ) → k < n → get_or places k Later ≡ f k) → places ≡ map f (range_with_len 0 n)
-all_shown f places n size shown = fill_by_all f places n Later size shown
+pub all_shown : (f : ℕ → StyledCell) (cells : List StyledCell) (n : ℕ) → length cells ≡ n → ((k : ℕ) → k < n → get_or cells k Later ≡ f k) → cells ≡ map f (range_with_len 0 n)
+all_shown f cells n size shown = fill_by_all f cells n Later size shown
 
 -- ---- rows of a size
 
 All-unmap : {X Y : Type 0} (P : Y → Type 0) (f : X → Y) (xs : List X) → All P (map f xs) → All (λ x. P (f x)) xs
 All-unmap P f xs all k d h = subst P (get_or-map f xs k d (f d) h) (all k (f d) (let size = length-map xs f in omega arith))
 
-abbrev pub IsWide : ℕ → List Place → Type 0
+abbrev pub IsWide : ℕ → List StyledCell → Type 0
 IsWide width row = length row ≡ width
 
-pub sized : {X : Type 0} (f : X → List Place) (xs : List X) (width height : ℕ) (a : Bool) → (IsTrue a ↔ All (λ x. length (f x) ≡ width) xs)
+pub sized : {X : Type 0} (f : X → List StyledCell) (xs : List X) (width height : ℕ) (a : Bool) → (IsTrue a ↔ All (λ x. length (f x) ≡ width) xs)
     → (IsTrue (a && (length xs == height)) ↔ HasSize width height (map f xs))
 sized f xs width height a says = (
   λ t. let parts = and_parts a (length xs == height) t in
@@ -47,7 +47,7 @@ sized f xs width height a says = (
 pub HasSize-none : (width : ℕ) → HasSize width 0 []
 HasSize-none width = record { high = refl; all_wide = All-nil (IsWide width) }
 
-pub HasSize-push : {X : Type 0} (f : X → List Place) (width n : ℕ) (xs : List X) (x : X) → HasSize width n (map f xs) → length (f x) ≡ width → HasSize width (n + 1) (map f (xs ++ x ∷ []))
+pub HasSize-push : {X : Type 0} (f : X → List StyledCell) (width n : ℕ) (xs : List X) (x : X) → HasSize width n (map f xs) → length (f x) ≡ width → HasSize width (n + 1) (map f (xs ++ x ∷ []))
 HasSize-push f width n xs x size e =
     let pushed = map_push f xs x in
     subst (HasSize width (n + 1)) (sym pushed) (record {

@@ -4,19 +4,19 @@ use Rattle.std.proofs.lemmas.List.{append-nil, length-append}
 use Rattle.scm_input.specs.declared.terminal.TerminalEvent.{TerminalEvent}
 use Rattle.scm_input.specs.declared.terminal.TerminalEvent.TheVariants.{Other}
 use Rattle.scm_terminal.specs.declared.characters.Character.{Character}
-use Rattle.scm_terminal.specs.declared.characters.Joined.{Joined}
-use Rattle.scm_terminal.specs.declared.characters.Joined.TheVariants.{Whole, Part}
+use Rattle.scm_terminal.specs.declared.characters.CharacterProgress.{CharacterProgress}
+use Rattle.scm_terminal.specs.declared.characters.CharacterProgress.TheVariants.{Whole, Part}
 use Rattle.scm_terminal.specs.declared.sequences.Sequence.{Sequence}
 use Rattle.scm_terminal.specs.declared.tokens.Token.{Token}
-use Rattle.scm_terminal.specs.declared.states.State.{State}
-use Rattle.scm_terminal.specs.declared.states.State.TheVariants as state
-use Rattle.scm_terminal.specs.declared.states.Transition.{Transition}
-use Rattle.scm_terminal.specs.declared.states.Transition.TheVariants.{Continue, Emit, EmitAndRetry}
+use Rattle.scm_terminal.specs.declared.transitions.State.{State}
+use Rattle.scm_terminal.specs.declared.transitions.State.TheVariants as state
+use Rattle.scm_terminal.specs.declared.transitions.Transition.{Transition}
+use Rattle.scm_terminal.specs.declared.transitions.Transition.TheVariants.{Continue, Emit, EmitAndRetry}
 use Rattle.scm_terminal.specs.Bytes.{begins_control_string, is_continuation, is_final, is_parameter}
 use Rattle.scm_terminal.specs.Sequences.{trailing_bytes}
 use Rattle.scm_terminal.specs.Characters.{lead_character, with_continuation}
 use Rattle.scm_terminal.specs.Streams.{Found, Unfinished, Finished, character, after_lead, after_start, trailing, sequence, control_string, after_escape, first, Split, with_token, split_from, split, token_event, escape_key, event_at_end}
-use Rattle.scm_terminal.specs.Transitions.{lead_transition, start_transition, ground_transition, escape_transition, sequence_transition, trailing_transition, joined_transition, character_transition, control_string_transition, transition_of, pending_event}
+use Rattle.scm_terminal.specs.Transitions.{lead_transition, start_transition, ground_transition, escape_transition, sequence_transition, trailing_transition, progress_transition, character_transition, control_string_transition, transition_of, pending_event}
 
 -- ---- how the first goes on behind what waits
 
@@ -69,7 +69,7 @@ trailing_goes : (left n b : ℕ) (bs : List ℕ) → trailing left n (b ∷ bs) 
 trailing_goes left n b bs =
     by_if (nat_lt b 32) _ _ _ _ (n + 1) n bs refl (by_if (nat_le left 1) _ _ _ _ (n + 1) n bs refl refl)
 
-joined_goes : (joined : Joined) (n : ℕ) (bs : List ℕ) → (elim joined [ Whole token ↦ Finished token (n + 1) | Part d ↦ character d (n + 1) bs ]) ≡ by_move (joined_transition joined) (n + 1) n bs
+joined_goes : (joined : CharacterProgress) (n : ℕ) (bs : List ℕ) → (elim joined [ Whole token ↦ Finished token (n + 1) | Part d ↦ character d (n + 1) bs ]) ≡ by_move (progress_transition joined) (n + 1) n bs
 joined_goes (Whole token) n bs = refl
 joined_goes (Part d) n bs = refl
 
@@ -109,7 +109,7 @@ lead_later (Some c) = refl
 start_later : (alt : Bool) (b : ℕ) → Later (start_transition alt b)
 start_later alt b = later_if (nat_lt b 128) _ _ tt (lead_later (lead_character alt b))
 
-joined_later : (joined : Joined) → Later (joined_transition joined)
+joined_later : (joined : CharacterProgress) → Later (progress_transition joined)
 joined_later (Whole token) = tt
 joined_later (Part d) = refl
 

@@ -1,34 +1,34 @@
--- styles as numbers, and the bytes that set them
+-- styles as numbers, and as the bytes that set them
 pub mod Style
--- what one column shows, and the picture of a grid in styles
-pub mod Place
+-- the content of one column, and the picture of a grid, in styles
+pub mod StyledCell
 -- a model terminal, its commands, and their bytes
 pub mod Terminal
--- how a terminal reads bytes as commands
+-- the commands that a terminal reads in bytes
 pub mod Reading
--- what a painter writes: commands for the rows that changed
+-- the commands of a paint: those of the rows that changed
 pub mod Painting
--- the fields of `Place` as what it shows
-pub mod PlaceView
--- the fields of `Row` as a line
+-- the cell that the fields of `StyledCell` represent
+pub mod StyledCellView
+-- the line that the fields of `Row` represent
 pub mod RowView
--- the fields of `Painter` as the last picture
+-- the last picture that the fields of `Painter` represent
 pub mod PainterView
--- what a paint promises
+-- the promise of a paint to every terminal
 pub mod Promise
--- classes of bytes
+-- classes of bytes, by ECMA-48 and UTF-8
 pub mod Bytes
--- keys of one byte
-pub mod Plain
--- mouse reports
+-- keys that are one byte
+pub mod ByteKeys
+-- mouse reports in xterm's SGR form
 pub mod Mouse
--- escape sequences
+-- escape sequences: CSI and SS3
 pub mod Sequences
--- characters of several bytes
+-- characters of several bytes, in UTF-8
 pub mod Characters
--- a stream, cut into tokens, and its events
+-- the tokens and the events of a stream of bytes
 pub mod Streams
--- the state of an unfinished token, byte by byte
+-- the state machine of the decoder
 pub mod Transitions
 -- the decoder, byte by byte
 pub mod Decoders

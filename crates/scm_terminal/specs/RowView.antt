@@ -1,7 +1,7 @@
--- The fields of `Row` as a line.
+-- The line that the fields of `Row` represent.
 use Rattle.scm_terminal.specs.declared.row.Row.{Row}
 use Rattle.scm_terminal.specs.Painting.{Line}
 
--- a row of the painter as a line
+-- the line of a row of the painter
 abbrev pub line_of : Row → Line
-line_of row = record { places = row.places.items; is_changed = row.is_changed }
+line_of row = record { cells = row.cells.items; is_changed = row.is_changed }

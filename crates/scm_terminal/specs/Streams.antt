@@ -1,4 +1,5 @@
--- A stream of bytes, cut into tokens (keys, characters and sequences), and its events.
+-- A stream of bytes, its tokens (keys, characters, escape sequences and control strings), and its
+-- events. These definitions have no states: they look for the end of the first token.
 use Rattle.std.specs.Prelude.{◌≡◌, ◌≢◌, ◌++◌, ℕ, zero, suc, ◌+◌, ◌-◌, Bool, true, false, ◌==◌, nat_le, nat_lt, List, [], ◌∷◌, Option, Some, None, fold, if◌then◌else◌}
 use Rattle.scm_input.specs.KeyTable.{none}
 use Rattle.scm_input.specs.declared.terminal.KeyCode.TheVariants as key
@@ -6,27 +7,29 @@ use Rattle.scm_input.specs.declared.terminal.KeyEventKind.TheVariants.{Press}
 use Rattle.scm_input.specs.declared.terminal.TerminalEvent.{TerminalEvent}
 use Rattle.scm_input.specs.declared.terminal.TerminalEvent.TheVariants as terminal
 use Rattle.scm_terminal.specs.declared.characters.Character.{Character}
-use Rattle.scm_terminal.specs.declared.characters.Joined.TheVariants.{Whole, Part}
+use Rattle.scm_terminal.specs.declared.characters.CharacterProgress.TheVariants.{Whole, Part}
 use Rattle.scm_terminal.specs.declared.sequences.Sequence.{Sequence}
-use Rattle.scm_terminal.specs.declared.sequences.SequenceKind.TheVariants.{Bracket, Single}
+use Rattle.scm_terminal.specs.declared.sequences.SequenceKind.TheVariants.{Csi, Ss3}
 use Rattle.scm_terminal.specs.declared.tokens.Token.{Token}
 use Rattle.scm_terminal.specs.declared.tokens.Token.TheVariants.{Event, PasteBegins, PasteEnds}
 use Rattle.scm_terminal.specs.Bytes.{begins_control_string, is_continuation, is_final, is_parameter}
-use Rattle.scm_terminal.specs.Plain.{plain_key}
-use Rattle.scm_terminal.specs.Sequences.{unrecognized, new_sequence, with_parameter, token_of, trailing_bytes}
+use Rattle.scm_terminal.specs.ByteKeys.{byte_key}
+use Rattle.scm_terminal.specs.Sequences.{unrecognized_token, new_sequence, with_parameter, token_of, trailing_bytes}
 use Rattle.scm_terminal.specs.Characters.{lead_character, with_continuation}
 
 -- ---- the first token of a stream
 
--- the first token, and how many bytes it has after its first one; or more bytes are needed to tell
+-- the first token of a stream
 pub data Found : Type 0 where
+  -- the first token has no end yet
   Unfinished : Found
+  -- the token, and the number of its bytes after the first one
   Finished : Token → ℕ → Found
 
--- Below, `n` bytes stand between the first byte and the list. A byte that cannot continue a token
--- ends it before that byte; the token is then unrecognized, and the byte begins the next one.
+-- Below, `n` is the number of bytes between the first byte and the list. A byte that cannot
+-- continue a token ends it: the token is unrecognized, and the byte begins the next token.
 
--- a character of several bytes
+-- the token of the unfinished character `c` and the bytes after it
 abbrev pub character : Character → ℕ → List ℕ → Found
 character c n [] = Unfinished
 character c n (b ∷ bs) =
@@ -35,28 +38,30 @@ character c n (b ∷ bs) =
       | Whole token ↦ Finished token (n + 1)
       | Part d ↦ character d (n + 1) bs
     ])
-    else Finished unrecognized n
+    else Finished unrecognized_token n
 
--- after the first byte of a character
+-- the token of a lead byte, by its unfinished character, and the bytes after it
 abbrev pub after_lead : Option Character → ℕ → List ℕ → Found
-after_lead None n bs = Finished unrecognized n
+after_lead None n bs = Finished unrecognized_token n
 after_lead (Some c) n bs = character c n bs
 
--- a byte that is no escape: the key of one byte, or the first byte of a character
+-- the token of the first byte `b`, which is no escape, and the bytes after it: a key of one byte,
+-- or a character
 abbrev pub after_start : Bool → ℕ → ℕ → List ℕ → Found
 after_start alt n b bs =
-    if nat_lt b 128 then Finished (Event (terminal.Key (plain_key alt b))) n
+    if nat_lt b 128 then Finished (Event (terminal.Key (byte_key alt b))) n
     else after_lead (lead_character alt b) n bs
 
--- bytes after the final byte of a sequence that belong to it: any from a space on
+-- the token of a sequence of which `left` bytes after its final byte are missing: any bytes but C0
+-- controls
 abbrev pub trailing : ℕ → ℕ → List ℕ → Found
 trailing left n [] = Unfinished
 trailing left n (b ∷ bs) =
-    if nat_lt b 32 then Finished unrecognized n
-    else if nat_le left 1 then Finished unrecognized (n + 1)
+    if nat_lt b 32 then Finished unrecognized_token n
+    else if nat_le left 1 then Finished unrecognized_token (n + 1)
     else trailing (left - 1) (n + 1) bs
 
--- a sequence: parameter bytes, and a final byte
+-- the token of the sequence `q` and the bytes after it: parameter bytes, and a final byte
 abbrev pub sequence : Sequence → ℕ → List ℕ → Found
 sequence q n [] = Unfinished
 sequence q n (b ∷ bs) =
@@ -64,29 +69,30 @@ sequence q n (b ∷ bs) =
     else if is_final b then (
     if trailing_bytes q b == 0 then Finished (token_of q b) (n + 1)
     else trailing (trailing_bytes q b) (n + 1) bs)
-    else Finished unrecognized n
+    else Finished unrecognized_token n
 
--- a control string, up to a bell, to an escape with a backslash, or to any other control character
+-- The token of a control string. A bell ends it, as in xterm. Any other C0 control ends it before
+-- that byte; a string terminator, `ESC \`, is a token by itself.
 abbrev pub control_string : ℕ → List ℕ → Found
 control_string n [] = Unfinished
 control_string n (b ∷ bs) =
-    if b == 7 then Finished unrecognized (n + 1)
-    else if nat_lt b 32 then Finished unrecognized n
+    if b == 7 then Finished unrecognized_token (n + 1)
+    else if nat_lt b 32 then Finished unrecognized_token n
     else control_string (n + 1) bs
 
--- the Esc key
+-- the token of the Esc key
 abbrev pub escape_key : Token
 escape_key = Event (terminal.Key (record { code = key.Esc; modifiers = none; kind = Press }))
 
--- after an escape: another one, and then the first is the Esc key; a sequence; the end of a control
--- string; a control string; or a key with alt
+-- the token of an escape and the bytes after it: the Esc key before another escape, an escape
+-- sequence, a string terminator, a control string, or a key or character with alt
 abbrev pub after_escape : ℕ → List ℕ → Found
 after_escape n [] = Unfinished
 after_escape n (b ∷ bs) =
     if b == 27 then Finished escape_key n
-    else if b == 91 then sequence (new_sequence Bracket) (n + 1) bs
-    else if b == 79 then sequence (new_sequence Single) (n + 1) bs
-    else if b == 92 then Finished unrecognized (n + 1)
+    else if b == 91 then sequence (new_sequence Csi) (n + 1) bs
+    else if b == 79 then sequence (new_sequence Ss3) (n + 1) bs
+    else if b == 92 then Finished unrecognized_token (n + 1)
     else if begins_control_string b then control_string (n + 1) bs
     else after_start true (n + 1) b bs
 
@@ -97,12 +103,14 @@ first (b ∷ bs) = if b == 27 then after_escape 0 bs else after_start false 0 b 
 
 -- ---- all tokens
 
--- the tokens of a stream, and the bytes of an unfinished one at its end
+-- a stream, cut into tokens
 pub record Split : Type 0 where
+  -- the tokens that end within the stream
   pub tokens : List Token
+  -- the bytes of the unfinished token at its end
   pub rest : List ℕ
 
--- one more token in front
+-- `split` with `token` in front
 abbrev pub with_token : Token → Split → Split
 with_token token split = record { tokens = token ∷ split.tokens; rest = split.rest }
 
@@ -122,30 +130,29 @@ split bytes = split_from 0 bytes
 
 -- ---- events
 
--- the event of a token, where `is_pasted` says that it is part of a paste: nothing pasted acts as a
--- key
+-- the event of a token; within a bracketed paste, `is_pasted`, it is `Other`
 abbrev pub token_event : Bool → Token → TerminalEvent
 token_event is_pasted (Event event) = if is_pasted then terminal.Other else event
 token_event is_pasted PasteBegins = terminal.Other
 token_event is_pasted PasteEnds = terminal.Other
 
--- whether what follows a token is part of a paste
+-- whether the bytes after a token are part of a bracketed paste
 abbrev pub pasted_after : Bool → Token → Bool
 pasted_after is_pasted (Event event) = is_pasted
 pasted_after is_pasted PasteBegins = true
 pasted_after is_pasted PasteEnds = false
 
--- the events of tokens
+-- the events of tokens, of which the first is within a paste if `is_pasted`
 abbrev pub token_events : Bool → List Token → List TerminalEvent
 token_events is_pasted [] = []
 token_events is_pasted (token ∷ tokens) =
     token_event is_pasted token ∷ token_events (pasted_after is_pasted token) tokens
 
--- the events of a stream that begins within a paste, or not
-abbrev pub decoded : Bool → List ℕ → List TerminalEvent
-decoded is_pasted bytes = token_events is_pasted (split bytes).tokens
+-- the events of a stream, which begins within a paste if `is_pasted`
+abbrev pub stream_events : Bool → List ℕ → List TerminalEvent
+stream_events is_pasted bytes = token_events is_pasted (split bytes).tokens
 
--- whether a stream ends within a paste
+-- whether a stream ends within a paste, if it begins within one for `is_pasted`
 abbrev pub is_pasted_after : Bool → List ℕ → Bool
 is_pasted_after is_pasted bytes = fold pasted_after is_pasted (split bytes).tokens
 
@@ -153,49 +160,55 @@ is_pasted_after is_pasted bytes = fold pasted_after is_pasted (split bytes).toke
 abbrev pub rest : List ℕ → List ℕ
 rest bytes = (split bytes).rest
 
--- a stream may be cut anywhere: its events are those of its first part, and then those of the
--- unfinished token there, with the second part behind it
+-- the stream `a ++ b` may be cut after `a`: decoding `a`, and then its unfinished token with `b`,
+-- has the outcome of decoding the whole
 pub record IsCut (is_pasted : Bool) (a b : List ℕ) : Type 0 where
-  pub events : decoded is_pasted (a ++ b)
-      ≡ decoded is_pasted a ++ decoded (is_pasted_after is_pasted a) (rest a ++ b)
+  -- the events are the same
+  pub events : stream_events is_pasted (a ++ b)
+      ≡ stream_events is_pasted a ++ stream_events (is_pasted_after is_pasted a) (rest a ++ b)
+  -- both end within a paste, or both do not
   pub pasted : is_pasted_after is_pasted (a ++ b)
       ≡ is_pasted_after (is_pasted_after is_pasted a) (rest a ++ b)
+  -- the unfinished token is the same
   pub waits : rest (a ++ b) ≡ rest (rest a ++ b)
 
--- the mark before a paste: `ESC [ 200 ~`
+-- the start mark of a bracketed paste: `ESC [ 200 ~`
 abbrev pub paste_begin : List ℕ
 paste_begin = 27 ∷ 91 ∷ 50 ∷ 48 ∷ 48 ∷ 126 ∷ []
 
--- the mark after a paste: `ESC [ 201 ~`
+-- the end mark of a bracketed paste: `ESC [ 201 ~`
 abbrev pub paste_end : List ℕ
 paste_end = 27 ∷ 91 ∷ 50 ∷ 48 ∷ 49 ∷ 126 ∷ []
 
--- bytes without an escape
+-- none of the bytes is an escape
 abbrev pub HasNoEscape : List ℕ → Type 0
 HasNoEscape [] = Unit {0}
 HasNoEscape (b ∷ bs) = (b ≢ 27) × HasNoEscape bs
 
--- events on which nothing acts
+-- all events are `Other`, on which nothing acts
 abbrev pub AreOther : List TerminalEvent → Type 0
 AreOther [] = Unit {0}
 AreOther (event ∷ events) = (event ≡ terminal.Other) × AreOther events
 
--- a paste gives only events on which nothing acts, and the bytes after it give the events that they
--- give without it
+-- a bracketed paste of `pasted` has only `Other` events, and does not change the events of the
+-- bytes `more` after it
 pub record IsQuiet (pasted more : List ℕ) : Type 0 where
+  -- the events of the paste
   pub others : List TerminalEvent
+  -- they are `Other`
   pub quiet : AreOther others
-  pub events : decoded false (paste_begin ++ (pasted ++ (paste_end ++ more)))
-      ≡ others ++ decoded false more
+  -- the events of the paste and of the bytes after it
+  pub events : stream_events false (paste_begin ++ (pasted ++ (paste_end ++ more)))
+      ≡ others ++ stream_events false more
 
 -- ---- silence
 
--- the event of an unfinished token when no more bytes come: a lone escape is the Esc key
+-- the event of the bytes of an unfinished token if no more bytes come: a lone escape is the Esc key
 abbrev pub event_at_end : List ℕ → Option TerminalEvent
 event_at_end [] = None
 event_at_end (b ∷ []) = Some (if b == 27 then token_event false escape_key else terminal.Other)
 event_at_end (b ∷ c ∷ bs) = Some terminal.Other
 
--- the event of a silence, if any; within a paste it means nothing
-abbrev pub silent : Bool → List ℕ → Option TerminalEvent
-silent is_pasted waiting = if is_pasted then None else event_at_end waiting
+-- the event of a silence after the unfinished bytes `waiting`, if any; within a paste there is none
+abbrev pub idle_event : Bool → List ℕ → Option TerminalEvent
+idle_event is_pasted waiting = if is_pasted then None else event_at_end waiting

@@ -1,11 +1,11 @@
--- Styles as numbers, by which two are compared, and as the bytes that set them, written and read.
+-- Styles as numbers, which compare them, and as SGR sequences of ECMA-48, written and read.
 use Rattle.std.specs.Prelude.{ℕ, ◌+◌, ◌*◌, ◌==◌, List, [], ◌∷◌, ◌++◌, Bool, true, false, if◌then◌else◌, Option, Some, None}
 use Rattle.std.specs.Option.{option_and_then}
 use Rattle.scm_terminal.specs.declared.style.Colour.{Colour}
 use Rattle.scm_terminal.specs.declared.style.Colour.TheVariants.{Black, Red, Green, Yellow, Blue, Magenta, Cyan, White}
 use Rattle.scm_terminal.specs.declared.style.Style.{Style}
 
--- the number of a colour: 0 for the terminal's own, and 1 to 8
+-- the number of a colour: 0 for the terminal's own, and otherwise 1 to 8
 abbrev pub colour_code : Option Colour → ℕ
 colour_code None = 0
 colour_code (Some Black) = 1
@@ -17,20 +17,20 @@ colour_code (Some Magenta) = 6
 colour_code (Some Cyan) = 7
 colour_code (Some White) = 8
 
--- 1 for a flag that is set, and 0
+-- 1 for true, 0 for false
 abbrev pub bit : Bool → ℕ
 bit b = if b then 1 else 0
 
--- a number for each style: the colour in the lowest four bits, and a bit for each flag above them
+-- the number of a style: the colour in the lowest four bits, and above it a bit for each attribute
 unfoldable pub style_code : Style → ℕ
 style_code style =
     colour_code style.colour
     + 16 * (bit style.bold + 2 * (bit style.dim
     + 2 * (bit style.underlined + 2 * bit style.reversed)))
 
--- ---- the bytes that set a style: the numbers of ECMA-48 for a graphic rendition
+-- ---- the bytes that set a style: the SGR parameters of ECMA-48
 
--- `;30` to `;37`
+-- the parameter of a colour with its semicolon, `;30` to `;37`
 abbrev pub colour_bytes : Option Colour → List ℕ
 colour_bytes None = []
 colour_bytes (Some Black) = 59 ∷ (51 ∷ (48 ∷ []))
@@ -42,11 +42,11 @@ colour_bytes (Some Magenta) = 59 ∷ (51 ∷ (53 ∷ []))
 colour_bytes (Some Cyan) = 59 ∷ (51 ∷ (54 ∷ []))
 colour_bytes (Some White) = 59 ∷ (51 ∷ (55 ∷ []))
 
--- the text if the flag is set, and else nothing
+-- `text` if `b`, and otherwise nothing
 abbrev pub text_if : Bool → List ℕ → List ℕ
 text_if b text = if b then text else []
 
--- `;1` for bold, `;2` for dim, `;4` for underlined and `;7` for reversed
+-- the parameters of the attributes: `;1` bold, `;2` dim, `;4` underlined, `;7` reversed
 abbrev pub flag_bytes : Style → List ℕ
 flag_bytes style =
     text_if style.bold (59 ∷ (49 ∷ []))
@@ -54,18 +54,19 @@ flag_bytes style =
     ++ (text_if style.underlined (59 ∷ (52 ∷ []))
     ++ text_if style.reversed (59 ∷ (55 ∷ []))))
 
--- `ESC [ 0`, which resets what was set before, then the flags, the colour, and `m`
+-- the SGR sequence of a style: `ESC [ 0` resets, then come the attributes, the colour and `m`
 unfoldable pub style_bytes : Style → List ℕ
 style_bytes style =
     (27 ∷ (91 ∷ (48 ∷ []))) ++ (flag_bytes style ++ (colour_bytes style.colour ++ (109 ∷ [])))
 
--- ---- the style that such numbers set
+-- ---- the style that SGR parameters set
 
--- no colour of its own, and no flag
-abbrev pub plain : Style
-plain = record { colour = None; bold = false; dim = false; underlined = false; reversed = false }
+-- the terminal's own colour, without attributes
+abbrev pub plain_style : Style
+plain_style =
+    record { colour = None; bold = false; dim = false; underlined = false; reversed = false }
 
--- a style after one number more, if the number has a meaning here
+-- the style after the SGR parameter `n`; none if `n` is none of the above
 abbrev pub with_number : ℕ → Style → Option Style
 with_number n style =
     if n == 1 then Some (record style { bold = true })
@@ -82,8 +83,9 @@ with_number n style =
     else if n == 37 then Some (record style { colour = Some White })
     else None
 
--- the style that numbers set, the last of them in front; none if it depends on the style before,
--- which only a 0 resets
+-- the style that parameters set, the last parameter in front; none if a parameter is unknown, or if
+-- no 0 resets the style before
 unfoldable pub style_of : List ℕ → Option Style
 style_of [] = None
-style_of (n ∷ ns) = if n == 0 then Some plain else option_and_then (with_number n) (style_of ns)
+style_of (n ∷ ns) =
+    if n == 0 then Some plain_style else option_and_then (with_number n) (style_of ns)

@@ -1,4 +1,4 @@
-//! Classes of bytes, by ECMA-48 and UTF-8.
+//! Classes of bytes: those of control sequences by ECMA-48, and those of UTF-8.
 ghost use Rattle.std.specs.Prelude.{◌≡◌, ◌<◌};
 ghost use Rattle.scm_terminal.specs.Bytes.{
   begins_control_string,
@@ -7,27 +7,27 @@ ghost use Rattle.scm_terminal.specs.Bytes.{
   is_digit,
   is_final,
   is_parameter,
-  is_set,
+  has_bit,
 };
 
-/// The escape byte: it begins a sequence, and alone it is the Esc key.
+/// The escape byte. It begins an escape sequence or a control string; alone it is the Esc key.
 pub(crate) const ESCAPE: u8 = 27;
 
-/// Returns whether `byte` is from `low` to `high`, both among them.
+/// Returns whether `byte` is in the range `low..=high`.
 pub(crate) fn is_between(low: u8, high: u8, byte: u8) -> bool
     ensures { result ≡ is_between low high byte }
 {
     low <= byte && byte <= high
 }
 
-/// Returns whether `byte` is a digit.
+/// Returns whether `byte` is a digit, `0` to `9`.
 pub(crate) fn is_digit(byte: u8) -> bool
     ensures { result ≡ is_digit byte }
 {
     is_between(48, 57, byte)
 }
 
-/// Returns whether `byte` is a parameter or intermediate byte of a sequence.
+/// Returns whether `byte` is a parameter byte or an intermediate byte of a control sequence.
 #[tactic(auto, unfolding(crate::specs::Bytes::is_parameter))]
 pub(crate) fn is_parameter(byte: u8) -> bool
     ensures { result ≡ is_parameter byte }
@@ -35,7 +35,7 @@ pub(crate) fn is_parameter(byte: u8) -> bool
     is_between(32, 63, byte)
 }
 
-/// Returns whether `byte` is the final byte of a sequence.
+/// Returns whether `byte` is a final byte of a control sequence.
 #[tactic(auto, unfolding(crate::specs::Bytes::is_final))]
 pub(crate) fn is_final(byte: u8) -> bool
     ensures { result ≡ is_final byte }
@@ -51,7 +51,7 @@ pub(crate) fn is_continuation(byte: u8) -> bool
     is_between(128, 191, byte)
 }
 
-/// Returns whether `byte` begins a control string after an escape.
+/// Returns whether `byte` after an escape begins a control string: DCS, SOS, OSC, PM or APC.
 #[tactic(auto, unfolding(crate::specs::Bytes::begins_control_string))]
 pub(crate) fn begins_control_string(byte: u8) -> bool
     ensures { result ≡ begins_control_string byte }
@@ -59,10 +59,10 @@ pub(crate) fn begins_control_string(byte: u8) -> bool
     byte == 80 || byte == 88 || is_between(93, 95, byte)
 }
 
-/// Returns whether `number` has the bit `unit`, a power of two.
-pub(crate) fn is_set(unit: u16, number: u16) -> bool
+/// Returns whether the bit `unit` of `number` is set. `unit` is a power of two.
+pub(crate) fn has_bit(unit: u16, number: u16) -> bool
     requires { 0 < unit }
-    ensures { result ≡ is_set unit number }
+    ensures { result ≡ has_bit unit number }
 {
     number / unit % 2 == 1
 }

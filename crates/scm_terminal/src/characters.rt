@@ -1,33 +1,34 @@
-//! Characters of several bytes, in UTF-8.
+//! Characters of several bytes, decoded from UTF-8 byte by byte.
 ghost use Rattle.std.specs.Prelude.{◌≡◌};
 ghost use Rattle.scm_terminal.specs.Characters.{char_token, with_continuation, lead_character};
 
 use crate::tokens::Token;
 use scm_input::{KeyCode, KeyEvent, KeyEventKind, KeyModifiers, TerminalEvent};
 
-/// The first bytes of a character.
+/// The unfinished character of a lead byte and the continuation bytes so far.
 #[derive(Clone, Copy)]
 pub struct Character {
-    /// Whether alt is held.
+    /// Whether an escape preceded the character: it is typed with alt.
     pub alt: bool,
-    /// How many bytes are missing.
+    /// The number of continuation bytes that are missing.
     pub left: u8,
-    /// The least code point that needs a form of this length.
+    /// The least code point that needs this number of bytes: a lesser one is overlong.
     pub least: u32,
     /// The bits of the code point so far.
     pub bits: u16,
 }
 
-/// A character after one more continuation byte.
+/// The outcome of one more continuation byte.
 #[derive(Clone, Copy)]
-pub enum Joined {
-    /// It is complete, or broken: its token.
+pub enum CharacterProgress {
+    /// The token of a complete character, or of an ill-formed one.
     Whole(Token),
-    /// More bytes are missing.
+    /// A character of which more bytes are missing.
     Part(Character),
 }
 
-/// Returns the character that `byte`, which is at least 128, begins, or `None` if it begins none.
+/// Returns the unfinished character of the lead byte `byte`, which is at least 128. Returns `None`
+/// if `byte` is no lead byte. `alt` is whether an escape preceded it.
 #[tactic(auto, unfolding(crate::specs::Characters::lead_character))]
 pub(crate) fn lead_character(alt: bool, byte: u8) -> Option<Character>
     ensures { result ≡ lead_character alt byte }
@@ -60,27 +61,29 @@ pub(crate) fn lead_character(alt: bool, byte: u8) -> Option<Character>
     }
 }
 
-/// Adds the six bits of the continuation byte `byte` to `character`.
+/// Adds the six bits of the continuation byte `byte` to `character`, and ends the character if
+/// that was its last byte.
 #[tactic(auto, unfolding(crate::specs::Characters::with_continuation))]
-pub(crate) fn with_continuation(character: Character, byte: u8) -> Joined
+pub(crate) fn with_continuation(character: Character, byte: u8) -> CharacterProgress
     ensures { result ≡ with_continuation character byte }
 {
     let bits = character.bits as u32 * 64 + (byte % 64) as u32;
     if character.left <= 1 {
-        Joined::Whole(char_token(character.alt, character.least, bits))
+        CharacterProgress::Whole(char_token(character.alt, character.least, bits))
     } else if bits <= 65535 {
-        Joined::Part(Character {
+        CharacterProgress::Part(Character {
             alt: character.alt,
             left: character.left - 1,
             least: character.least,
             bits: bits as u16,
         })
     } else {
-        Joined::Whole(Token::UNRECOGNIZED)
+        CharacterProgress::Whole(Token::UNRECOGNIZED)
     }
 }
 
-/// Returns the key of the code point `code`, if it is a character and at least `least`.
+/// Returns the token of the code point `code`. It is unrecognized if `code` is no character or
+/// below `least`.
 fn char_token(alt: bool, least: u32, code: u32) -> Token
     ensures { result ≡ char_token alt least code }
 {

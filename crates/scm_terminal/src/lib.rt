@@ -1,22 +1,22 @@
-//! The edge to a terminal: decodes the bytes that it sends into events, and makes the bytes that
-//! show a grid on it in colours. It opens no terminal.
+//! The edge to a terminal. A `Decoder` turns the bytes that a terminal sends into events. A
+//! `Painter` makes the bytes that show a grid in colours. Neither opens a terminal.
 #![tactic(auto)]
 
-pub use keys::{Decoder, EventPair};
+pub use decoder::{Decoder, EventPair};
 pub use painter::Painter;
 pub use style::{Colour, Style, Styles};
 
+mod byte_keys;
 mod bytes;
 mod characters;
-pub mod keys;
+pub mod decoder;
 pub mod laws;
 mod mouse;
 mod painter;
 mod pen;
-mod place;
-mod plain;
 mod row;
 mod sequences;
-mod states;
 mod style;
+mod styled_cell;
 mod tokens;
+mod transitions;

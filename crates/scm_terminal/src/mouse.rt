@@ -1,4 +1,4 @@
-//! Mouse reports.
+//! Mouse reports in xterm's SGR form: the events of their three parameters.
 ghost use Rattle.std.specs.Prelude.{◌≡◌, ◌<◌};
 ghost use Rattle.scm_terminal.specs.Mouse.{
   button_of,
@@ -10,11 +10,12 @@ ghost use Rattle.scm_terminal.specs.Mouse.{
   wheel_kind,
 };
 
-use crate::bytes::is_set;
+use crate::bytes::has_bit;
 use scm_input::{KeyModifiers, MouseButton, MouseEvent, MouseEventKind, TerminalEvent};
 
-/// Returns the event of a mouse report. `button` holds the button and its modifiers; `column` and
-/// `row` are counted from 1.
+/// Returns the event of a mouse report. `is_down` is whether it ends with `M`. `button` has the
+/// button, its modifiers, and whether the mouse moves. `column` and `row` are counted from 1, those
+/// of the event from 0.
 #[tactic(auto, unfolding(crate::specs::Mouse::mouse_event))]
 pub(crate) fn mouse_event(is_down: bool, button: u16, column: u16, row: u16) -> TerminalEvent
     ensures { result ≡ mouse_event is_down button column row }
@@ -31,24 +32,24 @@ pub(crate) fn mouse_event(is_down: bool, button: u16, column: u16, row: u16) -> 
     }
 }
 
-/// Returns the modifiers in the bits of `button`.
+/// Returns the modifiers in the bits of `button`: 4 for shift, 8 for alt, 16 for control.
 fn button_modifiers(button: u16) -> KeyModifiers
     ensures { result ≡ button_modifiers button }
 {
     KeyModifiers {
-        shift: is_set(4, button),
-        control: is_set(16, button),
-        alt: is_set(8, button),
+        shift: has_bit(4, button),
+        control: has_bit(16, button),
+        alt: has_bit(8, button),
         other: false,
     }
 }
 
-/// Returns what happened to the button.
+/// Returns the kind of the event of `button`: bit 32 is a movement, bit 64 a wheel.
 fn mouse_kind(is_down: bool, button: u16) -> MouseEventKind
     ensures { result ≡ mouse_kind is_down button }
 {
     if button < 64 {
-        if is_set(32, button) {
+        if has_bit(32, button) {
             motion_kind(button % 4)
         } else {
             button_kind(is_down, button % 4)
@@ -60,7 +61,7 @@ fn mouse_kind(is_down: bool, button: u16) -> MouseEventKind
     }
 }
 
-/// Returns the button with `number`, if there is one.
+/// Returns the button of `number`, if any: 0 is left, 1 middle, 2 right.
 fn button_of(number: u16) -> Option<MouseButton>
     ensures { result ≡ button_of number }
 {
@@ -72,7 +73,7 @@ fn button_of(number: u16) -> Option<MouseButton>
     }
 }
 
-/// Returns a drag with the button of `number`, or a move if there is no such button.
+/// Returns a drag with the button of `number`, or a move without a button if there is none.
 fn motion_kind(number: u16) -> MouseEventKind
     ensures { result ≡ motion_kind number }
 {
@@ -82,7 +83,7 @@ fn motion_kind(number: u16) -> MouseEventKind
     }
 }
 
-/// Returns that the button of `number` goes down or up.
+/// Returns a press of the button of `number` if `is_down`, and otherwise a release.
 fn button_kind(is_down: bool, number: u16) -> MouseEventKind
     ensures { result ≡ button_kind is_down number }
 {
@@ -98,7 +99,7 @@ fn button_kind(is_down: bool, number: u16) -> MouseEventKind
     }
 }
 
-/// Returns the scroll of the wheel button with `number`.
+/// Returns the scroll of the wheel button `number`: 0 is up, 1 down.
 fn wheel_kind(number: u16) -> MouseEventKind
     ensures { result ≡ wheel_kind number }
 {

@@ -1,11 +1,11 @@
-//! The painter: a grid and its styles in, bytes for a terminal out.
+//! The painter: turns a grid and its styles into the bytes that show them on a terminal.
 ghost use Rattle.std.specs.Prelude.{◌≡◌, ◌↔◌, ◌<◌, ◌^◌, ◌++◌, [], ℕ, IsTrue, IfOk, IfErr, OnOk, OnErr, true, false, length, map, slice_index_or, string_bytes};
 ghost use Rattle.std.specs.List.{All, flat_map};
 ghost use Rattle.scm_errors.specs.declared.error.RecordError.TheVariants.{OutOfMemory};
 ghost use Rattle.scm_terminal.specs.Painting.{AreUpdates, painting};
-ghost use Rattle.scm_terminal.specs.Place.{picture};
+ghost use Rattle.scm_terminal.specs.StyledCell.{picture};
 ghost use Rattle.scm_terminal.specs.RowView.{line_of};
-ghost use Rattle.scm_terminal.specs.PainterView.{places_of};
+ghost use Rattle.scm_terminal.specs.PainterView.{cells_of_row};
 ghost use Rattle.scm_terminal.specs.Promise.{HasSize, Paints};
 ghost use Rattle.scm_terminal.specs.Terminal.{bytes_of};
 
@@ -16,45 +16,51 @@ use scm_errors::RecordError;
 use std::alloc::{AllocError, Global};
 use std::marker::Model;
 
-/// Paints grids on one terminal. It keeps the last picture, and writes only the rows that changed.
+/// A painter of grids on one terminal. It keeps the last picture, and writes only the rows that
+/// differ from it.
+///
+/// The first `paint` writes all rows. After another program wrote to the terminal, `forget` makes
+/// the next `paint` write all rows again.
 #[derive(Drop)]
 pub struct Painter {
+    /// The allocator of the rows and of the text.
     alloc: Global,
 
-    /// The rows of the last picture, or none if it is not known what the terminal shows.
+    /// The rows of the last picture, or none if what the terminal shows is unknown.
     rows: Vec<Row>,
 }
 
 impl Model for Painter {
     ghost use Rattle.std.specs.Prelude.{List};
-    ghost use Rattle.scm_terminal.specs.Place.{Place};
+    ghost use Rattle.scm_terminal.specs.StyledCell.{StyledCell};
 
-    ghost Value = { List (List Place) };
+    ghost Value = { List (List StyledCell) };
 
-    ghost use Rattle.scm_terminal.specs.PainterView.{painted};
+    ghost use Rattle.scm_terminal.specs.PainterView.{last_picture};
 
-    ghost view = { painted };
+    ghost view = { last_picture };
 }
 
 /// Returns whether each row has `width` columns.
 fn are_wide(rows: &[Row], width: usize) -> bool
-    ensures { IsTrue result ↔ All (λ row. length row.places.items ≡ width) rows.now }
+    ensures { IsTrue result ↔ All (λ row. length row.cells.items ≡ width) rows.now }
 {
-    rows.iter().all(|row| row.places.len() == width)
+    rows.iter().all(|row| row.cells.len() == width)
 }
 
 /// Returns whether there are `height` rows, each of `width` columns.
 fn has_size(rows: &[Row], width: usize, height: usize) -> bool
-    ensures { IsTrue result ↔ HasSize width height (map places_of rows.now) }
+    ensures { IsTrue result ↔ HasSize width height (map cells_of_row rows.now) }
 {
     let is_width = are_wide(rows, width);
     let is_height = rows.len() == height;
+    // `&`: one branch for the prover
     is_width & is_height
 }
 
 /// Makes `height` rows, each of `width` columns.
 fn new_rows(alloc: Global, width: usize, height: usize) -> Result<Vec<Row>, AllocError>
-    ensures { IfOk result (λ rows. HasSize width height (map places_of rows.items)) }
+    ensures { IfOk result (λ rows. HasSize width height (map cells_of_row rows.items)) }
 {
     let mut rows = Vec::with_capacity(alloc, height)?;
     for _ in 0..height {
@@ -64,7 +70,7 @@ fn new_rows(alloc: Global, width: usize, height: usize) -> Result<Vec<Row>, Allo
 }
 
 impl Painter {
-    /// Makes a painter that does not know what the terminal shows.
+    /// Makes a painter without a last picture: what the terminal shows is unknown.
     pub fn new(alloc: Global) -> Painter
         ensures { result ≡ [] }
     {
@@ -74,15 +80,15 @@ impl Painter {
         }
     }
 
-    /// Forgets the last picture, so that the next paint writes all rows.
+    /// Forgets the last picture, so that the next `paint` writes all rows.
     pub fn forget(&mut self)
         ensures { self.new ≡ [] }
     {
         self.rows.clear();
     }
 
-    /// Returns the bytes that make a terminal of the grid's size show `grid` in `styles`. They
-    /// write the rows that differ from the last picture, or all rows if that had another size.
+    /// Returns the bytes that make a terminal of the size of `grid` show it in `styles`. They write
+    /// the rows that differ from the last picture. If that had another size, they write all rows.
     ///
     /// # Errors
     /// `OutOfMemory`: an allocation failed; the painter forgets the last picture.
@@ -102,7 +108,7 @@ impl Painter {
         }
     }
 
-    /// Updates the rows, and returns the bytes of those that changed.
+    /// Updates the rows to `grid` in `styles`, and returns the bytes of the rows that changed.
     fn update_and_push<S: Styles>(&mut self, grid: &Grid, styles: &S) -> Result<String, AllocError>
         ensures ok { let next = picture (S.styled styles.now) grid.now in
             IfOk result (λ text. Paints grid.now.width self.old next (string_bytes text)) }
@@ -115,8 +121,8 @@ impl Painter {
         Ok(text)
     }
 
-    /// Makes `height` new rows of `width` columns if the rows have another size, and returns
-    /// whether it did.
+    /// If the rows have another size, replaces them by `height` new rows of `width` columns.
+    /// Returns whether it did.
     fn prepare(&mut self, width: usize, height: usize) -> Result<bool, AllocError>
         ensures size { OnOk result (HasSize width height self.new) }
         ensures all { IfOk result (λ is_all. is_all ≡ false → self.new ≡ self.old) }
@@ -130,18 +136,18 @@ impl Painter {
     }
 }
 
-/// Shows `grid` on the rows, in `styles`. A row is marked as changed if it differs or `is_all` is
-/// set.
+/// Updates `rows` to `grid` in `styles`. Marks a row as changed if it differs, or if `is_all`.
 fn update_rows<S: Styles>(
     rows: &mut [Row],
     grid: &Grid,
     styles: &S,
     is_all: bool,
 ) -> Result<(), AllocError>
-    requires { HasSize grid.now.width (length grid.now.rows) (map places_of rows.old) }
-    ensures places { OnOk result (map places_of rows.new ≡ picture (S.styled styles.now) grid.now) }
+    requires { HasSize grid.now.width (length grid.now.rows) (map cells_of_row rows.old) }
+    ensures cells { OnOk result
+        (map cells_of_row rows.new ≡ picture (S.styled styles.now) grid.now) }
     ensures changed { OnOk result
-        (AreUpdates is_all (map places_of rows.old) (map line_of rows.new)) }
+        (AreUpdates is_all (map cells_of_row rows.old) (map line_of rows.new)) }
 {
     let mut row = 0;
     for shown in rows.iter_mut() {
@@ -151,10 +157,10 @@ fn update_rows<S: Styles>(
     Ok(())
 }
 
-/// Adds the bytes of the changed rows to `text`.
+/// Appends the bytes of the changed rows to `text`.
 fn push_rows(text: &mut String, rows: &[Row]) -> Result<(), AllocError>
     requires rows { length rows.now < 2 ^ 16 }
-    requires columns { All (λ row. length row.places.items < 2 ^ 16) rows.now }
+    requires columns { All (λ row. length row.cells.items < 2 ^ 16) rows.now }
     ensures { let commands = painting 0 (map line_of rows.now) in
         OnOk result (string_bytes text.new ≡ string_bytes text.old ++ flat_map bytes_of commands) }
 {

@@ -1,26 +1,33 @@
-//! What is known of the terminal while a row is written.
+//! The pen: the cursor and the style of the terminal while a row is written, as far as known.
 ghost use Rattle.std.specs.Prelude.{◌≡◌, ◌<◌, ◌^◌, ◌++◌, IfOk, OnOk, string_bytes};
 ghost use Rattle.std.specs.List.{flat_map};
-ghost use Rattle.scm_terminal.specs.Painting.{is_set, moves, sets, new_pen, pen_after, place_commands};
+ghost use Rattle.scm_terminal.specs.Painting.{
+  is_style_set,
+  move_commands,
+  style_commands,
+  new_pen,
+  pen_after,
+  cell_commands,
+};
 ghost use Rattle.scm_terminal.specs.Terminal.{bytes_of};
 
-use crate::place::Place;
 use crate::style::{Style, push_style};
+use crate::styled_cell::StyledCell;
 use std::alloc::AllocError;
 
-/// What is known of the terminal before a place is written.
+/// The cursor and the style of the terminal before a cell is written, as far as known.
 #[derive(Clone, Copy)]
 pub(crate) struct Pen {
-    /// Whether the cursor is at that place.
+    /// Whether the cursor is known to be at that cell.
     is_there: bool,
 
-    /// The style that is set, if known.
+    /// The style in which the terminal writes, if known.
     style: Option<Style>,
 }
 
-/// Returns whether `style` is set already.
-fn is_set(set: Option<Style>, style: Style) -> bool
-    ensures { result ≡ is_set set style }
+/// Returns whether `style` is `set`, the terminal's current style, if known.
+fn is_style_set(set: Option<Style>, style: Style) -> bool
+    ensures { result ≡ is_style_set set style }
 {
     match set {
         None => false,
@@ -28,12 +35,13 @@ fn is_set(set: Option<Style>, style: Style) -> bool
     }
 }
 
-/// Adds the bytes that move the cursor to `row` and `column`, counted from 0, unless it is there.
+/// Unless `is_there`, appends the bytes that move the cursor to `row` and `column`, both counted
+/// from 0.
 #[tactic(auto, unfolding(crate::specs::Terminal::bytes_of))]
 fn push_move(text: &mut String, is_there: bool, row: usize, column: usize) -> Result<(), AllocError>
     requires row { row < 2 ^ 16 }
     requires column { column < 2 ^ 16 }
-    ensures { let commands = moves is_there row column in
+    ensures { let commands = move_commands is_there row column in
         OnOk result (string_bytes text.new ≡ string_bytes text.old ++ flat_map bytes_of commands) }
 {
     if is_there {
@@ -45,13 +53,13 @@ fn push_move(text: &mut String, is_there: bool, row: usize, column: usize) -> Re
     Ok(())
 }
 
-/// Adds the bytes that set `style`, unless it is set.
+/// Unless `set` is `style`, appends the bytes that set `style`.
 #[tactic(auto, unfolding(crate::specs::Terminal::bytes_of))]
 fn push_set(text: &mut String, set: Option<Style>, style: Style) -> Result<(), AllocError>
-    ensures { let commands = sets set style in
+    ensures { let commands = style_commands set style in
         OnOk result (string_bytes text.new ≡ string_bytes text.old ++ flat_map bytes_of commands) }
 {
-    if is_set(set, style) {
+    if is_style_set(set, style) {
         return Ok(());
     }
     push_style(text, style)?;
@@ -59,7 +67,7 @@ fn push_set(text: &mut String, set: Option<Style>, style: Style) -> Result<(), A
 }
 
 impl Pen {
-    /// Makes the pen of the beginning of a row: nothing is known.
+    /// Makes the pen at the beginning of a row: nothing is known.
     pub(crate) fn new() -> Pen
         ensures { result ≡ new_pen }
     {
@@ -69,28 +77,30 @@ impl Pen {
         }
     }
 
-    /// Adds the bytes of the place at `row` and `column`, and returns the pen after it.
+    /// Appends the bytes that write `cell` at `row` and `column`, both counted from 0. Returns the
+    /// pen after it.
     #[tactic(auto, unfolding(crate::specs::Terminal::bytes_of))]
-    pub(crate) fn push_place(
+    pub(crate) fn push_cell(
         self,
         text: &mut String,
         row: usize,
         column: usize,
-        place: &Place,
+        cell: &StyledCell,
     ) -> Result<Pen, AllocError>
         requires row { row < 2 ^ 16 }
         requires column { column < 2 ^ 16 }
-        ensures pen { IfOk result (λ p. p ≡ pen_after self place.now) }
-        ensures bytes { let commands = place_commands row column self place.now 0 in OnOk result
+        ensures pen { IfOk result (λ p. p ≡ pen_after self cell.now) }
+        ensures bytes { let commands = cell_commands row column self cell.now 0 in OnOk result
             (string_bytes text.new ≡ string_bytes text.old ++ flat_map bytes_of commands) }
     {
-        let Some(symbol) = place.symbol() else {
+        let Some(symbol) = cell.symbol() else {
             return Ok(Pen {
                 is_there: false,
                 style: self.style,
             });
         };
-        let style = place.style();
+        let style = cell.style();
+        // `&`: one branch for the prover
         let is_there = self.is_there & (symbol.len() == 1);
         push_move(text, is_there, row, column)?;
         push_set(text, self.style, style)?;

@@ -1,75 +1,75 @@
-//! One row of the last picture.
+//! One row of a painter's last picture, and the bytes that write it.
 ghost use Rattle.std.specs.Prelude.{◌≡◌, ◌↔◌, ◌<◌, ◌≤◌, ◌^◌, ◌++◌, IsTrue, IfOk, OnOk, true, false, length, string_bytes};
 ghost use Rattle.std.specs.List.{flat_map};
 ghost use Rattle.scm_terminal.specs.Painting.{IsUpdate, line_commands};
-ghost use Rattle.scm_terminal.specs.Place.{styled_row};
+ghost use Rattle.scm_terminal.specs.StyledCell.{styled_row};
 ghost use Rattle.scm_terminal.specs.RowView.{line_of};
 ghost use Rattle.scm_terminal.specs.Terminal.{bytes_of};
 
 use crate::pen::Pen;
-use crate::place::Place;
 use crate::style::Styles;
+use crate::styled_cell::StyledCell;
 use scm_cells::Grid;
 use std::alloc::{AllocError, Global};
 
-/// One row of the last picture.
+/// One row of a painter's last picture.
 #[derive(Drop)]
 pub(crate) struct Row {
-    /// The columns of the row.
-    pub(crate) places: Vec<Place>,
+    /// The columns of the row, from the left.
+    pub(crate) cells: Vec<StyledCell>,
 
-    /// Whether the row has to be written.
+    /// Whether the next paint writes the row.
     pub(crate) is_changed: bool,
 }
 
-/// Returns whether the places show row `row` of `grid` in `styles`.
-fn is_showing<S: Styles>(places: &[Place], grid: &Grid, styles: &S, row: usize) -> bool
-    requires { length places.now ≡ grid.now.width }
-    ensures { IsTrue result ↔ (places.now ≡ styled_row (S.styled styles.now) grid.now row) }
+/// Returns whether `cells` show row `row` of `grid` in `styles`.
+fn is_showing<S: Styles>(cells: &[StyledCell], grid: &Grid, styles: &S, row: usize) -> bool
+    requires { length cells.now ≡ grid.now.width }
+    ensures { IsTrue result ↔ (cells.now ≡ styled_row (S.styled styles.now) grid.now row) }
 {
-    for (column, place) in places.iter().enumerate() {
-        if !place.is_showing(grid.symbol(row, column), styles.style(row, column)) {
+    for (column, cell) in cells.iter().enumerate() {
+        if !cell.is_showing(grid.symbol(row, column), styles.style(row, column)) {
             return false;
         }
     }
     true
 }
 
-/// Makes the places show row `row` of `grid` in `styles`.
+/// Sets `cells` to row `row` of `grid` in `styles`.
 fn show<S: Styles>(
-    places: &mut [Place],
+    cells: &mut [StyledCell],
     grid: &Grid,
     styles: &S,
     row: usize,
 ) -> Result<(), AllocError>
-    requires { length places.old ≡ grid.now.width }
-    ensures { OnOk result (places.new ≡ styled_row (S.styled styles.now) grid.now row) }
+    requires { length cells.old ≡ grid.now.width }
+    ensures { OnOk result (cells.new ≡ styled_row (S.styled styles.now) grid.now row) }
 {
     let mut column = 0;
-    for place in places.iter_mut() {
-        place.show(grid.symbol(row, column), styles.style(row, column))?;
+    for cell in cells.iter_mut() {
+        cell.show(grid.symbol(row, column), styles.style(row, column))?;
         column += 1;
     }
     Ok(())
 }
 
 impl Row {
-    /// Makes a row of `width` columns.
+    /// Makes a row of `width` columns, marked as changed.
     pub(crate) fn new(alloc: Global, width: usize) -> Result<Row, AllocError>
-        ensures { IfOk result (λ row. length row.places.items ≡ width) }
+        ensures { IfOk result (λ row. length row.cells.items ≡ width) }
     {
-        let mut places = Vec::with_capacity(alloc, width)?;
+        let mut cells = Vec::with_capacity(alloc, width)?;
         for _ in 0..width {
-            places.push(Place::new(alloc))?;
+            cells.push(StyledCell::new(alloc))?;
         }
         Ok(Row {
-            places,
+            cells,
             is_changed: true,
         })
     }
 
-    /// Shows row `row` of `grid` in `styles`. It is marked as changed if it differs or `is_all` is
-    /// set.
+    /// Updates the row to row `row` of `grid` in `styles`. Marks it as changed if it differs, or if
+    /// `is_all`.
     pub(crate) fn update<S: Styles>(
         &mut self,
         grid: &Grid,
@@ -77,25 +77,26 @@ impl Row {
         row: usize,
         is_all: bool,
     ) -> Result<(), AllocError>
-        requires { length self.old.places.items ≡ grid.now.width }
-        ensures places { OnOk result
-            (self.new.places.items ≡ styled_row (S.styled styles.now) grid.now row) }
-        ensures changed { OnOk result (IsUpdate is_all self.old.places.items (line_of self.new)) }
+        requires { length self.old.cells.items ≡ grid.now.width }
+        ensures cells { OnOk result
+            (self.new.cells.items ≡ styled_row (S.styled styles.now) grid.now row) }
+        ensures changed { OnOk result (IsUpdate is_all self.old.cells.items (line_of self.new)) }
     {
-        let is_same = is_showing(self.places.as_slice(), grid, styles, row);
+        let is_same = is_showing(self.cells.as_slice(), grid, styles, row);
         if is_same {
             self.is_changed = is_all;
             return Ok(());
         }
         self.is_changed = true;
-        show(self.places.as_mut_slice(), grid, styles, row)?;
+        show(self.cells.as_mut_slice(), grid, styles, row)?;
         Ok(())
     }
 
-    /// Adds the bytes of the whole row to `text`, if it is marked as changed.
+    /// If the row is marked as changed, appends the bytes that write it to `text`. `row` is its
+    /// index, counted from 0.
     pub(crate) fn push(&self, text: &mut String, row: usize) -> Result<(), AllocError>
         requires row { row < 2 ^ 16 }
-        requires columns { length self.now.places.items < 2 ^ 16 }
+        requires columns { length self.now.cells.items < 2 ^ 16 }
         ensures { let commands = line_commands row (line_of self.now) in OnOk result
             (string_bytes text.new ≡ string_bytes text.old ++ flat_map bytes_of commands) }
     {
@@ -103,8 +104,8 @@ impl Row {
             return Ok(());
         }
         let mut pen = Pen::new();
-        for (column, place) in self.places.iter().enumerate() {
-            pen = pen.push_place(text, row, column, place)?;
+        for (column, cell) in self.cells.iter().enumerate() {
+            pen = pen.push_cell(text, row, column, cell)?;
         }
         Ok(())
     }

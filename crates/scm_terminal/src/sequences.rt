@@ -1,4 +1,5 @@
-//! Escape sequences: an escape with `[` or `O`, numbers between semicolons, and a final byte.
+//! Escape sequences: CSI (`ESC [`) or SS3 (`ESC O`), parameters between semicolons, a final byte.
+//! Their meanings are those of xterm's control sequences, as far as the key table needs them.
 ghost use Rattle.std.specs.Prelude.{◌≡◌};
 ghost use Rattle.scm_terminal.specs.Sequences.{
   arrow,
@@ -17,40 +18,41 @@ ghost use Rattle.scm_terminal.specs.Sequences.{
   with_semicolon,
 };
 
-use crate::bytes::{is_digit, is_set};
+use crate::bytes::{has_bit, is_digit};
 use crate::mouse::mouse_event;
 use crate::tokens::Token;
 use scm_input::{KeyCode, KeyEvent, KeyEventKind, KeyModifiers, TerminalEvent};
 
-/// The kinds of escape sequences.
+/// The kind of an escape sequence.
 #[derive(Clone, Copy)]
 pub enum SequenceKind {
-    /// `ESC [`.
-    Bracket,
-    /// `ESC O`.
-    Single,
-    /// `ESC [ <`: a mouse report.
+    /// A control sequence: `ESC [` (CSI).
+    Csi,
+    /// A key of application mode: `ESC O` (SS3).
+    Ss3,
+    /// A mouse report in xterm's SGR form: `ESC [ <`.
     Mouse,
     /// A sequence that is not recognized.
     Unknown,
 }
 
-/// An unfinished sequence: its kind, and its last three numbers.
+/// An unfinished escape sequence: its kind, and its last three parameters. A parameter that is
+/// left out is 0.
 #[derive(Clone, Copy)]
 pub struct Sequence {
     /// The kind of the sequence.
     pub kind: SequenceKind,
-    /// How many semicolons it has so far, two at most.
+    /// The number of semicolons so far, at most 2.
     pub semicolons: u8,
-    /// The number before `second`, if there are two semicolons.
+    /// The parameter before `second`, if there are two semicolons.
     pub first: u16,
-    /// The number before `last`, if there is a semicolon.
+    /// The parameter before `last`, if there is a semicolon.
     pub second: u16,
-    /// The last number so far.
+    /// The last parameter so far.
     pub last: u16,
 }
 
-/// Makes a sequence with no number yet.
+/// Makes a sequence of `kind` without parameters.
 #[tactic(auto, unfolding(crate::specs::Sequences::new_sequence))]
 pub(crate) fn new_sequence(kind: SequenceKind) -> Sequence
     ensures { result ≡ new_sequence kind }
@@ -64,17 +66,18 @@ pub(crate) fn new_sequence(kind: SequenceKind) -> Sequence
     }
 }
 
-/// Returns whether `sequence` is `ESC [` with no number, or with a zero.
+/// Returns whether `sequence` is `ESC [` with no parameter, or with zeros alone.
 fn is_blank(sequence: Sequence) -> bool
     ensures { result ≡ is_blank sequence }
 {
     match sequence.kind {
-        SequenceKind::Bracket => sequence.semicolons == 0 && sequence.last == 0,
-        SequenceKind::Single | SequenceKind::Mouse | SequenceKind::Unknown => false,
+        SequenceKind::Csi => sequence.semicolons == 0 && sequence.last == 0,
+        SequenceKind::Ss3 | SequenceKind::Mouse | SequenceKind::Unknown => false,
     }
 }
 
-/// Adds the parameter byte `byte` to `sequence`.
+/// Adds the parameter byte `byte` to `sequence`: a digit, a semicolon or a leading `<`. Any other
+/// byte makes the sequence unknown.
 #[tactic(auto, unfolding(crate::specs::Sequences::with_parameter))]
 pub(crate) fn with_parameter(sequence: Sequence, byte: u8) -> Sequence
     ensures { result ≡ with_parameter sequence byte }
@@ -96,7 +99,7 @@ pub(crate) fn with_parameter(sequence: Sequence, byte: u8) -> Sequence
     }
 }
 
-/// Adds a digit to the last number of `sequence`.
+/// Adds `digit` to the last parameter of `sequence`. A parameter above 65,535 makes it unknown.
 fn with_digit(sequence: Sequence, digit: u8) -> Sequence
     ensures { result ≡ with_digit sequence digit }
 {
@@ -114,7 +117,7 @@ fn with_digit(sequence: Sequence, digit: u8) -> Sequence
     }
 }
 
-/// Adds a semicolon to `sequence`.
+/// Adds a semicolon to `sequence`. A third semicolon makes it unknown.
 fn with_semicolon(sequence: Sequence) -> Sequence
     ensures { result ≡ with_semicolon sequence }
 {
@@ -134,7 +137,8 @@ fn with_semicolon(sequence: Sequence) -> Sequence
     }
 }
 
-/// Returns how many bytes after the final byte `last` belong to `sequence`.
+/// Returns the number of bytes after the final byte `last` that belong to `sequence`: 3 in xterm's
+/// old mouse report `ESC [ M`, 1 in a function key `ESC [ [` of the Linux console.
 #[tactic(auto, unfolding(crate::specs::Sequences::trailing_bytes))]
 pub(crate) fn trailing_bytes(sequence: Sequence, last: u8) -> u8
     ensures { result ≡ trailing_bytes sequence last }
@@ -156,14 +160,14 @@ pub(crate) fn token_of(sequence: Sequence, last: u8) -> Token
     ensures { result ≡ token_of sequence last }
 {
     match sequence.kind {
-        SequenceKind::Bracket => key_token(sequence, last),
-        SequenceKind::Single => named_key(sequence, arrow(key_number(sequence), last)),
+        SequenceKind::Csi => key_token(sequence, last),
+        SequenceKind::Ss3 => named_key(sequence, arrow(key_number(sequence), last)),
         SequenceKind::Mouse => mouse_token(sequence, last),
         SequenceKind::Unknown => Token::UNRECOGNIZED,
     }
 }
 
-/// Returns the token of a mouse report.
+/// Returns the token of the mouse report `sequence`: button, column and row, then `M` or `m`.
 fn mouse_token(sequence: Sequence, last: u8) -> Token
     ensures { result ≡ mouse_token sequence last }
 {
@@ -174,7 +178,8 @@ fn mouse_token(sequence: Sequence, last: u8) -> Token
     }
 }
 
-/// Returns the token of a sequence that began with `ESC [`.
+/// Returns the token of the control sequence `sequence` with the final byte `last`: an arrow, a
+/// paging key, or a mark of a bracketed paste.
 fn key_token(sequence: Sequence, last: u8) -> Token
     ensures { result ≡ key_token sequence last }
 {
@@ -190,7 +195,7 @@ fn key_token(sequence: Sequence, last: u8) -> Token
     }
 }
 
-/// Returns the number of the key.
+/// Returns the parameter of `sequence` that is the number of the key.
 fn key_number(sequence: Sequence) -> u16
     ensures { result ≡ key_number sequence }
 {
@@ -201,7 +206,8 @@ fn key_number(sequence: Sequence) -> u16
     }
 }
 
-/// Returns the modifiers of the key.
+/// Returns the modifiers of `sequence`. As in xterm, its last parameter is 1 plus 1 for shift, 2
+/// for alt, 4 for control, and 8 or more for others.
 fn key_modifiers(sequence: Sequence) -> KeyModifiers
     ensures { result ≡ key_modifiers sequence }
 {
@@ -210,15 +216,15 @@ fn key_modifiers(sequence: Sequence) -> KeyModifiers
     } else {
         let bits = sequence.last - 1;
         KeyModifiers {
-            shift: is_set(1, bits),
-            control: is_set(4, bits),
-            alt: is_set(2, bits),
+            shift: has_bit(1, bits),
+            control: has_bit(4, bits),
+            alt: has_bit(2, bits),
             other: 8 <= bits,
         }
     }
 }
 
-/// Returns the arrow key of the final byte `last`, if `number` is 1 or left out.
+/// Returns the arrow key of the final byte `last`, if any and if `number` is at most 1.
 fn arrow(number: u16, last: u8) -> Option<KeyCode>
     ensures { result ≡ arrow number last }
 {
@@ -235,7 +241,7 @@ fn arrow(number: u16, last: u8) -> Option<KeyCode>
     }
 }
 
-/// Returns the paging key with `number`.
+/// Returns the paging key of the parameter `number`, if any.
 fn paging(number: u16) -> Option<KeyCode>
     ensures { result ≡ paging number }
 {
@@ -246,8 +252,8 @@ fn paging(number: u16) -> Option<KeyCode>
     }
 }
 
-/// Returns the token of `key` with the modifiers of `sequence`, if there is a key and at most two
-/// numbers.
+/// Returns the token of `key` with the modifiers of `sequence`. It is unrecognized if there is no
+/// key, or if the sequence has three parameters.
 fn named_key(sequence: Sequence, key: Option<KeyCode>) -> Token
     ensures { result ≡ named_key sequence key }
 {

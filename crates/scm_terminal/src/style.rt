@@ -1,7 +1,14 @@
-//! Styles of symbols, and the bytes that set them.
+//! Styles of symbols, and the bytes that set them: the SGR parameters of ECMA-48.
 ghost use Rattle.std.specs.Prelude.{◌≡◌, ◌≤◌, ℕ, ◌++◌, OnOk, Some, string_bytes, true};
 ghost use Rattle.scm_terminal.specs.declared.style.Style.{Style};
-ghost use Rattle.scm_terminal.specs.Style.{bit, colour_code, style_code, colour_bytes, text_if, style_bytes};
+ghost use Rattle.scm_terminal.specs.Style.{
+  bit,
+  colour_code,
+  style_code,
+  colour_bytes,
+  text_if,
+  style_bytes,
+};
 
 use std::alloc::AllocError;
 
@@ -26,26 +33,30 @@ pub enum Colour {
     White,
 }
 
-/// How a symbol is shown. `Style::PLAIN.bold().coloured(Colour::Red)` is bold red.
+/// The colour and attributes of a symbol.
+///
+/// `Style::PLAIN.bold().coloured(Colour::Red)` is bold and red.
 #[derive(Clone, Copy, Debug, Eq, PartialEq)]
 pub struct Style {
     /// The colour of the symbol, or `None` for the terminal's own.
     pub colour: Option<Colour>,
 
-    /// Whether it is bold.
+    /// Whether the symbol is bold.
     pub bold: bool,
 
-    /// Whether it is dim.
+    /// Whether the symbol is dim.
     pub dim: bool,
 
-    /// Whether a line is drawn under it.
+    /// Whether the symbol is underlined.
     pub underlined: bool,
 
     /// Whether the colours of the symbol and of its background are exchanged.
     pub reversed: bool,
 }
 
-/// Gives each place of a screen its style.
+/// The style of each place of a screen.
+///
+/// An implementation that returns `Style::PLAIN` everywhere paints in the terminal's own colours.
 pub trait Styles {
     ghost styled: { Self → ℕ → ℕ → Style };
 
@@ -54,7 +65,7 @@ pub trait Styles {
         ensures { result ≡ styled self.now row column };
 }
 
-/// Returns the number of a colour: 0 for the terminal's own, else 1 to 8.
+/// Returns the number of `colour`: 0 for the terminal's own colour, and otherwise 1 to 8.
 fn colour_code(colour: Option<Colour>) -> u8
     ensures value { result ≡ colour_code colour }
     ensures bound { result ≤ 8 }
@@ -72,16 +83,16 @@ fn colour_code(colour: Option<Colour>) -> u8
     }
 }
 
-/// Returns 1 if `is_set`, and else 0.
-fn bit(is_set: bool) -> u8
-    ensures value { result ≡ bit is_set }
+/// Returns 1 if `is_on`, and otherwise 0.
+fn bit(is_on: bool) -> u8
+    ensures value { result ≡ bit is_on }
     ensures bound { result ≤ 1 }
 {
-    if is_set { 1 } else { 0 }
+    if is_on { 1 } else { 0 }
 }
 
 impl Style {
-    /// The terminal's own colour, and no flag.
+    /// The terminal's own colour, without attributes.
     pub const PLAIN: Style = Style {
         colour: None,
         bold: false,
@@ -90,7 +101,7 @@ impl Style {
         reversed: false,
     };
 
-    /// Returns this style in `colour`.
+    /// Returns this style with the colour `colour`.
     pub fn coloured(self, colour: Colour) -> Style
         ensures { result ≡ record self { colour = Some colour } }
     {
@@ -100,21 +111,21 @@ impl Style {
         }
     }
 
-    /// Returns this style, bold.
+    /// Returns this style with bold set.
     pub fn bold(self) -> Style
         ensures { result ≡ record self { bold = true } }
     {
         Style { bold: true, ..self }
     }
 
-    /// Returns this style, dim.
+    /// Returns this style with dim set.
     pub fn dim(self) -> Style
         ensures { result ≡ record self { dim = true } }
     {
         Style { dim: true, ..self }
     }
 
-    /// Returns this style, underlined.
+    /// Returns this style with underlined set.
     pub fn underlined(self) -> Style
         ensures { result ≡ record self { underlined = true } }
     {
@@ -124,7 +135,7 @@ impl Style {
         }
     }
 
-    /// Returns this style, reversed.
+    /// Returns this style with reversed set.
     pub fn reversed(self) -> Style
         ensures { result ≡ record self { reversed = true } }
     {
@@ -134,7 +145,7 @@ impl Style {
         }
     }
 
-    /// Returns a number below 256 that tells this style from all others.
+    /// Returns the number of the style, below 256. Two styles with the same number are equal.
     #[tactic(auto, unfolding(crate::specs::Style::style_code))]
     pub(crate) fn code(self) -> u8
         ensures { result ≡ style_code self }
@@ -145,7 +156,7 @@ impl Style {
     }
 }
 
-/// Returns the part of a style's bytes that sets the colour.
+/// Returns the SGR parameter of `colour` with its semicolon, or nothing for the terminal's own.
 fn colour_text(colour: Option<Colour>) -> &'static str
     ensures { result.now ≡ colour_bytes colour }
 {
@@ -162,14 +173,14 @@ fn colour_text(colour: Option<Colour>) -> &'static str
     }
 }
 
-/// Returns `text` if `is_set`, and else nothing.
-fn text_if(is_set: bool, text: &'static str) -> &'static str
-    ensures { result.now ≡ text_if is_set text.now }
+/// Returns `text` if `is_on`, and otherwise nothing.
+fn text_if(is_on: bool, text: &'static str) -> &'static str
+    ensures { result.now ≡ text_if is_on text.now }
 {
-    if is_set { text } else { "" }
+    if is_on { text } else { "" }
 }
 
-/// Adds the bytes that reset the style before and set `style`.
+/// Appends the bytes that set `style`: an SGR sequence that resets the previous style first.
 #[tactic(auto, unfolding(crate::specs::Style::style_bytes))]
 pub(crate) fn push_style(text: &mut String, style: Style) -> Result<(), AllocError>
     ensures { OnOk result (string_bytes text.new ≡ string_bytes text.old ++ style_bytes style) }

@@ -1,18 +1,18 @@
-//! Tokens: what the bytes of a key, a character or a sequence stand for.
+//! Tokens: the meaning of the bytes of one key, character, escape sequence or control string.
 use scm_input::TerminalEvent;
 
-/// A token of the input.
+/// The meaning of one token.
 #[derive(Clone, Copy)]
 pub enum Token {
     /// A key or mouse event.
     Event(TerminalEvent),
-    /// The mark before a paste.
+    /// The start mark of a bracketed paste, `ESC [ 200 ~`.
     PasteBegins,
-    /// The mark after a paste.
+    /// The end mark of a bracketed paste, `ESC [ 201 ~`.
     PasteEnds,
 }
 
 impl Token {
-    /// A token that is not recognized.
+    /// The token of bytes that are not recognized: the event `Other`.
     pub(crate) const UNRECOGNIZED: Token = Token::Event(TerminalEvent::Other);
 }

@@ -32,7 +32,7 @@ map-modify view f g [] i e = refl
 map-modify view f g (x ∷ xs) zero e = ap (λ y. y ∷ map view xs) (e x)
 map-modify view f g (x ∷ xs) (suc i) e = ap (λ ys. view x ∷ ys) (map-modify view f g xs i e)
 
--- likewise for a write
+-- the same for a write
 pub map-slice_set : {A B : Type 0} (view : A → B) (g : B → B) (xs : List A) (i : ℕ) (d w : A) → i < length xs → view w ≡ g (view (get_or xs i d)) → map view (slice_set xs i w) ≡ modify g (map view xs) i
 map-slice_set view g [] i d w h e = absurd (omega arith)
 map-slice_set view g (x ∷ xs) zero d w h e = ap (λ y. y ∷ map view xs) e

@@ -1,7 +1,7 @@
 -- The limits of the code are those of the definitions, and leave room.
 use Rattle.std.proofs.Common.{◌≡◌, ◌≤◌, ◌^◌, refl, arith}
-use Rattle.scm_types.specs.declared.state.TheConstants.RecordState.{MAX_ITEMS, MAX_SCROLL}
-use Rattle.scm_types.specs.Limits.{max_items, max_scroll}
+use Rattle.scm_types.specs.declared.state.TheConstants.RecordState.{MAX_ITEMS, MAX_SCROLL, MAX_TEXT}
+use Rattle.scm_types.specs.Limits.{max_items, max_scroll, max_text}
 
 pub items_limit : MAX_ITEMS ≡ max_items
 unfolding max_items
@@ -10,6 +10,9 @@ items_limit = refl
 pub scroll_limit : MAX_SCROLL ≡ max_scroll
 unfolding max_items max_scroll
 scroll_limit = refl
+
+pub text_limit : MAX_TEXT ≡ max_text
+text_limit = refl
 
 -- sums of many such numbers are far from the ends of an integer: what compares with these bounds doesn't open the definitions
 pub items_room : max_items ≤ 2 ^ 40

@@ -11,7 +11,7 @@ use Rattle.scm_types.specs.declared.section.Section.TheVariants.{Unchanged, Chan
 use Rattle.scm_types.specs.declared.file.File.{File}
 use Rattle.scm_types.specs.declared.split.SelectedContents.TheVariants as contents
 use Rattle.scm_types.specs.Split.{takes, takes_change, is_binary, tail_of, section_lines, side_lines, last_binary_change, side_contents, is_emptied}
-use Rattle.scm_types.specs.Laws.{FileLine, Context, Change, line_text, lines_of_section, stands_in, joined_lines, has_binary, KeepsEveryLine, counted}
+use Rattle.scm_types.specs.Laws.{FileLine, Context, Change, line_text, lines_of_section, is_in_side, joined_lines, has_binary, KeepsEveryLine, unchanged_as_empty}
 use Rattle.scm_types.proofs.LawLemmas.{counted_text}
 
 -- exactly one side takes a changed line
@@ -23,28 +23,28 @@ takes_change-other Removed false = refl
 takes-other : (l : SectionChangedLine) → takes false l ≡ not (takes true l)
 takes-other l = takes_change-other l.change_type l.is_checked
 
-context_lines : (side : Bool) (texts : List (List ℕ)) → map line_text (filter (stands_in side) (map Context texts)) ≡ texts
+context_lines : (side : Bool) (texts : List (List ℕ)) → map line_text (filter (is_in_side side) (map Context texts)) ≡ texts
 context_lines side [] = refl
 context_lines side (t ∷ ts) = ap (λ ls. t ∷ ls) (context_lines side ts)
 
-changed_lines : (side : Bool) (ls : List SectionChangedLine) → map line_text (filter (stands_in side) (map Change ls)) ≡ map (λ (l : SectionChangedLine). l.line) (filter (takes side) ls)
+changed_lines : (side : Bool) (ls : List SectionChangedLine) → map line_text (filter (is_in_side side) (map Change ls)) ≡ map (λ (l : SectionChangedLine). l.line) (filter (takes side) ls)
 changed_lines side [] = refl
-changed_lines side (l ∷ ls) = picked (takes side l) (filter (stands_in side) (map Change ls)) (filter (takes side) ls) (changed_lines side ls)
+changed_lines side (l ∷ ls) = picked (takes side l) (filter (is_in_side side) (map Change ls)) (filter (takes side) ls) (changed_lines side ls)
   where
     picked : (b : Bool) (xs : List FileLine) (ys : List SectionChangedLine) → map line_text xs ≡ map (λ (l : SectionChangedLine). l.line) ys → map line_text (cond b (Change l ∷ xs) xs) ≡ map (λ (l : SectionChangedLine). l.line) (cond b (l ∷ ys) ys)
     picked true xs ys e = ap (λ (zs : List (List ℕ)). l.line ∷ zs) e
     picked false xs ys e = e
 
-section_lines-stand : (side : Bool) (s : Section) → map line_text (filter (stands_in side) (lines_of_section s)) ≡ section_lines side s
+section_lines-stand : (side : Bool) (s : Section) → map line_text (filter (is_in_side side) (lines_of_section s)) ≡ section_lines side s
 section_lines-stand side (Unchanged lines) = context_lines side lines
 section_lines-stand side (Changed lines) = changed_lines side lines
 section_lines-stand side (FileMode c m) = refl
 section_lines-stand side (Binary c old new) = refl
 
-lines-stand : (side : Bool) (ss : List Section) → map line_text (filter (stands_in side) (flat_map lines_of_section ss)) ≡ flat_map (section_lines side) ss
+lines-stand : (side : Bool) (ss : List Section) → map line_text (filter (is_in_side side) (flat_map lines_of_section ss)) ≡ flat_map (section_lines side) ss
 lines-stand side [] = refl
 lines-stand side (s ∷ ss) =
-    rw (filter-append (stands_in side) (lines_of_section s) (flat_map lines_of_section ss), map-append line_text (filter (stands_in side) (lines_of_section s)) (filter (stands_in side) (flat_map lines_of_section ss)), section_lines-stand side s, lines-stand side ss) refl
+    rw (filter-append (is_in_side side) (lines_of_section s) (flat_map lines_of_section ss), map-append line_text (filter (is_in_side side) (lines_of_section s)) (filter (is_in_side side) (flat_map lines_of_section ss)), section_lines-stand side s, lines-stand side ss) refl
 
 tail-without : (ss : List Section) → list_any is_binary ss ≡ false → tail_of ss ≡ ss
 tail-without [] e = refl
@@ -60,7 +60,7 @@ last_binary-without (Changed lines ∷ ss) e = rw (last_binary-without ss e) ref
 last_binary-without (FileMode c m ∷ ss) e = rw (last_binary-without ss e) refl
 last_binary-without (Binary c old new ∷ ss) e = cc
 
-contents-joined : (side : Bool) (file : File) → has_binary file ≡ false → counted (side_contents side file) ≡ contents.Text (joined_lines side file)
+contents-joined : (side : Bool) (file : File) → has_binary file ≡ false → unchanged_as_empty (side_contents side file) ≡ contents.Text (joined_lines side file)
 contents-joined side file e =
     rw (last_binary-without file.sections e) (counted_text (is_emptied side file) (side_lines side file) ∙ ap (λ ls. contents.Text (concat ls)) (ap (λ ss. flat_map (section_lines side) ss) (tail-without file.sections e) ∙ sym (lines-stand side file.sections)))
 

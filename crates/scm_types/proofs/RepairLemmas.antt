@@ -9,7 +9,7 @@ use Rattle.scm_types.specs.declared.section.Section.{Section}
 use Rattle.scm_types.specs.declared.section.Section.TheVariants as sections
 use Rattle.scm_types.specs.declared.file.File.{File}
 use Rattle.scm_types.specs.Mode.{is_absent}
-use Rattle.scm_types.specs.Repair.{RepairMakesCoherent, is_deletion, is_new_and_deleted, repaired, some_line, with_creation, with_deletion_unchecked, with_mode_checked, without_deletion}
+use Rattle.scm_types.specs.Repair.{RepairMakesCoherent, is_deletion, is_new_and_deleted, file_after_repair, some_line, with_creation, with_deletion_unchecked, with_mode_checked, without_deletion}
 use Rattle.scm_types.specs.Same.{is_checked_deletion, is_unchecked_creation, line_marks}
 use Rattle.scm_types.proofs.FitLemmas.{any_map, none_map, every_line, is_on, Fits, FitsFile, fits_from, coherent_from, deletion_gone, creation_checked, deletion_before}
 
@@ -136,7 +136,7 @@ second_fits false mode ss e pure on = record {
   off = λ a t. no_line (λ b. b) not on_off ss (and_second (is_absent mode) (some_line (λ b. b) ss) e a);
 }
 
-pub repaired_fits : (file : File) → is_new_and_deleted file ≡ false → FitsFile (repaired file)
+pub repaired_fits : (file : File) → is_new_and_deleted file ≡ false → FitsFile (file_after_repair file)
 repaired_fits file pure =
     let first = without_deletion file.sections in
     let u = some_line not file.sections in
@@ -170,6 +170,6 @@ sections_left mode ss pure fits =
 
 pub repair_makes_coherent : (file : File) → is_new_and_deleted file ≡ false → RepairMakesCoherent file
 repair_makes_coherent file pure = record {
-  coherent = coherent_from (repaired file) (repaired_fits file pure);
+  coherent = coherent_from (file_after_repair file) (repaired_fits file pure);
   unchanged = λ h. ap (λ ss. record file { sections = ss }) (sections_left file.file_mode file.sections pure (fits_from file h));
 }

@@ -1,26 +1,26 @@
 -- The definitions that contracts cite, in reading order.
 
--- the mode of a file: whether it is there, and what it prints
+-- the mode of a file, and how it prints
 pub mod Mode
--- the marks of a section and of a file, and what setting them changes
+-- the marks of a section and of a file
 pub mod Marks
--- the two sides of a file: what is selected, and what is not
+-- the split of a file into two sides
 pub mod Split
--- what a toggle does to the sides, and where each line goes
+-- the laws of the marks and of the split
 pub mod Laws
--- the limits within which a state is accepted
+-- the limits of a state
 pub mod Limits
--- states that differ in marks and messages alone, and files whose marks fit each other
+-- states that are equal but for marks and messages, and files whose marks fit each other
 pub mod Same
--- what a repair makes of a file, so that its marks fit each other
+-- the repair of a file, after which its marks fit each other
 pub mod Repair
--- a change of one element of a list
+-- the change of one element of a list
 pub mod Edits
--- what a list ends as, once a borrow of its elements is over
+-- the final value of a list after a borrow of its elements ends
 pub mod Lending
--- on the way through a list: the marks that were met
+-- the marks seen so far in a list
 pub mod Seen
--- on the way through a list: the lines that were joined
+-- texts joined from lines
 pub mod Joined
--- the keys that a key lies in, whether two keys are the same, and whether a list has a key
+-- keys: their parts and what they lie in, equal keys, and keys in a list
 pub mod Keys

@@ -1,4 +1,4 @@
-//! A file with its changes, and their marks.
+//! A file with its changes and their marks.
 ghost use Rattle.std.specs.Prelude.{◌≡◌, not};
 ghost use Rattle.scm_types.specs.Marks.{file_marks, file_with_marks, tristate_of};
 
@@ -18,26 +18,26 @@ pub struct File<'a> {
     /// The path.
     pub path: Text<'a>,
 
-    /// The mode before any change.
+    /// The mode before the changes.
     pub file_mode: FileMode,
 
-    /// The sections, in the order in which they stand in the file.
+    /// The sections, in the order of the file.
     pub sections: Items<Section<'a>>,
 }
 
 impl<'a> File<'a> {
-    /// How many of the items of all sections are checked.
+    /// Returns whether none, some or all items of the file are checked.
     pub fn tristate(&self) -> Tristate
         ensures { result ≡ tristate_of (file_marks self.now) }
     {
         let mut seen = Seen::none();
         for section in self.sections.iter() {
-            seen = section.seen(seen);
+            seen = section.add_marks_to(seen);
         }
         seen.tristate()
     }
 
-    /// Checks every item of the file, or unchecks every one. All else stays.
+    /// Sets the mark of every item of the file to `checked`.
     pub fn set_checked(&mut self, checked: bool)
         ensures { self.new ≡ file_with_marks (λ _. checked) self.old }
     {
@@ -46,7 +46,7 @@ impl<'a> File<'a> {
         }
     }
 
-    /// Inverts the mark of every item of the file. All else stays.
+    /// Inverts the mark of every item of the file.
     pub fn toggle_all(&mut self)
         ensures { self.new ≡ file_with_marks not self.old }
     {

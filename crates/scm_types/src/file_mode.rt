@@ -1,4 +1,4 @@
-//! The mode of a file.
+//! The mode of a file: absent, or the bits of Unix.
 ghost use Rattle.std.specs.Prelude.{◌≡◌, ◌≤ℤ◌, pos, unsigned_abs, Some, Ok};
 ghost use Rattle.std.specs.Result.{OkIff};
 ghost use Rattle.scm_types.specs.declared.file_mode.FileMode.TheVariants.{Unix};
@@ -11,18 +11,18 @@ use std::num::TryFromIntError;
 /// The mode of a file.
 #[derive(Clone, Copy, Debug, PartialEq, Eq, PartialOrd, Ord, Hash, Serialize, Deserialize)]
 pub enum FileMode {
-    /// There is a file, with these bits of Unix.
+    /// The file exists, with these bits of Unix.
     Unix(usize),
 
-    /// There is no file.
+    /// The file does not exist.
     Absent,
 }
 
 impl FileMode {
-    /// The usual mode of a file: its owner may read and write it, all others may read it.
+    /// The usual mode of a file: its owner can read and write it, all others can read it.
     pub const FILE_DEFAULT: FileMode = FileMode::Unix(0o100644);
 
-    /// There is no file.
+    /// Returns whether the file does not exist.
     pub fn is_absent(self) -> bool
         ensures { result ≡ is_absent self }
     {
@@ -33,7 +33,7 @@ impl FileMode {
     }
 }
 
-/// The octal digits of the mode, or `<absent>`.
+/// Prints the octal digits of the mode, or `<absent>`.
 impl fmt::Display for FileMode {
     ghost output = { λ mode. Some (mode_text mode) };
 
@@ -53,7 +53,7 @@ impl From<usize> for FileMode {
     }
 }
 
-/// It always succeeds.
+/// Converts bits of Unix. It always succeeds.
 impl TryFrom<u32> for FileMode {
     type Error = TryFromIntError;
 
@@ -64,7 +64,7 @@ impl TryFrom<u32> for FileMode {
     }
 }
 
-/// It refuses exactly the negative numbers.
+/// Converts bits of Unix. It fails exactly for negative numbers.
 impl TryFrom<i32> for FileMode {
     type Error = TryFromIntError;
 

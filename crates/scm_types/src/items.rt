@@ -1,4 +1,4 @@
-//! The lists of a state.
+//! The lists of a state, as slices.
 ghost use Rattle.std.specs.Prelude.{◌≡◌, ◌<◌, ◌↔◌, ◌==◌, ◌++◌, ◌-◌, ◌∷◌, ◌^◌, [], List, length, IfErr, IfOk, IfSome, IsSome, is_ok, if◌then◌else◌, slice_get, slice_index_or};
 ghost use Rattle.std.specs.Option.{option_copied, option_to_list};
 ghost use Rattle.std.specs.Cmp.Lexicographic.{pointwise, lists_per, lists_equiv};
@@ -17,8 +17,8 @@ use std::{slice, vec};
 
 /// A list of the state: a `Vec` that contracts see as the list of its elements.
 ///
-/// It is made from a `Vec` and gives it back without taking memory, and it is read and changed
-/// as a slice. Elements are counted from 0.
+/// It converts from and to a `Vec` without an allocation, and derefs to a slice. Indexes are
+/// counted from 0.
 #[derive(Debug, Drop)]
 pub struct Items<T> {
     inner: Vec<T>,
@@ -33,7 +33,7 @@ impl<T> Model for Items<T> {
 }
 
 impl<T> Items<T> {
-    /// A list without elements. It takes no memory.
+    /// Returns an empty list, without an allocation.
     pub fn new(alloc: Global) -> Self
         ensures { result ≡ [] }
     {
@@ -42,7 +42,10 @@ impl<T> Items<T> {
         }
     }
 
-    /// A list without elements, with room for so many.
+    /// Returns an empty list with room for `capacity` elements.
+    ///
+    /// # Errors
+    /// `AllocError`: an allocation failed.
     pub fn with_capacity(alloc: Global, capacity: usize) -> Result<Self, AllocError>
         ensures { IfOk result (λ items. items ≡ []) }
     {
@@ -50,28 +53,28 @@ impl<T> Items<T> {
         Ok(Items { inner })
     }
 
-    /// How many elements there are.
+    /// Returns the number of elements.
     pub fn len(&self) -> usize
         ensures { result ≡ length self.now }
     {
         self.inner.len()
     }
 
-    /// There is no element.
+    /// Returns whether the list has no elements.
     pub fn is_empty(&self) -> bool
         ensures { result ≡ (length self.now == 0) }
     {
         self.inner.is_empty()
     }
 
-    /// The elements.
+    /// Returns the elements.
     pub fn as_slice(&self) -> &[T]
         ensures { result.now ≡ self.now }
     {
         self.inner.as_slice()
     }
 
-    /// The elements, to be changed in place.
+    /// Borrows the elements to change them in place.
     pub fn as_mut_slice(&mut self) -> &mut [T]
         ensures* writes_back { sem 𝓛 (lends_slice T.row self.entry result) }
         ensures value { result.now ≡ self.old }
@@ -79,14 +82,14 @@ impl<T> Items<T> {
         self.inner.as_mut_slice()
     }
 
-    /// The element at an index, if there is one.
+    /// Returns the element at `index`, if there is one.
     pub fn get(&self, index: usize) -> Option<&T>
         ensures { option_copied result ≡ slice_get self.now index }
     {
         self.as_slice().get(index)
     }
 
-    /// The element at an index, if there is one, to be changed in place.
+    /// Borrows the element at `index`, if there is one, to change it in place.
     pub fn get_mut(&mut self, index: usize) -> Option<&mut T>
         ensures* writes_back { sem 𝓛 (lends_item_if T.row self.entry index result) }
         ensures variant { IsSome result ↔ (index < length self.old) }
@@ -95,15 +98,17 @@ impl<T> Items<T> {
         self.inner.get_mut(index)
     }
 
-    /// The last element, if there is one.
+    /// Returns the last element, if there is one.
     pub fn last(&self) -> Option<&T>
         ensures { option_copied result ≡ slice_get self.now (length self.now - 1) }
     {
         self.as_slice().last()
     }
 
-    /// Adds an element at the end. Without memory for it the list stays as it was, and the error
-    /// gives the element back.
+    /// Adds `value` at the end.
+    ///
+    /// # Errors
+    /// `AllocFailed`: an allocation failed; the list is unchanged, and the error returns `value`.
     pub fn push(&mut self, value: T) -> Result<(), AllocFailed<T>>
         ensures items { self.new ≡ (if is_ok result then self.old ++ value ∷ [] else self.old) }
         ensures value_returned { IfErr result (λ error. error.value ≡ value) }
@@ -111,7 +116,7 @@ impl<T> Items<T> {
         self.inner.push(value)
     }
 
-    /// Takes the last element out, if there is one.
+    /// Removes and returns the last element, if there is one.
     pub fn pop(&mut self) -> Option<T>
         ensures items { self.old ≡ self.new ++ option_to_list result }
         ensures variant { IsSome result ↔ (0 < length self.old) }
@@ -119,7 +124,7 @@ impl<T> Items<T> {
         self.inner.pop()
     }
 
-    /// The elements as the `Vec` in which they stand.
+    /// Returns the elements as a `Vec`, without an allocation.
     pub fn into_inner(self) -> Vec<T>
         ensures { result.items ≡ self }
     {
@@ -190,19 +195,23 @@ impl<'a, T> IntoIterator for &'a Items<T> {
     }
 }
 
-/// A loop that is to be reasoned about goes over `iter_mut()`.
+/// In proved code, loop over `iter_mut()` instead: its contract is easier to use.
 impl<'a, T> IntoIterator for &'a mut Items<T> {
     type Item = &'a mut T;
 
     type IntoIter = slice::IterMut<'a, T>;
 
-    ghost into_iter_gives = { λ xs it. (iter_mut_rest it ≡ xs.now) × (length (iter_mut_rest it) < 2 ^ 64)
-        × EveryRun (iter_mut_steps {A = T}) (λ p. ItemsMapTo p (λ x. x.now) (iter_mut_rest p.from)) };
+    ghost into_iter_gives = { λ xs it. (iter_mut_rest it ≡ xs.now)
+        × (length (iter_mut_rest it) < 2 ^ 64)
+        × EveryRun (iter_mut_steps {A = T})
+        (λ p. ItemsMapTo p (λ x. x.now) (iter_mut_rest p.from)) };
 
     fn into_iter(self) -> slice::IterMut<'a, T>
         ensures* writes_back { sem 𝓛 (lends_iter T.row self.entry result) }
-        ensures into_iter_gives { (iter_mut_rest result ≡ self.old) × (length (iter_mut_rest result) < 2 ^ 64)
-            × EveryRun (iter_mut_steps {A = T}) (λ p. ItemsMapTo p (λ x. x.now) (iter_mut_rest p.from)) }
+        ensures into_iter_gives { (iter_mut_rest result ≡ self.old)
+            × (length (iter_mut_rest result) < 2 ^ 64)
+            × EveryRun (iter_mut_steps {A = T})
+            (λ p. ItemsMapTo p (λ x. x.now) (iter_mut_rest p.from)) }
     {
         self.as_mut_slice().iter_mut()
     }
@@ -214,7 +223,8 @@ impl<T: Drop> IntoIterator for Items<T> {
     type IntoIter = vec::IntoIter<T>;
 
     ghost into_iter_gives = { λ xs it. (into_iter_items it ≡ xs) × (into_iter_len it < 2 ^ 64)
-        × EveryRun (into_iter_steps {X = T} {Z = Global}) (λ p. ItemsAre p (into_iter_items p.from)) };
+        × EveryRun (into_iter_steps {X = T} {Z = Global})
+        (λ p. ItemsAre p (into_iter_items p.from)) };
 
     fn into_iter(self) -> vec::IntoIter<T> {
         self.into_inner().into_iter()
@@ -235,7 +245,7 @@ impl<T: Drop> FromIterator<T> for Items<T> {
     }
 }
 
-/// Adds elements at the end. Without memory for one, those that came before it are added.
+/// Adds elements at the end. If an allocation fails, the elements before it are added.
 impl<T: Drop> Extend<T> for Items<T> {
     ghost extend_gives = { λ old xs new. new ≡ old ++ xs };
 

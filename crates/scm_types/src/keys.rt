@@ -1,44 +1,44 @@
-//! The keys by which files, sections and lines are selected, folded and toggled.
+//! Keys that name files, sections and lines, to select, fold and toggle them.
 ghost use Rattle.std.specs.Prelude.{◌≡◌};
-ghost use Rattle.scm_types.specs.Keys.{file_of, file_of_line, file_of_section, is_key, section_key_of, section_of_line};
+ghost use Rattle.scm_types.specs.Keys.{file_of, file_of_line, file_of_section, is_key, line_key_of, section_key_of, section_of_line};
 
-/// A file of a commit's view. Both indexes count from 0.
+/// The key of a file in a commit's view. Indexes are counted from 0.
 #[derive(Clone, Copy, Debug, PartialEq, Eq, PartialOrd, Ord, Hash)]
 pub struct FileKey {
-    /// The commit whose view it is.
+    /// The index of the commit in the state.
     pub commit_idx: usize,
-    /// The file in the state.
+    /// The index of the file in the state.
     pub file_idx: usize,
 }
 
-/// A section of a file. All indexes count from 0.
+/// The key of a section of a file. Indexes are counted from 0.
 #[derive(Clone, Copy, Debug, PartialEq, Eq, PartialOrd, Ord, Hash)]
 pub struct SectionKey {
-    /// The commit whose view it is.
+    /// The index of the commit in the state.
     pub commit_idx: usize,
-    /// The file in the state.
+    /// The index of the file in the state.
     pub file_idx: usize,
-    /// The section in the file.
+    /// The index of the section in the file.
     pub section_idx: usize,
 }
 
-/// A line of a section. All indexes count from 0.
+/// The key of a line of a section. Indexes are counted from 0.
 #[derive(Clone, Copy, Debug, PartialEq, Eq, PartialOrd, Ord, Hash)]
 pub struct LineKey {
-    /// The commit whose view it is.
+    /// The index of the commit in the state.
     pub commit_idx: usize,
-    /// The file in the state.
+    /// The index of the file in the state.
     pub file_idx: usize,
-    /// The section in the file.
+    /// The index of the section in the file.
     pub section_idx: usize,
-    /// The line in the section.
+    /// The index of the line in the section.
     pub line_idx: usize,
 }
 
-/// What is selected.
+/// The key of what is selected.
 #[derive(Clone, Copy, Debug, Default, PartialEq, Eq, PartialOrd, Ord, Hash)]
 pub enum SelectionKey {
-    /// Nothing, as where there are no files.
+    /// Nothing, for example if there are no files.
     #[default]
     None,
     /// A file.
@@ -50,7 +50,7 @@ pub enum SelectionKey {
 }
 
 impl FileKey {
-    /// A section of the file, by its index from 0.
+    /// Returns the key of section `section_idx` of this file, counted from 0.
     pub fn section(self, section_idx: usize) -> SectionKey
         ensures { result ≡ section_key_of self section_idx }
     {
@@ -63,7 +63,7 @@ impl FileKey {
 }
 
 impl SectionKey {
-    /// The file that the section is in.
+    /// Returns the key of the section's file.
     pub fn file(self) -> FileKey
         ensures { result ≡ file_of_section self }
     {
@@ -72,10 +72,23 @@ impl SectionKey {
             file_idx: self.file_idx,
         }
     }
+
+    /// Returns the key of line `line` of this section, counted from 0.
+    pub fn line(self, line: usize) -> LineKey
+        ensures { result ≡ line_key_of self line }
+    {
+        let section = self.section_idx;
+        LineKey {
+            commit_idx: self.commit_idx,
+            file_idx: self.file_idx,
+            section_idx: section,
+            line_idx: line,
+        }
+    }
 }
 
 impl LineKey {
-    /// The section that the line is in.
+    /// Returns the key of the line's section.
     pub fn section(self) -> SectionKey
         ensures { result ≡ section_of_line self }
     {
@@ -86,7 +99,7 @@ impl LineKey {
         }
     }
 
-    /// The file that the line is in.
+    /// Returns the key of the line's file.
     pub fn file(self) -> FileKey
         ensures { result ≡ file_of_line self }
     {
@@ -95,7 +108,7 @@ impl LineKey {
 }
 
 impl SelectionKey {
-    /// The file that is selected or that holds what is selected, and `None` where nothing is.
+    /// Returns the key of the file that this key names or lies in, or `None` for `None`.
     pub fn file(self) -> SelectionKey
         ensures { result ≡ file_of self }
     {
@@ -107,7 +120,7 @@ impl SelectionKey {
     }
 }
 
-/// Whether two keys are the same. It is `==`, with a contract that says so in one word.
+/// Returns whether `key` and `other` are equal: `==` with a short contract.
 pub fn is_key(key: SelectionKey, other: SelectionKey) -> bool
     ensures { result ≡ is_key key other }
 {

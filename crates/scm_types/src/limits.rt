@@ -1,4 +1,4 @@
-//! The limits within which a state is accepted.
+//! Tests that a state is within its limits.
 ghost use Rattle.std.specs.Prelude.{◌≡◌, ◌≤◌, ◌+◌, ◌-◌, length, nat_le, sum_by};
 ghost use Rattle.std.specs.List.{list_all};
 ghost use Rattle.std.specs.Option.{SomeIff};
@@ -7,33 +7,30 @@ ghost use Rattle.scm_types.specs.Limits.{file_size, has_short_texts, has_short_t
 use crate::file::File;
 use crate::line::SectionChangedLine;
 use crate::section::Section;
-use crate::state::Commit;
+use crate::state::{Commit, RecordState};
 use crate::text::{OwnedText, Text};
 
-/// How many bytes a text may have.
-const MAX_TEXT: usize = 1_000_000;
-
-/// The text is within its limit, if there is one.
+/// Returns whether `text` is within the limit, or `None`.
 fn is_short_option(text: &Option<Text<'_>>) -> bool
     ensures { result ≡ is_short_option text.now }
 {
     match text {
-        Some(text) => text.len() <= MAX_TEXT,
+        Some(text) => text.len() <= RecordState::MAX_TEXT,
         None => true,
     }
 }
 
-/// Likewise, of a message.
+/// Returns whether the message `text` is within the limit, or `None`.
 fn is_short_message(text: &Option<OwnedText>) -> bool
     ensures { result ≡ is_short_option text.now }
 {
     match text {
-        Some(text) => text.len() <= MAX_TEXT,
+        Some(text) => text.len() <= RecordState::MAX_TEXT,
         None => true,
     }
 }
 
-/// Each message is within its limit.
+/// Returns whether each message is within the limit.
 pub(crate) fn has_short_messages(commits: &[Commit]) -> bool
     ensures { result ≡ list_all (λ c. is_short_option c.message) commits.now }
 {
@@ -42,21 +39,23 @@ pub(crate) fn has_short_messages(commits: &[Commit]) -> bool
         .all(|commit| is_short_message(&commit.message))
 }
 
-/// Each line of context is within its limit.
+/// Returns whether each context line is within the limit.
 fn has_short_lines(lines: &[Text<'_>]) -> bool
     ensures { result ≡ list_all is_short_text lines.now }
 {
-    lines.iter().all(|line| line.len() <= MAX_TEXT)
+    lines.iter().all(|line| line.len() <= RecordState::MAX_TEXT)
 }
 
-/// Each changed line is within its limit.
+/// Returns whether each changed line is within the limit.
 fn has_short_changed_lines(lines: &[SectionChangedLine<'_>]) -> bool
     ensures { result ≡ list_all (λ l. is_short_text l.line) lines.now }
 {
-    lines.iter().all(|line| line.line.len() <= MAX_TEXT)
+    lines
+        .iter()
+        .all(|line| line.line.len() <= RecordState::MAX_TEXT)
 }
 
-/// Each text of the section is within its limit.
+/// Returns whether each text of the section is within the limit.
 fn has_short_texts(section: &Section<'_>) -> bool
     ensures { result ≡ has_short_texts section.now }
 {
@@ -68,34 +67,37 @@ fn has_short_texts(section: &Section<'_>) -> bool
             old_description,
             new_description,
             ..
-        } => is_short_option(old_description) & is_short_option(new_description),
+        } => {
+            // `&`: one branch for the prover
+            is_short_option(old_description) & is_short_option(new_description)
+        }
     }
 }
 
-/// Each text of the sections is within its limit.
+/// Returns whether each text of the sections is within the limit.
 fn has_short_texts_in_sections(sections: &[Section<'_>]) -> bool
     ensures { result ≡ list_all has_short_texts sections.now }
 {
     sections.iter().all(|section| has_short_texts(section))
 }
 
-/// Each text of the file is within its limit.
+/// Returns whether each text of the file is within the limit.
 fn has_short_texts_in_file(file: &File<'_>) -> bool
     ensures { result ≡ has_short_texts_in_file file.now }
 {
     is_short_option(&file.old_path)
-        && file.path.len() <= MAX_TEXT
+        && file.path.len() <= RecordState::MAX_TEXT
         && has_short_texts_in_sections(file.sections.as_slice())
 }
 
-/// Each text of the files is within its limit.
+/// Returns whether each text of the files is within the limit.
 pub(crate) fn has_short_texts_in_files(files: &[File<'_>]) -> bool
     ensures { result ≡ list_all has_short_texts_in_file files.now }
 {
     files.iter().all(|file| has_short_texts_in_file(file))
 }
 
-/// How many lines the section has.
+/// Returns the number of the section's lines.
 fn section_size(section: &Section<'_>) -> usize
     ensures { result ≡ section_size section.now }
 {
@@ -106,7 +108,7 @@ fn section_size(section: &Section<'_>) -> usize
     }
 }
 
-/// What is left of a room for items after those of the file.
+/// Returns `room` minus the numbers of the file's sections and lines, or `None` if it is too small.
 fn room_after_file(room: usize, file: &File<'_>) -> Option<usize>
     ensures { SomeIff result (file_size file.now ≤ room) (room - file_size file.now) }
 {
@@ -117,7 +119,7 @@ fn room_after_file(room: usize, file: &File<'_>) -> Option<usize>
     Some(left)
 }
 
-/// The files, with their sections and lines, number at most the room.
+/// Returns whether there are at most `room` files, sections and lines together.
 pub(crate) fn fits(room: usize, files: &[File<'_>]) -> bool
     ensures { result ≡ nat_le (length files.now + sum_by file_size files.now) room }
 {

@@ -1,35 +1,35 @@
-//! The lines of a change.
+//! The changed lines of a section.
 ghost use Rattle.std.specs.Prelude.{◌≡◌, true, false, not};
 ghost use Rattle.scm_types.specs.Split.{takes};
 
 use crate::text::Text;
 use serde::{Deserialize, Serialize};
 
-/// What was done to a line.
+/// The kind of change of a line.
 #[derive(Clone, Copy, Debug, PartialEq, Eq, PartialOrd, Ord, Hash, Serialize, Deserialize)]
 pub enum ChangeType {
-    /// The line is new.
+    /// The line was added.
     Added,
 
-    /// The line is no longer there.
+    /// The line was removed.
     Removed,
 }
 
 /// A changed line.
 #[derive(Debug, Drop, PartialEq, Eq, Serialize, Deserialize)]
 pub struct SectionChangedLine<'a> {
-    /// The change is selected.
+    /// Whether the change is selected.
     pub is_checked: bool,
 
-    /// What was done to the line.
+    /// Whether the line was added or removed.
     pub change_type: ChangeType,
 
-    /// The line, with its line end.
+    /// The text of the line, with its line end.
     pub line: Text<'a>,
 }
 
 impl<'a> SectionChangedLine<'a> {
-    /// The line stands in the text of the selected side, and else in that of the other side.
+    /// Returns whether the line is in the text of the selected side, and not of the other side.
     pub(crate) fn is_selected(&self) -> bool
         ensures selected { result ≡ takes true self.now }
         ensures unselected { result ≡ not (takes false self.now) }

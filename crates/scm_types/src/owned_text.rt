@@ -1,4 +1,4 @@
-//! The texts that a state owns.
+//! Owned texts of a state.
 ghost use Rattle.std.specs.Prelude.{◌≡◌, ◌==◌, ℕ, List, length, Some, nat_eq, refl};
 ghost use Rattle.std.specs.Ordering.{nat_cmp};
 ghost use Rattle.std.specs.Hash as fed;
@@ -17,10 +17,10 @@ use std::hash::{Hash, Hasher};
 use std::marker::Model;
 use std::ops::DerefStr;
 
-/// An owned text, that contracts see as its bytes.
+/// An owned text that contracts see as its bytes.
 ///
-/// It is made from a `String` and gives it back without taking memory, and it is read as a
-/// `&str`. Lengths are counted in bytes of UTF-8.
+/// It converts from and to a `String` without an allocation, and derefs to a `&str`. Lengths are
+/// in bytes of UTF-8.
 #[derive(Debug, Drop)]
 pub struct OwnedText {
     inner: String,
@@ -33,28 +33,28 @@ impl Model for OwnedText {
 }
 
 impl OwnedText {
-    /// The text.
+    /// Returns the text.
     pub fn as_str(&self) -> &str
         ensures { result.now ≡ self.now }
     {
         self.inner.as_str()
     }
 
-    /// How many bytes there are.
+    /// Returns the length, in bytes.
     pub fn len(&self) -> usize
         ensures { result ≡ length self.now }
     {
         self.inner.len()
     }
 
-    /// There is no byte.
+    /// Returns whether the text is empty.
     pub fn is_empty(&self) -> bool
         ensures { result ≡ (length self.now == 0) }
     {
         self.inner.is_empty()
     }
 
-    /// The text as the `String` in which it stands.
+    /// Returns the text as a `String`, without an allocation.
     pub fn into_inner(self) -> String
         ensures { string_bytes result ≡ self }
     {

@@ -1,8 +1,7 @@
-//! The repair of a file's marks: what was checked and unchecked without regard to the rest of the
-//! file is made to fit again.
+//! The repair of a file's marks: it makes them fit each other after some were toggled alone.
 ghost use Rattle.std.specs.Prelude.{◌≡◌, map, not};
 ghost use Rattle.std.specs.List.{list_any};
-ghost use Rattle.scm_types.specs.Repair.{repaired, some_line, with_creation, with_deletion_unchecked, with_mode_checked, without_deletion};
+ghost use Rattle.scm_types.specs.Repair.{file_after_repair, some_line, with_creation, with_deletion_unchecked, with_mode_checked, without_deletion};
 ghost use Rattle.scm_types.specs.Same.{line_marks};
 
 use crate::file::File;
@@ -10,21 +9,21 @@ use crate::file_mode::FileMode;
 use crate::line::SectionChangedLine;
 use crate::section::Section;
 
-/// Some of these lines is unchecked.
+/// Returns whether some of `lines` is unchecked.
 fn is_some_unchecked(lines: &[SectionChangedLine<'_>]) -> bool
     ensures { result ≡ list_any (λ line. not line.is_checked) lines.now }
 {
     lines.iter().any(|line| !line.is_checked)
 }
 
-/// Some of these lines is checked.
+/// Returns whether some of `lines` is checked.
 fn is_some_checked(lines: &[SectionChangedLine<'_>]) -> bool
     ensures { result ≡ list_any (λ line. line.is_checked) lines.now }
 {
     lines.iter().any(|line| line.is_checked)
 }
 
-/// Some changed line of the section is unchecked.
+/// Returns whether some changed line of the section is unchecked.
 fn has_unchecked_line(section: &Section<'_>) -> bool
     ensures { result ≡ list_any not (line_marks section.now) }
 {
@@ -34,7 +33,7 @@ fn has_unchecked_line(section: &Section<'_>) -> bool
     }
 }
 
-/// Some changed line of the section is checked.
+/// Returns whether some changed line of the section is checked.
 fn has_checked_line(section: &Section<'_>) -> bool
     ensures { result ≡ list_any (λ b. b) (line_marks section.now) }
 {
@@ -44,21 +43,21 @@ fn has_checked_line(section: &Section<'_>) -> bool
     }
 }
 
-/// Some changed line is unchecked.
+/// Returns whether some changed line of the sections is unchecked.
 fn is_some_line_unchecked(sections: &[Section<'_>]) -> bool
     ensures { result ≡ some_line not sections.now }
 {
     sections.iter().any(|section| has_unchecked_line(section))
 }
 
-/// Some changed line is checked.
+/// Returns whether some changed line of the sections is checked.
 fn is_some_line_checked(sections: &[Section<'_>]) -> bool
     ensures { result ≡ some_line (λ b. b) sections.now }
 {
     sections.iter().any(|section| has_checked_line(section))
 }
 
-/// Unchecks the section, if it is a deletion of the file.
+/// Unchecks the section if it deletes the file.
 fn uncheck_deletion(section: &mut Section<'_>)
     ensures { section.new ≡ with_deletion_unchecked section.old }
 {
@@ -72,7 +71,7 @@ fn uncheck_deletion(section: &mut Section<'_>)
     }
 }
 
-/// Checks the section, if it changes the mode.
+/// Checks the section if it changes the mode.
 fn check_mode(section: &mut Section<'_>)
     ensures { section.new ≡ with_mode_checked section.old }
 {
@@ -84,7 +83,7 @@ fn check_mode(section: &mut Section<'_>)
     }
 }
 
-/// Unchecks every deletion of the file.
+/// Unchecks every section that deletes the file.
 pub fn uncheck_deletions(sections: &mut [Section<'_>])
     ensures { sections.new ≡ map with_deletion_unchecked sections.old }
 {
@@ -93,7 +92,7 @@ pub fn uncheck_deletions(sections: &mut [Section<'_>])
     }
 }
 
-/// Checks every change of the mode.
+/// Checks every section that changes the mode.
 pub fn check_modes(sections: &mut [Section<'_>])
     ensures { sections.new ≡ map with_mode_checked sections.old }
 {
@@ -102,7 +101,7 @@ pub fn check_modes(sections: &mut [Section<'_>])
     }
 }
 
-/// Unchecks every deletion, where some changed line is unchecked.
+/// Unchecks every deletion if some changed line is unchecked.
 fn mend_deletions(sections: &mut [Section<'_>])
     ensures { sections.new ≡ without_deletion sections.old }
 {
@@ -111,10 +110,11 @@ fn mend_deletions(sections: &mut [Section<'_>])
     }
 }
 
-/// Checks every change of the mode, where a file of this mode is new and some changed line is checked.
+/// Checks every mode change if some changed line is checked and `mode` is absent: the file is new.
 fn mend_creation(mode: FileMode, sections: &mut [Section<'_>])
     ensures { sections.new ≡ with_creation mode sections.old }
 {
+    // `&`: one branch for the prover
     let is_made = mode.is_absent() & is_some_line_checked(sections);
     if is_made {
         check_modes(sections);
@@ -122,11 +122,13 @@ fn mend_creation(mode: FileMode, sections: &mut [Section<'_>])
 }
 
 impl<'a> File<'a> {
-    /// Makes the marks fit each other. First, where some changed line is unchecked, each change of
-    /// the mode to [`FileMode::Absent`] is unchecked; then, where the file's own mode is that and
-    /// some changed line is checked, each change of the mode is checked. All else stays.
+    /// Makes the marks of the file fit each other, in two steps.
+    ///
+    /// First, if some changed line is unchecked, unchecks each mode change to
+    /// [`FileMode::Absent`]. Then, if the file's own mode is absent and some changed line is
+    /// checked, checks each mode change.
     pub fn repair(&mut self)
-        ensures { self.new ≡ repaired self.old }
+        ensures { self.new ≡ file_after_repair self.old }
     {
         mend_deletions(self.sections.as_mut_slice());
         mend_creation(self.file_mode, self.sections.as_mut_slice());

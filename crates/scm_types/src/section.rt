@@ -1,4 +1,4 @@
-//! The sections of a file, and their marks.
+//! The sections of a file and their marks.
 ghost use Rattle.std.specs.Prelude.{◌≡◌, not};
 ghost use Rattle.scm_types.specs.Marks.{is_editable_section, section_marks, section_with_marks, tristate_of};
 ghost use Rattle.scm_types.specs.Seen.{with_marks};
@@ -10,19 +10,19 @@ use crate::text::Text;
 use crate::tristate::{Seen, Tristate};
 use serde::{Deserialize, Serialize};
 
-/// A part of a file.
+/// A section of a file.
 ///
-/// Its items, the things that can be checked, are the changed lines of `Changed`, and `FileMode`
-/// and `Binary` themselves. `Unchanged` has none.
+/// Its items, each with a checkbox, are the changed lines of `Changed`, and `FileMode` and
+/// `Binary` themselves. `Unchanged` has none.
 #[derive(Debug, Drop, PartialEq, Eq, Serialize, Deserialize)]
 pub enum Section<'a> {
-    /// Lines of context.
+    /// Context lines.
     Unchanged {
         /// The lines, with their line ends.
         lines: Items<Text<'a>>,
     },
 
-    /// Changed lines, each with a mark.
+    /// Changed lines, each with its mark.
     Changed {
         /// The lines, with their line ends.
         lines: Items<SectionChangedLine<'a>>,
@@ -30,28 +30,28 @@ pub enum Section<'a> {
 
     /// A change of the file's mode.
     FileMode {
-        /// The change is selected.
+        /// Whether the change is selected.
         is_checked: bool,
 
         /// The mode after the change.
         mode: FileMode,
     },
 
-    /// A change of contents that are no text.
+    /// A change of binary contents.
     Binary {
-        /// The change is selected.
+        /// Whether the change is selected.
         is_checked: bool,
 
-        /// What is shown for the contents before.
+        /// The text shown for the old contents.
         old_description: Option<Text<'a>>,
 
-        /// What is shown for the contents after.
+        /// The text shown for the new contents.
         new_description: Option<Text<'a>>,
     },
 }
 
 impl<'a> Section<'a> {
-    /// The section is of a kind that has items: all but `Unchanged` are.
+    /// Returns whether the section is of a kind with items: any but `Unchanged`.
     pub fn is_editable(&self) -> bool
         ensures { result ≡ is_editable_section self.now }
     {
@@ -61,15 +61,15 @@ impl<'a> Section<'a> {
         }
     }
 
-    /// How many of the section's items are checked.
+    /// Returns whether none, some or all items of the section are checked.
     pub fn tristate(&self) -> Tristate
         ensures { result ≡ tristate_of (section_marks self.now) }
     {
-        self.seen(Seen::none()).tristate()
+        self.add_marks_to(Seen::none()).tristate()
     }
 
-    /// The section's marks, after those that were met before.
-    pub(crate) fn seen(&self, before: Seen) -> Seen
+    /// Returns `before` with the marks of the section added.
+    pub(crate) fn add_marks_to(&self, before: Seen) -> Seen
         ensures { result ≡ with_marks before (section_marks self.now) }
     {
         match self {
@@ -87,7 +87,7 @@ impl<'a> Section<'a> {
         }
     }
 
-    /// Checks every item of the section, or unchecks every one. All else stays.
+    /// Sets the mark of every item of the section to `checked`.
     pub fn set_checked(&mut self, checked: bool)
         ensures { self.new ≡ section_with_marks (λ _. checked) self.old }
     {
@@ -107,7 +107,7 @@ impl<'a> Section<'a> {
         }
     }
 
-    /// Inverts the mark of every item of the section. All else stays.
+    /// Inverts the mark of every item of the section.
     pub fn toggle_all(&mut self)
         ensures { self.new ≡ section_with_marks not self.old }
     {

@@ -1,7 +1,7 @@
-//! The texts of the two sides of a split, while they are put together.
+//! Joins the texts of the two sides of a split.
 ghost use Rattle.std.specs.Prelude.{◌≡◌, IfOk, OnOk, true, false, [], ◌∷◌};
 ghost use Rattle.std.specs.List.{flat_map};
-ghost use Rattle.scm_types.specs.Joined.{joined, joined_after, nothing_joined};
+ghost use Rattle.scm_types.specs.Joined.{text_of_lines, with_lines, no_lines};
 ghost use Rattle.scm_types.specs.Split.{changed_lines, section_lines};
 
 use crate::line::SectionChangedLine;
@@ -10,10 +10,13 @@ use crate::text::Text;
 use std::alloc::{AllocError, Global};
 use std::marker::Model;
 
-/// The lines of a side, one after another, and whether there is one.
+/// The lines of a side, joined.
 #[derive(Drop)]
 pub(crate) struct SideText {
+    /// The lines, joined.
     pub(crate) text: String,
+
+    /// Whether there is a line, which can be empty.
     pub(crate) has_line: bool,
 }
 
@@ -27,9 +30,9 @@ impl Model for SideText {
 }
 
 impl SideText {
-    /// No line.
+    /// Returns a text without lines.
     pub(crate) fn new(alloc: Global) -> SideText
-        ensures { result ≡ nothing_joined }
+        ensures { result ≡ no_lines }
     {
         SideText {
             text: String::new(alloc),
@@ -37,9 +40,9 @@ impl SideText {
         }
     }
 
-    /// Adds a line at the end.
+    /// Adds `line` at the end.
     fn push(&mut self, line: &Text<'_>) -> Result<(), AllocError>
-        ensures { OnOk result (self.new ≡ joined_after self.old (line.now ∷ [])) }
+        ensures { OnOk result (self.new ≡ with_lines self.old (line.now ∷ [])) }
     {
         self.text.push_str(line.as_str())?;
         self.has_line = true;
@@ -47,14 +50,14 @@ impl SideText {
     }
 }
 
-/// Both sides take lines of context.
+/// Adds context lines to both sides.
 fn push_context(
     lines: &[Text<'_>],
     selected: &mut SideText,
     unselected: &mut SideText,
 ) -> Result<(), AllocError>
-    ensures selected { OnOk result (selected.new ≡ joined_after selected.old lines.now) }
-    ensures unselected { OnOk result (unselected.new ≡ joined_after unselected.old lines.now) }
+    ensures selected { OnOk result (selected.new ≡ with_lines selected.old lines.now) }
+    ensures unselected { OnOk result (unselected.new ≡ with_lines unselected.old lines.now) }
 {
     for line in lines {
         selected.push(line)?;
@@ -63,14 +66,16 @@ fn push_context(
     Ok(())
 }
 
-/// One side takes a changed line.
+/// Adds each changed line to its side.
 fn push_changes(
     lines: &[SectionChangedLine<'_>],
     selected: &mut SideText,
     unselected: &mut SideText,
 ) -> Result<(), AllocError>
-    ensures selected { OnOk result (selected.new ≡ joined_after selected.old (changed_lines true lines.now)) }
-    ensures unselected { OnOk result (unselected.new ≡ joined_after unselected.old (changed_lines false lines.now)) }
+    ensures selected { OnOk result
+        (selected.new ≡ with_lines selected.old (changed_lines true lines.now)) }
+    ensures unselected { OnOk result
+        (unselected.new ≡ with_lines unselected.old (changed_lines false lines.now)) }
 {
     for line in lines {
         if line.is_selected() {
@@ -82,14 +87,16 @@ fn push_changes(
     Ok(())
 }
 
-/// The sides take the lines of a section that they have.
+/// Adds the lines of a section to their sides.
 fn push_section(
     section: &Section<'_>,
     selected: &mut SideText,
     unselected: &mut SideText,
 ) -> Result<(), AllocError>
-    ensures selected { OnOk result (selected.new ≡ joined_after selected.old (section_lines true section.now)) }
-    ensures unselected { OnOk result (unselected.new ≡ joined_after unselected.old (section_lines false section.now)) }
+    ensures selected { OnOk result
+        (selected.new ≡ with_lines selected.old (section_lines true section.now)) }
+    ensures unselected { OnOk result
+        (unselected.new ≡ with_lines unselected.old (section_lines false section.now)) }
 {
     match section {
         Section::Unchanged { lines } => push_context(lines.as_slice(), selected, unselected),
@@ -98,13 +105,15 @@ fn push_section(
     }
 }
 
-/// The texts of both sides of these sections: the selected one, and the other.
+/// Returns the texts of the selected side and of the other side of `sections`.
 pub(crate) fn join_sides(
     alloc: Global,
     sections: &[Section<'_>],
 ) -> Result<(SideText, SideText), AllocError>
-    ensures selected { IfOk result (λ sides. sides.0 ≡ joined (flat_map (section_lines true) sections.now)) }
-    ensures unselected { IfOk result (λ sides. sides.1 ≡ joined (flat_map (section_lines false) sections.now)) }
+    ensures selected { IfOk result
+        (λ sides. sides.0 ≡ text_of_lines (flat_map (section_lines true) sections.now)) }
+    ensures unselected { IfOk result
+        (λ sides. sides.1 ≡ text_of_lines (flat_map (section_lines false) sections.now)) }
 {
     let mut selected = SideText::new(alloc);
     let mut unselected = SideText::new(alloc);

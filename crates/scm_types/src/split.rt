@@ -1,8 +1,8 @@
-//! The split of a file: what is selected, and what is not.
+//! The split of a file into its selected and its unselected side.
 ghost use Rattle.std.specs.Prelude.{◌≡◌, IfOk, IfErr, true, false, option_and_then};
 ghost use Rattle.std.specs.Option.{option_copied};
 ghost use Rattle.std.specs.List.{list_any};
-ghost use Rattle.scm_types.specs.Joined.{joined};
+ghost use Rattle.scm_types.specs.Joined.{text_of_lines};
 ghost use Rattle.scm_types.specs.Split.{binary_change, has_changed_line, is_binary, is_emptied, last_binary_change, side_lines, side_mode, side_of, tail_of, text_side};
 
 use crate::file::File;
@@ -13,7 +13,7 @@ use crate::text::{OwnedText, Text};
 use scm_errors::RecordError;
 use std::alloc::Global;
 
-/// What one side of a split file holds.
+/// One side of a split file.
 #[derive(Debug, Drop)]
 pub struct SelectedChanges<'a> {
     /// The mode of the file on this side.
@@ -26,34 +26,34 @@ pub struct SelectedChanges<'a> {
 /// The contents of a file on one side of its split.
 #[derive(Debug, Drop, PartialEq, Eq, PartialOrd, Ord, Hash)]
 pub enum SelectedContents<'a> {
-    /// The contents stay as they are: there is nothing to write.
+    /// The contents do not change: there is nothing to write.
     Unchanged,
 
-    /// The contents are bytes, which the file does not hold.
+    /// The contents are binary. The state does not have them.
     Binary {
-        /// What is shown for the contents before.
+        /// The text shown for the old contents.
         old_description: Option<Text<'a>>,
 
-        /// What is shown for the contents after.
+        /// The text shown for the new contents.
         new_description: Option<Text<'a>>,
     },
 
     /// The contents are this text.
     Text {
-        /// The text: the lines of the side, one after another.
+        /// The lines of the side, joined.
         contents: OwnedText,
     },
 }
 
 impl<'a> Section<'a> {
-    /// The section changes bytes.
+    /// Returns whether the section changes binary contents.
     fn is_binary(&self) -> bool
         ensures { result ≡ is_binary self.now }
     {
         matches!(self, Section::Binary { .. })
     }
 
-    /// The section has a changed line.
+    /// Returns whether the section has a changed line.
     fn has_changed_line(&self) -> bool
         ensures { result ≡ has_changed_line self.now }
     {
@@ -64,22 +64,22 @@ impl<'a> Section<'a> {
     }
 }
 
-/// Some section has a changed line.
+/// Returns whether some section has a changed line.
 fn has_changed_line_in(sections: &[Section<'_>]) -> bool
     ensures { result ≡ list_any has_changed_line sections.now }
 {
     sections.iter().any(|section| section.has_changed_line())
 }
 
-/// The same text, borrowed, if there is one.
-fn borrowed<'s>(text: &'s Option<Text<'_>>) -> Option<Text<'s>>
+/// Borrows the text, if there is one.
+fn borrow_text<'s>(text: &'s Option<Text<'_>>) -> Option<Text<'s>>
     ensures { result ≡ text.now }
 {
     text.as_ref().map(|text| text.borrowed())
 }
 
 impl<'a> File<'a> {
-    /// The mode of a side, the selected one or the other.
+    /// Returns the mode of the selected side if `selected`, or of the other side.
     fn side_mode(&self, selected: bool) -> FileMode
         ensures { result ≡ side_mode selected self.now }
     {
@@ -95,7 +95,7 @@ impl<'a> File<'a> {
         self.file_mode
     }
 
-    /// The last binary section, and the sections after it, or all.
+    /// Returns the last binary section and the sections after it, or else all sections.
     fn tail(&self) -> (Option<&Section<'a>>, &[Section<'a>])
         ensures binary { option_and_then binary_change (option_copied result.0)
             ≡ last_binary_change self.now.sections }
@@ -113,7 +113,7 @@ impl<'a> File<'a> {
         (binary, &sections[start..])
     }
 
-    /// A side without lines is the empty text, and not unchanged.
+    /// Returns whether the side is the empty text, and not unchanged, if it has no lines.
     fn is_emptied(&self, tail: &[Section<'a>], selected: bool) -> bool
         requires { tail.now ≡ tail_of self.now.sections }
         ensures { result ≡ is_emptied selected self.now }
@@ -121,10 +121,11 @@ impl<'a> File<'a> {
         let is_there = !self.side_mode(selected).is_absent();
         let was_absent = self.file_mode.is_absent();
         let has_changed_line = has_changed_line_in(tail);
+        // `&` and `|`: one branch for the prover
         is_there & (was_absent | (selected & has_changed_line))
     }
 
-    /// The contents of a side that is no binary one.
+    /// Returns the contents of a side that no binary section replaces.
     fn side_text(
         &self,
         tail: &[Section<'a>],
@@ -132,9 +133,10 @@ impl<'a> File<'a> {
         text: SideText,
     ) -> SelectedContents<'_>
         requires tail { tail.now ≡ tail_of self.now.sections }
-        requires text { text ≡ joined (side_lines selected self.now) }
+        requires text { text ≡ text_of_lines (side_lines selected self.now) }
         ensures { result ≡ text_side (is_emptied selected self.now) (side_lines selected self.now) }
     {
+        // `|`: one branch for the prover
         let is_text = text.has_line | self.is_emptied(tail, selected);
         if is_text {
             SelectedContents::Text {
@@ -145,9 +147,9 @@ impl<'a> File<'a> {
         }
     }
 
-    /// A side, the selected one or the other.
+    /// Returns the selected side if `selected`, or the other side, with its joined lines `text`.
     fn side(&self, selected: bool, text: SideText) -> SelectedChanges<'_>
-        requires { text ≡ joined (side_lines selected self.now) }
+        requires { text ≡ text_of_lines (side_lines selected self.now) }
         ensures { result ≡ side_of selected self.now }
     {
         let (binary, tail) = self.tail();
@@ -163,8 +165,8 @@ impl<'a> File<'a> {
             return SelectedChanges {
                 file_mode: self.side_mode(selected),
                 contents: SelectedContents::Binary {
-                    old_description: borrowed(old_description),
-                    new_description: borrowed(new_description),
+                    old_description: borrow_text(old_description),
+                    new_description: borrow_text(new_description),
                 },
             };
         }
@@ -174,22 +176,28 @@ impl<'a> File<'a> {
         }
     }
 
-    /// The two sides of the file: what is selected, and what is not.
+    /// Returns the selected and the unselected side of the file.
     ///
-    /// Modes: the first `FileMode` section alone counts. If it is checked, the selected side has
-    /// its mode and the other side the file's; if not, the reverse. Without one both sides have
-    /// the file's mode.
+    /// Modes: only the first `FileMode` section counts. If it is checked, the selected side has
+    /// its mode, and the other side the file's mode. If it is unchecked, the reverse. Without one,
+    /// both sides have the file's mode.
     ///
     /// Contents: only the sections after the last `Binary` section count, or all if there is
-    /// none. The selected side takes, in order, the lines of context, the checked additions and
-    /// the unchecked removals; the other side takes the lines of context, the unchecked additions
-    /// and the checked removals. A side without a line is `Unchanged`, but for two cases where it
-    /// is the empty text: the selected side, if some changed line counts and its mode is not
-    /// `Absent`; and either side whose mode is not `Absent`, if the file's own mode is. A `Binary`
-    /// section that is the last one takes the place of its own side, the selected one if it is
-    /// checked, with its descriptions borrowed.
+    /// none. The selected side is the context lines, the checked additions and the unchecked
+    /// removals, in order. The other side is the context lines, the unchecked additions and the
+    /// checked removals.
     ///
-    /// The time grows with the size of the file alone. It fails only by running out of memory.
+    /// A side without lines is `Unchanged`, with two exceptions that are the empty text:
+    /// - The selected side, if some changed line counts and the side's mode is not `Absent`.
+    /// - Either side whose mode is not `Absent`, if the file's own mode is `Absent`.
+    ///
+    /// The last `Binary` section replaces one side: the selected one if it is checked, else the
+    /// other one. Its descriptions are borrowed.
+    ///
+    /// The time is linear in the size of the file.
+    ///
+    /// # Errors
+    /// `OutOfMemory`: an allocation failed.
     pub fn get_selected_contents(
         &self,
         alloc: Global,

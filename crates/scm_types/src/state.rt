@@ -1,4 +1,4 @@
-//! The state of a selection.
+//! The state of a selection, and its limits.
 ghost use Rattle.std.specs.Prelude.{◌≡◌, [], false};
 ghost use Rattle.scm_types.specs.Limits.{is_accepted_state};
 
@@ -12,31 +12,34 @@ use std::alloc::Global;
 /// The state of a selection.
 #[derive(Debug, Drop, PartialEq, Eq, Serialize, Deserialize)]
 pub struct RecordState<'a> {
-    /// The user cannot change the marks.
+    /// Whether the user cannot change the marks.
     pub is_read_only: bool,
 
-    /// The commits to which the changes go: the first gets what is selected.
+    /// The commits that the changes go to. The first one gets the selected changes.
     pub commits: Items<Commit>,
 
-    /// The files, in the order in which they are shown.
+    /// The files, in the order of display.
     pub files: Items<File<'a>>,
 }
 
-/// A commit, by its message.
+/// A commit to which changes go.
 #[derive(Debug, Default, Drop, PartialEq, Eq, Serialize, Deserialize)]
 pub struct Commit {
-    /// The message. It can be edited where there is one.
+    /// The message, or `None` if there is nothing to edit.
     pub message: Option<OwnedText>,
 }
 
 impl<'a> RecordState<'a> {
-    /// How many files, sections and lines a state may have together.
+    /// The greatest number of files, sections and lines together.
     pub const MAX_ITEMS: usize = 16_000_000;
 
-    /// How many rows of the document may lie above the screen.
+    /// The greatest scroll offset, in rows.
     pub const MAX_SCROLL: usize = 2 * Self::MAX_ITEMS;
 
-    /// A state that is not read-only, without commits and files. It takes no memory.
+    /// The greatest length of a text, in bytes.
+    pub const MAX_TEXT: usize = 1_000_000;
+
+    /// Returns a state without commits and files that is not read-only. It takes no memory.
     pub fn empty(alloc: Global) -> RecordState<'a>
         ensures { result ≡ record { is_read_only = false; commits = []; files = [] } }
     {
@@ -47,11 +50,13 @@ impl<'a> RecordState<'a> {
         }
     }
 
-    /// The state is within the limits: at most two commits; at most [`RecordState::MAX_ITEMS`]
-    /// files, sections and lines together; and at most 1,000,000 bytes in each message, path, old
-    /// path, line and description.
+    /// Returns whether the state is within the limits.
     ///
-    /// Its time grows with the number of files, sections and lines alone, and it takes no memory.
+    /// A state has at most two commits, and at most [`RecordState::MAX_ITEMS`] files, sections and
+    /// lines together. Each message, path, old path, line and description has at most
+    /// [`RecordState::MAX_TEXT`] bytes.
+    ///
+    /// The test is linear in the number of files, sections and lines, and allocates nothing.
     #[tactic(auto, unfolding(crate::specs::Limits::max_items))]
     pub fn is_accepted(&self) -> bool
         ensures { result ≡ is_accepted_state self.now }

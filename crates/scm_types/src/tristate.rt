@@ -1,18 +1,18 @@
-//! How many of some items are checked.
+//! Whether none, some or all of a list of items are checked.
 ghost use Rattle.std.specs.Prelude.{◌≡◌, if◌then◌else◌};
 ghost use Rattle.scm_types.specs.declared.tristate.Tristate.TheVariants as tristate;
 ghost use Rattle.scm_types.specs.Seen.{none_seen, seen_tristate, with_mark};
 
-/// How many of some items are checked.
+/// Whether none, some or all of a list of items are checked.
 #[derive(Clone, Debug, Drop, PartialEq, Eq, PartialOrd, Ord, Hash)]
 pub enum Tristate {
-    /// None of them, also where there is no item.
+    /// No item is checked, or there are no items.
     False,
 
-    /// Some, and not all of them.
+    /// Some items are checked, but not all.
     Partial,
 
-    /// All of them, and there is one.
+    /// All items are checked, and there is at least one.
     True,
 }
 
@@ -28,15 +28,18 @@ impl From<bool> for Tristate {
     }
 }
 
-/// Which marks were met so far.
+/// The marks seen so far in a list.
 #[derive(Clone, Copy)]
 pub(crate) struct Seen {
+    /// Whether a checked item was seen.
     checked: bool,
+
+    /// Whether an unchecked item was seen.
     unchecked: bool,
 }
 
 impl Seen {
-    /// No mark.
+    /// Returns the value before the first mark.
     pub(crate) fn none() -> Seen
         ensures { result ≡ none_seen }
     {
@@ -46,7 +49,7 @@ impl Seen {
         }
     }
 
-    /// One mark more.
+    /// Returns the value after `mark`.
     pub(crate) fn with(self, mark: bool) -> Seen
         ensures { result ≡ with_mark self mark }
     {
@@ -56,7 +59,7 @@ impl Seen {
         }
     }
 
-    /// What these marks make together.
+    /// Returns the tristate of the marks seen.
     pub(crate) fn tristate(self) -> Tristate
         ensures { result ≡ seen_tristate self }
     {

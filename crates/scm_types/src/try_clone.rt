@@ -12,18 +12,24 @@ use crate::text::{OwnedText, Text};
 use scm_errors::RecordError;
 use std::alloc::Global;
 
-/// A type whose values can be copied where there is memory for it.
+/// A copy that can fail for lack of memory.
 ///
-/// Each type of a state has a method `try_clone` of its own too, which needs no import.
+/// Each type of a state also has its own method `try_clone`, which needs no import.
 pub trait TryClone: Sized + Drop {
-    /// A copy that equals its source. It fails only by running out of memory.
+    /// Returns a copy.
+    ///
+    /// # Errors
+    /// `OutOfMemory`: an allocation failed.
     fn try_clone(&self, alloc: Global) -> Result<Self, RecordError>
         ensures ok { IfOk result (λ copy. copy ≡ self.now) }
         ensures err { IfErr result (λ error. error ≡ OutOfMemory) };
 }
 
 impl<'a> Text<'a> {
-    /// A copy that equals the text. It fails only by running out of memory.
+    /// Returns a copy of the text.
+    ///
+    /// # Errors
+    /// `OutOfMemory`: an allocation failed.
     pub fn try_clone(&self, _alloc: Global) -> Result<Text<'a>, RecordError>
         ensures ok { IfOk result (λ copy. copy ≡ self.now) }
         ensures err { IfErr result (λ error. error ≡ OutOfMemory) }
@@ -39,7 +45,10 @@ impl<'a> TryClone for Text<'a> {
 }
 
 impl OwnedText {
-    /// A copy that equals the text. It fails only by running out of memory.
+    /// Returns a copy of the text.
+    ///
+    /// # Errors
+    /// `OutOfMemory`: an allocation failed.
     pub fn try_clone(&self, alloc: Global) -> Result<OwnedText, RecordError>
         ensures ok { IfOk result (λ copy. copy ≡ self.now) }
         ensures err { IfErr result (λ error. error ≡ OutOfMemory) }
@@ -64,7 +73,10 @@ impl<T: TryClone> TryClone for Option<T> {
 }
 
 impl<T: TryClone> Items<T> {
-    /// A copy that equals the list. It fails only by running out of memory.
+    /// Returns a copy of the list.
+    ///
+    /// # Errors
+    /// `OutOfMemory`: an allocation failed.
     pub fn try_clone(&self, alloc: Global) -> Result<Items<T>, RecordError>
         ensures ok { IfOk result (λ copy. copy ≡ self.now) }
         ensures err { IfErr result (λ error. error ≡ OutOfMemory) }
@@ -78,7 +90,10 @@ impl<T: TryClone> Items<T> {
 }
 
 impl<'a> SectionChangedLine<'a> {
-    /// A copy that equals the line. It fails only by running out of memory.
+    /// Returns a copy of the line.
+    ///
+    /// # Errors
+    /// `OutOfMemory`: an allocation failed.
     pub fn try_clone(&self, alloc: Global) -> Result<SectionChangedLine<'a>, RecordError>
         ensures ok { IfOk result (λ copy. copy ≡ self.now) }
         ensures err { IfErr result (λ error. error ≡ OutOfMemory) }
@@ -98,7 +113,10 @@ impl<'a> TryClone for SectionChangedLine<'a> {
 }
 
 impl<'a> Section<'a> {
-    /// A copy that equals the section. It fails only by running out of memory.
+    /// Returns a copy of the section.
+    ///
+    /// # Errors
+    /// `OutOfMemory`: an allocation failed.
     pub fn try_clone(&self, alloc: Global) -> Result<Section<'a>, RecordError>
         ensures ok { IfOk result (λ copy. copy ≡ self.now) }
         ensures err { IfErr result (λ error. error ≡ OutOfMemory) }
@@ -134,7 +152,10 @@ impl<'a> TryClone for Section<'a> {
 }
 
 impl<'a> File<'a> {
-    /// A copy that equals the file. It fails only by running out of memory.
+    /// Returns a copy of the file.
+    ///
+    /// # Errors
+    /// `OutOfMemory`: an allocation failed.
     pub fn try_clone(&self, alloc: Global) -> Result<File<'a>, RecordError>
         ensures ok { IfOk result (λ copy. copy ≡ self.now) }
         ensures err { IfErr result (λ error. error ≡ OutOfMemory) }
@@ -155,7 +176,10 @@ impl<'a> TryClone for File<'a> {
 }
 
 impl Commit {
-    /// A copy that equals the commit. It fails only by running out of memory.
+    /// Returns a copy of the commit.
+    ///
+    /// # Errors
+    /// `OutOfMemory`: an allocation failed.
     pub fn try_clone(&self, alloc: Global) -> Result<Commit, RecordError>
         ensures ok { IfOk result (λ copy. copy ≡ self.now) }
         ensures err { IfErr result (λ error. error ≡ OutOfMemory) }
@@ -173,7 +197,10 @@ impl TryClone for Commit {
 }
 
 impl<'a> RecordState<'a> {
-    /// A copy that equals the state. It fails only by running out of memory.
+    /// Returns a copy of the state.
+    ///
+    /// # Errors
+    /// `OutOfMemory`: an allocation failed.
     pub fn try_clone(&self, alloc: Global) -> Result<RecordState<'a>, RecordError>
         ensures ok { IfOk result (λ copy. copy ≡ self.now) }
         ensures err { IfErr result (λ error. error ≡ OutOfMemory) }
@@ -187,7 +214,10 @@ impl<'a> RecordState<'a> {
 }
 
 impl<'a> SelectedContents<'a> {
-    /// A copy that equals these contents. It fails only by running out of memory.
+    /// Returns a copy of the contents.
+    ///
+    /// # Errors
+    /// `OutOfMemory`: an allocation failed.
     pub fn try_clone(&self, alloc: Global) -> Result<SelectedContents<'a>, RecordError>
         ensures ok { IfOk result (λ copy. copy ≡ self.now) }
         ensures err { IfErr result (λ error. error ≡ OutOfMemory) }

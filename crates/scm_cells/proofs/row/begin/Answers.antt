@@ -1,5 +1,5 @@
 use Rattle.std.proofs.Common.{arith, subst, sym}
-use Rattle.scm_cells.specs.Ruled.{cut_left}
+use Rattle.scm_cells.specs.FrameText.{fast_clusters_left}
 use Rattle.scm_cells.specs.Laying.{IsPassed}
 use Rattle.scm_cells.proofs.RectLemmas.{places}
 use Rattle.scm_cells.proofs.WrittenLemmas.{place_below, IsBegun-passed, IsBegun-at, AllKept-cut}
@@ -10,8 +10,8 @@ returns-then-column-limit-clause-from c = place_below c.args.column c.args.low (
 
 pub returns-then-column-limit-clause-begun : goal.returns-then-column-limit-clause-begun
 returns-then-column-limit-clause-begun c =
-    let old = cut_left c.args.clusters.now in
-    let new = cut_left c.pass_over-passed.new.clusters in
+    let old = fast_clusters_left c.args.clusters.now in
+    let new = fast_clusters_left c.pass_over-passed.new.clusters in
     IsBegun-passed c.args.column c.args.low c.abs_diff-before.result c.saturating_sub.result old new
     (subst (λ n. IsPassed c.abs_diff-before.result old n new) (sym c.saturating_sub.ensures) c.pass_over-passed.ensures.passed) (omega (arith, places))
 

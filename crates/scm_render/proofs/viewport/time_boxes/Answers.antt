@@ -7,6 +7,6 @@ loop-timestamp-preserved g c =
     rw c.in_ok-push.ensures.items
     (timed_from-more 0 c.args.boxes.now c.loop-timestamp.timestamp c.loop-timestamp.timestamp c.index-boxes-timestamp.result c.index-boxes-timestamp.result c.loop-timestamp.rects.items _ (omega arith) (omega arith) c.index-boxes-timestamp.is c.loop-timestamp.invariant)
 
-pub returns-clause-ok : goal.returns-clause-ok
-returns-clause-ok g c =
+pub returns : goal.returns
+returns g c =
     timed_from-end 0 c.args.boxes.now c.loop-timestamp.timestamp c.loop-timestamp.rects.items _ (omega arith) c.loop-timestamp.invariant

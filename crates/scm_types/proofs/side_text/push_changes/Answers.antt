@@ -1,5 +1,5 @@
 use Rattle.std.proofs.Common.{◌≡◌, refl, sym, [], ◌∷◌, true, false, rules}
-use Rattle.scm_types.specs.Joined.{joined_after}
+use Rattle.scm_types.specs.Joined.{with_lines}
 use Rattle.scm_types.specs.Split.{changed_lines, takes}
 use Rattle.scm_types.proofs.JoinedLemmas.{joined-on, joined-end, joined-nothing, changed-more, changed-taken, changed-left, not_true, not_false}
 use Rattle.scm_types.proofs.side_text.push_changes.Goals as goal
@@ -10,8 +10,8 @@ loop-line-preserved c =
     let xs = c.args.lines.now in
     let i = c.loop-line.line-index in
     let x = c.line-item.result in
-    let selected = joined-on (changed_lines true) (λ y. changed_lines true (y ∷ [])) (changed-more true) c.loop-line.selected c.if-is_selected.selected (joined_after c.args.selected.now (changed_lines true xs)) xs i x c.loop-line-test.true c.line-item.is in
-    let unselected = joined-on (changed_lines false) (λ y. changed_lines false (y ∷ [])) (changed-more false) c.loop-line.unselected c.if-is_selected.unselected (joined_after c.args.unselected.now (changed_lines false xs)) xs i x c.loop-line-test.true c.line-item.is in
+    let selected = joined-on (changed_lines true) (λ y. changed_lines true (y ∷ [])) (changed-more true) c.loop-line.selected c.if-is_selected.selected (with_lines c.args.selected.now (changed_lines true xs)) xs i x c.loop-line-test.true c.line-item.is in
+    let unselected = joined-on (changed_lines false) (λ y. changed_lines false (y ∷ [])) (changed-more false) c.loop-line.unselected c.if-is_selected.unselected (with_lines c.args.unselected.now (changed_lines false xs)) xs i x c.loop-line-test.true c.line-item.is in
     elim c.if-is_selected.branch [
       | then-is_selected+in_ok-push w ↦
           (let yes : takes true x ≡ true = search rules in
@@ -31,8 +31,8 @@ loop-line-preserved c =
 
 pub returns-clause-selected : goal.returns-clause-selected
 returns-clause-selected c =
-    joined-end (changed_lines true) (λ x. changed_lines true (x ∷ [])) refl c.loop-line.selected (joined_after c.args.selected.now (changed_lines true c.args.lines.now)) c.args.lines.now c.loop-line.line-index c.loop-line-test.false c.loop-line.invariant.selected
+    joined-end (changed_lines true) (λ x. changed_lines true (x ∷ [])) refl c.loop-line.selected (with_lines c.args.selected.now (changed_lines true c.args.lines.now)) c.args.lines.now c.loop-line.line-index c.loop-line-test.false c.loop-line.invariant.selected
 
 pub returns-clause-unselected : goal.returns-clause-unselected
 returns-clause-unselected c =
-    joined-end (changed_lines false) (λ x. changed_lines false (x ∷ [])) refl c.loop-line.unselected (joined_after c.args.unselected.now (changed_lines false c.args.lines.now)) c.args.lines.now c.loop-line.line-index c.loop-line-test.false c.loop-line.invariant.unselected
+    joined-end (changed_lines false) (λ x. changed_lines false (x ∷ [])) refl c.loop-line.unselected (with_lines c.args.unselected.now (changed_lines false c.args.lines.now)) c.args.lines.now c.loop-line.line-index c.loop-line-test.false c.loop-line.invariant.unselected

@@ -6,7 +6,7 @@ use Rattle.scm_cells.proofs.rect.Rect.intersect.Goals as goal
 
 pub returns-clause-fields : goal.returns-clause-fields
 returns-clause-fields c =
-    c.between.ensures ∙ rect_between-same _ _ _ _ _ _ _ _ (omega (arith, places)) (omega (arith, places)) (omega (arith, places)) (omega (arith, places))
+    c.rect_between.ensures ∙ rect_between-same _ _ _ _ _ _ _ _ (omega (arith, places)) (omega (arith, places)) (omega (arith, places)) (omega (arith, places))
 
 pub returns-clause-in_range : goal.returns-clause-in_range
 returns-clause-in_range c =

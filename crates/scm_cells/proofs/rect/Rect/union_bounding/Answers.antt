@@ -5,7 +5,7 @@ use Rattle.scm_cells.proofs.rect.Rect.union_bounding.Goals as goal
 pub returns-else-is_empty-2-clause-fields : goal.returns-else-is_empty-2-clause-fields
 returns-else-is_empty-2-clause-fields c =
     rw (sym c.if-is_empty.ensures, sym c.if-is_empty-2.ensures)
-    (c.between.ensures ∙ rect_between-same _ _ _ _ _ _ _ _ (omega (arith, places)) (omega (arith, places)) (omega (arith, places)) (omega (arith, places)))
+    (c.rect_between.ensures ∙ rect_between-same _ _ _ _ _ _ _ _ (omega (arith, places)) (omega (arith, places)) (omega (arith, places)) (omega (arith, places)))
 
 pub returns-else-is_empty-2-clause-in_range : goal.returns-else-is_empty-2-clause-in_range
 returns-else-is_empty-2-clause-in_range c =

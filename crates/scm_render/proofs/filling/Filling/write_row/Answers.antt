@@ -15,8 +15,8 @@ loop-offset-preserved c =
     let so_far = simp to_z-of_z at c.loop-offset.invariant in
     simp to_z-of_z (row_text-step c.args.self c.args.x c.args.y c.args.width c.loop-offset.offset (string_bytes c.loop-offset.text) (string_bytes c.push.new.self) _ (omega arith) (c.in_ok-push.ensures.bytes ∙ ap (λ s. string_bytes c.loop-offset.text ++ encode_utf8 s) symbol) so_far)
 
-pub returns-clause-ok : goal.returns-clause-ok
-returns-clause-ok c =
+pub returns : goal.returns
+returns c =
     let fx : FitsSigned w64 c.args.x = c.ranges.x in
     let fy : FitsSigned w64 c.args.y = c.ranges.y in
     let so_far = simp to_z-of_z at c.loop-offset.invariant in

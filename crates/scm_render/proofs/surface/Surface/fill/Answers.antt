@@ -10,7 +10,7 @@ loop-offset-preserved c =
     let fr : FitsSigned w64 c.args.rect.y = omega (arith, places) in
     let at = simp to_z-of_z at c.strict_add_unsigned-y.ensures in
     let fy : FitsSigned w64 c.strict_add_unsigned-y.result = omega (arith, places) in
-    let text = simp to_z-of_z at c.in_ok-write_row.ensures.ok in
+    let text = simp to_z-of_z at c.in_ok-write_row.ensures in
     let drawn = simp to_z-of_z at c.in_ok-put_text.ensures.ok in
     record {
       rect = c.in_ok-put_text.ensures.rect ∙ c.loop-offset.invariant.rect;

@@ -1,6 +1,6 @@
 use Rattle.std.proofs.Common.{◌∙◌, ap, refl, FitsSigned, w64}
 use Rattle.std.proofs.lemmas.Int.{to_z-of_z}
-use Rattle.scm_render.specs.Places.{timed}
+use Rattle.scm_render.specs.Places.{with_times}
 use Rattle.scm_render.proofs.CanvasLemmas.{part-rows, part-boxes}
 use Rattle.scm_render.proofs.viewport.Viewport.render_top_level.Goals as goal
 
@@ -18,7 +18,7 @@ returns-clause-boxes g c =
     let fy : FitsSigned w64 c.args.y = c.ranges.y in
     let began = simp (to_z-of_z, c.width.ensures.value, c.height.ensures.value, c.replace.ensures.value) at c.new-viewport.ensures.canvas in
     let drawn = simp (to_z-of_z, began) at c.in_ok-outcome.ensures.draws.ok in
-    let boxes = c.in_ok-timed.ensures.ok ∙ ap timed (c.as_slice.ensures.value ∙ c.into_parts-drawn.ensures.boxes ∙ part-boxes _ _ _ _ drawn refl) in
+    let boxes = c.in_ok-timed.ensures ∙ ap with_times (c.as_slice.ensures.value ∙ c.into_parts-drawn.ensures.boxes ∙ part-boxes _ _ _ _ drawn refl) in
     rw boxes at c.in_ok-rects.ensures
 
 pub returns-clause-counts : goal.returns-clause-counts

@@ -5,12 +5,12 @@ use Rattle.scm_terminal.proofs.row.Row.push.Goals as goal
 
 pub loop-column-preserved : goal.loop-column-preserved
 loop-column-preserved c =
-    row-more c.args.row c.loop-column.column c.loop-column.pen c.in_ok-pen.pen c.deref-place-items.result.now c.place-item.result _ _ _ (omega arith) c.place-item.is
+    row-more c.args.row c.loop-column.column c.loop-column.pen c.in_ok-pen.pen c.deref-cell-items.result.now c.cell-item.result _ _ _ (omega arith) c.cell-item.is
     c.in_ok-pen.ensures.pen c.in_ok-pen.ensures.bytes c.loop-column.invariant
 
 pub returns : goal.returns
 returns c =
     let changed : c.args.self.now.is_changed ≡ true = search rules in
     row-push c.args.row c.args.self.now _ _ changed
-    (row-all c.args.row c.loop-column.column c.loop-column.pen c.deref-place-items.result.now _ _ (omega arith) c.loop-column.invariant
-    ∙ ap (λ ps. string_bytes c.args.text.now ++ bytes (row_commands c.args.row 0 new_pen ps)) c.deref-place-items.ensures.value)
+    (row-all c.args.row c.loop-column.column c.loop-column.pen c.deref-cell-items.result.now _ _ (omega arith) c.loop-column.invariant
+    ∙ ap (λ ps. string_bytes c.args.text.now ++ bytes (row_commands c.args.row 0 new_pen ps)) c.deref-cell-items.ensures.value)

@@ -1,0 +1,24 @@
+use Rattle.std.proofs.Common.{◌≡◌, ◌&&◌, true, false, refl, ap, sym, ◌∙◌}
+use Rattle.std.specs.Option.{unwrap_or}
+use Rattle.scm_selection.specs.KeySet.{has_key}
+use Rattle.scm_selection.specs.KeyLists.{is_visible, files_keys}
+use Rattle.scm_selection.specs.Moves.{is_same_kind, next_key}
+use Rattle.scm_selection.specs.KeysAround.{is_key_of}
+use Rattle.scm_selection.proofs.RelationLemmas.{next-there, next-away, filter-filter, kind-self, kind-away, and-left, and-right}
+use Rattle.scm_selection.proofs.WalkLemmas.{among-kept}
+use Rattle.scm_selection.proofs.moves.next_of_kind.Goals as goal
+
+pub returns-then-is_visible_key : goal.returns-then-is_visible_key
+returns-then-is_visible_key c =
+    let both : ((is_key_of c.args.files.now c.args.selection) && (is_visible (has_key c.args.expanded.now) c.args.selection)) ≡ true = among-kept (is_visible (has_key c.args.expanded.now)) c.args.files.now c.args.selection ∙ sym c.is_visible_key.ensures ∙ c.if-is_visible_key.true in
+    let there : is_key_of c.args.files.now c.args.selection ≡ true = and-left (is_key_of c.args.files.now c.args.selection) (is_visible (has_key c.args.expanded.now) c.args.selection) both in
+    let visible : is_visible (has_key c.args.expanded.now) c.args.selection ≡ true = and-right (is_key_of c.args.files.now c.args.selection) (is_visible (has_key c.args.expanded.now) c.args.selection) both in
+    c.unwrap_or.ensures ∙ ap (λ r. unwrap_or r c.args.selection) c.first_after.ensures
+    ∙ next-there (λ k. is_visible (has_key c.args.expanded.now) k && is_same_kind c.args.selection k) c.args.files.now c.args.selection c.args.otherwise there (rw (visible, kind-self c.args.files.now c.args.selection there) refl)
+    ∙ ap (λ ks. next_key ks c.args.selection c.args.otherwise) (sym (filter-filter (is_same_kind c.args.selection) (is_visible (has_key c.args.expanded.now)) (files_keys 0 c.args.files.now)))
+
+pub returns-else-is_visible_key : goal.returns-else-is_visible_key
+returns-else-is_visible_key c =
+    let hidden : (is_key_of c.args.files.now c.args.selection && is_visible (has_key c.args.expanded.now) c.args.selection) ≡ false = among-kept (is_visible (has_key c.args.expanded.now)) c.args.files.now c.args.selection ∙ sym c.is_visible_key.ensures ∙ c.if-is_visible_key.false in
+    next-away (λ k. is_visible (has_key c.args.expanded.now) k && is_same_kind c.args.selection k) c.args.files.now c.args.selection c.args.otherwise (kind-away (is_key_of c.args.files.now c.args.selection) (is_visible (has_key c.args.expanded.now) c.args.selection) (is_same_kind c.args.selection c.args.selection) hidden)
+    ∙ ap (λ ks. next_key ks c.args.selection c.args.otherwise) (sym (filter-filter (is_same_kind c.args.selection) (is_visible (has_key c.args.expanded.now)) (files_keys 0 c.args.files.now)))
