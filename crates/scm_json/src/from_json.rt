@@ -1,26 +1,24 @@
-//! What a JSON value is the form of: truth values, texts, optional values and lists.
-ghost use Rattle.std.specs.Prelude.{◌≡◌, IfOk, IfErr, Option};
-ghost use Rattle.scm_errors.specs.declared.error.RecordError.TheVariants.{OutOfMemory};
+//! Reads booleans, texts, optional values and lists from JSON values.
+ghost use Rattle.std.specs.Prelude.{◌≡◌, IfOk, Option};
 ghost use Rattle.serde_json.specs.Data.{Data};
 ghost use Rattle.serde_json.specs.Find.{as_bool, as_str};
 ghost use Rattle.serde_json.specs.View.{view};
 ghost use Rattle.scm_json.specs.Form as form_of;
 
-use scm_types::{Items, OwnedText, RecordError, Text};
+use scm_types::{Items, OwnedText, Text};
 use serde_json::Value;
-use std::alloc::Global;
+use std::alloc::{AllocError, Global};
 
-/// A value that has a form in JSON.
+/// A type that is read from a JSON value.
 pub trait FromJson: Sized + Drop {
     ghost form: { Data → Option Self };
 
-    /// The value of which the JSON value is the form, if there is one.
-    fn from_json(alloc: Global, value: &Value) -> Result<Option<Self>, RecordError>
-        ensures ok { IfOk result (λ o. o ≡ form (view value.now)) }
-        ensures err { IfErr result (λ e. e ≡ OutOfMemory) };
+    /// Returns the value that `value` is the form of, or `None` if there is none.
+    fn from_json(alloc: Global, value: &Value) -> Result<Option<Self>, AllocError>
+        ensures { IfOk result (λ o. o ≡ form (view value.now)) };
 }
 
-/// Whether the value is an object of so many members.
+/// Returns whether `value` is an object with `count` members.
 pub(crate) fn has_members(value: &Value, count: usize) -> bool
     ensures { result ≡ form_of.has_members count (view value.now) }
 {
@@ -30,14 +28,13 @@ pub(crate) fn has_members(value: &Value, count: usize) -> bool
     }
 }
 
-/// What the member of that name is the form of, if there is one.
+/// Reads the member `name` of the object `value`, or returns `None` if that fails.
 pub(crate) fn member<T: FromJson>(
     alloc: Global,
     value: &Value,
     name: &str,
-) -> Result<Option<T>, RecordError>
-    ensures ok { IfOk result (λ o. o ≡ form_of.member_of T.form name.now (view value.now)) }
-    ensures err { IfErr result (λ e. e ≡ RecordError.OutOfMemory) }
+) -> Result<Option<T>, AllocError>
+    ensures { IfOk result (λ o. o ≡ form_of.member_of T.form name.now (view value.now)) }
 {
     match value.get(name) {
         Some(member) => T::from_json(alloc, member),
@@ -48,7 +45,7 @@ pub(crate) fn member<T: FromJson>(
 impl FromJson for bool {
     ghost form = { as_bool };
 
-    fn from_json(_alloc: Global, value: &Value) -> Result<Option<bool>, RecordError> {
+    fn from_json(_alloc: Global, value: &Value) -> Result<Option<bool>, AllocError> {
         Ok(value.as_bool())
     }
 }
@@ -56,7 +53,7 @@ impl FromJson for bool {
 impl FromJson for OwnedText {
     ghost form = { as_str };
 
-    fn from_json(alloc: Global, value: &Value) -> Result<Option<OwnedText>, RecordError> {
+    fn from_json(alloc: Global, value: &Value) -> Result<Option<OwnedText>, AllocError> {
         match value.as_str() {
             Some(text) => Ok(Some(OwnedText::from(String::from_str(alloc, text)?))),
             None => Ok(None),
@@ -67,7 +64,7 @@ impl FromJson for OwnedText {
 impl FromJson for Text<'static> {
     ghost form = { as_str };
 
-    fn from_json(alloc: Global, value: &Value) -> Result<Option<Text<'static>>, RecordError> {
+    fn from_json(alloc: Global, value: &Value) -> Result<Option<Text<'static>>, AllocError> {
         match value.as_str() {
             Some(text) => Ok(Some(Text::from(String::from_str(alloc, text)?))),
             None => Ok(None),
@@ -78,7 +75,7 @@ impl FromJson for Text<'static> {
 impl<T: FromJson> FromJson for Option<T> {
     ghost form = { form_of.optional T.form };
 
-    fn from_json(alloc: Global, value: &Value) -> Result<Option<Option<T>>, RecordError> {
+    fn from_json(alloc: Global, value: &Value) -> Result<Option<Option<T>>, AllocError> {
         if value.is_null() {
             return Ok(Some(None));
         }
@@ -89,7 +86,7 @@ impl<T: FromJson> FromJson for Option<T> {
 impl<T: FromJson> FromJson for Items<T> {
     ghost form = { form_of.list_of T.form };
 
-    fn from_json(alloc: Global, value: &Value) -> Result<Option<Items<T>>, RecordError> {
+    fn from_json(alloc: Global, value: &Value) -> Result<Option<Items<T>>, AllocError> {
         let Some(values) = value.as_array() else {
             return Ok(None);
         };

@@ -1,4 +1,4 @@
-//! The JSON form of a state: [`read_state`] reads the form in which a state is written.
+//! The reader of states in JSON: [`read_state`] reads the form that serializing a state writes.
 #![tactic(auto)]
 
 mod from_json;

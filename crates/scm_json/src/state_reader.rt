@@ -1,4 +1,4 @@
-//! The reader of states: JSON of exactly the form in which a state is written.
+//! Reads states from JSON of exactly the form that serializing a state writes.
 ghost use Rattle.std.specs.Prelude.{◌≡◌, IfOk, IfErr, option_and_then, is_some};
 ghost use Rattle.scm_errors.specs.declared.error.RecordError.TheVariants.{OutOfMemory};
 ghost use Rattle.serde_json.specs.View.{view};
@@ -11,17 +11,21 @@ use scm_types::{
     SectionChangedLine, Text,
 };
 use serde_json::Value;
-use std::alloc::Global;
+use std::alloc::{AllocError, Global};
 
-/// The state of which the text is the JSON form, or nothing: where the text is no JSON, or the value of another shape, with
-/// a member more or less, an unknown variant, or a number that is not read as a whole one from 0 to 2^64 - 1. Of a member
-/// that stands twice the last counts. Fails with `OutOfMemory` alone.
+/// Reads a state from its JSON form, or returns `None` if `text` is no JSON of that form.
+///
+/// A missing or extra member and an unknown variant are refused. So is a mode that is no whole
+/// number from 0 to 2^64 - 1. If a member is repeated, the last one counts.
+///
+/// # Errors
+/// `OutOfMemory`: an allocation failed.
 pub fn read_state(alloc: Global, text: &str) -> Result<Option<RecordState<'static>>, RecordError>
     ensures ok { IfOk result (λ o. o ≡ option_and_then form_of.state_of (read text.now)) }
     ensures err { IfErr result (λ e. e ≡ RecordError.OutOfMemory) }
 {
     match Value::from_str(alloc, text) {
-        Ok(value) => RecordState::from_json(alloc, &value),
+        Ok(value) => Ok(RecordState::from_json(alloc, &value)?),
         Err(error) => {
             if error.is_memory() {
                 Err(RecordError::OutOfMemory)
@@ -32,7 +36,7 @@ pub fn read_state(alloc: Global, text: &str) -> Result<Option<RecordState<'stati
     }
 }
 
-/// The kind of a changed line, by its name.
+/// Returns the kind of change called `name`, if there is one.
 fn read_change_type(name: &str) -> Option<ChangeType>
     ensures { result ≡ form_of.change_type_of_name name.now }
 {
@@ -48,7 +52,7 @@ fn read_change_type(name: &str) -> Option<ChangeType>
 impl FromJson for ChangeType {
     ghost form = { form_of.change_type_of };
 
-    fn from_json(_alloc: Global, value: &Value) -> Result<Option<ChangeType>, RecordError> {
+    fn from_json(_alloc: Global, value: &Value) -> Result<Option<ChangeType>, AllocError> {
         Ok(value.as_str().and_then(read_change_type))
     }
 }
@@ -59,7 +63,7 @@ impl FromJson for SectionChangedLine<'static> {
     fn from_json(
         alloc: Global,
         value: &Value,
-    ) -> Result<Option<SectionChangedLine<'static>>, RecordError> {
+    ) -> Result<Option<SectionChangedLine<'static>>, AllocError> {
         if !has_members(value, 3) {
             return Ok(None);
         }
@@ -80,7 +84,7 @@ impl FromJson for SectionChangedLine<'static> {
     }
 }
 
-/// The mode of an object `{"Unix":N}`.
+/// Reads the mode of an object `{"Unix":N}`.
 fn read_unix(value: &Value) -> Option<FileMode>
     ensures { result ≡ form_of.unix_of (view value.now) }
 {
@@ -91,7 +95,7 @@ fn read_unix(value: &Value) -> Option<FileMode>
     Some(FileMode::Unix(bits as usize))
 }
 
-/// Whether the value is the text `"Absent"`.
+/// Returns whether `value` is the text `"Absent"`.
 fn is_absent(value: &Value) -> bool
     ensures { result ≡ is_some (form_of.absent_of (view value.now)) }
 {
@@ -101,7 +105,7 @@ fn is_absent(value: &Value) -> bool
 impl FromJson for FileMode {
     ghost form = { form_of.mode_of };
 
-    fn from_json(_alloc: Global, value: &Value) -> Result<Option<FileMode>, RecordError> {
+    fn from_json(_alloc: Global, value: &Value) -> Result<Option<FileMode>, AllocError> {
         if is_absent(value) {
             Ok(Some(FileMode::Absent))
         } else {
@@ -113,7 +117,7 @@ impl FromJson for FileMode {
 impl FromJson for Commit {
     ghost form = { form_of.commit_of };
 
-    fn from_json(alloc: Global, value: &Value) -> Result<Option<Commit>, RecordError> {
+    fn from_json(alloc: Global, value: &Value) -> Result<Option<Commit>, AllocError> {
         if !has_members(value, 1) {
             return Ok(None);
         }
@@ -122,10 +126,9 @@ impl FromJson for Commit {
     }
 }
 
-/// The section of context of an object `{"lines":[TEXT, ..]}`.
-fn read_unchanged(alloc: Global, value: &Value) -> Result<Option<Section<'static>>, RecordError>
-    ensures ok { IfOk result (λ o. o ≡ form_of.unchanged_of (view value.now)) }
-    ensures err { IfErr result (λ e. e ≡ RecordError.OutOfMemory) }
+/// Reads the context section of an object `{"lines":[TEXT, ..]}`.
+fn read_unchanged(alloc: Global, value: &Value) -> Result<Option<Section<'static>>, AllocError>
+    ensures { IfOk result (λ o. o ≡ form_of.unchanged_of (view value.now)) }
 {
     if !has_members(value, 1) {
         return Ok(None);
@@ -134,10 +137,9 @@ fn read_unchanged(alloc: Global, value: &Value) -> Result<Option<Section<'static
     Ok(lines.map(|lines| Section::Unchanged { lines }))
 }
 
-/// The section of changed lines of an object `{"lines":[LINE, ..]}`.
-fn read_changed(alloc: Global, value: &Value) -> Result<Option<Section<'static>>, RecordError>
-    ensures ok { IfOk result (λ o. o ≡ form_of.changed_of (view value.now)) }
-    ensures err { IfErr result (λ e. e ≡ RecordError.OutOfMemory) }
+/// Reads the section of changed lines of an object `{"lines":[LINE, ..]}`.
+fn read_changed(alloc: Global, value: &Value) -> Result<Option<Section<'static>>, AllocError>
+    ensures { IfOk result (λ o. o ≡ form_of.changed_of (view value.now)) }
 {
     if !has_members(value, 1) {
         return Ok(None);
@@ -146,10 +148,9 @@ fn read_changed(alloc: Global, value: &Value) -> Result<Option<Section<'static>>
     Ok(lines.map(|lines| Section::Changed { lines }))
 }
 
-/// The section that sets a mode, of an object `{"is_checked":BOOL,"mode":MODE}`.
-fn read_file_mode(alloc: Global, value: &Value) -> Result<Option<Section<'static>>, RecordError>
-    ensures ok { IfOk result (λ o. o ≡ form_of.file_mode_of (view value.now)) }
-    ensures err { IfErr result (λ e. e ≡ RecordError.OutOfMemory) }
+/// Reads the mode change of an object `{"is_checked":BOOL,"mode":MODE}`.
+fn read_file_mode(alloc: Global, value: &Value) -> Result<Option<Section<'static>>, AllocError>
+    ensures { IfOk result (λ o. o ≡ form_of.file_mode_of (view value.now)) }
 {
     if !has_members(value, 2) {
         return Ok(None);
@@ -163,10 +164,12 @@ fn read_file_mode(alloc: Global, value: &Value) -> Result<Option<Section<'static
     Ok(Some(Section::FileMode { is_checked, mode }))
 }
 
-/// The section of bytes of an object `{"is_checked":BOOL,"old_description":TEXT,"new_description":TEXT}`, each text perhaps `null`.
-fn read_binary(alloc: Global, value: &Value) -> Result<Option<Section<'static>>, RecordError>
-    ensures ok { IfOk result (λ o. o ≡ form_of.binary_of (view value.now)) }
-    ensures err { IfErr result (λ e. e ≡ RecordError.OutOfMemory) }
+/// Reads the binary change of an object
+/// `{"is_checked":BOOL,"old_description":TEXT,"new_description":TEXT}`.
+///
+/// Each `TEXT` can be `null`.
+fn read_binary(alloc: Global, value: &Value) -> Result<Option<Section<'static>>, AllocError>
+    ensures { IfOk result (λ o. o ≡ form_of.binary_of (view value.now)) }
 {
     if !has_members(value, 3) {
         return Ok(None);
@@ -192,7 +195,7 @@ fn read_binary(alloc: Global, value: &Value) -> Result<Option<Section<'static>>,
 impl FromJson for Section<'static> {
     ghost form = { form_of.section_of };
 
-    fn from_json(alloc: Global, value: &Value) -> Result<Option<Section<'static>>, RecordError> {
+    fn from_json(alloc: Global, value: &Value) -> Result<Option<Section<'static>>, AllocError> {
         if !has_members(value, 1) {
             return Ok(None);
         }
@@ -215,7 +218,7 @@ impl FromJson for Section<'static> {
 impl FromJson for File<'static> {
     ghost form = { form_of.file_of };
 
-    fn from_json(alloc: Global, value: &Value) -> Result<Option<File<'static>>, RecordError> {
+    fn from_json(alloc: Global, value: &Value) -> Result<Option<File<'static>>, AllocError> {
         if !has_members(value, 4) {
             return Ok(None);
         }
@@ -243,10 +246,7 @@ impl FromJson for File<'static> {
 impl FromJson for RecordState<'static> {
     ghost form = { form_of.state_of };
 
-    fn from_json(
-        alloc: Global,
-        value: &Value,
-    ) -> Result<Option<RecordState<'static>>, RecordError> {
+    fn from_json(alloc: Global, value: &Value) -> Result<Option<RecordState<'static>>, AllocError> {
         if !has_members(value, 3) {
             return Ok(None);
         }

@@ -14,9 +14,9 @@ use Rattle.scm_types.specs.Limits.{max_items, section_size, file_size, is_short_
 use Rattle.scm_types.specs.Marks.{line_with_mark, section_with_marks, file_with_marks}
 use Rattle.scm_types.proofs.EditLemmas.{length-modify}
 use Rattle.scm_input.specs.declared.events.Event.{Event}
-use Rattle.scm_record.specs.declared.selector.Flow.{Flow}
+use Rattle.scm_record.specs.declared.session.Flow.{Flow}
 use Rattle.scm_selection.specs.Toggle.{with_key_toggled, with_all_inverted, with_all_set}
-use Rattle.scm_record.specs.Session.{Session, IsDrawable, start, padded, with_message, commit_saying}
+use Rattle.scm_record.specs.Session.{Session, IsDrawable, start, padded_commits, with_message, commit_with_message}
 use Rattle.scm_record.specs.Frames.{Scene}
 use Rattle.scm_record.specs.Step.{change}
 use Rattle.scm_record.proofs.KeepingLemmas.{toggle-hidden, marked-hidden, inverted-hidden}
@@ -79,7 +79,7 @@ module _ (f : Bool → Bool) where
   short-marked : (files : List File) → are_short (map (file_with_marks f) files) ≡ are_short files
   short-marked files = all-same has_short_texts_in_file (file_with_marks f) short-file files
 
--- whether a state with these commits, so many items and short texts is accepted
+-- whether a state with these commits, this count of items and short texts is accepted
 abbrev is_within : List Commit → ℕ → Bool → Bool
 is_within commits n short =
     nat_le (length commits) 2
@@ -131,7 +131,7 @@ and-true true true e f = refl
 and-true true false e f = f
 and-true false b e f = e
 
-short-said : (text : List ℕ) (cs : List Commit) (i : ℕ) → is_short_text text ≡ true → IsTrue (list_all (λ (c : Commit). is_short_option c.message) cs) → IsTrue (list_all (λ (c : Commit). is_short_option c.message) (modify (commit_saying text) cs i))
+short-said : (text : List ℕ) (cs : List Commit) (i : ℕ) → is_short_text text ≡ true → IsTrue (list_all (λ (c : Commit). is_short_option c.message) cs) → IsTrue (list_all (λ (c : Commit). is_short_option c.message) (modify (commit_with_message text) cs i))
 short-said text [] i e h = h
 short-said text (c ∷ cs) zero e h = and-true _ _ e (and_parts (is_short_option c.message) _ h).1
 short-said text (c ∷ cs) (suc i) e h =
@@ -143,8 +143,8 @@ message-keeps-drawable s commit text e h =
     let all = and_parts _ _ h.accepted in
     let counted = and_parts _ _ all.0 in
     let said = and_parts _ _ counted.0 in
-    let few : nat_le (length (modify (commit_saying text) s.shown.state.commits commit)) 2 ≡ true =
-    ap (λ n. nat_le n 2) (length-modify (commit_saying text) s.shown.state.commits commit) ∙ said.0 in
+    let few : nat_le (length (modify (commit_with_message text) s.shown.state.commits commit)) 2 ≡ true =
+    ap (λ n. nat_le n 2) (length-modify (commit_with_message text) s.shown.state.commits commit) ∙ said.0 in
     record {
       accepted = and-true _ _ (and-true _ _ (and-true _ _ few (short-said text s.shown.state.commits commit e said.1)) counted.1) all.1;
       scroll = h.scroll;
@@ -152,12 +152,12 @@ message-keeps-drawable s commit text e h =
 
 -- ---- the start
 
-padded-few : (commits : List Commit) → nat_le (length commits) 2 ≡ true → nat_le (length (padded commits)) 2 ≡ true
+padded-few : (commits : List Commit) → nat_le (length commits) 2 ≡ true → nat_le (length (padded_commits commits)) 2 ≡ true
 padded-few [] h = refl
 padded-few (first ∷ []) h = refl
 padded-few (first ∷ second ∷ rest) h = h
 
-padded-short : (commits : List Commit) → IsTrue (list_all (λ (c : Commit). is_short_option c.message) commits) → IsTrue (list_all (λ (c : Commit). is_short_option c.message) (padded commits))
+padded-short : (commits : List Commit) → IsTrue (list_all (λ (c : Commit). is_short_option c.message) commits) → IsTrue (list_all (λ (c : Commit). is_short_option c.message) (padded_commits commits))
 padded-short [] h = refl
 padded-short (first ∷ []) h = and-true _ _ (and_parts (is_short_option first.message) _ h).0 refl
 padded-short (first ∷ second ∷ rest) h = h

@@ -1,4 +1,4 @@
--- Where a run stands in a batch: how a batch begins, and whether the screen was cleared in it.
+-- Points within a batch: how a batch begins, and whether the screen was cleared in it.
 use Rattle.std.proofs.Common.{◌≡◌, ℕ, ◌||◌, Bool, true, false, List, [], ◌∷◌, ◌++◌, length, cond, sym, ap, ◌∙◌, refl, subst}
 use Rattle.std.specs.Prelude.{is_some, nat_lt}
 use Rattle.std.specs.List.{list_any}
@@ -6,15 +6,15 @@ use Rattle.scm_errors.specs.Fault.{Fault}
 use Rattle.scm_types.specs.Limits.{is_short_text}
 use Rattle.scm_input.specs.declared.events.Event.{Event}
 use Rattle.scm_input.specs.declared.events.Event.TheVariants as events
-use Rattle.scm_record.specs.declared.selector.Flow.{Flow}
-use Rattle.scm_record.specs.declared.selector.Flow.TheVariants as flows
-use Rattle.scm_input.specs.Script.{Read, Batch, BrokenRead, Edit, Answer, BrokenEdit, Reply, no_more}
+use Rattle.scm_record.specs.declared.session.Flow.{Flow}
+use Rattle.scm_record.specs.declared.session.Flow.TheVariants as flows
+use Rattle.scm_input.specs.Script.{Read, Batch, BrokenRead, Edit, Answer, BrokenEdit, Reply, no_messages_left}
 use Rattle.scm_record.specs.Session.{Session, with_help, message_text, with_message}
 use Rattle.scm_record.specs.Frames.{Scene, scene_of}
-use Rattle.scm_record.specs.Uses.{shot_of}
+use Rattle.scm_record.specs.FrameQueries.{shot_of}
 use Rattle.scm_record.specs.Change.{stays, accepts}
 use Rattle.scm_record.specs.Step.{change}
-use Rattle.scm_record.specs.Run.{World, with_session, with_edits, with_text, Outcome, Goes, Ends, Breaks, no_such_place, too_long, answered, edited, outcome_by, step, Point, Before, Drawn, Within, Accepted, Failed, resume, read, batch, after, Reaches, here, on}
+use Rattle.scm_record.specs.Run.{World, with_session, with_edits, with_text, Outcome, Goes, Ends, Breaks, no_such_place, too_long, after_answer, after_edit, outcome_by, step, Point, Before, Drawn, Within, Accepted, Failed, resume, next_read, batch, after, Reaches, here, on}
 use Rattle.scm_record.specs.Headline.{is_redraw, Handling, begun, handled, BatchesAreHandled, BatchesBeginAsDrawn}
 use Rattle.scm_record.proofs.CalmLemmas.{calm}
 
@@ -65,7 +65,7 @@ record Begins (v : World) (drawn : Session) (w : World) : Type 0 where
   scroll : w.session.scroll ≡ v.session.scroll
   cleared : w.session.cleared ≡ v.session.cleared
 
--- likewise at a point
+-- the same at a point
 abbrev BeginsAt : World → Point → Type 0
 BeginsAt v (Before w) = Unit {0}
 BeginsAt v (Drawn w) = Unit {0}
@@ -73,7 +73,7 @@ BeginsAt v (Within drawn w left) = Begins v drawn w
 BeginsAt v (Accepted w) = Unit {0}
 BeginsAt v (Failed fault w) = Unit {0}
 
-read-begins : (v : World) (reads : List Read) → BeginsAt v (read v reads)
+read-begins : (v : World) (reads : List Read) → BeginsAt v (next_read v reads)
 read-begins v [] = tt
 read-begins v (Batch list ∷ reads) = record { as_drawn = refl; shown = refl; scroll = refl; cleared = refl }
 read-begins v (BrokenRead fault ∷ reads) = tt
@@ -108,7 +108,7 @@ IsFresh (Within drawn w left) = Unit {0}
 IsFresh (Accepted w) = Unit {0}
 IsFresh (Failed fault w) = Unit {0}
 
-read-fresh : (w : World) (reads : List Read) → IsFresh (read w reads)
+read-fresh : (w : World) (reads : List Read) → IsFresh (next_read w reads)
 read-fresh w [] = tt
 read-fresh w (Batch list ∷ reads) = tt
 read-fresh w (BrokenRead fault ∷ reads) = tt
@@ -143,12 +143,12 @@ either-cleared : (b : Bool) (v u : World) (fault : Fault) (cleared : Bool) → v
 either-cleared true v u fault cleared e f = e
 either-cleared false v u fault cleared e f = f
 
-answered-cleared : (w : World) (commit : ℕ) (edit : Edit) → (world_of (answered w commit edit)).session.cleared ≡ w.session.cleared
+answered-cleared : (w : World) (commit : ℕ) (edit : Edit) → (world_of (after_answer w commit edit)).session.cleared ≡ w.session.cleared
 answered-cleared w commit (Answer text) = either-cleared (is_short_text text) (with_session w (with_message w.session commit text)) w too_long w.session.cleared refl refl
 answered-cleared w commit (BrokenEdit fault) = refl
 
-edited-cleared : (w : World) (commit : ℕ) (edits : List Reply) → (world_of (edited w commit edits)).session.cleared ≡ w.session.cleared
-edited-cleared w commit [] = answered-cleared (with_edits w []) commit no_more
+edited-cleared : (w : World) (commit : ℕ) (edits : List Reply) → (world_of (after_edit w commit edits)).session.cleared ≡ w.session.cleared
+edited-cleared w commit [] = answered-cleared (with_edits w []) commit no_messages_left
 edited-cleared w commit (reply ∷ edits) = answered-cleared (with_edits w edits) commit (reply (message_text w.session commit))
 
 outcome-cleared : (scene : Scene) (w : World) (flow : Flow) → (world_of (outcome_by scene w flow)).session.cleared ≡ w.session.cleared
@@ -217,7 +217,7 @@ cleared-by-redraw w0 (begun {v = v} {w = w} {drawn = drawn} {left = left} r e) =
 cleared-by-redraw w0 (handled {v = v} {w = w} {drawn = drawn} {event = event} {done = done} h e) =
     step-cleared drawn w v event e ∙ ap (λ b. is_redraw event || b) (cleared-by-redraw w0 h) ∙ sym (any-last done event)
 
--- where a run stands in a batch it has come to
+-- each point within a batch is reached
 pub handling-reached : (p : Point) {drawn : Session} {w : World} {done left : List Event} → Handling p drawn w done left → Reaches p (Within drawn w left)
 handling-reached p (begun r e) = subst (λ (q : Point). Reaches p q) e (on r)
 handling-reached p (handled {drawn = drawn} {left = left} h e) = subst (λ (o : Outcome). Reaches p (resume drawn left o)) e (on (handling-reached p h))

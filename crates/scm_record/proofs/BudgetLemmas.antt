@@ -6,15 +6,15 @@ use Rattle.scm_errors.specs.declared.error.RecordError.{RecordError}
 use Rattle.scm_types.specs.Limits.{is_short_text}
 use Rattle.scm_input.specs.declared.events.Event.{Event}
 use Rattle.scm_input.specs.declared.events.Event.TheVariants as events
-use Rattle.scm_record.specs.declared.selector.Flow.{Flow}
-use Rattle.scm_record.specs.declared.selector.Flow.TheVariants as flows
-use Rattle.scm_input.specs.Script.{Read, Batch, BrokenRead, Edit, Answer, BrokenEdit, Reply, no_more}
+use Rattle.scm_record.specs.declared.session.Flow.{Flow}
+use Rattle.scm_record.specs.declared.session.Flow.TheVariants as flows
+use Rattle.scm_input.specs.Script.{Read, Batch, BrokenRead, Edit, Answer, BrokenEdit, Reply, no_messages_left}
 use Rattle.scm_input.specs.Store.{count_up, counted}
 use Rattle.scm_record.specs.Session.{Session, message_text, with_message}
 use Rattle.scm_record.specs.Frames.{Scene, scene_of}
-use Rattle.scm_record.specs.Uses.{shot_of}
+use Rattle.scm_record.specs.FrameQueries.{shot_of}
 use Rattle.scm_record.specs.Step.{change}
-use Rattle.scm_record.specs.Run.{World, with_session, with_edits, with_text, Point, Before, Drawn, Within, Accepted, Failed, Goes, Breaks, no_such_place, too_long, answered, edited, outcome_by, step, resume, read, batch, after, Reaches, here, on, world_at, Shows, Stops}
+use Rattle.scm_record.specs.Run.{World, with_session, with_edits, with_text, Point, Before, Drawn, Within, Accepted, Failed, Goes, Breaks, no_such_place, too_long, after_answer, after_edit, outcome_by, step, resume, next_read, batch, after, Reaches, here, on, world_at, IsSameButSession, Stops}
 use Rattle.scm_record.specs.Ending.{IsFew}
 use Rattle.scm_record.proofs.Budget.{rank, rank_of, turns_left, Fits}
 use Rattle.scm_record.proofs.StepLemmas.{Pushes, nothing, pushed, leads}
@@ -34,12 +34,12 @@ module _ (b r : ℕ) (drawn : Session) (rest : List Event) (left : rank_of rest 
   short-fits true w v fits h e f g = (r, left, rw g h, rw (e, f) fits)
   short-fits false w v fits h e f g = omega arith
 
-  answered-fits : (w : World) (commit : ℕ) (edit : Edit) → w.frames + 3 * length w.reads + r ≤ b → rank_of w.session.pending ≤ r → Fits b (resume drawn rest (answered w commit edit))
+  answered-fits : (w : World) (commit : ℕ) (edit : Edit) → w.frames + 3 * length w.reads + r ≤ b → rank_of w.session.pending ≤ r → Fits b (resume drawn rest (after_answer w commit edit))
   answered-fits w commit (Answer text) fits h = short-fits (is_short_text text) w (with_session w (with_message w.session commit text)) fits h refl refl refl
   answered-fits w commit (BrokenEdit fault) fits h = omega arith
 
-  edited-fits : (w : World) (commit : ℕ) (edits : List Reply) → w.frames + 3 * length w.reads + r ≤ b → rank_of w.session.pending ≤ r → Fits b (resume drawn rest (edited w commit edits))
-  edited-fits w commit [] fits h = answered-fits (with_edits w []) commit no_more fits h
+  edited-fits : (w : World) (commit : ℕ) (edits : List Reply) → w.frames + 3 * length w.reads + r ≤ b → rank_of w.session.pending ≤ r → Fits b (resume drawn rest (after_edit w commit edits))
+  edited-fits w commit [] fits h = answered-fits (with_edits w []) commit no_messages_left fits h
   edited-fits w commit (reply ∷ edits) fits h = answered-fits (with_edits w edits) commit (reply (message_text w.session commit)) fits h
 
 module _ (b r : ℕ) (drawn : Session) (rest : List Event) (left : rank_of rest ≤ r + 1) where
@@ -68,7 +68,7 @@ rank_of-le : (list : List Event) → rank_of list ≤ 3
 rank_of-le [] = omega arith
 rank_of-le (event ∷ rest) = omega (arith, rank-le event, rank_of-le rest)
 
-read-fits : (b : ℕ) (w : World) (reads : List Read) → w.reads ≡ reads → w.session.pending ≡ [] → w.frames + 3 * length reads ≤ b + 1 → Fits b (read w reads)
+read-fits : (b : ℕ) (w : World) (reads : List Read) → w.reads ≡ reads → w.session.pending ≡ [] → w.frames + 3 * length reads ≤ b + 1 → Fits b (next_read w reads)
 read-fits b w [] r e h = rw r h
 read-fits b w (Batch list ∷ reads) r e h = (2, rank_of-le list, rw e (omega arith), omega arith)
 read-fits b w (BrokenRead fault ∷ reads) r e h = omega arith
@@ -109,7 +109,7 @@ few-reached w q e f r =
     let few = fits-few (turns_left w) q (reaches-fits (turns_left w) (Before w) r fits) in
     omega arith
 
-few-stopped-by : (f : Option Fault) (w v : World) → w.frames ≡ 0 → w.session.pending ≡ [] → MatchOption f ((q : Point) × Reaches (Before w) q × Shows v (world_at q)) (λ fault. Reaches (Before w) (Failed fault v)) → IsFew v.frames w.reads v.reads
+few-stopped-by : (f : Option Fault) (w v : World) → w.frames ≡ 0 → w.session.pending ≡ [] → MatchOption f ((q : Point) × Reaches (Before w) q × IsSameButSession v (world_at q)) (λ fault. Reaches (Before w) (Failed fault v)) → IsFew v.frames w.reads v.reads
 few-stopped-by None w v e p h = rw (h.2.frames, h.2.reads) (few-reached w h.0 e p h.1)
 few-stopped-by (Some fault) w v e p h = few-reached w (Failed fault v) e p h
 

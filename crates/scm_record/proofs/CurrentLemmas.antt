@@ -1,16 +1,16 @@
 -- A frame that shows a session shows it until something of it changes.
 use Rattle.std.proofs.Common.{◌≡◌, ℕ, Option, sym, ap, ◌∙◌, refl, subst}
 use Rattle.scm_input.specs.declared.inputs.TerminalKind.{TerminalKind}
-use Rattle.scm_view.specs.Shown.{Shown}
+use Rattle.scm_view.specs.ViewState.{ViewState}
 use Rattle.scm_record.specs.declared.frame.DrawnFrame.{DrawnFrame}
 use Rattle.scm_record.specs.Session.{Session, after_frame, without_pending}
 use Rattle.scm_record.specs.Step.{Change, change}
 use Rattle.scm_record.specs.Change.{stays}
-use Rattle.scm_record.specs.declared.selector.Flow.{Flow}
+use Rattle.scm_record.specs.declared.session.Flow.{Flow}
 use Rattle.scm_input.specs.declared.events.Event.{Event}
 use Rattle.scm_view.specs.Frame.{Frame}
-use Rattle.scm_record.specs.Frames.{HasSize, IsShown, Scene, columns_of, rows_of, scene_of, frame_of}
-use Rattle.scm_record.specs.Turn.{IsCurrent}
+use Rattle.scm_record.specs.Frames.{HasSize, IsSceneOf, Scene, columns_of, rows_of, scene_of, frame_of}
+use Rattle.scm_record.specs.RunContracts.{IsCurrent}
 
 -- sessions that show the same as far down have one frame
 same-frame : (w h : ℕ) (s t : Session) → t.shown ≡ s.shown → t.scroll ≡ s.scroll → frame_of w h t ≡ frame_of w h s
@@ -18,7 +18,7 @@ unfolding frame_of
 same-frame w h s t e f = rw (e, f) refl
 
 -- what shows a session on one screen shows it on any other of the same size
-pub shown-current : (frame : DrawnFrame) (kind : TerminalKind) (s : Session) → HasSize kind frame → IsShown (scene_of kind s) frame → IsCurrent s frame
+pub shown-current : (frame : DrawnFrame) (kind : TerminalKind) (s : Session) → HasSize kind frame → IsSceneOf (scene_of kind s) frame → IsCurrent s frame
 shown-current frame kind s sized shown = λ other t e f also.
     let scene : ℕ → ℕ → Frame → Option ℕ → Scene = λ w h drawn menu. record { width = w; height = h; frame = drawn; open_menu = menu } in
     let wide : columns_of other ≡ columns_of kind = sym also.width ∙ sized.width in
@@ -27,15 +27,15 @@ shown-current frame kind s sized shown = λ other t e f also.
     ap (λ (w : ℕ). scene w (rows_of other) (frame_of w (rows_of other) t) t.shown.open_menu) wide
     ∙ ap (λ (h : ℕ). scene (columns_of kind) h (frame_of (columns_of kind) h t) t.shown.open_menu) high
     ∙ ap (λ (drawn : Frame). scene (columns_of kind) (rows_of kind) drawn t.shown.open_menu) (same-frame (columns_of kind) (rows_of kind) s t e f)
-    ∙ ap (λ (k : Shown). scene (columns_of kind) (rows_of kind) (frame_of (columns_of kind) (rows_of kind) s) k.open_menu) e in
-    subst (λ (x : Scene). IsShown x frame) (sym same) shown
+    ∙ ap (λ (k : ViewState). scene (columns_of kind) (rows_of kind) (frame_of (columns_of kind) (rows_of kind) s) k.open_menu) e in
+    subst (λ (x : Scene). IsSceneOf x frame) (sym same) shown
 
 -- and shows it still where neither what is shown nor the scroll has changed
 pub current-still : (frame : DrawnFrame) (s t : Session) → t.shown ≡ s.shown → t.scroll ≡ s.scroll → IsCurrent s frame → IsCurrent t frame
 current-still frame s t e f current = λ kind u g h sized. current kind u (g ∙ e) (h ∙ f) sized
 
 -- as it does once what was pending is taken after a frame
-pub current-after : (frame : DrawnFrame) (kind : TerminalKind) (t u : Session) → u ≡ without_pending (after_frame t) → IsShown (scene_of kind (after_frame t)) frame → IsCurrent u frame
+pub current-after : (frame : DrawnFrame) (kind : TerminalKind) (t u : Session) → u ≡ without_pending (after_frame t) → IsSceneOf (scene_of kind (after_frame t)) frame → IsCurrent u frame
 current-after frame kind t u e h =
     current-still frame (after_frame t) u (ap (λ (s : Session). s.shown) e) (ap (λ (s : Session). s.scroll) e)
     (shown-current frame kind (after_frame t) (record { width = h.width; height = h.height }) h)

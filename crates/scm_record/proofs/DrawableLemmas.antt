@@ -3,14 +3,14 @@ use Rattle.std.proofs.Common.{◌≡◌, ℕ, Bool, true, false, List, [], ◌�
 use Rattle.std.specs.Prelude.{nat_lt}
 use Rattle.scm_types.specs.Limits.{is_short_text}
 use Rattle.scm_input.specs.declared.events.Event.{Event}
-use Rattle.scm_record.specs.declared.selector.Flow.{Flow}
-use Rattle.scm_record.specs.declared.selector.Flow.TheVariants as flows
-use Rattle.scm_input.specs.Script.{Read, Batch, BrokenRead, Edit, Answer, BrokenEdit, Reply, no_more}
+use Rattle.scm_record.specs.declared.session.Flow.{Flow}
+use Rattle.scm_record.specs.declared.session.Flow.TheVariants as flows
+use Rattle.scm_input.specs.Script.{Read, Batch, BrokenRead, Edit, Answer, BrokenEdit, Reply, no_messages_left}
 use Rattle.scm_record.specs.Session.{Session, IsDrawable, message_text, with_message}
 use Rattle.scm_record.specs.Frames.{Scene, scene_of}
-use Rattle.scm_record.specs.Uses.{shot_of}
+use Rattle.scm_record.specs.FrameQueries.{shot_of}
 use Rattle.scm_record.specs.Step.{change}
-use Rattle.scm_record.specs.Run.{World, with_session, with_edits, with_text, Goes, Breaks, no_such_place, too_long, answered, edited, outcome_by, Point, Before, Drawn, Within, Accepted, Failed, resume, read, batch, after, Reaches, here, on, world_at}
+use Rattle.scm_record.specs.Run.{World, with_session, with_edits, with_text, Goes, Breaks, no_such_place, too_long, after_answer, after_edit, outcome_by, Point, Before, Drawn, Within, Accepted, Failed, resume, next_read, batch, after, Reaches, here, on, world_at}
 use Rattle.scm_record.proofs.AcceptedLemmas.{change-keeps-drawable, message-keeps-drawable}
 
 abbrev IsDrawableAt : Point → Type 0
@@ -21,12 +21,12 @@ module _ (drawn : Session) (rest : List Event) where
   short-drawable true w commit text e h = message-keeps-drawable w.session commit text e h
   short-drawable false w commit text e h = h
 
-  answered-drawable : (w : World) (commit : ℕ) (edit : Edit) → IsDrawable w.session → IsDrawableAt (resume drawn rest (answered w commit edit))
+  answered-drawable : (w : World) (commit : ℕ) (edit : Edit) → IsDrawable w.session → IsDrawableAt (resume drawn rest (after_answer w commit edit))
   answered-drawable w commit (Answer text) h = short-drawable (is_short_text text) w commit text refl h
   answered-drawable w commit (BrokenEdit fault) h = h
 
-  edited-drawable : (w : World) (commit : ℕ) (edits : List Reply) → IsDrawable w.session → IsDrawableAt (resume drawn rest (edited w commit edits))
-  edited-drawable w commit [] h = answered-drawable (with_edits w []) commit no_more h
+  edited-drawable : (w : World) (commit : ℕ) (edits : List Reply) → IsDrawable w.session → IsDrawableAt (resume drawn rest (after_edit w commit edits))
+  edited-drawable w commit [] h = answered-drawable (with_edits w []) commit no_messages_left h
   edited-drawable w commit (reply ∷ edits) h = answered-drawable (with_edits w edits) commit (reply (message_text w.session commit)) h
 
   shot-drawable : (b : Bool) (w : World) (place : ℕ) (text : List ℕ) → IsDrawable w.session → IsDrawableAt (resume drawn rest (cond b (Goes (with_text w place text)) (Breaks no_such_place w)))
@@ -40,7 +40,7 @@ module _ (drawn : Session) (rest : List Event) where
   outcome-drawable scene w (flows.Edit commit) h = edited-drawable w commit w.edits h
   outcome-drawable scene w (flows.Shoot place) h = shot-drawable (nat_lt place (length w.texts)) w place (shot_of scene w.session.cleared) h
 
-read-drawable : (w : World) (reads : List Read) → IsDrawable w.session → IsDrawableAt (read w reads)
+read-drawable : (w : World) (reads : List Read) → IsDrawable w.session → IsDrawableAt (next_read w reads)
 read-drawable w [] h = h
 read-drawable w (Batch list ∷ reads) h = h
 read-drawable w (BrokenRead fault ∷ reads) h = h

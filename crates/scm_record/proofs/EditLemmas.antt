@@ -7,15 +7,15 @@ use Rattle.scm_types.specs.declared.state.Commit.{Commit}
 use Rattle.scm_types.specs.declared.state.RecordState.{RecordState}
 use Rattle.scm_errors.specs.Fault.{Fault, fault_of}
 use Rattle.scm_input.specs.declared.events.Event.{Event}
-use Rattle.scm_record.specs.declared.selector.Flow.{Flow}
-use Rattle.scm_record.specs.declared.selector.Flow.TheVariants as flows
+use Rattle.scm_record.specs.declared.session.Flow.{Flow}
+use Rattle.scm_record.specs.declared.session.Flow.TheVariants as flows
 use Rattle.scm_input.specs.Script.{Read, Batch, BrokenRead, Reply}
 use Rattle.scm_selection.specs.Toggle.{with_key_toggled, with_all_inverted, with_all_set}
 use Rattle.scm_record.specs.Session.{Session, message_of}
 use Rattle.scm_record.specs.Frames.{Scene, scene_of}
-use Rattle.scm_record.specs.Uses.{shot_of}
+use Rattle.scm_record.specs.FrameQueries.{shot_of}
 use Rattle.scm_record.specs.Step.{change}
-use Rattle.scm_record.specs.Run.{World, with_session, with_text, Goes, Breaks, no_such_place, Point, Before, Drawn, Within, Accepted, Failed, outcome_by, resume, read, batch, after, Reaches, here, on, world_at, Shows, Stops}
+use Rattle.scm_record.specs.Run.{World, with_session, with_text, Goes, Breaks, no_such_place, Point, Before, Drawn, Within, Accepted, Failed, outcome_by, resume, next_read, batch, after, Reaches, here, on, world_at, IsSameButSession, Stops}
 use Rattle.scm_record.proofs.StepLemmas as steps
 use Rattle.scm_record.proofs.StepLemmas.{Allows, Marks, toggled, inverted, all_set, leads, message_at}
 
@@ -52,7 +52,7 @@ module _ (edits : List Reply) where
   outcome-unedited scene drawn rest w (flows.Edit commit) k h = absurd (no-message (message_of w.session commit) (h.messages commit) k)
   outcome-unedited scene drawn rest w (flows.Shoot place) k h = shot-unedited drawn rest (nat_lt place (length w.texts)) w (with_text w place (shot_of scene w.session.cleared)) h (record { messages = h.messages; left = h.left })
 
-  read-unedited : (w : World) (reads : List Read) → IsUnedited edits w → IsUnedited edits (world_at (read w reads))
+  read-unedited : (w : World) (reads : List Read) → IsUnedited edits w → IsUnedited edits (world_at (next_read w reads))
   read-unedited w [] h = h
   read-unedited w (Batch list ∷ reads) h = record { messages = h.messages; left = h.left }
   read-unedited w (BrokenRead fault ∷ reads) h = record { messages = h.messages; left = h.left }
@@ -84,7 +84,7 @@ module _ (w : World) (none : (commit : ℕ) → message_of w.session commit ≡ 
   pub unedited-reached : (q : Point) → Reaches (Before w) q → (world_at q).edits ≡ w.edits
   unedited-reached q r = (reaches-unedited w.edits (Before w) r (record { messages = none; left = refl })).left
 
-  stopped-by : (f : Option Fault) (v : World) → MatchOption f ((q : Point) × Reaches (Before w) q × Shows v (world_at q)) (λ fault. Reaches (Before w) (Failed fault v)) → v.edits ≡ w.edits
+  stopped-by : (f : Option Fault) (v : World) → MatchOption f ((q : Point) × Reaches (Before w) q × IsSameButSession v (world_at q)) (λ fault. Reaches (Before w) (Failed fault v)) → v.edits ≡ w.edits
   stopped-by None v h = h.2.edits ∙ unedited-reached h.0 h.1
   stopped-by (Some fault) v h = unedited-reached (Failed fault v) h
 

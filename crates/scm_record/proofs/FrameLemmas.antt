@@ -4,25 +4,25 @@ use Rattle.std.proofs.lemmas.Bool.Decides.{nat_tests}
 use Rattle.std.specs.Prelude.{ℤ, pos, option_map, List}
 use Rattle.std.specs.HashMap.{HashMap, IsFromIterResult}
 use Rattle.scm_cells.specs.Screen.{Screen, blank_screen}
-use Rattle.scm_render.specs.Canvas.{Row, Sight, painted}
+use Rattle.scm_render.specs.Canvas.{Row, Sight, paint_rows}
 use Rattle.scm_render.specs.Picture.{part}
-use Rattle.scm_render.specs.Places.{screen_rect, whole_sight, timed}
+use Rattle.scm_render.specs.Places.{screen_rect, whole_sight, with_times}
 use Rattle.scm_render.specs.declared.trace.DrawnRect.{DrawnRect}
 use Rattle.scm_render.specs.Laws.{HasLastBoxes}
 use Rattle.scm_view.specs.AppView.{app_picture, app_view_of, AppsAreDrawnAlike, ShowsSession}
-use Rattle.scm_view.specs.Blanks.{blank_row}
-use Rattle.scm_view.specs.Clicks.{is_clickable}
+use Rattle.scm_widgets.specs.Blanks.{blank_row}
+use Rattle.scm_widgets.specs.Clicks.{is_clickable}
 use Rattle.scm_view.specs.Frame.{Frame, frame_of_document, frame_of_picture, frame_of_view, is_plain, picture_of}
 use Rattle.scm_view.specs.Laws.{ClearedGridsAreScreens}
-use Rattle.scm_view.specs.SameIds.{same_id}
-use Rattle.scm_view.specs.Screens.{screen, sight}
-use Rattle.scm_view.specs.Shown.{Shown}
+use Rattle.scm_widgets.specs.SameIds.{same_id}
+use Rattle.scm_widgets.specs.Screens.{screen, sight}
+use Rattle.scm_view.specs.ViewState.{ViewState}
 use Rattle.scm_view.specs.Window.{rows_of_box, height_of_box, IsPlain, window}
 use Rattle.scm_view.specs.declared.app_view.AppView.{AppView}
-use Rattle.scm_view.specs.declared.commit_view.CommitViewMode.{CommitViewMode}
-use Rattle.scm_view.specs.declared.commit_view.CommitViewMode.TheVariants.{Inline, Adjacent}
-use Rattle.scm_view.specs.declared.ids.ComponentId.{ComponentId}
-use Rattle.scm_view.specs.declared.ids.ComponentId.TheVariants as ids
+use Rattle.scm_document.specs.declared.commit_view.CommitViewMode.{CommitViewMode}
+use Rattle.scm_document.specs.declared.commit_view.CommitViewMode.TheVariants.{Inline, Adjacent}
+use Rattle.scm_widgets.specs.declared.ids.ComponentId.{ComponentId}
+use Rattle.scm_widgets.specs.declared.ids.ComponentId.TheVariants as ids
 use Rattle.scm_input.specs.declared.inputs.TerminalKind.{TerminalKind}
 use Rattle.scm_record.specs.declared.frame.Places.{Places}
 use Rattle.scm_record.specs.Frames.{IsMapOf, KnowsPlaces, columns_of, rows_of, scene_of, frame_of}
@@ -34,12 +34,12 @@ cleared-screen laws w h s = ap (λ (v : Sight). v.rect) (laws.cleared w h s)
 
 module _ {S : Type 0} where
   view-map : (w h s : ℕ) (a : AppView) (v : Sight) (boxes : HashMap ComponentId DrawnRect S) → HasLastBoxes same_id is_clickable boxes → v ≡ sight w h s
-      → IsFromIterResult same_id (timed (part ids.App (app_picture a v (pos 0) (pos 0))).boxes) boxes
+      → IsFromIterResult same_id (with_times (part ids.App (app_picture a v (pos 0) (pos 0))).boxes) boxes
       → IsMapOf w (frame_of_view w h s a) boxes
   unfolding frame_of_picture
   view-map w h s a v boxes last e made =
       let bs = (part ids.App (picture_of w h s a)).boxes in
-      let by : IsFromIterResult same_id (timed bs) boxes = rw e at made in
+      let by : IsFromIterResult same_id (with_times bs) boxes = rw e at made in
       record {
         owner = λ y x p o t. last.targets (pos y) (pos x) o t bs by;
         span = λ key. ap (option_map rows_of_box) (last.rects bs by (ids.SelectableItem key));
@@ -48,7 +48,7 @@ module _ {S : Type 0} where
 
   -- what drawing a view on a cleared grid returns is the map of its frame
   pub drawn_is_map : ClearedGridsAreScreens → (w h s : ℕ) (a : AppView) (grid : Screen) (y : ℤ) (boxes : HashMap ComponentId DrawnRect S) → HasLastBoxes same_id is_clickable boxes → grid ≡ blank_screen w h → y ≡ pos s
-      → IsFromIterResult same_id (timed (part ids.App (app_picture a (whole_sight grid (pos 0) y) (pos 0) (pos 0))).boxes) boxes
+      → IsFromIterResult same_id (with_times (part ids.App (app_picture a (whole_sight grid (pos 0) y) (pos 0) (pos 0))).boxes) boxes
       → IsMapOf w (frame_of_view w h s a) boxes
   drawn_is_map laws w h s a grid y boxes last cleared place made =
       let m = rw (cleared, place) at made in
@@ -56,23 +56,23 @@ module _ {S : Type 0} where
 
 -- and what it leaves are the rows
 sight-rows : (w h s : ℕ) (a : AppView) (v : Sight) (rows : List Row) → v ≡ sight w h s
-    → rows ≡ painted v.rect (app_picture a v (pos 0) (pos 0)).puts (pos s) (replicate h (blank_row w))
+    → rows ≡ paint_rows v.rect (app_picture a v (pos 0) (pos 0)).puts (pos s) (replicate h (blank_row w))
     → rows ≡ (frame_of_view w h s a).rows
 unfolding frame_of_picture
 sight-rows w h s a v rows e drawn = rw e at drawn
 
 pub drawn-rows : ClearedGridsAreScreens → (w h s : ℕ) (a : AppView) (grid : Screen) (y : ℤ) (rows : List Row) → grid ≡ blank_screen w h → y ≡ pos s
-    → rows ≡ painted (screen_rect grid (pos 0) y) (app_picture a (whole_sight grid (pos 0) y) (pos 0) (pos 0)).puts y grid.rows
+    → rows ≡ paint_rows (screen_rect grid (pos 0) y) (app_picture a (whole_sight grid (pos 0) y) (pos 0) (pos 0)).puts y grid.rows
     → rows ≡ (frame_of_view w h s a).rows
 drawn-rows laws w h s a grid y rows cleared place drawn =
     let d = rw (cleared, place) at drawn in
     sight-rows w h s a (whole_sight (blank_screen w h) (pos 0) (pos s)) rows (laws.cleared w h s) d
 
 -- the frame of a view that shows a session is that of the session's view
-view-is : AppsAreDrawnAlike → (w h scroll : ℕ) (a : AppView) (shown : Shown) → ShowsSession a shown → frame_of_view w h scroll a ≡ frame_of_view w h scroll (app_view_of shown)
+view-is : AppsAreDrawnAlike → (w h scroll : ℕ) (a : AppView) (shown : ViewState) → ShowsSession a shown → frame_of_view w h scroll a ≡ frame_of_view w h scroll (app_view_of shown)
 view-is alike w h scroll a shown shows = ap (frame_of_picture w h scroll) (alike shown a (sight w h scroll) (pos 0) (pos 0) shows)
 
-pub plain-view : (w h : ℕ) (a : AppView) (shown : Shown) → ShowsSession a shown → is_plain w h shown.view_mode ≡ true → w ≤ 65535 → h ≤ 65535 → IsPlain a shown w h
+pub plain-view : (w h : ℕ) (a : AppView) (shown : ViewState) → ShowsSession a shown → is_plain w h shown.view_mode ≡ true → w ≤ 65535 → h ≤ 65535 → IsPlain a shown w h
 plain-view w h a shown shows e p q = go shown.view_mode refl e
   where
     go : (mode : CommitViewMode) → shown.view_mode ≡ mode → is_plain w h mode ≡ true → IsPlain a shown w h
@@ -102,31 +102,31 @@ free-is alike w h a s e shows = rw e (sym (view-is alike w h s.scroll a s.shown 
 abbrev pub Answers : ℕ → Frame → List Row → Places → Type 0
 Answers w frame rows places = (rows ≡ frame.rows) × KnowsPlaces w frame places
 
-pub plain-shows : (kind : TerminalKind) (s : Session) (a : AppView) (shown : Shown) (scroll w h : ℕ) (rows : List Row) (places : Places) → w ≡ columns_of kind → h ≡ rows_of kind
+pub plain-shows : (kind : TerminalKind) (s : Session) (a : AppView) (shown : ViewState) (scroll w h : ℕ) (rows : List Row) (places : Places) → w ≡ columns_of kind → h ≡ rows_of kind
     → ShowsSession a shown → s.shown ≡ shown → s.scroll ≡ scroll → columns_of kind ≤ 65535 → rows_of kind ≤ 65535 → is_plain w h shown.view_mode ≡ true
-    → ((k : Shown) → IsPlain a k w h → rows ≡ window w h scroll k)
-    → ((k : Shown) → IsPlain a k w h → KnowsPlaces w (frame_of_document w h scroll k) places)
+    → ((k : ViewState) → IsPlain a k w h → rows ≡ window w h scroll k)
+    → ((k : ViewState) → IsPlain a k w h → KnowsPlaces w (frame_of_document w h scroll k) places)
     → Answers (columns_of kind) (scene_of kind s).frame rows places
 plain-shows kind s a shown scroll w h rows places ew eh shows same place few_columns few_rows plain drawn kept =
     let is = plain-view w h a shown shows plain (rw ew few_columns) (rw eh few_rows) in
     let here : Answers w (frame_of_document w h scroll shown) rows places = (drawn shown is, kept shown is) in
     let mode : is_plain (columns_of kind) (rows_of kind) s.shown.view_mode ≡ true =
-    subst (λ (k : Shown). is_plain (columns_of kind) (rows_of kind) k.view_mode ≡ true) (sym same)
+    subst (λ (k : ViewState). is_plain (columns_of kind) (rows_of kind) k.view_mode ≡ true) (sym same)
     (subst (λ n. is_plain (columns_of kind) n shown.view_mode ≡ true) eh (subst (λ n. is_plain n h shown.view_mode ≡ true) ew plain)) in
     let there : Answers (columns_of kind) (frame_of_document (columns_of kind) (rows_of kind) s.scroll s.shown) rows places =
-    subst (λ (k : Shown). Answers (columns_of kind) (frame_of_document (columns_of kind) (rows_of kind) s.scroll k) rows places) (sym same)
+    subst (λ (k : ViewState). Answers (columns_of kind) (frame_of_document (columns_of kind) (rows_of kind) s.scroll k) rows places) (sym same)
     (subst (λ n. Answers (columns_of kind) (frame_of_document (columns_of kind) (rows_of kind) n shown) rows places) (sym place)
     (subst (λ n. Answers (columns_of kind) (frame_of_document (columns_of kind) n scroll shown) rows places) eh
     (subst (λ n. Answers n (frame_of_document n h scroll shown) rows places) ew here))) in
     subst (λ frame. Answers (columns_of kind) frame rows places) (sym (plain-is (columns_of kind) (rows_of kind) s mode)) there
 
-pub free-shows : AppsAreDrawnAlike → (kind : TerminalKind) (s : Session) (a : AppView) (shown : Shown) (scroll w h : ℕ) (rows : List Row) (places : Places) → w ≡ columns_of kind → h ≡ rows_of kind
+pub free-shows : AppsAreDrawnAlike → (kind : TerminalKind) (s : Session) (a : AppView) (shown : ViewState) (scroll w h : ℕ) (rows : List Row) (places : Places) → w ≡ columns_of kind → h ≡ rows_of kind
     → ShowsSession a shown → s.shown ≡ shown → s.scroll ≡ scroll → is_plain w h shown.view_mode ≡ false
     → rows ≡ (frame_of_view w h scroll a).rows → KnowsPlaces w (frame_of_view w h scroll a) places
     → Answers (columns_of kind) (scene_of kind s).frame rows places
 free-shows alike kind s a shown scroll w h rows places ew eh shows same place free drawn kept =
     let mode : is_plain (columns_of kind) (rows_of kind) s.shown.view_mode ≡ false =
-    subst (λ (k : Shown). is_plain (columns_of kind) (rows_of kind) k.view_mode ≡ false) (sym same)
+    subst (λ (k : ViewState). is_plain (columns_of kind) (rows_of kind) k.view_mode ≡ false) (sym same)
     (subst (λ n. is_plain (columns_of kind) n shown.view_mode ≡ false) eh (subst (λ n. is_plain n h shown.view_mode ≡ false) ew free)) in
     let there : Answers (columns_of kind) (frame_of_view (columns_of kind) (rows_of kind) s.scroll a) rows places =
     subst (λ n. Answers (columns_of kind) (frame_of_view (columns_of kind) (rows_of kind) n a) rows places) (sym place)

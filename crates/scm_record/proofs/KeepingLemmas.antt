@@ -10,7 +10,7 @@ use Rattle.scm_types.specs.declared.state.Commit.{Commit}
 use Rattle.scm_types.specs.declared.state.RecordState.{RecordState}
 use Rattle.scm_types.specs.Limits.{is_accepted_state}
 use Rattle.scm_types.specs.Marks.{file_marks, section_marks, tristate_of, line_with_mark, section_with_marks, file_with_marks}
-use Rattle.scm_types.specs.Same.{unmarked, emptied_commit}
+use Rattle.scm_types.specs.Same.{unmarked, with_empty_message}
 use Rattle.scm_types.specs.Mode.{is_absent}
 use Rattle.scm_types.specs.declared.keys.SelectionKey.{SelectionKey}
 use Rattle.scm_types.specs.declared.keys.SelectionKey.TheVariants as keys
@@ -18,25 +18,25 @@ use Rattle.scm_types.specs.Edits.{modify}
 use Rattle.scm_types.specs.Limits.{is_short_text}
 use Rattle.scm_types.proofs.EditLemmas.{map-modify-same}
 use Rattle.scm_input.specs.declared.events.Event.{Event}
-use Rattle.scm_record.specs.declared.selector.Flow.{Flow}
-use Rattle.scm_record.specs.declared.selector.Flow.TheVariants as flows
+use Rattle.scm_record.specs.declared.session.Flow.{Flow}
+use Rattle.scm_record.specs.declared.session.Flow.TheVariants as flows
 use Rattle.std.specs.List.{list_any}
 use Rattle.scm_selection.specs.Coherence.{KeepsCoherent}
 use Rattle.scm_selection.proofs.CoherenceLemmas.{keeps_coherent-same}
-use Rattle.scm_types.specs.Repair.{is_deletion, is_new_and_deleted, with_deletion_unchecked, with_mode_checked, some_line, without_deletion, with_creation, repaired}
+use Rattle.scm_types.specs.Repair.{is_deletion, is_new_and_deleted, with_deletion_unchecked, with_mode_checked, some_line, without_deletion, with_creation, file_after_repair}
 use Rattle.scm_selection.specs.Toggle.{mark_after, with_changed_set, after_lines, after_mode, after_section, with_file_toggled, with_section_set, with_this_section_toggled, with_section_toggled, with_line_inverted, line_mark, with_this_line_toggled, with_line_toggled, with_key_toggled, with_all_inverted, with_all_set}
-use Rattle.scm_input.specs.Script.{Read, Batch, BrokenRead, Edit, Answer, BrokenEdit, Reply, no_more}
-use Rattle.scm_record.specs.Session.{Session, start, padded, padded_state, with_files_changed, message_text, with_message, message_of, commit_saying}
+use Rattle.scm_input.specs.Script.{Read, Batch, BrokenRead, Edit, Answer, BrokenEdit, Reply, no_messages_left}
+use Rattle.scm_record.specs.Session.{Session, start, padded_commits, padded_state, with_files_changed, message_text, with_message, message_of, commit_with_message}
 use Rattle.scm_record.specs.Frames.{Scene, scene_of}
-use Rattle.scm_record.specs.Uses.{shot_of}
+use Rattle.scm_record.specs.FrameQueries.{shot_of}
 use Rattle.scm_record.specs.Step.{change}
-use Rattle.scm_record.specs.Run.{World, with_session, with_edits, with_text, Goes, Breaks, no_such_place, too_long, answered, edited, outcome_by, Point, Before, Drawn, Within, Accepted, Failed, resume, read, batch, after, Reaches, here, on, world_at}
+use Rattle.scm_record.specs.Run.{World, with_session, with_edits, with_text, Goes, Breaks, no_such_place, too_long, after_answer, after_edit, outcome_by, Point, Before, Drawn, Within, Accepted, Failed, resume, next_read, batch, after, Reaches, here, on, world_at}
 use Rattle.scm_record.specs.Keeping.{IsKept, has_message}
 use Rattle.scm_record.proofs.StepCoherenceLemmas.{marks-keep}
 use Rattle.scm_record.proofs.StepLemmas as steps
 use Rattle.scm_record.proofs.StepLemmas.{Allows, Marks, toggled, inverted, all_set, leads, marks-allow, message_at}
 
-message-first : (text : List ℕ) (message : Option (List ℕ)) (cs : List Commit) → is_some message ≡ true → emptied_commit (record { message = Some text }) ∷ cs ≡ emptied_commit (record { message = message }) ∷ cs
+message-first : (text : List ℕ) (message : Option (List ℕ)) (cs : List Commit) → is_some message ≡ true → with_empty_message (record { message = Some text }) ∷ cs ≡ with_empty_message (record { message = message }) ∷ cs
 message-first text None cs h = cc
 message-first text (Some other) cs h = refl
 
@@ -160,20 +160,20 @@ with_creation-hidden mode list =
     cond-hidden bare (is_absent mode && some_line (λ b. b) list) (map with_mode_checked list) list list (map-hidden bare_section with_mode_checked mode-hidden list) refl
 
 -- a repair changes marks alone
-repaired-hidden : (file : File) → bare_file (repaired file) ≡ bare_file file
+repaired-hidden : (file : File) → bare_file (file_after_repair file) ≡ bare_file file
 repaired-hidden file =
     ap (λ (list : List Section). record file { sections = list })
     (with_creation-hidden file.file_mode (without_deletion file.sections) ∙ without_deletion-hidden file.sections)
 
 pub inverted-hidden : (files : List File) → map bare_file (with_all_inverted files) ≡ map bare_file files
 inverted-hidden files =
-    map-hidden bare_file (λ file. repaired (file_with_marks not file))
+    map-hidden bare_file (λ file. file_after_repair (file_with_marks not file))
     (λ file. repaired-hidden (file_with_marks not file) ∙ ap (λ (list : List Section). record file { sections = list }) (map-hidden bare_section (section_with_marks not) (marks-hidden not) file.sections)) files
 
 -- a state is the padded given one but for marks, and whole where it is read-only
 record IsGiven (given state : RecordState) : Type 0 where
   same : unmarked (padded_state given) ≡ unmarked state
-  commits : map has_message state.commits ≡ map has_message (padded given.commits)
+  commits : map has_message state.commits ≡ map has_message (padded_commits given.commits)
   flag : state.is_read_only ≡ given.is_read_only
   files : IsTrue given.is_read_only → state.files ≡ given.files
 
@@ -190,12 +190,12 @@ files-given false given s f hidden e h = record {
 files_changed-given : (given : RecordState) (s : Session) (f : List File → List File) → ((files : List File) → map bare_file (f files) ≡ map bare_file files) → IsGiven given s.shown.state → IsGiven given (with_files_changed f s).shown.state
 files_changed-given given s f hidden h = files-given s.shown.state.is_read_only given s f hidden refl h
 
-message-emptied : (text : List ℕ) (cs : List Commit) (i : ℕ) → is_some (message_at cs i) ≡ true → map emptied_commit (modify (commit_saying text) cs i) ≡ map emptied_commit cs
+message-emptied : (text : List ℕ) (cs : List Commit) (i : ℕ) → is_some (message_at cs i) ≡ true → map with_empty_message (modify (commit_with_message text) cs i) ≡ map with_empty_message cs
 message-emptied text [] i h = refl
-message-emptied text (c ∷ cs) zero h = message-first text c.message (map emptied_commit cs) h
-message-emptied text (c ∷ cs) (suc i) h = ap (λ ds. emptied_commit c ∷ ds) (message-emptied text cs i h)
+message-emptied text (c ∷ cs) zero h = message-first text c.message (map with_empty_message cs) h
+message-emptied text (c ∷ cs) (suc i) h = ap (λ ds. with_empty_message c ∷ ds) (message-emptied text cs i h)
 
-message-has : (text : List ℕ) (cs : List Commit) (i : ℕ) → is_some (message_at cs i) ≡ true → map has_message (modify (commit_saying text) cs i) ≡ map has_message cs
+message-has : (text : List ℕ) (cs : List Commit) (i : ℕ) → is_some (message_at cs i) ≡ true → map has_message (modify (commit_with_message text) cs i) ≡ map has_message cs
 message-has text [] i h = refl
 message-has text (c ∷ cs) zero h = ap (λ b. b ∷ map has_message cs) (sym h)
 message-has text (c ∷ cs) (suc i) h = ap (λ ds. has_message c ∷ ds) (message-has text cs i h)
@@ -232,7 +232,7 @@ bare-deletions (s ∷ list) = ap₂ (λ a b. a || b) (bare-deletion s) (bare-del
 bare-new_and_deleted : (file : File) → is_new_and_deleted (bare_file file) ≡ is_new_and_deleted file
 bare-new_and_deleted file = ap (λ b. is_absent file.file_mode && b) (bare-deletions file.sections)
 
--- the file that stands at an index of another list, which has the same files but for their marks
+-- the file at an index of another list, which has the same files but for their marks
 record IsAt (files : List File) (i : ℕ) (file : File) : Type 0 where
   found : File
   at : slice_get files i ≡ Some found
@@ -278,12 +278,12 @@ short-kept : (given : RecordState) (drawn : Session) (rest : List Event) (b : Bo
 short-kept given drawn rest true w v k h = k
 short-kept given drawn rest false w v k h = h
 
-answered-kept : (given : RecordState) (drawn : Session) (rest : List Event) (w : World) (commit : ℕ) (edit : Edit) → Kept given w.session.shown.state → is_some (message_of w.session commit) ≡ true → KeptAt given (resume drawn rest (answered w commit edit))
+answered-kept : (given : RecordState) (drawn : Session) (rest : List Event) (w : World) (commit : ℕ) (edit : Edit) → Kept given w.session.shown.state → is_some (message_of w.session commit) ≡ true → KeptAt given (resume drawn rest (after_answer w commit edit))
 answered-kept given drawn rest w commit (Answer text) h k = short-kept given drawn rest (is_short_text text) w (with_session w (with_message w.session commit text)) (message-kept given w.session commit text h k) h
 answered-kept given drawn rest w commit (BrokenEdit fault) h k = h
 
-edited-kept : (given : RecordState) (drawn : Session) (rest : List Event) (w : World) (commit : ℕ) (edits : List Reply) → Kept given w.session.shown.state → is_some (message_of w.session commit) ≡ true → KeptAt given (resume drawn rest (edited w commit edits))
-edited-kept given drawn rest w commit [] h k = answered-kept given drawn rest (with_edits w []) commit no_more h k
+edited-kept : (given : RecordState) (drawn : Session) (rest : List Event) (w : World) (commit : ℕ) (edits : List Reply) → Kept given w.session.shown.state → is_some (message_of w.session commit) ≡ true → KeptAt given (resume drawn rest (after_edit w commit edits))
+edited-kept given drawn rest w commit [] h k = answered-kept given drawn rest (with_edits w []) commit no_messages_left h k
 edited-kept given drawn rest w commit (reply ∷ edits) h k = answered-kept given drawn rest (with_edits w edits) commit (reply (message_text w.session commit)) h k
 
 shot-kept : (given : RecordState) (drawn : Session) (rest : List Event) (b : Bool) (w v : World) → v.session ≡ w.session → Kept given w.session.shown.state → KeptAt given (resume drawn rest (cond b (Goes v) (Breaks no_such_place w)))
@@ -297,7 +297,7 @@ outcome-kept given scene drawn rest w flows.Cancel k h = h
 outcome-kept given scene drawn rest w (flows.Edit commit) k h = edited-kept given drawn rest w commit w.edits h k
 outcome-kept given scene drawn rest w (flows.Shoot place) k h = shot-kept given drawn rest (nat_lt place (length w.texts)) w (with_text w place (shot_of scene w.session.cleared)) refl h
 
-read-kept : (given : RecordState) (w : World) (reads : List Read) → Kept given w.session.shown.state → KeptAt given (read w reads)
+read-kept : (given : RecordState) (w : World) (reads : List Read) → Kept given w.session.shown.state → KeptAt given (next_read w reads)
 read-kept given w [] h = h
 read-kept given w (Batch list ∷ reads) h = h
 read-kept given w (BrokenRead fault ∷ reads) h = h
@@ -333,7 +333,7 @@ start-kept given = record {
 few_commits : (state : RecordState) → IsTrue (is_accepted_state state) → length state.commits ≤ 2
 few_commits state h = leb-true _ _ (and_parts _ _ (and_parts _ _ (and_parts _ _ h).0).0).0
 
-padded-two : (commits : List Commit) → length commits ≤ 2 → length (padded commits) ≡ 2
+padded-two : (commits : List Commit) → length commits ≤ 2 → length (padded_commits commits) ≡ 2
 padded-two [] h = refl
 padded-two (first ∷ []) h = refl
 padded-two (first ∷ second ∷ rest) h = omega arith
@@ -346,7 +346,7 @@ length-mapped f (x ∷ xs) = ap suc (length-mapped f xs)
 pub is-kept : (given answer : RecordState) → IsTrue (is_accepted_state given) → Kept given answer → IsKept given answer
 is-kept given answer accepted kept = record {
   same = kept.alone.same;
-  commits = sym (length-mapped has_message answer.commits) ∙ ap length kept.alone.commits ∙ length-mapped has_message (padded given.commits) ∙ padded-two given.commits (few_commits given accepted);
+  commits = sym (length-mapped has_message answer.commits) ∙ ap length kept.alone.commits ∙ length-mapped has_message (padded_commits given.commits) ∙ padded-two given.commits (few_commits given accepted);
   messages = kept.alone.commits;
   read_only = kept.alone.files;
   coherent = kept.coherent;

@@ -10,20 +10,20 @@ use Rattle.scm_types.specs.declared.state.RecordState.{RecordState}
 use Rattle.scm_input.specs.declared.events.Event.{Event}
 use Rattle.scm_input.specs.declared.inputs.TerminalKind.{TerminalKind}
 use Rattle.scm_input.specs.Script.{Read, Batch, Reply, no_events_left}
-use Rattle.scm_record.specs.declared.selector.Flow.{Flow}
-use Rattle.scm_record.specs.declared.selector.Flow.TheVariants as flows
+use Rattle.scm_record.specs.declared.session.Flow.{Flow}
+use Rattle.scm_record.specs.declared.session.Flow.TheVariants as flows
 use Rattle.scm_record.specs.Session.{Session, IsDrawable, after_frame, message_of, message_text, start, with_message, without_pending}
 use Rattle.scm_record.specs.declared.frame.DrawnFrame.{DrawnFrame}
 use Rattle.scm_view.specs.Frame.{Frame}
-use Rattle.scm_record.specs.Frames.{HasSize, IsShown, Scene, columns_of, rows_of, scene_of}
-use Rattle.scm_record.specs.Uses.{hit, shot_of}
+use Rattle.scm_record.specs.Frames.{HasSize, IsSceneOf, Scene, columns_of, rows_of, scene_of}
+use Rattle.scm_record.specs.FrameQueries.{hit, shot_of}
 use Rattle.scm_record.specs.Step.{Change, change}
-use Rattle.scm_record.specs.Run.{Setting, World, world_in, with_session, Outcome, Goes, Breaks, Point, Before, Drawn, Within, Accepted, no_such_place, too_long, kept_at, edited, outcome_by, resume, batch, Reaches, here, on, world_at, Stops}
-use Rattle.scm_record.specs.Turn.{IsFault}
-use Rattle.scm_record.specs.Live.{Live, Asking, on_screen}
+use Rattle.scm_record.specs.Run.{Setting, World, world_in, with_session, Outcome, Goes, Breaks, Point, Before, Drawn, Within, Accepted, no_such_place, too_long, after_screenshot, after_edit, outcome_by, resume, batch, Reaches, here, on, world_at, Stops}
+use Rattle.scm_record.specs.RunContracts.{IsFault}
+use Rattle.scm_record.specs.Live.{Live, LiveEdit, on_screen}
 use Rattle.scm_record.specs.declared.live.Turn.{Turn}
 use Rattle.scm_record.specs.declared.live.Turn.TheVariants.{Waiting, Editing, Accepted as Done}
-use Rattle.scm_record.specs.Calls.{live, answering, waits, asks, Leads, Fails, EventLeads, MessageLeads, Call, Press, Say, Resize, keep_screen, Path, still, press, say, resize, reads_of, edits_of, beginning, run_of, IsConfirmed, IsRun, AreRuns, last, resized, EndsIn, press_fails, say_fails, IsFailedRun}
+use Rattle.scm_record.specs.LiveCalls.{live_setting, fixed_reply, waiting_point, editing_point, Leads, Fails, EventLeads, MessageLeads, Call, Press, Say, Resize, is_on_one_screen, Path, still, press, say, resize, reads_of, edits_of, beginning, run_of, IsConfirmed, IsRun, AreRuns, last, resized, EndsIn, press_fails, say_fails, IsFailedRun}
 use Rattle.scm_record.specs.Headline.{ConfirmsQuit, IsInline, owner_at, window_of}
 use Rattle.scm_record.specs.Keeping.{IsKept}
 use Rattle.scm_record.proofs.BatchLemmas.{batches-are-handled, batches-begin-as-drawn}
@@ -130,7 +130,7 @@ module _ (a : Setting) (drawn s t : Session) (frames : ℕ) (event : Event) (flo
   ends e = follows flows.Accept e
 
   -- a message is asked for
-  pub edits : (commit : ℕ) → flow ≡ flows.Edit commit → Reaches P (resume drawn [] (edited (world_in a t frames) commit a.edits))
+  pub edits : (commit : ℕ) → flow ≡ flows.Edit commit → Reaches P (resume drawn [] (after_edit (world_in a t frames) commit a.edits))
   edits commit e = follows (flows.Edit commit) e
 
   -- the user gives up
@@ -142,11 +142,11 @@ module _ (a : Setting) (drawn s t : Session) (frames : ℕ) (event : Event) (flo
   lacks-place place e none error f =
       let w = world_in a t frames in
       let lacks : nat_lt place (length w.texts) ≡ false = rw none (no-place place) in
-      let broken : kept_at w place (shot_of (scene_of a.kind drawn) t.cleared) ≡ Breaks no_such_place w = rw lacks refl in
+      let broken : after_screenshot w place (shot_of (scene_of a.kind drawn) t.cleared) ≡ Breaks no_such_place w = rw lacks refl in
       failing error P w (stops-fault error no_such_place P w (subst (λ (o : Outcome). Reaches P (resume drawn [] o)) broken (follows (flows.Shoot place) e)) f)
 
 -- a frame has the size of the screen whose scene it shows
-pub shown-sized : (kind : TerminalKind) (drawn : Session) (frame : DrawnFrame) → IsShown (scene_of kind drawn) frame → HasSize kind frame
+pub shown-sized : (kind : TerminalKind) (drawn : Session) (frame : DrawnFrame) → IsSceneOf (scene_of kind drawn) frame → HasSize kind frame
 shown-sized kind drawn frame h = record { width = h.width; height = h.height }
 
 -- with nothing pending nothing is taken
@@ -155,9 +155,9 @@ calm-session t u e f = ap (λ (list : List Event). record t { cleared = false; p
 
 -- a frame with nothing pending: the session waits
 pub comes-to-wait : (p : Point) (kind : TerminalKind) (reads : List Read) (edits : List Reply) (t u : Session) (frames : ℕ)
-    → [] ≡ t.pending → u ≡ without_pending (after_frame t) → Reaches p (Drawn (world_in (live kind reads edits) (after_frame t) frames)) → Leads p kind reads edits (Waiting (record { session = u; kind = kind }))
+    → [] ≡ t.pending → u ≡ without_pending (after_frame t) → Reaches p (Drawn (world_in (live_setting kind reads edits) (after_frame t) frames)) → Leads p kind reads edits (Waiting (record { session = u; kind = kind }))
 comes-to-wait p kind reads edits t u frames e f r =
-    (frames, refl, ap (λ (s : Session). s.pending) f, subst (λ (x : Session). Reaches p (Drawn (world_in (live kind reads edits) x frames))) (calm-session t u e f) r)
+    (frames, refl, ap (λ (s : Session). s.pending) f, subst (λ (x : Session). Reaches p (Drawn (world_in (live_setting kind reads edits) x frames))) (calm-session t u e f) r)
 
 -- a frame with an event pending: it is handled
 pub comes-to-handle : (p : Point) (a : Setting) (t u : Session) (frames : ℕ) (next : Event)
@@ -171,33 +171,33 @@ comes-to-handle p a t u frames next e f r =
 
 -- an event that is handed in is read
 pub reads-event : (l : Live) (event : Event) (reads : List Read) (edits : List Reply) (frames : ℕ) → l.session.pending ≡ []
-    → Reaches (waits l (Batch (event ∷ []) ∷ reads) edits frames) (Within l.session (world_in (live l.kind reads edits) l.session frames) (event ∷ []))
+    → Reaches (waiting_point l (Batch (event ∷ []) ∷ reads) edits frames) (Within l.session (world_in (live_setting l.kind reads edits) l.session frames) (event ∷ []))
 reads-event l event reads edits frames e =
-    let p = waits l (Batch (event ∷ []) ∷ reads) edits frames in
-    subst (λ (list : List Event). Reaches p (batch (world_in (live l.kind (Batch (event ∷ []) ∷ reads) edits) l.session frames) list)) e (on here)
+    let p = waiting_point l (Batch (event ∷ []) ∷ reads) edits frames in
+    subst (λ (list : List Event). Reaches p (batch (world_in (live_setting l.kind (Batch (event ∷ []) ∷ reads) edits) l.session frames) list)) e (on here)
 
-module _ (a : Asking) (text : List ℕ) (drawn : Session) (reads : List Read) (edits : List Reply) (frames : ℕ) where
+module _ (a : LiveEdit) (text : List ℕ) (drawn : Session) (reads : List Read) (edits : List Reply) (frames : ℕ) where
   abbrev Asked : Point
-  Asked = asks drawn a reads (answering text ∷ edits) frames
+  Asked = editing_point drawn a reads (fixed_reply text ∷ edits) frames
 
   abbrev said : Session
   said = with_message a.session a.commit text
 
-  -- a message that is handed in stands in the next frame
-  pub says-message : true ≡ is_short_text text → Reaches Asked (Drawn (world_in (live a.kind reads edits) (after_frame said) (frames + 1)))
+  -- a message that is handed in is part of the next frame
+  pub says-message : true ≡ is_short_text text → Reaches Asked (Drawn (world_in (live_setting a.kind reads edits) (after_frame said) (frames + 1)))
   says-message e =
-      let w = world_in (live a.kind reads edits) a.session frames in
+      let w = world_in (live_setting a.kind reads edits) a.session frames in
       let short : Reaches Asked (resume drawn [] (cond true (Goes (with_session w said)) (Breaks too_long w))) = subst (λ (b : Bool). Reaches Asked (resume drawn [] (cond b (Goes (with_session w said)) (Breaks too_long w)))) (sym e) here in
       on (on short)
 
   -- the same of the session that is known to say it
-  pub says-drawn : (t : Session) → t ≡ said → true ≡ is_short_text text → Reaches Asked (Drawn (world_in (live a.kind reads edits) (after_frame t) (frames + 1)))
-  says-drawn t e short = subst (λ (s : Session). Reaches Asked (Drawn (world_in (live a.kind reads edits) (after_frame s) (frames + 1)))) (sym e) (says-message short)
+  pub says-drawn : (t : Session) → t ≡ said → true ≡ is_short_text text → Reaches Asked (Drawn (world_in (live_setting a.kind reads edits) (after_frame t) (frames + 1)))
+  says-drawn t e short = subst (λ (s : Session). Reaches Asked (Drawn (world_in (live_setting a.kind reads edits) (after_frame s) (frames + 1)))) (sym e) (says-message short)
 
   -- one that is too long is a fault
   pub says-too-long : false ≡ is_short_text text → (error : RecordError) → IsFault too_long error → Fails Asked error
   says-too-long e error f =
-      let w = world_in (live a.kind reads edits) a.session frames in
+      let w = world_in (live_setting a.kind reads edits) a.session frames in
       let long : Reaches Asked (resume drawn [] (cond false (Goes (with_session w said)) (Breaks too_long w))) = subst (λ (b : Bool). Reaches Asked (resume drawn [] (cond b (Goes (with_session w said)) (Breaks too_long w)))) (sym e) here in
       failing error Asked w (stops-fault error too_long Asked w long f)
 
@@ -207,18 +207,18 @@ module _ (a : Asking) (text : List ℕ) (drawn : Session) (reads : List Read) (e
 handles-on : (p : Point) (kind : TerminalKind) (l : Live) (event : Event) (turn : Turn) (reads : List Read) (edits : List Reply)
     → EventLeads l event turn → Leads p kind (Batch (event ∷ []) ∷ reads) edits (Waiting l) → Leads p kind reads edits turn
 handles-on p kind l event turn reads edits g h =
-    let q = waits l (Batch (event ∷ []) ∷ reads) edits h.0 in
+    let q = waiting_point l (Batch (event ∷ []) ∷ reads) edits h.0 in
     leads-after p q kind reads edits turn h.3 (subst (λ (k : TerminalKind). Leads q k reads edits turn) h.1 (g reads edits h.0))
 
-answers-on : (p : Point) (kind : TerminalKind) (a : Asking) (text : List ℕ) (turn : Turn) (reads : List Read) (edits : List Reply)
-    → MessageLeads a text turn → Leads p kind reads (answering text ∷ edits) (Editing a) → Leads p kind reads edits turn
+answers-on : (p : Point) (kind : TerminalKind) (a : LiveEdit) (text : List ℕ) (turn : Turn) (reads : List Read) (edits : List Reply)
+    → MessageLeads a text turn → Leads p kind reads (fixed_reply text ∷ edits) (Editing a) → Leads p kind reads edits turn
 answers-on p kind a text turn reads edits g h =
-    let q = asks h.0 a reads (answering text ∷ edits) h.1 in
+    let q = editing_point h.0 a reads (fixed_reply text ∷ edits) h.1 in
     leads-after p q kind reads edits turn h.3 (subst (λ (k : TerminalKind). Leads q k reads edits turn) h.2 (g h.0 reads edits h.1))
 
 -- on one screen, from turn to turn
 path-leads : (reads : List Read) (edits : List Reply) (p : Point) (kind : TerminalKind) {turn end : Turn} {calls : List Call}
-    → IsTrue (keep_screen calls) → Path turn calls end → Leads p kind (reads_of calls ++ reads) (edits_of calls ++ edits) turn → Leads p kind reads edits end
+    → IsTrue (is_on_one_screen calls) → Path turn calls end → Leads p kind (reads_of calls ++ reads) (edits_of calls ++ edits) turn → Leads p kind reads edits end
 path-leads reads edits p kind k still h = h
 path-leads reads edits p kind k (press {l = l} {event = event} {turn = turn} {calls = calls} g path) h =
     path-leads reads edits p kind k path (handles-on p kind l event turn (reads_of calls ++ reads) (edits_of calls ++ edits) g h)
@@ -229,9 +229,9 @@ path-leads reads edits p kind k (resize path) h = cc
 -- with no reads and edits to come a run that waits ends in a fault
 is-confirmed : (w : World) (kind : TerminalKind) (turn : Turn) → Leads (Before w) kind [] [] turn → IsConfirmed (Before w) turn
 is-confirmed w kind (Waiting l) h =
-    let v = world_in (live l.kind [] []) l.session h.0 in
+    let v = world_in (live_setting l.kind [] []) l.session h.0 in
     fault-unconfirmed (Before w) no_events_left v (subst (λ (list : List Event). Reaches (Before w) (batch v list)) h.2 (on h.3))
-is-confirmed w kind (Editing a) h = fault-unconfirmed (Before w) _ (world_in (live a.kind [] []) a.session h.1) h.3
+is-confirmed w kind (Editing a) h = fault-unconfirmed (Before w) _ (world_in (live_setting a.kind [] []) a.session h.1) h.3
 is-confirmed w kind (Done state) h = subst (λ (x : RecordState). ConfirmsQuit (Before w) x) h.2 (accepted-confirmed w _ h.3)
 
 -- a call more is a read or an edit more, behind those before it
@@ -244,7 +244,7 @@ reads-last (Resize kind ∷ calls) call reads = reads-last calls call reads
 edits-last : (calls : List Call) (call : Call) (edits : List Reply) → edits_of calls ++ (edits_of (call ∷ []) ++ edits) ≡ edits_of (calls ++ call ∷ []) ++ edits
 edits-last [] call edits = refl
 edits-last (Press event ∷ calls) call edits = edits-last calls call edits
-edits-last (Say text ∷ calls) call edits = ap (λ (list : List Reply). answering text ∷ list) (edits-last calls call edits)
+edits-last (Say text ∷ calls) call edits = ap (λ (list : List Reply). fixed_reply text ∷ list) (edits-last calls call edits)
 edits-last (Resize kind ∷ calls) call edits = edits-last calls call edits
 
 module _ (s : Session) (kind : TerminalKind) (drawable : IsDrawable s) (calm : s.pending ≡ []) where
@@ -254,14 +254,14 @@ module _ (s : Session) (kind : TerminalKind) (drawable : IsDrawable s) (calm : s
       rw (reads-last calls (Press event) reads) (rw (edits-last calls (Press event) edits) refl)
 
   said-last : (calls : List Call) (text : List ℕ) (reads : List Read) (edits : List Reply)
-      → beginning s kind calls reads (answering text ∷ edits) ≡ beginning s kind (calls ++ Say text ∷ []) reads edits
+      → beginning s kind calls reads (fixed_reply text ∷ edits) ≡ beginning s kind (calls ++ Say text ∷ []) reads edits
   said-last calls text reads edits =
       rw (reads-last calls (Say text) reads) (rw (edits-last calls (Say text) edits) refl)
 
   -- calls on one screen are a run
-  is-run : (calls : List Call) (turn : Turn) → IsTrue (keep_screen calls) → Path (Waiting (record { session = after_frame s; kind = kind })) calls turn → IsRun s kind calls turn
+  is-run : (calls : List Call) (turn : Turn) → IsTrue (is_on_one_screen calls) → Path (Waiting (record { session = after_frame s; kind = kind })) calls turn → IsRun s kind calls turn
   is-run calls turn k path =
-      let w = world_in (live kind (reads_of calls ++ []) (edits_of calls ++ [])) s 0 in
+      let w = world_in (live_setting kind (reads_of calls ++ []) (edits_of calls ++ [])) s 0 in
       let leads : (reads : List Read) (edits : List Reply) → Leads (beginning s kind calls reads edits) kind reads edits turn = λ reads edits. path-leads reads edits (beginning s kind calls reads edits) kind k path (1, refl, calm, on here) in
       record {
         leads = leads;
@@ -272,32 +272,32 @@ module _ (s : Session) (kind : TerminalKind) (drawable : IsDrawable s) (calm : s
       }
 
   -- an event or a message after them with which the session ends in an error makes a run that fails with it
-  is-failed-run : (calls : List Call) {turn : Turn} {call : Call} {error : RecordError} → IsTrue (keep_screen calls)
+  is-failed-run : (calls : List Call) {turn : Turn} {call : Call} {error : RecordError} → IsTrue (is_on_one_screen calls)
       → Path (Waiting (record { session = after_frame s; kind = kind })) calls turn → EndsIn error turn call → IsFailedRun s kind (calls ++ call ∷ []) error
   is-failed-run calls {error = error} k path (press_fails {l = l} {event = event} g) = λ reads edits.
       let h = (is-run calls (Waiting l) k path).leads (Batch (event ∷ []) ∷ reads) edits in
       let p = beginning s kind calls (Batch (event ∷ []) ∷ reads) edits in
       subst (λ (q : Point). Fails q error) (pressed-last calls event reads edits)
-      (fails-after p (waits l (Batch (event ∷ []) ∷ reads) edits h.0) error h.3 (g reads edits h.0))
+      (fails-after p (waiting_point l (Batch (event ∷ []) ∷ reads) edits h.0) error h.3 (g reads edits h.0))
   is-failed-run calls {error = error} k path (say_fails {a = a} {text = text} g) = λ reads edits.
-      let h = (is-run calls (Editing a) k path).leads reads (answering text ∷ edits) in
-      let p = beginning s kind calls reads (answering text ∷ edits) in
+      let h = (is-run calls (Editing a) k path).leads reads (fixed_reply text ∷ edits) in
+      let p = beginning s kind calls reads (fixed_reply text ∷ edits) in
       subst (λ (q : Point). Fails q error) (said-last calls text reads edits)
-      (fails-after p (asks h.0 a reads (answering text ∷ edits) h.1) error h.3 (g h.0 reads edits h.1))
+      (fails-after p (editing_point h.0 a reads (fixed_reply text ∷ edits) h.1) error h.3 (g h.0 reads edits h.1))
 
 -- ---- screen by screen
 
 -- a path in parts, each on one screen
 data Parts : Turn → List Call → Turn → Type 0 where
-  one : {turn end : Turn} {calls : List Call} → IsTrue (keep_screen calls) → Path turn calls end → Parts turn calls end
+  one : {turn end : Turn} {calls : List Call} → IsTrue (is_on_one_screen calls) → Path turn calls end → Parts turn calls end
   more : {turn end : Turn} {l : Live} {other : TerminalKind} {calls later : List Call}
-      → IsTrue (keep_screen calls) → Path turn calls (Waiting l) → Parts (Waiting (on_screen l other)) later end → Parts turn (calls ++ Resize other ∷ later) end
+      → IsTrue (is_on_one_screen calls) → Path turn calls (Waiting l) → Parts (Waiting (on_screen l other)) later end → Parts turn (calls ++ Resize other ∷ later) end
 
 press-first : {l : Live} {event : Event} {turn end : Turn} {calls : List Call} → EventLeads l event turn → Parts turn calls end → Parts (Waiting l) (Press event ∷ calls) end
 press-first g (one k path) = one k (press g path)
 press-first g (more k path parts) = more k (press g path) parts
 
-say-first : {a : Asking} {text : List ℕ} {turn end : Turn} {calls : List Call} → MessageLeads a text turn → Parts turn calls end → Parts (Editing a) (Say text ∷ calls) end
+say-first : {a : LiveEdit} {text : List ℕ} {turn end : Turn} {calls : List Call} → MessageLeads a text turn → Parts turn calls end → Parts (Editing a) (Say text ∷ calls) end
 say-first g (one k path) = one k (say g path)
 say-first g (more k path parts) = more k (say g path) parts
 
@@ -327,10 +327,10 @@ module _ (given : RecordState) (kind : TerminalKind) (calls : List Call) (accept
   drawable : IsDrawable (start given)
   drawable = start-drawable given accepted
 
-  pub session-is-run : (turn : Turn) → IsTrue (keep_screen calls) → Path (Waiting (record { session = start given; kind = kind })) calls turn → IsRun (start given) kind calls turn
+  pub session-is-run : (turn : Turn) → IsTrue (is_on_one_screen calls) → Path (Waiting (record { session = start given; kind = kind })) calls turn → IsRun (start given) kind calls turn
   session-is-run turn k path = is-run (start given) kind drawable refl calls turn k path
 
-  pub session-fails : (turn : Turn) (call : Call) (error : RecordError) → IsTrue (keep_screen calls)
+  pub session-fails : (turn : Turn) (call : Call) (error : RecordError) → IsTrue (is_on_one_screen calls)
       → Path (Waiting (record { session = start given; kind = kind })) calls turn → EndsIn error turn call → IsFailedRun (start given) kind (calls ++ call ∷ []) error
   session-fails turn call error k path ends = is-failed-run (start given) kind drawable refl calls k path ends
 

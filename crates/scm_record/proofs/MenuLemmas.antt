@@ -2,7 +2,7 @@
 use Rattle.std.proofs.Common.{ℕ, zero, suc, ◌≤◌, Bool, true, false, List, [], ◌∷◌, Option, Some, None, cond, slice_get, arith}
 use Rattle.std.specs.Prelude.{◌==◌, option_map, option_and_then}
 use Rattle.scm_input.specs.declared.events.Event.{Event}
-use Rattle.scm_shown.specs.Menus.{Item, file_items, edit_items, select_items, view_items, items_of_menu, event_of_item}
+use Rattle.scm_view_state.specs.Menus.{Item, file_items, edit_items, select_items, view_items, items_of_menu, event_of_item}
 use Rattle.scm_record.proofs.Budget.{rank}
 
 -- an event, if there is one, that ranks below a click

@@ -1,17 +1,17 @@
 -- Inline the screen of a session in its styles is the window in its styles.
-use Rattle.std.proofs.Common.{◌≡◌, ℕ, zero, suc, ◌+◌, ◌<◌, ◌≤◌, List, [], ◌∷◌, map, length, Option, sym, ap, ◌∙◌, refl, arith}
+use Rattle.std.proofs.Common.{◌≡◌, ℕ, zero, suc, ◌+◌, ◌<◌, ◌≤◌, List, ◌∷◌, map, length, Option, sym, ap, ◌∙◌, refl, arith}
 use Rattle.std.specs.List.{range_with_len}
 use Rattle.scm_cells.specs.Cell.{Cell}
 use Rattle.scm_cells.specs.Counts.{no_counts}
 use Rattle.scm_cells.specs.Screen.{Screen}
 use Rattle.scm_cells.specs.Symbols.{symbol_at}
 use Rattle.scm_terminal.specs.declared.style.Style.{Style}
-use Rattle.scm_terminal.specs.Place.{Place, picture, place_at, place_of, styled_row}
+use Rattle.scm_terminal.specs.StyledCell.{picture, cell_at, cell_of, styled_row}
 use Rattle.scm_types.specs.Limits.{max_scroll}
-use Rattle.scm_view.specs.declared.ids.ComponentId.{ComponentId}
-use Rattle.scm_shown.specs.Styles.{style_of}
-use Rattle.scm_record.specs.Frames.{columns_of, rows_of, scene_of}
-use Rattle.scm_record.specs.Headline.{IsInline, window_of}
+use Rattle.scm_widgets.specs.declared.ids.ComponentId.{ComponentId}
+use Rattle.scm_view_state.specs.Styles.{style_of}
+use Rattle.scm_record.specs.Frames.{columns_of, rows_of}
+use Rattle.scm_record.specs.Headline.{IsInline}
 use Rattle.scm_record.specs.Live.{Live}
 use Rattle.scm_record.specs.Painted.{style_at, screen_of, picture_of, window_style_at, window_picture_of}
 use Rattle.scm_record.proofs.LiveLemmas.{inline-owner, inline-window}
@@ -31,8 +31,8 @@ picture-same : (f g : ℕ → ℕ → Style) (width : ℕ) (rows : List (List Ce
 picture-same f g width rows h =
     let grid : Screen = record { width = width; rows = rows; counts = no_counts } in
     map-same (styled_row f grid) (styled_row g grid) 0 (length rows) (λ row low high.
-    map-same (place_at f grid row) (place_at g grid row) 0 width (λ column low' high'.
-    ap (place_of (symbol_at rows row column)) (h row column (omega (arith, high)) (omega (arith, high')))))
+    map-same (cell_at f grid row) (cell_at g grid row) 0 width (λ column low' high'.
+    ap (cell_of (symbol_at rows row column)) (h row column (omega (arith, high)) (omega (arith, high')))))
 
 -- nothing of a grid counts but its size and its rows
 pub picture-of-grid : (f : ℕ → ℕ → Style) (grid : Screen) (width : ℕ) (rows : List (List Cell)) → grid.width ≡ width → grid.rows ≡ rows

@@ -5,18 +5,18 @@ use Rattle.scm_errors.specs.declared.error.RecordError.{RecordError}
 use Rattle.scm_types.specs.declared.state.RecordState.{RecordState}
 use Rattle.scm_errors.specs.Fault.{Fault, fault_of}
 use Rattle.scm_types.specs.Limits.{is_short_text}
-use Rattle.scm_view.specs.declared.quit_dialog.QuitDialog.{QuitDialog}
+use Rattle.scm_overlay.specs.declared.quit_dialog.QuitDialog.{QuitDialog}
 use Rattle.scm_input.specs.declared.events.Event.{Event}
 use Rattle.scm_input.specs.declared.events.Event.TheVariants as events
-use Rattle.scm_record.specs.declared.selector.Flow.{Flow}
-use Rattle.scm_record.specs.declared.selector.Flow.TheVariants as flows
-use Rattle.scm_input.specs.Script.{Read, Batch, BrokenRead, Edit, Answer, BrokenEdit, Reply, no_more}
+use Rattle.scm_record.specs.declared.session.Flow.{Flow}
+use Rattle.scm_record.specs.declared.session.Flow.TheVariants as flows
+use Rattle.scm_input.specs.Script.{Read, Batch, BrokenRead, Edit, Answer, BrokenEdit, Reply, no_messages_left}
 use Rattle.scm_record.specs.Session.{Session, with_help, message_text, with_message}
 use Rattle.scm_record.specs.Frames.{Scene, scene_of}
-use Rattle.scm_record.specs.Uses.{shot_of}
+use Rattle.scm_record.specs.FrameQueries.{shot_of}
 use Rattle.scm_record.specs.Change.{stays, accepts}
 use Rattle.scm_record.specs.Step.{change}
-use Rattle.scm_record.specs.Run.{World, with_session, with_edits, with_text, Goes, Breaks, no_such_place, too_long, answered, edited, outcome_by, changed, step, Point, Before, Drawn, Within, Accepted, Failed, resume, read, batch, after, Reaches, here, on, world_at, Shows, Stops}
+use Rattle.scm_record.specs.Run.{World, with_session, with_edits, with_text, Goes, Breaks, no_such_place, too_long, after_answer, after_edit, outcome_by, after_change, step, Point, Before, Drawn, Within, Accepted, Failed, resume, next_read, batch, after, Reaches, here, on, world_at, IsSameButSession, Stops}
 use Rattle.scm_record.specs.Headline.{ConfirmsQuit}
 use Rattle.scm_record.proofs.EndLemmas.{one_end}
 use Rattle.scm_record.proofs.CalmLemmas.{is_calm, is_lively, calm}
@@ -32,7 +32,7 @@ IsConfirmed p (Accepted w) = ConfirmsQuit p w.session.shown.state
 IsConfirmed p (Failed fault w) = Unit {0}
 
 module _ (p : Point) where
-  read-confirmed : (w : World) (reads : List Read) → IsConfirmed p (read w reads)
+  read-confirmed : (w : World) (reads : List Read) → IsConfirmed p (next_read w reads)
   read-confirmed w [] = tt
   read-confirmed w (Batch list ∷ reads) = tt
   read-confirmed w (BrokenRead fault ∷ reads) = tt
@@ -46,12 +46,12 @@ module _ (p : Point) where
     either-confirmed true v u fault = tt
     either-confirmed false v u fault = tt
 
-    answered-confirmed : (w : World) (commit : ℕ) (edit : Edit) → IsConfirmed p (resume drawn left (answered w commit edit))
+    answered-confirmed : (w : World) (commit : ℕ) (edit : Edit) → IsConfirmed p (resume drawn left (after_answer w commit edit))
     answered-confirmed w commit (Answer text) = either-confirmed (is_short_text text) (with_session w (with_message w.session commit text)) w too_long
     answered-confirmed w commit (BrokenEdit fault) = tt
 
-    edited-confirmed : (w : World) (commit : ℕ) (edits : List Reply) → IsConfirmed p (resume drawn left (edited w commit edits))
-    edited-confirmed w commit [] = answered-confirmed (with_edits w []) commit no_more
+    edited-confirmed : (w : World) (commit : ℕ) (edits : List Reply) → IsConfirmed p (resume drawn left (after_edit w commit edits))
+    edited-confirmed w commit [] = answered-confirmed (with_edits w []) commit no_messages_left
     edited-confirmed w commit (reply ∷ edits) = answered-confirmed (with_edits w edits) commit (reply (message_text w.session commit))
 
     -- what isn't accepted needs no quit
@@ -62,7 +62,7 @@ module _ (p : Point) where
     calm-confirmed scene w (flows.Edit commit) e = edited-confirmed w commit w.edits
     calm-confirmed scene w (flows.Shoot place) e = cc
 
-    quit-confirmed : (scene : Scene) (w : World) → Reaches p (Within drawn w (events.QuitAccept ∷ left)) → (dialog : Option QuitDialog) (help : Bool) → w.session.shown.quit_dialog ≡ dialog → w.session.shown.is_help_open ≡ help → IsConfirmed p (resume drawn left (changed scene w (cond (is_some dialog) (stays w.session) (cond help (stays (with_help w.session false)) (accepts w.session)))))
+    quit-confirmed : (scene : Scene) (w : World) → Reaches p (Within drawn w (events.QuitAccept ∷ left)) → (dialog : Option QuitDialog) (help : Bool) → w.session.shown.quit_dialog ≡ dialog → w.session.shown.is_help_open ≡ help → IsConfirmed p (resume drawn left (after_change scene w (cond (is_some dialog) (stays w.session) (cond help (stays (with_help w.session false)) (accepts w.session)))))
     quit-confirmed scene w r (Some dialog) help e f = tt
     quit-confirmed scene w r None true e f = tt
     quit-confirmed scene w r None false e f = record {
@@ -145,8 +145,8 @@ no-both p v u fault a b =
 quit-accepts : (w : World) (drawn : Session) (left : List Event) (dialog : Option QuitDialog) (help : Bool) → w.session.shown.quit_dialog ≡ dialog → w.session.shown.is_help_open ≡ help → dialog ≡ None → help ≡ false → after (Within drawn w (events.QuitAccept ∷ left)) ≡ Accepted w
 quit-accepts w drawn left dialog help e f e' f' =
     let scene = scene_of w.kind drawn in
-    ap (λ (d : Option QuitDialog). resume drawn left (changed scene w (cond (is_some d) (stays w.session) (cond w.session.shown.is_help_open (stays (with_help w.session false)) (accepts w.session))))) (e ∙ e')
-    ∙ ap (λ (b : Bool). resume drawn left (changed scene w (cond b (stays (with_help w.session false)) (accepts w.session)))) (f ∙ f')
+    ap (λ (d : Option QuitDialog). resume drawn left (after_change scene w (cond (is_some d) (stays w.session) (cond w.session.shown.is_help_open (stays (with_help w.session false)) (accepts w.session))))) (e ∙ e')
+    ∙ ap (λ (b : Bool). resume drawn left (after_change scene w (cond b (stays (with_help w.session false)) (accepts w.session)))) (f ∙ f')
 
 pub confirmed-accepts : (p : Point) (state : RecordState) → (quit : ConfirmsQuit p state) → Reaches p (Accepted quit.world)
 confirmed-accepts p state quit =
@@ -156,10 +156,10 @@ confirmed-accepts p state quit =
 pub fault-unconfirmed : (p : Point) (fault : Fault) (w : World) → Reaches p (Failed fault w) → (state : RecordState) → ConfirmsQuit p state → ⊥
 fault-unconfirmed p fault w r state quit = no-both p quit.world w fault (confirmed-accepts p state quit) r
 
-refuses-by : (f : Option Fault) (p : Point) (w : World) → MatchOption f ((q : Point) × Reaches p q × Shows w (world_at q)) (λ fault. Reaches p (Failed fault w)) → MatchOption f (Unit {0}) (λ fault. (state : RecordState) → ConfirmsQuit p state → ⊥)
+refuses-by : (f : Option Fault) (p : Point) (w : World) → MatchOption f ((q : Point) × Reaches p q × IsSameButSession w (world_at q)) (λ fault. Reaches p (Failed fault w)) → MatchOption f (Unit {0}) (λ fault. (state : RecordState) → ConfirmsQuit p state → ⊥)
 refuses-by None p w h = tt
 refuses-by (Some fault) p w h = fault-unconfirmed p fault w h
 
--- likewise one that fails with an error
+-- the same for one that fails with an error
 pub failed-unconfirmed : (error : RecordError) (p : Point) (w : World) → Stops error p w → MatchOption (fault_of error) (Unit {0}) (λ fault. (state : RecordState) → ConfirmsQuit p state → ⊥)
 failed-unconfirmed error p w h = refuses-by (fault_of error) p w h

@@ -8,22 +8,22 @@ use Rattle.scm_types.specs.Edits.{modify}
 use Rattle.scm_types.specs.Limits.{is_short_text, max_scroll}
 use Rattle.scm_cells.specs.Screen.{view_of}
 use Rattle.scm_render.specs.Canvas.{Row}
-use Rattle.scm_view.specs.declared.ids.ComponentId.{ComponentId}
+use Rattle.scm_widgets.specs.declared.ids.ComponentId.{ComponentId}
 use Rattle.scm_input.specs.declared.events.Event.{Event}
 use Rattle.scm_input.specs.declared.events.Event.TheVariants as events
 use Rattle.scm_input.specs.declared.events.TestingScreenshot.{TestingScreenshot}
 use Rattle.scm_input.specs.declared.inputs.TerminalKind.{TerminalKind}
-use Rattle.scm_record.specs.declared.selector.Flow.{Flow}
-use Rattle.scm_record.specs.declared.selector.Flow.TheVariants as flows
-use Rattle.scm_input.specs.Script.{Read, Batch, BrokenRead, Edit, Answer, BrokenEdit, Reply, no_more}
+use Rattle.scm_record.specs.declared.session.Flow.{Flow}
+use Rattle.scm_record.specs.declared.session.Flow.TheVariants as flows
+use Rattle.scm_input.specs.Script.{Read, Batch, BrokenRead, Edit, Answer, BrokenEdit, Reply, no_messages_left}
 use Rattle.scm_record.specs.Session.{Session, IsDrawable, with_help, message_text, with_message}
 use Rattle.scm_view.specs.Frame.{Frame, frame_of_document}
 use Rattle.scm_record.specs.Frames.{Scene, columns_of, rows_of, scene_of}
-use Rattle.scm_record.specs.Uses.{hit, shot_of}
-use Rattle.scm_record.specs.Clicks.{clicked}
+use Rattle.scm_record.specs.FrameQueries.{hit, shot_of}
+use Rattle.scm_record.specs.Clicks.{after_click}
 use Rattle.scm_record.specs.Change.{stays, accepts}
 use Rattle.scm_record.specs.Step.{change}
-use Rattle.scm_record.specs.Run.{Setting, World, world_in, with_session, with_edits, with_text, Goes, Breaks, no_such_place, too_long, answered, edited, outcome_by, changed, step, Point, Before, Drawn, Within, Accepted, Failed, kept_at, resume, read, batch, after, Reaches, here, on, world_at, Shows, Stops}
+use Rattle.scm_record.specs.Run.{Setting, World, world_in, with_session, with_edits, with_text, Goes, Breaks, no_such_place, too_long, after_answer, after_edit, outcome_by, after_change, step, Point, Before, Drawn, Within, Accepted, Failed, after_screenshot, resume, next_read, batch, after, Reaches, here, on, world_at, IsSameButSession, Stops}
 use Rattle.scm_record.specs.Headline.{IsInline, window_text, blank_text, shot_text, IsShot, StoreHasShots, Handling, ShotsAreWindows, ClicksHitOwners}
 use Rattle.scm_record.proofs.FrameLemmas.{plain-frame}
 use Rattle.scm_record.proofs.DrawableLemmas.{reaches-drawable}
@@ -47,7 +47,7 @@ inline-text w0 {drawn} {w} h plain =
     ∙ ap (λ (b : Bool). cond b (blank_text w.kind) (window_text w.kind drawn)) (cleared-by-redraw w0 h)
 
 pub shots-are-windows : (w0 : World) → ShotsAreWindows (Before w0)
-shots-are-windows w0 drawn w done left shot h plain = ap (kept_at w shot.place) (inline-text w0 h plain)
+shots-are-windows w0 drawn w done left shot h plain = ap (after_screenshot w shot.place) (inline-text w0 h plain)
 
 -- on the screen, and scrolled no further than a session is, a click hits the owner
 pub hit-on_screen : (scene : Scene) (s row column : ℕ) → row < scene.height → column < scene.width → s ≤ max_scroll → hit scene s row column ≡ scene.frame.owner (s + row) column
@@ -60,7 +60,7 @@ hit-on_screen scene s row column is_row is_column is_low =
 pub clicks-hit-owners : (w0 : World) → IsDrawable w0.session → ClicksHitOwners (Before w0)
 clicks-hit-owners w0 drawable drawn w done left row column h plain is_row is_column =
     let low = (reaches-drawable (handling-reached (Before w0) h) drawable).scroll in
-    ap (λ (o : Option ComponentId). changed (scene_of w.kind drawn) w (clicked drawn.shown.open_menu w.session o))
+    ap (λ (o : Option ComponentId). after_change (scene_of w.kind drawn) w (after_click drawn.shown.open_menu w.session o))
     (hit-on_screen (scene_of w.kind drawn) w.session.scroll row column is_row is_column low
     ∙ ap (λ (f : Frame). f.owner (w.session.scroll + row) column) (frame-plain w.kind drawn plain))
 
@@ -72,7 +72,7 @@ Texts = List (Option (List ℕ))
 some-same : {A : Type 0} (x y : A) → Some x ≡ Some y → x ≡ y
 some-same x y e = cc
 
--- what stands at a place of a list in which one place was set
+-- what is at an index of a list in which one index was set
 set-or-had : {A : Type 0} (x y : A) (xs : List A) (i j : ℕ) → slice_get (modify (λ _. x) xs i) j ≡ Some y → (slice_get xs j ≡ Some y) ⊎ ((i ≡ j) × (x ≡ y))
 set-or-had x y [] i j e = inl e
 set-or-had x y (z ∷ zs) zero zero e = inr (refl, some-same x y e)
@@ -114,12 +114,12 @@ short-texts : (drawn : Session) (left : List Event) (b : Bool) (v u : World) (te
 short-texts drawn left true v u texts e f = e
 short-texts drawn left false v u texts e f = f
 
-answered-texts : (drawn : Session) (left : List Event) (w : World) (commit : ℕ) (edit : Edit) → (world_at (resume drawn left (answered w commit edit))).texts ≡ w.texts
+answered-texts : (drawn : Session) (left : List Event) (w : World) (commit : ℕ) (edit : Edit) → (world_at (resume drawn left (after_answer w commit edit))).texts ≡ w.texts
 answered-texts drawn left w commit (Answer text) = short-texts drawn left (is_short_text text) (with_session w (with_message w.session commit text)) w w.texts refl refl
 answered-texts drawn left w commit (BrokenEdit fault) = refl
 
-edited-texts : (drawn : Session) (left : List Event) (w : World) (commit : ℕ) (edits : List Reply) → (world_at (resume drawn left (edited w commit edits))).texts ≡ w.texts
-edited-texts drawn left w commit [] = answered-texts drawn left (with_edits w []) commit no_more
+edited-texts : (drawn : Session) (left : List Event) (w : World) (commit : ℕ) (edits : List Reply) → (world_at (resume drawn left (after_edit w commit edits))).texts ≡ w.texts
+edited-texts drawn left w commit [] = answered-texts drawn left (with_edits w []) commit no_messages_left
 edited-texts drawn left w commit (reply ∷ edits) = answered-texts drawn left (with_edits w edits) commit (reply (message_text w.session commit))
 
 calm-texts : (drawn : Session) (left : List Event) (scene : Scene) (w : World) (flow : Flow) → is_calm flow ≡ true → (world_at (resume drawn left (outcome_by scene w flow))).texts ≡ w.texts
@@ -135,12 +135,12 @@ other-texts drawn left w event e =
     let c = change scene w.session event in
     calm-texts drawn left scene (with_session w c.session) c.flow (calm w.session scene event e).flow
 
-accept-texts : (drawn : Session) (left : List Event) (scene : Scene) (w : World) (asked help : Bool) → (world_at (resume drawn left (changed scene w (cond asked (stays w.session) (cond help (stays (with_help w.session false)) (accepts w.session)))))).texts ≡ w.texts
+accept-texts : (drawn : Session) (left : List Event) (scene : Scene) (w : World) (asked help : Bool) → (world_at (resume drawn left (after_change scene w (cond asked (stays w.session) (cond help (stays (with_help w.session false)) (accepts w.session)))))).texts ≡ w.texts
 accept-texts drawn left scene w true help = refl
 accept-texts drawn left scene w false true = refl
 accept-texts drawn left scene w false false = refl
 
-read-texts : (w : World) (reads : List Read) → (world_at (read w reads)).texts ≡ w.texts
+read-texts : (w : World) (reads : List Read) → (world_at (next_read w reads)).texts ≡ w.texts
 read-texts w [] = refl
 read-texts w (Batch list ∷ reads) = refl
 read-texts w (BrokenRead fault ∷ reads) = refl
@@ -206,7 +206,7 @@ module _ (s : Session) (a b : Setting) where
   unfolding HasShots
   reached-stores w r e = subst (λ (x : Texts). HasShots (world_in a s 0) x) e (reaches-has (world_in a s 0) r)
 
-  stopped-by : (f : Option Fault) (w : World) → MatchOption f ((q : Point) × Reaches (Before (world_in a s 0)) q × Shows w (world_at q)) (λ fault. Reaches (Before (world_in a s 0)) (Failed fault w)) → HasShots (world_in a s 0) w.texts
+  stopped-by : (f : Option Fault) (w : World) → MatchOption f ((q : Point) × Reaches (Before (world_in a s 0)) q × IsSameButSession w (world_at q)) (λ fault. Reaches (Before (world_in a s 0)) (Failed fault w)) → HasShots (world_in a s 0) w.texts
   stopped-by None w h = subst (λ (x : Texts). HasShots (world_in a s 0) x) (sym h.2.texts) (reaches-has (world_in a s 0) h.1)
   stopped-by (Some fault) w h = reaches-has (world_in a s 0) h
 

@@ -5,15 +5,15 @@ use Rattle.scm_types.specs.declared.file.File.{File}
 use Rattle.scm_types.specs.declared.state.RecordState.{RecordState}
 use Rattle.scm_types.specs.Limits.{is_short_text}
 use Rattle.scm_input.specs.declared.events.Event.{Event}
-use Rattle.scm_record.specs.declared.selector.Flow.{Flow}
-use Rattle.scm_record.specs.declared.selector.Flow.TheVariants as flows
-use Rattle.scm_input.specs.Script.{Edit, Answer, BrokenEdit, Reply, no_more}
+use Rattle.scm_record.specs.declared.session.Flow.{Flow}
+use Rattle.scm_record.specs.declared.session.Flow.TheVariants as flows
+use Rattle.scm_input.specs.Script.{Edit, Answer, BrokenEdit, Reply, no_messages_left}
 use Rattle.scm_selection.specs.Toggle.{with_key_toggled, with_all_inverted, with_all_set}
 use Rattle.scm_record.specs.Session.{Session, message_text, with_message}
 use Rattle.scm_record.specs.Frames.{Scene, scene_of}
-use Rattle.scm_record.specs.Uses.{shot_of}
+use Rattle.scm_record.specs.FrameQueries.{shot_of}
 use Rattle.scm_record.specs.Step.{change}
-use Rattle.scm_record.specs.Run.{World, with_session, with_edits, with_text, Goes, Breaks, no_such_place, too_long, answered, edited, outcome_by}
+use Rattle.scm_record.specs.Run.{World, with_session, with_edits, with_text, Goes, Breaks, no_such_place, too_long, after_answer, after_edit, outcome_by}
 use Rattle.scm_selection.specs.Coherence.{KeepsCoherent}
 use Rattle.scm_record.specs.StepCoherence.{OutcomeKeepsCoherent, StepKeepsCoherent}
 use Rattle.scm_selection.proofs.CoherenceLemmas.{keeps_coherent-same, toggle_keeps_coherent, all_set_keeps_coherent, all_inverted_keeps_coherent}
@@ -36,12 +36,12 @@ module _ (w : World) where
   short-keeps true v u h = h
   short-keeps false v u h = tt
 
-  answered-keeps : (v : World) (commit : ℕ) (edit : Edit) → KeepsCoherent w.session.shown.state.files v.session.shown.state.files → OutcomeKeepsCoherent w (answered v commit edit)
+  answered-keeps : (v : World) (commit : ℕ) (edit : Edit) → KeepsCoherent w.session.shown.state.files v.session.shown.state.files → OutcomeKeepsCoherent w (after_answer v commit edit)
   answered-keeps v commit (Answer text) h = short-keeps (is_short_text text) (with_session v (with_message v.session commit text)) v h
   answered-keeps v commit (BrokenEdit fault) h = tt
 
-  edited-keeps : (v : World) (commit : ℕ) (edits : List Reply) → KeepsCoherent w.session.shown.state.files v.session.shown.state.files → OutcomeKeepsCoherent w (edited v commit edits)
-  edited-keeps v commit [] h = answered-keeps (with_edits v []) commit no_more h
+  edited-keeps : (v : World) (commit : ℕ) (edits : List Reply) → KeepsCoherent w.session.shown.state.files v.session.shown.state.files → OutcomeKeepsCoherent w (after_edit v commit edits)
+  edited-keeps v commit [] h = answered-keeps (with_edits v []) commit no_messages_left h
   edited-keeps v commit (reply ∷ edits) h = answered-keeps (with_edits v edits) commit (reply (message_text v.session commit)) h
 
   shot-keeps : (b : Bool) (v u : World) → KeepsCoherent w.session.shown.state.files v.session.shown.state.files → OutcomeKeepsCoherent w (cond b (Goes v) (Breaks no_such_place u))

@@ -7,29 +7,28 @@ use Rattle.scm_types.specs.declared.state.Commit.{Commit}
 use Rattle.scm_types.specs.declared.state.RecordState.{RecordState}
 use Rattle.scm_types.specs.declared.keys.SelectionKey.{SelectionKey}
 use Rattle.scm_types.specs.declared.keys.SelectionKey.TheVariants as keys
-use Rattle.scm_view.specs.declared.ids.ComponentId.{ComponentId}
-use Rattle.scm_view.specs.declared.ids.ComponentId.TheVariants as ids
-use Rattle.scm_view.specs.declared.quit_dialog.QuitDialogButtonId.{QuitDialogButtonId}
-use Rattle.scm_view.specs.declared.quit_dialog.QuitDialogButtonId.TheVariants.{Quit, GoBack}
+use Rattle.scm_widgets.specs.declared.ids.ComponentId.{ComponentId}
+use Rattle.scm_widgets.specs.declared.ids.ComponentId.TheVariants as ids
+use Rattle.scm_widgets.specs.declared.ids.QuitDialogButtonId.{QuitDialogButtonId}
+use Rattle.scm_widgets.specs.declared.ids.QuitDialogButtonId.TheVariants.{Quit, GoBack}
 use Rattle.scm_input.specs.declared.events.Event.{Event}
 use Rattle.scm_input.specs.declared.events.Event.TheVariants as events
 use Rattle.scm_record.specs.declared.pages.Way.TheVariants.{Up, Down}
-use Rattle.scm_record.specs.declared.selector.moves.Stops.TheVariants.{Visible, SameKind}
-use Rattle.scm_record.specs.declared.selector.Flow.{Flow}
-use Rattle.scm_record.specs.declared.selector.Flow.TheVariants as flows
+use Rattle.scm_record.specs.declared.session.Flow.{Flow}
+use Rattle.scm_record.specs.declared.session.Flow.TheVariants as flows
 use Rattle.scm_types.specs.Keys.{file_of, file_of_section}
 use Rattle.scm_selection.specs.KeyLists.{all_keys}
-use Rattle.scm_selection.specs.KeySet.{is_key, key_set, same_set}
+use Rattle.scm_selection.specs.KeySet.{is_key, key_set, is_same_set}
 use Rattle.scm_selection.specs.Counts.{message_count, changed_count}
-use Rattle.scm_record.specs.Session.{Session, with_pushed, with_dialog, with_help, at_key, after_item, after_select, after_fold, after_move, after_advance, after_inner, after_outer, outside_of, after_expand, after_expand_all, with_files_changed, after_toggle, after_toggle_all, after_toggle_all_uniform, message_of}
+use Rattle.scm_record.specs.Session.{Session, with_pushed, with_dialog, with_help, at_key, after_item, after_select, after_fold, after_move, visible, visible_of_kind, after_advance, after_inner, after_outer, after_leaving, after_expand, after_expand_all, with_files_changed, after_toggle, after_toggle_all, after_toggle_all_uniform, message_of}
 use Rattle.scm_selection.specs.Toggle.{with_key_toggled}
 use Rattle.scm_record.specs.Frames.{Scene}
-use Rattle.scm_record.specs.Uses.{hit}
+use Rattle.scm_record.specs.FrameQueries.{hit}
 use Rattle.scm_record.specs.Change.{Change, stays, accepts, cancels}
-use Rattle.scm_record.specs.Dialogs.{pressed, focused, button_of, opened, asked, unless_asked, help_closed_or, dialog_closed_or, dialog_pressed_or}
+use Rattle.scm_record.specs.Dialogs.{after_press, with_focus, button_of, new_quit_dialog, after_quit_request, unless_quit_dialog_open, help_closed_or, dialog_closed_or, dialog_pressed_or}
 use Rattle.scm_record.specs.Pages.{after_scroll, after_page}
-use Rattle.scm_record.specs.Messages.{edit_asked, edit_if}
-use Rattle.scm_record.specs.Clicks.{item_event, clicked_on, clicked}
+use Rattle.scm_record.specs.Messages.{after_edit_request, edit_if}
+use Rattle.scm_record.specs.Clicks.{item_event, after_click_on, after_click}
 use Rattle.scm_record.specs.Step.{change}
 use Rattle.scm_record.proofs.Budget.{rank}
 use Rattle.scm_record.proofs.MenuLemmas.{IsLow, item-low}
@@ -101,13 +100,13 @@ module _ (event : Event) (s : Session) where
   closes : Leads event s (stays (with_dialog s None))
   closes = record { marks = unmarked tt; pushes = nothing; scrolls = unscrolled }
 
-  focuses : (button : QuitDialogButtonId) → Leads event s (stays (with_dialog s (option_map (focused button) s.shown.quit_dialog)))
+  focuses : (button : QuitDialogButtonId) → Leads event s (stays (with_dialog s (option_map (with_focus button) s.shown.quit_dialog)))
   focuses button = record { marks = unmarked tt; pushes = nothing; scrolls = unscrolled }
 
-  opens : Leads event s (asked s)
-  opens = either-leads _ event s (cancels s) (stays (with_dialog s (Some (opened (message_count s.shown.state) (changed_count s.shown.state))))) (ends flows.Cancel tt) (record { marks = unmarked tt; pushes = nothing; scrolls = unscrolled })
+  opens : Leads event s (after_quit_request s)
+  opens = either-leads _ event s (cancels s) (stays (with_dialog s (Some (new_quit_dialog (message_count s.shown.state) (changed_count s.shown.state))))) (ends flows.Cancel tt) (record { marks = unmarked tt; pushes = nothing; scrolls = unscrolled })
 
-  presses : (button : QuitDialogButtonId) → Leads event s (pressed s button)
+  presses : (button : QuitDialogButtonId) → Leads event s (after_press s button)
   presses Quit = ends flows.Cancel tt
   presses GoBack = closes
 
@@ -122,7 +121,7 @@ module _ (event : Event) (s : Session) where
     folds : (key : SelectionKey) → Leads event s (stays (after_fold s key))
     folds key = record { marks = unmarked tt; pushes = pushed events.EnsureSelectionInViewport k; scrolls = unscrolled }
 
-    goes_outside : (fold_section : Bool) (selection : SelectionKey) → Leads event s (stays (outside_of s fold_section selection))
+    goes_outside : (fold_section : Bool) (selection : SelectionKey) → Leads event s (stays (after_leaving s fold_section selection))
     goes_outside fold_section keys.None = idle
     goes_outside fold_section (keys.File key) = folds (keys.File key)
     goes_outside fold_section (keys.Section key) = either-stays _ event s (after_fold s (keys.Section key)) (after_select s (keys.File (file_of_section key))) (folds (keys.Section key)) (selects (keys.File (file_of_section key)))
@@ -149,16 +148,16 @@ module _ (event : Event) (s : Session) where
 
   -- what lies over the document comes first
   module _ (c : Change) (h : Leads event s c) where
-    unless : Leads event s (unless_asked s c)
+    unless : Leads event s (unless_quit_dialog_open s c)
     unless = either-leads _ event s (stays s) c idle h
 
     helps_or : Leads event s (help_closed_or s c)
     helps_or = either-leads _ event s (stays (with_help s false)) c helps h
 
     presses_or : Leads event s (dialog_pressed_or s c)
-    presses_or = either-leads _ event s (pressed s (button_of s.shown.quit_dialog)) c (presses (button_of s.shown.quit_dialog)) h
+    presses_or = either-leads _ event s (after_press s (button_of s.shown.quit_dialog)) c (presses (button_of s.shown.quit_dialog)) h
 
-  holds : (scene : Scene) (scroll : ℕ) → Leads event s (unless_asked s (stays (after_scroll scene s scroll)))
+  holds : (scene : Scene) (scroll : ℕ) → Leads event s (unless_quit_dialog_open s (stays (after_scroll scene s scroll)))
   holds scene scroll = unless (stays (after_scroll scene s scroll)) (record { marks = unmarked tt; pushes = nothing; scrolls = scrolled (low-held scroll max_scroll (scene.frame.extent - 1)) })
 
 -- ---- clicks
@@ -168,7 +167,7 @@ module _ (event : Event) (s : Session) (k : 2 ≤ rank event) where
   clicks_item None h = record { marks = unmarked tt; pushes = nothing; scrolls = unscrolled }
   clicks_item (Some next) h = record { marks = unmarked tt; pushes = pushed next (omega arith); scrolls = unscrolled }
 
-  clicks_on : (open_menu : Option ℕ) (id : ComponentId) → Leads event s (clicked_on open_menu s id)
+  clicks_on : (open_menu : Option ℕ) (id : ComponentId) → Leads event s (after_click_on open_menu s id)
   clicks_on open_menu (ids.ToggleBox key) = either-stays (is_key key s.shown.selection) event s (after_toggle s) (at_key s key) (toggles event s) (record { marks = unmarked tt; pushes = nothing; scrolls = unscrolled })
   clicks_on open_menu (ids.ExpandBox key) = either-stays (is_key key s.shown.selection) event s (after_expand s) (at_key s key) (record { marks = unmarked tt; pushes = pushed events.EnsureSelectionInViewport (omega arith); scrolls = unscrolled }) (record { marks = unmarked tt; pushes = nothing; scrolls = unscrolled })
   clicks_on open_menu (ids.FileViewHeader key) = record { marks = unmarked tt; pushes = nothing; scrolls = unscrolled }
@@ -186,7 +185,7 @@ module _ (event : Event) (s : Session) (k : 2 ≤ rank event) where
   clicks_on open_menu ids.MenuHeader = idle event s
   clicks_on open_menu ids.CommitMessageView = idle event s
 
-  clicks : (open_menu : Option ℕ) (id : Option ComponentId) → Leads event s (clicked open_menu s id)
+  clicks : (open_menu : Option ℕ) (id : Option ComponentId) → Leads event s (after_click open_menu s id)
   clicks open_menu None = idle event s
   clicks open_menu (Some id) = clicks_on open_menu id
 
@@ -201,28 +200,28 @@ leads scene s (events.Click row column) = clicks _ s (omega arith) scene.open_me
 leads scene s events.ToggleCommitViewMode = record { marks = unmarked tt; pushes = nothing; scrolls = unscrolled }
 leads scene s events.Help = record { marks = unmarked tt; pushes = nothing; scrolls = unscrolled }
 leads scene s events.QuitEscape = helps_or _ s (stays (with_dialog s None)) (closes _ s)
-leads scene s events.QuitCancel = helps_or _ s (dialog_closed_or s (asked s)) (either-leads _ _ s (stays (with_dialog s None)) (asked s) (closes _ s) (opens _ s))
+leads scene s events.QuitCancel = helps_or _ s (dialog_closed_or s (after_quit_request s)) (either-leads _ _ s (stays (with_dialog s None)) (after_quit_request s) (closes _ s) (opens _ s))
 leads scene s events.ToggleItem = helps_or _ s (dialog_pressed_or s (stays (after_toggle s))) (presses_or _ s (stays (after_toggle s)) (toggles _ s))
 leads scene s events.ToggleItemAndAdvance = helps_or _ s (dialog_pressed_or s (stays (after_advance (after_toggle s)))) (presses_or _ s (stays (after_advance (after_toggle s))) (advances _ s (omega arith)))
 leads scene s events.QuitAccept = unless _ s (help_closed_or s (accepts s)) (helps_or _ s (accepts s) (ends _ s flows.Accept tt))
-leads scene s events.QuitInterrupt = either-leads _ _ s (cancels s) (asked s) (ends _ s flows.Cancel tt) (opens _ s)
-leads scene s events.FocusInner = either-leads _ _ s (stays (with_dialog s (option_map (focused Quit) s.shown.quit_dialog))) (stays (after_inner s)) (focuses _ s Quit) (selects _ s (omega arith) _)
-leads scene s (events.FocusOuter fold_section) = either-leads _ _ s (stays (with_dialog s (option_map (focused GoBack) s.shown.quit_dialog))) (stays (after_outer s fold_section)) (focuses _ s GoBack) (goes_outside _ s (omega arith) fold_section s.shown.selection)
+leads scene s events.QuitInterrupt = either-leads _ _ s (cancels s) (after_quit_request s) (ends _ s flows.Cancel tt) (opens _ s)
+leads scene s events.FocusInner = either-leads _ _ s (stays (with_dialog s (option_map (with_focus Quit) s.shown.quit_dialog))) (stays (after_inner s)) (focuses _ s Quit) (selects _ s (omega arith) _)
+leads scene s (events.FocusOuter fold_section) = either-leads _ _ s (stays (with_dialog s (option_map (with_focus GoBack) s.shown.quit_dialog))) (stays (after_outer s fold_section)) (focuses _ s GoBack) (goes_outside _ s (omega arith) fold_section s.shown.selection)
 leads scene s events.ScrollUp = holds _ s scene (s.scroll - 1)
 leads scene s events.ScrollDown = holds _ s scene (s.scroll + 1)
 leads scene s events.PageUp = holds _ s scene (s.scroll - scene.height)
 leads scene s events.PageDown = holds _ s scene (s.scroll + scene.height)
-leads scene s events.FocusPrev = unless _ s (stays (after_move Up Visible s)) (selects _ s (omega arith) _)
-leads scene s events.FocusPrevSameKind = unless _ s (stays (after_move Up SameKind s)) (selects _ s (omega arith) _)
+leads scene s events.FocusPrev = unless _ s (stays (after_move Up (visible s) s)) (selects _ s (omega arith) _)
+leads scene s events.FocusPrevSameKind = unless _ s (stays (after_move Up (visible_of_kind s) s)) (selects _ s (omega arith) _)
 leads scene s events.FocusPrevPage = unless _ s (stays (after_page scene Up s)) (selects _ s (omega arith) _)
-leads scene s events.FocusNext = unless _ s (stays (after_move Down Visible s)) (selects _ s (omega arith) _)
-leads scene s events.FocusNextSameKind = unless _ s (stays (after_move Down SameKind s)) (selects _ s (omega arith) _)
+leads scene s events.FocusNext = unless _ s (stays (after_move Down (visible s) s)) (selects _ s (omega arith) _)
+leads scene s events.FocusNextSameKind = unless _ s (stays (after_move Down (visible_of_kind s) s)) (selects _ s (omega arith) _)
 leads scene s events.FocusNextPage = unless _ s (stays (after_page scene Down s)) (selects _ s (omega arith) _)
 leads scene s events.ToggleAll = unless _ s (stays (after_toggle_all s)) (record { marks = inverted; pushes = rw (files_change events.ToggleAll s _) nothing; scrolls = rw (files_scroll events.ToggleAll s _) unscrolled })
 leads scene s events.ToggleAllUniform = unless _ s (stays (after_toggle_all_uniform s)) (record { marks = all_set; pushes = rw (files_change events.ToggleAllUniform s _) nothing; scrolls = rw (files_scroll events.ToggleAllUniform s _) unscrolled })
 leads scene s events.ExpandItem = unless _ s (stays (after_expand s)) (record { marks = unmarked tt; pushes = pushed events.EnsureSelectionInViewport (omega arith); scrolls = unscrolled })
-leads scene s events.ExpandAll = unless _ s (stays (after_expand_all s)) (flips_all _ s (omega arith) (same_set s.shown.expanded (key_set (all_keys s.shown.state.files))))
-leads scene s events.EditCommitMessage = unless _ s (edit_asked s 0) (edits_message _ s (omega arith) 0 (message_of s 0) refl)
+leads scene s events.ExpandAll = unless _ s (stays (after_expand_all s)) (flips_all _ s (omega arith) (is_same_set s.shown.expanded (key_set (all_keys s.shown.state.files))))
+leads scene s events.EditCommitMessage = unless _ s (after_edit_request s 0) (edits_message _ s (omega arith) 0 (message_of s 0) refl)
 
 allows-same : (s t : Session) (flow : Flow) → s.shown.state ≡ t.shown.state → Allows s flow → Allows t flow
 allows-same s t flows.GoOn e h = tt

@@ -1,5 +1,5 @@
 -- A session that is driven by bytes goes by calls, and what it presses are the decoded events.
-use Rattle.std.proofs.Common.{◌≡◌, ℕ, ◌+◌, ◌<◌, ◌≤◌, Bool, true, false, IsTrue, List, [], ◌∷◌, ◌++◌, map, length, drop, get_or, Option, Some, None, sym, ap, ◌∙◌, refl, subst, append_assoc}
+use Rattle.std.proofs.Common.{◌≡◌, ℕ, ◌+◌, ◌<◌, ◌≤◌, Bool, true, false, IsTrue, List, [], ◌∷◌, ◌++◌, map, length, drop, get_or, Option, sym, ap, ◌∙◌, refl, subst, append_assoc}
 use Rattle.std.specs.Prelude.{option_to_list, MatchBool}
 use Rattle.std.proofs.lemmas.List.{append-nil, drop_all, drop_more}
 use Rattle.scm_errors.specs.declared.error.RecordError.{RecordError}
@@ -8,15 +8,15 @@ use Rattle.scm_input.specs.declared.inputs.TerminalKind.{TerminalKind}
 use Rattle.scm_input.specs.declared.terminal.TerminalEvent.{TerminalEvent}
 use Rattle.scm_types.specs.declared.state.RecordState.{RecordState}
 use Rattle.scm_types.specs.Limits.{is_accepted_state}
-use Rattle.scm_terminal.specs.declared.keys.Decoder.{Decoder}
-use Rattle.scm_terminal.specs.Decoders.{Adds, HasHeard, Hears, Rests}
-use Rattle.scm_terminal.specs.Streams.{decoded, is_pasted_after, rest, silent, split_from}
+use Rattle.scm_terminal.specs.declared.decoder.Decoder.{Decoder}
+use Rattle.scm_terminal.specs.Decoders.{HasHeard}
+use Rattle.scm_terminal.specs.Streams.{stream_events, is_pasted_after, rest, idle_event, split_from}
 use Rattle.scm_record.specs.Session.{start}
-use Rattle.scm_record.specs.Live.{Live, Asking, on_screen}
-use Rattle.scm_record.specs.Calls.{Call, Press, Say, Resize, Path, still, press, say, resize, EventLeads, EventFails, AreRuns}
+use Rattle.scm_record.specs.Live.{Live}
+use Rattle.scm_record.specs.LiveCalls.{Call, Press, Path, still, press, say, resize, EventLeads, EventFails, AreRuns}
 use Rattle.scm_record.specs.declared.live.Turn.{Turn}
 use Rattle.scm_record.specs.declared.live.Turn.TheVariants.{Waiting, Editing, Accepted}
-use Rattle.scm_record.specs.Typed.{presses, is_waiting, HandsIn, FailsAmong, BytesLead, SilenceLeads, Tells, Input, Bytes, Silence, Message, Screen, Driven, at_end, by_bytes, by_silence, by_message, by_screen, Means, no_more, of_bytes, of_pause, of_silence, of_message, of_screen, all_bytes}
+use Rattle.scm_record.specs.Typed.{presses, is_waiting, HandsIn, FailsAmong, BytesLead, Input, Bytes, Silence, Message, Screen, InputPath, at_end, by_bytes, by_silence, by_message, by_screen, InputsMean, no_more, of_bytes, of_pause, of_silence, of_message, of_screen, all_bytes}
 use Rattle.scm_record.proofs.LiveLemmas.{sessions-are-runs}
 
 -- ---- events, one after the other
@@ -122,7 +122,7 @@ hands-after l next events more turn g h =
 
 -- ---- what a program does
 
-pub driven-path : {decoder : Decoder} {turn last : Turn} {inputs : List Input} {calls : List Call} → Driven decoder turn inputs calls last → Path turn calls last
+pub driven-path : {decoder : Decoder} {turn last : Turn} {inputs : List Input} {calls : List Call} → InputPath decoder turn inputs calls last → Path turn calls last
 driven-path at_end = still
 driven-path (by_bytes leads d) = path-after leads.hands_in.path (driven-path d)
 driven-path (by_silence leads d) = path-after leads.hands_in.path (driven-path d)
@@ -130,7 +130,7 @@ driven-path (by_message g d) = say g (driven-path d)
 driven-path (by_screen d) = resize (driven-path d)
 
 pub driven-runs : (given : RecordState) (kind : TerminalKind) (decoder : Decoder) (inputs : List Input) (calls : List Call) (last : Turn)
-    → IsTrue (is_accepted_state given) → Driven decoder (Waiting (record { session = start given; kind = kind })) inputs calls last → AreRuns (start given) kind calls last
+    → IsTrue (is_accepted_state given) → InputPath decoder (Waiting (record { session = start given; kind = kind })) inputs calls last → AreRuns (start given) kind calls last
 driven-runs given kind decoder inputs calls last accepted d = sessions-are-runs given kind calls accepted last (driven-path d)
 
 -- ---- what it means
@@ -141,23 +141,23 @@ front-none (x ∷ xs) ys e = cc
 
 -- silence, within what is pasted or not
 means-silence : (is_pasted : Bool) (heard : List ℕ) (b : Bool) → is_pasted_after is_pasted heard ≡ b → (new : Decoder) (event : Option TerminalEvent)
-    → event ≡ silent b (rest heard) → MatchBool b (HasHeard new is_pasted heard) (HasHeard new false [])
+    → event ≡ idle_event b (rest heard) → MatchBool b (HasHeard new is_pasted heard) (HasHeard new false [])
     → (handled dropped : List TerminalEvent) → option_to_list event ≡ handled ++ dropped → (inputs : List Input) (calls : List Call)
-    → ((q : Bool) (bytes : List ℕ) → HasHeard new q bytes → Means q bytes inputs calls)
-    → Means is_pasted heard (Silence ∷ inputs) (presses handled ++ calls)
+    → ((q : Bool) (bytes : List ℕ) → HasHeard new q bytes → InputsMean q bytes inputs calls)
+    → InputsMean is_pasted heard (Silence ∷ inputs) (presses handled ++ calls)
 means-silence is_pasted heard true e new event f h handled dropped are inputs calls go =
     let none : [] ≡ handled ++ dropped = sym (ap option_to_list f) ∙ are in
-    subst (λ (list : List TerminalEvent). Means is_pasted heard (Silence ∷ inputs) (presses list ++ calls)) (sym (front-none handled dropped none))
+    subst (λ (list : List TerminalEvent). InputsMean is_pasted heard (Silence ∷ inputs) (presses list ++ calls)) (sym (front-none handled dropped none))
     (of_pause e (go is_pasted heard h))
 means-silence is_pasted heard false e new event f h handled dropped are inputs calls go =
     of_silence handled dropped e (sym (ap option_to_list f) ∙ are) (go false [] h)
 
 pub driven-means : {decoder : Decoder} {turn last : Turn} {inputs : List Input} {calls : List Call} (is_pasted : Bool) (heard : List ℕ)
-    → HasHeard decoder is_pasted heard → Driven decoder turn inputs calls last → Means is_pasted heard inputs calls
+    → HasHeard decoder is_pasted heard → InputPath decoder turn inputs calls last → InputsMean is_pasted heard inputs calls
 driven-means is_pasted heard h at_end = no_more
 driven-means is_pasted heard h (by_bytes {sent = sent} leads d) =
     let hears = leads.hears.hears is_pasted heard h in
-    of_bytes leads.hands_in.handled leads.hands_in.dropped (hears.events ∙ ap (λ (list : List TerminalEvent). decoded is_pasted heard ++ list) (sym leads.hears.is ∙ leads.hands_in.are))
+    of_bytes leads.hands_in.handled leads.hands_in.dropped (hears.events ∙ ap (λ (list : List TerminalEvent). stream_events is_pasted heard ++ list) (sym leads.hears.is ∙ leads.hands_in.are))
     (driven-means is_pasted (heard ++ sent) hears.heard d)
 driven-means is_pasted heard h (by_silence {new = new} {inputs = inputs} {calls = calls} leads d) =
     let rests = leads.tells is_pasted heard h in
@@ -176,7 +176,7 @@ is_bytes (Screen kind) = false
 
 -- bytes are handed in where a session waits
 bytes-wait : {decoder : Decoder} {turn last : Turn} {input : Input} {inputs : List Input} {calls : List Call}
-    → Driven decoder turn (input ∷ inputs) calls last → is_bytes input ≡ true → is_waiting turn ≡ true
+    → InputPath decoder turn (input ∷ inputs) calls last → is_bytes input ≡ true → is_waiting turn ≡ true
 bytes-wait (by_bytes leads d) e = refl
 bytes-wait (by_silence leads d) e = refl
 bytes-wait (by_message g d) e = cc
@@ -184,7 +184,7 @@ bytes-wait (by_screen d) e = refl
 
 -- nothing is handed in where none waits
 none-waits : {decoder : Decoder} {turn last : Turn} {calls : List Call} (chunks : List (List ℕ))
-    → Driven decoder turn (map Bytes chunks) calls last → is_waiting turn ≡ false → (chunks ≡ []) × (turn ≡ last)
+    → InputPath decoder turn (map Bytes chunks) calls last → is_waiting turn ≡ false → (chunks ≡ []) × (turn ≡ last)
 none-waits [] at_end e = (refl, refl)
 none-waits (chunk ∷ chunks) d e =
     let w = bytes-wait d refl in
@@ -193,7 +193,7 @@ none-waits (chunk ∷ chunks) d e =
 -- what chunks tell, and that it is handed in
 record Cut (is_pasted : Bool) (heard : List ℕ) (l : Live) (chunks : List (List ℕ)) (last : Turn) : Type 0 where
   events : List TerminalEvent
-  tells : decoded is_pasted (heard ++ all_bytes chunks) ≡ decoded is_pasted heard ++ events
+  tells : stream_events is_pasted (heard ++ all_bytes chunks) ≡ stream_events is_pasted heard ++ events
   hands_in : HandsIn l events last
 
 cut-last : (is_pasted : Bool) (heard chunk : List ℕ) (l : Live) (chunks : List (List ℕ)) (turn last : Turn) {old new : Decoder} (leads : BytesLead l old new chunk turn)
@@ -202,9 +202,9 @@ cut-last is_pasted heard chunk l chunks turn last leads h e =
     let hears = leads.hears.hears is_pasted heard h in
     record {
       events = leads.events;
-      tells = ap (λ (list : List (List ℕ)). decoded is_pasted (heard ++ (chunk ++ all_bytes list))) e.0
-          ∙ ap (λ (list : List ℕ). decoded is_pasted (heard ++ list)) (append-nil chunk)
-          ∙ hears.events ∙ ap (λ (list : List TerminalEvent). decoded is_pasted heard ++ list) (sym leads.hears.is);
+      tells = ap (λ (list : List (List ℕ)). stream_events is_pasted (heard ++ (chunk ++ all_bytes list))) e.0
+          ∙ ap (λ (list : List ℕ). stream_events is_pasted (heard ++ list)) (append-nil chunk)
+          ∙ hears.events ∙ ap (λ (list : List TerminalEvent). stream_events is_pasted heard ++ list) (sym leads.hears.is);
       hands_in = subst (λ (t : Turn). HandsIn l leads.events t) e.1 leads.hands_in;
     }
 
@@ -214,17 +214,17 @@ cut-more is_pasted heard chunk l next chunks last leads h k =
     let hears = leads.hears.hears is_pasted heard h in
     record {
       events = leads.events ++ k.events;
-      tells = ap (decoded is_pasted) (sym (append_assoc heard chunk (all_bytes chunks))) ∙ k.tells
-          ∙ ap (λ (list : List TerminalEvent). list ++ k.events) (hears.events ∙ ap (λ (list : List TerminalEvent). decoded is_pasted heard ++ list) (sym leads.hears.is))
-          ∙ append_assoc (decoded is_pasted heard) leads.events k.events;
+      tells = ap (stream_events is_pasted) (sym (append_assoc heard chunk (all_bytes chunks))) ∙ k.tells
+          ∙ ap (λ (list : List TerminalEvent). list ++ k.events) (hears.events ∙ ap (λ (list : List TerminalEvent). stream_events is_pasted heard ++ list) (sym leads.hears.is))
+          ∙ append_assoc (stream_events is_pasted heard) leads.events k.events;
       hands_in = hands-after l next leads.events k.events last leads.hands_in k.hands_in;
     }
 
 driven-cut : (chunks : List (List ℕ)) {decoder : Decoder} {l : Live} {last : Turn} {calls : List Call} (is_pasted : Bool) (heard : List ℕ)
-    → HasHeard decoder is_pasted heard → Driven decoder (Waiting l) (map Bytes chunks) calls last → Cut is_pasted heard l chunks last
+    → HasHeard decoder is_pasted heard → InputPath decoder (Waiting l) (map Bytes chunks) calls last → Cut is_pasted heard l chunks last
 driven-cut [] {l = l} is_pasted heard h at_end = record {
   events = [];
-  tells = ap (decoded is_pasted) (append-nil heard) ∙ sym (append-nil (decoded is_pasted heard));
+  tells = ap (stream_events is_pasted) (append-nil heard) ∙ sym (append-nil (stream_events is_pasted heard));
   hands_in = hands-none l [] refl;
 }
 driven-cut (chunk ∷ chunks) {l = l} {last = last} is_pasted heard h (by_bytes {turn = Waiting next} leads d) =
@@ -234,12 +234,12 @@ driven-cut (chunk ∷ chunks) {l = l} {last = last} is_pasted heard h (by_bytes 
 driven-cut (chunk ∷ chunks) {l = l} {last = last} is_pasted heard h (by_bytes {turn = Accepted state} leads d) =
     cut-last is_pasted heard chunk l chunks (Accepted state) last leads h (none-waits chunks d refl)
 
-decoded-none : decoded false [] ≡ []
+decoded-none : stream_events false [] ≡ []
 unfolding split_from
 decoded-none = refl
 
 pub chunks-hand-in : (decoder : Decoder) (l : Live) (chunks : List (List ℕ)) (calls : List Call) (last : Turn)
-    → HasHeard decoder false [] → Driven decoder (Waiting l) (map Bytes chunks) calls last → HandsIn l (decoded false (all_bytes chunks)) last
+    → HasHeard decoder false [] → InputPath decoder (Waiting l) (map Bytes chunks) calls last → HandsIn l (stream_events false (all_bytes chunks)) last
 chunks-hand-in decoder l chunks calls last h d =
     let k = driven-cut chunks false [] h d in
     subst (λ (events : List TerminalEvent). HandsIn l events last)

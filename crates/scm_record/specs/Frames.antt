@@ -1,18 +1,18 @@
--- What was drawn last, as the steps use it: the frame of a session, and what the code keeps of it.
+-- What was drawn last: the frame and the scene of a session, and what the code keeps of them.
 use Rattle.std.specs.Prelude.{◌≡◌, ℕ, ◌<◌, pos, Bool, true, false, if◌then◌else◌, length, min, Option, option_map}
 use Rattle.std.specs.HashMap.{HashMap, get}
 use Rattle.scm_cells.specs.declared.rect.Rect.{Rect}
 use Rattle.scm_render.specs.Target.{IsTargetOf}
 use Rattle.scm_render.specs.declared.trace.DrawnRect.{DrawnRect}
 use Rattle.scm_view.specs.AppView.{app_view_of}
-use Rattle.scm_view.specs.Clicks.{is_clickable}
+use Rattle.scm_widgets.specs.Clicks.{is_clickable}
 use Rattle.scm_view.specs.Frame.{Frame, frame_of_document, frame_of_view, is_plain}
-use Rattle.scm_view.specs.SameIds.{same_id}
-use Rattle.scm_view.specs.Shown.{Shown}
+use Rattle.scm_widgets.specs.SameIds.{same_id}
+use Rattle.scm_view.specs.ViewState.{ViewState}
 use Rattle.scm_view.specs.Window.{rows_of_box, height_of_box}
 use Rattle.scm_types.specs.declared.keys.SelectionKey.{SelectionKey}
-use Rattle.scm_view.specs.declared.ids.ComponentId.{ComponentId}
-use Rattle.scm_view.specs.declared.ids.ComponentId.TheVariants as ids
+use Rattle.scm_widgets.specs.declared.ids.ComponentId.{ComponentId}
+use Rattle.scm_widgets.specs.declared.ids.ComponentId.TheVariants as ids
 use Rattle.scm_input.specs.declared.inputs.TerminalKind.{TerminalKind}
 use Rattle.scm_input.specs.declared.inputs.TerminalKind.TheVariants.{Testing}
 use Rattle.scm_view.specs.declared.frame_index.FrameIndex.{FrameIndex}
@@ -24,7 +24,7 @@ use Rattle.scm_record.specs.Session.{Session}
 
 -- ---- the frame of a session
 
--- the frame of a session: by its document where it is plain, else by the picture of its view
+-- the frame of a session on a screen of `w` columns and `h` rows: by its document if plain, otherwise by its view's picture
 unfoldable pub frame_of : ℕ → ℕ → Session → Frame
 frame_of w h drawn =
     if is_plain w h drawn.shown.view_mode
@@ -33,20 +33,26 @@ frame_of w h drawn =
 
 -- ---- scenes
 
--- a screen's columns and rows
+-- the width of the screen, in columns
 abbrev pub columns_of : TerminalKind → ℕ
 columns_of (Testing width height) = min width 65535
 
+-- the height of the screen, in rows
 abbrev pub rows_of : TerminalKind → ℕ
 rows_of (Testing width height) = min height 65535
 
--- the screen's size, the frame last drawn, and the menu that was open in it
+-- What the steps see of the session last drawn: the screen's size, the frame and the open menu. A `Frame` is the drawing alone,
+-- a `DrawnFrame` is what the code keeps of a scene.
 pub record Scene : Type 0 where
+  -- the screen's size, in columns and rows
   pub width : ℕ
   pub height : ℕ
+  -- the rows of the screen, and where each component is
   pub frame : Frame
+  -- the index of the menu that was open, if any
   pub open_menu : Option ℕ
 
+-- the scene of the session `drawn` on the screen `kind`
 abbrev pub scene_of : TerminalKind → Session → Scene
 scene_of kind drawn = record {
   width = columns_of kind;
@@ -55,49 +61,59 @@ scene_of kind drawn = record {
   open_menu = drawn.shown.open_menu;
 }
 
--- ---- what the code keeps of a drawing
+-- ---- what the code keeps of a frame
 
--- the grid has the size of the screen
+-- the grid of `drawn` has the size of the screen `kind`
 pub record HasSize (kind : TerminalKind) (drawn : DrawnFrame) : Type 0 where
+  -- in columns
   pub width : drawn.grid.width ≡ columns_of kind
+  -- in rows
   pub height : length drawn.grid.rows ≡ rows_of kind
 
 module _ {S : Type 0} where
-  -- the rectangle that a map of boxes has for an id
+  -- the rectangle of the component `i` in the map `boxes`, if any
   abbrev pub rect_in : HashMap ComponentId DrawnRect S → ComponentId → Option Rect
   rect_in boxes i = option_map (λ (d : DrawnRect). d.rect) (get same_id boxes i)
 
-  -- a map of boxes answers for the frame, on a screen of w columns
+  -- the map `boxes` answers like `frame`, on a screen of `w` columns
   pub record IsMapOf (w : ℕ) (frame : Frame) (boxes : HashMap ComponentId DrawnRect S) : Type 0 where
-    -- what a point hits, of the boxes in the map, is its owner
+    -- a point's target among the boxes is its owner
     pub owner : (y x : ℕ) → x < w → (o : Option ComponentId) → IsTargetOf same_id is_clickable boxes (pos y) (pos x) o → o ≡ frame.owner y x
-    -- the map has a box for each key that is drawn, on its rows
+    -- each key that is drawn has a box on its rows
     pub span : (key : SelectionKey) → option_map rows_of_box (rect_in boxes (ids.SelectableItem key)) ≡ frame.span key
-    -- and one for all that is drawn
+    -- the whole drawing has a box
     pub extent : height_of_box (rect_in boxes ids.App) ≡ frame.extent
 
--- an index answers for the frame of its document
+-- `index` is the index of a document that `frame` shows, on a screen of `w` columns
 pub record IsIndexFor (w : ℕ) (frame : Frame) (index : FrameIndex) : Type 0 where
+  -- the screen's height, in rows
   pub height : ℕ
+  -- the row of the document that the screen's first row shows
   pub scroll : ℕ
-  pub shown : Shown
+  -- the view state that is drawn
+  pub shown : ViewState
+  -- `index` is its index
   pub is_index : IsIndexOf w height scroll shown index
+  -- `frame` is its frame
   pub is_frame : frame ≡ frame_of_document w height scroll shown
 
--- what is kept of where things stand answers for the frame, on a screen of w columns: the one place that says how
+-- the places of components that the code keeps are those of `frame`, on a screen of `w` columns
 abbrev pub KnowsPlaces : ℕ → Frame → Places → Type 0
 KnowsPlaces w frame (Plain index) = IsIndexFor w frame index
 KnowsPlaces w frame (Free boxes) = IsMapOf w frame boxes
 
--- whether where things stand is known by an index, and not by a map of boxes
+-- whether the code keeps an index, and not a map of boxes
 abbrev pub is_indexed : Places → Bool
 is_indexed (Plain index) = true
 is_indexed (Free boxes) = false
 
--- what the code keeps of a drawing shows the scene
-pub record IsShown (scene : Scene) (drawn : DrawnFrame) : Type 0 where
+-- `scene` is what the frame `drawn` shows
+pub record IsSceneOf (scene : Scene) (drawn : DrawnFrame) : Type 0 where
+  -- the grid has the screen's size and shows the rows
   pub width : drawn.grid.width ≡ scene.width
   pub height : length drawn.grid.rows ≡ scene.height
   pub rows : drawn.grid.rows ≡ scene.frame.rows
+  -- the places of components are kept
   pub places : KnowsPlaces scene.width scene.frame drawn.places
+  -- the open menu is kept
   pub open_menu : drawn.open_menu ≡ scene.open_menu

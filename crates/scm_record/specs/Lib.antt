@@ -1,44 +1,44 @@
--- a session, and what becomes of it by each thing that a user does to the document
+-- a session, and the session after each action of the user on the document
 pub mod Session
--- what was drawn last, as a step asks it
+-- the scene: what was drawn last, and what the code keeps of it
 pub mod Frames
--- what the steps ask of it
-pub mod Uses
--- what an event leads to
+-- queries of the scene: screenshots, hit tests, limits of the scroll
+pub mod FrameQueries
+-- the result of an event
 pub mod Change
--- what the help and the quit dialog make of events
+-- the help and the quit dialog
 pub mod Dialogs
--- how a page is turned
+-- scrolling, and moves by a page
 pub mod Pages
--- how a message comes to be edited
+-- the request to edit a message
 pub mod Messages
--- what a click makes of a session
+-- mouse clicks
 pub mod Clicks
--- what an event makes of a session: begin here
+-- the session after each event: begin here
 pub mod Step
 -- runs, as steps from point to point
 pub mod Run
 -- which files an event keeps coherent
 pub mod StepCoherence
--- what a run keeps of the state that it was given
+-- what a run keeps of the given state
 pub mod Keeping
--- how a run ends
+-- the end of a run
 pub mod Ending
--- the headline, of runs
+-- the headline of a run
 pub mod Headline
 -- a session that a program drives
 pub mod Live
--- what a call makes of it
-pub mod Calls
--- what it keeps of what it drew
+-- the calls of a live session, as steps of runs
+pub mod LiveCalls
+-- what the code of a live session keeps of its screen
 pub mod LiveView
--- what it shows on its screen, and in which styles
+-- the picture of a live session: its screen and the styles
 pub mod Painted
--- what becomes of it when bytes are typed
+-- a live session that is driven by bytes of a terminal
 pub mod Typed
--- what the parts of a run say of the points that they reach
-pub mod Turn
--- what the fields of a selector stand for
+-- what contracts of the parts of a run say
+pub mod RunContracts
+-- the session that the fields of the code's `ActiveSession` represent
 pub mod SessionView
 -- of the crate of what is selected, so that a caller lists this crate alone
 pub use Rattle.scm_selection.specs.KeyLists
@@ -48,21 +48,21 @@ pub use Rattle.scm_selection.specs.Toggle
 pub use Rattle.scm_selection.specs.Coherence
 pub use Rattle.scm_selection.specs.Counts
 -- of the crate of what is shown
-pub use Rattle.scm_shown.specs.Menus
-pub use Rattle.scm_shown.specs.Items
-pub use Rattle.scm_shown.specs.Styles
+pub use Rattle.scm_view_state.specs.Menus
+pub use Rattle.scm_view_state.specs.Items
+pub use Rattle.scm_view_state.specs.Styles
 -- of the crate of the terminal's edge
 pub use Rattle.scm_terminal.specs.Streams
 pub use Rattle.scm_terminal.specs.Decoders
 pub use Rattle.scm_terminal.specs.Style
-pub use Rattle.scm_terminal.specs.Place
+pub use Rattle.scm_terminal.specs.StyledCell
 pub use Rattle.scm_terminal.specs.Terminal
 pub use Rattle.scm_terminal.specs.Promise
 -- of the crate of inputs
 pub use Rattle.scm_input.specs.Script
 pub use Rattle.scm_input.specs.KeyTable
-pub use Rattle.scm_input.specs.Testing
-pub use Rattle.scm_input.specs.Scripted
+pub use Rattle.scm_input.specs.TestingInput
+pub use Rattle.scm_input.specs.ScriptInput
 pub use Rattle.scm_input.specs.Store
 -- of the state's crate
 pub use Rattle.scm_types.specs.Keys

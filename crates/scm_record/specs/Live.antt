@@ -1,29 +1,34 @@
--- A live session, as values: what a program holds of it between two calls.
+-- The values of a live session: what a program has of it between two calls.
 use Rattle.std.specs.Prelude.{◌≡◌, ℕ, ◌≤◌, [], length}
 use Rattle.scm_input.specs.declared.inputs.TerminalKind.{TerminalKind}
 use Rattle.scm_record.specs.Session.{Session, IsDrawable, after_frame}
 
--- one that waits for an event: the session as it was drawn, on its screen
+-- a live session that waits for an event: the value of the code's `LiveSession`
 pub record Live : Type 0 where
+  -- the session, as it was drawn
   pub session : Session
+  -- its screen
   pub kind : TerminalKind
 
--- the same session, drawn anew on this screen
+-- the same session, drawn on the screen `kind`
 abbrev pub on_screen : Live → TerminalKind → Live
 on_screen l kind = record { session = after_frame l.session; kind = kind }
 
--- one that waits for the message of a commit: the session once the event that asks for it is handled
-pub record Asking : Type 0 where
+-- a live session that waits for the message of a commit: the value of the code's `Editing`
+pub record LiveEdit : Type 0 where
+  -- the session after the event that asked for the message
   pub session : Session
+  -- its screen
   pub kind : TerminalKind
+  -- the index of the commit
   pub commit : ℕ
 
--- nothing is pending while a session waits for an event
+-- a session that waits for an event can be drawn, and has no pending events
 pub record IsCalm (s : Session) : Type 0 where
   pub drawable : IsDrawable s
   pub calm : s.pending ≡ []
 
--- at most one event is pending while it waits for a message
+-- a session that waits for a message can be drawn, and has at most one pending event
 pub record IsBusy (s : Session) : Type 0 where
   pub drawable : IsDrawable s
   pub few : length s.pending ≤ 1

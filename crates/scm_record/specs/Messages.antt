@@ -1,14 +1,14 @@
--- How the message of a commit comes to be edited, by the key or by a click.
+-- The request to edit the message of a commit, by the key or by a click.
 use Rattle.std.specs.Prelude.{ℕ, List, Option, Some, None}
 use Rattle.scm_input.specs.declared.events.Event.TheVariants as events
 use Rattle.scm_record.specs.Session.{Session, with_pushed, message_of}
 use Rattle.scm_record.specs.Change.{Change, stays, edits}
 
--- without a message there is nothing to edit
+-- the change that edits the message of the commit at index `commit`, if it has one
 abbrev pub edit_if : ℕ → Session → Option (List ℕ) → Change
 edit_if commit s None = stays s
 edit_if commit s (Some text) = edits commit s
 
--- the screen is to be cleared, and a message is edited
-abbrev pub edit_asked : Session → ℕ → Change
-edit_asked s commit = edit_if commit (with_pushed s events.Redraw) (message_of s commit)
+-- the change by a request to edit a message: `Redraw` becomes pending, and the message is edited
+abbrev pub after_edit_request : Session → ℕ → Change
+after_edit_request s commit = edit_if commit (with_pushed s events.Redraw) (message_of s commit)

@@ -1,16 +1,16 @@
--- What a session that waits shows on its screen, and in which styles.
+-- The picture of a live session: its screen, and the style of each place.
 use Rattle.std.specs.Prelude.{ℕ, ◌+◌, List}
 use Rattle.scm_cells.specs.Counts.{no_counts}
 use Rattle.scm_cells.specs.Screen.{Screen}
 use Rattle.scm_terminal.specs.declared.style.Style.{Style}
-use Rattle.scm_terminal.specs.Place.{Place, picture}
-use Rattle.scm_shown.specs.Styles.{style_of}
+use Rattle.scm_terminal.specs.StyledCell.{StyledCell, picture}
+use Rattle.scm_view_state.specs.Styles.{style_of}
 use Rattle.scm_record.specs.Frames.{columns_of, scene_of}
 use Rattle.scm_record.specs.Headline.{owner_at, window_of}
 use Rattle.scm_record.specs.Live.{Live}
-use Rattle.scm_record.specs.Uses.{hit}
+use Rattle.scm_record.specs.FrameQueries.{hit}
 
--- the style at a row and column of the screen, counted from 0: by what a click there acts on
+-- the style at `row` and `column` of the screen, counted from 0: that of the component that a click there hits
 abbrev pub style_at : Live → ℕ → ℕ → Style
 style_at l row column =
     style_of l.session.shown row (hit (scene_of l.kind l.session) l.session.scroll row column)
@@ -24,18 +24,18 @@ screen_of l = record {
 }
 
 -- the screen in its styles
-abbrev pub picture_of : Live → List (List Place)
+abbrev pub picture_of : Live → List (List StyledCell)
 picture_of l = picture (style_at l) (screen_of l)
 
 -- ---- inline
 
--- the style at a row and column: by the owner of that place of the document
+-- the style at `row` and `column` of the screen: that of the owner of the place in the document
 abbrev pub window_style_at : Live → ℕ → ℕ → Style
 window_style_at l row column =
     style_of l.session.shown row (owner_at l.kind l.session (l.session.scroll + row) column)
 
 -- the window in its styles
-abbrev pub window_picture_of : Live → List (List Place)
+abbrev pub window_picture_of : Live → List (List StyledCell)
 window_picture_of l = picture (window_style_at l) (record {
   width = columns_of l.kind;
   rows = window_of l.kind l.session;

@@ -1,57 +1,65 @@
--- What becomes of a session when bytes are typed or the terminal is silent: what the bytes mean is handed in, event by event.
+-- A live session that is driven by bytes and silences of a terminal: the events that they mean are handed in, one by one.
 use Rattle.std.specs.Prelude.{◌≡◌, ℕ, Bool, true, false, IsTrue, List, [], ◌∷◌, ◌++◌, Option, option_to_list}
 use Rattle.scm_errors.specs.declared.error.RecordError.{RecordError}
 use Rattle.scm_errors.specs.declared.error.RecordError.TheVariants.{OutOfMemory}
 use Rattle.scm_input.specs.KeyTable.{event_of}
 use Rattle.scm_input.specs.declared.inputs.TerminalKind.{TerminalKind}
 use Rattle.scm_input.specs.declared.terminal.TerminalEvent.{TerminalEvent}
-use Rattle.scm_terminal.specs.declared.keys.Decoder.{Decoder}
+use Rattle.scm_terminal.specs.declared.decoder.Decoder.{Decoder}
 use Rattle.scm_terminal.specs.Decoders.{Adds, HasHeard, Rests}
-use Rattle.scm_terminal.specs.Streams.{decoded, is_pasted_after, rest, silent}
-use Rattle.scm_record.specs.Live.{Live, Asking, on_screen}
-use Rattle.scm_record.specs.Calls.{Call, Press, Say, Resize, Path, EventFails, MessageLeads}
+use Rattle.scm_terminal.specs.Streams.{stream_events, is_pasted_after, rest, idle_event}
+use Rattle.scm_record.specs.Live.{Live, LiveEdit, on_screen}
+use Rattle.scm_record.specs.LiveCalls.{Call, Press, Say, Resize, Path, EventFails, MessageLeads}
 use Rattle.scm_record.specs.declared.live.Turn.{Turn}
 use Rattle.scm_record.specs.declared.live.Turn.TheVariants.{Waiting, Editing, Accepted}
 
--- the calls that hand in what terminal events mean, in order
+-- the calls that hand in the terminal events, in order
 abbrev pub presses : List TerminalEvent → List Call
 presses [] = []
 presses (event ∷ events) = Press (event_of event) ∷ presses events
 
--- whether a turn waits for an event
+-- whether the session of the turn waits for an event
 abbrev pub is_waiting : Turn → Bool
 is_waiting (Waiting l) = true
 is_waiting (Editing a) = false
 is_waiting (Accepted state) = false
 
--- The events are handed in one after the other, up to the first that leads to a turn that does not wait. Those behind it are
--- dropped: they were typed at a screen that is gone.
+-- The events are handed in in order, up to the first that ends the session or asks for a message. Later events are dropped: they
+-- were typed at a screen that is gone.
 pub record HandsIn (l : Live) (events : List TerminalEvent) (turn : Turn) : Type 0 where
+  -- the events that are handed in, and those that are dropped
   pub handled : List TerminalEvent
   pub dropped : List TerminalEvent
   pub are : events ≡ handled ++ dropped
+  -- the handed-in events lead to the turn
   pub path : Path (Waiting l) (presses handled) turn
+  -- if the session still waits for an event, none is dropped
   pub all : IsTrue (is_waiting turn) → dropped ≡ []
 
--- one of the events fails, once those before it led to a session that waits
+-- one of the events ends the session with `error`, after the earlier ones led to a session that waits
 pub record FailsAmong (l : Live) (events : List TerminalEvent) (error : RecordError) : Type 0 where
+  -- the events before it, the event, and those that are dropped
   pub handled : List TerminalEvent
   pub event : TerminalEvent
   pub dropped : List TerminalEvent
   pub are : events ≡ handled ++ (event ∷ dropped)
+  -- the session before the event
   pub last : Live
   pub path : Path (Waiting l) (presses handled) (Waiting last)
+  -- the event ends it
   pub fails : EventFails last (event_of event) error
 
 -- ---- bytes
 
--- bytes lead to a turn: the decoder hears all of them, and the events that it tells are handed in
+-- bytes lead to a turn: the decoder reads them all, and the events that it finds are handed in
 pub record BytesLead (l : Live) (old new : Decoder) (bytes : List ℕ) (turn : Turn) : Type 0 where
+  -- the events that the decoder finds
   pub events : List TerminalEvent
   pub hears : Adds old new bytes [] events
+  -- they are handed in
   pub hands_in : HandsIn l events turn
 
--- bytes end a session in an error: memory was refused and the decoder heard nothing, or one of the events fails
+-- bytes end a session with `error`: an allocation of the decoder failed and left it unchanged, or one of the events fails
 pub data BytesFail (l : Live) (old new : Decoder) (bytes : List ℕ) (error : RecordError) : Type 0 where
   refused : error ≡ OutOfMemory → new ≡ old → BytesFail l old new bytes error
   failed : (events : List TerminalEvent) → Adds old new bytes [] events → FailsAmong l events error
@@ -59,71 +67,75 @@ pub data BytesFail (l : Live) (old new : Decoder) (bytes : List ℕ) (error : Re
 
 -- ---- silence
 
--- the terminal was silent: whatever the decoder has heard, this is what the silence tells
-abbrev pub Tells : Decoder → Decoder → Option TerminalEvent → Type 0
-Tells old new event = (is_pasted : Bool) (bytes : List ℕ) → HasHeard old is_pasted bytes → Rests new event is_pasted bytes
+-- the terminal was silent: `event` is what the silence means after the bytes that the decoder has read
+abbrev pub SilenceMeans : Decoder → Decoder → Option TerminalEvent → Type 0
+SilenceMeans old new event = (is_pasted : Bool) (bytes : List ℕ) → HasHeard old is_pasted bytes → Rests new event is_pasted bytes
 
--- silence leads to a turn: what it tells, if anything, is handed in
+-- a silence leads to a turn: the event that it means, if any, is handed in
 pub record SilenceLeads (l : Live) (old new : Decoder) (turn : Turn) : Type 0 where
+  -- the event that the silence means, if any
   pub event : Option TerminalEvent
-  pub tells : Tells old new event
+  pub tells : SilenceMeans old new event
   pub hands_in : HandsIn l (option_to_list event) turn
 
--- silence ends a session in an error: what it tells fails
+-- a silence ends a session with `error`: the event that it means fails
 pub record SilenceFails (l : Live) (old new : Decoder) (error : RecordError) : Type 0 where
+  -- the event that the silence means, if any
   pub event : Option TerminalEvent
-  pub tells : Tells old new event
+  pub tells : SilenceMeans old new event
   pub fails : FailsAmong l (option_to_list event) error
 
--- ---- what a program does with a session and a decoder
+-- ---- sequences of inputs
 
+-- an input of a program to a live session and a decoder
 pub data Input : Type 0 where
-  -- it hands in bytes that the terminal sent, or that the terminal was silent
+  -- `typed`: hands in bytes that the terminal sent
   Bytes : List ℕ → Input
+  -- `idle`: hands in a silence of the terminal
   Silence : Input
-  -- it hands in the message that was asked for
+  -- `answer`: hands in the message that was asked for
   Message : List ℕ → Input
-  -- it goes on with the session on another screen
+  -- `resize`: continues on another screen
   Screen : TerminalKind → Input
 
--- inputs lead from turn to turn, each as its contract says, and the decoder goes on with them; these are the calls that they make
-pub data Driven : Decoder → Turn → List Input → List Call → Turn → Type 0 where
-  at_end : {decoder : Decoder} {turn : Turn} → Driven decoder turn [] [] turn
+-- the inputs lead from turn to turn, each by its contract, and make these calls; the decoder keeps its state between them
+pub data InputPath : Decoder → Turn → List Input → List Call → Turn → Type 0 where
+  at_end : {decoder : Decoder} {turn : Turn} → InputPath decoder turn [] [] turn
   by_bytes : {l : Live} {old new : Decoder} {sent : List ℕ} {turn last : Turn} {inputs : List Input} {calls : List Call}
-      → (leads : BytesLead l old new sent turn) → Driven new turn inputs calls last
-      → Driven old (Waiting l) (Bytes sent ∷ inputs) (presses leads.hands_in.handled ++ calls) last
+      → (leads : BytesLead l old new sent turn) → InputPath new turn inputs calls last
+      → InputPath old (Waiting l) (Bytes sent ∷ inputs) (presses leads.hands_in.handled ++ calls) last
   by_silence : {l : Live} {old new : Decoder} {turn last : Turn} {inputs : List Input} {calls : List Call}
-      → (leads : SilenceLeads l old new turn) → Driven new turn inputs calls last
-      → Driven old (Waiting l) (Silence ∷ inputs) (presses leads.hands_in.handled ++ calls) last
-  by_message : {a : Asking} {text : List ℕ} {decoder : Decoder} {turn last : Turn} {inputs : List Input} {calls : List Call}
-      → MessageLeads a text turn → Driven decoder turn inputs calls last
-      → Driven decoder (Editing a) (Message text ∷ inputs) (Say text ∷ calls) last
+      → (leads : SilenceLeads l old new turn) → InputPath new turn inputs calls last
+      → InputPath old (Waiting l) (Silence ∷ inputs) (presses leads.hands_in.handled ++ calls) last
+  by_message : {a : LiveEdit} {text : List ℕ} {decoder : Decoder} {turn last : Turn} {inputs : List Input} {calls : List Call}
+      → MessageLeads a text turn → InputPath decoder turn inputs calls last
+      → InputPath decoder (Editing a) (Message text ∷ inputs) (Say text ∷ calls) last
   by_screen : {l : Live} {kind : TerminalKind} {decoder : Decoder} {last : Turn} {inputs : List Input} {calls : List Call}
-      → Driven decoder (Waiting (on_screen l kind)) inputs calls last
-      → Driven decoder (Waiting l) (Screen kind ∷ inputs) (Resize kind ∷ calls) last
+      → InputPath decoder (Waiting (on_screen l kind)) inputs calls last
+      → InputPath decoder (Waiting l) (Screen kind ∷ inputs) (Resize kind ∷ calls) last
 
 -- the bytes of all chunks, in order
 abbrev pub all_bytes : List (List ℕ) → List ℕ
 all_bytes [] = []
 all_bytes (chunk ∷ chunks) = chunk ++ all_bytes chunks
 
--- What inputs mean, where these bytes came since the decoder was new or since a silence: the events that each input adds to
--- the decoded ones are handed in, or a front of them.
-pub data Means : Bool → List ℕ → List Input → List Call → Type 0 where
-  no_more : {is_pasted : Bool} {heard : List ℕ} → Means is_pasted heard [] []
+-- What inputs mean, if the decoder has read `heard` since it was new or since a silence: each input hands in the events that it adds
+-- to the decoded ones, or the first of them.
+pub data InputsMean : Bool → List ℕ → List Input → List Call → Type 0 where
+  no_more : {is_pasted : Bool} {heard : List ℕ} → InputsMean is_pasted heard [] []
   of_bytes : {is_pasted : Bool} {heard sent : List ℕ} {inputs : List Input} {calls : List Call} (handled dropped : List TerminalEvent)
-      → decoded is_pasted (heard ++ sent) ≡ decoded is_pasted heard ++ (handled ++ dropped)
-      → Means is_pasted (heard ++ sent) inputs calls
-      → Means is_pasted heard (Bytes sent ∷ inputs) (presses handled ++ calls)
-  -- within what is pasted silence means nothing
+      → stream_events is_pasted (heard ++ sent) ≡ stream_events is_pasted heard ++ (handled ++ dropped)
+      → InputsMean is_pasted (heard ++ sent) inputs calls
+      → InputsMean is_pasted heard (Bytes sent ∷ inputs) (presses handled ++ calls)
+  -- within a paste, a silence means nothing
   of_pause : {is_pasted : Bool} {heard : List ℕ} {inputs : List Input} {calls : List Call}
-      → IsTrue (is_pasted_after is_pasted heard) → Means is_pasted heard inputs calls
-      → Means is_pasted heard (Silence ∷ inputs) calls
+      → IsTrue (is_pasted_after is_pasted heard) → InputsMean is_pasted heard inputs calls
+      → InputsMean is_pasted heard (Silence ∷ inputs) calls
   of_silence : {is_pasted : Bool} {heard : List ℕ} {inputs : List Input} {calls : List Call} (handled dropped : List TerminalEvent)
-      → is_pasted_after is_pasted heard ≡ false → option_to_list (silent false (rest heard)) ≡ handled ++ dropped
-      → Means false [] inputs calls
-      → Means is_pasted heard (Silence ∷ inputs) (presses handled ++ calls)
+      → is_pasted_after is_pasted heard ≡ false → option_to_list (idle_event false (rest heard)) ≡ handled ++ dropped
+      → InputsMean false [] inputs calls
+      → InputsMean is_pasted heard (Silence ∷ inputs) (presses handled ++ calls)
   of_message : {is_pasted : Bool} {heard text : List ℕ} {inputs : List Input} {calls : List Call}
-      → Means is_pasted heard inputs calls → Means is_pasted heard (Message text ∷ inputs) (Say text ∷ calls)
+      → InputsMean is_pasted heard inputs calls → InputsMean is_pasted heard (Message text ∷ inputs) (Say text ∷ calls)
   of_screen : {is_pasted : Bool} {heard : List ℕ} {kind : TerminalKind} {inputs : List Input} {calls : List Call}
-      → Means is_pasted heard inputs calls → Means is_pasted heard (Screen kind ∷ inputs) (Resize kind ∷ calls)
+      → InputsMean is_pasted heard inputs calls → InputsMean is_pasted heard (Screen kind ∷ inputs) (Resize kind ∷ calls)

@@ -1,46 +1,46 @@
-//! The frame last drawn: the screen, and where each thing on it was drawn.
+//! The frame last drawn: the screen, and where each component was drawn on it.
 ghost use Rattle.std.specs.Prelude.{◌≡◌, ℕ, ◌<◌, ◌≤◌, ◌+◌, ◌^◌, true, false, IfErr, IfOk, IsTrue, OnOk, length, string_bytes};
 ghost use Rattle.scm_render.specs.Picture.{PictureInRange, part};
 ghost use Rattle.scm_errors.specs.declared.error.RecordError.TheVariants.{OutOfMemory};
 ghost use Rattle.scm_types.specs.Limits.{is_accepted_state, max_scroll};
-ghost use Rattle.scm_view.specs.declared.ids.ComponentId.TheVariants as ids;
-ghost use Rattle.scm_view.specs.Shown.{Shown};
+ghost use Rattle.scm_widgets.specs.declared.ids.ComponentId.TheVariants as ids;
+ghost use Rattle.scm_view.specs.ViewState.{ViewState};
 ghost use Rattle.scm_view.specs.Window.{IsPlain, ShowsInline, rows_of_box, window};
 ghost use Rattle.scm_view.specs.Frame.{frame_of_document, frame_of_view, is_plain, picture_of};
-ghost use Rattle.scm_record.specs.Frames.{HasSize, IsMapOf, IsShown, KnowsPlaces, Scene, is_indexed, scene_of};
+ghost use Rattle.scm_record.specs.Frames.{HasSize, IsMapOf, IsSceneOf, KnowsPlaces, Scene, is_indexed, scene_of};
 ghost use Rattle.scm_record.specs.Session.{Session};
-ghost use Rattle.scm_record.specs.Uses.{ensured, held, hit, free_rows_above, scrolled_to, shot_of, top_in};
+ghost use Rattle.scm_record.specs.FrameQueries.{scroll_to_show, limited_scroll, hit, free_rows_above, scroll_to_rows, shot_of, top_in};
 
 use scm_cells::{Grid, Rect};
 use scm_input::TerminalKind;
 use scm_render::{DrawnRects, Viewport, find_target};
-use scm_shown::Showing;
 use scm_types::{RecordError, RecordState};
 use scm_view::{AppView, CommitViewMode, ComponentId, FrameIndex, SelectionKey, laws};
+use scm_view_state::ViewState;
 use std::alloc::Global;
 
-/// Where things stand on the frame last drawn, in places of the document.
+/// Where components are on the frame last drawn, in rows of the document and columns of the screen.
 #[derive(Drop)]
 enum Places {
-    /// Of a frame that shows a document inline, its index.
+    /// The index of the document, if the frame is plain.
     Plain(FrameIndex),
-    /// Of any other, where each component was drawn.
+    /// The box of each component, on any other frame.
     Free(DrawnRects<ComponentId>),
 }
 
-/// The frame last drawn.
+/// The frame last drawn, as the code keeps it. The definition `Scene` is what it shows.
 #[derive(Drop)]
 pub(crate) struct DrawnFrame {
     /// The screen.
     grid: Grid,
-    /// Where things stand on it.
+    /// Where components are on it.
     places: Places,
-    /// The index of the menu that was open.
+    /// The index of the menu that was open, if any.
     open_menu: Option<usize>,
 }
 
-/// Draws a view on a cleared grid, whose first row shows this row of the document, and gives where each
-/// component was drawn. Where memory is refused the grid keeps its size.
+/// Clears `grid`, draws `view` on it and returns the box of each component. The first row of the
+/// grid shows row `scroll` of the document. If an allocation fails, the grid keeps its size.
 #[tactic(auto, using(scm_types::proofs::LimitLemmas::scroll_room))]
 fn render(
     alloc: Global,
@@ -49,8 +49,10 @@ fn render(
     view: &AppView<'_>,
 ) -> Result<DrawnRects<ComponentId>, RecordError>
     requires scroll { scroll ≤ max_scroll }
-    requires in_range { (w h : ℕ) → w ≤ 65535 → h ≤ 65535 → PictureInRange (part ids.App (picture_of w h scroll view.now)) }
-    ensures rows { OnOk result (grid.new.rows ≡ (frame_of_view grid.old.width (length grid.old.rows) scroll view.now).rows) }
+    requires in_range { (w h : ℕ) → w ≤ 65535 → h ≤ 65535
+        → PictureInRange (part ids.App (picture_of w h scroll view.now)) }
+    ensures rows { OnOk result (grid.new.rows
+        ≡ (frame_of_view grid.old.width (length grid.old.rows) scroll view.now).rows) }
     ensures ok { let w = grid.old.width in let h = length grid.old.rows in
         IfOk result (λ boxes. IsMapOf w (frame_of_view w h scroll view.now) boxes) }
     ensures width { grid.new.width ≡ grid.old.width }
@@ -69,14 +71,15 @@ fn render(
     Ok(boxes)
 }
 
-/// The first row of a rectangle, and how many rows it has.
+/// Returns the first row of `rect`, and its height in rows.
 fn rows_of(rect: Rect) -> (usize, usize)
     ensures { result ≡ rows_of_box rect }
 {
     (rect.y.max(0) as usize, rect.height)
 }
 
-/// The rows that stay free above a key on the screen: below the menu bar, and below a pinned header.
+/// Returns how many rows stay free above `key` on the screen: for the menu bar, and for a pinned
+/// header.
 fn free_rows_above(key: SelectionKey) -> usize
     ensures { result ≡ free_rows_above key }
 {
@@ -88,10 +91,11 @@ fn free_rows_above(key: SelectionKey) -> usize
     }
 }
 
-/// The scroll, or the one that brings so many rows from `top` on onto a screen of `height` rows, of which
-/// the first `above` stay free.
-fn scrolled_to(height: usize, scroll: usize, above: usize, top: usize, rows: usize) -> usize
-    ensures { result ≡ scrolled_to height scroll above top (top + rows) }
+/// Returns the scroll at which rows `top..top + rows` of the document are on a screen of `height`
+/// rows, with `above` rows free above them. If they already are, returns `scroll`; if they don't
+/// fit, puts row `top` right below the free rows.
+fn scroll_to_rows(height: usize, scroll: usize, above: usize, top: usize, rows: usize) -> usize
+    ensures { result ≡ scroll_to_rows height scroll above top (top + rows) }
 {
     let Some(row) = top.checked_sub(scroll) else {
         return top.saturating_sub(above);
@@ -105,7 +109,7 @@ fn scrolled_to(height: usize, scroll: usize, above: usize, top: usize, rows: usi
     }
 }
 
-/// Whether a frame shows a document inline, on a screen of at least ten columns and two rows.
+/// Returns whether a frame is plain: inline, on a screen of at least 10 columns and 2 rows.
 fn is_plain(width: usize, height: usize, mode: CommitViewMode) -> bool
     ensures { result ≡ is_plain width height mode }
 {
@@ -116,7 +120,7 @@ fn is_plain(width: usize, height: usize, mode: CommitViewMode) -> bool
 }
 
 impl DrawnFrame {
-    /// A frame of the screen's size, on which nothing is drawn yet.
+    /// Creates an empty frame of the screen's size.
     pub(crate) fn new(alloc: Global, kind: TerminalKind) -> Result<DrawnFrame, RecordError>
         ensures ok { IfOk result (λ frame. HasSize kind frame) }
         ensures err { IfErr result (λ e. e ≡ OutOfMemory) }
@@ -131,18 +135,24 @@ impl DrawnFrame {
         })
     }
 
-    /// Draws a view that shows a document inline.
+    /// Draws `view`, which shows a document inline, and indexes the document.
     fn draw_plain(
         &mut self,
         alloc: Global,
         view: &AppView<'_>,
         scroll: usize,
     ) -> Result<(), RecordError>
-        requires shows { ShowsInline view.now self.old.grid.width (length self.old.grid.rows) scroll }
-        ensures rows { OnOk result ((shown : Shown) → IsPlain view.now shown self.old.grid.width (length self.old.grid.rows) →
-            self.new.grid.rows ≡ window self.old.grid.width (length self.old.grid.rows) scroll shown) }
-        ensures places { OnOk result ((shown : Shown) → IsPlain view.now shown self.old.grid.width (length self.old.grid.rows) →
-            KnowsPlaces self.old.grid.width (frame_of_document self.old.grid.width (length self.old.grid.rows) scroll shown) self.new.places) }
+        requires shows { ShowsInline view.now
+            self.old.grid.width (length self.old.grid.rows) scroll }
+        ensures rows { OnOk result ((shown : ViewState)
+            → IsPlain view.now shown self.old.grid.width (length self.old.grid.rows)
+            → self.new.grid.rows
+            ≡ window self.old.grid.width (length self.old.grid.rows) scroll shown) }
+        ensures places { OnOk result ((shown : ViewState)
+            → IsPlain view.now shown self.old.grid.width (length self.old.grid.rows)
+            → KnowsPlaces self.old.grid.width
+            (frame_of_document self.old.grid.width (length self.old.grid.rows) scroll shown)
+            self.new.places) }
         ensures indexed { OnOk result (is_indexed self.new.places ≡ true) }
         ensures width { self.new.grid.width ≡ self.old.grid.width }
         ensures height { length self.new.grid.rows ≡ length self.old.grid.rows }
@@ -156,7 +166,7 @@ impl DrawnFrame {
         Ok(())
     }
 
-    /// Draws a view by its components.
+    /// Draws `view` component by component, and notes their boxes.
     fn draw_free(
         &mut self,
         alloc: Global,
@@ -164,9 +174,13 @@ impl DrawnFrame {
         scroll: usize,
     ) -> Result<(), RecordError>
         requires scroll { scroll ≤ max_scroll }
-        requires in_range { (w h : ℕ) → w ≤ 65535 → h ≤ 65535 → PictureInRange (part ids.App (picture_of w h scroll view.now)) }
-        ensures rows { OnOk result (self.new.grid.rows ≡ (frame_of_view self.old.grid.width (length self.old.grid.rows) scroll view.now).rows) }
-        ensures places { OnOk result (KnowsPlaces self.old.grid.width (frame_of_view self.old.grid.width (length self.old.grid.rows) scroll view.now) self.new.places) }
+        requires in_range { (w h : ℕ) → w ≤ 65535 → h ≤ 65535
+            → PictureInRange (part ids.App (picture_of w h scroll view.now)) }
+        ensures rows { OnOk result (self.new.grid.rows ≡
+            (frame_of_view self.old.grid.width (length self.old.grid.rows) scroll view.now).rows) }
+        ensures places { OnOk result (KnowsPlaces self.old.grid.width
+            (frame_of_view self.old.grid.width (length self.old.grid.rows) scroll view.now)
+            self.new.places) }
         ensures indexed { OnOk result (is_indexed self.new.places ≡ false) }
         ensures width { self.new.grid.width ≡ self.old.grid.width }
         ensures height { length self.new.grid.rows ≡ length self.old.grid.rows }
@@ -177,47 +191,52 @@ impl DrawnFrame {
         Ok(())
     }
 
-    /// Draws what a session shows, from a row of the document on. A plain frame is kept by its index,
-    /// any other by the map of its boxes. Where memory is refused the frame keeps its size.
+    /// Draws the view state `view_state`, with row `scroll` of the document as the screen's first row.
+    /// If an allocation fails, the frame keeps its size.
     pub(crate) fn draw(
         &mut self,
         alloc: Global,
-        showing: &Showing<'_>,
+        view_state: &ViewState<'_>,
         scroll: usize,
     ) -> Result<(), RecordError>
-        requires accepted { IsTrue (is_accepted_state showing.now.state) }
+        requires accepted { IsTrue (is_accepted_state view_state.now.state) }
         requires scroll { scroll ≤ max_scroll }
-        ensures ok { OnOk result ((kind : TerminalKind) (s : Session) → s.shown ≡ showing.now → s.scroll ≡ scroll
-            → HasSize kind self.old → IsShown (scene_of kind s) self.new) }
-        ensures indexed { OnOk result (is_indexed self.new.places ≡ is_plain self.old.grid.width (length self.old.grid.rows) showing.now.view_mode) }
+        ensures ok { OnOk result ((kind : TerminalKind) (s : Session)
+            → s.shown ≡ view_state.now → s.scroll ≡ scroll
+            → HasSize kind self.old → IsSceneOf (scene_of kind s) self.new) }
+        ensures indexed { OnOk result (is_indexed self.new.places
+            ≡ is_plain self.old.grid.width (length self.old.grid.rows) view_state.now.view_mode) }
         ensures size { (kind : TerminalKind) → HasSize kind self.old → HasSize kind self.new }
         ensures err { IfErr result (λ e. e ≡ OutOfMemory) }
     {
-        let view = showing.app_view(alloc)?;
+        let view = view_state.app_view(alloc)?;
         laws::apps_are_in_range();
         laws::apps_are_drawn_alike();
         let width = self.grid.width();
         let height = self.grid.height();
-        if is_plain(width, height, showing.view_mode) {
+        if is_plain(width, height, view_state.view_mode) {
             self.draw_plain(alloc, &view, scroll)?;
         } else {
             self.draw_free(alloc, &view, scroll)?;
         }
-        self.open_menu = showing.open_menu;
+        self.open_menu = view_state.open_menu;
         Ok(())
     }
 
-    /// The screen.
+    /// Returns the screen.
     pub(crate) fn grid(&self) -> &Grid
-        ensures width { (scene : Scene) → IsShown scene self.now → result.now.width ≡ scene.width }
-        ensures rows { (scene : Scene) → IsShown scene self.now → result.now.rows ≡ scene.frame.rows }
+        ensures width { (scene : Scene) → IsSceneOf scene self.now
+            → result.now.width ≡ scene.width }
+        ensures rows { (scene : Scene) → IsSceneOf scene self.now
+            → result.now.rows ≡ scene.frame.rows }
     {
         &self.grid
     }
 
-    /// The screen's rows, as a screenshot has them: blank where the screen was cleared.
+    /// Returns the text of a screenshot: the screen's rows, or blank rows if `is_cleared`.
     pub(crate) fn text(&self, alloc: Global, is_cleared: bool) -> Result<String, RecordError>
-        ensures ok { IfOk result (λ text. (scene : Scene) → IsShown scene self.now → string_bytes text ≡ shot_of scene is_cleared) }
+        ensures ok { IfOk result (λ text. (scene : Scene) → IsSceneOf scene self.now
+            → string_bytes text ≡ shot_of scene is_cleared) }
         ensures err { IfErr result (λ e. e ≡ OutOfMemory) }
     {
         if is_cleared {
@@ -228,11 +247,12 @@ impl DrawnFrame {
         }
     }
 
-    /// Who owns a row of the document and a column of the screen.
+    /// Returns the owner of `row` of the document and `column` of the screen, both counted from 0.
     fn owner(&self, row: usize, column: usize) -> Option<ComponentId>
         requires row { row < 2 ^ 63 }
         requires column { column < 2 ^ 63 }
-        ensures { (scene : Scene) → IsShown scene self.now → column < scene.width → result ≡ scene.frame.owner row column }
+        ensures { (scene : Scene) → IsSceneOf scene self.now → column < scene.width
+            → result ≡ scene.frame.owner row column }
     {
         match &self.places {
             Places::Plain(index) => index.owner(row, column),
@@ -240,10 +260,12 @@ impl DrawnFrame {
         }
     }
 
-    /// What a click on a row and column of the screen hits, where the screen is scrolled so far.
+    /// Returns the component that a click at `row` and `column` of the screen hits, if any, while
+    /// the screen is scrolled to row `scroll` of the document. All are counted from 0.
     #[tactic(auto, unfolding(scm_types::specs::Limits::max_items, scm_types::specs::Limits::max_scroll))]
     pub(crate) fn hit(&self, scroll: usize, row: usize, column: usize) -> Option<ComponentId>
-        ensures { (scene : Scene) → IsShown scene self.now → result ≡ hit scene scroll row column }
+        ensures { (scene : Scene) → IsSceneOf scene self.now
+            → result ≡ hit scene scroll row column }
     {
         if column < self.grid.width()
             && row < self.grid.height()
@@ -255,22 +277,25 @@ impl DrawnFrame {
         }
     }
 
-    /// A scroll as the frame holds it.
+    /// Returns `scroll`, limited to the last row that the frame drew and to the maximum scroll.
     #[tactic(auto, unfolding(scm_types::specs::Limits::max_items, scm_types::specs::Limits::max_scroll))]
-    pub(crate) fn held(&self, scroll: usize) -> usize
-        ensures { (scene : Scene) → IsShown scene self.now → result ≡ held scene scroll }
+    pub(crate) fn limited_scroll(&self, scroll: usize) -> usize
+        ensures { (scene : Scene) → IsSceneOf scene self.now
+            → result ≡ limited_scroll scene scroll }
     {
         scroll.min(self.extent().saturating_sub(1).min(RecordState::MAX_SCROLL))
     }
 
-    /// The scroll that brings a key onto the screen.
+    /// Returns the scroll that shows `key`, starting from `scroll`. If `key` wasn't drawn, keeps
+    /// `scroll`.
     #[tactic(auto, unfolding(scm_types::specs::Limits::max_items, scm_types::specs::Limits::max_scroll))]
-    pub(crate) fn scroll_to(&self, scroll: usize, key: SelectionKey) -> usize
-        ensures { (scene : Scene) → IsShown scene self.now → result ≡ ensured scene scroll key }
+    pub(crate) fn scroll_to_show(&self, scroll: usize, key: SelectionKey) -> usize
+        ensures { (scene : Scene) → IsSceneOf scene self.now
+            → result ≡ scroll_to_show scene scroll key }
     {
         match self.span(key) {
             Some((top, rows)) => {
-                scrolled_to(self.grid.height(), scroll, free_rows_above(key), top, rows).min(
+                scroll_to_rows(self.grid.height(), scroll, free_rows_above(key), top, rows).min(
                     RecordState::MAX_SCROLL,
                 )
             }
@@ -278,30 +303,30 @@ impl DrawnFrame {
         }
     }
 
-    /// The first row of a key in the document, where it was drawn.
+    /// Returns the first row of `key` in the document, if it was drawn.
     pub(crate) fn top(&self, key: SelectionKey) -> Option<usize>
-        ensures { (scene : Scene) → IsShown scene self.now → result ≡ top_in scene key }
+        ensures { (scene : Scene) → IsSceneOf scene self.now → result ≡ top_in scene key }
     {
         self.span(key).map(|(top, _)| top)
     }
 
-    /// The screen's rows.
+    /// Returns the height of the screen, in rows.
     pub(crate) fn height(&self) -> usize
-        ensures { (scene : Scene) → IsShown scene self.now → result ≡ scene.height }
+        ensures { (scene : Scene) → IsSceneOf scene self.now → result ≡ scene.height }
     {
         self.grid.height()
     }
 
-    /// The menu that was open when the frame was drawn.
+    /// Returns the index of the menu that was open when the frame was drawn, if any.
     pub(crate) fn open_menu(&self) -> Option<usize>
-        ensures { (scene : Scene) → IsShown scene self.now → result ≡ scene.open_menu }
+        ensures { (scene : Scene) → IsSceneOf scene self.now → result ≡ scene.open_menu }
     {
         self.open_menu
     }
 
-    /// The first row of a key in the document and how many rows it has, where it was drawn.
+    /// Returns the first row of `key` in the document and its height in rows, if it was drawn.
     fn span(&self, key: SelectionKey) -> Option<(usize, usize)>
-        ensures { (scene : Scene) → IsShown scene self.now → result ≡ scene.frame.span key }
+        ensures { (scene : Scene) → IsSceneOf scene self.now → result ≡ scene.frame.span key }
     {
         match &self.places {
             Places::Plain(index) => index.span(key),
@@ -311,9 +336,9 @@ impl DrawnFrame {
         }
     }
 
-    /// How many rows all that was drawn spans.
+    /// Returns the height of all that was drawn, in rows.
     fn extent(&self) -> usize
-        ensures { (scene : Scene) → IsShown scene self.now → result ≡ scene.frame.extent }
+        ensures { (scene : Scene) → IsSceneOf scene self.now → result ≡ scene.frame.extent }
     {
         match &self.places {
             Places::Plain(index) => index.extent(),

@@ -1,7 +1,8 @@
-//! The recorder: what a user does to a state of changes, one event after the other.
+//! The recorder: a user selects changes of a state, event by event.
 //!
-//! A [`Recorder`] is made of a state, and run on an input and a store of screens. The names of
-//! the crates below stand here too.
+//! A [`Recorder`] is made from a state, and runs on an input and a store of screens. A
+//! [`LiveSession`] is driven by a program instead. The public names of the crates below are
+//! re-exported here.
 #![tactic(auto)]
 
 mod frame;
@@ -9,7 +10,7 @@ pub mod live;
 mod pages;
 pub mod recorder;
 mod runs;
-mod selector;
+mod session;
 
 pub use live::Editing;
 pub use live::LiveSession;
@@ -59,14 +60,11 @@ pub use scm_render::centered_rect;
 pub use scm_render::find_target;
 pub use scm_selection::KeySet;
 pub use scm_selection::counts;
+pub use scm_selection::key_kinds;
 pub use scm_selection::key_lists;
 pub use scm_selection::key_set;
 pub use scm_selection::moves;
-pub use scm_selection::steps;
 pub use scm_selection::toggles;
-pub use scm_shown::ItemKind;
-pub use scm_shown::Showing;
-pub use scm_shown::menus;
 pub use scm_terminal::Colour;
 pub use scm_terminal::Decoder;
 pub use scm_terminal::EventPair;
@@ -124,3 +122,6 @@ pub use scm_view::SelectionKey;
 pub use scm_view::TristateBox;
 pub use scm_view::TristateIconStyle;
 pub use scm_view::document_part;
+pub use scm_view_state::ItemKind;
+pub use scm_view_state::ViewState;
+pub use scm_view_state::menus;

@@ -1,18 +1,19 @@
-//! The recorder: a session that is run on an input.
+//! The recorder: a session that runs on an input until it ends.
 
 use crate::frame::DrawnFrame;
 use crate::runs::run_to_end;
-use crate::selector::Selector;
+use crate::session::ActiveSession;
 use scm_input::{RecordInput, Screens};
 use scm_types::{RecordError, RecordState};
 use std::alloc::Global;
 use std::marker::Model;
 
-/// A session in which a user selects changes.
+/// A session in which a user selects changes, before its run. (A `LiveSession` is driven by a
+/// program instead, event by event.)
 #[derive(Drop)]
 pub struct Recorder<'state> {
     /// The session.
-    selector: Selector<'state>,
+    session: ActiveSession<'state>,
 }
 
 impl<'state> Model for Recorder<'state> {
@@ -20,9 +21,9 @@ impl<'state> Model for Recorder<'state> {
 
     ghost Value = { Session };
 
-    ghost view = { λ r. r.selector };
+    ghost view = { λ r. r.session };
 
-    ghost invariant = { λ r. IsDrawable r.selector };
+    ghost invariant = { λ r. IsDrawable r.session };
 }
 
 impl<'state> Recorder<'state> {
@@ -38,34 +39,44 @@ impl<'state> Recorder<'state> {
     ghost use Rattle.scm_record.specs.StepCoherence.{StepKeepsCoherent};
     ghost use Rattle.scm_record.specs.Headline.{Headline};
 
-    /// A session over the state, to which commits without a message are added up to two.
+    /// Creates a session over `state`, with commits without a message added up to two.
     ///
     /// The first file is selected, and each section that is more than context is expanded. The
-    /// state has to be within the limits, as [`RecordState::is_accepted`] says. After `OutOfMemory`
-    /// it is gone.
+    /// state has to be within the limits of [`RecordState::is_accepted`].
+    ///
+    /// # Errors
+    ///
+    /// - `OutOfMemory`: an allocation failed; the state is dropped.
     pub fn new(alloc: Global, state: RecordState<'state>) -> Result<Recorder<'state>, RecordError>
         requires { IsTrue (is_accepted_state state) }
         ensures ok { IfOk result (λ recorder. recorder ≡ start state.entry) }
         ensures err { IfErr result (λ e. e ≡ OutOfMemory) }
     {
-        let selector = Selector::new(alloc, state)?;
-        Ok(Recorder { selector })
+        let session = ActiveSession::new(alloc, state)?;
+        Ok(Recorder { session })
     }
 
-    /// Runs the session on an input, until the user accepts or gives up.
+    /// Runs the session on `input` until the user accepts or cancels, and returns the state.
     ///
-    /// In turns a frame is drawn, and then all pending events are handled in order, or those of
-    /// the next read where none is pending. A fault ends the run at once: `Cancelled` where the
-    /// user gives up, the input's own fault, `ReadInput("no events left")` where a read is due and
-    /// none is left, `Other("no such screenshot place")` where the store lacks the place of a
-    /// screenshot, `Other("commit message too long")` for an answer of more than 1,000,000 bytes,
-    /// or `OutOfMemory`. The state is then gone, and the store keeps the screens taken.
+    /// Each turn draws a frame, and then handles all pending events in order. If none is pending,
+    /// it handles the next batch of `input`. Screenshots are kept in `screens`.
+    ///
+    /// # Errors
+    ///
+    /// An error ends the run at once. The state is dropped; `screens` keeps the screenshots taken.
+    ///
+    /// - `Cancelled`: the user cancelled.
+    /// - `ReadInput("no events left")`: a batch is due, and `input` has none left.
+    /// - `Other("no such screenshot place")`: `screens` lacks the place of a screenshot.
+    /// - `Other("commit message too long")`: an edited message has more than 1,000,000 bytes.
+    /// - `OutOfMemory`: an allocation failed.
+    /// - any other: the fault of `input`.
     pub fn run(
         self,
         input: &mut dyn RecordInput,
         screens: &mut Screens,
     ) -> Result<RecordState<'state>, RecordError>
-        // the state of the session in which the steps are accepted, or the fault that they meet
+        // the steps end in an accepted session with this state, or in this fault
         ensures ok { IfOk result (λ state.
             EndsWith self.entry
             (setting (kind input.old) (reads input.old) (edits input.old) screens.old)
@@ -74,33 +85,36 @@ impl<'state> Recorder<'state> {
             FailsWith self.entry
             (setting (kind input.old) (reads input.old) (edits input.old) screens.old)
             (setting (kind input.new) (reads input.new) (edits input.new) screens.new) e) }
-        // the steps reach one end
-        ensures one_end { let old = setting (kind input.old) (reads input.old) (edits input.old) screens.old in
+        // the steps have only one end
+        ensures one_end { let old =
+            setting (kind input.old) (reads input.old) (edits input.old) screens.old in
             HasOneEnd (Before (world_in old self.entry 0)) }
-        // what a recorder of an accepted state keeps of it
+        // the run changes only marks and messages of an accepted state
         ensures kept { IfOk result (λ state. (given : RecordState) →
             IsTrue (is_accepted_state given) → self.entry ≡ start given → IsKept given state) }
-        // without a message to edit no edit is taken
-        ensures unedited { ((commit : ℕ) → message_of self.entry commit ≡ None) → edits input.new ≡ edits input.old }
-        // what every event keeps
-        ensures coherent { (drawn : Session) (w : World) (event : Event) → StepKeepsCoherent drawn w event }
-        // what the screens show, what clicks act on, and when a run is accepted
+        // if no commit has a message, no edit is taken
+        ensures unedited { ((commit : ℕ) → message_of self.entry commit ≡ None)
+            → edits input.new ≡ edits input.old }
+        // every event keeps each file coherent
+        ensures coherent { (drawn : Session) (w : World) (event : Event)
+            → StepKeepsCoherent drawn w event }
+        // what screenshots show, what clicks act on, and when a run is accepted
         ensures headline { Headline self.entry
             (setting (kind input.old) (reads input.old) (edits input.old) screens.old)
             (setting (kind input.new) (reads input.new) (edits input.new) screens.new) result }
         ensures kind { kind input.new ≡ kind input.old }
     {
-        let mut selector = self.into_selector();
-        let mut frame = DrawnFrame::new(selector.allocator(), input.terminal_kind())?;
-        run_to_end(&mut selector, &mut frame, input, screens)?;
-        Ok(selector.into_state())
+        let mut session = self.into_session();
+        let mut frame = DrawnFrame::new(session.allocator(), input.terminal_kind())?;
+        run_to_end(&mut session, &mut frame, input, screens)?;
+        Ok(session.into_state())
     }
 
-    /// The session.
-    fn into_selector(self) -> Selector<'state>
+    /// Returns the session.
+    fn into_session(self) -> ActiveSession<'state>
         ensures value { result ≡ self.entry }
         ensures drawable { IsDrawable result }
     {
-        self.selector
+        self.session
     }
 }

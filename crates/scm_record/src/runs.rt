@@ -1,4 +1,4 @@
-//! Runs: a session over an input, turn after turn, to its end.
+//! Runs: a session takes its events from an input, turn by turn, until it ends.
 ghost use Rattle.std.specs.Prelude.{◌≡◌, ℕ, ◌+◌, false, IfErr, IfOk, IsTrue, OnErr, OnOk, string_bytes};
 ghost use Rattle.scm_errors.specs.declared.error.RecordError.TheVariants.{OutOfMemory};
 ghost use Rattle.scm_types.specs.Limits.{is_short_text};
@@ -7,38 +7,39 @@ ghost use Rattle.scm_input.specs.declared.inputs.TerminalKind.{TerminalKind};
 ghost use Rattle.scm_input.specs.Script.{Replies, edit_of};
 ghost use Rattle.scm_input.specs.Store.{Store, count_up, with_frame};
 ghost use Rattle.scm_record.specs.Session.{IsDrawable, Session, after_frame, message_text};
-ghost use Rattle.scm_record.specs.Frames.{HasSize, IsShown, Scene, scene_of};
-ghost use Rattle.scm_record.specs.Uses.{shot_of};
-ghost use Rattle.scm_record.specs.Run.{Before, Within, Goes, Setting, World, batch, edited, kept_at, no_such_place, setting, too_long, world_in, Reaches, Stops};
-ghost use Rattle.scm_record.specs.Turn.{BatchStops, Ceases, Follows, Handles, IsCurrent, IsFault, Refused, Refuses, TurnStops, point_of};
+ghost use Rattle.scm_record.specs.Frames.{HasSize, IsSceneOf, Scene, scene_of};
+ghost use Rattle.scm_record.specs.FrameQueries.{shot_of};
+ghost use Rattle.scm_record.specs.Run.{Before, Within, Goes, Setting, World, batch, after_edit, after_screenshot, no_such_place, setting, too_long, world_in, Reaches, Stops};
+ghost use Rattle.scm_record.specs.RunContracts.{BatchStops, Ceases, Follows, Handles, IsCurrent, IsFault, RefusesEvent, Refuses, TurnStops, point_of};
 ghost use Rattle.scm_record.specs.declared.runs.Next.TheVariants.{GoOn};
 ghost use Rattle.scm_record.specs.Ending.{EndsWith, FailsWith};
 
 use crate::frame::DrawnFrame;
-use crate::selector::{Flow, Selector};
+use crate::session::{ActiveSession, Flow};
 use scm_input::{Event, RecordInput, Screens};
 use scm_types::RecordError;
 use std::alloc::Global;
 
-/// What follows the events of a batch.
+/// What the run does after a batch of events.
 #[derive(Clone, Copy)]
 pub(crate) enum Next {
-    /// The run goes on.
+    /// Goes on.
     GoOn,
-    /// The changes are accepted.
+    /// Ends, with the changes accepted.
     Accept,
 }
 
-/// What follows a turn.
+/// What a turn of a run leaves for the next one. The public `Turn` is another thing: what a call of
+/// a live session leads to.
 #[derive(Clone, Copy)]
-struct Turned {
-    /// What follows its events.
+struct TurnEnd {
+    /// What the run does after the events of the turn.
     next: Next,
-    /// The frame shows the session as they left it, so that none has to be drawn.
-    is_shown: bool,
+    /// Whether the frame already shows the session, so that the next turn need not draw it.
+    is_current: bool,
 }
 
-/// The fault of a screenshot to a place that the store lacks.
+/// Returns the fault of a screenshot at a place that the store lacks.
 pub(crate) fn no_such_place(alloc: Global) -> RecordError
     ensures { IsFault no_such_place result }
 {
@@ -48,7 +49,7 @@ pub(crate) fn no_such_place(alloc: Global) -> RecordError
     }
 }
 
-/// The fault of a message that is too long.
+/// Returns the fault of a message that is too long.
 pub(crate) fn too_long(alloc: Global) -> RecordError
     ensures { IsFault too_long result }
 {
@@ -58,124 +59,137 @@ pub(crate) fn too_long(alloc: Global) -> RecordError
     }
 }
 
-/// Whether a message is within its limit of 1,000,000 bytes.
+/// Returns whether `text` is within the limit of a message, 1,000,000 bytes.
 pub(crate) fn is_short(text: &String) -> bool
     ensures { result ≡ is_short_text (string_bytes text.now) }
 {
     text.len() <= 1_000_000
 }
 
-/// Asks the input for the message of a commit.
+/// Has the input edit the message of the commit at index `commit`, and returns its answer.
 fn ask(
-    selector: &Selector<'_>,
+    session: &ActiveSession<'_>,
     input: &mut dyn RecordInput,
     commit: usize,
 ) -> Result<String, RecordError>
-    ensures edit { Replies (message_text selector.now commit) (edit_of result) (edits input.old) (edits input.new) }
+    ensures edit { Replies (message_text session.now commit) (edit_of result)
+        (edits input.old) (edits input.new) }
     ensures reads { reads input.new ≡ reads input.old }
     ensures kind { kind input.new ≡ kind input.old }
 {
-    input.edit_commit_message(selector.message(commit))
+    input.edit_commit_message(session.message(commit))
 }
 
-/// Gives a commit the message that the input returns.
+/// Has the input edit the message of the commit at index `commit`, and sets the answer as its
+/// message.
 fn edit(
-    selector: &mut Selector<'_>,
+    session: &mut ActiveSession<'_>,
     input: &mut dyn RecordInput,
     commit: usize,
 ) -> Result<(), RecordError>
     ensures ok { OnOk result ((store : Store) (frames : ℕ) →
-        edited (world_in (setting (kind input.old) (reads input.old) (edits input.old) store) selector.old frames) commit (edits input.old)
-        ≡ Goes (world_in (setting (kind input.new) (reads input.new) (edits input.new) store) selector.new frames)) }
+        after_edit
+        (world_in (setting (kind input.old) (reads input.old) (edits input.old) store)
+        session.old frames) commit (edits input.old)
+        ≡ Goes
+        (world_in (setting (kind input.new) (reads input.new) (edits input.new) store)
+        session.new frames)) }
     ensures err { IfErr result (λ e. (store : Store) (frames : ℕ) →
-        Refuses e (world_in (setting (kind input.old) (reads input.old) (edits input.old) store) selector.old frames)
-        (edited (world_in (setting (kind input.old) (reads input.old) (edits input.old) store) selector.old frames) commit (edits input.old))
-        (world_in (setting (kind input.new) (reads input.new) (edits input.new) store) selector.new frames)) }
+        Refuses e
+        (world_in (setting (kind input.old) (reads input.old) (edits input.old) store)
+        session.old frames)
+        (after_edit
+        (world_in (setting (kind input.old) (reads input.old) (edits input.old) store)
+        session.old frames) commit (edits input.old))
+        (world_in (setting (kind input.new) (reads input.new) (edits input.new) store)
+        session.new frames)) }
     ensures kind { kind input.new ≡ kind input.old }
 {
-    let text = ask(selector, input, commit)?;
+    let text = ask(session, input, commit)?;
     if is_short(&text) {
-        selector.set_message(commit, text);
+        session.set_message(commit, text);
         Ok(())
     } else {
-        Err(too_long(selector.allocator()))
+        Err(too_long(session.allocator()))
     }
 }
 
-/// Keeps the screen at a place of the store.
+/// Keeps a screenshot at `place` of `screens`.
 fn shoot(
-    selector: &Selector<'_>,
+    session: &ActiveSession<'_>,
     frame: &DrawnFrame,
     screens: &mut Screens,
     place: usize,
 ) -> Result<(), RecordError>
-    ensures ok { OnOk result ((scene : Scene) (w : World) → IsShown scene frame.now → w.texts ≡ screens.old.texts →
-        kept_at w place (shot_of scene selector.now.cleared) ≡ Goes (record w { texts = screens.new.texts })) }
+    ensures ok { OnOk result ((scene : Scene) (w : World) → IsSceneOf scene frame.now
+        → w.texts ≡ screens.old.texts
+        → after_screenshot w place (shot_of scene session.now.cleared)
+        ≡ Goes (record w { texts = screens.new.texts })) }
     ensures err { IfErr result (λ e. (scene : Scene) (w : World) → w.texts ≡ screens.old.texts →
-        Refuses e w (kept_at w place (shot_of scene selector.now.cleared)) w) }
+        Refuses e w (after_screenshot w place (shot_of scene session.now.cleared)) w) }
     ensures unchanged { OnErr result (screens.new ≡ screens.old) }
     ensures counted { screens.new.frames ≡ screens.old.frames }
 {
     if screens.has_place(place) {
-        let text = frame.text(selector.allocator(), selector.is_cleared())?;
+        let text = frame.text(session.allocator(), session.is_cleared())?;
         screens.keep(place, text);
         Ok(())
     } else {
-        Err(no_such_place(selector.allocator()))
+        Err(no_such_place(session.allocator()))
     }
 }
 
-/// Handles one event.
+/// Handles `event`, with `frame` as the frame last drawn: edits and screenshots included.
 fn handle(
-    selector: &mut Selector<'_>,
+    session: &mut ActiveSession<'_>,
     frame: &DrawnFrame,
     input: &mut dyn RecordInput,
     screens: &mut Screens,
     event: Event,
 ) -> Result<Next, RecordError>
-    ensures ok { IfOk result (λ next. Follows (λ scene. IsShown scene frame.now) event next
-        selector.old (setting (kind input.old) (reads input.old) (edits input.old) screens.old)
-        selector.new (setting (kind input.new) (reads input.new) (edits input.new) screens.new)) }
-    ensures err { IfErr result (λ e. Refused (λ scene. IsShown scene frame.now) event e
-        selector.old (setting (kind input.old) (reads input.old) (edits input.old) screens.old)
-        selector.new (setting (kind input.new) (reads input.new) (edits input.new) screens.new)) }
+    ensures ok { IfOk result (λ next. Follows (λ scene. IsSceneOf scene frame.now) event next
+        session.old (setting (kind input.old) (reads input.old) (edits input.old) screens.old)
+        session.new (setting (kind input.new) (reads input.new) (edits input.new) screens.new)) }
+    ensures err { IfErr result (λ e. RefusesEvent (λ scene. IsSceneOf scene frame.now) event e
+        session.old (setting (kind input.old) (reads input.old) (edits input.old) screens.old)
+        session.new (setting (kind input.new) (reads input.new) (edits input.new) screens.new)) }
     ensures counted { screens.new.frames ≡ screens.old.frames }
     ensures kind { kind input.new ≡ kind input.old }
 {
-    match selector.change(frame, event)? {
+    match session.change(frame, event)? {
         Flow::GoOn => Ok(Next::GoOn),
         Flow::Accept => Ok(Next::Accept),
         Flow::Cancel => Err(RecordError::Cancelled),
         Flow::Edit(commit) => {
-            edit(selector, input, commit)?;
+            edit(session, input, commit)?;
             Ok(Next::GoOn)
         }
         Flow::Shoot(place) => {
-            shoot(selector, frame, screens, place)?;
+            shoot(session, frame, screens, place)?;
             Ok(Next::GoOn)
         }
     }
 }
 
-/// Handles the events of a batch, up to one that ends the run.
+/// Handles `events` in order, up to one that ends the run.
 fn handle_all(
-    selector: &mut Selector<'_>,
+    session: &mut ActiveSession<'_>,
     frame: &DrawnFrame,
     input: &mut dyn RecordInput,
     screens: &mut Screens,
     events: &[Event],
 ) -> Result<Next, RecordError>
-    ensures ok { IfOk result (λ next. Handles (λ scene. IsShown scene frame.now) events.now next
-        selector.old (setting (kind input.old) (reads input.old) (edits input.old) screens.old)
-        selector.new (setting (kind input.new) (reads input.new) (edits input.new) screens.new)) }
-    ensures err { IfErr result (λ e. Ceases (λ scene. IsShown scene frame.now) events.now e
-        selector.old (setting (kind input.old) (reads input.old) (edits input.old) screens.old)
-        selector.new (setting (kind input.new) (reads input.new) (edits input.new) screens.new)) }
+    ensures ok { IfOk result (λ next. Handles (λ scene. IsSceneOf scene frame.now) events.now next
+        session.old (setting (kind input.old) (reads input.old) (edits input.old) screens.old)
+        session.new (setting (kind input.new) (reads input.new) (edits input.new) screens.new)) }
+    ensures err { IfErr result (λ e. Ceases (λ scene. IsSceneOf scene frame.now) events.now e
+        session.old (setting (kind input.old) (reads input.old) (edits input.old) screens.old)
+        session.new (setting (kind input.new) (reads input.new) (edits input.new) screens.new)) }
     ensures counted { screens.new.frames ≡ screens.old.frames }
     ensures kind { kind input.new ≡ kind input.old }
 {
     for event in events {
-        match handle(selector, frame, input, screens, *event)? {
+        match handle(session, frame, input, screens, *event)? {
             Next::GoOn => {}
             Next::Accept => return Ok(Next::Accept),
         }
@@ -183,149 +197,166 @@ fn handle_all(
     Ok(Next::GoOn)
 }
 
-/// Whether the events of a batch leave the session as it is.
-fn are_idle(selector: &Selector<'_>, frame: &DrawnFrame, events: &[Event]) -> bool
-    ensures { IsTrue result → (a : Setting) → Handles (λ scene. IsShown scene frame.now) events.now GoOn selector.now a selector.now a }
+/// Returns true only if each of `events` leaves the session unchanged.
+fn are_idle(session: &ActiveSession<'_>, frame: &DrawnFrame, events: &[Event]) -> bool
+    ensures { IsTrue result → (a : Setting)
+        → Handles (λ scene. IsSceneOf scene frame.now) events.now GoOn session.now a session.now a }
 {
     for event in events {
-        if !selector.is_kept_by(frame, *event) {
+        if !session.is_kept_by(frame, *event) {
             return false;
         }
     }
     true
 }
 
-/// The next batch: all pending events, or the next read.
+/// Takes all pending events; if there are none, takes the next batch of the input.
 fn next_batch(
-    selector: &mut Selector<'_>,
+    session: &mut ActiveSession<'_>,
     input: &mut dyn RecordInput,
 ) -> Result<Vec<Event>, RecordError>
     ensures ok { IfOk result (λ events. (store : Store) (frames : ℕ) →
-        batch (world_in (setting (kind input.old) (reads input.old) (edits input.old) store) selector.old frames) selector.old.pending
-        ≡ Within selector.old (world_in (setting (kind input.old) (reads input.new) (edits input.new) store) selector.new frames) events.items) }
+        batch
+        (world_in (setting (kind input.old) (reads input.old) (edits input.old) store)
+        session.old frames) session.old.pending
+        ≡ Within session.old
+        (world_in (setting (kind input.old) (reads input.new) (edits input.new) store)
+        session.new frames) events.items) }
     ensures err { IfErr result (λ e. (store : Store) (frames : ℕ) →
-        BatchStops e (batch (world_in (setting (kind input.old) (reads input.old) (edits input.old) store) selector.old frames) selector.old.pending)
-        (world_in (setting (kind input.old) (reads input.old) (edits input.old) store) selector.old frames)
-        (world_in (setting (kind input.old) (reads input.new) (edits input.new) store) selector.new frames)) }
+        BatchStops e
+        (batch
+        (world_in (setting (kind input.old) (reads input.old) (edits input.old) store)
+        session.old frames) session.old.pending)
+        (world_in (setting (kind input.old) (reads input.old) (edits input.old) store)
+        session.old frames)
+        (world_in (setting (kind input.old) (reads input.new) (edits input.new) store)
+        session.new frames)) }
     ensures kind { kind input.new ≡ kind input.old }
-    ensures kept { selector.new.shown ≡ selector.old.shown }
-    ensures scroll { selector.new.scroll ≡ selector.old.scroll }
+    ensures kept { session.new.shown ≡ session.old.shown }
+    ensures scroll { session.new.scroll ≡ session.old.scroll }
 {
-    if selector.has_pending() {
-        return Ok(selector.take_pending());
+    if session.has_pending() {
+        return Ok(session.take_pending());
     }
     if input.batches_left() == 0 {
-        let words = String::from_str(selector.allocator(), "no events left")?;
+        let words = String::from_str(session.allocator(), "no events left")?;
         return Err(RecordError::ReadInput(words));
     }
     input.next_events()
 }
 
-/// Draws the session over what was drawn before, unless that shows it already. Where memory is refused the
-/// frame keeps its size.
+/// Draws the session on `frame`, unless `is_current` says that `frame` shows it already. If an
+/// allocation fails, the frame keeps its size.
 pub(crate) fn draw_anew(
-    selector: &Selector<'_>,
+    session: &ActiveSession<'_>,
     frame: &mut DrawnFrame,
-    is_shown: bool,
+    is_current: bool,
 ) -> Result<(), RecordError>
-    requires drawable { IsDrawable selector.now }
-    requires current { IsTrue is_shown → IsCurrent selector.now frame.old }
-    ensures shown { OnOk result ((kind : TerminalKind) (s : Session) → s.shown ≡ selector.now.shown → s.scroll ≡ selector.now.scroll
-        → HasSize kind frame.old → IsShown (scene_of kind s) frame.new) }
+    requires drawable { IsDrawable session.now }
+    requires current { IsTrue is_current → IsCurrent session.now frame.old }
+    ensures shown { OnOk result ((kind : TerminalKind) (s : Session)
+        → s.shown ≡ session.now.shown → s.scroll ≡ session.now.scroll
+        → HasSize kind frame.old → IsSceneOf (scene_of kind s) frame.new) }
     ensures err { IfErr result (λ e. e ≡ OutOfMemory) }
     ensures size { (kind : TerminalKind) → HasSize kind frame.old → HasSize kind frame.new }
 {
-    if is_shown {
+    if is_current {
         return Ok(());
     }
-    frame.draw(selector.allocator(), selector.showing(), selector.scroll())?;
+    frame.draw(session.allocator(), session.view_state(), session.scroll())?;
     Ok(())
 }
 
-/// Draws the session, unless it is shown, and counts the frame.
+/// Draws the session on `frame`, unless `is_current`, and counts the frame.
 fn draw(
-    selector: &mut Selector<'_>,
+    session: &mut ActiveSession<'_>,
     frame: &mut DrawnFrame,
     screens: &mut Screens,
-    is_shown: bool,
+    is_current: bool,
 ) -> Result<(), RecordError>
-    requires drawable { IsDrawable selector.now }
-    requires current { IsTrue is_shown → IsCurrent selector.now frame.now }
-    ensures shown { OnOk result ((kind : TerminalKind) → HasSize kind frame.old → IsShown (scene_of kind selector.new) frame.new) }
-    ensures drawn { OnOk result (selector.new ≡ after_frame selector.old) }
+    requires drawable { IsDrawable session.now }
+    requires current { IsTrue is_current → IsCurrent session.now frame.now }
+    ensures shown { OnOk result ((kind : TerminalKind) → HasSize kind frame.old
+        → IsSceneOf (scene_of kind session.new) frame.new) }
+    ensures drawn { OnOk result (session.new ≡ after_frame session.old) }
     ensures counted { OnOk result (screens.new ≡ with_frame screens.old) }
     ensures err { IfErr result (λ e. e ≡ OutOfMemory) }
     ensures unchanged { OnErr result (screens.new ≡ screens.old) }
     ensures size { (kind : TerminalKind) → HasSize kind frame.old → HasSize kind frame.new }
 {
-    draw_anew(selector, frame, is_shown)?;
-    selector.begin_frame();
+    draw_anew(session, frame, is_current)?;
+    session.begin_frame();
     screens.add_frame();
     Ok(())
 }
 
-/// One turn: a frame, and a batch.
+/// Runs one turn: draws a frame, and handles a batch of events.
 fn turn(
-    selector: &mut Selector<'_>,
+    session: &mut ActiveSession<'_>,
     frame: &mut DrawnFrame,
     input: &mut dyn RecordInput,
     screens: &mut Screens,
-    is_shown: bool,
-) -> Result<Turned, RecordError>
-    requires drawable { IsDrawable selector.now }
+    is_current: bool,
+) -> Result<TurnEnd, RecordError>
+    requires drawable { IsDrawable session.now }
     requires sized { HasSize (kind input.now) frame.now }
-    requires current { IsTrue is_shown → IsCurrent selector.now frame.now }
-    ensures ok { IfOk result (λ turned. (frames : ℕ) →
-        Reaches (Before (world_in (setting (kind input.old) (reads input.old) (edits input.old) screens.old) selector.old frames))
-        (point_of turned.next (world_in (setting (kind input.new) (reads input.new) (edits input.new) screens.new) selector.new (frames + 1)))) }
-    ensures current { IfOk result (λ turned. IsTrue turned.is_shown → IsCurrent selector.new frame.new) }
+    requires current { IsTrue is_current → IsCurrent session.now frame.now }
+    ensures ok { IfOk result (λ turn_end. (frames : ℕ) →
+        Reaches (Before
+        (world_in (setting (kind input.old) (reads input.old) (edits input.old) screens.old)
+        session.old frames))
+        (point_of turn_end.next
+        (world_in (setting (kind input.new) (reads input.new) (edits input.new) screens.new)
+        session.new (frames + 1)))) }
+    ensures current { IfOk result (λ turn_end.
+        IsTrue turn_end.is_current → IsCurrent session.new frame.new) }
     ensures counted { OnOk result (screens.new.frames ≡ count_up screens.old.frames) }
     ensures err { IfErr result (λ e. TurnStops e
-        selector.old (setting (kind input.old) (reads input.old) (edits input.old) screens.old)
-        selector.new (setting (kind input.new) (reads input.new) (edits input.new) screens.new)) }
+        session.old (setting (kind input.old) (reads input.old) (edits input.old) screens.old)
+        session.new (setting (kind input.new) (reads input.new) (edits input.new) screens.new)) }
     ensures size { (kind : TerminalKind) → HasSize kind frame.old → HasSize kind frame.new }
     ensures kind { kind input.new ≡ kind input.old }
 {
-    draw(selector, frame, screens, is_shown)?;
-    let batch = next_batch(selector, input)?;
-    if are_idle(selector, frame, &batch) {
-        return Ok(Turned {
+    draw(session, frame, screens, is_current)?;
+    let batch = next_batch(session, input)?;
+    if are_idle(session, frame, &batch) {
+        return Ok(TurnEnd {
             next: Next::GoOn,
-            is_shown: true,
+            is_current: true,
         });
     }
-    let next = handle_all(selector, frame, input, screens, &batch)?;
-    Ok(Turned {
+    let next = handle_all(session, frame, input, screens, &batch)?;
+    Ok(TurnEnd {
         next,
-        is_shown: false,
+        is_current: false,
     })
 }
 
-/// Turn after turn, until the user accepts or the run fails.
+/// Runs turns until the user accepts or the run fails.
 pub(crate) fn run_to_end(
-    selector: &mut Selector<'_>,
+    session: &mut ActiveSession<'_>,
     frame: &mut DrawnFrame,
     input: &mut dyn RecordInput,
     screens: &mut Screens,
 ) -> Result<(), RecordError>
-    requires drawable { IsDrawable selector.now }
+    requires drawable { IsDrawable session.now }
     requires sized { HasSize (kind input.now) frame.now }
     ensures ok { OnOk result (
-        EndsWith selector.old
+        EndsWith session.old
         (setting (kind input.old) (reads input.old) (edits input.old) screens.old)
         (setting (kind input.new) (reads input.new) (edits input.new) screens.new)
-        selector.new.shown.state) }
+        session.new.shown.state) }
     ensures err { IfErr result (λ e.
-        FailsWith selector.old
+        FailsWith session.old
         (setting (kind input.old) (reads input.old) (edits input.old) screens.old)
         (setting (kind input.new) (reads input.new) (edits input.new) screens.new) e) }
     ensures kind { kind input.new ≡ kind input.old }
 {
-    let mut is_shown = false;
+    let mut is_current = false;
     loop {
-        let turned = turn(selector, frame, input, screens, is_shown)?;
-        match turned.next {
-            Next::GoOn => is_shown = turned.is_shown,
+        let turn_end = turn(session, frame, input, screens, is_current)?;
+        match turn_end.next {
+            Next::GoOn => is_current = turn_end.is_current,
             Next::Accept => return Ok(()),
         }
     }

@@ -1,4 +1,4 @@
--- what the table of words gives for some words
+-- the table of words, computed on some words
 pub mod Examples
--- what the parts of a word are
+-- the parts of a word: a prefix, a number, one character
 pub mod WordLemmas

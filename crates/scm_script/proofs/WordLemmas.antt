@@ -1,4 +1,4 @@
--- What the parts of a word are: a prefix, a number, one character.
+-- The parts of a word: a prefix, a number, one character.
 use Rattle.std.proofs.Common.{◌≡◌, ℕ, List, [], ◌∷◌, ◌++◌, length, Bool, true, false, ◌&&◌, ◌==◌, nat_lt, if◌then◌else◌, Option, Some, None, Result, Ok, Err, MatchOption, Bor, refl, sym, ap, ◌∙◌, subst, rules, IsUtf8, chars, encode_utf8, slice_get, option_copied, lt-ltb, ltb-true, eqb-true, eq-eqb}
 use Rattle.std.specs.Char.{is_ascii_digit}
 use Rattle.std.specs.List.{list_all}
@@ -9,13 +9,13 @@ use Rattle.std.proofs.lemmas.Option.{none-some}
 use Rattle.std.proofs.lemmas.Str.{chars_past_char}
 use Rattle.std.proofs.lemmas.Str.Parse.{IsNumeralModel, numerals_by_value, parse_digits}
 use Rattle.scm_input.specs.declared.terminal.KeyModifiers.{KeyModifiers}
-use Rattle.scm_script.specs.Words.{Pressed, behind, decimal_of, only, read_prefix}
+use Rattle.scm_script.specs.Words.{PartialKey, rest_after, decimal_of, only, read_prefix}
 
 -- a prefix: what is behind it is what follows it
 
-pub behind_front : (front rest : List ℕ) → behind front (front ++ rest) ≡ Some rest
+pub behind_front : (front rest : List ℕ) → rest_after front (front ++ rest) ≡ Some rest
 behind_front [] rest = refl
-behind_front (f ∷ front) rest = ap (λ (t : Bool). if t then behind front (front ++ rest) else None) (eq-eqb f f refl) ∙ behind_front front rest
+behind_front (f ∷ front) rest = ap (λ (t : Bool). if t then rest_after front (front ++ rest) else None) (eq-eqb f f refl) ∙ behind_front front rest
 
 both_true : (t : Bool) (o : Option (List ℕ)) (rest : List ℕ) → (if t then o else None) ≡ Some rest → (t ≡ true) × (o ≡ Some rest)
 both_true true o rest e = (refl, e)
@@ -24,23 +24,23 @@ both_true false o rest e = absurd (none-some rest e)
 some_is : (a b : List ℕ) → ◌≡◌ {A = Option (List ℕ)} (Some a) (Some b) → a ≡ b
 some_is a b e = cc
 
-pub front_behind : (front text rest : List ℕ) → behind front text ≡ Some rest → text ≡ front ++ rest
+pub front_behind : (front text rest : List ℕ) → rest_after front text ≡ Some rest → text ≡ front ++ rest
 front_behind [] text rest e = some_is text rest e
 front_behind (f ∷ front) [] rest e = absurd (none-some rest e)
 front_behind (f ∷ front) (b ∷ text) rest e =
-    let first = both_true (b == f) (behind front text) rest e in
+    let first = both_true (b == f) (rest_after front text) rest e in
     let same : b ≡ f = eqb-true b f first.0 in let more : text ≡ front ++ rest = front_behind front text rest first.1 in
     λ i. same i ∷ more i
 
-no_front : (front text : List ℕ) (o : Option (List ℕ)) → behind front text ≡ o → ((rest : List ℕ) → text ≡ front ++ rest → ⊥) → None ≡ o
+no_front : (front text : List ℕ) (o : Option (List ℕ)) → rest_after front text ≡ o → ((rest : List ℕ) → text ≡ front ++ rest → ⊥) → None ≡ o
 no_front front text None e lacks = refl
 no_front front text (Some rest) e lacks = absurd (lacks rest (front_behind front text rest e))
 
 pub stripped : (front text : List ℕ) (r : Option (Bor (List ℕ)))
-    → MatchOption r (FindsTextPrefix front text None) (λ x. StripsPrefix (FindsTextPrefix front) text x.now) → option_copied r ≡ behind front text
-stripped front text None lacks = no_front front text (behind front text) refl (λ rest e. lacks rest e)
+    → MatchOption r (FindsTextPrefix front text None) (λ x. StripsPrefix (FindsTextPrefix front) text x.now) → option_copied r ≡ rest_after front text
+stripped front text None lacks = no_front front text (rest_after front text) refl (λ rest e. lacks rest e)
 stripped front text (Some x) h =
-    sym (behind_front front x.now) ∙ ap (behind front) (sym (h.1.1 ∙ ap (λ (rest : List ℕ). front ++ rest) (sym h.2)))
+    sym (behind_front front x.now) ∙ ap (rest_after front) (sym (h.1.1 ∙ ap (λ (rest : List ℕ). front ++ rest) (sym h.2)))
 
 -- a number in digits
 
@@ -89,14 +89,14 @@ two_chars text rest c d u e n = ap only (chars_past_char text rest c u e) ∙ on
 
 -- prefixes, read one after the other
 
-joined : (p : Pressed) (held : KeyModifiers) (rest : List ℕ) → held ≡ p.held → rest ≡ p.rest → ◌≡◌ {A = Pressed} (record { held = held; rest = rest }) p
-joined p held rest e f = λ i. record { held = e i; rest = f i }
+joined : (p : PartialKey) (modifiers : KeyModifiers) (rest : List ℕ) → modifiers ≡ p.modifiers → rest ≡ p.rest → ◌≡◌ {A = PartialKey} (record { modifiers = modifiers; rest = rest }) p
+joined p modifiers rest e f = λ i. record { modifiers = e i; rest = f i }
 
-abbrev pub Reads : Pressed → KeyModifiers → List ℕ → Type 0
-Reads p held rest = (held ≡ (read_prefix p).held) × (rest ≡ (read_prefix p).rest)
+abbrev pub Reads : PartialKey → KeyModifiers → List ℕ → Type 0
+Reads p modifiers rest = (modifiers ≡ (read_prefix p).modifiers) × (rest ≡ (read_prefix p).rest)
 
-pub reads_on : (p : Pressed) (h : KeyModifiers) (r : List ℕ) (h' : KeyModifiers) (r' : List ℕ)
-    → Reads p h r → Reads (record { held = h; rest = r }) h' r' → Reads (read_prefix p) h' r'
+pub reads_on : (p : PartialKey) (h : KeyModifiers) (r : List ℕ) (h' : KeyModifiers) (r' : List ℕ)
+    → Reads p h r → Reads (record { modifiers = h; rest = r }) h' r' → Reads (read_prefix p) h' r'
 reads_on p h r h' r' first second =
-    let e : ◌≡◌ {A = Pressed} (record { held = h; rest = r }) (read_prefix p) = joined (read_prefix p) h r first.0 first.1 in
-    subst (λ (q : Pressed). Reads q h' r') e second
+    let e : ◌≡◌ {A = PartialKey} (record { modifiers = h; rest = r }) (read_prefix p) = joined (read_prefix p) h r first.0 first.1 in
+    subst (λ (q : PartialKey). Reads q h' r') e second

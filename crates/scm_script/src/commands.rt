@@ -1,4 +1,4 @@
-//! The commands of a script: batches, answers and faults.
+//! The commands of a script: batches of events, answers to edits, and faults.
 
 use crate::error::PlayError;
 use crate::words::{Word, read_word, words_of};
@@ -6,21 +6,21 @@ use scm_record::{RecordError, Screens, ScriptEdit, ScriptRead, TestingScreenshot
 use serde_json::Value;
 use std::alloc::Global;
 
-/// What the commands of a script tell.
+/// The reads, the edits and the screenshots of a script.
 #[derive(Drop)]
 pub struct Commands {
-    /// What the reads give, in order.
+    /// The result of each read, in order.
     pub reads: Vec<ScriptRead>,
-    /// What the edits return, in order.
+    /// The result of each edit, in order.
     pub edits: Vec<ScriptEdit>,
     /// The store, with a place for each screenshot.
     pub screens: Screens,
-    /// The screenshots in the order of the script.
+    /// The screenshots, in order.
     pub shots: Vec<TestingScreenshot>,
 }
 
 impl Commands {
-    /// No commands.
+    /// Returns no commands.
     pub fn new(alloc: Global) -> Commands {
         Commands {
             reads: Vec::new(alloc),
@@ -30,7 +30,10 @@ impl Commands {
         }
     }
 
-    /// Adds the command of a line, and returns whether the line is one.
+    /// Adds the command on `line`, and returns whether there is one.
+    ///
+    /// # Errors
+    /// `Fault`: an allocation failed; the batch may have taken places in the store.
     pub fn add(&mut self, alloc: Global, line: &str) -> Result<bool, PlayError> {
         let line = line.trim_start_matches(' ');
         if let Some(text) = line.strip_prefix("answer ") {
@@ -46,7 +49,7 @@ impl Commands {
         }
     }
 
-    /// Adds an answer by its text, a JSON string.
+    /// Adds an answer with `text`, a JSON string, and returns whether it is one.
     fn add_answer(&mut self, alloc: Global, text: &str) -> Result<bool, PlayError> {
         let value = match Value::from_str(alloc, text) {
             Ok(value) => value,
@@ -63,7 +66,8 @@ impl Commands {
         Ok(true)
     }
 
-    /// Adds a fault by what stands behind the word `fault`: `read TEXT` or `edit TEXT`.
+    /// Adds a fault from `rest`, the line after the word `fault`, and returns whether it is one. `rest` is `read TEXT` or
+    /// `edit TEXT`.
     fn add_fault(&mut self, alloc: Global, rest: &str) -> Result<bool, PlayError> {
         if let Some(text) = rest.strip_prefix("read ") {
             let text = String::from_str(alloc, text)?;
@@ -78,7 +82,8 @@ impl Commands {
         Ok(false)
     }
 
-    /// Adds a batch of the events of these words. Each screenshot gets the next place of the store.
+    /// Adds a batch with the events of `words`, and returns whether each word has a meaning. Each screenshot gets the next
+    /// place in the store.
     fn add_batch(&mut self, alloc: Global, words: &[&str]) -> Result<bool, PlayError> {
         let mut events = Vec::new(alloc);
         for word in words {

@@ -1,13 +1,13 @@
-//! What the run of a program may meet.
+//! The errors of the program.
 
 use scm_record::RecordError;
 use std::alloc::{AllocError, AllocFailed};
 use thiserror::Error;
 
-/// Why the program ends without an accepted state. Its text is what the program prints.
+/// An error that ends the program without an accepted state. Its text is what the program prints.
 #[derive(Debug, Drop, Error)]
 pub enum PlayError {
-    /// The run ended with a fault, or a request for memory was refused.
+    /// The run ended with a fault, or an allocation failed.
     #[error("fault: {0}")]
     Fault(RecordError),
     /// The reader failed.
@@ -16,25 +16,25 @@ pub enum PlayError {
     /// The input has more than 67,108,864 bytes.
     #[error("bad input: too long")]
     TooLong,
-    /// The input is no text, first on the line with this number, from 1.
+    /// The input is not UTF-8. The number is that of the first such line, counted from 1.
     #[error("bad input: not UTF-8")]
     NotText(usize),
-    /// The input has no line `script`.
+    /// The input has no line that is the word `script`.
     #[error("bad input: no script")]
     NoScript,
-    /// The line with this number, from 1, does not fit.
+    /// The first line is not a size, or a later line is not a command. The number is that of the line, counted from 1.
     #[error("bad input: line {0}")]
     BadLine(usize),
-    /// What stands before the line `script` is no state.
+    /// The text before the line `script` is not the JSON form of a state.
     #[error("bad state")]
     BadState,
-    /// The state is beyond the limits.
+    /// The state passes a limit.
     #[error("state not accepted")]
     StateNotAccepted,
 }
 
 impl PlayError {
-    /// The status with which the program ends: 1 for a fault, 2 for an input that it does not take.
+    /// Returns the exit status of the program: 1 for a fault, 2 for a bad input.
     pub fn status(&self) -> u8 {
         match self {
             PlayError::Fault(_) => 1,

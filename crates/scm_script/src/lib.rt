@@ -1,16 +1,16 @@
-//! Scripts: a state of changes and what a user does to it, read from a text and run.
+//! Scripts: texts with a state of changes and the input of a user, which are read and run.
 //!
-//! [`play`] is the whole program over any reader and writer, [`play_with_hints`] also says where and why it refuses an
-//! input, and `read_state`, of `scm_json`, reads a state's JSON form.
+//! [`play`] is the whole program over any reader and writer. [`play_with_hints`] also writes where and why it refuses an
+//! input. `read_state`, of `scm_json`, reads a state's JSON form.
 #![tactic(auto)]
 
 mod commands;
 mod error;
-mod forms;
 mod hints;
+mod json_forms;
 mod limits;
-mod misfit;
-mod notes;
+mod no_op_hints;
+mod path_hint;
 mod program;
 mod report;
 mod script;

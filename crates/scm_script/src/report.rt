@@ -1,17 +1,20 @@
-//! What the program prints of a run: the screens, and the accepted state.
+//! The output of a run: the screens, and the accepted state.
 
 use crate::error::PlayError;
 use scm_record::{Screens, TestingScreenshot};
-use scm_types::{File, FileMode, RecordError, RecordState, SelectedChanges, SelectedContents};
+use scm_types::{File, FileMode, RecordState, SelectedChanges, SelectedContents};
 use serde::Serialize;
-use std::alloc::Global;
+use std::alloc::{AllocError, Global};
 
-/// The screens in order, each with its number from 0 on a line before it.
+/// Returns the screens of `shots` in order, each after a line with its index, counted from 0.
+///
+/// # Errors
+/// `AllocError`: an allocation failed.
 pub fn screens_text(
     alloc: Global,
     screens: &Screens,
     shots: &[TestingScreenshot],
-) -> Result<String, PlayError> {
+) -> Result<String, AllocError> {
     let mut text = String::new(alloc);
     for (index, shot) in shots.iter().enumerate() {
         push_heading(&mut text, alloc, "screen", index)?;
@@ -20,20 +23,19 @@ pub fn screens_text(
     Ok(text)
 }
 
-/// Adds a line with a word and a number.
+/// Adds a line with `word` and `number`.
 fn push_heading(
     text: &mut String,
     alloc: Global,
     word: &str,
     number: usize,
-) -> Result<(), PlayError> {
+) -> Result<(), AllocError> {
     let heading = format!(in alloc; "{word} {number}\n")?;
-    text.push_str(heading.as_str())?;
-    Ok(())
+    text.push_str(heading.as_str())
 }
 
-/// Adds a screen. The rows of one that was taken have their line ends; the words for one that was not get theirs.
-fn push_screen(text: &mut String, screen: &str) -> Result<(), PlayError> {
+/// Adds a screen, or the words for a screenshot that was never taken. Both end with a line end.
+fn push_screen(text: &mut String, screen: &str) -> Result<(), AllocError> {
     text.push_str(screen)?;
     if !screen.is_empty() && !screen.ends_with('\n') {
         text.push_str("\n")?;
@@ -41,7 +43,10 @@ fn push_screen(text: &mut String, screen: &str) -> Result<(), PlayError> {
     Ok(())
 }
 
-/// Adds the state as JSON on a line, and the two sides of each file, numbered from 0.
+/// Adds `state` as JSON on a line. Then adds the two sides of each file, after a line with its index, counted from 0.
+///
+/// # Errors
+/// `Fault`: an allocation failed; `text` may have a part of it.
 pub fn push_accepted(
     text: &mut String,
     alloc: Global,
@@ -56,7 +61,7 @@ pub fn push_accepted(
     Ok(())
 }
 
-/// What the program prints of an accepted state, unless memory is refused.
+/// Returns the output for an accepted state, or `None` if an allocation failed.
 pub fn accepted_text(alloc: Global, state: &RecordState<'_>) -> Option<String> {
     let mut text = String::new(alloc);
     match push_accepted(&mut text, alloc, state) {
@@ -65,7 +70,7 @@ pub fn accepted_text(alloc: Global, state: &RecordState<'_>) -> Option<String> {
     }
 }
 
-/// Adds the two sides of a file.
+/// Adds the two sides of `file`, which has the index `index`.
 fn push_file(
     text: &mut String,
     alloc: Global,
@@ -75,32 +80,31 @@ fn push_file(
     push_heading(text, alloc, "file", index)?;
     let sides = file.get_selected_contents(alloc)?;
     push_side(text, alloc, "selected", &sides.0)?;
-    push_side(text, alloc, "unselected", &sides.1)
+    push_side(text, alloc, "unselected", &sides.1)?;
+    Ok(())
 }
 
-/// Adds a side of a file on a line: its name, its mode, and its contents.
+/// Adds a side of a file on a line: its name `name`, its mode, and its contents.
 fn push_side(
     text: &mut String,
     alloc: Global,
     name: &str,
     side: &SelectedChanges<'_>,
-) -> Result<(), PlayError> {
+) -> Result<(), AllocError> {
     push_mode(text, alloc, name, side.file_mode)?;
     push_contents(text, alloc, &side.contents)?;
-    text.push_str("\n")?;
-    Ok(())
+    text.push_str("\n")
 }
 
-/// Adds the name of a side and its mode, each with a space behind it.
+/// Adds the name of a side and its mode, each with a space after it.
 fn push_mode(
     text: &mut String,
     alloc: Global,
     name: &str,
     mode: FileMode,
-) -> Result<(), PlayError> {
+) -> Result<(), AllocError> {
     let heading = format!(in alloc; "{name} {mode} ")?;
-    text.push_str(heading.as_str())?;
-    Ok(())
+    text.push_str(heading.as_str())
 }
 
 /// Adds the contents of a side.
@@ -108,7 +112,7 @@ fn push_contents(
     text: &mut String,
     alloc: Global,
     contents: &SelectedContents<'_>,
-) -> Result<(), PlayError> {
+) -> Result<(), AllocError> {
     match contents {
         SelectedContents::Unchanged => text.push_str("unchanged")?,
         SelectedContents::Text { contents } => {
@@ -128,11 +132,8 @@ fn push_contents(
     Ok(())
 }
 
-/// Adds a value as JSON.
-fn push_json<T: Serialize>(text: &mut String, alloc: Global, value: &T) -> Result<(), PlayError> {
-    let json = serde_json::to_string(alloc, value).map_err(|_| PlayError::Fault(
-        RecordError::OutOfMemory,
-    ))?;
-    text.push_str(json.as_str())?;
-    Ok(())
+/// Adds `value` as JSON.
+fn push_json<T: Serialize>(text: &mut String, alloc: Global, value: &T) -> Result<(), AllocError> {
+    let json = serde_json::to_string(alloc, value).map_err(|_| AllocError)?;
+    text.push_str(json.as_str())
 }

@@ -1,24 +1,29 @@
-//! The form of the program's input: a size, a state as JSON, the word `script`, and a command a line.
+//! The form of the program's input: a size, a state as JSON, the line `script`, and one command on each line.
 
 use crate::commands::Commands;
 use crate::error::PlayError;
 use crate::words::{read_decimal, words_of};
-use std::alloc::Global;
+use std::alloc::{AllocError, Global};
 
-/// What an input asks for.
+/// An input that is read.
 #[derive(Drop)]
 pub struct Script<'a> {
-    /// The screen's columns.
+    /// The width of the screen, in columns.
     pub width: u16,
-    /// The screen's rows.
+    /// The height of the screen, in rows.
     pub height: u16,
-    /// The state as it is written.
+    /// The text of the state.
     pub state: &'a str,
-    /// What the commands tell.
+    /// The commands.
     pub commands: Commands,
 }
 
-/// Reads an input. A line that does not fit is named by its number, from 1.
+/// Reads an input.
+///
+/// # Errors
+/// `BadLine`: the first line is not a size, or a later line is not a command.
+/// `NoScript`: no line is the word `script`.
+/// `Fault`: an allocation failed.
 pub fn read_script(alloc: Global, text: &str) -> Result<Script<'_>, PlayError> {
     let (first, rest) = split_line(text);
     let Some((width, height)) = read_size(alloc, first)? else {
@@ -35,7 +40,7 @@ pub fn read_script(alloc: Global, text: &str) -> Result<Script<'_>, PlayError> {
     })
 }
 
-/// The first line of a text without its end, and what stands behind it.
+/// Returns the first line of `text` without its line end, and the rest of `text`.
 pub fn split_line(text: &str) -> (&str, &str) {
     match text.split_once('\n') {
         Some((line, rest)) => (line.strip_suffix('\r').unwrap_or(line), rest),
@@ -43,16 +48,16 @@ pub fn split_line(text: &str) -> (&str, &str) {
     }
 }
 
-/// What stands before the line `script`.
+/// The text before the line `script`.
 #[derive(Clone, Copy)]
 pub struct StateText<'a> {
-    /// Its text.
+    /// The text of the state.
     pub text: &'a str,
-    /// How many lines it has.
+    /// The number of its lines.
     pub lines: usize,
 }
 
-/// What stands before the first line `script`, if there is one.
+/// Returns the part of `text` before the first line `script`, or `None` if there is no such line.
 pub fn find_state(text: &str) -> Option<StateText<'_>> {
     let mut length = 0usize;
     for (lines, line) in text.split_inclusive('\n').enumerate() {
@@ -65,8 +70,8 @@ pub fn find_state(text: &str) -> Option<StateText<'_>> {
     None
 }
 
-/// The commands behind the line `script`, before which so many lines stand in a text that begins with the input's
-/// second.
+/// Returns the commands of `text`, which begins with the input's second line. The line `script` follows after `lines`
+/// lines.
 fn read_commands(alloc: Global, text: &str, lines: usize) -> Result<Commands, PlayError> {
     let mut commands = Commands::new(alloc);
     for (index, line) in text.lines().enumerate().skip(lines.saturating_add(1)) {
@@ -77,13 +82,13 @@ fn read_commands(alloc: Global, text: &str, lines: usize) -> Result<Commands, Pl
     Ok(commands)
 }
 
-/// Empty lines and lines that begin with `#` are no commands.
+/// Returns whether `line` has a command: it is neither empty nor a comment, which begins with `#`.
 pub fn is_command_line(line: &str) -> bool {
     !line.is_empty() && !line.starts_with('#')
 }
 
-/// The columns and rows of a line `size W H`.
-fn read_size(alloc: Global, line: &str) -> Result<Option<(u16, u16)>, PlayError> {
+/// Returns the columns and rows of a line `size W H`, or `None` for another line.
+fn read_size(alloc: Global, line: &str) -> Result<Option<(u16, u16)>, AllocError> {
     let words = words_of(alloc, line)?;
     let ["size", width, height] = words.as_slice() else {
         return Ok(None);

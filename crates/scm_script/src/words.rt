@@ -1,37 +1,37 @@
-//! The words of a line, and what those of a batch stand for: a screenshot, an event, or what a terminal would send.
+//! The words of a line, and the screenshot or event of each word of a batch.
 ghost use Rattle.std.specs.Prelude.{◌≡◌, codes};
 ghost use Rattle.std.specs.Option.{option_copied};
-ghost use Rattle.scm_script.specs.Words.{Pressed, behind, behind_new, click_of, code_of, decimal_of, event_of_word, key_of, mouse_at, only, read_prefix, read_prefixes, told_of, word_of};
+ghost use Rattle.scm_script.specs.Words.{PartialKey, rest_after, rest_after_new, click_event_of, key_code_of, decimal_of, event_of_word, key_event_of, mouse_event_at, only, read_prefix, read_prefixes, terminal_event_of, word_of};
 ghost use Rattle.std.specs.Char.{is_ascii_digit};
 ghost use Rattle.std.specs.List.{list_all};
 ghost use Rattle.std.specs.Str.{chars};
 
-use crate::error::PlayError;
 use scm_record::{
     Event, KeyCode, KeyEvent, KeyEventKind, KeyModifiers, MouseButton, MouseEvent, MouseEventKind,
     TerminalEvent,
 };
-use std::alloc::Global;
+use std::alloc::{AllocError, Global};
 
-/// The words of a line, which one or more spaces part.
-pub fn words_of(alloc: Global, line: &str) -> Result<Vec<&str>, PlayError> {
-    Ok(
-        line.split(' ')
-            .filter(|word| !word.is_empty())
-            .collect(alloc)?,
-    )
+/// Returns the words of `line`, which are separated by one or more spaces.
+///
+/// # Errors
+/// `AllocError`: an allocation failed.
+pub fn words_of(alloc: Global, line: &str) -> Result<Vec<&str>, AllocError> {
+    line.split(' ')
+        .filter(|word| !word.is_empty())
+        .collect(alloc)
 }
 
-/// What a word of a batch stands for.
+/// The meaning of a word of a batch.
 #[derive(Clone, Copy)]
 pub enum Word {
-    /// A screenshot to a new place.
+    /// A screenshot, which gets a new place in the store.
     Shot,
     /// An event.
     Event(Event),
 }
 
-/// What a word of a batch stands for, if it is one, by the table of words. It takes no memory.
+/// Returns the meaning of `word` by the table of words, or `None` if it has none. Allocates nothing.
 #[tactic(auto, unfolding(crate::specs::Words::word_of))]
 pub fn read_word(word: &str) -> Option<Word>
     ensures { result ≡ word_of word.now }
@@ -46,7 +46,7 @@ pub fn read_word(word: &str) -> Option<Word>
     })
 }
 
-/// The event that a word of a batch stands for, by the table of words: none for `shot`, and for what is no word.
+/// Returns the event of `word` by the table of words. Returns `None` for `shot`, and if `word` is not in the table.
 pub fn read_event(word: &str) -> Option<Event>
     ensures { result ≡ event_of_word word.now }
 {
@@ -56,7 +56,7 @@ pub fn read_event(word: &str) -> Option<Event>
     }
 }
 
-/// A number written in digits alone, from 0 to 65535.
+/// Returns the number from 0 to 65535 that `word` is in digits alone, or `None`.
 pub fn read_decimal(word: &str) -> Option<u16>
     ensures { result ≡ decimal_of word.now }
 {
@@ -67,16 +67,16 @@ pub fn read_decimal(word: &str) -> Option<u16>
     }
 }
 
-/// Whether the text is digits alone.
+/// Returns whether `text` is digits alone.
 fn is_digits(text: &str) -> bool
     ensures { result ≡ list_all is_ascii_digit text.now }
 {
     text.as_bytes().iter().all(|byte| byte.is_ascii_digit())
 }
 
-/// What a terminal would send for a turn of the wheel, a click or a key.
+/// Returns the event that a terminal sends for `word`: a turn of the wheel, a click or a key.
 fn read_terminal_event(word: &str) -> Option<TerminalEvent>
-    ensures { result ≡ told_of word.now }
+    ensures { result ≡ terminal_event_of word.now }
 {
     match word {
         "wheel-up" => Some(mouse_event(MouseEventKind::ScrollUp, 0, 0)),
@@ -88,9 +88,9 @@ fn read_terminal_event(word: &str) -> Option<TerminalEvent>
     }
 }
 
-/// What the mouse does at a place, with no key held.
+/// Returns the event of the mouse at `row`, `column`, with no modifiers.
 fn mouse_event(kind: MouseEventKind, row: u16, column: u16) -> TerminalEvent
-    ensures { result ≡ mouse_at kind row column }
+    ensures { result ≡ mouse_event_at kind row column }
 {
     TerminalEvent::Mouse(MouseEvent {
         kind,
@@ -100,9 +100,9 @@ fn mouse_event(kind: MouseEventKind, row: u16, column: u16) -> TerminalEvent
     })
 }
 
-/// A click of the left button on a place `R:C`.
+/// Returns a click of the left button at `place`, written `ROW:COLUMN`.
 fn read_click(place: &str) -> Option<TerminalEvent>
-    ensures { result ≡ click_of place.now }
+    ensures { result ≡ click_event_of place.now }
 {
     let (row, column) = place.split_once(':')?;
     let row = read_decimal(row)?;
@@ -111,9 +111,9 @@ fn read_click(place: &str) -> Option<TerminalEvent>
     Some(mouse_event(kind, row, column))
 }
 
-/// A key that goes down, by its prefixes and its name.
+/// Returns the event of a key that goes down, by its prefixes and its name.
 fn read_key(word: &str) -> Option<TerminalEvent>
-    ensures { result ≡ key_of word.now }
+    ensures { result ≡ key_event_of word.now }
 {
     let (modifiers, name) = split_prefixes(word);
     let code = read_code(name)?;
@@ -124,52 +124,61 @@ fn read_key(word: &str) -> Option<TerminalEvent>
     }))
 }
 
-/// What the prefixes of a word hold, and what stands behind them.
+/// Returns the modifiers of all prefixes of `word`, and the rest of `word`.
 fn split_prefixes(word: &str) -> (KeyModifiers, &str)
-    ensures held { result.0 ≡ (read_prefixes word.now).held }
+    ensures modifiers { result.0 ≡ (read_prefixes word.now).modifiers }
     ensures rest { result.1.now ≡ (read_prefixes word.now).rest }
 {
-    let (held, rest) = split_prefix(KeyModifiers::NONE, word);
-    let (held, rest) = split_prefix(held, rest);
-    split_prefix(held, rest)
+    let (modifiers, rest) = split_prefix(KeyModifiers::NONE, word);
+    let (modifiers, rest) = split_prefix(modifiers, rest);
+    split_prefix(modifiers, rest)
 }
 
-/// What is held with one prefix more, if there is one that is not held yet, and what stands behind it.
-fn split_prefix(held: KeyModifiers, word: &str) -> (KeyModifiers, &str)
-    ensures held { result.0 ≡ (read_prefix (record { held = held; rest = word.now })).held }
-    ensures rest { result.1.now ≡ (read_prefix (record { held = held; rest = word.now })).rest }
+/// Adds the modifier of the first prefix of `word`, unless it is in `modifiers` already. Returns the modifiers and the
+/// rest of `word`.
+fn split_prefix(modifiers: KeyModifiers, word: &str) -> (KeyModifiers, &str)
+    ensures modifiers { result.0
+        ≡ (read_prefix (record { modifiers = modifiers; rest = word.now })).modifiers }
+    ensures rest { result.1.now
+        ≡ (read_prefix (record { modifiers = modifiers; rest = word.now })).rest }
 {
-    if let Some(rest) = strip_new(held.control, "ctrl-", word) {
+    if let Some(rest) = strip_new(modifiers.control, "ctrl-", word) {
         let control = true;
-        (KeyModifiers { control, ..held }, rest)
-    } else if let Some(rest) = strip_new(held.alt, "alt-", word) {
+        (
+            KeyModifiers {
+                control,
+                ..modifiers
+            },
+            rest,
+        )
+    } else if let Some(rest) = strip_new(modifiers.alt, "alt-", word) {
         let alt = true;
-        (KeyModifiers { alt, ..held }, rest)
-    } else if let Some(rest) = strip_new(held.shift, "shift-", word) {
+        (KeyModifiers { alt, ..modifiers }, rest)
+    } else if let Some(rest) = strip_new(modifiers.shift, "shift-", word) {
         let shift = true;
-        (KeyModifiers { shift, ..held }, rest)
+        (KeyModifiers { shift, ..modifiers }, rest)
     } else {
-        (held, word)
+        (modifiers, word)
     }
 }
 
-/// What stands behind a prefix that is not read yet.
+/// Returns the rest of `word` after `prefix`. Returns `None` if `prefix` is read already, or `word` doesn't begin with it.
 fn strip_new<'a>(is_read: bool, prefix: &str, word: &'a str) -> Option<&'a str>
-    ensures { option_copied result ≡ behind_new is_read prefix.now word.now }
+    ensures { option_copied result ≡ rest_after_new is_read prefix.now word.now }
 {
     if is_read { None } else { strip(prefix, word) }
 }
 
-/// What stands behind a prefix, where a word begins with it.
+/// Returns the rest of `word` after `prefix`, or `None` if `word` doesn't begin with it.
 fn strip<'a>(prefix: &str, word: &'a str) -> Option<&'a str>
-    ensures { option_copied result ≡ behind prefix.now word.now }
+    ensures { option_copied result ≡ rest_after prefix.now word.now }
 {
     word.strip_prefix(prefix)
 }
 
-/// The key of a name, or of one character.
+/// Returns the key with the name `name`, or the key of one character.
 fn read_code(name: &str) -> Option<KeyCode>
-    ensures { result ≡ code_of name.now }
+    ensures { result ≡ key_code_of name.now }
 {
     Some(match name {
         "up" => KeyCode::Up,
@@ -185,7 +194,7 @@ fn read_code(name: &str) -> Option<KeyCode>
     })
 }
 
-/// The character of a text that has exactly one.
+/// Returns the character of `text` if it has exactly one.
 fn only_char(text: &str) -> Option<char>
     ensures { result ≡ only (chars text.now) }
 {

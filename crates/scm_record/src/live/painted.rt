@@ -1,4 +1,4 @@
-//! What a session shows on a terminal.
+//! Painting a live session on a terminal.
 ghost use Rattle.std.specs.Prelude.{◌≡◌, ◌+◌, ◌<◌, [], IfErr, IfOk, OnErr, OnOk, string_bytes};
 ghost use Rattle.scm_errors.specs.declared.error.RecordError.TheVariants.{OutOfMemory};
 ghost use Rattle.scm_terminal.specs.Promise.{Paints};
@@ -16,26 +16,27 @@ impl<'state> Styles for LiveSession<'state> {
     /// Returns the style at `row` and `column` of the screen, counted from 0.
     fn style(&self, row: usize, column: usize) -> Style
         ensures at { result ≡ style_at self.now row column }
-        // inline it is that of the owner of the place in the document
+        // inline, it is the style of the owner of that place in the document
         ensures owner { IsInline self.now.kind self.now.session → row < rows_of self.now.kind
             → column < columns_of self.now.kind → result ≡ window_style_at self.now row column }
     {
-        self.showing().style(row, self.owner(row, column))
+        self.view_state().style(row, self.owner(row, column))
     }
 }
 
 impl<'state> LiveSession<'state> {
-    /// Returns the bytes that make a terminal of the screen's size show the session, in its styles: of
-    /// the rows that changed since `painter` painted last, or of all rows if it has forgotten them or
-    /// the size changed.
+    /// Returns the bytes that make a terminal of the screen's size show the session in its styles.
+    ///
+    /// They repaint the rows that changed since `painter` painted last, or all rows if it has
+    /// forgotten them or the size changed.
     ///
     /// # Errors
     ///
-    /// `OutOfMemory`: an allocation failed, and the painter forgets what it painted last.
+    /// - `OutOfMemory`: an allocation failed; the painter forgets what it painted last.
     pub fn paint(&self, painter: &mut Painter) -> Result<String, RecordError>
         ensures ok { IfOk result (λ text. Paints (columns_of self.now.kind) painter.old
             (picture_of self.now) (string_bytes text)) }
-        // inline that is the window in its styles
+        // inline, the picture is the window in its styles
         ensures window { IsInline self.now.kind self.now.session
             → picture_of self.now ≡ window_picture_of self.now }
         ensures painted { OnOk result (painter.new ≡ picture_of self.now) }

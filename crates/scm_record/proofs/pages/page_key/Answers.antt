@@ -12,19 +12,19 @@ returns-in-None c = λ scene shown.
     let ks = towards c.args.way (visible_keys (has_key c.args.expanded.now) c.args.files.now) in
     ap (λ top. page_from scene c.args.way ks c.args.key top (position (is_key c.args.key) ks)) (c.in-None.ensures scene shown)
 
-pub returns-then-is_among_visible : goal.returns-then-is_among_visible
-returns-then-is_among_visible c = λ scene shown.
+pub returns-then-is_visible_key : goal.returns-then-is_visible_key
+returns-then-is_visible_key c = λ scene shown.
     let visible = visible_keys (has_key c.args.expanded.now) c.args.files.now in
     let ks = towards c.args.way visible in
     let once : Once visible = once-kept (is_visible (has_key c.args.expanded.now)) c.args.files.now in
-    let there : is_some (position (is_key c.args.key) ks) ≡ true = among-towards c.args.way visible once c.args.key ∙ sym c.is_among_visible.ensures ∙ c.if-is_among_visible.true in
+    let there : is_some (position (is_key c.args.key) ks) ≡ true = among-towards c.args.way visible once c.args.key ∙ sym c.is_visible_key.ensures ∙ c.if-is_visible_key.true in
     c.walk.ensures scene shown
     ∙ sym (page-there scene c.args.way ks c.args.key c.in-Some.row (sym (c.in-Some.ensures scene shown)) (position (is_key c.args.key) ks) refl there)
 
-pub returns-else-is_among_visible : goal.returns-else-is_among_visible
-returns-else-is_among_visible c = λ scene shown.
+pub returns-else-is_visible_key : goal.returns-else-is_visible_key
+returns-else-is_visible_key c = λ scene shown.
     let visible = visible_keys (has_key c.args.expanded.now) c.args.files.now in
     let ks = towards c.args.way visible in
     let once : Once visible = once-kept (is_visible (has_key c.args.expanded.now)) c.args.files.now in
-    let away : is_some (position (is_key c.args.key) ks) ≡ false = among-towards c.args.way visible once c.args.key ∙ sym c.is_among_visible.ensures ∙ c.if-is_among_visible.false in
+    let away : is_some (position (is_key c.args.key) ks) ≡ false = among-towards c.args.way visible once c.args.key ∙ sym c.is_visible_key.ensures ∙ c.if-is_visible_key.false in
     sym (page-away scene c.args.way ks c.args.key c.in-Some.row (sym (c.in-Some.ensures scene shown)) (position (is_key c.args.key) ks) refl away)

@@ -1,5 +1,5 @@
 use Rattle.std.proofs.Common.{◌≡◌, ◌∙◌, ◌≤◌, ap, arith, sym, subst, true, false, length}
-use Rattle.scm_view.specs.Shown.{Shown}
+use Rattle.scm_view.specs.ViewState.{ViewState}
 use Rattle.scm_view.specs.Frame.{is_plain}
 use Rattle.scm_record.specs.Frames.{columns_of, rows_of}
 use Rattle.scm_input.specs.declared.inputs.TerminalKind.{TerminalKind}
@@ -18,12 +18,12 @@ pub returns-clause-ok : goal.returns-clause-ok
 returns-clause-ok c = λ kind s same scroll size.
     let w = c.args.self.now.grid.width in
     let h = length c.args.self.now.grid.rows in
-    let menu = ap (λ (shown : Shown). shown.open_menu) (c.showing.view_is ∙ sym same) in
+    let menu = ap (λ (shown : ViewState). shown.open_menu) (c.view_state.view_is ∙ sym same) in
     elim c.if-is_plain.branch [
       | then-is_plain+in_ok-draw_plain b ↦
           let tested = rw (c.width-width.ensures.value, c.height-height.ensures.value) at (sym c.is_plain.ensures ∙ b.if-is_plain.true) in
-          let plain = subst (λ (shown : Shown). is_plain w h shown.view_mode ≡ true) c.showing.view_is tested in
-          let drawn = plain-shows kind s c.in_ok-view.view c.args.showing.now c.args.scroll w h b.draw_plain.new.self.grid.rows b.draw_plain.new.self.places
+          let plain = subst (λ (shown : ViewState). is_plain w h shown.view_mode ≡ true) c.view_state.view_is tested in
+          let drawn = plain-shows kind s c.in_ok-view.view c.args.view_state.now c.args.scroll w h b.draw_plain.new.self.grid.rows b.draw_plain.new.self.places
           size.width size.height c.in_ok-view.ensures.ok same scroll (few-columns kind) (few-rows kind) plain b.in_ok-draw_plain.ensures.rows b.in_ok-draw_plain.ensures.places in
           rw b.self-is (record {
             width = b.in_ok-draw_plain.ensures.width ∙ size.width;
@@ -34,8 +34,8 @@ returns-clause-ok c = λ kind s same scroll size.
           })
       | else-is_plain+in_ok-draw_free b ↦
           let tested = rw (c.width-width.ensures.value, c.height-height.ensures.value) at (sym c.is_plain.ensures ∙ b.if-is_plain.false) in
-          let free = subst (λ (shown : Shown). is_plain w h shown.view_mode ≡ false) c.showing.view_is tested in
-          let drawn = free-shows c.apps_are_drawn_alike.ensures kind s c.in_ok-view.view c.args.showing.now c.args.scroll w h b.draw_free.new.self.grid.rows b.draw_free.new.self.places
+          let free = subst (λ (shown : ViewState). is_plain w h shown.view_mode ≡ false) c.view_state.view_is tested in
+          let drawn = free-shows c.apps_are_drawn_alike.ensures kind s c.in_ok-view.view c.args.view_state.now c.args.scroll w h b.draw_free.new.self.grid.rows b.draw_free.new.self.places
           size.width size.height c.in_ok-view.ensures.ok same scroll free b.in_ok-draw_free.ensures.rows b.in_ok-draw_free.ensures.places in
           rw b.self-is (record {
             width = b.in_ok-draw_free.ensures.width ∙ size.width;
@@ -53,10 +53,10 @@ returns-clause-indexed c =
     elim c.if-is_plain.branch [
       | then-is_plain+in_ok-draw_plain b ↦
           let tested = rw (c.width-width.ensures.value, c.height-height.ensures.value) at (sym c.is_plain.ensures ∙ b.if-is_plain.true) in
-          let plain = subst (λ (shown : Shown). is_plain w h shown.view_mode ≡ true) c.showing.view_is tested in
+          let plain = subst (λ (shown : ViewState). is_plain w h shown.view_mode ≡ true) c.view_state.view_is tested in
           rw b.self-is (b.in_ok-draw_plain.ensures.indexed ∙ sym plain)
       | else-is_plain+in_ok-draw_free b ↦
           let tested = rw (c.width-width.ensures.value, c.height-height.ensures.value) at (sym c.is_plain.ensures ∙ b.if-is_plain.false) in
-          let free = subst (λ (shown : Shown). is_plain w h shown.view_mode ≡ false) c.showing.view_is tested in
+          let free = subst (λ (shown : ViewState). is_plain w h shown.view_mode ≡ false) c.view_state.view_is tested in
           rw b.self-is (b.in_ok-draw_free.ensures.indexed ∙ sym free)
     ]

@@ -4,10 +4,10 @@ use Rattle.scm_record.proofs.LiveLemmas.{inline-window}
 use Rattle.scm_record.proofs.live.LiveSession.grid.Goals as goal
 
 pub returns-clause-width : goal.returns-clause-width
-returns-clause-width c = rw (sym c.self.view_is) (c.grid.ensures.width (scene_of c.self.inside.kind c.self.inside.selector) c.self.invariant.shown)
+returns-clause-width c = rw (sym c.self.view_is) (c.grid.ensures.width (scene_of c.self.inside.kind c.self.inside.session) c.self.invariant.shown)
 
 pub returns-clause-rows : goal.returns-clause-rows
-returns-clause-rows c = rw (sym c.self.view_is) (c.grid.ensures.rows (scene_of c.self.inside.kind c.self.inside.selector) c.self.invariant.shown)
+returns-clause-rows c = rw (sym c.self.view_is) (c.grid.ensures.rows (scene_of c.self.inside.kind c.self.inside.session) c.self.invariant.shown)
 
 pub returns-clause-window : goal.returns-clause-window
 returns-clause-window c = λ inline. returns-clause-rows c ∙ inline-window _ _ inline

@@ -1,7 +1,7 @@
-use Rattle.std.proofs.Common.{refl, subst, sym}
+use Rattle.std.proofs.Common.{refl, subst}
 use Rattle.std.proofs.lemmas.Result.{err_from_is_err_and}
 use Rattle.scm_input.specs.declared.events.Event.{Event}
-use Rattle.scm_record.specs.Calls.{EventLeads, EventFails}
+use Rattle.scm_record.specs.LiveCalls.{EventLeads, EventFails}
 use Rattle.scm_record.specs.declared.live.Turn.{Turn}
 use Rattle.scm_record.specs.declared.live.Turn.TheVariants.{Waiting, Editing, Accepted}
 use Rattle.scm_record.proofs.TypedLemmas.{goes-first, goes-next, goes-last, goes-wrong, goes-end}

@@ -1,22 +1,22 @@
 use Rattle.std.proofs.Common.{ℕ, ◌≤◌, Option, sym, ap, ◌∙◌, subst}
-use Rattle.scm_view.specs.declared.ids.ComponentId.{ComponentId}
-use Rattle.scm_record.specs.Clicks.{clicked}
+use Rattle.scm_widgets.specs.declared.ids.ComponentId.{ComponentId}
+use Rattle.scm_record.specs.Clicks.{after_click}
 use Rattle.scm_types.specs.Limits.{max_scroll}
 use Rattle.scm_record.specs.Live.{Live}
 use Rattle.scm_record.specs.Frames.{scene_of}
-use Rattle.scm_record.specs.Uses.{hit}
+use Rattle.scm_record.specs.FrameQueries.{hit}
 use Rattle.scm_record.proofs.LiveLemmas.{inline-owner}
 use Rattle.scm_record.proofs.live.LiveSession.owner.Goals as goal
 
 pub returns-clause-hit : goal.returns-clause-hit
 returns-clause-hit c =
-    let seen = scene_of c.self.inside.kind c.self.inside.selector in
+    let seen = scene_of c.self.inside.kind c.self.inside.session in
     rw (sym c.self.view_is) (c.hit.ensures seen c.self.invariant.shown ∙ ap (λ (n : ℕ). hit seen n c.args.row c.args.column) c.scroll.ensures)
 
 pub returns-clause-acts : goal.returns-clause-acts
 returns-clause-acts c =
     let l = c.args.self.now in
-    ap (λ (o : Option ComponentId). clicked l.session.shown.open_menu l.session o) (sym (returns-clause-hit c))
+    ap (λ (o : Option ComponentId). after_click l.session.shown.open_menu l.session o) (sym (returns-clause-hit c))
 
 pub returns-clause-owner : goal.returns-clause-owner
 returns-clause-owner c = λ inline is_row is_column.

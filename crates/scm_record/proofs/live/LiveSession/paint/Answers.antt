@@ -1,6 +1,6 @@
 use Rattle.std.proofs.Common.{◌≡◌, ℕ, ◌≤◌, List, length, sym, ap, ◌∙◌, subst}
 use Rattle.std.specs.Prelude.{IfOk, OnOk, string_bytes}
-use Rattle.scm_terminal.specs.Place.{Place, picture}
+use Rattle.scm_terminal.specs.StyledCell.{StyledCell}
 use Rattle.scm_terminal.specs.Promise.{Paints}
 use Rattle.scm_types.specs.Limits.{max_scroll}
 use Rattle.scm_record.specs.Frames.{columns_of, rows_of, scene_of}
@@ -12,21 +12,21 @@ use Rattle.scm_record.proofs.live.LiveSession.paint.Goals as goal
 pub returns-clause-ok : goal.returns-clause-ok
 returns-clause-ok c =
     let l = c.args.self.now in
-    let seen = scene_of c.self.inside.kind c.self.inside.selector in
+    let seen = scene_of c.self.inside.kind c.self.inside.session in
     let width : c.grid.result.now.width ≡ columns_of l.kind = rw (sym c.self.view_is) (c.grid.ensures.width seen c.self.invariant.shown) in
     let rows : c.grid.result.now.rows ≡ (screen_of l).rows = rw (sym c.self.view_is) (c.grid.ensures.rows seen c.self.invariant.shown) in
     let is = picture-of-grid (style_at l) c.grid.result.now (columns_of l.kind) (screen_of l).rows width rows in
     subst (λ (w : ℕ). IfOk c.paint.result (λ text. Paints w c.args.painter.now (picture_of l) (string_bytes text))) width
-    (subst (λ (p : List (List Place)). IfOk c.paint.result (λ text. Paints c.grid.result.now.width c.args.painter.now p (string_bytes text))) is c.paint.ensures.ok)
+    (subst (λ (p : List (List StyledCell)). IfOk c.paint.result (λ text. Paints c.grid.result.now.width c.args.painter.now p (string_bytes text))) is c.paint.ensures.ok)
 
 pub returns-clause-painted : goal.returns-clause-painted
 returns-clause-painted c =
     let l = c.args.self.now in
-    let seen = scene_of c.self.inside.kind c.self.inside.selector in
+    let seen = scene_of c.self.inside.kind c.self.inside.session in
     let width : c.grid.result.now.width ≡ columns_of l.kind = rw (sym c.self.view_is) (c.grid.ensures.width seen c.self.invariant.shown) in
     let rows : c.grid.result.now.rows ≡ (screen_of l).rows = rw (sym c.self.view_is) (c.grid.ensures.rows seen c.self.invariant.shown) in
     let is = picture-of-grid (style_at l) c.grid.result.now (columns_of l.kind) (screen_of l).rows width rows in
-    subst (λ (p : List (List Place)). OnOk c.paint.result (c.paint.new.self ≡ p)) is c.paint.ensures.painted
+    subst (λ (p : List (List StyledCell)). OnOk c.paint.result (c.paint.new.self ≡ p)) is c.paint.ensures.painted
 
 pub returns-clause-window : goal.returns-clause-window
 returns-clause-window c = λ inline.

@@ -4,7 +4,7 @@ use Rattle.scm_record.proofs.live.LiveSession.resize.Goals as goal
 
 pub invariant_of-self : goal.invariant_of-self
 invariant_of-self c =
-    let t = c.self.inside.selector in
+    let t = c.self.inside.session in
     let u = c.begin_frame.new.self in
     let e : u ≡ after_frame t = c.begin_frame.ensures in
     let calm = c.self.invariant.calm in

@@ -1,8 +1,0 @@
-use Rattle.std.proofs.Common.{◌-◌, ◌∙◌, ap}
-use Rattle.scm_record.specs.Pages.{after_scroll}
-use Rattle.scm_record.proofs.selector.Selector.page_up.Goals as goal
-
-pub returns : goal.returns
-returns c = λ scene shown.
-    let s = c.args.self.now in
-    c.scroll_up.ensures scene shown ∙ ap (λ n. after_scroll scene s (s.scroll - n)) (c.height.ensures scene shown)

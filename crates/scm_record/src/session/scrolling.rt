@@ -1,0 +1,80 @@
+//! Scrolling the screen over the document.
+
+use super::ActiveSession;
+use crate::frame::DrawnFrame;
+use scm_input::Event;
+
+impl<'state> ActiveSession<'state> {
+    ghost use Rattle.std.specs.Prelude.{◌≡◌, ◌+◌, ◌-◌, IsTrue};
+    ghost use Rattle.scm_record.specs.Frames.{IsSceneOf, Scene};
+    ghost use Rattle.scm_record.specs.FrameQueries.{scroll_to_show};
+    ghost use Rattle.scm_record.specs.Session.{with_scroll};
+    ghost use Rattle.scm_record.specs.Pages.{after_scroll};
+    ghost use Rattle.scm_record.specs.Step.{change};
+    ghost use Rattle.scm_record.specs.Change.{stays};
+
+    /// Scrolls so that the screen's first row shows `row` of the document, limited to the extent of
+    /// `frame`.
+    fn scroll_to(&mut self, frame: &DrawnFrame, row: usize)
+        ensures { (scene : Scene) → IsSceneOf scene frame.now →
+            self.new ≡ after_scroll scene self.old row }
+    {
+        self.scroll = frame.limited_scroll(row);
+    }
+
+    /// Scrolls up by `rows`.
+    pub(super) fn scroll_up(&mut self, frame: &DrawnFrame, rows: usize)
+        ensures { (scene : Scene) → IsSceneOf scene frame.now →
+            self.new ≡ after_scroll scene self.old (self.old.scroll - rows) }
+    {
+        self.scroll_to(frame, self.scroll.saturating_sub(rows));
+    }
+
+    /// Scrolls down by `rows`.
+    pub(super) fn scroll_down(&mut self, frame: &DrawnFrame, rows: usize)
+        ensures { (scene : Scene) → IsSceneOf scene frame.now →
+            self.new ≡ after_scroll scene self.old (self.old.scroll + rows) }
+    {
+        self.scroll_to(frame, self.scroll.saturating_add(rows));
+    }
+
+    /// Scrolls up by the height of the screen.
+    pub(super) fn page_up(&mut self, frame: &DrawnFrame)
+        ensures { (scene : Scene) → IsSceneOf scene frame.now →
+            self.new ≡ after_scroll scene self.old (self.old.scroll - scene.height) }
+    {
+        self.scroll_up(frame, frame.height());
+    }
+
+    /// Scrolls down by the height of the screen.
+    pub(super) fn page_down(&mut self, frame: &DrawnFrame)
+        ensures { (scene : Scene) → IsSceneOf scene frame.now →
+            self.new ≡ after_scroll scene self.old (self.old.scroll + scene.height) }
+    {
+        self.scroll_down(frame, frame.height());
+    }
+
+    /// Scrolls so that the selection is on the screen.
+    pub(super) fn show_selection(&mut self, frame: &DrawnFrame)
+        ensures { (scene : Scene) → IsSceneOf scene frame.now →
+            self.new ≡ with_scroll self.old
+            (scroll_to_show scene self.old.scroll self.old.shown.selection) }
+    {
+        self.scroll = frame.scroll_to_show(self.scroll, self.view_state.selection);
+    }
+
+    /// Returns true only if `event` leaves the session unchanged: it is `None`, or
+    /// `EnsureSelectionInViewport` with the selection already on the screen.
+    pub(crate) fn is_kept_by(&self, frame: &DrawnFrame, event: Event) -> bool
+        ensures { IsTrue result → (scene : Scene) → IsSceneOf scene frame.now →
+            change scene self.now event ≡ stays self.now }
+    {
+        match event {
+            Event::None => true,
+            Event::EnsureSelectionInViewport => {
+                frame.scroll_to_show(self.scroll, self.view_state.selection) == self.scroll
+            }
+            _ => false,
+        }
+    }
+}
