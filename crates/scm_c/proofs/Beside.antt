@@ -1,5 +1,5 @@
--- A pointer beside an allocator, as the machine holds them: so are the two fields of a loose box and of a handle, and so
--- is the pair into which a box is taken apart. Assumes `Logic`.
+-- A pointer beside an allocator, as the machine holds them: the two fields of a raw box and of a session's pointer, and the
+-- pair into which a box is taken apart. Assumes `Logic`.
 use Rattle.std.proofs.Common.{◌≡◌, ℕ, List, [], ◌∷◌, ◌++◌, refl, sym, subst, ◌∙◌}
 use mathlib.Core.Bool.{true, ◌&&◌}
 use lib.Dec.{T}

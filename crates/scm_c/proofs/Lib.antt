@@ -1,12 +1,12 @@
 -- a pointer beside an allocator, as the machine holds them
 pub mod Beside
--- a loose box
-pub mod LooseBox
--- a handle
-pub mod Handles
--- what a call makes of a session
+-- a raw box
+pub mod RawBoxes
+-- a session's pointer
+pub mod SessionPtrs
+-- how calls change a session
 pub mod StageLemmas
--- return codes, and the text of each call
-pub mod ToldLemmas
--- what a call paints
+-- return codes, and the texts that calls write
+pub mod ResultLemmas
+-- what `scm_paint` writes
 pub mod PaintLemmas

@@ -1,12 +1,12 @@
--- what a handle owns
+-- what the pointer of a C session owns
 pub mod Ownership
--- what a box holds
-pub mod Behind
--- what a session waits for, and what a call makes of that: begin here
+-- the values of boxes
+pub mod Boxes
+-- what a session waits for, and how calls change that: begin here
 pub mod Stages
--- return codes, and the text of each call
-pub mod Told
--- the owner of a place: its code and its key
+-- return codes, and the texts that calls write
+pub mod Results
+-- the owner of a place on the screen: its code and its key
 pub mod Owners
--- what a call paints
+-- what `scm_paint` writes
 pub mod Paint

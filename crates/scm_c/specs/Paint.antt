@@ -1,60 +1,63 @@
--- What a call paints.
+-- What `scm_paint` writes: synchronized updates for the terminal.
 use Rattle.std.specs.Prelude.{◌≡◌, ℕ, ◌≤◌, ◌<◌, List, [], ◌∷◌, ◌++◌, length, false, Option, Some, None, codes}
-use Rattle.scm_terminal.specs.Place.{Place}
+use Rattle.scm_terminal.specs.StyledCell.{StyledCell}
 use Rattle.scm_terminal.specs.Promise.{Paints}
 use Rattle.scm_terminal.specs.Style.{style_bytes}
-use Rattle.scm_shown.specs.Styles.{plain}
+use Rattle.scm_view_state.specs.Styles.{plain}
 use Rattle.scm_record.specs.Frames.{columns_of}
 use Rattle.scm_record.specs.Headline.{IsInline}
 use Rattle.scm_record.specs.Live.{Live}
 use Rattle.scm_record.specs.Painted.{picture_of, window_picture_of}
-use Rattle.scm_c.specs.declared.held.Held.{Held}
-use Rattle.scm_c.specs.declared.held.Stage.TheVariants.{Waiting}
-use Rattle.scm_c.specs.Stages.{waits}
-use Rattle.scm_c.specs.Told.{over}
+use Rattle.scm_c.specs.declared.open_session.OpenSession.{OpenSession}
+use Rattle.scm_c.specs.declared.open_session.Stage.TheVariants.{Waiting}
+use Rattle.scm_c.specs.Stages.{is_waiting}
+use Rattle.scm_c.specs.Results.{over}
 
--- bytes as one synchronized update of the terminal, with no style set at its end: `ESC [ ? 2026 h` and `l` are around it
+-- The bytes as one synchronized update, between `ESC [ ? 2026 h` and `ESC [ ? 2026 l`. No style is set at its end.
 abbrev pub as_update : List ℕ → List ℕ
 as_update bytes = (27 ∷ codes "[?2026h") ++ (bytes ++ (style_bytes plain ++ (27 ∷ codes "[?2026l")))
 
--- An update makes a terminal of the screen's size show the session in its styles, if it shows the rows painted last or there
--- are none. Inline that is the window.
-pub record Shows (l : Live) (last : List (List Place)) (update : List ℕ) : Type 0 where
+-- On a terminal of the screen's size that shows the rows `last`, the update shows the session with its styles. If `last` is
+-- empty, the terminal may show anything.
+pub record Shows (l : Live) (last : List (List StyledCell)) (update : List ℕ) : Type 0 where
+  -- the bytes inside the update
   pub bytes : List ℕ
+  -- they make the terminal show the picture
   pub paints : Paints (columns_of l.kind) last (picture_of l) bytes
+  -- the update is these bytes, synchronized
   pub is : update ≡ as_update bytes
+  -- with one commit in view, the picture is that of the window
   pub window : IsInline l.kind l.session → picture_of l ≡ window_picture_of l
 
--- what is behind a session once this is painted
-abbrev pub with_painter : Held → List (List Place) → Held
-with_painter held rows = record held { painter = rows }
+-- An open session whose terminal shows these rows.
+abbrev pub with_painter : OpenSession → List (List StyledCell) → OpenSession
+with_painter inner rows = record inner { painter = rows }
 
--- an update of a session that waits for an event, or none where memory is refused
-pub data Updates (old : Held) : Held → Option (List ℕ) → Type 0 where
+-- An update of an open session, if it waits for an event. If an allocation failed: no update, and nothing counts as painted.
+pub data Updates (old : OpenSession) : OpenSession → Option (List ℕ) → Type 0 where
   shown : {l : Live} {update : List ℕ} → old.stage ≡ Waiting l → Shows l old.painter update
       → Updates old (with_painter old (picture_of l)) (Some update)
   refused : {l : Live} → old.stage ≡ Waiting l → Updates old (with_painter old []) None
-  not_due : waits old.stage ≡ false → Updates old old None
+  not_due : is_waiting old.stage ≡ false → Updates old old None
 
--- An update is written if the buffer has room for it, and its length returned. If not, nothing is painted, and the next call
--- paints every row.
-pub data Fills (held : Held) : Held → List ℕ → List ℕ → List ℕ → Type 0 where
-  written : {update out : List ℕ} → length update ≤ length out → Fills held held update out (over update out)
-  no_room : {update out : List ℕ} → length out < length update → Fills held (with_painter held []) update out out
+-- If the buffer has room for the update, it is written. If not, nothing is written, and nothing counts as painted.
+pub data Fills (inner : OpenSession) : OpenSession → List ℕ → List ℕ → List ℕ → Type 0 where
+  written : {update out : List ℕ} → length update ≤ length out → Fills inner inner update out (over update out)
+  no_room : {update out : List ℕ} → length out < length update → Fills inner (with_painter inner []) update out out
 
--- a paint of what is behind a session: the buffer, and the count that is returned
-pub data PaintsHeld (old : Held) : Held → List ℕ → List ℕ → ℕ → Type 0 where
-  painted : {held new : Held} {update out filled : List ℕ} → Updates old held (Some update)
-      → Fills held new update out filled → PaintsHeld old new out filled (length update)
-  unpainted : {new : Held} {out : List ℕ} → Updates old new None → PaintsHeld old new out out 0
+-- `scm_paint` on an open session: the session, the buffer, and the length that is returned.
+pub data PaintsOpenSession (old : OpenSession) : OpenSession → List ℕ → List ℕ → ℕ → Type 0 where
+  painted : {inner new : OpenSession} {update out filled : List ℕ} → Updates old inner (Some update)
+      → Fills inner new update out filled → PaintsOpenSession old new out filled (length update)
+  unpainted : {new : OpenSession} {out : List ℕ} → Updates old new None → PaintsOpenSession old new out out 0
 
--- a paint of a session, if it is open
-pub data PaintsSession : Option Held → Option Held → List ℕ → List ℕ → ℕ → Type 0 where
+-- `scm_paint` on a session: a no-op if it is closed.
+pub data PaintsSession : Option OpenSession → Option OpenSession → List ℕ → List ℕ → ℕ → Type 0 where
   closed : {out : List ℕ} → PaintsSession None None out out 0
-  open_one : {old new : Held} {out filled : List ℕ} {count : ℕ} → PaintsHeld old new out filled count
+  open_one : {old new : OpenSession} {out filled : List ℕ} {count : ℕ} → PaintsOpenSession old new out filled count
       → PaintsSession (Some old) (Some new) out filled count
 
--- what was painted is forgotten, so that the next call paints every row
-abbrev pub Forgets : Option Held → Option Held → Type 0
+-- After `scm_repaint` nothing counts as painted, so the next update has every row.
+abbrev pub Forgets : Option OpenSession → Option OpenSession → Type 0
 Forgets None new = new ≡ None
-Forgets (Some held) new = new ≡ Some (with_painter held [])
+Forgets (Some inner) new = new ≡ Some (with_painter inner [])

@@ -1,6 +1,6 @@
 //! The codes that calls return to a C program.
 ghost use Rattle.std.specs.Prelude.{◌≡◌};
-ghost use Rattle.scm_c.specs.Told.{words_of_code};
+ghost use Rattle.scm_c.specs.Results.{words_of_code};
 
 /// The call is done.
 pub const DONE: u32 = 0;
@@ -8,13 +8,13 @@ pub const DONE: u32 = 0;
 pub const CLOSED: u32 = 1;
 /// The session doesn't wait for this now.
 pub const NOT_NOW: u32 = 2;
-/// The bytes are no word of an event.
+/// The bytes are not the word of an event.
 pub const NO_WORD: u32 = 3;
-/// The state or the message is no UTF-8.
+/// The state or the message is not UTF-8.
 pub const NOT_TEXT: u32 = 4;
-/// The text is no state's JSON form.
+/// The text is not the JSON form of a state.
 pub const BAD_STATE: u32 = 5;
-/// The state is beyond the limits.
+/// The state passes a limit.
 pub const NOT_ACCEPTED: u32 = 6;
 /// The message has more than 1,000,000 bytes.
 pub const TOO_LONG: u32 = 7;
@@ -23,16 +23,16 @@ pub const NO_MEMORY: u32 = 8;
 
 /// The session waits for an event.
 pub const WAITING: u32 = 0;
-/// It waits for a message.
+/// The session waits for a message.
 pub const EDITING: u32 = 1;
 /// The changes are accepted.
 pub const ACCEPTED: u32 = 2;
-/// It ended with an error.
+/// The session ended with an error.
 pub const ENDED: u32 = 3;
-/// It is closed.
+/// The session is closed, so it has no stage.
 pub const NONE: u32 = 4;
 
-/// No click acts on the place.
+/// No owner.
 pub const NOBODY: u32 = 0;
 /// The menu bar, or the title of a menu.
 pub const MENU: u32 = 1;
@@ -46,7 +46,7 @@ pub const FILE: u32 = 4;
 pub const SECTION: u32 = 5;
 /// A checkbox.
 pub const MARK: u32 = 6;
-/// The box of a fold.
+/// The box that folds a file or a section.
 pub const FOLD: u32 = 7;
 /// A dialog.
 pub const DIALOG: u32 = 8;
@@ -60,7 +60,7 @@ pub const CONTEXT: u32 = 11;
 pub const MODE: u32 = 12;
 /// A section that changes a file's bytes.
 pub const BINARY: u32 = 13;
-/// The columns of a file that lie left of its sections.
+/// The columns of a file that are left of its sections.
 pub const FILE_EDGE: u32 = 14;
 
 /// Returns the sentence of `code`, or the empty text for a number that no call returns.

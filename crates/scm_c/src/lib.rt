@@ -1,47 +1,48 @@
-//! A session for C: `scm.h` says what each function does.
+//! A session for C. `include/scm.h` documents each function.
 #![tactic(auto)]
 
 ghost use Rattle.std.specs.Prelude.{◌≡◌, ℕ, ◌<◌, IfErr, IfOk, IsTrue, None, false, length, string_bytes};
 ghost use Rattle.scm_input.specs.declared.events.Event.TheVariants as events;
 ghost use Rattle.scm_input.specs.declared.inputs.TerminalKind.TheVariants.{Testing};
 ghost use Rattle.std.specs.Str.{is_utf8};
-ghost use Rattle.scm_c.specs.Stages.{Begins, Behind, HandsIn, Idles, IsOpenAt, Listens, Presses, Resizes, Says, Types, code_behind};
-ghost use Rattle.scm_c.specs.Told.{IsCode, Writes, code_of_answer, code_of_call, code_of_json, code_of_message, code_of_press, code_of_repaint, done_code, event_of_bytes, is_message, over, symbol_behind, waits_behind, words_of_code};
-ghost use Rattle.scm_c.specs.Owners.{key_behind, owner_behind};
-ghost use Rattle.scm_c.specs.Paint.{Fills, Forgets, PaintsHeld, PaintsSession};
+ghost use Rattle.scm_c.specs.Stages.{Begins, ChangesStage, HandsIn, Idles, IsOpenAt, ChangesDecoder, Presses, Resizes, Says, Types, code_of_session};
+ghost use Rattle.scm_c.specs.Results.{IsCode, Writes, code_of_answer, code_of_call, code_of_json, code_of_message, code_of_press, code_of_repaint, done_code, event_of_bytes, is_message, over, symbol_of_session, is_session_waiting, words_of_code};
+ghost use Rattle.scm_c.specs.Owners.{key_of_session, owner_of_session};
+ghost use Rattle.scm_c.specs.Paint.{Fills, Forgets, PaintsOpenSession, PaintsSession};
 
+pub mod c_session;
 mod codes;
-pub mod handle;
-pub mod held;
-mod loose;
+pub mod open_session;
 pub mod owners;
+mod raw_box;
 
-use crate::handle::{Session, put, take};
-use crate::held::Held;
+use crate::c_session::{CSession, put, take};
+use crate::open_session::OpenSession;
 use crate::owners::Key;
 use scm_record::Event;
 use scm_script::read_event;
 use std::alloc::Global;
 
-/// Begins a session over the state whose JSON form the text is, on a screen of `width` columns and
-/// `height` rows. Closes the session first, if it is open.
+/// Opens `session` over the state with the JSON form `json`. Its screen has `width` columns and
+/// `height` rows. If `session` is open, closes it first. Returns the code of the call.
 #[unsafe(no_mangle)]
 pub extern "C" fn scm_new(
     alloc: Global,
-    session: &mut Session,
+    session: &mut CSession,
     json: &[u8],
     width: u16,
     height: u16,
 ) -> u32
     ensures code { IsCode (is_utf8 json.now) (code_of_json json.now) result }
-    // what is behind the session then: nothing, if the call fails
-    ensures begun { result ≡ 0 → IsOpenAt (Begins json.now width height) session.new.handle.value }
-    ensures refused { 0 < result → session.new.handle.value ≡ None }
+    ensures begun { result ≡ 0
+        → IsOpenAt (Begins json.now width height) session.new.pointer.value }
+    // a failed call leaves the session closed
+    ensures refused { 0 < result → session.new.pointer.value ≡ None }
 {
     drop(take(alloc, session));
-    match Held::new(alloc, json, width, height) {
-        Ok(held) => {
-            put(alloc, session, held);
+    match OpenSession::new(alloc, json, width, height) {
+        Ok(inner) => {
+            put(alloc, session, inner);
             codes::DONE
         }
         Err(code) => code,
@@ -50,63 +51,63 @@ pub extern "C" fn scm_new(
 
 /// Returns the code of what the session waits for.
 #[unsafe(no_mangle)]
-pub extern "C" fn scm_stage(alloc: Global, session: &mut Session) -> u32
-    ensures code { result ≡ code_behind session.old.handle.value }
-    ensures kept { session.new.handle.value ≡ session.old.handle.value }
+pub extern "C" fn scm_stage(alloc: Global, session: &mut CSession) -> u32
+    ensures code { result ≡ code_of_session session.old.pointer.value }
+    ensures kept { session.new.pointer.value ≡ session.old.pointer.value }
 {
     match take(alloc, session) {
-        Some(held) => {
-            let stage = held.stage();
-            put(alloc, session, held);
+        Some(inner) => {
+            let stage = inner.stage();
+            put(alloc, session, inner);
             stage
         }
         None => codes::NONE,
     }
 }
 
-/// Hands in what a terminal sent.
+/// Handles `bytes` from a terminal. Returns the code of the call.
 #[unsafe(no_mangle)]
-pub extern "C" fn scm_type(alloc: Global, session: &mut Session, bytes: &[u8]) -> u32
-    ensures code { result ≡ code_of_call session.old.handle.value }
+pub extern "C" fn scm_type(alloc: Global, session: &mut CSession, bytes: &[u8]) -> u32
+    ensures code { result ≡ code_of_call session.old.pointer.value }
     ensures typed { result ≡ 0
-        → Listens (Types bytes.now) session.old.handle.value session.new.handle.value }
-    ensures kept { 0 < result → session.new.handle.value ≡ session.old.handle.value }
+        → ChangesDecoder (Types bytes.now) session.old.pointer.value session.new.pointer.value }
+    ensures kept { 0 < result → session.new.pointer.value ≡ session.old.pointer.value }
 {
     match take(alloc, session) {
-        Some(mut held) => {
-            let is_done = held.hear(bytes);
-            put(alloc, session, held);
+        Some(mut inner) => {
+            let is_done = inner.hear(bytes);
+            put(alloc, session, inner);
             done_or_not_now(is_done)
         }
         None => codes::CLOSED,
     }
 }
 
-/// Hands in that the terminal is silent.
+/// Handles the silence of the terminal. Returns the code of the call.
 #[unsafe(no_mangle)]
-pub extern "C" fn scm_idle(alloc: Global, session: &mut Session) -> u32
-    ensures code { result ≡ code_of_call session.old.handle.value }
-    ensures silent { result ≡ 0 → Listens Idles session.old.handle.value session.new.handle.value }
-    ensures kept { 0 < result → session.new.handle.value ≡ session.old.handle.value }
+pub extern "C" fn scm_idle(alloc: Global, session: &mut CSession) -> u32
+    ensures code { result ≡ code_of_call session.old.pointer.value }
+    ensures silent { result ≡ 0
+        → ChangesDecoder Idles session.old.pointer.value session.new.pointer.value }
+    ensures kept { 0 < result → session.new.pointer.value ≡ session.old.pointer.value }
 {
     match take(alloc, session) {
-        Some(mut held) => {
-            let is_done = held.idle();
-            put(alloc, session, held);
+        Some(mut inner) => {
+            let is_done = inner.idle();
+            put(alloc, session, inner);
             done_or_not_now(is_done)
         }
         None => codes::CLOSED,
     }
 }
 
-/// Hands in the event of a script's word.
+/// Handles the event of a script's word. Returns the code of the call.
 #[unsafe(no_mangle)]
-pub extern "C" fn scm_press(alloc: Global, session: &mut Session, word: &[u8]) -> u32
-    ensures code { result ≡ code_of_press (event_of_bytes word.now) session.old.handle.value }
-    // the event leads on as the contract of a live session says; if the call fails, all stays
+pub extern "C" fn scm_press(alloc: Global, session: &mut CSession, word: &[u8]) -> u32
+    ensures code { result ≡ code_of_press (event_of_bytes word.now) session.old.pointer.value }
     ensures pressed { result ≡ 0
-        → HandsIn (event_of_bytes word.now) session.old.handle.value session.new.handle.value }
-    ensures kept { 0 < result → session.new.handle.value ≡ session.old.handle.value }
+        → HandsIn (event_of_bytes word.now) session.old.pointer.value session.new.pointer.value }
+    ensures kept { 0 < result → session.new.pointer.value ≡ session.old.pointer.value }
 {
     match event_of(word) {
         Some(event) => hand_in(alloc, session, event),
@@ -114,14 +115,15 @@ pub extern "C" fn scm_press(alloc: Global, session: &mut Session, word: &[u8]) -
     }
 }
 
-/// Hands in a click on a place of the screen.
+/// Handles a click at `row`, `column` of the screen, both counted from 0. Returns the code of the
+/// call.
 #[unsafe(no_mangle)]
-pub extern "C" fn scm_click(alloc: Global, session: &mut Session, row: u16, column: u16) -> u32
-    ensures code { result ≡ code_of_call session.old.handle.value }
+pub extern "C" fn scm_click(alloc: Global, session: &mut CSession, row: u16, column: u16) -> u32
+    ensures code { result ≡ code_of_call session.old.pointer.value }
     ensures clicked { result ≡ 0
-        → Behind (Presses (events.Click row column)) session.old.handle.value
-        session.new.handle.value }
-    ensures kept { 0 < result → session.new.handle.value ≡ session.old.handle.value }
+        → ChangesStage (Presses (events.Click row column)) session.old.pointer.value
+        session.new.pointer.value }
+    ensures kept { 0 < result → session.new.pointer.value ≡ session.old.pointer.value }
 {
     let click = Event::Click {
         row: row as usize,
@@ -130,24 +132,24 @@ pub extern "C" fn scm_click(alloc: Global, session: &mut Session, row: u16, colu
     hand_in(alloc, session, click)
 }
 
-/// Hands in `event`.
-fn hand_in(alloc: Global, session: &mut Session, event: Event) -> u32
-    ensures code { result ≡ code_of_call session.old.handle.value }
+/// Handles `event`. Returns the code of the call.
+fn hand_in(alloc: Global, session: &mut CSession, event: Event) -> u32
+    ensures code { result ≡ code_of_call session.old.pointer.value }
     ensures pressed { result ≡ 0
-        → Behind (Presses event) session.old.handle.value session.new.handle.value }
-    ensures kept { 0 < result → session.new.handle.value ≡ session.old.handle.value }
+        → ChangesStage (Presses event) session.old.pointer.value session.new.pointer.value }
+    ensures kept { 0 < result → session.new.pointer.value ≡ session.old.pointer.value }
 {
     match take(alloc, session) {
-        Some(mut held) => {
-            let is_done = held.press(event);
-            put(alloc, session, held);
+        Some(mut inner) => {
+            let is_done = inner.press(event);
+            put(alloc, session, inner);
             done_or_not_now(is_done)
         }
         None => codes::CLOSED,
     }
 }
 
-/// Returns the event of a script's word, if the bytes are one.
+/// Returns the event of a script's word, or `None` if the bytes are not such a word.
 fn event_of(word: &[u8]) -> Option<Event>
     ensures { result ≡ event_of_bytes word.now }
 {
@@ -157,7 +159,7 @@ fn event_of(word: &[u8]) -> Option<Event>
     }
 }
 
-/// Returns the code of a call that is done, or for which the session doesn't wait.
+/// Returns the code of a call that was done, or that the session doesn't wait for.
 fn done_or_not_now(is_done: bool) -> u32
     ensures code { result ≡ done_code is_done }
     ensures done { result ≡ 0 → IsTrue is_done }
@@ -166,31 +168,33 @@ fn done_or_not_now(is_done: bool) -> u32
     if is_done { codes::DONE } else { codes::NOT_NOW }
 }
 
-/// Hands in the message that a session waits for.
+/// Answers with the message `text`. Returns the code of the call.
 #[unsafe(no_mangle)]
-pub extern "C" fn scm_answer(alloc: Global, session: &mut Session, text: &[u8]) -> u32
+pub extern "C" fn scm_answer(alloc: Global, session: &mut CSession, text: &[u8]) -> u32
     ensures code { IsCode (is_message text.now)
-        (code_of_answer text.now session.old.handle.value) result }
-    // the message leads on as the contract of a live session says; if the call fails, all stays
+        (code_of_answer text.now session.old.pointer.value) result }
     ensures said { result ≡ 0
-        → Behind (Says text.now) session.old.handle.value session.new.handle.value }
-    ensures kept { 0 < result → session.new.handle.value ≡ session.old.handle.value }
+        → ChangesStage (Says text.now) session.old.pointer.value session.new.pointer.value }
+    ensures kept { 0 < result → session.new.pointer.value ≡ session.old.pointer.value }
 {
     let message = match message_of(alloc, text) {
         Ok(message) => message,
         Err(code) => return code,
     };
     match take(alloc, session) {
-        Some(mut held) => {
-            let is_done = held.answer(message);
-            put(alloc, session, held);
+        Some(mut inner) => {
+            let is_done = inner.answer(message);
+            put(alloc, session, inner);
             done_or_not_now(is_done)
         }
         None => codes::CLOSED,
     }
 }
 
-/// Returns the bytes as a message, or the code of a refusal.
+/// Returns `text` as a message.
+///
+/// # Errors
+/// The code of the failure: `TOO_LONG`, `NOT_TEXT` or `NO_MEMORY`.
 fn message_of(alloc: Global, text: &[u8]) -> Result<String, u32>
     ensures ok { IfOk result (λ message. string_bytes message ≡ text.now) }
     ensures good { IfOk result (λ message. IsTrue (is_message text.now)) }
@@ -210,93 +214,94 @@ fn message_of(alloc: Global, text: &[u8]) -> Result<String, u32>
     Ok(message)
 }
 
-/// Goes on on a screen of `width` columns and `height` rows.
+/// Resizes the screen to `width` columns and `height` rows. Returns the code of the call.
 #[unsafe(no_mangle)]
-pub extern "C" fn scm_resize(alloc: Global, session: &mut Session, width: u16, height: u16) -> u32
-    ensures code { IsCode (waits_behind session.old.handle.value)
-        (code_of_call session.old.handle.value) result }
+pub extern "C" fn scm_resize(alloc: Global, session: &mut CSession, width: u16, height: u16) -> u32
+    ensures code { IsCode (is_session_waiting session.old.pointer.value)
+        (code_of_call session.old.pointer.value) result }
     ensures resized { result ≡ 0
-        → Behind (Resizes (Testing width height)) session.old.handle.value
-        session.new.handle.value }
-    ensures kept { 0 < result → session.new.handle.value ≡ session.old.handle.value }
+        → ChangesStage (Resizes (Testing width height)) session.old.pointer.value
+        session.new.pointer.value }
+    ensures kept { 0 < result → session.new.pointer.value ≡ session.old.pointer.value }
 {
     match take(alloc, session) {
-        Some(mut held) => {
-            let code = held.resize(width, height);
-            put(alloc, session, held);
+        Some(mut inner) => {
+            let code = inner.resize(width, height);
+            put(alloc, session, inner);
             code
         }
         None => codes::CLOSED,
     }
 }
 
-/// Writes the update that makes the terminal show the session, if it fits, and returns how many
-/// bytes it has.
+/// Writes the update that makes the terminal show the session to `out`, if it fits. Returns the
+/// length of the update in bytes.
 #[unsafe(no_mangle)]
-pub extern "C" fn scm_paint(alloc: Global, session: &mut Session, out: &mut [u8]) -> usize
-    ensures { PaintsSession session.old.handle.value session.new.handle.value
+pub extern "C" fn scm_paint(alloc: Global, session: &mut CSession, out: &mut [u8]) -> usize
+    ensures { PaintsSession session.old.pointer.value session.new.pointer.value
         out.old out.new result }
 {
     match take(alloc, session) {
-        Some(mut held) => {
-            let len = paint_held(alloc, &mut held, out);
-            put(alloc, session, held);
+        Some(mut inner) => {
+            let len = paint_open_session(alloc, &mut inner, out);
+            put(alloc, session, inner);
             len
         }
         None => 0,
     }
 }
 
-/// Writes the update that makes the terminal show the session, if it fits, and returns how many
-/// bytes it has.
-fn paint_held(alloc: Global, held: &mut Held, out: &mut [u8]) -> usize
-    ensures { PaintsHeld held.old held.new out.old out.new result }
+/// Writes the update that makes the terminal show `inner` to `out`, if it fits. Returns the length
+/// of the update in bytes.
+fn paint_open_session(alloc: Global, inner: &mut OpenSession, out: &mut [u8]) -> usize
+    ensures { PaintsOpenSession inner.old inner.new out.old out.new result }
 {
-    match held.paint(alloc) {
-        Some(update) => write_update(held, update.as_bytes(), out),
+    match inner.paint(alloc) {
+        Some(update) => write_update(inner, update.as_bytes(), out),
         None => 0,
     }
 }
 
-/// Writes `update` if it fits, or else forgets what was painted, and returns how many bytes it has.
-fn write_update(held: &mut Held, update: &[u8], out: &mut [u8]) -> usize
+/// Writes `update` to `out` if it fits, or else makes the next update have every row. Returns the
+/// length of `update` in bytes.
+fn write_update(inner: &mut OpenSession, update: &[u8], out: &mut [u8]) -> usize
     ensures len { result ≡ length update.now }
-    ensures filled { Fills held.old held.new update.now out.old out.new }
+    ensures filled { Fills inner.old inner.new update.now out.old out.new }
 {
     if update.len() <= out.len() {
         write_text(update, out)
     } else {
-        held.repaint();
+        inner.repaint();
         update.len()
     }
 }
 
-/// Makes the next update have every row.
+/// Makes the next update have every row. Returns the code of the call.
 #[unsafe(no_mangle)]
-pub extern "C" fn scm_repaint(alloc: Global, session: &mut Session) -> u32
-    ensures code { result ≡ code_of_repaint session.old.handle.value }
-    ensures forgotten { Forgets session.old.handle.value session.new.handle.value }
+pub extern "C" fn scm_repaint(alloc: Global, session: &mut CSession) -> u32
+    ensures code { result ≡ code_of_repaint session.old.pointer.value }
+    ensures forgotten { Forgets session.old.pointer.value session.new.pointer.value }
 {
     match take(alloc, session) {
-        Some(mut held) => {
-            held.repaint();
-            put(alloc, session, held);
+        Some(mut inner) => {
+            inner.repaint();
+            put(alloc, session, inner);
             codes::DONE
         }
         None => codes::CLOSED,
     }
 }
 
-/// Writes the text of the stage, as far as it fits, and returns how many bytes it has.
+/// Writes the text of the stage to `out`, clipped to its length. Returns the whole length in bytes.
 #[unsafe(no_mangle)]
-pub extern "C" fn scm_text(alloc: Global, session: &mut Session, out: &mut [u8]) -> usize
-    ensures text { Writes session.old.handle.value out.old out.new result }
-    ensures kept { session.new.handle.value ≡ session.old.handle.value }
+pub extern "C" fn scm_text(alloc: Global, session: &mut CSession, out: &mut [u8]) -> usize
+    ensures text { Writes session.old.pointer.value out.old out.new result }
+    ensures kept { session.new.pointer.value ≡ session.old.pointer.value }
 {
     match take(alloc, session) {
-        Some(held) => {
-            let text = held.text(alloc);
-            put(alloc, session, held);
+        Some(inner) => {
+            let text = inner.text(alloc);
+            put(alloc, session, inner);
             match text {
                 Some(text) => write_text(text.as_bytes(), out),
                 None => 0,
@@ -306,7 +311,7 @@ pub extern "C" fn scm_text(alloc: Global, session: &mut Session, out: &mut [u8])
     }
 }
 
-/// Writes `bytes` as far as they fit, and returns how many there are.
+/// Writes `bytes` to `out`, clipped to its length. Returns the whole length.
 fn write_text(bytes: &[u8], out: &mut [u8]) -> usize
     ensures len { result ≡ length bytes.now }
     ensures written { out.new ≡ over bytes.now out.old }
@@ -316,24 +321,25 @@ fn write_text(bytes: &[u8], out: &mut [u8]) -> usize
     bytes.len()
 }
 
-/// Returns the code of the owner of a place of the screen, and writes to `key` what it belongs to.
+/// Returns the code of the owner at `row`, `column` of the screen, both counted from 0. Writes the
+/// item that it belongs to to `key`.
 #[unsafe(no_mangle)]
 pub extern "C" fn scm_owner(
     alloc: Global,
-    session: &mut Session,
+    session: &mut CSession,
     row: u16,
     column: u16,
     key: &mut Key,
 ) -> u32
-    ensures owner { result ≡ owner_behind session.old.handle.value row column }
-    ensures key { key.new ≡ key_behind session.old.handle.value row column }
-    ensures kept { session.new.handle.value ≡ session.old.handle.value }
+    ensures owner { result ≡ owner_of_session session.old.pointer.value row column }
+    ensures key { key.new ≡ key_of_session session.old.pointer.value row column }
+    ensures kept { session.new.pointer.value ≡ session.old.pointer.value }
 {
     match take(alloc, session) {
-        Some(held) => {
-            let (owner, owner_key) = held.owner(row, column);
+        Some(inner) => {
+            let (owner, owner_key) = inner.owner(row, column);
             *key = owner_key;
-            put(alloc, session, held);
+            put(alloc, session, inner);
             owner
         }
         None => {
@@ -343,31 +349,33 @@ pub extern "C" fn scm_owner(
     }
 }
 
-/// Writes the symbol that begins at a place of the screen, as far as it fits, and returns how many
-/// bytes it has.
+/// Writes the symbol that begins at `row`, `column` of the screen to `out`, clipped to its length.
+/// Returns the whole length in bytes.
 #[unsafe(no_mangle)]
 pub extern "C" fn scm_symbol(
     alloc: Global,
-    session: &mut Session,
+    session: &mut CSession,
     row: u16,
     column: u16,
     out: &mut [u8],
 ) -> usize
-    ensures len { result ≡ length (symbol_behind session.old.handle.value row column) }
-    ensures written { out.new ≡ over (symbol_behind session.old.handle.value row column) out.old }
-    ensures kept { session.new.handle.value ≡ session.old.handle.value }
+    ensures len { result ≡ length (symbol_of_session session.old.pointer.value row column) }
+    ensures written { out.new
+        ≡ over (symbol_of_session session.old.pointer.value row column) out.old }
+    ensures kept { session.new.pointer.value ≡ session.old.pointer.value }
 {
     match take(alloc, session) {
-        Some(held) => {
-            let len = write_text(held.symbol(row, column).as_bytes(), out);
-            put(alloc, session, held);
+        Some(inner) => {
+            let len = write_text(inner.symbol(row, column).as_bytes(), out);
+            put(alloc, session, inner);
             len
         }
         None => write_text(&[], out),
     }
 }
 
-/// Writes the sentence of `code`, as far as it fits, and returns how many bytes it has.
+/// Writes the sentence of `code` to `out`, clipped to its length. Returns the whole length in
+/// bytes.
 #[unsafe(no_mangle)]
 pub extern "C" fn scm_words(code: u32, out: &mut [u8]) -> usize
     ensures len { result ≡ length (words_of_code code) }
@@ -376,10 +384,10 @@ pub extern "C" fn scm_words(code: u32, out: &mut [u8]) -> usize
     write_text(codes::words(code).as_bytes(), out)
 }
 
-/// Closes the session.
+/// Closes `session`, and frees its memory.
 #[unsafe(no_mangle)]
-pub extern "C" fn scm_free(alloc: Global, session: &mut Session)
-    ensures closed { session.new.handle.value ≡ None }
+pub extern "C" fn scm_free(alloc: Global, session: &mut CSession)
+    ensures closed { session.new.pointer.value ≡ None }
 {
     drop(take(alloc, session));
 }

@@ -1,36 +1,36 @@
-//! The owner of a place of the screen, as a C program sees it.
+//! The owner of a place on the screen, as a C program sees it.
 ghost use Rattle.std.specs.Prelude.{◌≡◌};
 ghost use Rattle.scm_c.specs.Owners.{
-  key_of,
+  key_of_component,
   key_of_commit,
   key_of_file,
   key_of_item,
   key_of_owner,
   no_key,
-  number_of,
-  number_of_kind,
-  number_of_owner,
+  code_of_component,
+  code_of_kind,
+  code_of_owner,
 };
 
 use crate::codes;
-use scm_record::{ComponentId, FileKey, ItemKind, SelectionKey, Showing};
+use scm_record::{ComponentId, FileKey, ItemKind, SelectionKey, ViewState};
 
-/// The indices of what a place belongs to, each counted from 0, or `usize::MAX` for none.
+/// The indices of the item that a place belongs to, each counted from 0. `usize::MAX` is none.
 #[repr(C)]
 #[derive(Clone, Copy)]
 pub struct Key {
-    /// The commit whose view it is.
+    /// The commit whose view shows the place.
     pub commit: usize,
-    /// The file within the state.
+    /// The index of the file in the state.
     pub file: usize,
-    /// The section within its file.
+    /// The index of the section in its file.
     pub section: usize,
-    /// The line within its section.
+    /// The index of the line in its section.
     pub line: usize,
 }
 
 impl Key {
-    /// Returns the key of nothing.
+    /// Returns the key that names nothing.
     pub(crate) fn none() -> Key
         ensures { result ≡ no_key }
     {
@@ -52,7 +52,7 @@ impl Key {
         }
     }
 
-    /// Returns the indices of `key`.
+    /// Returns the key of a file.
     fn of_file(key: FileKey) -> Key
         ensures { result ≡ key_of_file key }
     {
@@ -63,7 +63,7 @@ impl Key {
         }
     }
 
-    /// Returns the indices of `key`.
+    /// Returns the key of a selected file, section or line.
     fn of_item(key: SelectionKey) -> Key
         ensures { result ≡ key_of_item key }
     {
@@ -85,9 +85,9 @@ impl Key {
         }
     }
 
-    /// Returns the indices of what component `id` belongs to.
+    /// Returns the key of the item that component `id` belongs to.
     fn of_component(id: ComponentId) -> Key
-        ensures { result ≡ key_of id }
+        ensures { result ≡ key_of_component id }
     {
         match id {
             ComponentId::CommitEditMessageButton(commit) => Key::of_commit(commit),
@@ -109,7 +109,7 @@ impl Key {
         }
     }
 
-    /// Returns the indices of what `owner` belongs to.
+    /// Returns the key of the item that `owner` belongs to.
     pub(crate) fn of_owner(owner: Option<ComponentId>) -> Key
         ensures { result ≡ key_of_owner owner }
     {
@@ -122,7 +122,7 @@ impl Key {
 
 /// Returns the code of `kind`.
 fn kind_code(kind: ItemKind) -> u32
-    ensures { result ≡ number_of_kind kind }
+    ensures { result ≡ code_of_kind kind }
 {
     match kind {
         ItemKind::Nothing => codes::NOBODY,
@@ -136,16 +136,16 @@ fn kind_code(kind: ItemKind) -> u32
     }
 }
 
-/// Returns the code of component `id` of what is shown.
-fn component_code(showing: &Showing<'_>, id: ComponentId) -> u32
-    ensures { result ≡ number_of showing.now id }
+/// Returns the code of component `id`, in the view state `view_state`.
+fn component_code(view_state: &ViewState<'_>, id: ComponentId) -> u32
+    ensures { result ≡ code_of_component view_state.now id }
 {
     match id {
         ComponentId::MenuBar | ComponentId::Menu(_) => codes::MENU,
         ComponentId::MenuItem(_) => codes::MENU_ITEM,
         ComponentId::CommitEditMessageButton(_) => codes::BUTTON,
         ComponentId::FileViewHeader(_) => codes::FILE,
-        ComponentId::SelectableItem(key) => kind_code(showing.item_kind(key)),
+        ComponentId::SelectableItem(key) => kind_code(view_state.item_kind(key)),
         ComponentId::ToggleBox(_) => codes::MARK,
         ComponentId::ExpandBox(_) => codes::FOLD,
         ComponentId::QuitDialog | ComponentId::HelpDialog => codes::DIALOG,
@@ -157,12 +157,12 @@ fn component_code(showing: &Showing<'_>, id: ComponentId) -> u32
     }
 }
 
-/// Returns the code of `owner` in what is shown.
-pub(crate) fn owner_code(showing: &Showing<'_>, owner: Option<ComponentId>) -> u32
-    ensures { result ≡ number_of_owner showing.now owner }
+/// Returns the code of `owner`, in the view state `view_state`.
+pub(crate) fn owner_code(view_state: &ViewState<'_>, owner: Option<ComponentId>) -> u32
+    ensures { result ≡ code_of_owner view_state.now owner }
 {
     match owner {
         None => codes::NOBODY,
-        Some(id) => component_code(showing, id),
+        Some(id) => component_code(view_state, id),
     }
 }

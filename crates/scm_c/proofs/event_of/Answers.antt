@@ -1,6 +1,6 @@
 use Rattle.std.proofs.Common.{ap, ◌∙◌}
 use Rattle.scm_script.specs.Words.{event_of_word}
-use Rattle.scm_c.proofs.ToldLemmas.{no_event, word_event}
+use Rattle.scm_c.proofs.ResultLemmas.{no_event, word_event}
 use Rattle.scm_c.proofs.event_of.Goals as goal
 
 pub returns-in-Ok : goal.returns-in-Ok

@@ -1,6 +1,6 @@
 use Rattle.std.proofs.Common.{arith}
-use Rattle.scm_c.proofs.ToldLemmas.{long_message, bad_message, good_message}
-use Rattle.scm_c.specs.Told.{IsCode}
+use Rattle.scm_c.proofs.ResultLemmas.{long_message, bad_message, good_message}
+use Rattle.scm_c.specs.Results.{IsCode}
 use Rattle.scm_c.proofs.message_of.Goals as goal
 
 pub returns-then-text-gt1000000-clause-err : goal.returns-then-text-gt1000000-clause-err

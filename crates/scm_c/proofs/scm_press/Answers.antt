@@ -1,14 +1,14 @@
 use Rattle.std.proofs.Common.{sym, ◌∙◌}
 use Rattle.scm_c.proofs.StageLemmas.{hands-in}
-use Rattle.scm_c.proofs.ToldLemmas.{press_code}
-use Rattle.scm_c.specs.Told.{event_of_bytes}
+use Rattle.scm_c.proofs.ResultLemmas.{press_code}
+use Rattle.scm_c.specs.Results.{event_of_bytes}
 use Rattle.scm_c.proofs.scm_press.Goals as goal
 
 pub returns-in-Some-clause-code : goal.returns-in-Some-clause-code
 returns-in-Some-clause-code c =
-    c.hand_in.ensures.code ∙ press_code c.in-Some.event (event_of_bytes c.args.word.now) c.args.session.now.handle.value (sym c.event_of.ensures ∙ c.in-Some.is)
+    c.hand_in.ensures.code ∙ press_code c.in-Some.event (event_of_bytes c.args.word.now) c.args.session.now.pointer.value (sym c.event_of.ensures ∙ c.in-Some.is)
 
 pub returns-in-Some-clause-pressed : goal.returns-in-Some-clause-pressed
 returns-in-Some-clause-pressed c = λ done.
-    hands-in c.in-Some.event (event_of_bytes c.args.word.now) c.args.session.now.handle.value c.hand_in.new.session.handle.value
+    hands-in c.in-Some.event (event_of_bytes c.args.word.now) c.args.session.now.pointer.value c.hand_in.new.session.pointer.value
     (sym c.event_of.ensures ∙ c.in-Some.is) (c.hand_in.ensures.pressed done)

@@ -4,8 +4,8 @@ use Rattle.scm_c.proofs.write_update.Goals as goal
 
 pub returns-then-update-out-clause-filled : goal.returns-then-update-out-clause-filled
 returns-then-update-out-clause-filled c =
-    fits c.args.held.now c.args.update.now c.args.out.now c.write_text.new.out (omega (arith, c.if-update-out.true)) c.write_text.ensures.written
+    fits c.args.inner.now c.args.update.now c.args.out.now c.write_text.new.out (omega (arith, c.if-update-out.true)) c.write_text.ensures.written
 
 pub returns-else-update-out-clause-filled : goal.returns-else-update-out-clause-filled
 returns-else-update-out-clause-filled c =
-    too_long c.args.held.now c.repaint.new.self c.args.update.now c.args.out.now (omega (arith, c.if-update-out.false)) c.repaint.ensures
+    too_long c.args.inner.now c.repaint.new.self c.args.update.now c.args.out.now (omega (arith, c.if-update-out.false)) c.repaint.ensures

@@ -1,0 +1,378 @@
+//! An open session of a C program, and what each call does to it.
+ghost use Rattle.std.specs.Prelude.{◌≡◌, ◌<◌, [], IfErr, IfNone, IfOk, IfSome, IsTrue, OnSome, Some, false, if◌then◌else◌, option_and_then, option_map, string_bytes};
+ghost use Rattle.scm_input.specs.declared.inputs.TerminalKind.TheVariants.{Testing};
+ghost use Rattle.std.specs.Str.{is_utf8};
+ghost use Rattle.serde_json.specs.Read.{read};
+ghost use Rattle.scm_types.specs.Limits.{is_accepted_state};
+ghost use Rattle.scm_json.specs.Form as form_of;
+ghost use Rattle.scm_c.specs.Stages.{Begins, Idles, Presses, Resizes, Says, Types, is_editing, code_of_stage, stage_after, is_waiting};
+ghost use Rattle.scm_record.specs.Live.{on_screen};
+ghost use Rattle.scm_c.specs.Results.{IsCode, IsText, code_of_json, done_code, symbol_of_stage};
+ghost use Rattle.scm_c.specs.Owners.{key_of_stage, owner_of_stage};
+ghost use Rattle.scm_c.specs.Paint.{Shows, Updates, as_update, with_painter};
+ghost use Rattle.scm_record.specs.Painted.{picture_of};
+
+use crate::codes;
+use crate::owners::{Key, owner_code};
+use scm_json::read_state;
+use scm_record::{
+    Decoder, Editing, Event, LiveSession, Painter, RecordError, RecordState, TerminalKind, Turn,
+};
+use scm_script::accepted_text;
+use std::alloc::Global;
+use std::mem;
+
+/// What a session waits for.
+#[derive(Drop)]
+pub enum Stage {
+    /// The session waits for an event.
+    Waiting(LiveSession<'static>),
+    /// The session waits for the message of a commit.
+    Editing(Editing<'static>),
+    /// The changes are accepted.
+    Accepted(RecordState<'static>),
+    /// The session ended with an error.
+    Ended(RecordError),
+}
+
+/// An open session: its stage, and the two sides of its terminal.
+#[derive(Drop)]
+pub struct OpenSession {
+    /// What the session waits for.
+    stage: Stage,
+    /// The decoder of what the terminal sends.
+    decoder: Decoder,
+    /// The painter, which knows what the terminal shows.
+    painter: Painter,
+}
+
+/// Returns the stage after a call with the result `answer`.
+fn stage_of(answer: Result<Turn<'static>, RecordError>) -> Stage
+    ensures { result ≡ stage_after answer.entry }
+{
+    match answer {
+        Ok(Turn::Waiting(session)) => Stage::Waiting(session),
+        Ok(Turn::Editing(editing)) => Stage::Editing(editing),
+        Ok(Turn::Accepted(state)) => Stage::Accepted(state),
+        Err(error) => Stage::Ended(error),
+    }
+}
+
+/// Resizes the screen of `session`, and returns whether it did. If an allocation failed, this is a
+/// no-op.
+fn try_resize(session: &mut LiveSession<'static>, kind: TerminalKind) -> bool
+    ensures done { IsTrue result → session.new ≡ on_screen session.old kind }
+    ensures kept { result ≡ false → session.new ≡ session.old }
+{
+    session.resize(kind).is_ok()
+}
+
+/// Returns the code of a resize that was done, or for which an allocation failed.
+fn resize_code(is_done: bool) -> u32
+    ensures { result ≡ (if is_done then 0 else 8) }
+{
+    if is_done {
+        codes::DONE
+    } else {
+        codes::NO_MEMORY
+    }
+}
+
+/// Returns the screen of `width` columns and `height` rows.
+fn screen(width: u16, height: u16) -> TerminalKind
+    ensures { result ≡ Testing width height }
+{
+    TerminalKind::Testing {
+        width: width as usize,
+        height: height as usize,
+    }
+}
+
+/// Returns the state with the JSON form `json`.
+///
+/// # Errors
+/// The code of the failure: `NOT_TEXT`, `BAD_STATE`, `NOT_ACCEPTED` or `NO_MEMORY`.
+fn state_of(alloc: Global, json: &[u8]) -> Result<RecordState<'static>, u32>
+    ensures text { IfOk result (λ given. IsTrue (is_utf8 json.now)) }
+    ensures form { IfOk result
+        (λ given. option_and_then form_of.state_of (read json.now) ≡ Some given) }
+    ensures accepted { IfOk result (λ given. IsTrue (is_accepted_state given)) }
+    ensures err { IfErr result (λ code. IsCode (is_utf8 json.now) (code_of_json json.now) code) }
+    ensures refused { IfErr result (λ code. 0 < code) }
+{
+    let Ok(text) = str::from_utf8(json) else {
+        return Err(codes::NOT_TEXT);
+    };
+    let state = match read_state(alloc, text) {
+        Ok(Some(state)) => state,
+        Ok(None) => return Err(codes::BAD_STATE),
+        Err(_) => return Err(codes::NO_MEMORY),
+    };
+    if state.is_accepted() {
+        Ok(state)
+    } else {
+        Err(codes::NOT_ACCEPTED)
+    }
+}
+
+/// Returns `bytes` as one synchronized update of the terminal, with no style set at its end.
+/// Returns `None` if an allocation failed.
+#[tactic(auto, unfolding(scm_terminal::specs::Style::style_bytes))]
+fn update_of(alloc: Global, bytes: &str) -> Option<String>
+    ensures { IfSome result (λ update. string_bytes update ≡ as_update bytes.now) }
+{
+    let mut update = String::new(alloc);
+    update.push_str("\x1b[?2026h").ok()?;
+    update.push_str(bytes).ok()?;
+    update.push_str("\x1b[0m\x1b[?2026l").ok()?;
+    Some(update)
+}
+
+/// Returns the update that makes the terminal show `session`, if it shows what `painter` painted
+/// last. Returns `None` if an allocation failed: then `painter` forgets what it painted.
+fn update_for(
+    alloc: Global,
+    session: &LiveSession<'static>,
+    painter: &mut Painter,
+) -> Option<String>
+    ensures shown { IfSome result (λ update. Shows session.now painter.old (string_bytes update)) }
+    ensures painted { OnSome result (painter.new ≡ picture_of session.now) }
+    ensures forgotten { IfNone result (painter.new ≡ []) }
+{
+    let bytes = session.paint(painter).ok()?;
+    match update_of(alloc, &bytes) {
+        Some(update) => Some(update),
+        None => {
+            painter.forget();
+            None
+        }
+    }
+}
+
+impl OpenSession {
+    /// Returns a session over the state with the JSON form `json`. Its screen has `width` columns
+    /// and `height` rows.
+    ///
+    /// # Errors
+    /// The code of the failure, as `scm_new` returns it.
+    pub(crate) fn new(
+        alloc: Global,
+        json: &[u8],
+        width: u16,
+        height: u16,
+    ) -> Result<Box<OpenSession>, u32>
+        ensures ok { IfOk result (λ inner. Begins json.now width height inner.value) }
+        ensures good { IfOk result (λ inner. code_of_json json.now ≡ 0) }
+        ensures err { IfErr result
+            (λ code. IsCode (is_utf8 json.now) (code_of_json json.now) code) }
+        ensures refused { IfErr result (λ code. 0 < code) }
+    {
+        let state = state_of(alloc, json)?;
+        let Ok(session) = LiveSession::new(alloc, screen(width, height), state) else {
+            return Err(codes::NO_MEMORY);
+        };
+        let inner = OpenSession {
+            stage: Stage::Waiting(session),
+            decoder: Decoder::new(),
+            painter: Painter::new(alloc),
+        };
+        let Ok(inner) = Box::new(alloc, inner) else {
+            return Err(codes::NO_MEMORY);
+        };
+        Ok(inner)
+    }
+
+    /// Returns the code of what the session waits for.
+    pub(crate) fn stage(&self) -> u32
+        ensures { result ≡ code_of_stage self.now.stage }
+    {
+        match &self.stage {
+            Stage::Waiting(_) => codes::WAITING,
+            Stage::Editing(_) => codes::EDITING,
+            Stage::Accepted(_) => codes::ACCEPTED,
+            Stage::Ended(_) => codes::ENDED,
+        }
+    }
+
+    /// Takes the stage, and leaves `Ended` in its place.
+    fn take_stage(&mut self) -> Stage
+        ensures stage { result ≡ self.old.stage }
+        ensures decoder { self.new.decoder ≡ self.old.decoder }
+        ensures painter { self.new.painter ≡ self.old.painter }
+    {
+        mem::replace(&mut self.stage, Stage::Ended(RecordError::OutOfMemory))
+    }
+
+    /// Handles `event` if the session waits for an event, and returns whether it does.
+    pub(crate) fn press(&mut self, event: Event) -> bool
+        ensures is_waiting { result ≡ is_waiting self.old.stage }
+        ensures pressed { IsTrue result → Presses event self.old.stage self.new.stage }
+        ensures decoder { self.new.decoder ≡ self.old.decoder }
+        ensures painter { self.new.painter ≡ self.old.painter }
+        ensures kept { result ≡ false → self.new ≡ self.old }
+    {
+        match self.take_stage() {
+            Stage::Waiting(session) => {
+                self.stage = stage_of(session.handle(event));
+                true
+            }
+            other => {
+                self.stage = other;
+                false
+            }
+        }
+    }
+
+    /// Handles `bytes` from a terminal if the session waits for an event, and returns whether it
+    /// does.
+    pub(crate) fn hear(&mut self, bytes: &[u8]) -> bool
+        ensures is_waiting { result ≡ is_waiting self.old.stage }
+        ensures typed { IsTrue result
+            → Types bytes.now self.old.decoder self.new.decoder self.old.stage self.new.stage }
+        ensures painter { self.new.painter ≡ self.old.painter }
+        ensures kept { result ≡ false → self.new ≡ self.old }
+    {
+        match self.take_stage() {
+            Stage::Waiting(session) => {
+                self.stage = stage_of(session.typed(&mut self.decoder, bytes));
+                true
+            }
+            other => {
+                self.stage = other;
+                false
+            }
+        }
+    }
+
+    /// Handles the silence of the terminal if the session waits for an event, and returns whether
+    /// it does.
+    pub(crate) fn idle(&mut self) -> bool
+        ensures is_waiting { result ≡ is_waiting self.old.stage }
+        ensures silent { IsTrue result
+            → Idles self.old.decoder self.new.decoder self.old.stage self.new.stage }
+        ensures painter { self.new.painter ≡ self.old.painter }
+        ensures kept { result ≡ false → self.new ≡ self.old }
+    {
+        match self.take_stage() {
+            Stage::Waiting(session) => {
+                self.stage = stage_of(session.idle(&mut self.decoder));
+                true
+            }
+            other => {
+                self.stage = other;
+                false
+            }
+        }
+    }
+
+    /// Answers with the message `text` if the session waits for one, and returns whether it does.
+    pub(crate) fn answer(&mut self, text: String) -> bool
+        ensures is_editing { result ≡ is_editing self.old.stage }
+        ensures said { IsTrue result → Says (string_bytes text) self.old.stage self.new.stage }
+        ensures decoder { self.new.decoder ≡ self.old.decoder }
+        ensures painter { self.new.painter ≡ self.old.painter }
+        ensures kept { result ≡ false → self.new ≡ self.old }
+    {
+        match self.take_stage() {
+            Stage::Editing(editing) => {
+                self.stage = stage_of(editing.answer(text));
+                true
+            }
+            other => {
+                self.stage = other;
+                false
+            }
+        }
+    }
+
+    /// Resizes the screen to `width` columns and `height` rows if the session waits for an event.
+    /// Returns the code of the call.
+    pub(crate) fn resize(&mut self, width: u16, height: u16) -> u32
+        ensures code { IsCode (is_waiting self.old.stage)
+            (done_code (is_waiting self.old.stage)) result }
+        ensures resized { result ≡ 0
+            → Resizes (Testing width height) self.old.stage self.new.stage }
+        ensures decoder { self.new.decoder ≡ self.old.decoder }
+        ensures painter { self.new.painter ≡ self.old.painter }
+        ensures kept { 0 < result → self.new ≡ self.old }
+    {
+        match self.take_stage() {
+            Stage::Waiting(mut session) => {
+                let is_done = try_resize(&mut session, screen(width, height));
+                self.stage = Stage::Waiting(session);
+                resize_code(is_done)
+            }
+            other => {
+                self.stage = other;
+                codes::NOT_NOW
+            }
+        }
+    }
+
+    /// Returns the update that makes the terminal show the session, if it shows what was painted
+    /// last. Returns `None` if the session waits for no event, or an allocation failed. After a
+    /// failed allocation the next update has every row.
+    pub(crate) fn paint(&mut self, alloc: Global) -> Option<String>
+        ensures { Updates self.old self.new (option_map string_bytes result) }
+    {
+        match &self.stage {
+            Stage::Waiting(session) => update_for(alloc, session, &mut self.painter),
+            Stage::Editing(_) => None,
+            Stage::Accepted(_) => None,
+            Stage::Ended(_) => None,
+        }
+    }
+
+    /// Forgets what was painted, so that the next update has every row.
+    pub(crate) fn repaint(&mut self)
+        ensures { self.new ≡ with_painter self.old [] }
+    {
+        self.painter.forget();
+    }
+
+    /// Returns the text of the stage: the screen's rows, the message to edit, the error's sentence,
+    /// or the accepted state. With the accepted state come each file's two sides. Returns `None`
+    /// if an allocation failed.
+    pub(crate) fn text(&self, alloc: Global) -> Option<String>
+        ensures { IfSome result (λ text. IsText self.now.stage (string_bytes text)) }
+    {
+        match &self.stage {
+            Stage::Waiting(session) => session.grid().view().ok(),
+            Stage::Editing(editing) => String::from_str(alloc, editing.message()).ok(),
+            Stage::Accepted(state) => accepted_text(alloc, state),
+            Stage::Ended(error) => format!(in alloc; "{error}").ok(),
+        }
+    }
+
+    /// Returns the code and the key of the owner at `row`, `column` of the screen. Both count from
+    /// 0.
+    pub(crate) fn owner(&self, row: u16, column: u16) -> (u32, Key)
+        ensures code { result.0 ≡ owner_of_stage self.now.stage row column }
+        ensures key { result.1 ≡ key_of_stage self.now.stage row column }
+    {
+        match &self.stage {
+            Stage::Waiting(session) => {
+                let owner = session.owner(row as usize, column as usize);
+                let code = owner_code(session.view_state(), owner);
+                (code, Key::of_owner(owner))
+            }
+            Stage::Editing(_) | Stage::Accepted(_) | Stage::Ended(_) => {
+                (codes::NOBODY, Key::none())
+            }
+        }
+    }
+
+    /// Returns the symbol that begins at `row`, `column` of the screen, or the empty text. Both
+    /// count from 0.
+    pub(crate) fn symbol(&self, row: u16, column: u16) -> &str
+        ensures { result.now ≡ symbol_of_stage self.now.stage row column }
+    {
+        match &self.stage {
+            Stage::Waiting(session) => {
+                let symbol = session.grid().symbol(row as usize, column as usize);
+                symbol.unwrap_or("")
+            }
+            Stage::Editing(_) | Stage::Accepted(_) | Stage::Ended(_) => "",
+        }
+    }
+}

@@ -1,0 +1,38 @@
+//! A box as its raw pointer and its allocator, to be freed by hand.
+ghost use Rattle.std.specs.Prelude.{◌≡◌};
+ghost use Rattle.std.specs.Box.Ownership.{box_owns};
+
+use std::alloc::Allocator;
+use std::marker::Model;
+
+/// A box as its raw pointer and its allocator. It owns the block but doesn't free it.
+pub(crate) struct RawBox<T, A: Allocator> {
+    /// The pointer to the block.
+    pub(crate) at: *mut T,
+    /// The allocator of the block.
+    pub(crate) alloc: A,
+    /// The value in the block.
+    pub(crate) ghost value: { T },
+}
+
+impl<T, A: Allocator> Model for RawBox<T, A> {
+    ghost also_owns = { λ l. box_owns (A.dealloc_token l.alloc) T.row l.at l.value };
+}
+
+impl<T: Drop, A: Allocator> RawBox<T, A> {
+    /// Takes `value` apart into its pointer and its allocator.
+    pub(crate) fn of(value: Box<T, A>) -> RawBox<T, A>
+        ensures { result.value ≡ value.value }
+    {
+        let (at, alloc) = Box::into_raw_with_allocator(value);
+        RawBox { at, alloc }
+    }
+
+    /// Returns the box again, which frees its block when it is dropped.
+    pub(crate) fn into_box(self) -> Box<T, A>
+        ensures { result.value ≡ self.value }
+    {
+        let RawBox { at, alloc } = self;
+        unsafe { Box::from_raw(alloc, at) }
+    }
+}
