@@ -1,6 +1,8 @@
-//! How long a screen takes to be drawn with texts through a viewport, and a grid to be filled with
-//! them, beside cutting and measuring the same texts alone. Without an argument it prints nothing.
-//! With one, a number of frames, it prints the nanoseconds of all frames, each of 80 by 24 columns.
+//! Measures how long drawing texts through a viewport and filling a grid take, beside cutting and
+//! measuring the same texts.
+//!
+//! Without an argument the program prints nothing. With a number of frames it prints the
+//! nanoseconds of all frames, each of 80 by 24 columns.
 #![tactic(auto)]
 
 ghost use Rattle.std.specs.Prelude.{◌≡◌, ◌≤◌, IfOk};
@@ -19,7 +21,7 @@ const WIDTH: u16 = 80;
 /// The rows of the grid.
 const HEIGHT: u16 = 24;
 
-/// Puts the text on each row of a cleared grid.
+/// Clears the grid and puts `text` on each of its rows.
 fn fill(grid: &mut Grid, text: &str) -> anyhow::Result<()> {
     grid.clear();
     for row in 0..HEIGHT as usize {
@@ -31,7 +33,7 @@ fn fill(grid: &mut Grid, text: &str) -> anyhow::Result<()> {
     Ok(())
 }
 
-/// Draws the text on each row of a cleared screen that shows the document from its corner on.
+/// Draws `text` on each row of a cleared screen, which shows the document from row 0, column 0.
 fn draw(alloc: Global, mut grid: Grid, text: &str) -> anyhow::Result<Grid>
     requires screen { grid.width ≤ 100 }
     requires text { text_width text.now ≤ 100 }
@@ -52,7 +54,7 @@ fn draw(alloc: Global, mut grid: Grid, text: &str) -> anyhow::Result<Grid>
     Ok(viewport.into_grid())
 }
 
-/// So many frames of filling.
+/// Fills the grid `frames` times.
 fn fill_frames(grid: &mut Grid, text: &str, frames: u64) -> anyhow::Result<()> {
     for _ in 0..frames {
         fill(grid, text)?;
@@ -60,7 +62,7 @@ fn fill_frames(grid: &mut Grid, text: &str, frames: u64) -> anyhow::Result<()> {
     Ok(())
 }
 
-/// So many frames of drawing.
+/// Draws on the grid `frames` times.
 fn draw_frames(alloc: Global, grid: Grid, text: &str, frames: u64) -> anyhow::Result<Grid>
     requires screen { grid.width ≤ 100 }
     requires text { text_width text.now ≤ 100 }
@@ -72,7 +74,7 @@ fn draw_frames(alloc: Global, grid: Grid, text: &str, frames: u64) -> anyhow::Re
     Ok(drawn)
 }
 
-/// The text cut and measured as often as so many frames draw it.
+/// Cuts and measures `text` as often as `frames` frames draw it.
 fn cut_frames(text: &str, frames: u64) -> usize {
     let mut columns = 0;
     for _ in 0..frames {
@@ -83,7 +85,7 @@ fn cut_frames(text: &str, frames: u64) -> usize {
     columns
 }
 
-/// A text so many times over.
+/// Returns `text`, repeated `times` times.
 fn repeated(alloc: Global, text: &str, times: usize) -> anyhow::Result<String> {
     let mut all = String::new(alloc);
     for _ in 0..times {
@@ -92,7 +94,7 @@ fn repeated(alloc: Global, text: &str, times: usize) -> anyhow::Result<String> {
     Ok(all)
 }
 
-/// Prints the times of one text, if it fits a screen of 100 columns.
+/// Prints the times of `frames` frames of `text`, if it fits a screen of 100 columns.
 fn measure<R: Print + Clock>(
     rt: &R,
     alloc: Global,

@@ -1,5 +1,5 @@
-//! Rectangles, masks, clusters, spans and the grid, by values from outside: the project's tables, and
-//! the columns that a terminal gives to texts.
+//! Rectangles, masks, clusters, spans and the grid, checked against values from outside: the
+//! project's tables, and the columns that a terminal gives to texts.
 ghost use Rattle.std.specs.Prelude.{◌≡◌};
 
 use scm_cells::{
@@ -18,7 +18,7 @@ const WHOLE: Rect = Rect {
     height: 2,
 };
 
-/// The rectangle at a column and a row, with its numbers of columns and rows.
+/// Returns the rectangle of `width` columns and `height` rows at column `x` and row `y`.
 fn rect(x: isize, y: isize, width: usize, height: usize) -> Rect
     ensures { result ≡ record { x = x; y = y; width = width; height = height } }
 {
@@ -136,7 +136,7 @@ fn spans_of_a_line(rt: HostRuntime) -> Result<(), RecordError> {
     Ok(())
 }
 
-/// Cuts a line into so many spans, of so many columns.
+/// Cuts `line` into spans, and checks that there are `pieces` spans of `columns` columns in all.
 fn check_spans(
     rt: &impl Abort,
     alloc: Global,
@@ -179,12 +179,12 @@ fn spans_of_lines(rt: HostRuntime) -> Result<(), RecordError> {
     Ok(())
 }
 
-/// Checks the text of a span.
+/// Checks that the text of `span` is `text`.
 fn check_span(rt: &impl Abort, span: &Span<'_>, text: &str) {
     assert_eq!(rt; span.0, text);
 }
 
-/// Cuts a line of a letter and of a character that is replaced.
+/// Cuts a line of a letter and `character`, and checks that `replacement` replaces the character.
 fn check_replaced(
     rt: &impl Abort,
     alloc: Global,
@@ -209,7 +209,7 @@ fn deletes_and_later_controls_are_replaced(rt: HostRuntime) -> Result<(), Record
     Ok(())
 }
 
-/// The columns of spans in which no character is left to be replaced.
+/// Returns the columns of `spans`, and checks that no character in them is still to be replaced.
 fn columns_shown(rt: &impl Abort, spans: &[Span<'_>]) -> usize {
     let mut columns = 0;
     for span in spans {
@@ -223,7 +223,8 @@ fn columns_shown(rt: &impl Abort, spans: &[Span<'_>]) -> usize {
     columns
 }
 
-/// Puts a text on a row of the grid, which has it.
+/// Puts `text` on row `row` of `grid`, and checks first that the grid has the row and the columns
+/// up to `high`.
 pub(crate) fn put(
     rt: &impl Abort,
     grid: &mut Grid,
@@ -238,13 +239,13 @@ pub(crate) fn put(
     grid.put(row, column, text, low, high)
 }
 
-/// Shows the grid.
+/// Checks that `grid` shows `view`.
 fn check_view(rt: &impl Abort, grid: &Grid, view: &str) -> Result<(), RecordError> {
     assert_eq!(rt; grid.view()?.as_str(), view);
     Ok(())
 }
 
-/// Puts a text on a cleared grid of one row.
+/// Puts `text` on a cleared grid of one row, and checks that it shows `view`.
 fn check_text(
     rt: &impl Abort,
     grid: &mut Grid,
@@ -284,7 +285,7 @@ fn texts_on_a_grid(rt: HostRuntime) -> Result<(), RecordError> {
     Ok(())
 }
 
-/// Shows a blank grid of so many columns and rows.
+/// Checks that the view of a blank grid of `width` columns and `height` rows has `bytes` bytes.
 fn check_blank(
     rt: &impl Abort,
     alloc: Global,
@@ -297,7 +298,7 @@ fn check_blank(
     Ok(())
 }
 
-/// Puts a text on a row of 400 columns, and cuts it into spans.
+/// Puts `text` on a row of 400 columns, and cuts it into spans.
 fn check_long(
     rt: &impl Abort,
     alloc: Global,
@@ -314,7 +315,7 @@ fn check_long(
     Ok(())
 }
 
-/// A text so many times.
+/// Returns `text`, repeated `times` times.
 fn repeated(alloc: Global, text: &str, times: usize) -> Result<String, RecordError> {
     let mut long = String::new(alloc);
     for _ in 0..times {
@@ -384,7 +385,7 @@ fn symbols_with_their_columns(rt: HostRuntime) -> Result<(), RecordError> {
     Ok(())
 }
 
-/// Puts a text on the first row of a cleared grid, and returns the columns of the whole text.
+/// Puts `text` on the first row of a cleared grid, and returns the columns of the whole text.
 fn measured(
     rt: &impl Abort,
     grid: &mut Grid,

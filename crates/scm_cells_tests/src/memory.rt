@@ -1,11 +1,12 @@
-//! What refused memory leaves of a grid and of spans. `tools/refuse-memory` runs each test with each of its requests for memory
-//! refused: what is checked here holds, and the test passes or ends in `OutOfMemory`.
+//! What refused memory leaves of a grid and of spans. `tools/refuse-memory` runs each test with
+//! each of its requests for memory refused. The checks hold then, and the test passes or ends in
+//! `OutOfMemory`.
 use crate::cells::put;
 use scm_cells::{Grid, push_spans_from_line};
 use scm_errors::RecordError;
 use std::process::Abort;
 
-/// Puts a text over others: it changes the row, or memory is refused and the row is as before.
+/// Puts `text` over other texts: the row changes, or memory is refused and the row is as before.
 fn check_put(rt: &impl Abort, grid: &mut Grid, text: &str) -> Result<(), RecordError> {
     let before = grid.view()?;
     let outcome = put(rt, grid, 0, 1, text, 0, 12);

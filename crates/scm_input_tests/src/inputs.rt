@@ -1,4 +1,4 @@
-//! What inputs give, past their lists too, and the places of a store.
+//! What inputs return, also past their end, and the places of a store.
 use scm_input::{Event, RecordInput, Screens, TerminalKind, TestingInput};
 use scm_types::RecordError;
 

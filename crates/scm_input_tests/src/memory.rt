@@ -1,7 +1,8 @@
-//! Memory, of which no contract can say that it is asked for only where it is needed: calls that take it return with ample
-//! memory, however small or large their arguments are, and the other calls succeed where a request is refused. `tools/refuse-memory`
-//! runs the tests that are named for refused memory with each of their requests refused: what is checked there holds, and the test
-//! passes or ends in `OutOfMemory`.
+//! Memory. No contract can say that memory is requested only where it is needed. So with ample
+//! memory the calls that allocate are run, on arguments small and large. The other calls succeed
+//! where requests are refused: `tools/refuse-memory` runs the tests named for refused memory, and
+//! refuses each of their requests in turn. Their checks hold then, and the test passes or ends in
+//! `OutOfMemory`.
 use scm_input::{
     Event, KeyCode, KeyEvent, KeyEventKind, KeyModifiers, MouseButton, MouseEvent, MouseEventKind,
     RecordInput, Screens, ScriptEdit, ScriptInput, ScriptRead, TerminalEvent, TerminalKind,
@@ -12,7 +13,7 @@ use scm_types::{RecordError, SelectionKey};
 use std::alloc::Global;
 use std::process::Abort;
 
-/// Reads of an input of so many events.
+/// Reads from an input of `count` events.
 fn check_events_left(rt: &impl Abort, alloc: Global, count: usize) -> Result<(), RecordError> {
     let events = vec![in alloc; Event::Redraw; count]?;
     let mut input = TestingInput::new(alloc, 80, 24, events)?;
@@ -21,7 +22,7 @@ fn check_events_left(rt: &impl Abort, alloc: Global, count: usize) -> Result<(),
     Ok(())
 }
 
-/// An edit that returns so many bytes.
+/// Edits a message with an input whose answer has `count` bytes.
 fn check_edit(rt: &impl Abort, alloc: Global, count: usize) -> Result<(), RecordError> {
     let mut input = TestingInput::new(alloc, 80, 24, Vec::new(alloc))?;
     input.commit_messages.push_back(text_of(alloc, count)?)?;
@@ -29,12 +30,12 @@ fn check_edit(rt: &impl Abort, alloc: Global, count: usize) -> Result<(), Record
     Ok(())
 }
 
-/// The reads of a script of one batch.
+/// Returns the reads of a script with the one batch `batch`.
 fn reads_of(alloc: Global, batch: Vec<Event>) -> Result<Vec<ScriptRead>, RecordError> {
     Ok(vec![in alloc; ScriptRead::Batch(batch)]?)
 }
 
-/// The batch of a script that has so many events.
+/// Reads from a script whose batch has `count` events.
 fn check_batch(rt: &impl Abort, alloc: Global, count: usize) -> Result<(), RecordError> {
     let reads = reads_of(alloc, vec![in alloc; Event::Redraw; count]?)?;
     let mut script = ScriptInput::new(alloc, 80, 24, reads, Vec::new(alloc))?;
@@ -42,7 +43,7 @@ fn check_batch(rt: &impl Abort, alloc: Global, count: usize) -> Result<(), Recor
     Ok(())
 }
 
-/// The answer of a script that has so many bytes.
+/// Edits a message with a script whose answer has `count` bytes.
 fn check_answer(rt: &impl Abort, alloc: Global, count: usize) -> Result<(), RecordError> {
     let edits = vec![in alloc; ScriptEdit::Answer(text_of(alloc, count)?)]?;
     let mut script = ScriptInput::new(alloc, 80, 24, Vec::new(alloc), edits)?;
@@ -50,7 +51,7 @@ fn check_answer(rt: &impl Abort, alloc: Global, count: usize) -> Result<(), Reco
     Ok(())
 }
 
-/// Places of a store that has so many.
+/// Takes a place in a store that has `count` places.
 fn check_store(rt: &impl Abort, alloc: Global, count: usize) -> Result<(), RecordError> {
     let mut screens = Screens::new(alloc);
     for _ in 0..count {
@@ -76,7 +77,7 @@ fn inputs_and_stores_of_any_size(rt: HostRuntime) -> Result<(), RecordError> {
 
 // ---- calls that take no memory
 
-/// The calls on events.
+/// Checks the calls on events.
 fn check_events(rt: &impl Abort) {
     let key = KeyEvent {
         code: KeyCode::Char('q'),
@@ -99,7 +100,7 @@ fn check_events(rt: &impl Abort) {
     }
 }
 
-/// The calls on inputs and stores.
+/// Checks the calls on inputs and stores.
 fn check_recording(rt: &impl Abort, input: &TestingInput, script: &ScriptInput, screens: &Screens) {
     let kind = TerminalKind::Testing {
         width: 80,
@@ -113,7 +114,7 @@ fn check_recording(rt: &impl Abort, input: &TestingInput, script: &ScriptInput, 
     assert_eq!(rt; screens.frames(), 0);
 }
 
-/// A store with a place, and two inputs, one of them of an event.
+/// Returns an input of one event, an empty script, and an empty store.
 fn recording(alloc: Global) -> Result<(TestingInput, ScriptInput, Screens), RecordError> {
     let events = vec![in alloc; Event::None]?;
     let input = TestingInput::new(alloc, 80, 24, events)?;

@@ -1,12 +1,13 @@
-//! What refused memory leaves of the queues of inputs and of a store. `tools/refuse-memory` runs each test with each of its
-//! requests for memory refused: what is checked here holds, and the test passes or ends in `OutOfMemory`.
+//! What refused memory leaves of the queues of inputs and of a store. `tools/refuse-memory` runs
+//! each test with each of its requests for memory refused. The checks hold then, and the test
+//! passes or ends in `OutOfMemory`.
 use scm_input::{Event, RecordInput, Screens, ScriptEdit, ScriptInput, ScriptRead, TestingInput};
 use scm_samples::text_of;
 use scm_types::RecordError;
 use std::alloc::Global;
 use std::process::Abort;
 
-/// An input of two events and a message.
+/// Returns an input of two events and a message.
 fn testing_input(alloc: Global) -> Result<TestingInput, RecordError> {
     let events = vec![in alloc; Event::QuitCancel, Event::Redraw]?;
     let mut input = TestingInput::new(alloc, 80, 24, events)?;
@@ -32,7 +33,8 @@ fn refused_memory_keeps_events(rt: HostRuntime) -> Result<(), RecordError> {
     Ok(())
 }
 
-/// Checks that a call past the end of a script fails with these words, unless memory for them is refused.
+/// Checks that a call past the end of a script fails with `words`, unless memory for them is
+/// refused.
 fn check_past<T: Drop>(
     rt: &impl Abort,
     outcome: Result<T, RecordError>,
@@ -47,7 +49,7 @@ fn check_past<T: Drop>(
     Ok(())
 }
 
-/// What an edit past the last is.
+/// The error of an edit past the last one.
 const NO_MESSAGES: &str = "No more commit messages available";
 
 #[test]
@@ -86,7 +88,8 @@ fn refused_memory_keeps_reads_of_a_script(rt: HostRuntime) -> Result<(), RecordE
     check_past(&rt, outcome, NO_MESSAGES)
 }
 
-/// Takes the place behind so many: it is there then, or memory is refused and the store has as many as before.
+/// Takes a place in a store that has `count` places. The store has the new place then, or memory is
+/// refused and it still has `count`.
 fn check_place(rt: &impl Abort, screens: &mut Screens, count: usize) -> Result<(), RecordError> {
     let outcome = screens.place();
     assert_eq!(rt; screens.has_place(count), outcome.is_ok());
@@ -95,7 +98,7 @@ fn check_place(rt: &impl Abort, screens: &mut Screens, count: usize) -> Result<(
     Ok(())
 }
 
-/// Takes places of a store that has one, up to twenty.
+/// Takes places in a store that has one, up to twenty.
 fn check_places(rt: &impl Abort, screens: &mut Screens) -> Result<(), RecordError> {
     for count in 1..20 {
         check_place(rt, screens, count)?;

@@ -19,7 +19,7 @@ struct Listed {
     shots: Vec<TestingScreenshot>,
 }
 
-/// The event of a word; a screenshot is taken to a new place.
+/// Returns the event of `word`. A screenshot gets a new place, which is added to `shots`.
 fn event_of(
     word: &str,
     screens: &mut Screens,
@@ -36,7 +36,7 @@ fn event_of(
     }
 }
 
-/// The events of a script, if each of its commands is a batch of one word.
+/// Returns the events of a script, or `None` unless each of its commands is a batch of one word.
 fn list_events(
     alloc: Global,
     input: &str,
@@ -54,7 +54,7 @@ fn list_events(
     Ok(Some(Listed { events, shots }))
 }
 
-/// Adds the screens in order, each behind its number.
+/// Adds the screens to `text` in order, each after its number.
 fn push_screens(
     text: &mut String,
     alloc: Global,
@@ -69,7 +69,7 @@ fn push_screens(
     Ok(())
 }
 
-/// Adds the outcome of a run, in the program's words.
+/// Adds the outcome of a run to `text`, in the program's words.
 fn push_outcome(
     text: &mut String,
     alloc: Global,
@@ -85,7 +85,8 @@ fn push_outcome(
     Ok(())
 }
 
-/// Runs a state over a list of events, and returns the screens and the outcome in the program's words.
+/// Runs `state` over the list of events, and returns the screens and the outcome in the program's
+/// words.
 fn outcome_of(
     alloc: Global,
     size: (usize, usize),
@@ -103,7 +104,8 @@ fn outcome_of(
     Ok(text)
 }
 
-/// What a script prints if it is run over a list of events, or `None` if it has no such list or no state on its second line.
+/// Returns what the script `input` prints when it runs over a list of events, or `None` if it has
+/// no such list or no state on its second line.
 fn printed(alloc: Global, input: &str) -> Result<Option<String>, Fail> {
     let mut screens = Screens::new(alloc);
     let Some(state) = read_state(alloc, input.lines().nth(1).unwrap_or(""))? else {
@@ -118,7 +120,8 @@ fn printed(alloc: Global, input: &str) -> Result<Option<String>, Fail> {
     }
 }
 
-/// Whether a script that is run has such a list; what it prints then is the output of its row.
+/// Returns whether the script of `row` runs over a list of events. If it does, checks that it
+/// prints the output of the row.
 fn is_listed(rt: &impl Abort, alloc: Global, row: &str) -> Result<bool, Fail> {
     let example = example_of(alloc, row)?;
     let (input, output) = (example.input.as_str(), example.output.as_str());

@@ -1,4 +1,5 @@
-//! The key table: each key with all that may be held and done to it, and all that the mouse may do.
+//! The key table: each key with all modifiers and all kinds of key events, and all that the mouse
+//! may do.
 
 use scm_record::{
     Event, KeyCode, KeyEvent, KeyEventKind, KeyModifiers, MouseButton, MouseEvent, MouseEventKind,
@@ -6,16 +7,16 @@ use scm_record::{
 };
 use std::process::Abort;
 
-/// Nothing is held.
+/// No modifier.
 const NONE: KeyModifiers = KeyModifiers::NONE;
 
-/// Shift is held.
+/// Shift alone.
 const SHIFT: KeyModifiers = KeyModifiers::SHIFT;
 
-/// Control is held.
+/// Control alone.
 const CONTROL: KeyModifiers = KeyModifiers::CONTROL;
 
-/// The rows of the table: what is held, the key, and its event.
+/// The rows of the table: the modifiers, the key, and its event.
 const KEYS: [(KeyModifiers, KeyCode, Event); 36] = [
     (NONE, KeyCode::Char('q'), Event::QuitCancel),
     (NONE, KeyCode::Esc, Event::QuitEscape),
@@ -75,7 +76,7 @@ const KEYS: [(KeyModifiers, KeyCode, Event); 36] = [
     (NONE, KeyCode::Char('e'), Event::EditCommitMessage),
 ];
 
-/// Keys that no row has.
+/// Keys without a row.
 const OTHER_KEYS: [KeyCode; 8] = [
     KeyCode::Other,
     KeyCode::Char('Q'),
@@ -87,7 +88,7 @@ const OTHER_KEYS: [KeyCode; 8] = [
     KeyCode::Char('é'),
 ];
 
-/// What may be done to a key.
+/// The kinds of key events.
 const KINDS: [KeyEventKind; 3] = [
     KeyEventKind::Press,
     KeyEventKind::Repeat,
@@ -117,7 +118,7 @@ const MOUSE: [(MouseEventKind, Event); 13] = [
     (MouseEventKind::Other, Event::None),
 ];
 
-/// What is held, by the bits of a number: each of the sixteen ways below 16.
+/// Returns the modifiers of the four lowest bits of `bits`.
 fn held_of(bits: u8) -> KeyModifiers {
     KeyModifiers {
         shift: bits & 1 != 0,
@@ -127,7 +128,8 @@ fn held_of(bits: u8) -> KeyModifiers {
     }
 }
 
-/// The event of the row for a key with exactly this held, else `None`.
+/// Returns the event of the row of `code` with exactly the modifiers `held`, or `Event::None` if
+/// there is no such row.
 fn event_in_table(held: KeyModifiers, code: KeyCode) -> Event {
     for (row_held, row_code, event) in KEYS {
         if row_held == held && row_code == code {
@@ -137,8 +139,8 @@ fn event_in_table(held: KeyModifiers, code: KeyCode) -> Event {
     Event::None
 }
 
-/// Holds a key against the table, whatever is held with it and done to it: so each row, with each thing held too much, and
-/// with each other thing done to it.
+/// Checks the event of `code` with all modifiers and all kinds of key events. Only a press with
+/// exactly the modifiers of a row has its event.
 fn check_key(rt: &impl Abort, code: KeyCode) {
     for bits in 0..16 {
         let modifiers = held_of(bits);

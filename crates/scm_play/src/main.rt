@@ -1,4 +1,5 @@
-//! Runs a script of events over a state of changes: standard input to standard output, and hints to standard error.
+//! Runs a script of events on a state: reads standard input, writes to standard output, and writes
+//! hints to standard error.
 #![tactic(auto)]
 
 #[cfg(test)]

@@ -1,95 +1,102 @@
 //! The table of scripts: what the program reads, and what it writes.
 
-/// States, and pieces of states, by their names. Each `?` stands for what the row gives: `1` and `0` for marks, the name of a piece, or
-/// a piece of JSON.
+/// States, and pieces of states, by their names. Each `?` stands for what a row fills in: `1` or
+/// `0` for a mark, the name of a piece, or a piece of JSON.
 pub const STATES: &str = r#"
-NOTHING {"is_read_only":false,"commits":[],"files":[]}
-PADDED {"is_read_only":false,"commits":[{"message":null},{"message":null}],"files":[]}
-MESSAGES {"is_read_only":false,"commits":[{"message":?},{"message":?}],"files":[]}
-LINE {"is_read_only":false,"commits":[{"message":null},{"message":null}],"files":[{"old_path":null,"path":"n","file_mode":"Absent","sections":[{"Changed":{"lines":[{"is_checked":?,"change_type":"Added","line":"n\n"}]}},{"FileMode":{"is_checked":?,"mode":{"Unix":33188}}}]}]}
-PLAIN {"is_read_only":false,"commits":[{"message":null},{"message":null}],"files":[{"old_path":null,"path":"foo/bar","file_mode":{"Unix":33188},"sections":[]}]}
-NEW {"is_read_only":false,"commits":[{"message":null},{"message":null}],"files":[{"old_path":null,"path":"n","file_mode":"Absent","sections":[{"FileMode":{"is_checked":?,"mode":{"Unix":33188}}},{"Changed":{"lines":[{"is_checked":?,"change_type":"Added","line":"a\n"},{"is_checked":?,"change_type":"Added","line":"b\n"}]}}]}]}
-GONE {"is_read_only":false,"commits":[{"message":null},{"message":null}],"files":[{"old_path":null,"path":"g","file_mode":{"Unix":33188},"sections":[{"FileMode":{"is_checked":?,"mode":"Absent"}},{"Changed":{"lines":[{"is_checked":?,"change_type":"Removed","line":"a\n"},{"is_checked":?,"change_type":"Removed","line":"b\n"}]}}]}]}
-BOTH {"is_read_only":false,"commits":[{"message":null},{"message":null}],"files":[{"old_path":null,"path":"b","file_mode":"Absent","sections":[{"Changed":{"lines":[{"is_checked":?,"change_type":"Added","line":"a\n"}]}},{"FileMode":{"is_checked":?,"mode":{"Unix":33188}}},{"FileMode":{"is_checked":?,"mode":"Absent"}}]}]}
-BYTES {"is_read_only":false,"commits":[{"message":null},{"message":null}],"files":[{"old_path":null,"path":"b","file_mode":"Absent","sections":[{"Binary":{"is_checked":?,"old_description":null,"new_description":"x y"}},{"Changed":{"lines":[{"is_checked":?,"change_type":"Added","line":"a\n"}]}},{"FileMode":{"is_checked":?,"mode":{"Unix":33188}}},{"FileMode":{"is_checked":?,"mode":"Absent"}}]}]}
-BLANK {"is_read_only":false,"commits":[{"message":null},{"message":null}],"files":[{"old_path":null,"path":"e","file_mode":"Absent","sections":[{"FileMode":{"is_checked":?,"mode":{"Unix":33188}}}]}]}
-TREE {"is_read_only":?,"commits":[{"message":null},{"message":null}],"files":[{"old_path":null,"path":"p","file_mode":{"Unix":33188},"sections":[{"Changed":{"lines":[{"is_checked":?,"change_type":"Added","line":"x\n"},{"is_checked":?,"change_type":"Added","line":"y\n"}]}},{"Changed":{"lines":[{"is_checked":?,"change_type":"Added","line":"z\n"}]}}]},{"old_path":null,"path":"q","file_mode":{"Unix":33188},"sections":[{"Changed":{"lines":[{"is_checked":?,"change_type":"Added","line":"w\n"}]}}]}]}
-SECOND {"is_read_only":false,"commits":[{"message":null},{"message":null}],"files":[{"old_path":null,"path":"p","file_mode":{"Unix":33188},"sections":[]},{"old_path":null,"path":"q","file_mode":{"Unix":33188},"sections":[{"Changed":{"lines":[{"is_checked":?,"change_type":"Added","line":"x\n"},{"is_checked":?,"change_type":"Added","line":"y\n"}]}},{"Changed":{"lines":[{"is_checked":?,"change_type":"Added","line":"z\n"}]}}]}]}
-BESIDE {"is_read_only":false,"commits":[{"message":null},{"message":null}],"files":[{"old_path":null,"path":"p","file_mode":{"Unix":33188},"sections":[{"FileMode":{"is_checked":?,"mode":{"Unix":33261}}}]},{"old_path":null,"path":"q","file_mode":{"Unix":33188},"sections":[{"Changed":{"lines":[{"is_checked":?,"change_type":"Added","line":"x\n"},{"is_checked":?,"change_type":"Added","line":"y\n"}]}}]}]}
-MIXED {"is_read_only":false,"commits":[{"message":null},{"message":null}],"files":[{"old_path":null,"path":"m","file_mode":{"Unix":33188},"sections":[{"Unchanged":{"lines":["a\n"]}},{"Changed":{"lines":[{"is_checked":?,"change_type":"Added","line":"b\n"},{"is_checked":?,"change_type":"Removed","line":"c\n"},{"is_checked":?,"change_type":"Added","line":"d\n"},{"is_checked":?,"change_type":"Removed","line":"e\n"}]}}]}]}
-FILE {"is_read_only":true,"commits":[{"message":"m\n"},{"message":null}],"files":[{"old_path":"o","path":"p","file_mode":{"Unix":18446744073709551615},"sections":[?]}]}
-TWICE {"is_read_only":?,"is_read_only":false,"commits":[],"files":[]}
-HILL {"is_read_only":false,"commits":[{"message":null},{"message":null}],"files":[{"old_path":null,"path":"f","file_mode":{"Unix":33188},"sections":[{"Unchanged":{"lines":["a\n"]}},{"Changed":{"lines":[{"is_checked":?,"change_type":"Removed","line":"b\n"},{"is_checked":?,"change_type":"Added","line":"c\n"}]}}]}]}
-OF1 {"is_read_only":false,"commits":[{"message":null},{"message":null}],"files":[{"old_path":null,"path":"f","file_mode":{"Unix":33188},"sections":[?]}]}
-OF2 {"is_read_only":false,"commits":[{"message":null},{"message":null}],"files":[{"old_path":null,"path":"f","file_mode":{"Unix":33188},"sections":[?,?]}]}
-OF3 {"is_read_only":false,"commits":[{"message":null},{"message":null}],"files":[{"old_path":null,"path":"f","file_mode":{"Unix":33188},"sections":[?,?,?]}]}
-OF4 {"is_read_only":false,"commits":[{"message":null},{"message":null}],"files":[{"old_path":null,"path":"f","file_mode":{"Unix":33188},"sections":[?,?,?,?]}]}
-OF5 {"is_read_only":false,"commits":[{"message":null},{"message":null}],"files":[{"old_path":null,"path":"f","file_mode":{"Unix":33188},"sections":[?,?,?,?,?]}]}
-KEPT {"is_read_only":true,"commits":[{"message":null},{"message":null}],"files":[{"old_path":null,"path":"f","file_mode":{"Unix":33188},"sections":[?,?,?]}]}
-BAR {"is_read_only":false,"commits":[{"message":?},{"message":?}],"files":[{"old_path":null,"path":"foo/bar","file_mode":{"Unix":33188},"sections":[{"Changed":{"lines":[{"is_checked":?,"change_type":"Added","line":"n\n"}]}}]}]}
-NAMED {"is_read_only":false,"commits":[{"message":null},{"message":null}],"files":[{"old_path":?,"path":?,"file_mode":{"Unix":33188},"sections":[]}]}
-SAID {"is_read_only":false,"commits":[{"message":?},{"message":?}],"files":[{"old_path":null,"path":"f","file_mode":{"Unix":33188},"sections":[]}]}
-PAIR {"is_read_only":false,"commits":[{"message":null},{"message":null}],"files":[{"old_path":null,"path":"f","file_mode":{"Unix":33188},"sections":[?]},{"old_path":null,"path":"g","file_mode":{"Unix":33188},"sections":[?]}]}
-BESIDES {"is_read_only":false,"commits":[{"message":null},{"message":null}],"files":[{"old_path":null,"path":"a/long/path/of/a/file","file_mode":{"Unix":33188},"sections":[]},{"old_path":null,"path":"g","file_mode":{"Unix":33188},"sections":[?]}]}
-CUT {"is_read_only":false,"commits":[{"message":null},{"message":null}],"files":[{"old_path":null,"path":"r","file_mode":{"Unix":33188},"sections":[{"Changed":{"lines":[{"is_checked":?,"change_type":"Removed","line":"x\n"},{"is_checked":?,"change_type":"Removed","line":"y\n"}]}},{"FileMode":{"is_checked":?,"mode":"Absent"}}]}]}
-MADE {"is_read_only":false,"commits":[{"message":null},{"message":null}],"files":[{"old_path":null,"path":"n","file_mode":"Absent","sections":[{"Changed":{"lines":[{"is_checked":?,"change_type":"Added","line":"n\n"},{"is_checked":?,"change_type":"Added","line":"m\n"}]}},{"FileMode":{"is_checked":?,"mode":{"Unix":33188}}}]}]}
-UNMADE {"is_read_only":false,"commits":[{"message":null},{"message":null}],"files":[{"old_path":null,"path":"u","file_mode":"Absent","sections":[{"Changed":{"lines":[{"is_checked":?,"change_type":"Added","line":"a\n"},{"is_checked":?,"change_type":"Added","line":"b\n"}]}},{"FileMode":{"is_checked":?,"mode":"Absent"}}]}]}
-BARE {"is_read_only":false,"commits":[{"message":null},{"message":null}],"files":[{"old_path":null,"path":"p","file_mode":{"Unix":33188},"sections":[]},{"old_path":null,"path":"q","file_mode":{"Unix":33188},"sections":[{"Changed":{"lines":[{"is_checked":?,"change_type":"Added","line":"x\n"}]}}]}]}
-TWO {"is_read_only":false,"commits":[{"message":null},{"message":null}],"files":[{"old_path":null,"path":"p","file_mode":{"Unix":33188},"sections":[{"Changed":{"lines":[{"is_checked":?,"change_type":"Added","line":"x\n"},{"is_checked":?,"change_type":"Added","line":"y\n"}]}}]}]}
-VOID {"is_read_only":false,"commits":[{"message":null},{"message":null}],"files":[{"old_path":null,"path":"e","file_mode":"Absent","sections":[{"Changed":{"lines":[]}},{"FileMode":{"is_checked":?,"mode":{"Unix":33188}}}]}]}
-X {"Changed":{"lines":[{"is_checked":false,"change_type":"Added","line":"x\n"}]}}
-Y {"Changed":{"lines":[{"is_checked":false,"change_type":"Removed","line":"y\n"}]}}
-K {"Changed":{"lines":[{"is_checked":true,"change_type":"Added","line":"c\n"}]}}
-EMPTY {"Changed":{"lines":[]}}
-TEN {"Changed":{"lines":[{"is_checked":false,"change_type":"Added","line":"0\n"},{"is_checked":false,"change_type":"Added","line":"1\n"},{"is_checked":false,"change_type":"Added","line":"2\n"},{"is_checked":false,"change_type":"Added","line":"3\n"},{"is_checked":false,"change_type":"Added","line":"4\n"},{"is_checked":false,"change_type":"Added","line":"5\n"},{"is_checked":false,"change_type":"Added","line":"6\n"},{"is_checked":false,"change_type":"Added","line":"7\n"},{"is_checked":false,"change_type":"Added","line":"8\n"},{"is_checked":false,"change_type":"Added","line":"9\n"}]}}
-LONG {"Changed":{"lines":[{"is_checked":false,"change_type":"Added","line":"the first line of a long file\n"},{"is_checked":true,"change_type":"Removed","line":"no end"}]}}
-C0 {"Unchanged":{"lines":[]}}
-C1 {"Unchanged":{"lines":["a\n"]}}
-C3 {"Unchanged":{"lines":["a\n","b\n","c\n"]}}
-C4 {"Unchanged":{"lines":["a\n","b\n","c\n","d\n"]}}
-C6 {"Unchanged":{"lines":["a\n","b\n","c\n","d\n","e\n","f\n"]}}
-C7 {"Unchanged":{"lines":["a\n","b\n","c\n","d\n","e\n","f\n","g\n"]}}
-MODE {"FileMode":{"is_checked":false,"mode":{"Unix":33261}}}
-GONER {"FileMode":{"is_checked":true,"mode":"Absent"}}
-B0 {"Binary":{"is_checked":false,"old_description":null,"new_description":null}}
-B1 {"Binary":{"is_checked":false,"old_description":"a","new_description":null}}
-B2 {"Binary":{"is_checked":false,"old_description":"a","new_description":"b"}}
-B3 {"Binary":{"is_checked":false,"old_description":null,"new_description":"b"}}
+EMPTY_STATE {"is_read_only":false,"commits":[],"files":[]}
+TWO_COMMITS {"is_read_only":false,"commits":[{"message":null},{"message":null}],"files":[]}
+TWO_MESSAGES {"is_read_only":false,"commits":[{"message":?},{"message":?}],"files":[]}
+NEW_FILE_ONE_LINE {"is_read_only":false,"commits":[{"message":null},{"message":null}],"files":[{"old_path":null,"path":"n","file_mode":"Absent","sections":[{"Changed":{"lines":[{"is_checked":?,"change_type":"Added","line":"n\n"}]}},{"FileMode":{"is_checked":?,"mode":{"Unix":33188}}}]}]}
+NO_SECTIONS {"is_read_only":false,"commits":[{"message":null},{"message":null}],"files":[{"old_path":null,"path":"foo/bar","file_mode":{"Unix":33188},"sections":[]}]}
+NEW_FILE_MODE_FIRST {"is_read_only":false,"commits":[{"message":null},{"message":null}],"files":[{"old_path":null,"path":"n","file_mode":"Absent","sections":[{"FileMode":{"is_checked":?,"mode":{"Unix":33188}}},{"Changed":{"lines":[{"is_checked":?,"change_type":"Added","line":"a\n"},{"is_checked":?,"change_type":"Added","line":"b\n"}]}}]}]}
+DELETED_FILE_MODE_FIRST {"is_read_only":false,"commits":[{"message":null},{"message":null}],"files":[{"old_path":null,"path":"g","file_mode":{"Unix":33188},"sections":[{"FileMode":{"is_checked":?,"mode":"Absent"}},{"Changed":{"lines":[{"is_checked":?,"change_type":"Removed","line":"a\n"},{"is_checked":?,"change_type":"Removed","line":"b\n"}]}}]}]}
+NEW_FILE_TWO_MODES {"is_read_only":false,"commits":[{"message":null},{"message":null}],"files":[{"old_path":null,"path":"b","file_mode":"Absent","sections":[{"Changed":{"lines":[{"is_checked":?,"change_type":"Added","line":"a\n"}]}},{"FileMode":{"is_checked":?,"mode":{"Unix":33188}}},{"FileMode":{"is_checked":?,"mode":"Absent"}}]}]}
+NEW_BINARY_FILE_TWO_MODES {"is_read_only":false,"commits":[{"message":null},{"message":null}],"files":[{"old_path":null,"path":"b","file_mode":"Absent","sections":[{"Binary":{"is_checked":?,"old_description":null,"new_description":"x y"}},{"Changed":{"lines":[{"is_checked":?,"change_type":"Added","line":"a\n"}]}},{"FileMode":{"is_checked":?,"mode":{"Unix":33188}}},{"FileMode":{"is_checked":?,"mode":"Absent"}}]}]}
+NEW_EMPTY_FILE {"is_read_only":false,"commits":[{"message":null},{"message":null}],"files":[{"old_path":null,"path":"e","file_mode":"Absent","sections":[{"FileMode":{"is_checked":?,"mode":{"Unix":33188}}}]}]}
+TWO_FILES {"is_read_only":?,"commits":[{"message":null},{"message":null}],"files":[{"old_path":null,"path":"p","file_mode":{"Unix":33188},"sections":[{"Changed":{"lines":[{"is_checked":?,"change_type":"Added","line":"x\n"},{"is_checked":?,"change_type":"Added","line":"y\n"}]}},{"Changed":{"lines":[{"is_checked":?,"change_type":"Added","line":"z\n"}]}}]},{"old_path":null,"path":"q","file_mode":{"Unix":33188},"sections":[{"Changed":{"lines":[{"is_checked":?,"change_type":"Added","line":"w\n"}]}}]}]}
+SECOND_FILE_TWO_SECTIONS {"is_read_only":false,"commits":[{"message":null},{"message":null}],"files":[{"old_path":null,"path":"p","file_mode":{"Unix":33188},"sections":[]},{"old_path":null,"path":"q","file_mode":{"Unix":33188},"sections":[{"Changed":{"lines":[{"is_checked":?,"change_type":"Added","line":"x\n"},{"is_checked":?,"change_type":"Added","line":"y\n"}]}},{"Changed":{"lines":[{"is_checked":?,"change_type":"Added","line":"z\n"}]}}]}]}
+MODE_CHANGE_AND_TWO_LINES {"is_read_only":false,"commits":[{"message":null},{"message":null}],"files":[{"old_path":null,"path":"p","file_mode":{"Unix":33188},"sections":[{"FileMode":{"is_checked":?,"mode":{"Unix":33261}}}]},{"old_path":null,"path":"q","file_mode":{"Unix":33188},"sections":[{"Changed":{"lines":[{"is_checked":?,"change_type":"Added","line":"x\n"},{"is_checked":?,"change_type":"Added","line":"y\n"}]}}]}]}
+ALTERNATING_LINES {"is_read_only":false,"commits":[{"message":null},{"message":null}],"files":[{"old_path":null,"path":"m","file_mode":{"Unix":33188},"sections":[{"Unchanged":{"lines":["a\n"]}},{"Changed":{"lines":[{"is_checked":?,"change_type":"Added","line":"b\n"},{"is_checked":?,"change_type":"Removed","line":"c\n"},{"is_checked":?,"change_type":"Added","line":"d\n"},{"is_checked":?,"change_type":"Removed","line":"e\n"}]}}]}]}
+READ_ONLY_RENAMED_FILE_OF_1 {"is_read_only":true,"commits":[{"message":"m\n"},{"message":null}],"files":[{"old_path":"o","path":"p","file_mode":{"Unix":18446744073709551615},"sections":[?]}]}
+DUPLICATE_MEMBER {"is_read_only":?,"is_read_only":false,"commits":[],"files":[]}
+CONTEXT_AND_CHANGE {"is_read_only":false,"commits":[{"message":null},{"message":null}],"files":[{"old_path":null,"path":"f","file_mode":{"Unix":33188},"sections":[{"Unchanged":{"lines":["a\n"]}},{"Changed":{"lines":[{"is_checked":?,"change_type":"Removed","line":"b\n"},{"is_checked":?,"change_type":"Added","line":"c\n"}]}}]}]}
+FILE_OF_1 {"is_read_only":false,"commits":[{"message":null},{"message":null}],"files":[{"old_path":null,"path":"f","file_mode":{"Unix":33188},"sections":[?]}]}
+FILE_OF_2 {"is_read_only":false,"commits":[{"message":null},{"message":null}],"files":[{"old_path":null,"path":"f","file_mode":{"Unix":33188},"sections":[?,?]}]}
+FILE_OF_3 {"is_read_only":false,"commits":[{"message":null},{"message":null}],"files":[{"old_path":null,"path":"f","file_mode":{"Unix":33188},"sections":[?,?,?]}]}
+FILE_OF_4 {"is_read_only":false,"commits":[{"message":null},{"message":null}],"files":[{"old_path":null,"path":"f","file_mode":{"Unix":33188},"sections":[?,?,?,?]}]}
+FILE_OF_5 {"is_read_only":false,"commits":[{"message":null},{"message":null}],"files":[{"old_path":null,"path":"f","file_mode":{"Unix":33188},"sections":[?,?,?,?,?]}]}
+READ_ONLY_FILE_OF_3 {"is_read_only":true,"commits":[{"message":null},{"message":null}],"files":[{"old_path":null,"path":"f","file_mode":{"Unix":33188},"sections":[?,?,?]}]}
+MESSAGES_ONE_LINE {"is_read_only":false,"commits":[{"message":?},{"message":?}],"files":[{"old_path":null,"path":"foo/bar","file_mode":{"Unix":33188},"sections":[{"Changed":{"lines":[{"is_checked":?,"change_type":"Added","line":"n\n"}]}}]}]}
+PATHS {"is_read_only":false,"commits":[{"message":null},{"message":null}],"files":[{"old_path":?,"path":?,"file_mode":{"Unix":33188},"sections":[]}]}
+MESSAGES_NO_SECTIONS {"is_read_only":false,"commits":[{"message":?},{"message":?}],"files":[{"old_path":null,"path":"f","file_mode":{"Unix":33188},"sections":[]}]}
+FILES_OF_1_AND_1 {"is_read_only":false,"commits":[{"message":null},{"message":null}],"files":[{"old_path":null,"path":"f","file_mode":{"Unix":33188},"sections":[?]},{"old_path":null,"path":"g","file_mode":{"Unix":33188},"sections":[?]}]}
+LONG_PATH_AND_FILE_OF_1 {"is_read_only":false,"commits":[{"message":null},{"message":null}],"files":[{"old_path":null,"path":"a/long/path/of/a/file","file_mode":{"Unix":33188},"sections":[]},{"old_path":null,"path":"g","file_mode":{"Unix":33188},"sections":[?]}]}
+DELETED_FILE_MODE_LAST {"is_read_only":false,"commits":[{"message":null},{"message":null}],"files":[{"old_path":null,"path":"r","file_mode":{"Unix":33188},"sections":[{"Changed":{"lines":[{"is_checked":?,"change_type":"Removed","line":"x\n"},{"is_checked":?,"change_type":"Removed","line":"y\n"}]}},{"FileMode":{"is_checked":?,"mode":"Absent"}}]}]}
+NEW_FILE_MODE_LAST {"is_read_only":false,"commits":[{"message":null},{"message":null}],"files":[{"old_path":null,"path":"n","file_mode":"Absent","sections":[{"Changed":{"lines":[{"is_checked":?,"change_type":"Added","line":"n\n"},{"is_checked":?,"change_type":"Added","line":"m\n"}]}},{"FileMode":{"is_checked":?,"mode":{"Unix":33188}}}]}]}
+STAYS_ABSENT {"is_read_only":false,"commits":[{"message":null},{"message":null}],"files":[{"old_path":null,"path":"u","file_mode":"Absent","sections":[{"Changed":{"lines":[{"is_checked":?,"change_type":"Added","line":"a\n"},{"is_checked":?,"change_type":"Added","line":"b\n"}]}},{"FileMode":{"is_checked":?,"mode":"Absent"}}]}]}
+SECOND_FILE_ONE_LINE {"is_read_only":false,"commits":[{"message":null},{"message":null}],"files":[{"old_path":null,"path":"p","file_mode":{"Unix":33188},"sections":[]},{"old_path":null,"path":"q","file_mode":{"Unix":33188},"sections":[{"Changed":{"lines":[{"is_checked":?,"change_type":"Added","line":"x\n"}]}}]}]}
+TWO_ADDED_LINES {"is_read_only":false,"commits":[{"message":null},{"message":null}],"files":[{"old_path":null,"path":"p","file_mode":{"Unix":33188},"sections":[{"Changed":{"lines":[{"is_checked":?,"change_type":"Added","line":"x\n"},{"is_checked":?,"change_type":"Added","line":"y\n"}]}}]}]}
+NEW_FILE_NO_LINES {"is_read_only":false,"commits":[{"message":null},{"message":null}],"files":[{"old_path":null,"path":"e","file_mode":"Absent","sections":[{"Changed":{"lines":[]}},{"FileMode":{"is_checked":?,"mode":{"Unix":33188}}}]}]}
+ADDED {"Changed":{"lines":[{"is_checked":false,"change_type":"Added","line":"x\n"}]}}
+REMOVED {"Changed":{"lines":[{"is_checked":false,"change_type":"Removed","line":"y\n"}]}}
+CHECKED {"Changed":{"lines":[{"is_checked":true,"change_type":"Added","line":"c\n"}]}}
+NO_LINES {"Changed":{"lines":[]}}
+TEN_ADDED {"Changed":{"lines":[{"is_checked":false,"change_type":"Added","line":"0\n"},{"is_checked":false,"change_type":"Added","line":"1\n"},{"is_checked":false,"change_type":"Added","line":"2\n"},{"is_checked":false,"change_type":"Added","line":"3\n"},{"is_checked":false,"change_type":"Added","line":"4\n"},{"is_checked":false,"change_type":"Added","line":"5\n"},{"is_checked":false,"change_type":"Added","line":"6\n"},{"is_checked":false,"change_type":"Added","line":"7\n"},{"is_checked":false,"change_type":"Added","line":"8\n"},{"is_checked":false,"change_type":"Added","line":"9\n"}]}}
+LONG_LINE_AND_NO_END {"Changed":{"lines":[{"is_checked":false,"change_type":"Added","line":"the first line of a long file\n"},{"is_checked":true,"change_type":"Removed","line":"no end"}]}}
+CONTEXT_0 {"Unchanged":{"lines":[]}}
+CONTEXT_1 {"Unchanged":{"lines":["a\n"]}}
+CONTEXT_3 {"Unchanged":{"lines":["a\n","b\n","c\n"]}}
+CONTEXT_4 {"Unchanged":{"lines":["a\n","b\n","c\n","d\n"]}}
+CONTEXT_6 {"Unchanged":{"lines":["a\n","b\n","c\n","d\n","e\n","f\n"]}}
+CONTEXT_7 {"Unchanged":{"lines":["a\n","b\n","c\n","d\n","e\n","f\n","g\n"]}}
+MODE_CHANGE {"FileMode":{"is_checked":false,"mode":{"Unix":33261}}}
+DELETION {"FileMode":{"is_checked":true,"mode":"Absent"}}
+BINARY_NONE {"Binary":{"is_checked":false,"old_description":null,"new_description":null}}
+BINARY_OLD {"Binary":{"is_checked":false,"old_description":"a","new_description":null}}
+BINARY_BOTH {"Binary":{"is_checked":false,"old_description":"a","new_description":"b"}}
+BINARY_NEW {"Binary":{"is_checked":false,"old_description":null,"new_description":"b"}}
 "#;
 
-/// A row for each script: its lines, `=>`, the status, and the lines of the output, parted by ` | `. A state stands in `«»`, by its
-/// name and what its `?` are. A script that begins with a state is run on 80 by 24, or on the size that stands before the state, with a
-/// batch for each word behind it; words joined by `,` are one batch. In a script `␍` is a carriage return, `␉` a tab, and a text that ends
-/// in `␃` has no line end there. A line that begins with `| ` continues the row above it. In an output a row of a screen lacks the spaces
-/// at its end and the quote behind them, a screen lacks its blank rows at the end (but not its first row), and `…` at the end of a row
-/// stands for the rest of an output.
+/// A row for each script: its lines, `=>`, the status, and the lines of the output. A ` | `
+/// separates two lines.
+///
+/// A state is written in `«»`: its name, and then a word for each `?`. A script that begins with a
+/// state runs on 80 by 24, or on the size before the state. Each word after the state is a batch;
+/// words joined by `,` are one batch.
+///
+/// In a script `␍` is a carriage return and `␉` a tab. A text that ends in `␃` has no line end
+/// there. A line that begins with `| ` continues the row above it.
+///
+/// In an output, rows of a screen lack the spaces at their ends and the closing quote. A screen
+/// lacks its blank rows at the end, but not its first row. A `…` at the end of a row stands for the
+/// rest of the output.
 pub const ROWS: &str = r##"
 # The form of a script: sizes, spaces, carriage returns, comments, empty lines, leading zeros, and no line end at the end.
-size 80 24 | «NOTHING» | script | batch c => 0 | accepted | «PADDED»
-  size  0080 65535 ␍ | ␍ | «NOTHING»␍ |  script␍ | ␍ | # a comment␍ |   batch   c  ␃ => 0 | accepted | «PADDED»
-size 0 0 |  | { "files" : [ ], |  | "commits":[],"is_read_only":false } | script | batch c => 0 | accepted | «PADDED»
+size 80 24 | «EMPTY_STATE» | script | batch c => 0 | accepted | «TWO_COMMITS»
+  size  0080 65535 ␍ | ␍ | «EMPTY_STATE»␍ |  script␍ | ␍ | # a comment␍ |   batch   c  ␃ => 0 | accepted | «TWO_COMMITS»
+size 0 0 |  | { "files" : [ ], |  | "commits":[],"is_read_only":false } | script | batch c => 0 | accepted | «TWO_COMMITS»
 ␃ => 2 | bad input: line 1
-size 65536 1 | «NOTHING» | script => 2 | bad input: line 1
-size 1 65536 | «NOTHING» | script => 2 | bad input: line 1
-size 99999999999999999999 1 | «NOTHING» | script => 2 | bad input: line 1
-size +80 24 | «NOTHING» | script => 2 | bad input: line 1
-size 80 -1 | «NOTHING» | script => 2 | bad input: line 1
-size 80 | «NOTHING» | script => 2 | bad input: line 1
-size 80 24 1 | «NOTHING» | script => 2 | bad input: line 1
-size␉80 24 | «NOTHING» | script => 2 | bad input: line 1
+size 65536 1 | «EMPTY_STATE» | script => 2 | bad input: line 1
+size 1 65536 | «EMPTY_STATE» | script => 2 | bad input: line 1
+size 99999999999999999999 1 | «EMPTY_STATE» | script => 2 | bad input: line 1
+size +80 24 | «EMPTY_STATE» | script => 2 | bad input: line 1
+size 80 -1 | «EMPTY_STATE» | script => 2 | bad input: line 1
+size 80 | «EMPTY_STATE» | script => 2 | bad input: line 1
+size 80 24 1 | «EMPTY_STATE» | script => 2 | bad input: line 1
+size␉80 24 | «EMPTY_STATE» | script => 2 | bad input: line 1
 size 80 24␍␃ => 2 | bad input: line 1
 size 80 24␃ => 2 | bad input: no script
-size 80 24 | «NOTHING» => 2 | bad input: no script
-size 80 24 | «NOTHING» | batch q => 2 | bad input: no script
-size 80 24 | «NOTHING» | script q => 2 | bad input: no script
-size 80 24 | «NOTHING» | script␍␃ => 2 | bad input: no script
-size 80 24 | «NOTHING» | script |  | batch zz => 2 | bad input: line 5
-size 80 24 | «NOTHING» | script | batch q | batches => 2 | bad input: line 5
-size 80 24 | «NOTHING» | script |   => 2 | bad input: line 4
-size 80 24 | «NOTHING» | script |  # no comment => 2 | bad input: line 4
-size 80 24 | «NOTHING» | script | batch␉q => 2 | bad input: line 4
-size 80 24 | «NOTHING» | script | batch q␍␃ => 2 | bad input: line 4
-size 80 24 | «NOTHING» | script | script => 2 | bad input: line 4
+size 80 24 | «EMPTY_STATE» => 2 | bad input: no script
+size 80 24 | «EMPTY_STATE» | batch q => 2 | bad input: no script
+size 80 24 | «EMPTY_STATE» | script q => 2 | bad input: no script
+size 80 24 | «EMPTY_STATE» | script␍␃ => 2 | bad input: no script
+size 80 24 | «EMPTY_STATE» | script |  | batch zz => 2 | bad input: line 5
+size 80 24 | «EMPTY_STATE» | script | batch q | batches => 2 | bad input: line 5
+size 80 24 | «EMPTY_STATE» | script |   => 2 | bad input: line 4
+size 80 24 | «EMPTY_STATE» | script |  # no comment => 2 | bad input: line 4
+size 80 24 | «EMPTY_STATE» | script | batch␉q => 2 | bad input: line 4
+size 80 24 | «EMPTY_STATE» | script | batch q␍␃ => 2 | bad input: line 4
+size 80 24 | «EMPTY_STATE» | script | script => 2 | bad input: line 4
 
 # A bad command comes before a bad state, and that before a run.
 size 20 5 | { | script | batch zz => 2 | bad input: line 4
@@ -101,360 +108,360 @@ size 20 5 | {"is_read_only":false,"commits":[{"message":null},{"message":null},{
 null => 2 | bad input: line 1
 size 1 1 | null | script => 2 | bad state
 size 1 1 | [] | script => 2 | bad state
-size 1 1 | «NOTHING» 1 | script => 2 | bad state
+size 1 1 | «EMPTY_STATE» 1 | script => 2 | bad state
 size 1 1 | {"is_read_only":false,"commits":[],"files":[] | script => 2 | bad state
 size 1 1 | {"is_read_only":false,"commits":[]} | script => 2 | bad state
 size 1 1 | {"is_read_only":false,"commits":[{}],"files":[]} | script => 2 | bad state
 size 1 1 | {"is_read_only":false,"commits":[],"files":[],"more":1} | script => 2 | bad state
 size 1 1 | {"is_read_only":0,"commits":[],"files":[]} | script => 2 | bad state
 size 1 1 | {"is_read_only":false,"commits":{},"files":[]} | script => 2 | bad state
-«MESSAGES null 1» c => 2 | bad state
-«MESSAGES null "\ud800"» c => 2 | bad state
-«FILE {"Hidden":{"lines":[]}}» c => 2 | bad state
-«FILE {"Unchanged":{"lines":[]},"Changed":{"lines":[]}}» c => 2 | bad state
-«FILE {"Unchanged":{"lines":[null]}}» c => 2 | bad state
-«FILE {"Unchanged":{"lines":["a"],"more":0}}» c => 2 | bad state
-«FILE {"Changed":{"lines":["a"]}}» c => 2 | bad state
-«FILE {"Changed":{"lines":[{"is_checked":true,"change_type":"Moved","line":"a"}]}}» c => 2 | bad state
-«FILE {"Changed":{"lines":[{"is_checked":true,"line":"a"}]}}» c => 2 | bad state
-«FILE {"FileMode":{"is_checked":true,"mode":"Unix"}}» c => 2 | bad state
-«FILE {"FileMode":{"is_checked":true,"mode":{"Unix":-1}}}» c => 2 | bad state
-«FILE {"FileMode":{"is_checked":true,"mode":{"Unix":-0}}}» c => 2 | bad state
-«FILE {"FileMode":{"is_checked":true,"mode":{"Unix":1.0}}}» c => 2 | bad state
-«FILE {"FileMode":{"is_checked":true,"mode":{"Unix":33188.5}}}» c => 2 | bad state
-«FILE {"FileMode":{"is_checked":true,"mode":{"Unix":1e2}}}» c => 2 | bad state
-«FILE {"FileMode":{"is_checked":true,"mode":{"Unix":18446744073709551616}}}» c => 2 | bad state
-«FILE {"Binary":{"is_checked":true,"old_description":null}}» c => 2 | bad state
-«FILE {"Binary":{"is_checked":null,"old_description":null,"new_description":null}}» c => 2 | bad state
+«TWO_MESSAGES null 1» c => 2 | bad state
+«TWO_MESSAGES null "\ud800"» c => 2 | bad state
+«READ_ONLY_RENAMED_FILE_OF_1 {"Hidden":{"lines":[]}}» c => 2 | bad state
+«READ_ONLY_RENAMED_FILE_OF_1 {"Unchanged":{"lines":[]},"Changed":{"lines":[]}}» c => 2 | bad state
+«READ_ONLY_RENAMED_FILE_OF_1 {"Unchanged":{"lines":[null]}}» c => 2 | bad state
+«READ_ONLY_RENAMED_FILE_OF_1 {"Unchanged":{"lines":["a"],"more":0}}» c => 2 | bad state
+«READ_ONLY_RENAMED_FILE_OF_1 {"Changed":{"lines":["a"]}}» c => 2 | bad state
+«READ_ONLY_RENAMED_FILE_OF_1 {"Changed":{"lines":[{"is_checked":true,"change_type":"Moved","line":"a"}]}}» c => 2 | bad state
+«READ_ONLY_RENAMED_FILE_OF_1 {"Changed":{"lines":[{"is_checked":true,"line":"a"}]}}» c => 2 | bad state
+«READ_ONLY_RENAMED_FILE_OF_1 {"FileMode":{"is_checked":true,"mode":"Unix"}}» c => 2 | bad state
+«READ_ONLY_RENAMED_FILE_OF_1 {"FileMode":{"is_checked":true,"mode":{"Unix":-1}}}» c => 2 | bad state
+«READ_ONLY_RENAMED_FILE_OF_1 {"FileMode":{"is_checked":true,"mode":{"Unix":-0}}}» c => 2 | bad state
+«READ_ONLY_RENAMED_FILE_OF_1 {"FileMode":{"is_checked":true,"mode":{"Unix":1.0}}}» c => 2 | bad state
+«READ_ONLY_RENAMED_FILE_OF_1 {"FileMode":{"is_checked":true,"mode":{"Unix":33188.5}}}» c => 2 | bad state
+«READ_ONLY_RENAMED_FILE_OF_1 {"FileMode":{"is_checked":true,"mode":{"Unix":1e2}}}» c => 2 | bad state
+«READ_ONLY_RENAMED_FILE_OF_1 {"FileMode":{"is_checked":true,"mode":{"Unix":18446744073709551616}}}» c => 2 | bad state
+«READ_ONLY_RENAMED_FILE_OF_1 {"Binary":{"is_checked":true,"old_description":null}}» c => 2 | bad state
+«READ_ONLY_RENAMED_FILE_OF_1 {"Binary":{"is_checked":null,"old_description":null,"new_description":null}}» c => 2 | bad state
 
 # Of a key that stands twice the last value counts; JSON nests 127 levels.
-«TWICE true» c => 0 | accepted | «PADDED»
-«TWICE [[[[[[[[[[[[[[[[[[[[[[[[[[[[[[[[[[[[[[[[[[[[[[[[[[[[[[[[[[[[[[[[[[[[[[[[[[[[[[[[[[[[[[[[[[[[[[[[[[[[[[[[[[[[[[[[[[[[[[[[[[[[[[]]]]]]]]]]]]]]]]]]]]]]]]]]]]]]]]]]]]]]]]]]]]]]]]]]]]]]]]]]]]]]]]]]]]]]]]]]]]]]]]]]]]]]]]]]]]]]]]]]]]]]]]]]]]]]]]]]]]]]]]]]]]]]» c => 0 | accepted | «PADDED»
-«TWICE [[[[[[[[[[[[[[[[[[[[[[[[[[[[[[[[[[[[[[[[[[[[[[[[[[[[[[[[[[[[[[[[[[[[[[[[[[[[[[[[[[[[[[[[[[[[[[[[[[[[[[[[[[[[[[[[[[[[[[[[[[[[[[[]]]]]]]]]]]]]]]]]]]]]]]]]]]]]]]]]]]]]]]]]]]]]]]]]]]]]]]]]]]]]]]]]]]]]]]]]]]]]]]]]]]]]]]]]]]]]]]]]]]]]]]]]]]]]]]]]]]]]]]]]]]]]]]» c => 2 | bad state
+«DUPLICATE_MEMBER true» c => 0 | accepted | «TWO_COMMITS»
+«DUPLICATE_MEMBER [[[[[[[[[[[[[[[[[[[[[[[[[[[[[[[[[[[[[[[[[[[[[[[[[[[[[[[[[[[[[[[[[[[[[[[[[[[[[[[[[[[[[[[[[[[[[[[[[[[[[[[[[[[[[[[[[[[[[[[[[[[[[[]]]]]]]]]]]]]]]]]]]]]]]]]]]]]]]]]]]]]]]]]]]]]]]]]]]]]]]]]]]]]]]]]]]]]]]]]]]]]]]]]]]]]]]]]]]]]]]]]]]]]]]]]]]]]]]]]]]]]]]]]]]]]]» c => 0 | accepted | «TWO_COMMITS»
+«DUPLICATE_MEMBER [[[[[[[[[[[[[[[[[[[[[[[[[[[[[[[[[[[[[[[[[[[[[[[[[[[[[[[[[[[[[[[[[[[[[[[[[[[[[[[[[[[[[[[[[[[[[[[[[[[[[[[[[[[[[[[[[[[[[[[[[[[[[[[]]]]]]]]]]]]]]]]]]]]]]]]]]]]]]]]]]]]]]]]]]]]]]]]]]]]]]]]]]]]]]]]]]]]]]]]]]]]]]]]]]]]]]]]]]]]]]]]]]]]]]]]]]]]]]]]]]]]]]]]]]]]]]]» c => 2 | bad state
 size 1 1 | {"is_read_only":false,"commits":[],"files":[[[[[[[[[[[[[[[[[[[[[[[[[[[[[[[[[[[[[[[[[[[[[[[[[[[[[[[[[[[[[[[[[[[[[[[[[[[[[[[[[[[[[[[[[[[[[[[[[[[[[[[[[[[[[[[[[[[[[[[[[[[[[[[[[[[[[[[[[[[[[[[[[[[[[[[[[[[[[[[[[[[[[[[[[[[[[[[[[[[[[[[[[[[[[[[[[[[[[[[[]]]]]]]]]]]]]]]]]]]]]]]]]]]]]]]]]]]]]]]]]]]]]]]]]]]]]]]]]]]]]]]]]]]]]]]]]]]]]]]]]]]]]]]]]]]]]]]]]]]]]]]]]]]]]]]]]]]]]]]]]]]]]]]]]]]]]]]]]]]]]]]]]]]]]]]]]]]]]]]]]]]]]]]]]]]]]]]]]]]]]]]]]]]]]]]]]]]]]]]]} | script => 2 | bad state
 size 1 1 | {"is_read_only":false,"comm | script => 2 | bad state
 
 # What is printed of a state is what was read: each kind of section, and both commits' messages.
-«FILE {"Unchanged":{"lines":["a\n","\u0001\"\\"]}}» c => 0 | accepted | «FILE {"Unchanged":{"lines":["a\n","\u0001\"\\"]}}» | file 0 | selected 1777777777777777777777 text "a\n\u0001\"\\" | unselected 1777777777777777777777 text "a\n\u0001\"\\"
-«FILE {"Changed":{"lines":[{"is_checked":true,"change_type":"Added","line":"b\n"},{"is_checked":false,"change_type":"Removed","line":"日"}]}}» c => 0 | accepted | «FILE {"Changed":{"lines":[{"is_checked":true,"change_type":"Added","line":"b\n"},{"is_checked":false,"change_type":"Removed","line":"日"}]}}» | file 0 | selected 1777777777777777777777 text "b\n日" | unselected 1777777777777777777777 unchanged
-«FILE {"FileMode":{"is_checked":false,"mode":"Absent"}}» c => 0 | accepted | «FILE {"FileMode":{"is_checked":false,"mode":"Absent"}}» | file 0 | selected 1777777777777777777777 unchanged | unselected <absent> unchanged
-«FILE {"FileMode":{"is_checked":true,"mode":{"Unix":0}}}» c => 0 | accepted | «FILE {"FileMode":{"is_checked":true,"mode":{"Unix":0}}}» | file 0 | selected 0 unchanged | unselected 1777777777777777777777 unchanged
-«FILE {"Binary":{"is_checked":true,"old_description":null,"new_description":"x"}}» c => 0 | accepted | «FILE {"Binary":{"is_checked":true,"old_description":null,"new_description":"x"}}» | file 0 | selected 1777777777777777777777 binary null "x" | unselected 1777777777777777777777 unchanged
-«FILE {"Binary":{"is_checked":false,"old_description":"o","new_description":null}}» c => 0 | accepted | «FILE {"Binary":{"is_checked":false,"old_description":"o","new_description":null}}» | file 0 | selected 1777777777777777777777 unchanged | unselected 1777777777777777777777 binary "o" null
-«MESSAGES "m" "\"n\"\n"» c => 0 | accepted | «MESSAGES "m" "\"n\"\n"»
-«PLAIN» c => 0 | accepted | «PLAIN» | file 0 | selected 100644 unchanged | unselected 100644 unchanged
+«READ_ONLY_RENAMED_FILE_OF_1 {"Unchanged":{"lines":["a\n","\u0001\"\\"]}}» c => 0 | accepted | «READ_ONLY_RENAMED_FILE_OF_1 {"Unchanged":{"lines":["a\n","\u0001\"\\"]}}» | file 0 | selected 1777777777777777777777 text "a\n\u0001\"\\" | unselected 1777777777777777777777 text "a\n\u0001\"\\"
+«READ_ONLY_RENAMED_FILE_OF_1 {"Changed":{"lines":[{"is_checked":true,"change_type":"Added","line":"b\n"},{"is_checked":false,"change_type":"Removed","line":"日"}]}}» c => 0 | accepted | «READ_ONLY_RENAMED_FILE_OF_1 {"Changed":{"lines":[{"is_checked":true,"change_type":"Added","line":"b\n"},{"is_checked":false,"change_type":"Removed","line":"日"}]}}» | file 0 | selected 1777777777777777777777 text "b\n日" | unselected 1777777777777777777777 unchanged
+«READ_ONLY_RENAMED_FILE_OF_1 {"FileMode":{"is_checked":false,"mode":"Absent"}}» c => 0 | accepted | «READ_ONLY_RENAMED_FILE_OF_1 {"FileMode":{"is_checked":false,"mode":"Absent"}}» | file 0 | selected 1777777777777777777777 unchanged | unselected <absent> unchanged
+«READ_ONLY_RENAMED_FILE_OF_1 {"FileMode":{"is_checked":true,"mode":{"Unix":0}}}» c => 0 | accepted | «READ_ONLY_RENAMED_FILE_OF_1 {"FileMode":{"is_checked":true,"mode":{"Unix":0}}}» | file 0 | selected 0 unchanged | unselected 1777777777777777777777 unchanged
+«READ_ONLY_RENAMED_FILE_OF_1 {"Binary":{"is_checked":true,"old_description":null,"new_description":"x"}}» c => 0 | accepted | «READ_ONLY_RENAMED_FILE_OF_1 {"Binary":{"is_checked":true,"old_description":null,"new_description":"x"}}» | file 0 | selected 1777777777777777777777 binary null "x" | unselected 1777777777777777777777 unchanged
+«READ_ONLY_RENAMED_FILE_OF_1 {"Binary":{"is_checked":false,"old_description":"o","new_description":null}}» c => 0 | accepted | «READ_ONLY_RENAMED_FILE_OF_1 {"Binary":{"is_checked":false,"old_description":"o","new_description":null}}» | file 0 | selected 1777777777777777777777 unchanged | unselected 1777777777777777777777 binary "o" null
+«TWO_MESSAGES "m" "\"n\"\n"» c => 0 | accepted | «TWO_MESSAGES "m" "\"n\"\n"»
+«NO_SECTIONS» c => 0 | accepted | «NO_SECTIONS» | file 0 | selected 100644 unchanged | unselected 100644 unchanged
 
 # The two sides of a file: lines of each kind, a removal of all lines, a binary before a text, and a file that is made empty.
-«MIXED 1 0 0 1» c => 0 | accepted | «MIXED 1 0 0 1» | file 0 | selected 100644 text "a\nb\nc\n" | unselected 100644 text "a\nd\ne\n"
-«FILE {"Changed":{"lines":[{"is_checked":true,"change_type":"Removed","line":"x\n"}]}}» c => 0 | accepted | «FILE {"Changed":{"lines":[{"is_checked":true,"change_type":"Removed","line":"x\n"}]}}» | file 0 | selected 1777777777777777777777 text "" | unselected 1777777777777777777777 text "x\n"
-«FILE {"Changed":{"lines":[{"is_checked":true,"change_type":"Removed","line":"x\n"}]}},{"FileMode":{"is_checked":true,"mode":"Absent"}}» c => 0 | accepted | «FILE {"Changed":{"lines":[{"is_checked":true,"change_type":"Removed","line":"x\n"}]}},{"FileMode":{"is_checked":true,"mode":"Absent"}}» | file 0 | selected <absent> unchanged | unselected 1777777777777777777777 text "x\n"
-«FILE {"Binary":{"is_checked":true,"old_description":"o","new_description":"n"}},{"Unchanged":{"lines":["z\n"]}}» c => 0 | accepted | «FILE {"Binary":{"is_checked":true,"old_description":"o","new_description":"n"}},{"Unchanged":{"lines":["z\n"]}}» | file 0 | selected 1777777777777777777777 binary "o" "n" | unselected 1777777777777777777777 text "z\n"
-«BLANK 1» c => 0 | accepted | «BLANK 1» | file 0 | selected 100644 text "" | unselected <absent> unchanged
-«BLANK 0» c => 0 | accepted | «BLANK 0» | file 0 | selected <absent> unchanged | unselected 100644 text ""
+«ALTERNATING_LINES 1 0 0 1» c => 0 | accepted | «ALTERNATING_LINES 1 0 0 1» | file 0 | selected 100644 text "a\nb\nc\n" | unselected 100644 text "a\nd\ne\n"
+«READ_ONLY_RENAMED_FILE_OF_1 {"Changed":{"lines":[{"is_checked":true,"change_type":"Removed","line":"x\n"}]}}» c => 0 | accepted | «READ_ONLY_RENAMED_FILE_OF_1 {"Changed":{"lines":[{"is_checked":true,"change_type":"Removed","line":"x\n"}]}}» | file 0 | selected 1777777777777777777777 text "" | unselected 1777777777777777777777 text "x\n"
+«READ_ONLY_RENAMED_FILE_OF_1 {"Changed":{"lines":[{"is_checked":true,"change_type":"Removed","line":"x\n"}]}},{"FileMode":{"is_checked":true,"mode":"Absent"}}» c => 0 | accepted | «READ_ONLY_RENAMED_FILE_OF_1 {"Changed":{"lines":[{"is_checked":true,"change_type":"Removed","line":"x\n"}]}},{"FileMode":{"is_checked":true,"mode":"Absent"}}» | file 0 | selected <absent> unchanged | unselected 1777777777777777777777 text "x\n"
+«READ_ONLY_RENAMED_FILE_OF_1 {"Binary":{"is_checked":true,"old_description":"o","new_description":"n"}},{"Unchanged":{"lines":["z\n"]}}» c => 0 | accepted | «READ_ONLY_RENAMED_FILE_OF_1 {"Binary":{"is_checked":true,"old_description":"o","new_description":"n"}},{"Unchanged":{"lines":["z\n"]}}» | file 0 | selected 1777777777777777777777 binary "o" "n" | unselected 1777777777777777777777 text "z\n"
+«NEW_EMPTY_FILE 1» c => 0 | accepted | «NEW_EMPTY_FILE 1» | file 0 | selected 100644 text "" | unselected <absent> unchanged
+«NEW_EMPTY_FILE 0» c => 0 | accepted | «NEW_EMPTY_FILE 0» | file 0 | selected <absent> unchanged | unselected 100644 text ""
 
 # The example of a new file of one line: a bad word, the end of the script, giving up, and the toggle that creates the file.
-«LINE 0 0» zz => 2 | bad input: line 4
-«LINE 0 0» none => 1 | fault: failed to read user input: no events left
-«LINE 0 0» q => 1 | fault: cancelled by user
-«LINE 0 0» l l space c => 0 | accepted | «LINE 1 1» | file 0 | selected 100644 text "n\n" | unselected <absent> unchanged
+«NEW_FILE_ONE_LINE 0 0» zz => 2 | bad input: line 4
+«NEW_FILE_ONE_LINE 0 0» none => 1 | fault: failed to read user input: no events left
+«NEW_FILE_ONE_LINE 0 0» q => 1 | fault: cancelled by user
+«NEW_FILE_ONE_LINE 0 0» l l space c => 0 | accepted | «NEW_FILE_ONE_LINE 1 1» | file 0 | selected 100644 text "n\n" | unselected <absent> unchanged
 
 # A new file, step by step; a toggle of its creation, and of its section.
-«NEW 0 0 0» l l space c => 0 | accepted | «NEW 1 1 0» | file 0 | selected 100644 text "a\n" | unselected <absent> text "b\n"
-«NEW 0 0 0» l l space h k space c => 0 | accepted | «NEW 0 0 0» | file 0 | selected <absent> unchanged | unselected 100644 text "a\nb\n"
-«NEW 0 0 0» l l space h k space j space c => 0 | accepted | «NEW 1 1 1» | file 0 | selected 100644 text "a\nb\n" | unselected <absent> unchanged
-«NEW 0 0 0» l l space h k space j space l j space c => 0 | accepted | «NEW 1 1 0» | file 0 | selected 100644 text "a\n" | unselected <absent> text "b\n"
-«NEW 0 0 0» l space c => 0 | accepted | «NEW 1 0 0» | file 0 | selected 100644 text "" | unselected <absent> text "a\nb\n"
-«NEW 1 1 1» l space c => 0 | accepted | «NEW 0 0 0» | file 0 | selected <absent> unchanged | unselected 100644 text "a\nb\n"
-«NEW 1 1 0» l j space c => 0 | accepted | «NEW 1 0 0» | file 0 | selected 100644 text "" | unselected <absent> text "a\nb\n"
+«NEW_FILE_MODE_FIRST 0 0 0» l l space c => 0 | accepted | «NEW_FILE_MODE_FIRST 1 1 0» | file 0 | selected 100644 text "a\n" | unselected <absent> text "b\n"
+«NEW_FILE_MODE_FIRST 0 0 0» l l space h k space c => 0 | accepted | «NEW_FILE_MODE_FIRST 0 0 0» | file 0 | selected <absent> unchanged | unselected 100644 text "a\nb\n"
+«NEW_FILE_MODE_FIRST 0 0 0» l l space h k space j space c => 0 | accepted | «NEW_FILE_MODE_FIRST 1 1 1» | file 0 | selected 100644 text "a\nb\n" | unselected <absent> unchanged
+«NEW_FILE_MODE_FIRST 0 0 0» l l space h k space j space l j space c => 0 | accepted | «NEW_FILE_MODE_FIRST 1 1 0» | file 0 | selected 100644 text "a\n" | unselected <absent> text "b\n"
+«NEW_FILE_MODE_FIRST 0 0 0» l space c => 0 | accepted | «NEW_FILE_MODE_FIRST 1 0 0» | file 0 | selected 100644 text "" | unselected <absent> text "a\nb\n"
+«NEW_FILE_MODE_FIRST 1 1 1» l space c => 0 | accepted | «NEW_FILE_MODE_FIRST 0 0 0» | file 0 | selected <absent> unchanged | unselected 100644 text "a\nb\n"
+«NEW_FILE_MODE_FIRST 1 1 0» l j space c => 0 | accepted | «NEW_FILE_MODE_FIRST 1 0 0» | file 0 | selected 100644 text "" | unselected <absent> text "a\nb\n"
 
 # A deleted file, step by step; a toggle of its deletion, and of its section.
-«GONE 0 0 0» l space c => 0 | accepted | «GONE 1 1 1» | file 0 | selected <absent> unchanged | unselected 100644 text "a\nb\n"
-«GONE 0 0 0» l space l space c => 0 | accepted | «GONE 0 0 1» | file 0 | selected 100644 text "a\n" | unselected <absent> text "b\n"
-«GONE 0 0 0» l space l space space c => 0 | accepted | «GONE 0 1 1» | file 0 | selected 100644 text "" | unselected <absent> text "a\nb\n"
-«GONE 1 1 1» l space c => 0 | accepted | «GONE 0 1 1» | file 0 | selected 100644 text "" | unselected <absent> text "a\nb\n"
-«GONE 1 1 1» l j space c => 0 | accepted | «GONE 0 0 0» | file 0 | selected 100644 text "a\nb\n" | unselected <absent> unchanged
-«GONE 0 0 0» l j space c => 0 | accepted | «GONE 0 1 1» | file 0 | selected 100644 text "" | unselected <absent> text "a\nb\n"
+«DELETED_FILE_MODE_FIRST 0 0 0» l space c => 0 | accepted | «DELETED_FILE_MODE_FIRST 1 1 1» | file 0 | selected <absent> unchanged | unselected 100644 text "a\nb\n"
+«DELETED_FILE_MODE_FIRST 0 0 0» l space l space c => 0 | accepted | «DELETED_FILE_MODE_FIRST 0 0 1» | file 0 | selected 100644 text "a\n" | unselected <absent> text "b\n"
+«DELETED_FILE_MODE_FIRST 0 0 0» l space l space space c => 0 | accepted | «DELETED_FILE_MODE_FIRST 0 1 1» | file 0 | selected 100644 text "" | unselected <absent> text "a\nb\n"
+«DELETED_FILE_MODE_FIRST 1 1 1» l space c => 0 | accepted | «DELETED_FILE_MODE_FIRST 0 1 1» | file 0 | selected 100644 text "" | unselected <absent> text "a\nb\n"
+«DELETED_FILE_MODE_FIRST 1 1 1» l j space c => 0 | accepted | «DELETED_FILE_MODE_FIRST 0 0 0» | file 0 | selected 100644 text "a\nb\n" | unselected <absent> unchanged
+«DELETED_FILE_MODE_FIRST 0 0 0» l j space c => 0 | accepted | «DELETED_FILE_MODE_FIRST 0 1 1» | file 0 | selected 100644 text "" | unselected <absent> text "a\nb\n"
 
 # A file that is new and deleted: the deletion takes the line, and leaves the creation alone.
-«BOTH 0 0 0» l j j j space c => 0 | accepted | «BOTH 1 0 1» | file 0 | selected <absent> text "a\n" | unselected 100644 text ""
-«BOTH 0 0 0» l l space c => 0 | accepted | «BOTH 1 1 1» | file 0 | selected 100644 text "a\n" | unselected <absent> unchanged
-«BOTH 1 1 1» l l space c => 0 | accepted | «BOTH 0 1 0» | file 0 | selected 100644 text "" | unselected <absent> text "a\n"
-«BOTH 1 1 1» l j j j space c => 0 | accepted | «BOTH 0 0 0» | file 0 | selected <absent> unchanged | unselected 100644 text "a\n"
+«NEW_FILE_TWO_MODES 0 0 0» l j j j space c => 0 | accepted | «NEW_FILE_TWO_MODES 1 0 1» | file 0 | selected <absent> text "a\n" | unselected 100644 text ""
+«NEW_FILE_TWO_MODES 0 0 0» l l space c => 0 | accepted | «NEW_FILE_TWO_MODES 1 1 1» | file 0 | selected 100644 text "a\n" | unselected <absent> unchanged
+«NEW_FILE_TWO_MODES 1 1 1» l l space c => 0 | accepted | «NEW_FILE_TWO_MODES 0 1 0» | file 0 | selected 100644 text "" | unselected <absent> text "a\n"
+«NEW_FILE_TWO_MODES 1 1 1» l j j j space c => 0 | accepted | «NEW_FILE_TWO_MODES 0 0 0» | file 0 | selected <absent> unchanged | unselected 100644 text "a\n"
 
 # A section of bytes, and a whole file, have no effect on the rest.
-«BYTES 0 0 0 0» l space c => 0 | accepted | «BYTES 1 0 0 0» | file 0 | selected <absent> binary null "x y" | unselected 100644 text "a\n"
-«BYTES 1 0 0 1» l space c => 0 | accepted | «BYTES 0 0 0 1» | file 0 | selected <absent> unchanged | unselected 100644 binary null "x y"
-«GONE 0 1 0» space c => 0 | accepted | «GONE 0 0 0» | file 0 | selected 100644 text "a\nb\n" | unselected <absent> unchanged
-«BOTH 0 0 0» space c => 0 | accepted | «BOTH 1 1 1» | file 0 | selected 100644 text "a\n" | unselected <absent> unchanged
+«NEW_BINARY_FILE_TWO_MODES 0 0 0 0» l space c => 0 | accepted | «NEW_BINARY_FILE_TWO_MODES 1 0 0 0» | file 0 | selected <absent> binary null "x y" | unselected 100644 text "a\n"
+«NEW_BINARY_FILE_TWO_MODES 1 0 0 1» l space c => 0 | accepted | «NEW_BINARY_FILE_TWO_MODES 0 0 0 1» | file 0 | selected <absent> unchanged | unselected 100644 binary null "x y"
+«DELETED_FILE_MODE_FIRST 0 1 0» space c => 0 | accepted | «DELETED_FILE_MODE_FIRST 0 0 0» | file 0 | selected 100644 text "a\nb\n" | unselected <absent> unchanged
+«NEW_FILE_TWO_MODES 0 0 0» space c => 0 | accepted | «NEW_FILE_TWO_MODES 1 1 1» | file 0 | selected 100644 text "a\n" | unselected <absent> unchanged
 
 # Toggles of a file and of a section that are checked in part, and of what must not be changed.
-«TREE 0 1 0 0 0» space c => 0 | accepted | «TREE 0 0 0 0 0» | file 0 | selected 100644 text "" | unselected 100644 text "x\ny\nz\n" | file 1 | selected 100644 text "" | unselected 100644 text "w\n"
-«TREE 0 1 0 1 0» l space c => 0 | accepted | «TREE 0 0 0 1 0» | file 0 | selected 100644 text "z\n" | unselected 100644 text "x\ny\n" | file 1 | selected 100644 text "" | unselected 100644 text "w\n"
-«TREE 1 0 1 0 0» space l space l space c => 0 | accepted | «TREE 1 0 1 0 0» | file 0 | selected 100644 text "y\n" | unselected 100644 text "x\nz\n" | file 1 | selected 100644 text "" | unselected 100644 text "w\n"
+«TWO_FILES 0 1 0 0 0» space c => 0 | accepted | «TWO_FILES 0 0 0 0 0» | file 0 | selected 100644 text "" | unselected 100644 text "x\ny\nz\n" | file 1 | selected 100644 text "" | unselected 100644 text "w\n"
+«TWO_FILES 0 1 0 1 0» l space c => 0 | accepted | «TWO_FILES 0 0 0 1 0» | file 0 | selected 100644 text "z\n" | unselected 100644 text "x\ny\n" | file 1 | selected 100644 text "" | unselected 100644 text "w\n"
+«TWO_FILES 1 0 1 0 0» space l space l space c => 0 | accepted | «TWO_FILES 1 0 1 0 0» | file 0 | selected 100644 text "y\n" | unselected 100644 text "x\nz\n" | file 1 | selected 100644 text "" | unselected 100644 text "w\n"
 
 # Giving up where nothing is marked and no message is written, and what ends a run.
-«TREE 0 0 0 0 0» q c => 1 | fault: cancelled by user
-«TREE 0 0 0 0 0» ctrl-c c => 1 | fault: cancelled by user
-«MESSAGES "" ""» q c => 1 | fault: cancelled by user
-«PLAIN» space q c => 1 | fault: cancelled by user
-«NOTHING» q c => 1 | fault: cancelled by user
-«NOTHING» c q => 0 | accepted | «PADDED»
-«NOTHING» l h shift-h j k space => 1 | fault: failed to read user input: no events left
-size 80 24 | {"is_read_only":false,"commits":[{"message":"m"}],"files":[]} | script | batch c => 0 | accepted | «MESSAGES "m" null»
+«TWO_FILES 0 0 0 0 0» q c => 1 | fault: cancelled by user
+«TWO_FILES 0 0 0 0 0» ctrl-c c => 1 | fault: cancelled by user
+«TWO_MESSAGES "" ""» q c => 1 | fault: cancelled by user
+«NO_SECTIONS» space q c => 1 | fault: cancelled by user
+«EMPTY_STATE» q c => 1 | fault: cancelled by user
+«EMPTY_STATE» c q => 0 | accepted | «TWO_COMMITS»
+«EMPTY_STATE» l h shift-h j k space => 1 | fault: failed to read user input: no events left
+size 80 24 | {"is_read_only":false,"commits":[{"message":"m"}],"files":[]} | script | batch c => 0 | accepted | «TWO_MESSAGES "m" null»
 
 # The quit dialog: what opens it, what its buttons and keys do, and that all else waits.
-«LINE 1 1» q c => 1 | fault: failed to read user input: no events left
-«LINE 1 1» ctrl-c c => 1 | fault: failed to read user input: no events left
-«TREE 0 0 0 0 1» q c => 1 | fault: failed to read user input: no events left
-«TREE 0 1 0 0 0» q c => 1 | fault: failed to read user input: no events left
-«MESSAGES "m" null» q c => 1 | fault: failed to read user input: no events left
-«MESSAGES null "n"» q c => 1 | fault: failed to read user input: no events left
-«MESSAGES "m" null» q h space c => 0 | accepted | «MESSAGES "m" null»
-«LINE 1 1» q space c => 1 | fault: cancelled by user
-«LINE 1 1» q ctrl-c c => 1 | fault: cancelled by user
-«LINE 1 1» ctrl-c space c => 1 | fault: cancelled by user
-«LINE 1 1» q h l space c => 1 | fault: cancelled by user
-«LINE 1 1» q j k space c => 1 | fault: cancelled by user
-«LINE 1 1» q h q q space c => 1 | fault: cancelled by user
-«LINE 1 1» q h space c => 0 | accepted | «LINE 1 1»…
-«LINE 1 1» q shift-h space c => 0 | accepted | «LINE 1 1»…
-«LINE 1 1» q q c => 0 | accepted | «LINE 1 1»…
-«LINE 1 1» q none q c => 0 | accepted | «LINE 1 1»…
-«TREE 0 1 0 0 0» q j q space c => 0 | accepted | «TREE 0 0 0 0 0»…
+«NEW_FILE_ONE_LINE 1 1» q c => 1 | fault: failed to read user input: no events left
+«NEW_FILE_ONE_LINE 1 1» ctrl-c c => 1 | fault: failed to read user input: no events left
+«TWO_FILES 0 0 0 0 1» q c => 1 | fault: failed to read user input: no events left
+«TWO_FILES 0 1 0 0 0» q c => 1 | fault: failed to read user input: no events left
+«TWO_MESSAGES "m" null» q c => 1 | fault: failed to read user input: no events left
+«TWO_MESSAGES null "n"» q c => 1 | fault: failed to read user input: no events left
+«TWO_MESSAGES "m" null» q h space c => 0 | accepted | «TWO_MESSAGES "m" null»
+«NEW_FILE_ONE_LINE 1 1» q space c => 1 | fault: cancelled by user
+«NEW_FILE_ONE_LINE 1 1» q ctrl-c c => 1 | fault: cancelled by user
+«NEW_FILE_ONE_LINE 1 1» ctrl-c space c => 1 | fault: cancelled by user
+«NEW_FILE_ONE_LINE 1 1» q h l space c => 1 | fault: cancelled by user
+«NEW_FILE_ONE_LINE 1 1» q j k space c => 1 | fault: cancelled by user
+«NEW_FILE_ONE_LINE 1 1» q h q q space c => 1 | fault: cancelled by user
+«NEW_FILE_ONE_LINE 1 1» q h space c => 0 | accepted | «NEW_FILE_ONE_LINE 1 1»…
+«NEW_FILE_ONE_LINE 1 1» q shift-h space c => 0 | accepted | «NEW_FILE_ONE_LINE 1 1»…
+«NEW_FILE_ONE_LINE 1 1» q q c => 0 | accepted | «NEW_FILE_ONE_LINE 1 1»…
+«NEW_FILE_ONE_LINE 1 1» q none q c => 0 | accepted | «NEW_FILE_ONE_LINE 1 1»…
+«TWO_FILES 0 1 0 0 0» q j q space c => 0 | accepted | «TWO_FILES 0 0 0 0 0»…
 
 # To the key before and the key behind, among those that are seen.
-«TREE 0 0 0 0 0» space c => 0 | accepted | «TREE 0 1 1 1 0»…
-«TREE 0 0 0 0 0» k space c => 0 | accepted | «TREE 0 1 1 1 0»…
-«TREE 0 0 0 0 0» j space c => 0 | accepted | «TREE 0 0 0 0 1»…
-«TREE 0 0 0 0 0» j j space c => 0 | accepted | «TREE 0 0 0 0 1»…
-«TREE 0 0 0 0 0» j k space c => 0 | accepted | «TREE 0 1 1 1 0»…
-«TREE 0 0 0 0 0» l k space c => 0 | accepted | «TREE 0 1 1 1 0»…
-«TREE 0 0 0 0 0» l j j space c => 0 | accepted | «TREE 0 0 1 0 0»…
-«TREE 0 0 0 0 0» l j j j space c => 0 | accepted | «TREE 0 0 0 1 0»…
-«TREE 0 0 0 0 0» l j j j j j space c => 0 | accepted | «TREE 0 0 0 0 1»…
-«TREE 0 0 0 0 0» l j j j j j k k space c => 0 | accepted | «TREE 0 0 0 1 0»…
+«TWO_FILES 0 0 0 0 0» space c => 0 | accepted | «TWO_FILES 0 1 1 1 0»…
+«TWO_FILES 0 0 0 0 0» k space c => 0 | accepted | «TWO_FILES 0 1 1 1 0»…
+«TWO_FILES 0 0 0 0 0» j space c => 0 | accepted | «TWO_FILES 0 0 0 0 1»…
+«TWO_FILES 0 0 0 0 0» j j space c => 0 | accepted | «TWO_FILES 0 0 0 0 1»…
+«TWO_FILES 0 0 0 0 0» j k space c => 0 | accepted | «TWO_FILES 0 1 1 1 0»…
+«TWO_FILES 0 0 0 0 0» l k space c => 0 | accepted | «TWO_FILES 0 1 1 1 0»…
+«TWO_FILES 0 0 0 0 0» l j j space c => 0 | accepted | «TWO_FILES 0 0 1 0 0»…
+«TWO_FILES 0 0 0 0 0» l j j j space c => 0 | accepted | «TWO_FILES 0 0 0 1 0»…
+«TWO_FILES 0 0 0 0 0» l j j j j j space c => 0 | accepted | «TWO_FILES 0 0 0 0 1»…
+«TWO_FILES 0 0 0 0 0» l j j j j j k k space c => 0 | accepted | «TWO_FILES 0 0 0 1 0»…
 
 # Inwards: to a section, to a line, into a later file, and no further.
-«TREE 0 0 0 0 0» l space c => 0 | accepted | «TREE 0 1 1 0 0»…
-«TREE 0 0 0 0 0» l l space c => 0 | accepted | «TREE 0 1 0 0 0»…
-«TREE 0 0 0 0 0» l l l space c => 0 | accepted | «TREE 0 1 0 0 0»…
-«TREE 0 0 0 0 0» l j j l space c => 0 | accepted | «TREE 0 0 1 0 0»…
-«SECOND 0 0 0» l space c => 0 | accepted | «SECOND 1 1 0»…
-«SECOND 0 0 0» l l space c => 0 | accepted | «SECOND 1 0 0»…
-«SECOND 0 0 0» l k k space c => 0 | accepted | «SECOND 0 0 0»…
-«BESIDE 0 0 0» l space c => 0 | accepted | «BESIDE 1 0 0»…
-«BESIDE 0 0 0» l l space c => 0 | accepted | «BESIDE 0 1 0»…
-«PLAIN» l space c => 0 | accepted | «PLAIN»…
+«TWO_FILES 0 0 0 0 0» l space c => 0 | accepted | «TWO_FILES 0 1 1 0 0»…
+«TWO_FILES 0 0 0 0 0» l l space c => 0 | accepted | «TWO_FILES 0 1 0 0 0»…
+«TWO_FILES 0 0 0 0 0» l l l space c => 0 | accepted | «TWO_FILES 0 1 0 0 0»…
+«TWO_FILES 0 0 0 0 0» l j j l space c => 0 | accepted | «TWO_FILES 0 0 1 0 0»…
+«SECOND_FILE_TWO_SECTIONS 0 0 0» l space c => 0 | accepted | «SECOND_FILE_TWO_SECTIONS 1 1 0»…
+«SECOND_FILE_TWO_SECTIONS 0 0 0» l l space c => 0 | accepted | «SECOND_FILE_TWO_SECTIONS 1 0 0»…
+«SECOND_FILE_TWO_SECTIONS 0 0 0» l k k space c => 0 | accepted | «SECOND_FILE_TWO_SECTIONS 0 0 0»…
+«MODE_CHANGE_AND_TWO_LINES 0 0 0» l space c => 0 | accepted | «MODE_CHANGE_AND_TWO_LINES 1 0 0»…
+«MODE_CHANGE_AND_TWO_LINES 0 0 0» l l space c => 0 | accepted | «MODE_CHANGE_AND_TWO_LINES 0 1 0»…
+«NO_SECTIONS» l space c => 0 | accepted | «NO_SECTIONS»…
 
 # Outwards: out of a line to its section and its file, with folds and without.
-«TREE 0 0 0 0 0» l l h space c => 0 | accepted | «TREE 0 1 1 0 0»…
-«TREE 0 0 0 0 0» l l h j space c => 0 | accepted | «TREE 0 1 0 0 0»…
-«TREE 0 0 0 0 0» l l shift-h space c => 0 | accepted | «TREE 0 1 1 0 0»…
-«TREE 0 0 0 0 0» l l shift-h shift-h space c => 0 | accepted | «TREE 0 1 1 1 0»…
-«TREE 0 0 0 0 0» l l h h space c => 0 | accepted | «TREE 0 1 1 0 0»…
-«TREE 0 0 0 0 0» l l h h j space c => 0 | accepted | «TREE 0 0 0 1 0»…
-«TREE 0 0 0 0 0» l l h h h space c => 0 | accepted | «TREE 0 1 1 1 0»…
-«TREE 0 0 0 0 0» l shift-h j space c => 0 | accepted | «TREE 0 1 1 0 0»…
-«TREE 0 0 0 0 0» l shift-h h j space c => 0 | accepted | «TREE 0 0 0 0 1»…
-«TREE 0 0 0 0 0» l shift-h shift-h j space c => 0 | accepted | «TREE 0 0 0 0 1»…
-«TREE 0 0 0 0 0» h j space c => 0 | accepted | «TREE 0 0 0 0 1»…
-«TREE 0 0 0 0 0» l h h h l j space c => 0 | accepted | «TREE 0 0 0 1 0»…
-«TREE 0 0 0 0 0» l h h h l l space c => 0 | accepted | «TREE 0 1 0 0 0»…
+«TWO_FILES 0 0 0 0 0» l l h space c => 0 | accepted | «TWO_FILES 0 1 1 0 0»…
+«TWO_FILES 0 0 0 0 0» l l h j space c => 0 | accepted | «TWO_FILES 0 1 0 0 0»…
+«TWO_FILES 0 0 0 0 0» l l shift-h space c => 0 | accepted | «TWO_FILES 0 1 1 0 0»…
+«TWO_FILES 0 0 0 0 0» l l shift-h shift-h space c => 0 | accepted | «TWO_FILES 0 1 1 1 0»…
+«TWO_FILES 0 0 0 0 0» l l h h space c => 0 | accepted | «TWO_FILES 0 1 1 0 0»…
+«TWO_FILES 0 0 0 0 0» l l h h j space c => 0 | accepted | «TWO_FILES 0 0 0 1 0»…
+«TWO_FILES 0 0 0 0 0» l l h h h space c => 0 | accepted | «TWO_FILES 0 1 1 1 0»…
+«TWO_FILES 0 0 0 0 0» l shift-h j space c => 0 | accepted | «TWO_FILES 0 1 1 0 0»…
+«TWO_FILES 0 0 0 0 0» l shift-h h j space c => 0 | accepted | «TWO_FILES 0 0 0 0 1»…
+«TWO_FILES 0 0 0 0 0» l shift-h shift-h j space c => 0 | accepted | «TWO_FILES 0 0 0 0 1»…
+«TWO_FILES 0 0 0 0 0» h j space c => 0 | accepted | «TWO_FILES 0 0 0 0 1»…
+«TWO_FILES 0 0 0 0 0» l h h h l j space c => 0 | accepted | «TWO_FILES 0 0 0 1 0»…
+«TWO_FILES 0 0 0 0 0» l h h h l l space c => 0 | accepted | «TWO_FILES 0 1 0 0 0»…
 
 # To the key of the same kind before and behind.
-«TREE 0 0 0 0 0» pagedown space c => 0 | accepted | «TREE 0 0 0 0 1»…
-«TREE 0 0 0 0 0» pagedown pagedown space c => 0 | accepted | «TREE 0 0 0 0 1»…
-«TREE 0 0 0 0 0» pagedown pageup space c => 0 | accepted | «TREE 0 1 1 1 0»…
-«TREE 0 0 0 0 0» l shift-h pagedown space c => 0 | accepted | «TREE 0 0 0 0 1»…
-«TREE 0 0 0 0 0» l pageup space c => 0 | accepted | «TREE 0 1 1 0 0»…
-«TREE 0 0 0 0 0» l pagedown space c => 0 | accepted | «TREE 0 0 0 1 0»…
-«TREE 0 0 0 0 0» l pagedown pagedown space c => 0 | accepted | «TREE 0 0 0 1 0»…
-«TREE 0 0 0 0 0» l shift-h pagedown l pageup space c => 0 | accepted | «TREE 0 0 0 1 0»…
-«TREE 0 0 0 0 0» l l pageup space c => 0 | accepted | «TREE 0 1 0 0 0»…
-«TREE 0 0 0 0 0» l l pagedown space c => 0 | accepted | «TREE 0 0 1 0 0»…
-«TREE 0 0 0 0 0» l l pagedown pagedown space c => 0 | accepted | «TREE 0 0 0 1 0»…
-«TREE 0 0 0 0 0» l l pagedown pagedown pageup pageup space c => 0 | accepted | «TREE 0 1 0 0 0»…
+«TWO_FILES 0 0 0 0 0» pagedown space c => 0 | accepted | «TWO_FILES 0 0 0 0 1»…
+«TWO_FILES 0 0 0 0 0» pagedown pagedown space c => 0 | accepted | «TWO_FILES 0 0 0 0 1»…
+«TWO_FILES 0 0 0 0 0» pagedown pageup space c => 0 | accepted | «TWO_FILES 0 1 1 1 0»…
+«TWO_FILES 0 0 0 0 0» l shift-h pagedown space c => 0 | accepted | «TWO_FILES 0 0 0 0 1»…
+«TWO_FILES 0 0 0 0 0» l pageup space c => 0 | accepted | «TWO_FILES 0 1 1 0 0»…
+«TWO_FILES 0 0 0 0 0» l pagedown space c => 0 | accepted | «TWO_FILES 0 0 0 1 0»…
+«TWO_FILES 0 0 0 0 0» l pagedown pagedown space c => 0 | accepted | «TWO_FILES 0 0 0 1 0»…
+«TWO_FILES 0 0 0 0 0» l shift-h pagedown l pageup space c => 0 | accepted | «TWO_FILES 0 0 0 1 0»…
+«TWO_FILES 0 0 0 0 0» l l pageup space c => 0 | accepted | «TWO_FILES 0 1 0 0 0»…
+«TWO_FILES 0 0 0 0 0» l l pagedown space c => 0 | accepted | «TWO_FILES 0 0 1 0 0»…
+«TWO_FILES 0 0 0 0 0» l l pagedown pagedown space c => 0 | accepted | «TWO_FILES 0 0 0 1 0»…
+«TWO_FILES 0 0 0 0 0» l l pagedown pagedown pageup pageup space c => 0 | accepted | «TWO_FILES 0 1 0 0 0»…
 
 # A toggle, and on to the next of the same kind, or no further.
-«TREE 0 0 0 0 0» enter space c => 0 | accepted | «TREE 0 1 1 1 1»…
-«TREE 0 0 0 0 0» l enter space c => 0 | accepted | «TREE 0 1 1 1 0»…
-«TREE 0 0 0 0 0» l l enter space c => 0 | accepted | «TREE 0 1 1 0 0»…
-«TREE 0 0 0 0 0» l l enter enter space c => 0 | accepted | «TREE 0 1 1 1 0»…
-«TREE 0 0 0 0 0» l l enter enter enter enter c => 0 | accepted | «TREE 0 1 1 0 0»…
-«NEW 0 0 0» l l enter c => 0 | accepted | «NEW 1 1 0»…
-«NOTHING» enter c => 0 | accepted | «PADDED»
+«TWO_FILES 0 0 0 0 0» enter space c => 0 | accepted | «TWO_FILES 0 1 1 1 1»…
+«TWO_FILES 0 0 0 0 0» l enter space c => 0 | accepted | «TWO_FILES 0 1 1 1 0»…
+«TWO_FILES 0 0 0 0 0» l l enter space c => 0 | accepted | «TWO_FILES 0 1 1 0 0»…
+«TWO_FILES 0 0 0 0 0» l l enter enter space c => 0 | accepted | «TWO_FILES 0 1 1 1 0»…
+«TWO_FILES 0 0 0 0 0» l l enter enter enter enter c => 0 | accepted | «TWO_FILES 0 1 1 0 0»…
+«NEW_FILE_MODE_FIRST 0 0 0» l l enter c => 0 | accepted | «NEW_FILE_MODE_FIRST 1 1 0»…
+«EMPTY_STATE» enter c => 0 | accepted | «TWO_COMMITS»
 
 # Every mark inverted, and each file repaired; all checked, or all unchecked where every file is checked.
-«TREE 0 1 0 1 0» a c => 0 | accepted | «TREE 0 0 1 0 1»…
-«TREE 1 1 0 1 0» a c => 0 | accepted | «TREE 1 1 0 1 0»…
-«TREE 0 1 0 1 0» a a c => 0 | accepted | «TREE 0 1 0 1 0»…
-«NEW 1 1 0» a c => 0 | accepted | «NEW 1 0 1»…
-«NEW 1 0 1» a a c => 0 | accepted | «NEW 1 0 1»…
-«GONE 0 1 1» a c => 0 | accepted | «GONE 0 0 0»…
-«BYTES 1 0 0 1» a c => 0 | accepted | «BYTES 0 1 1 1»…
-«TREE 0 1 0 1 0» shift-A c => 0 | accepted | «TREE 0 1 1 1 1»…
-«TREE 0 1 0 1 0» shift-A shift-A c => 0 | accepted | «TREE 0 0 0 0 0»…
-«TREE 1 1 0 1 0» shift-A c => 0 | accepted | «TREE 1 1 0 1 0»…
-«SECOND 1 1 1» shift-A c => 0 | accepted | «SECOND 1 1 1»…
-«SECOND 1 1 1» shift-A shift-A c => 0 | accepted | «SECOND 1 1 1»…
-«BYTES 1 1 1 1» shift-A c => 0 | accepted | «BYTES 0 0 0 0»…
-«NOTHING» a shift-A c => 0 | accepted | «PADDED»
+«TWO_FILES 0 1 0 1 0» a c => 0 | accepted | «TWO_FILES 0 0 1 0 1»…
+«TWO_FILES 1 1 0 1 0» a c => 0 | accepted | «TWO_FILES 1 1 0 1 0»…
+«TWO_FILES 0 1 0 1 0» a a c => 0 | accepted | «TWO_FILES 0 1 0 1 0»…
+«NEW_FILE_MODE_FIRST 1 1 0» a c => 0 | accepted | «NEW_FILE_MODE_FIRST 1 0 1»…
+«NEW_FILE_MODE_FIRST 1 0 1» a a c => 0 | accepted | «NEW_FILE_MODE_FIRST 1 0 1»…
+«DELETED_FILE_MODE_FIRST 0 1 1» a c => 0 | accepted | «DELETED_FILE_MODE_FIRST 0 0 0»…
+«NEW_BINARY_FILE_TWO_MODES 1 0 0 1» a c => 0 | accepted | «NEW_BINARY_FILE_TWO_MODES 0 1 1 1»…
+«TWO_FILES 0 1 0 1 0» shift-A c => 0 | accepted | «TWO_FILES 0 1 1 1 1»…
+«TWO_FILES 0 1 0 1 0» shift-A shift-A c => 0 | accepted | «TWO_FILES 0 0 0 0 0»…
+«TWO_FILES 1 1 0 1 0» shift-A c => 0 | accepted | «TWO_FILES 1 1 0 1 0»…
+«SECOND_FILE_TWO_SECTIONS 1 1 1» shift-A c => 0 | accepted | «SECOND_FILE_TWO_SECTIONS 1 1 1»…
+«SECOND_FILE_TWO_SECTIONS 1 1 1» shift-A shift-A c => 0 | accepted | «SECOND_FILE_TWO_SECTIONS 1 1 1»…
+«NEW_BINARY_FILE_TWO_MODES 1 1 1 1» shift-A c => 0 | accepted | «NEW_BINARY_FILE_TWO_MODES 0 0 0 0»…
+«EMPTY_STATE» a shift-A c => 0 | accepted | «TWO_COMMITS»
 
 # An inversion unchecks a deletion beside an unchecked line, and checks the creation of a new file with a checked line: by its key, and in the Edit menu.
-«CUT 1 0 0» a c => 0 | accepted | «CUT 0 1 0» | file 0 | selected 100644 text "x\n" | unselected <absent> text "y\n"
-«MADE 1 0 1» a c => 0 | accepted | «MADE 0 1 1» | file 0 | selected 100644 text "m\n" | unselected <absent> text "n\n"
-«UNMADE 1 0 1» a c => 0 | accepted | «UNMADE 0 1 1» | file 0 | selected <absent> text "b\n" | unselected <absent> text "a\n"
-«CUT 1 0 0» click:0:7 click:4:8 c => 0 | accepted | «CUT 0 1 0» | file 0 | selected 100644 text "x\n" | unselected <absent> text "y\n"
-«MADE 1 0 1» click:0:7 click:4:8 c => 0 | accepted | «MADE 0 1 1» | file 0 | selected 100644 text "m\n" | unselected <absent> text "n\n"
-«UNMADE 1 0 1» click:0:7 click:4:8 c => 0 | accepted | «UNMADE 0 1 1» | file 0 | selected <absent> text "b\n" | unselected <absent> text "a\n"
+«DELETED_FILE_MODE_LAST 1 0 0» a c => 0 | accepted | «DELETED_FILE_MODE_LAST 0 1 0» | file 0 | selected 100644 text "x\n" | unselected <absent> text "y\n"
+«NEW_FILE_MODE_LAST 1 0 1» a c => 0 | accepted | «NEW_FILE_MODE_LAST 0 1 1» | file 0 | selected 100644 text "m\n" | unselected <absent> text "n\n"
+«STAYS_ABSENT 1 0 1» a c => 0 | accepted | «STAYS_ABSENT 0 1 1» | file 0 | selected <absent> text "b\n" | unselected <absent> text "a\n"
+«DELETED_FILE_MODE_LAST 1 0 0» click:0:7 click:4:8 c => 0 | accepted | «DELETED_FILE_MODE_LAST 0 1 0» | file 0 | selected 100644 text "x\n" | unselected <absent> text "y\n"
+«NEW_FILE_MODE_LAST 1 0 1» click:0:7 click:4:8 c => 0 | accepted | «NEW_FILE_MODE_LAST 0 1 1» | file 0 | selected 100644 text "m\n" | unselected <absent> text "n\n"
+«STAYS_ABSENT 1 0 1» click:0:7 click:4:8 c => 0 | accepted | «STAYS_ABSENT 0 1 1» | file 0 | selected <absent> text "b\n" | unselected <absent> text "a\n"
 
 # Folds of a file, of a section, of a line (nothing), and of all.
-«TREE 0 0 0 0 0» f j space c => 0 | accepted | «TREE 0 1 1 0 0»…
-«TREE 0 0 0 0 0» f f j space c => 0 | accepted | «TREE 0 0 0 0 1»…
-«TREE 0 0 0 0 0» l f j space c => 0 | accepted | «TREE 0 0 0 1 0»…
-«TREE 0 0 0 0 0» l f f j space c => 0 | accepted | «TREE 0 1 0 0 0»…
-«TREE 0 0 0 0 0» l l f j space c => 0 | accepted | «TREE 0 0 1 0 0»…
-«TREE 0 0 0 0 0» l l f space c => 0 | accepted | «TREE 0 1 0 0 0»…
-«TREE 0 0 0 0 0» shift-F j space c => 0 | accepted | «TREE 0 1 1 0 0»…
-«TREE 0 0 0 0 0» shift-F shift-F j space c => 0 | accepted | «TREE 0 0 0 0 1»…
-«TREE 0 0 0 0 0» shift-F f shift-F j space c => 0 | accepted | «TREE 0 1 1 0 0»…
-«TREE 0 0 0 0 0» l l shift-F space c => 0 | accepted | «TREE 0 1 0 0 0»…
-«TREE 0 0 0 0 0» l l shift-F shift-F space c => 0 | accepted | «TREE 0 1 1 1 0»…
-«TREE 0 0 0 0 0» l l shift-F shift-F l j space c => 0 | accepted | «TREE 0 0 0 1 0»…
-«NOTHING» f shift-F c => 0 | accepted | «PADDED»
+«TWO_FILES 0 0 0 0 0» f j space c => 0 | accepted | «TWO_FILES 0 1 1 0 0»…
+«TWO_FILES 0 0 0 0 0» f f j space c => 0 | accepted | «TWO_FILES 0 0 0 0 1»…
+«TWO_FILES 0 0 0 0 0» l f j space c => 0 | accepted | «TWO_FILES 0 0 0 1 0»…
+«TWO_FILES 0 0 0 0 0» l f f j space c => 0 | accepted | «TWO_FILES 0 1 0 0 0»…
+«TWO_FILES 0 0 0 0 0» l l f j space c => 0 | accepted | «TWO_FILES 0 0 1 0 0»…
+«TWO_FILES 0 0 0 0 0» l l f space c => 0 | accepted | «TWO_FILES 0 1 0 0 0»…
+«TWO_FILES 0 0 0 0 0» shift-F j space c => 0 | accepted | «TWO_FILES 0 1 1 0 0»…
+«TWO_FILES 0 0 0 0 0» shift-F shift-F j space c => 0 | accepted | «TWO_FILES 0 0 0 0 1»…
+«TWO_FILES 0 0 0 0 0» shift-F f shift-F j space c => 0 | accepted | «TWO_FILES 0 1 1 0 0»…
+«TWO_FILES 0 0 0 0 0» l l shift-F space c => 0 | accepted | «TWO_FILES 0 1 0 0 0»…
+«TWO_FILES 0 0 0 0 0» l l shift-F shift-F space c => 0 | accepted | «TWO_FILES 0 1 1 1 0»…
+«TWO_FILES 0 0 0 0 0» l l shift-F shift-F l j space c => 0 | accepted | «TWO_FILES 0 0 0 1 0»…
+«EMPTY_STATE» f shift-F c => 0 | accepted | «TWO_COMMITS»
 
 # Edits of the message: the answers in order, a fault, none left, and no edit where there is no message.
-size 80 24 | «MESSAGES "hello" "n"» | script | answer "bye" | batch e | batch c => 0 | accepted | «MESSAGES "bye" "n"»
-size 80 24 | «MESSAGES "hello" "n"» | script | batch e | batch e | answer "a" | answer "\"é\u00e9\"\n" | batch c => 0 | accepted | «MESSAGES "\"éé\"\n" "n"»
-size 80 24 | «MESSAGES "hello" "n"» | script | answer "" | batch e | batch q | batch c => 1 | fault: failed to read user input: no events left
-size 80 24 | «MESSAGES "hello" null» | script | answer "" | batch e | batch q | batch c => 1 | fault: cancelled by user
-size 80 24 | «MESSAGES "hello" "n"» | script | batch e | batch c => 1 | fault: No more commit messages available
-size 80 24 | «MESSAGES "hello" "n"» | script | answer "a" | batch e | batch e | batch c => 1 | fault: No more commit messages available
-size 80 24 | «MESSAGES "hello" "n"» | script | fault edit all gone | batch e | batch c => 1 | fault: all gone
-size 80 24 | «MESSAGES "hello" "n"» | script | answer "a" | fault edit gone | batch e | batch e | batch c => 1 | fault: gone
-size 80 24 | «MESSAGES null "n"» | script | fault edit gone | batch e | batch c => 0 | accepted | «MESSAGES null "n"»
-«MESSAGES null "n"» e e c => 0 | accepted | «MESSAGES null "n"»
+size 80 24 | «TWO_MESSAGES "hello" "n"» | script | answer "bye" | batch e | batch c => 0 | accepted | «TWO_MESSAGES "bye" "n"»
+size 80 24 | «TWO_MESSAGES "hello" "n"» | script | batch e | batch e | answer "a" | answer "\"é\u00e9\"\n" | batch c => 0 | accepted | «TWO_MESSAGES "\"éé\"\n" "n"»
+size 80 24 | «TWO_MESSAGES "hello" "n"» | script | answer "" | batch e | batch q | batch c => 1 | fault: failed to read user input: no events left
+size 80 24 | «TWO_MESSAGES "hello" null» | script | answer "" | batch e | batch q | batch c => 1 | fault: cancelled by user
+size 80 24 | «TWO_MESSAGES "hello" "n"» | script | batch e | batch c => 1 | fault: No more commit messages available
+size 80 24 | «TWO_MESSAGES "hello" "n"» | script | answer "a" | batch e | batch e | batch c => 1 | fault: No more commit messages available
+size 80 24 | «TWO_MESSAGES "hello" "n"» | script | fault edit all gone | batch e | batch c => 1 | fault: all gone
+size 80 24 | «TWO_MESSAGES "hello" "n"» | script | answer "a" | fault edit gone | batch e | batch e | batch c => 1 | fault: gone
+size 80 24 | «TWO_MESSAGES null "n"» | script | fault edit gone | batch e | batch c => 0 | accepted | «TWO_MESSAGES null "n"»
+«TWO_MESSAGES null "n"» e e c => 0 | accepted | «TWO_MESSAGES null "n"»
 
 # The forms of answers and of faults.
-size 80 24 | «MESSAGES "hello" "n"» | script |   answer   ␉"a" ␍ | batch e | batch c => 0 | accepted | «MESSAGES "a" "n"»
-size 80 24 | «NOTHING» | script | answer => 2 | bad input: line 4
-size 80 24 | «NOTHING» | script | answer  => 2 | bad input: line 4
-size 80 24 | «NOTHING» | script | answer x => 2 | bad input: line 4
-size 80 24 | «NOTHING» | script | answer"a" => 2 | bad input: line 4
-size 80 24 | «NOTHING» | script | answer␉"a" => 2 | bad input: line 4
-size 80 24 | «NOTHING» | script | answer 1 => 2 | bad input: line 4
-size 80 24 | «NOTHING» | script | answer null => 2 | bad input: line 4
-size 80 24 | «NOTHING» | script | answer "a" "b" => 2 | bad input: line 4
-size 80 24 | «NOTHING» | script | answer "a => 2 | bad input: line 4
-size 80 24 | «NOTHING» | script | fault => 2 | bad input: line 4
-size 80 24 | «NOTHING» | script | fault read => 2 | bad input: line 4
-size 80 24 | «NOTHING» | script | fault edit => 2 | bad input: line 4
-size 80 24 | «NOTHING» | script | fault write x => 2 | bad input: line 4
-size 80 24 | «NOTHING» | script | faults read x => 2 | bad input: line 4
-size 80 24 | «NOTHING» | script | fault read disk gone | batch c => 1 | fault: failed to read user input: disk gone
-size 80 24 | «NOTHING» | script | batch none |   fault   read  two  spaces | batch c => 1 | fault: failed to read user input:  two  spaces
-size 80 24 | «NOTHING» | script | fault read  | batch c => 1 | fault: failed to read user input:…
-size 80 24 | «NOTHING» | script | batch c | fault read gone => 0 | accepted | «PADDED»
+size 80 24 | «TWO_MESSAGES "hello" "n"» | script |   answer   ␉"a" ␍ | batch e | batch c => 0 | accepted | «TWO_MESSAGES "a" "n"»
+size 80 24 | «EMPTY_STATE» | script | answer => 2 | bad input: line 4
+size 80 24 | «EMPTY_STATE» | script | answer  => 2 | bad input: line 4
+size 80 24 | «EMPTY_STATE» | script | answer x => 2 | bad input: line 4
+size 80 24 | «EMPTY_STATE» | script | answer"a" => 2 | bad input: line 4
+size 80 24 | «EMPTY_STATE» | script | answer␉"a" => 2 | bad input: line 4
+size 80 24 | «EMPTY_STATE» | script | answer 1 => 2 | bad input: line 4
+size 80 24 | «EMPTY_STATE» | script | answer null => 2 | bad input: line 4
+size 80 24 | «EMPTY_STATE» | script | answer "a" "b" => 2 | bad input: line 4
+size 80 24 | «EMPTY_STATE» | script | answer "a => 2 | bad input: line 4
+size 80 24 | «EMPTY_STATE» | script | fault => 2 | bad input: line 4
+size 80 24 | «EMPTY_STATE» | script | fault read => 2 | bad input: line 4
+size 80 24 | «EMPTY_STATE» | script | fault edit => 2 | bad input: line 4
+size 80 24 | «EMPTY_STATE» | script | fault write x => 2 | bad input: line 4
+size 80 24 | «EMPTY_STATE» | script | faults read x => 2 | bad input: line 4
+size 80 24 | «EMPTY_STATE» | script | fault read disk gone | batch c => 1 | fault: failed to read user input: disk gone
+size 80 24 | «EMPTY_STATE» | script | batch none |   fault   read  two  spaces | batch c => 1 | fault: failed to read user input:  two  spaces
+size 80 24 | «EMPTY_STATE» | script | fault read  | batch c => 1 | fault: failed to read user input:…
+size 80 24 | «EMPTY_STATE» | script | batch c | fault read gone => 0 | accepted | «TWO_COMMITS»
 
 # Escape, and each new key while the quit dialog is open.
-«LINE 1 1» esc c => 0 | accepted | «LINE 1 1»…
-«LINE 1 1» q esc c => 0 | accepted | «LINE 1 1»…
-«LINE 1 1» q esc q space c => 1 | fault: cancelled by user
-«LINE 1 1» q enter c => 1 | fault: cancelled by user
-«LINE 1 1» q h enter c => 0 | accepted | «LINE 1 1»…
-«TREE 0 1 0 0 0» q pagedown q space c => 0 | accepted | «TREE 0 0 0 0 0»…
-«TREE 0 1 0 0 0» q pagedown pageup q pagedown space c => 0 | accepted | «TREE 0 1 0 0 1»…
-«TREE 0 1 0 0 0» q a q c => 0 | accepted | «TREE 0 1 0 0 0»…
-«TREE 0 1 0 0 0» q shift-A q c => 0 | accepted | «TREE 0 1 0 0 0»…
-«TREE 0 1 0 0 0» q f q j space c => 0 | accepted | «TREE 0 1 0 0 1»…
-«TREE 0 1 0 0 0» q shift-F q j space c => 0 | accepted | «TREE 0 1 0 0 1»…
-size 80 24 | «MESSAGES "m" null» | script | answer "x" | batch q | batch e | batch q | batch c => 0 | accepted | «MESSAGES "m" null»
+«NEW_FILE_ONE_LINE 1 1» esc c => 0 | accepted | «NEW_FILE_ONE_LINE 1 1»…
+«NEW_FILE_ONE_LINE 1 1» q esc c => 0 | accepted | «NEW_FILE_ONE_LINE 1 1»…
+«NEW_FILE_ONE_LINE 1 1» q esc q space c => 1 | fault: cancelled by user
+«NEW_FILE_ONE_LINE 1 1» q enter c => 1 | fault: cancelled by user
+«NEW_FILE_ONE_LINE 1 1» q h enter c => 0 | accepted | «NEW_FILE_ONE_LINE 1 1»…
+«TWO_FILES 0 1 0 0 0» q pagedown q space c => 0 | accepted | «TWO_FILES 0 0 0 0 0»…
+«TWO_FILES 0 1 0 0 0» q pagedown pageup q pagedown space c => 0 | accepted | «TWO_FILES 0 1 0 0 1»…
+«TWO_FILES 0 1 0 0 0» q a q c => 0 | accepted | «TWO_FILES 0 1 0 0 0»…
+«TWO_FILES 0 1 0 0 0» q shift-A q c => 0 | accepted | «TWO_FILES 0 1 0 0 0»…
+«TWO_FILES 0 1 0 0 0» q f q j space c => 0 | accepted | «TWO_FILES 0 1 0 0 1»…
+«TWO_FILES 0 1 0 0 0» q shift-F q j space c => 0 | accepted | «TWO_FILES 0 1 0 0 1»…
+size 80 24 | «TWO_MESSAGES "m" null» | script | answer "x" | batch q | batch e | batch q | batch c => 0 | accepted | «TWO_MESSAGES "m" null»
 
 # Words: all of them are known, and a batch has any number of them, also none.
-size 80 24 | «NOTHING» | script | batch shot redraw ensure view none click:0:0 click:00065535:65535 wheel-up wheel-down | batch zz => 2 | bad input: line 5
-size 80 24 | «NOTHING» | script | batch up down left right pageup pagedown enter esc space q Q é 日 - : # " ␉ | batch zz => 2 | bad input: line 5
-size 80 24 | «NOTHING» | script | batch ctrl-up alt-down shift-left ctrl-alt-right alt-shift-ctrl-space shift-alt-pageup ctrl-- alt-- shift-: ctrl-é | batch zz => 2 | bad input: line 5
-size 80 24 | «TREE 0 0 0 0 0» | script | batch l l space | batch |   batch   j  space   | batch c => 0 | accepted | «TREE 0 1 1 0 0»…
-size 80 24 | «TREE 0 0 0 0 0» | script | batch none none l none l none space c space => 0 | accepted | «TREE 0 1 0 0 0»…
-size 80 24 | «NOTHING» | script | batch | batch => 1 | fault: failed to read user input: no events left
-size 80 24 | «MESSAGES "a" null» | script | answer "b" | answer "c" | batch e e c => 0 | accepted | «MESSAGES "c" null»
-size 80 24 | «LINE 1 1» | script | batch q h space c => 0 | accepted | «LINE 1 1»…
-size 80 24 | «NOTHING» | script | batch c q => 0 | accepted | «PADDED»
-size 80 24 | «NOTHING» | script | batch q c => 1 | fault: cancelled by user
+size 80 24 | «EMPTY_STATE» | script | batch shot redraw ensure view none click:0:0 click:00065535:65535 wheel-up wheel-down | batch zz => 2 | bad input: line 5
+size 80 24 | «EMPTY_STATE» | script | batch up down left right pageup pagedown enter esc space q Q é 日 - : # " ␉ | batch zz => 2 | bad input: line 5
+size 80 24 | «EMPTY_STATE» | script | batch ctrl-up alt-down shift-left ctrl-alt-right alt-shift-ctrl-space shift-alt-pageup ctrl-- alt-- shift-: ctrl-é | batch zz => 2 | bad input: line 5
+size 80 24 | «TWO_FILES 0 0 0 0 0» | script | batch l l space | batch |   batch   j  space   | batch c => 0 | accepted | «TWO_FILES 0 1 1 0 0»…
+size 80 24 | «TWO_FILES 0 0 0 0 0» | script | batch none none l none l none space c space => 0 | accepted | «TWO_FILES 0 1 0 0 0»…
+size 80 24 | «EMPTY_STATE» | script | batch | batch => 1 | fault: failed to read user input: no events left
+size 80 24 | «TWO_MESSAGES "a" null» | script | answer "b" | answer "c" | batch e e c => 0 | accepted | «TWO_MESSAGES "c" null»
+size 80 24 | «NEW_FILE_ONE_LINE 1 1» | script | batch q h space c => 0 | accepted | «NEW_FILE_ONE_LINE 1 1»…
+size 80 24 | «EMPTY_STATE» | script | batch c q => 0 | accepted | «TWO_COMMITS»
+size 80 24 | «EMPTY_STATE» | script | batch q c => 1 | fault: cancelled by user
 
 # Keys by their names, and with shift.
-«TREE 0 0 0 0 0» right right space c => 0 | accepted | «TREE 0 1 0 0 0»…
-«TREE 0 0 0 0 0» right shift-right space c => 0 | accepted | «TREE 0 1 0 0 0»…
-«TREE 0 0 0 0 0» shift-l shift-l space c => 0 | accepted | «TREE 0 1 0 0 0»…
-«TREE 0 0 0 0 0» down space c => 0 | accepted | «TREE 0 0 0 0 1»…
-«TREE 0 0 0 0 0» down up space c => 0 | accepted | «TREE 0 1 1 1 0»…
-«TREE 0 0 0 0 0» right right left left down space c => 0 | accepted | «TREE 0 0 0 1 0»…
-«TREE 0 0 0 0 0» right right shift-left shift-left space c => 0 | accepted | «TREE 0 1 1 1 0»…
+«TWO_FILES 0 0 0 0 0» right right space c => 0 | accepted | «TWO_FILES 0 1 0 0 0»…
+«TWO_FILES 0 0 0 0 0» right shift-right space c => 0 | accepted | «TWO_FILES 0 1 0 0 0»…
+«TWO_FILES 0 0 0 0 0» shift-l shift-l space c => 0 | accepted | «TWO_FILES 0 1 0 0 0»…
+«TWO_FILES 0 0 0 0 0» down space c => 0 | accepted | «TWO_FILES 0 0 0 0 1»…
+«TWO_FILES 0 0 0 0 0» down up space c => 0 | accepted | «TWO_FILES 0 1 1 1 0»…
+«TWO_FILES 0 0 0 0 0» right right left left down space c => 0 | accepted | «TWO_FILES 0 0 0 1 0»…
+«TWO_FILES 0 0 0 0 0» right right shift-left shift-left space c => 0 | accepted | «TWO_FILES 0 1 1 1 0»…
 
 # Keys that mean nothing: with something held too much, or too little, and any other key.
-«LINE 1 1» alt-q shift-q ctrl-q Q shift-Q c => 0 | accepted | «LINE 1 1»…
-«LINE 1 1» shift-c alt-c C shift-C ctrl-shift-c shift-ctrl-c ctrl-alt-c ctrl-C c => 0 | accepted | «LINE 1 1»…
-«LINE 1 1» shift-space alt-space ctrl-space shift-enter ctrl-enter alt-enter c => 0 | accepted | «LINE 1 1»…
-«LINE 1 1» A F shift-a shift-f ctrl-a alt-a ctrl-shift-A alt-shift-A c => 0 | accepted | «LINE 1 1»…
-«TREE 0 0 0 0 0» J shift-j shift-J shift-down alt-down alt-j ctrl-j shift-pagedown alt-pagedown space c => 0 | accepted | «TREE 0 1 1 1 0»…
-«TREE 0 0 0 0 0» ctrl-right ctrl-l alt-l L shift-L shift-alt-right l l H shift-H ctrl-h alt-h ctrl-left alt-left space c => 0 | accepted | «TREE 0 1 0 0 0»…
-«MESSAGES "m" null» shift-e alt-e E shift-E ctrl-alt-e c => 0 | accepted | «MESSAGES "m" null»
-«LINE 1 1» x é 日 - : # " 1 shift-? alt-? c => 0 | accepted | «LINE 1 1»…
-size 80 24 | «NOTHING» | script | batch ␉ c => 0 | accepted | «PADDED»
+«NEW_FILE_ONE_LINE 1 1» alt-q shift-q ctrl-q Q shift-Q c => 0 | accepted | «NEW_FILE_ONE_LINE 1 1»…
+«NEW_FILE_ONE_LINE 1 1» shift-c alt-c C shift-C ctrl-shift-c shift-ctrl-c ctrl-alt-c ctrl-C c => 0 | accepted | «NEW_FILE_ONE_LINE 1 1»…
+«NEW_FILE_ONE_LINE 1 1» shift-space alt-space ctrl-space shift-enter ctrl-enter alt-enter c => 0 | accepted | «NEW_FILE_ONE_LINE 1 1»…
+«NEW_FILE_ONE_LINE 1 1» A F shift-a shift-f ctrl-a alt-a ctrl-shift-A alt-shift-A c => 0 | accepted | «NEW_FILE_ONE_LINE 1 1»…
+«TWO_FILES 0 0 0 0 0» J shift-j shift-J shift-down alt-down alt-j ctrl-j shift-pagedown alt-pagedown space c => 0 | accepted | «TWO_FILES 0 1 1 1 0»…
+«TWO_FILES 0 0 0 0 0» ctrl-right ctrl-l alt-l L shift-L shift-alt-right l l H shift-H ctrl-h alt-h ctrl-left alt-left space c => 0 | accepted | «TWO_FILES 0 1 0 0 0»…
+«TWO_MESSAGES "m" null» shift-e alt-e E shift-E ctrl-alt-e c => 0 | accepted | «TWO_MESSAGES "m" null»
+«NEW_FILE_ONE_LINE 1 1» x é 日 - : # " 1 shift-? alt-? c => 0 | accepted | «NEW_FILE_ONE_LINE 1 1»…
+size 80 24 | «EMPTY_STATE» | script | batch ␉ c => 0 | accepted | «TWO_COMMITS»
 
 # Bad words.
-«NOTHING» ctrl-ctrl-c => 2 | bad input: line 4
-«NOTHING» shift-ctrl-shift-c => 2 | bad input: line 4
-«NOTHING» alt-shift-ctrl-alt-c => 2 | bad input: line 4
-«NOTHING» ctrl- => 2 | bad input: line 4
-«NOTHING» alt-shift- => 2 | bad input: line 4
-«NOTHING» Ctrl-c => 2 | bad input: line 4
-«NOTHING» ctrl+c => 2 | bad input: line 4
-«NOTHING» control-c => 2 | bad input: line 4
-«NOTHING» click:65536:0 => 2 | bad input: line 4
-«NOTHING» click:0:65536 => 2 | bad input: line 4
-«NOTHING» click:-1:0 => 2 | bad input: line 4
-«NOTHING» click:+1:0 => 2 | bad input: line 4
-«NOTHING» click:1 => 2 | bad input: line 4
-«NOTHING» click:1: => 2 | bad input: line 4
-«NOTHING» click::1 => 2 | bad input: line 4
-«NOTHING» click:1:2:3 => 2 | bad input: line 4
-«NOTHING» click: => 2 | bad input: line 4
-«NOTHING» click => 2 | bad input: line 4
-«NOTHING» shift-click:1:2 => 2 | bad input: line 4
-«NOTHING» wheel => 2 | bad input: line 4
-«NOTHING» wheel-left => 2 | bad input: line 4
-«NOTHING» ctrl-wheel-up => 2 | bad input: line 4
-«NOTHING» ctrl-shot => 2 | bad input: line 4
-«NOTHING» shift-none => 2 | bad input: line 4
-«NOTHING» Shot => 2 | bad input: line 4
-«NOTHING» Enter => 2 | bad input: line 4
-«NOTHING» page-up => 2 | bad input: line 4
-«NOTHING» qq => 2 | bad input: line 4
-«NOTHING» é => 2 | bad input: line 4
-«NOTHING» q c zz q => 2 | bad input: line 6
-size 80 24 | «NOTHING» | script | batch q c zz q => 2 | bad input: line 4
-size 80 24 | «NOTHING» | script | batch q␉c => 2 | bad input: line 4
-size 80 24 | «NOTHING» | script | batch shot zz => 2 | bad input: line 4
+«EMPTY_STATE» ctrl-ctrl-c => 2 | bad input: line 4
+«EMPTY_STATE» shift-ctrl-shift-c => 2 | bad input: line 4
+«EMPTY_STATE» alt-shift-ctrl-alt-c => 2 | bad input: line 4
+«EMPTY_STATE» ctrl- => 2 | bad input: line 4
+«EMPTY_STATE» alt-shift- => 2 | bad input: line 4
+«EMPTY_STATE» Ctrl-c => 2 | bad input: line 4
+«EMPTY_STATE» ctrl+c => 2 | bad input: line 4
+«EMPTY_STATE» control-c => 2 | bad input: line 4
+«EMPTY_STATE» click:65536:0 => 2 | bad input: line 4
+«EMPTY_STATE» click:0:65536 => 2 | bad input: line 4
+«EMPTY_STATE» click:-1:0 => 2 | bad input: line 4
+«EMPTY_STATE» click:+1:0 => 2 | bad input: line 4
+«EMPTY_STATE» click:1 => 2 | bad input: line 4
+«EMPTY_STATE» click:1: => 2 | bad input: line 4
+«EMPTY_STATE» click::1 => 2 | bad input: line 4
+«EMPTY_STATE» click:1:2:3 => 2 | bad input: line 4
+«EMPTY_STATE» click: => 2 | bad input: line 4
+«EMPTY_STATE» click => 2 | bad input: line 4
+«EMPTY_STATE» shift-click:1:2 => 2 | bad input: line 4
+«EMPTY_STATE» wheel => 2 | bad input: line 4
+«EMPTY_STATE» wheel-left => 2 | bad input: line 4
+«EMPTY_STATE» ctrl-wheel-up => 2 | bad input: line 4
+«EMPTY_STATE» ctrl-shot => 2 | bad input: line 4
+«EMPTY_STATE» shift-none => 2 | bad input: line 4
+«EMPTY_STATE» Shot => 2 | bad input: line 4
+«EMPTY_STATE» Enter => 2 | bad input: line 4
+«EMPTY_STATE» page-up => 2 | bad input: line 4
+«EMPTY_STATE» qq => 2 | bad input: line 4
+«EMPTY_STATE» é => 2 | bad input: line 4
+«EMPTY_STATE» q c zz q => 2 | bad input: line 6
+size 80 24 | «EMPTY_STATE» | script | batch q c zz q => 2 | bad input: line 4
+size 80 24 | «EMPTY_STATE» | script | batch q␉c => 2 | bad input: line 4
+size 80 24 | «EMPTY_STATE» | script | batch shot zz => 2 | bad input: line 4
 
 # Bad commands.
-size 80 24 | «NOTHING» | script | BATCH q => 2 | bad input: line 4
-size 80 24 | «NOTHING» | script | batchq => 2 | bad input: line 4
-size 80 24 | «NOTHING» | script | shot => 2 | bad input: line 4
-size 80 24 | «NOTHING» | script | Answer "a" => 2 | bad input: line 4
-size 80 24 | «NOTHING» | script | answer x => 2 | bad input: line 4
-size 80 24 | «NOTHING» | script | answer "a" b => 2 | bad input: line 4
-size 80 24 | «NOTHING» | script | answer 'a' => 2 | bad input: line 4
-size 80 24 | «NOTHING» | script | fault␉read x => 2 | bad input: line 4
-size 80 24 | «NOTHING» | script | fault read␉x => 2 | bad input: line 4
-size 80 24 | «NOTHING» | script | fault Read x => 2 | bad input: line 4
-size 80 24 | «NOTHING» | script | ! | batch zz => 2 | bad input: line 4
+size 80 24 | «EMPTY_STATE» | script | BATCH q => 2 | bad input: line 4
+size 80 24 | «EMPTY_STATE» | script | batchq => 2 | bad input: line 4
+size 80 24 | «EMPTY_STATE» | script | shot => 2 | bad input: line 4
+size 80 24 | «EMPTY_STATE» | script | Answer "a" => 2 | bad input: line 4
+size 80 24 | «EMPTY_STATE» | script | answer x => 2 | bad input: line 4
+size 80 24 | «EMPTY_STATE» | script | answer "a" b => 2 | bad input: line 4
+size 80 24 | «EMPTY_STATE» | script | answer 'a' => 2 | bad input: line 4
+size 80 24 | «EMPTY_STATE» | script | fault␉read x => 2 | bad input: line 4
+size 80 24 | «EMPTY_STATE» | script | fault read␉x => 2 | bad input: line 4
+size 80 24 | «EMPTY_STATE» | script | fault Read x => 2 | bad input: line 4
+size 80 24 | «EMPTY_STATE» | script | ! | batch zz => 2 | bad input: line 4
 
 # Places that no screenshot was taken to, before each way to end; a refused input has no screens.
-«NOTHING» c shot => 0 | screen 0 | <this screenshot was never assigned> | accepted | «PADDED»
-size 80 24 | «NOTHING» | script | batch c shot shot | batch shot => 0 | screen 0 | <this screenshot was never assigned> | screen 1 | <this screenshot was never assigned> | screen 2 | <this screenshot was never assigned> | accepted | «PADDED»
-«NOTHING» q shot => 1 | screen 0 | <this screenshot was never assigned> | fault: cancelled by user
-size 80 24 | «NOTHING» | script | fault read gone | batch shot => 1 | screen 0 | <this screenshot was never assigned> | fault: failed to read user input: gone
+«EMPTY_STATE» c shot => 0 | screen 0 | <this screenshot was never assigned> | accepted | «TWO_COMMITS»
+size 80 24 | «EMPTY_STATE» | script | batch c shot shot | batch shot => 0 | screen 0 | <this screenshot was never assigned> | screen 1 | <this screenshot was never assigned> | screen 2 | <this screenshot was never assigned> | accepted | «TWO_COMMITS»
+«EMPTY_STATE» q shot => 1 | screen 0 | <this screenshot was never assigned> | fault: cancelled by user
+size 80 24 | «EMPTY_STATE» | script | fault read gone | batch shot => 1 | screen 0 | <this screenshot was never assigned> | fault: failed to read user input: gone
 size 80 24 | [] | script | batch shot => 2 | bad state
 size 20 5 | {"is_read_only":false,"commits":[{"message":null},{"message":null},{"message":null}],"files":[]} | script | batch shot => 2 | state not accepted
 
@@ -464,12 +471,12 @@ size 80 24 | { |   "is_read_only": false, |   "commits": [], |   "files": [ |   
 size 80 24 | { |   "is_read_only": false, |   "commits": [], |   "files": [ |     { |       "old_path": null, |       "path": "index.html", |       "file_mode": {"Unix": 33188}, |       "sections": [ |         {"Changed": {"lines": [ |           {"is_checked": false, "change_type": "Removed", "line": "<img src=\"logo.gif\">\n"}, |           {"is_checked": false, "change_type": "Added", "line": "<img src=\"logo.png\">\n"} |         ]}}, |         {"Unchanged": {"lines": ["<p>Welcome.</p>\n"]}} |       ] |     }, |     { |       "old_path": null, |       "path": "logo.png", |       "file_mode": {"Unix": 33188}, |       "sections": [ |         {"Binary": { |           "is_checked": false, |           "old_description": "a1b2c3 (2048 bytes)", |           "new_description": "d4e5f6 (1024 bytes)" |         }} |       ] |     } |   ] | } | script | # Take the new picture, and leave the page that shows it. | batch j | batch space | batch c => 0 | accepted | {"is_read_only":false,"commits":[{"message":null},{"message":null}],"files":[{"old_path":null,"path":"index.html","file_mode":{"Unix":33188},"sections":[{"Changed":{"lines":[{"is_checked":false,"change_type":"Removed","line":"<img src=\"logo.gif\">\n"},{"is_checked":false,"change_type":"Added","line":"<img src=\"logo.png\">\n"}]}},{"Unchanged":{"lines":["<p>Welcome.</p>\n"]}}]},{"old_path":null,"path":"logo.png","file_mode":{"Unix":33188},"sections":[{"Binary":{"is_checked":true,"old_description":"a1b2c3 (2048 bytes)","new_description":"d4e5f6 (1024 bytes)"}}]}]} | file 0 | selected 100644 text "<img src=\"logo.gif\">\n<p>Welcome.</p>\n" | unselected 100644 text "<img src=\"logo.png\">\n<p>Welcome.</p>\n" | file 1 | selected 100644 binary "a1b2c3 (2048 bytes)" "d4e5f6 (1024 bytes)" | unselected 100644 unchanged
 
 # The first screen of a file; a file that is open, with its section selected; and the same scrolled down, with its header pinned.
-20 5 «PLAIN» shot c => 0
+20 5 «NO_SECTIONS» shot c => 0
 | screen 0
 | "[File] [Edit] [Selec
 | "( ) foo/bar      (+)
 | accepted…
-24 8 «HILL 0 1» l shot ctrl-down ctrl-down shot c => 0
+24 8 «CONTEXT_AND_CHANGE 0 1» l shot ctrl-down ctrl-down shot c => 0
 | screen 0
 | "[File] [Edit] [Select] [
 | "[◐] f                [-]
@@ -483,13 +490,13 @@ size 80 24 | { |   "is_read_only": false, |   "commits": [], |   "files": [ |   
 | "    [ ] - b⏎
 | "    [●] + c⏎
 | accepted
-| «HILL 0 1»…
-10 2 «SAID "hello" null» ctrl-down shot c => 0
+| «CONTEXT_AND_CHANGE 0 1»…
+10 2 «MESSAGES_NO_SECTIONS "hello" null» ctrl-down shot c => 0
 | screen 0
 | "[File] [Ed
 | "[Edit mes…
 | accepted…
-24 8 «OF1 TEN» l l j j j j j shot c => 0
+24 8 «FILE_OF_1 TEN_ADDED» l l j j j j j shot c => 0
 | screen 0
 | "[File] [Edit] [Select] [
 | "[ ] f                [-]
@@ -500,7 +507,7 @@ size 80 24 | { |   "is_read_only": false, |   "commits": [], |   "files": [ |   
 | "    [ ] + 4⏎
 | "    ( ) + 5⏎
 | accepted…
-24 14 «OF3 X C7 Y» l shot c => 0
+24 14 «FILE_OF_3 ADDED CONTEXT_7 REMOVED» l shot c => 0
 | screen 0
 | "[File] [Edit] [Select] [
 | "[ ] f                [-]
@@ -516,7 +523,7 @@ size 80 24 | { |   "is_read_only": false, |   "commits": [], |   "files": [ |   
 | "  [ ] Section 2/2    [-]
 | "    [ ] - y⏎
 | accepted…
-24 7 «SECOND 0 0 0» l shot c => 0
+24 7 «SECOND_FILE_TWO_SECTIONS 0 0 0» l shot c => 0
 | screen 0
 | "[File] [Edit] [Select] [
 | "[ ] p                [+]
@@ -526,25 +533,25 @@ size 80 24 | { |   "is_read_only": false, |   "commits": [], |   "files": [ |   
 | "    [ ] + y⏎
 | "  [ ] Section 2/2    [-]
 | accepted
-| «SECOND 0 0 0»…
+| «SECOND_FILE_TWO_SECTIONS 0 0 0»…
 
 # A path that is too wide is cut with an ellipsis, and a symbol is never cut in half.
-13 2 «NAMED null "日本語"» shot c => 0
+13 2 «PATHS null "日本語"» shot c => 0
 | screen 0
 | "[File] [Edit]
 | "( ) 日本語(+)
 | accepted…
-12 2 «NAMED null "日本語"» shot c => 0
+12 2 «PATHS null "日本語"» shot c => 0
 | screen 0
 | "[File] [Edit
 | "( ) 日本…(+)
 | accepted…
-11 2 «NAMED null "日本語"» shot c => 0
+11 2 «PATHS null "日本語"» shot c => 0
 | screen 0
 | "[File] [Edi
 | "( ) 日 …(+)
 | accepted…
-24 5 «NAMED null "日本語日本語"» click:0:8 shot click:0:8 ? shot c c => 0
+24 5 «PATHS null "日本語日本語"» click:0:8 shot click:0:8 ? shot c c => 0
 | screen 0
 | "[File] [Edit] [Select] [
 | "( ) 日 [Edit message (e)
@@ -560,7 +567,7 @@ size 80 24 | { |   "is_read_only": false, |   "commits": [], |   "files": [ |   
 | accepted…
 
 # Scrolling: held between 0 and the last row that is drawn, and the extent begins at row 1 once the menu bar has left row 0.
-30 3 «PLAIN» shot ctrl-down shot ctrl-down shot ctrl-down shot ctrl-up shot ctrl-up shot c => 0
+30 3 «NO_SECTIONS» shot ctrl-down shot ctrl-down shot ctrl-down shot ctrl-up shot ctrl-up shot c => 0
 | screen 0
 | "[File] [Edit] [Select] [View]
 | "( ) foo/bar                (+)
@@ -578,7 +585,7 @@ size 80 24 | { |   "is_read_only": false, |   "commits": [], |   "files": [ |   
 | "[File] [Edit] [Select] [View]
 | "( ) foo/bar                (+)
 | accepted…
-24 8 «OF1 TEN» l ctrl-f shot ctrl-f shot ctrl-b shot ctrl-b shot c => 0
+24 8 «FILE_OF_1 TEN_ADDED» l ctrl-f shot ctrl-f shot ctrl-b shot ctrl-b shot c => 0
 | screen 0
 | "[File] [Edit] [Select] [
 | "[ ] f                [-]
@@ -607,7 +614,7 @@ size 80 24 | { |   "is_read_only": false, |   "commits": [], |   "files": [ |   
 | "    [ ] + 3⏎
 | "    [ ] + 4⏎
 | accepted…
-24 8 «OF1 TEN» l ctrl-down,ctrl-down,ctrl-down,ctrl-down,ctrl-down,ctrl-down,ctrl-down,ctrl-down,ctrl-down,ctrl-down,ctrl-down,ctrl-down,ctrl-down,ctrl-down shot wheel-up wheel-up shot wheel-down shot c => 0
+24 8 «FILE_OF_1 TEN_ADDED» l ctrl-down,ctrl-down,ctrl-down,ctrl-down,ctrl-down,ctrl-down,ctrl-down,ctrl-down,ctrl-down,ctrl-down,ctrl-down,ctrl-down,ctrl-down,ctrl-down shot wheel-up wheel-up shot wheel-down shot c => 0
 | screen 0
 | "[File] [Edit] [Select] [
 | screen 1
@@ -620,7 +627,7 @@ size 80 24 | { |   "is_read_only": false, |   "commits": [], |   "files": [ |   
 | accepted…
 
 # An open menu and an open dialog lengthen what may be scrolled over, and stand in the document: they move with the screen.
-34 8 «PLAIN» click:0:24 ctrl-f shot ctrl-f shot click:0:24 ctrl-f shot c => 0
+34 8 «NO_SECTIONS» click:0:24 ctrl-f shot ctrl-f shot click:0:24 ctrl-f shot c => 0
 | screen 0
 | "[File] [Edit] [Select] [View]
 | "                       [Fold/unfol
@@ -640,7 +647,7 @@ size 80 24 | { |   "is_read_only": false, |   "commits": [], |   "files": [ |   
 | screen 2
 | "[File] [Edit] [Select] [View]
 | accepted…
-40 6 «PLAIN» ? ctrl-f shot ? ctrl-down shot c => 0
+40 6 «NO_SECTIONS» ? ctrl-f shot ? ctrl-down shot c => 0
 | screen 0
 | "┌Help──────────────────────────────────┐
 | "│You can click the menus with a mouse, │
@@ -653,7 +660,7 @@ size 80 24 | { |   "is_read_only": false, |   "commits": [], |   "files": [ |   
 | accepted…
 
 # Pages of the selection: by half a screen, past keys that are not drawn, to the last key that way, and to nothing.
-24 8 «OF1 TEN» l ctrl-d shot ctrl-d shot ctrl-u shot c => 0
+24 8 «FILE_OF_1 TEN_ADDED» l ctrl-d shot ctrl-d shot ctrl-u shot c => 0
 | screen 0
 | "[File] [Edit] [Select] [
 | "[ ] f                [-]
@@ -682,7 +689,7 @@ size 80 24 | { |   "is_read_only": false, |   "commits": [], |   "files": [ |   
 | "    [ ] + 6⏎
 | "    [ ] + 7⏎
 | accepted…
-24 8 «OF1 TEN» l ctrl-d ctrl-d ctrl-d shot ctrl-d shot ctrl-u,ctrl-u,ctrl-u,ctrl-u shot c => 0
+24 8 «FILE_OF_1 TEN_ADDED» l ctrl-d ctrl-d ctrl-d shot ctrl-d shot ctrl-u,ctrl-u,ctrl-u,ctrl-u shot c => 0
 | screen 0
 | "[File] [Edit] [Select] [
 | "[ ] f                [-]
@@ -711,9 +718,9 @@ size 80 24 | { |   "is_read_only": false, |   "commits": [], |   "files": [ |   
 | "    [ ] + 3⏎
 | "    [ ] + 4⏎
 | accepted…
-24 1 «TREE 0 0 0 0 0» l ctrl-d space c => 0 | accepted | «TREE 0 1 0 0 0»…
-24 0 «TREE 0 0 0 0 0» l ctrl-d ctrl-d ctrl-u space c => 0 | accepted | «TREE 0 1 0 0 0»…
-24 8 «OF1 TEN» l,ctrl-d shot j shot c => 0
+24 1 «TWO_FILES 0 0 0 0 0» l ctrl-d space c => 0 | accepted | «TWO_FILES 0 1 0 0 0»…
+24 0 «TWO_FILES 0 0 0 0 0» l ctrl-d ctrl-d ctrl-u space c => 0 | accepted | «TWO_FILES 0 1 0 0 0»…
+24 8 «FILE_OF_1 TEN_ADDED» l,ctrl-d shot j shot c => 0
 | screen 0
 | "[File] [Edit] [Select] [
 | "[ ] f                [-]
@@ -733,7 +740,7 @@ size 80 24 | { |   "is_read_only": false, |   "commits": [], |   "files": [ |   
 | "    [ ] + 3⏎
 | "    [ ] + 4⏎
 | accepted…
-24 6 «PAIR X TEN» click:2:21,click:2:21,click:1:9,ctrl-d shot c => 0
+24 6 «FILES_OF_1_AND_1 ADDED TEN_ADDED» click:2:21,click:2:21,click:1:9,ctrl-d shot c => 0
 | screen 0
 | "[File] [Edit] [Select] [
 | "[ ] g                [-]
@@ -742,7 +749,7 @@ size 80 24 | { |   "is_read_only": false, |   "commits": [], |   "files": [ |   
 | "    [ ] + 8⏎
 | "    ( ) + 9⏎
 | accepted…
-24 9 «OF3 X C3 Y» l click:5:9 ctrl-d shot j shot c => 0
+24 9 «FILE_OF_3 ADDED CONTEXT_3 REMOVED» l click:5:9 ctrl-d shot j shot c => 0
 | screen 0
 | "[File] [Edit] [Select] [
 | "[ ] f                [-]
@@ -766,7 +773,7 @@ size 80 24 | { |   "is_read_only": false, |   "commits": [], |   "files": [ |   
 | accepted…
 
 # The selection is brought onto the screen by every move, also one that stays, and by folds; not by a click that selects.
-24 5 «OF1 TEN» l l pageup shot ctrl-f k shot ctrl-f f shot c => 0
+24 5 «FILE_OF_1 TEN_ADDED» l l pageup shot ctrl-f k shot ctrl-f f shot c => 0
 | screen 0
 | "[File] [Edit] [Select] [
 | "[ ] f                [-]
@@ -784,7 +791,7 @@ size 80 24 | { |   "is_read_only": false, |   "commits": [], |   "files": [ |   
 | "[ ] f                [±]
 | "  ( ) Section 1/1    (+)
 | accepted…
-24 5 «OF1 TEN» l ctrl-f ensure shot c => 0
+24 5 «FILE_OF_1 TEN_ADDED» l ctrl-f ensure shot c => 0
 | screen 0
 | "[File] [Edit] [Select] [
 | "[ ] f                [-]
@@ -792,7 +799,7 @@ size 80 24 | { |   "is_read_only": false, |   "commits": [], |   "files": [ |   
 | "    [ ] + 0⏎
 | "    [ ] + 1⏎
 | accepted…
-24 5 «OF1 TEN» l ctrl-f,ensure shot click:4:9 shot c => 0
+24 5 «FILE_OF_1 TEN_ADDED» l ctrl-f,ensure shot click:4:9 shot c => 0
 | screen 0
 | "[File] [Edit] [Select] [
 | "[ ] f                [-]
@@ -806,7 +813,7 @@ size 80 24 | { |   "is_read_only": false, |   "commits": [], |   "files": [ |   
 | "    [ ] + 0⏎
 | "    ( ) + 1⏎
 | accepted…
-24 5 «OF1 TEN» l l click:2:9 ctrl-f none shot h shot c => 0
+24 5 «FILE_OF_1 TEN_ADDED» l l click:2:9 ctrl-f none shot h shot c => 0
 | screen 0
 | "[File] [Edit] [Select] [
 | "[ ] f                [-]
@@ -818,7 +825,7 @@ size 80 24 | { |   "is_read_only": false, |   "commits": [], |   "files": [ |   
 | "[ ] f                [±]
 | "  ( ) Section 1/1    (+)
 | accepted…
-24 6 «PAIR TEN X» l l ctrl-f ctrl-f click:1:1 shot ctrl-b h shot shift-F shot c => 0
+24 6 «FILES_OF_1_AND_1 TEN_ADDED ADDED» l l ctrl-f ctrl-f click:1:1 shot ctrl-b h shot shift-F shot c => 0
 | screen 0
 | "[File] [Edit] [Select] [
 | "( ) g                (+)
@@ -839,7 +846,7 @@ size 80 24 | { |   "is_read_only": false, |   "commits": [], |   "files": [ |   
 | accepted…
 
 # Three states meet in a batch: what was drawn last says what is hit, how far one may scroll, and where the selection stands; the scroll and the selection are those of now.
-24 8 «HILL 0 1» l ctrl-down,click:3:10 shot c => 0
+24 8 «CONTEXT_AND_CHANGE 0 1» l ctrl-down,click:3:10 shot c => 0
 | screen 0
 | "[File] [Edit] [Select] [
 | "[◐] f                [-]
@@ -847,7 +854,7 @@ size 80 24 | { |   "is_read_only": false, |   "commits": [], |   "files": [ |   
 | "    ( ) - b⏎
 | "    [●] + c⏎
 | accepted…
-24 8 «HILL 0 1» l l h ctrl-down ctrl-down ctrl-up,click:0:0,click:0:0 shot c => 0
+24 8 «CONTEXT_AND_CHANGE 0 1» l l h ctrl-down ctrl-down ctrl-up,click:0:0,click:0:0 shot c => 0
 | screen 0
 | "[File] [Edit] [Select] [
 | "(◐) f                (-)
@@ -855,8 +862,8 @@ size 80 24 | { |   "is_read_only": false, |   "commits": [], |   "files": [ |   
 | "    [ ] - b⏎
 | "    [●] + c⏎
 | accepted
-| «HILL 0 1»…
-24 8 «HILL 0 1» l l h ctrl-down ctrl-down ctrl-up,click:0:22,click:0:22,shot shot click:1:22 shot c => 0
+| «CONTEXT_AND_CHANGE 0 1»…
+24 8 «CONTEXT_AND_CHANGE 0 1» l l h ctrl-down ctrl-down ctrl-up,click:0:22,click:0:22,shot shot click:1:22 shot c => 0
 | screen 0
 | "[File] [Edit] [Select] [
 | "[◐] f                [-]
@@ -872,8 +879,8 @@ size 80 24 | { |   "is_read_only": false, |   "commits": [], |   "files": [ |   
 | "[File] [Edit] [Select] [
 | "(◐) f                (+)
 | accepted
-| «HILL 0 1»…
-24 8 «HILL 0 1» l j,click:4:9,space shot c => 0
+| «CONTEXT_AND_CHANGE 0 1»…
+24 8 «CONTEXT_AND_CHANGE 0 1» l j,click:4:9,space shot c => 0
 | screen 0
 | "[File] [Edit] [Select] [
 | "[●] f                [-]
@@ -882,8 +889,8 @@ size 80 24 | { |   "is_read_only": false, |   "commits": [], |   "files": [ |   
 | "    (●) - b⏎
 | "    [●] + c⏎
 | accepted
-| «HILL 1 1»…
-24 4 «PAIR X X» j,l,k,k,click:2:9,shot shot c => 0
+| «CONTEXT_AND_CHANGE 1 1»…
+24 4 «FILES_OF_1_AND_1 ADDED ADDED» j,l,k,k,click:2:9,shot shot c => 0
 | screen 0
 | "[File] [Edit] [Select] [
 | "( ) f                (+)
@@ -894,18 +901,18 @@ size 80 24 | { |   "is_read_only": false, |   "commits": [], |   "files": [ |   
 | "  [ ] Section 1/1    [-]
 | "    [ ] + x⏎
 | accepted…
-«PLAIN» click:0:1 click:0:8,click:1:3 => 0 | accepted | «PLAIN»…
-24 8 «OF3 X C7 Y» l click:4:0 enter shift-F shift-F,ctrl-f shot c => 0
+«NO_SECTIONS» click:0:1 click:0:8,click:1:3 => 0 | accepted | «NO_SECTIONS»…
+24 8 «FILE_OF_3 ADDED CONTEXT_7 REMOVED» l click:4:0 enter shift-F shift-F,ctrl-f shot c => 0
 | screen 0
 | "[File] [Edit] [Select] [
 | accepted…
 
 # A file without sections before one of a line, and a file of two lines: what is inverted, folded and moved to.
-«BARE 1» shift-A shift-A c => 0 | accepted | «BARE 1»…
-«TWO 0 0» l l shift-F shift-F space c => 0 | accepted | «TWO 1 1»…
-«TWO 0 0» l l shift-F space c => 0 | accepted | «TWO 1 0»…
-«TWO 0 0» l l enter space c => 0 | accepted | «TWO 1 1»…
-«BARE 0» l shot space c => 0
+«SECOND_FILE_ONE_LINE 1» shift-A shift-A c => 0 | accepted | «SECOND_FILE_ONE_LINE 1»…
+«TWO_ADDED_LINES 0 0» l l shift-F shift-F space c => 0 | accepted | «TWO_ADDED_LINES 1 1»…
+«TWO_ADDED_LINES 0 0» l l shift-F space c => 0 | accepted | «TWO_ADDED_LINES 1 0»…
+«TWO_ADDED_LINES 0 0» l l enter space c => 0 | accepted | «TWO_ADDED_LINES 1 1»…
+«SECOND_FILE_ONE_LINE 0» l shot space c => 0
 | screen 0
 | "[File] [Edit] [Select] [View]
 | "[ ] p                                                                        [+]
@@ -913,10 +920,10 @@ size 80 24 | { |   "is_read_only": false, |   "commits": [], |   "files": [ |   
 | "  ( ) Section 1/1                                                            (-)
 | "    [ ] + x⏎
 | accepted
-| «BARE 1»…
+| «SECOND_FILE_ONE_LINE 1»…
 
 # On a large screen: a folded file is scrolled over and back, a menu is opened and left or chosen from, and a click below the screen hits nothing.
-«OF1 X» ctrl-down shot ctrl-down shot ctrl-down shot c => 0
+«FILE_OF_1 ADDED» ctrl-down shot ctrl-down shot ctrl-down shot c => 0
 | screen 0
 | "[File] [Edit] [Select] [View]
 | screen 1
@@ -925,8 +932,8 @@ size 80 24 | { |   "is_read_only": false, |   "commits": [], |   "files": [ |   
 | screen 2
 | "[File] [Edit] [Select] [View]
 | accepted
-| «OF1 X»…
-«PLAIN» click:0:1 shot click:1:30 shot c => 0
+| «FILE_OF_1 ADDED»…
+«NO_SECTIONS» click:0:1 shot click:1:30 shot c => 0
 | screen 0
 | "[File] [Edit] [Select] [View]
 | "[Confirm (c)]                                                                (+)
@@ -935,9 +942,9 @@ size 80 24 | { |   "is_read_only": false, |   "commits": [], |   "files": [ |   
 | "[File] [Edit] [Select] [View]
 | "( ) foo/bar                                                                  (+)
 | accepted
-| «PLAIN»…
-«PLAIN» click:0:1 click:2:3 c => 1 | fault: cancelled by user
-«PLAIN» shot click:24:0 shot c => 0
+| «NO_SECTIONS»…
+«NO_SECTIONS» click:0:1 click:2:3 c => 1 | fault: cancelled by user
+«NO_SECTIONS» shot click:24:0 shot c => 0
 | screen 0
 | "[File] [Edit] [Select] [View]
 | "( ) foo/bar                                                                  (+)
@@ -945,10 +952,10 @@ size 80 24 | { |   "is_read_only": false, |   "commits": [], |   "files": [ |   
 | "[File] [Edit] [Select] [View]
 | "( ) foo/bar                                                                  (+)
 | accepted
-| «PLAIN»…
+| «NO_SECTIONS»…
 
 # A line of context is selected by a click and toggles nothing, and the next key from there is the file; a menu's item moves to the next key.
-24 14 «OF3 X C7 Y» l click:4:0 enter shot j shot c => 0
+24 14 «FILE_OF_3 ADDED CONTEXT_7 REMOVED» l click:4:0 enter shot j shot c => 0
 | screen 0
 | "[File] [Edit] [Select] [
 | "[ ] f                [-]
@@ -978,8 +985,8 @@ size 80 24 | { |   "is_read_only": false, |   "commits": [], |   "files": [ |   
 | "  [ ] Section 2/2    [-]
 | "    [ ] - y⏎
 | accepted
-| «OF3 X C7 Y»…
-24 8 «OF1 TEN» l click:0:15 click:2:15 shot c => 0
+| «FILE_OF_3 ADDED CONTEXT_7 REMOVED»…
+24 8 «FILE_OF_1 TEN_ADDED» l click:0:15 click:2:15 shot c => 0
 | screen 0
 | "[File] [Edit] [Select] [
 | "[ ] f                [-]
@@ -990,17 +997,17 @@ size 80 24 | { |   "is_read_only": false, |   "commits": [], |   "files": [ |   
 | "    [ ] + 3⏎
 | "    [ ] + 4⏎
 | accepted
-| «OF1 TEN»…
+| «FILE_OF_1 TEN_ADDED»…
 
 # After Redraw the screen is blank until the next frame.
-20 5 «PLAIN» redraw,shot shot c => 0
+20 5 «NO_SECTIONS» redraw,shot shot c => 0
 | screen 0
 | "
 | screen 1
 | "[File] [Edit] [Selec
 | "( ) foo/bar      (+)
 | accepted…
-size 24 4 | «SAID "m" null» | script | answer "new" | batch shot e shot | batch shot redraw shot c => 0
+size 24 4 | «MESSAGES_NO_SECTIONS "m" null» | script | answer "new" | batch shot e shot | batch shot redraw shot c => 0
 | screen 0
 | "[File] [Edit] [Select] [
 | "
@@ -1016,10 +1023,10 @@ size 24 4 | «SAID "m" null» | script | answer "new" | batch shot e shot | batc
 | screen 3
 | "
 | accepted
-| «SAID "new" null»…
+| «MESSAGES_NO_SECTIONS "new" null»…
 
 # Context: nothing, one to six lines, or more, as the first, a middle, the last and the only section.
-24 5 «OF2 C0 X» l shot c => 0
+24 5 «FILE_OF_2 CONTEXT_0 ADDED» l shot c => 0
 | screen 0
 | "[File] [Edit] [Select] [
 | "[ ] f                [-]
@@ -1027,7 +1034,7 @@ size 24 4 | «SAID "m" null» | script | answer "new" | batch shot e shot | batc
 | "  ( ) Section 1/1    (-)
 | "    [ ] + x⏎
 | accepted…
-24 5 «OF2 C1 X» l shot c => 0
+24 5 «FILE_OF_2 CONTEXT_1 ADDED» l shot c => 0
 | screen 0
 | "[File] [Edit] [Select] [
 | "[ ] f                [-]
@@ -1035,7 +1042,7 @@ size 24 4 | «SAID "m" null» | script | answer "new" | batch shot e shot | batc
 | "  ( ) Section 1/1    (-)
 | "    [ ] + x⏎
 | accepted…
-24 7 «OF2 C3 X» l shot c => 0
+24 7 «FILE_OF_2 CONTEXT_3 ADDED» l shot c => 0
 | screen 0
 | "[File] [Edit] [Select] [
 | "[ ] f                [-]
@@ -1045,7 +1052,7 @@ size 24 4 | «SAID "m" null» | script | answer "new" | batch shot e shot | batc
 | "  ( ) Section 1/1    (-)
 | "    [ ] + x⏎
 | accepted…
-24 7 «OF2 C4 X» l shot c => 0
+24 7 «FILE_OF_2 CONTEXT_4 ADDED» l shot c => 0
 | screen 0
 | "[File] [Edit] [Select] [
 | "[ ] f                [-]
@@ -1055,7 +1062,7 @@ size 24 4 | «SAID "m" null» | script | answer "new" | batch shot e shot | batc
 | "  ( ) Section 1/1    (-)
 | "    [ ] + x⏎
 | accepted…
-24 7 «OF2 C6 X» l shot c => 0
+24 7 «FILE_OF_2 CONTEXT_6 ADDED» l shot c => 0
 | screen 0
 | "[File] [Edit] [Select] [
 | "[ ] f                [-]
@@ -1065,7 +1072,7 @@ size 24 4 | «SAID "m" null» | script | answer "new" | batch shot e shot | batc
 | "  ( ) Section 1/1    (-)
 | "    [ ] + x⏎
 | accepted…
-24 7 «OF2 C7 X» l shot c => 0
+24 7 «FILE_OF_2 CONTEXT_7 ADDED» l shot c => 0
 | screen 0
 | "[File] [Edit] [Select] [
 | "[ ] f                [-]
@@ -1075,7 +1082,7 @@ size 24 4 | «SAID "m" null» | script | answer "new" | batch shot e shot | batc
 | "  ( ) Section 1/1    (-)
 | "    [ ] + x⏎
 | accepted…
-24 12 «OF3 X C0 Y» l shot c => 0
+24 12 «FILE_OF_3 ADDED CONTEXT_0 REMOVED» l shot c => 0
 | screen 0
 | "[File] [Edit] [Select] [
 | "[ ] f                [-]
@@ -1085,7 +1092,7 @@ size 24 4 | «SAID "m" null» | script | answer "new" | batch shot e shot | batc
 | "  [ ] Section 2/2    [-]
 | "    [ ] - y⏎
 | accepted…
-24 12 «OF3 X C1 Y» l shot c => 0
+24 12 «FILE_OF_3 ADDED CONTEXT_1 REMOVED» l shot c => 0
 | screen 0
 | "[File] [Edit] [Select] [
 | "[ ] f                [-]
@@ -1095,7 +1102,7 @@ size 24 4 | «SAID "m" null» | script | answer "new" | batch shot e shot | batc
 | "  [ ] Section 2/2    [-]
 | "    [ ] - y⏎
 | accepted…
-24 12 «OF3 X C3 Y» l shot c => 0
+24 12 «FILE_OF_3 ADDED CONTEXT_3 REMOVED» l shot c => 0
 | screen 0
 | "[File] [Edit] [Select] [
 | "[ ] f                [-]
@@ -1107,7 +1114,7 @@ size 24 4 | «SAID "m" null» | script | answer "new" | batch shot e shot | batc
 | "  [ ] Section 2/2    [-]
 | "    [ ] - y⏎
 | accepted…
-24 12 «OF3 X C6 Y» l shot c => 0
+24 12 «FILE_OF_3 ADDED CONTEXT_6 REMOVED» l shot c => 0
 | screen 0
 | "[File] [Edit] [Select] [
 | "[ ] f                [-]
@@ -1122,7 +1129,7 @@ size 24 4 | «SAID "m" null» | script | answer "new" | batch shot e shot | batc
 | "  [ ] Section 2/2    [-]
 | "    [ ] - y⏎
 | accepted…
-24 12 «OF3 X C7 Y» l shot c => 0
+24 12 «FILE_OF_3 ADDED CONTEXT_7 REMOVED» l shot c => 0
 | screen 0
 | "[File] [Edit] [Select] [
 | "[ ] f                [-]
@@ -1137,32 +1144,22 @@ size 24 4 | «SAID "m" null» | script | answer "new" | batch shot e shot | batc
 | "        7 g⏎
 | "  [ ] Section 2/2    [-]
 | accepted…
-24 8 «OF2 X C0» l shot c => 0
+24 8 «FILE_OF_2 ADDED CONTEXT_0» l shot c => 0
 | screen 0
 | "[File] [Edit] [Select] [
 | "[ ] f                [-]
 | "  ( ) Section 1/1    (-)
 | "    [ ] + x⏎
 | accepted…
-24 8 «OF2 X C1» l shot c => 0
-| screen 0
-| "[File] [Edit] [Select] [
-| "[ ] f                [-]
-| "  ( ) Section 1/1    (-)
-| "    [ ] + x⏎
-| "        1 a⏎
-| accepted…
-24 8 «OF2 X C3» l shot c => 0
+24 8 «FILE_OF_2 ADDED CONTEXT_1» l shot c => 0
 | screen 0
 | "[File] [Edit] [Select] [
 | "[ ] f                [-]
 | "  ( ) Section 1/1    (-)
 | "    [ ] + x⏎
 | "        1 a⏎
-| "        2 b⏎
-| "        3 c⏎
 | accepted…
-24 8 «OF2 X C4» l shot c => 0
+24 8 «FILE_OF_2 ADDED CONTEXT_3» l shot c => 0
 | screen 0
 | "[File] [Edit] [Select] [
 | "[ ] f                [-]
@@ -1171,9 +1168,8 @@ size 24 4 | «SAID "m" null» | script | answer "new" | batch shot e shot | batc
 | "        1 a⏎
 | "        2 b⏎
 | "        3 c⏎
-| "        ⋮
 | accepted…
-24 8 «OF2 X C6» l shot c => 0
+24 8 «FILE_OF_2 ADDED CONTEXT_4» l shot c => 0
 | screen 0
 | "[File] [Edit] [Select] [
 | "[ ] f                [-]
@@ -1184,7 +1180,7 @@ size 24 4 | «SAID "m" null» | script | answer "new" | batch shot e shot | batc
 | "        3 c⏎
 | "        ⋮
 | accepted…
-24 8 «OF2 X C7» l shot c => 0
+24 8 «FILE_OF_2 ADDED CONTEXT_6» l shot c => 0
 | screen 0
 | "[File] [Edit] [Select] [
 | "[ ] f                [-]
@@ -1195,17 +1191,28 @@ size 24 4 | «SAID "m" null» | script | answer "new" | batch shot e shot | batc
 | "        3 c⏎
 | "        ⋮
 | accepted…
-24 4 «OF1 C0» f shot c => 0
+24 8 «FILE_OF_2 ADDED CONTEXT_7» l shot c => 0
+| screen 0
+| "[File] [Edit] [Select] [
+| "[ ] f                [-]
+| "  ( ) Section 1/1    (-)
+| "    [ ] + x⏎
+| "        1 a⏎
+| "        2 b⏎
+| "        3 c⏎
+| "        ⋮
+| accepted…
+24 4 «FILE_OF_1 CONTEXT_0» f shot c => 0
 | screen 0
 | "[File] [Edit] [Select] [
 | "( ) f                (-)
 | accepted…
-24 4 «OF1 C4» f shot c => 0
+24 4 «FILE_OF_1 CONTEXT_4» f shot c => 0
 | screen 0
 | "[File] [Edit] [Select] [
 | "( ) f                (-)
 | accepted…
-24 9 «OF4 C1 X C1 C1» l shot f shot c => 0
+24 9 «FILE_OF_4 CONTEXT_1 ADDED CONTEXT_1 CONTEXT_1» l shot f shot c => 0
 | screen 0
 | "[File] [Edit] [Select] [
 | "[ ] f                [-]
@@ -1218,7 +1225,7 @@ size 24 4 | «SAID "m" null» | script | answer "new" | batch shot e shot | batc
 | "[ ] f                [±]
 | "  ( ) Section 1/1    (+)
 | accepted…
-24 14 «OF5 X C7 X C7 Y» l f shot c => 0
+24 14 «FILE_OF_5 ADDED CONTEXT_7 ADDED CONTEXT_7 REMOVED» l f shot c => 0
 | screen 0
 | "[File] [Edit] [Select] [
 | "[ ] f                [±]
@@ -1235,7 +1242,7 @@ size 24 4 | «SAID "m" null» | script | answer "new" | batch shot e shot | batc
 | "        8 a⏎
 | "        9 b⏎
 | accepted…
-24 14 «OF5 C1 MODE C1 B2 C1» l shot h f shot c => 0
+24 14 «FILE_OF_5 CONTEXT_1 MODE_CHANGE CONTEXT_1 BINARY_BOTH CONTEXT_1» l shot h f shot c => 0
 | screen 0
 | "[File] [Edit] [Select] [
 | "[ ] f                [-]
@@ -1255,10 +1262,10 @@ size 24 4 | «SAID "m" null» | script | answer "new" | batch shot e shot | batc
 | accepted…
 
 # A section without lines is toggled on, with its effect on a new file.
-«VOID 0» l space c => 0 | accepted | «VOID 1»…
+«NEW_FILE_NO_LINES 0» l space c => 0 | accepted | «NEW_FILE_NO_LINES 1»…
 
 # Modes, and contents that are no text; boxes where nothing may be changed.
-40 9 «OF5 MODE GONER B0 B1 B2» l shot space shot c => 0
+40 9 «FILE_OF_5 MODE_CHANGE DELETION BINARY_NONE BINARY_OLD BINARY_BOTH» l shot space shot c => 0
 | screen 0
 | "[File] [Edit] [Select] [View]
 | "[◐] f                                [-]
@@ -1276,7 +1283,7 @@ size 24 4 | «SAID "m" null» | script | answer "new" | batch shot e shot | batc
 | "  [ ] (binary contents: a)
 | "  [ ] (binary contents: a -> b)
 | accepted…
-24 5 «OF3 B3 MODE GONER» l pagedown shot c => 0
+24 5 «FILE_OF_3 BINARY_NEW MODE_CHANGE DELETION» l pagedown shot c => 0
 | screen 0
 | "[File] [Edit] [Select] [
 | "[◐] f                [-]
@@ -1284,7 +1291,7 @@ size 24 4 | «SAID "m" null» | script | answer "new" | batch shot e shot | batc
 | "  ( ) File mode set to …
 | "  [●] File deleted
 | accepted…
-40 8 «KEPT LONG GONER B2» l shot space enter a shift-A shot l shot c => 0
+40 8 «READ_ONLY_FILE_OF_3 LONG_LINE_AND_NO_END DELETION BINARY_BOTH» l shot space enter a shift-A shot l shot c => 0
 | screen 0
 | "[File] [Edit] [Select] [View]
 | "<◐> f                                [-]
@@ -1310,8 +1317,8 @@ size 24 4 | «SAID "m" null» | script | answer "new" | batch shot e shot | batc
 | "  <●> File deleted
 | "  < > (binary contents: a -> b)
 | accepted
-| «KEPT LONG GONER B2»…
-24 5 «OF1 LONG» l shot c => 0
+| «READ_ONLY_FILE_OF_3 LONG_LINE_AND_NO_END DELETION BINARY_BOTH»…
+24 5 «FILE_OF_1 LONG_LINE_AND_NO_END» l shot c => 0
 | screen 0
 | "[File] [Edit] [Select] [
 | "[◐] f                [-]
@@ -1321,7 +1328,7 @@ size 24 4 | «SAID "m" null» | script | answer "new" | batch shot e shot | batc
 | accepted…
 
 # Folds of a file: closed, open in part, open; and of an empty section.
-24 7 «OF3 X EMPTY MODE» shot l shot f shot shift-F shot shift-F shot c => 0
+24 7 «FILE_OF_3 ADDED NO_LINES MODE_CHANGE» shot l shot f shot shift-F shot shift-F shot c => 0
 | screen 0
 | "[File] [Edit] [Select] [
 | "( ) f                (+)
@@ -1351,7 +1358,7 @@ size 24 4 | «SAID "m" null» | script | answer "new" | batch shot e shot | batc
 | accepted…
 
 # Messages: none, an empty one, spaces, two lines, one that is too wide, and characters that take no column.
-40 6 «SAID "" null» shot c => 0
+40 6 «MESSAGES_NO_SECTIONS "" null» shot c => 0
 | screen 0
 | "[File] [Edit] [Select] [View]
 | "
@@ -1359,7 +1366,7 @@ size 24 4 | «SAID "m" null» | script | answer "new" | batch shot e shot | batc
 | "
 | "( ) f                                (+)
 | accepted…
-40 6 «SAID "\u0020\t\u3000\nsecond" null» shot c => 0
+40 6 «MESSAGES_NO_SECTIONS "\u0020\t\u3000\nsecond" null» shot c => 0
 | screen 0
 | "[File] [Edit] [Select] [View]
 | "
@@ -1367,7 +1374,7 @@ size 24 4 | «SAID "m" null» | script | answer "new" | batch shot e shot | batc
 | "
 | "( ) f                                (+)
 | accepted…
-40 6 «SAID "\u2003first\u0020\r\nsecond" null» shot c => 0
+40 6 «MESSAGES_NO_SECTIONS "\u2003first\u0020\r\nsecond" null» shot c => 0
 | screen 0
 | "[File] [Edit] [Select] [View]
 | "
@@ -1375,7 +1382,7 @@ size 24 4 | «SAID "m" null» | script | answer "new" | batch shot e shot | batc
 | "
 | "( ) f                                (+)
 | accepted…
-40 6 «SAID "a\u0020message\u0020that\u0020is\u0020too\u0020wide" null» shot c => 0
+40 6 «MESSAGES_NO_SECTIONS "a\u0020message\u0020that\u0020is\u0020too\u0020wide" null» shot c => 0
 | screen 0
 | "[File] [Edit] [Select] [View]
 | "
@@ -1383,7 +1390,7 @@ size 24 4 | «SAID "m" null» | script | answer "new" | batch shot e shot | batc
 | "
 | "( ) f                                (+)
 | accepted…
-40 6 «SAID "a\tb\u001cc" null» shot c => 0
+40 6 «MESSAGES_NO_SECTIONS "a\tb\u001cc" null» shot c => 0
 | screen 0
 | "[File] [Edit] [Select] [View]
 | "
@@ -1391,7 +1398,7 @@ size 24 4 | «SAID "m" null» | script | answer "new" | batch shot e shot | batc
 | "
 | "( ) f                                (+)
 | accepted…
-40 6 «SAID "\u001c" null» shot c => 0
+40 6 «MESSAGES_NO_SECTIONS "\u001c" null» shot c => 0
 | screen 0
 | "[File] [Edit] [Select] [View]
 | "
@@ -1399,46 +1406,46 @@ size 24 4 | «SAID "m" null» | script | answer "new" | batch shot e shot | batc
 | "
 | "( ) f                                (+)
 | accepted…
-40 3 «SAID null "m"» shot c => 0
+40 3 «MESSAGES_NO_SECTIONS null "m"» shot c => 0
 | screen 0
 | "[File] [Edit] [Select] [View]
 | "( ) f                                (+)
 | accepted…
 
 # Paths: an old one, wide symbols, a combining mark, controls; and the characters of a line, of which none vanishes.
-30 2 «NAMED "old" "new"» shot c => 0
+30 2 «PATHS "old" "new"» shot c => 0
 | screen 0
 | "[File] [Edit] [Select] [View]
 | "( ) old => new             (+)
 | accepted…
-14 2 «NAMED "old" "new"» shot c => 0
+14 2 «PATHS "old" "new"» shot c => 0
 | screen 0
 | "[File] [Edit]
 | "( ) old =>…(+)
 | accepted…
-24 2 «NAMED null "a\tb"» shot c => 0
+24 2 «PATHS null "a\tb"» shot c => 0
 | screen 0
 | "[File] [Edit] [Select] [
 | "( ) ab               (+)
 | accepted…
-24 2 «NAMED null "e\u0301\u001b\u0000日"» shot c => 0
+24 2 «PATHS null "e\u0301\u001b\u0000日"» shot c => 0
 | screen 0
 | "[File] [Edit] [Select] [
 | "( ) é日              (+)
 | accepted…
-24 2 «NAMED null ""» shot c => 0
+24 2 «PATHS null ""» shot c => 0
 | screen 0
 | "[File] [Edit] [Select] [
 | "( )                  (+)
 | accepted…
-24 8 «OF1 {"Changed":{"lines":[{"is_checked":false,"change_type":"Added","line":"a\u0301\u0000日\n"}]}}» l shot c => 0
+24 8 «FILE_OF_1 {"Changed":{"lines":[{"is_checked":false,"change_type":"Added","line":"a\u0301\u0000日\n"}]}}» l shot c => 0
 | screen 0
 | "[File] [Edit] [Select] [
 | "[ ] f                [-]
 | "  ( ) Section 1/1    (-)
 | "    [ ] + a�␀日⏎
 | accepted…
-40 9 «OF2 {"Unchanged":{"lines":["\u007f\u001b\u0085","\r\n"]}} {"Changed":{"lines":[{"is_checked":false,"change_type":"Added","line":"\ta\tb"},{"is_checked":true,"change_type":"Removed","line":"e\u0301日\u200d"},{"is_checked":true,"change_type":"Removed","line":""}]}}» l shot c => 0
+40 9 «FILE_OF_2 {"Unchanged":{"lines":["\u007f\u001b\u0085","\r\n"]}} {"Changed":{"lines":[{"is_checked":false,"change_type":"Added","line":"\ta\tb"},{"is_checked":true,"change_type":"Removed","line":"e\u0301日\u200d"},{"is_checked":true,"change_type":"Removed","line":""}]}}» l shot c => 0
 | screen 0
 | "[File] [Edit] [Select] [View]
 | "[◐] f                                [-]
@@ -1451,7 +1458,7 @@ size 24 4 | «SAID "m" null» | script | answer "new" | batch shot e shot | batc
 | accepted…
 
 # The picture of each control character.
-60 4 «OF1 {"Changed":{"lines":[{"is_checked":false,"change_type":"Added","line":"\u0000\u0001\u0002\u0003\u0004\u0005\u0006\u0007\u0008\u0009\u000a\u000b\u000c\u000d\u000e\u000f\u0010\u0011\u0012\u0013\u0014\u0015\u0016\u0017\u0018\u0019\u001a\u001b\u001c\u001d\u001e\u001f\u007f\n"}]}}» l shot c => 0
+60 4 «FILE_OF_1 {"Changed":{"lines":[{"is_checked":false,"change_type":"Added","line":"\u0000\u0001\u0002\u0003\u0004\u0005\u0006\u0007\u0008\u0009\u000a\u000b\u000c\u000d\u000e\u000f\u0010\u0011\u0012\u0013\u0014\u0015\u0016\u0017\u0018\u0019\u001a\u001b\u001c\u001d\u001e\u001f\u007f\n"}]}}» l shot c => 0
 | screen 0
 | "[File] [Edit] [Select] [View]
 | "[ ] f                                                    [-]
@@ -1460,7 +1467,7 @@ size 24 4 | «SAID "m" null» | script | answer "new" | batch shot e shot | batc
 | accepted…
 
 # Without files.
-«NOTHING» shot c => 0
+«EMPTY_STATE» shot c => 0
 | screen 0
 | "[File] [Edit] [Select] [View]
 | "
@@ -1470,55 +1477,55 @@ size 24 4 | «SAID "m" null» | script | answer "new" | batch shot e shot | batc
 | "
 | "                    There are no changes to view.
 | accepted…
-20 3 «NOTHING» shot c => 0
+20 3 «EMPTY_STATE» shot c => 0
 | screen 0
 | "[File] [Edit] [Selec
 | "There are no change…
 | accepted…
-1 1 «NOTHING» shot c => 0
+1 1 «EMPTY_STATE» shot c => 0
 | screen 0
 | "[
 | accepted…
-40 9 «MESSAGES "m" null» shot c => 0
+40 9 «TWO_MESSAGES "m" null» shot c => 0
 | screen 0
 | "[File] [Edit] [Select] [View]
 | "
 | "[Edit message]  •  m
 | "     There are no changes to view.
 | accepted…
-40 3 «MESSAGES "m" null» shot c => 0
+40 3 «TWO_MESSAGES "m" null» shot c => 0
 | screen 0
 | "[File] [Edit] [Select] [View]
 | "     There are no changes to view.
 | "[Edit message]  •  m
 | accepted…
-40 12 «MESSAGES "m" null» ctrl-down ctrl-down ctrl-down shot c => 0
+40 12 «TWO_MESSAGES "m" null» ctrl-down ctrl-down ctrl-down shot c => 0
 | screen 0
 | "[File] [Edit] [Select] [View]
 | "     There are no changes to view.
 | accepted…
-40 12 «NOTHING» ctrl-down ctrl-down ctrl-down shot c => 0
+40 12 «EMPTY_STATE» ctrl-down ctrl-down ctrl-down shot c => 0
 | screen 0
 | "[File] [Edit] [Select] [View]
 | "
 | "     There are no changes to view.
 | accepted…
-«MESSAGES null null» l h j ctrl-d space enter f shift-F a c => 0
+«TWO_MESSAGES null null» l h j ctrl-d space enter f shift-F a c => 0
 | accepted
-| «MESSAGES null null»…
+| «TWO_MESSAGES null null»…
 
 # Screens of any size: what has no place is not shown.
-0 0 «PLAIN» shot l ? q shot space c => 0
+0 0 «NO_SECTIONS» shot l ? q shot space c => 0
 | screen 0
 | screen 1
 | accepted…
-0 5 «PLAIN» shot click:0:0 c => 0
+0 5 «NO_SECTIONS» shot click:0:0 c => 0
 | screen 0
 | accepted…
-5 0 «PLAIN» shot ctrl-f ctrl-d l c => 0
+5 0 «NO_SECTIONS» shot ctrl-f ctrl-d l c => 0
 | screen 0
 | accepted…
-1 1 «OF1 K» shot l shot q shot ? shot ctrl-c => 1
+1 1 «FILE_OF_1 CHECKED» shot l shot q shot ? shot ctrl-c => 1
 | screen 0
 | "[
 | screen 1
@@ -1528,37 +1535,37 @@ size 24 4 | «SAID "m" null» | script | answer "new" | batch shot e shot | batc
 | screen 3
 | "┌
 | fault: cancelled by user
-1 2 «PLAIN» shot c => 0
+1 2 «NO_SECTIONS» shot c => 0
 | screen 0
 | "[
 | ")
 | accepted…
-2 2 «PLAIN» shot c => 0
+2 2 «NO_SECTIONS» shot c => 0
 | screen 0
 | "[F
 | "+)
 | accepted…
-3 3 «OF1 K» l shot c => 0
+3 3 «FILE_OF_1 CHECKED» l shot c => 0
 | screen 0
 | "[Fi
 | "[-]
 | "(-)
 | accepted…
-5 4 «OF1 K» l shot c => 0
+5 4 «FILE_OF_1 CHECKED» l shot c => 0
 | screen 0
 | "[File
 | "[…[-]
 | "  (-)
 | "    …
 | accepted…
-7 4 «OF1 K» l shot c => 0
+7 4 «FILE_OF_1 CHECKED» l shot c => 0
 | screen 0
 | "[File]
 | "[●]…[-]
 | "  (…(-)
 | "    [●…
 | accepted…
-8 5 «OF2 K C1» l shot c => 0
+8 5 «FILE_OF_2 CHECKED CONTEXT_1» l shot c => 0
 | screen 0
 | "[File] [
 | "[●] f[-]
@@ -1566,37 +1573,37 @@ size 24 4 | «SAID "m" null» | script | answer "new" | batch shot e shot | batc
 | "    [●]…
 | "       …
 | accepted…
-9 2 «PLAIN» shot c => 0
+9 2 «NO_SECTIONS» shot c => 0
 | screen 0
 | "[File] [E
 | "( ) f…(+)
 | accepted…
-size 9 4 | «SAID "m" null» | script | answer "n" | batch shot | batch click:2:8 | batch c => 0
+size 9 4 | «MESSAGES_NO_SECTIONS "m" null» | script | answer "n" | batch shot | batch click:2:8 | batch c => 0
 | screen 0
 | "[File] [E
 | "
 | "[Edit me…
 | accepted
-| «SAID "n" null»…
-10 2 «PLAIN» shot c => 0
+| «MESSAGES_NO_SECTIONS "n" null»…
+10 2 «NO_SECTIONS» shot c => 0
 | screen 0
 | "[File] [Ed
 | "( ) fo…(+)
 | accepted…
-65535 1 «PLAIN» shot c => 0
+65535 1 «NO_SECTIONS» shot c => 0
 | screen 0
 | "[File] [Edit] [Select] [View]
 | accepted…
-1 65535 «PLAIN» ctrl-f ctrl-f c => 0
+1 65535 «NO_SECTIONS» ctrl-f ctrl-f c => 0
 | accepted…
 
-# A click off the screen does nothing; one on the screen selects, or toggles and folds what is selected.
-24 4 «PLAIN» click:4:0 click:0:65535 click:65535:65535 click:1:24 shot c => 0
+# A click off the screen does nothing. A click on the screen selects, or toggles or folds the selection.
+24 4 «NO_SECTIONS» click:4:0 click:0:65535 click:65535:65535 click:1:24 shot c => 0
 | screen 0
 | "[File] [Edit] [Select] [
 | "( ) foo/bar          (+)
 | accepted…
-24 7 «OF2 K MODE» click:1:22 shot click:2:7 shot click:2:3 shot click:3:0 shot click:3:5 shot click:4:20 shot click:4:2 shot click:1:1 click:1:1 shot c => 0
+24 7 «FILE_OF_2 CHECKED MODE_CHANGE» click:1:22 shot click:2:7 shot click:2:3 shot click:3:0 shot click:3:5 shot click:4:20 shot click:4:2 shot click:1:1 click:1:1 shot c => 0
 | screen 0
 | "[File] [Edit] [Select] [
 | "(◐) f                (-)
@@ -1646,7 +1653,7 @@ size 9 4 | «SAID "m" null» | script | answer "n" | batch shot | batch click:2:
 | "    [ ] + c⏎
 | "  [ ] File mode set to …
 | accepted…
-24 7 «PAIR X Y» click:2:12 shot click:2:21 shot click:3:4 click:3:4 shot c => 0
+24 7 «FILES_OF_1_AND_1 ADDED REMOVED» click:2:12 shot click:2:21 shot click:3:4 click:3:4 shot c => 0
 | screen 0
 | "[File] [Edit] [Select] [
 | "[ ] f                [+]
@@ -1666,7 +1673,7 @@ size 9 4 | «SAID "m" null» | script | answer "n" | batch shot | batch click:2:
 | accepted…
 
 # Columns 0 and 1 of the rows of a section are the file's, unless the section shows a line, or can be changed and is selected.
-24 8 «OF3 X MODE C0» l click:2:0 shot click:4:0 shot click:4:8,click:4:1 shot click:4:8 click:4:1 shot c => 0
+24 8 «FILE_OF_3 ADDED MODE_CHANGE CONTEXT_0» l click:2:0 shot click:4:0 shot click:4:8,click:4:1 shot click:4:8 click:4:1 shot c => 0
 | screen 0
 | "[File] [Edit] [Select] [
 | "[ ] f                [-]
@@ -1692,7 +1699,7 @@ size 9 4 | «SAID "m" null» | script | answer "n" | batch shot | batch click:2:
 | "    [ ] + x⏎
 | "  ( ) File mode set to …
 | accepted…
-24 8 «OF3 X MODE C0» l click:2:3 click:2:22 click:2:22 shot click:2:1 shot click:2:9 click:2:1 shot c => 0
+24 8 «FILE_OF_3 ADDED MODE_CHANGE CONTEXT_0» l click:2:3 click:2:22 click:2:22 shot click:2:1 shot click:2:9 click:2:1 shot c => 0
 | screen 0
 | "[File] [Edit] [Select] [
 | "[◐] f                [-]
@@ -1712,7 +1719,7 @@ size 9 4 | «SAID "m" null» | script | answer "n" | batch shot | batch click:2:
 | "    [●] + x⏎
 | "  [ ] File mode set to …
 | accepted…
-24 10 «OF3 X C0 Y» l click:4:1 shot click:4:2 shot click:4:1 shot click:1:5,click:4:20 enter shot c => 0
+24 10 «FILE_OF_3 ADDED CONTEXT_0 REMOVED» l click:4:1 shot click:4:2 shot click:4:1 shot click:1:5,click:4:20 enter shot c => 0
 | screen 0
 | "[File] [Edit] [Select] [
 | "( ) f                (-)
@@ -1746,7 +1753,7 @@ size 9 4 | «SAID "m" null» | script | answer "n" | batch shot | batch click:2:
 | "  [ ] Section 2/2    [-]
 | "    [ ] - y⏎
 | accepted…
-24 9 «OF2 C7 X» l click:2:0 shot space enter shot c => 0
+24 9 «FILE_OF_2 CONTEXT_7 ADDED» l click:2:0 shot space enter shot c => 0
 | screen 0
 | "[File] [Edit] [Select] [
 | "[ ] f                [-]
@@ -1768,7 +1775,7 @@ size 9 4 | «SAID "m" null» | script | answer "n" | batch shot | batch click:2:
 | accepted…
 
 # The file of a pinned header owns the row of its own header.
-24 5 «OF1 TEN» l l j j j j click:1:1 shot ctrl-up,ctrl-up,ctrl-up,ctrl-up,click:1:22 shot c => 0
+24 5 «FILE_OF_1 TEN_ADDED» l l j j j j click:1:1 shot ctrl-up,ctrl-up,ctrl-up,ctrl-up,click:1:22 shot c => 0
 | screen 0
 | "[File] [Edit] [Select] [
 | "( ) f                (-)
@@ -1782,7 +1789,7 @@ size 9 4 | «SAID "m" null» | script | answer "n" | batch shot | batch click:2:
 | "    [ ] + 0⏎
 | "    [ ] + 1⏎
 | accepted…
-24 5 «PAIR TEN X» l l j j j j click:1:22 shot click:1:22 shot c => 0
+24 5 «FILES_OF_1_AND_1 TEN_ADDED ADDED» l l j j j j click:1:22 shot click:1:22 shot c => 0
 | screen 0
 | "[File] [Edit] [Select] [
 | "( ) f                (-)
@@ -1796,7 +1803,7 @@ size 9 4 | «SAID "m" null» | script | answer "n" | batch shot | batch click:2:
 | accepted…
 
 # Each item of each menu, whole.
-80 10 «PLAIN» click:0:1 shot click:0:8 shot click:0:15 shot click:0:24 shot c => 0
+80 10 «NO_SECTIONS» click:0:1 shot click:0:8 shot click:0:15 shot click:0:24 shot c => 0
 | screen 0
 | "[File] [Edit] [Select] [View]
 | "[Confirm (c)]                                                                (+)
@@ -1830,7 +1837,7 @@ size 9 4 | «SAID "m" null» | script | answer "n" | batch shot | batch click:2:
 | accepted…
 
 # Menus: opened and closed by their headers, closed by the bar on every row of theirs, and each item is its own label alone.
-80 4 «PLAIN» click:0:1 shot click:1:30 shot click:0:8 shot click:0:8 shot click:0:15 click:0:7 shot click:1:25 shot c => 0
+80 4 «NO_SECTIONS» click:0:1 shot click:1:30 shot click:0:8 shot click:0:8 shot click:0:15 click:0:7 shot click:1:25 shot c => 0
 | screen 0
 | "[File] [Edit] [Select] [View]
 | "[Confirm (c)]                                                                (+)
@@ -1855,9 +1862,9 @@ size 9 4 | «SAID "m" null» | script | answer "n" | batch shot | batch click:2:
 | "[File] [Edit] [Select] [View]
 | "( ) foo/bar                                                                  (+)
 | accepted…
-«PLAIN» click:0:1 click:2:3 c => 1 | fault: cancelled by user
-«OF1 K» click:0:1 click:2:3 space c => 1 | fault: cancelled by user
-24 8 «OF1 TEN» l click:0:15 click:2:15 shot c => 0
+«NO_SECTIONS» click:0:1 click:2:3 c => 1 | fault: cancelled by user
+«FILE_OF_1 CHECKED» click:0:1 click:2:3 space c => 1 | fault: cancelled by user
+24 8 «FILE_OF_1 TEN_ADDED» l click:0:15 click:2:15 shot c => 0
 | screen 0
 | "[File] [Edit] [Select] [
 | "[ ] f                [-]
@@ -1868,14 +1875,14 @@ size 9 4 | «SAID "m" null» | script | answer "n" | batch shot | batch click:2:
 | "    [ ] + 3⏎
 | "    [ ] + 4⏎
 | accepted…
-24 6 «OF2 X Y» l ctrl-down ctrl-down click:0:2 shot click:2:3 c => 1
+24 6 «FILE_OF_2 ADDED REMOVED» l ctrl-down ctrl-down click:0:2 shot click:2:3 c => 1
 | screen 0
 | "[File] [Edit] [Select] [
 | "[Confirm (c)]        [-]
 | "[Quit (q)]    2/2    [-]
 | "    [ ] - y⏎
 | fault: cancelled by user
-50 11 «OF2 X Y» click:0:14 shot click:7:20 click:0:14 click:2:15 click:0:14 click:5:15 shot c => 0
+50 11 «FILE_OF_2 ADDED REMOVED» click:0:14 shot click:7:20 click:0:14 click:2:15 click:0:14 click:5:15 shot c => 0
 | screen 0
 | "[File] [Edit] [Select] [View]
 | "( ) f         [Previous item (up, k)]
@@ -1895,7 +1902,7 @@ size 9 4 | «SAID "m" null» | script | answer "n" | batch shot | batch click:2:
 | "  [ ] Section 2/2                              [-]
 | "    [ ] - y⏎
 | accepted…
-44 7 «OF1 X» click:0:24 click:2:24 shot click:0:24 click:4:24 shot click:0:24 click:6:30 shot click:0:24 click:5:30 click:0:24 click:3:30 click:0:24 click:1:24 shot c => 0
+44 7 «FILE_OF_1 ADDED» click:0:24 click:2:24 shot click:0:24 click:4:24 shot click:0:24 click:6:30 shot click:0:24 click:5:30 click:0:24 click:3:30 click:0:24 click:1:24 shot c => 0
 | screen 0
 | "[File] [Edit] [Select] [View]
 | "( ) f                                    (-)
@@ -1912,7 +1919,7 @@ size 9 4 | «SAID "m" null» | script | answer "n" | batch shot | batch click:2:
 | "[File] [Edit] [Select] [View]
 | "( ) f                                    (+)
 | accepted…
-40 7 «OF2 X K» click:0:7 shot click:2:8 click:0:7 click:4:8 shot click:0:7 click:5:8 shot click:0:7 click:3:8 shot c => 0
+40 7 «FILE_OF_2 ADDED CHECKED» click:0:7 shot click:2:8 click:0:7 click:4:8 shot click:0:7 click:5:8 shot click:0:7 click:3:8 shot c => 0
 | screen 0
 | "[File] [Edit] [Select] [View]
 | "(◐) f  [Edit message (e)]
@@ -1930,7 +1937,7 @@ size 9 4 | «SAID "m" null» | script | answer "n" | batch shot | batch click:2:
 | "[File] [Edit] [Select] [View]
 | "(●) f                                (+)
 | accepted…
-44 12 «OF3 X Y TEN» click:0:14 click:7:15 click:0:14 click:4:15 click:0:14 click:3:15 click:0:14 click:9:15 shot click:0:14 click:8:15 click:0:14 click:6:15 click:0:14 click:1:15 shot c => 0
+44 12 «FILE_OF_3 ADDED REMOVED TEN_ADDED» click:0:14 click:7:15 click:0:14 click:4:15 click:0:14 click:3:15 click:0:14 click:9:15 shot click:0:14 click:8:15 click:0:14 click:6:15 click:0:14 click:1:15 shot c => 0
 | screen 0
 | "[File] [Edit] [Select] [View]
 | "[ ] f                                    [-]
@@ -1958,14 +1965,14 @@ size 9 4 | «SAID "m" null» | script | answer "n" | batch shot | batch click:2:
 | "    [ ] + 4⏎
 | "    [ ] + 5⏎
 | accepted…
-24 5 «PLAIN» click:0:1 j shot space click:4:3 click:1:3 c => 0
+24 5 «NO_SECTIONS» click:0:1 j shot space click:4:3 click:1:3 c => 0
 | screen 0
 | "[File] [Edit] [Select] [
 | "[Confirm (c)]        (+)
 | "[Quit (q)]
 | accepted
-| «PLAIN»…
-7 3 «PLAIN» click:0:6 shot click:0:1 shot c => 0
+| «NO_SECTIONS»…
+7 3 «NO_SECTIONS» click:0:6 shot click:0:1 shot c => 0
 | screen 0
 | "[File]
 | "( )…(+)
@@ -1974,7 +1981,7 @@ size 9 4 | «SAID "m" null» | script | answer "n" | batch shot | batch click:2:
 | "[Confir
 | "[Quit (
 | accepted…
-size 40 5 | «SAID "m" null» | script | answer "n" | batch click:0:7 | batch click:1:9 | batch shot | batch c => 0
+size 40 5 | «MESSAGES_NO_SECTIONS "m" null» | script | answer "n" | batch click:0:7 | batch click:1:9 | batch shot | batch c => 0
 | screen 0
 | "[File] [Edit] [Select] [View]
 | "
@@ -1982,10 +1989,10 @@ size 40 5 | «SAID "m" null» | script | answer "n" | batch click:0:7 | batch cl
 | "
 | "( ) f                                (+)
 | accepted
-| «SAID "n" null»…
+| «MESSAGES_NO_SECTIONS "n" null»…
 
 # The quit dialog: in the middle of the screen, at any scroll; both buttons by click and by key; what a click behind it does.
-«OF1 K» q shot click:12:55 c => 0
+«FILE_OF_1 CHECKED» q shot click:12:55 c => 0
 | screen 0
 | "[File] [Edit] [Select] [View]
 | "(●) f                                                                        (+)
@@ -2001,8 +2008,8 @@ size 40 5 | «SAID "m" null» | script | answer "n" | batch click:0:7 | batch cl
 | "          │                                                          │
 | "          └──────────────────────────────────────────[Go Back]─(Quit)┘
 | accepted
-| «OF1 K»…
-80 6 «OF1 K» ctrl-down q shot click:4:55 click:3:55 shot c => 0
+| «FILE_OF_1 CHECKED»…
+80 6 «FILE_OF_1 CHECKED» ctrl-down q shot click:4:55 click:3:55 shot c => 0
 | screen 0
 | "[File] [Edit] [Select] [View]
 | "          ┌Quit──────────────────────────────────────────────────────┐
@@ -2011,11 +2018,11 @@ size 40 5 | «SAID "m" null» | script | answer "n" | batch click:0:7 | batch cl
 | screen 1
 | "[File] [Edit] [Select] [View]
 | accepted
-| «OF1 K»…
-«OF1 K» ctrl-down q click:12:55 c => 0 | accepted | «OF1 K»…
-«OF1 K» q click:12:65 c => 1 | fault: cancelled by user
-«OF1 K» q click:11:12 click:9:12 click:12:52 q c => 0 | accepted | «OF1 K»…
-64 4 «OF1 K» q h shot l shot shift-h shot space shot q enter c => 1
+| «FILE_OF_1 CHECKED»…
+«FILE_OF_1 CHECKED» ctrl-down q click:12:55 c => 0 | accepted | «FILE_OF_1 CHECKED»…
+«FILE_OF_1 CHECKED» q click:12:65 c => 1 | fault: cancelled by user
+«FILE_OF_1 CHECKED» q click:11:12 click:9:12 click:12:52 q c => 0 | accepted | «FILE_OF_1 CHECKED»…
+64 4 «FILE_OF_1 CHECKED» q h shot l shot shift-h shot space shot q enter c => 1
 | screen 0
 | "[F┌Quit──────────────────────────────────────────────────────┐
 | "(●│You have changes to 1 file. Are you sure you want to quit?│+)
@@ -2032,7 +2039,7 @@ size 40 5 | «SAID "m" null» | script | answer "n" | batch click:0:7 | batch cl
 | "[File] [Edit] [Select] [View]
 | "(●) f                                                        (+)
 | fault: cancelled by user
-10 2 «OF1 K» q shot click:1:0 shot q click:1:1 q click:1:4 c => 1
+10 2 «FILE_OF_1 CHECKED» q shot click:1:0 shot q click:1:1 q click:1:4 c => 1
 | screen 0
 | "┌Quit────┐
 | "k]─(Quit)┘
@@ -2040,25 +2047,25 @@ size 40 5 | «SAID "m" null» | script | answer "n" | batch click:0:7 | batch cl
 | "[File] [Ed
 | "(●) f  (+)
 | fault: cancelled by user
-70 4 «SAID "a" "b"» q shot ctrl-c => 1
+70 4 «MESSAGES_NO_SECTIONS "a" "b"» q shot ctrl-c => 1
 | screen 0
 | "[Fi┌Quit──────────────────────────────────────────────────────────┐
 | "   │You have changes to 2 messages. Are you sure you want to quit?│
 | "[Ed└──────────────────────────────────────────────[Go Back]─(Quit)┘
 | fault: cancelled by user
-80 4 «BAR "a" "b" 1» q shot ctrl-c => 1
+80 4 «MESSAGES_ONE_LINE "a" "b" 1» q shot ctrl-c => 1
 | screen 0
 | "[F┌Quit─────────────────────────────────────────────────────────────────────┐
 | "  │You have changes to 2 messages and 1 file. Are you sure you want to quit?│
 | "[E└─────────────────────────────────────────────────────────[Go Back]─(Quit)┘
 | fault: cancelled by user
-66 4 «PAIR K K» q shot ctrl-c => 1
+66 4 «FILES_OF_1_AND_1 CHECKED CHECKED» q shot ctrl-c => 1
 | screen 0
 | "[F┌Quit───────────────────────────────────────────────────────┐
 | "(●│You have changes to 2 files. Are you sure you want to quit?│(+)
 | "[●└───────────────────────────────────────────[Go Back]─(Quit)┘[+]
 | fault: cancelled by user
-size 70 6 | «BAR "a" null 0» | script | answer "n" | batch q | batch e | batch click:2:5 | batch click:2:1 | batch shot | batch q | batch c => 0
+size 70 6 | «MESSAGES_ONE_LINE "a" null 0» | script | answer "n" | batch q | batch e | batch click:2:5 | batch click:2:1 | batch shot | batch q | batch c => 0
 | screen 0
 | "[File] [Edit] [Select] [View]
 | "   ┌Quit─────────────────────────────────────────────────────────┐
@@ -2066,8 +2073,8 @@ size 70 6 | «BAR "a" null 0» | script | answer "n" | batch q | batch e | batch
 | "   └─────────────────────────────────────────────[Go Back]─(Quit)┘
 | "( ) foo/bar                                                        (+)
 | accepted
-| «BAR "n" null 0»…
-70 8 «OF2 K MODE» q click:1:1 shot click:1:68 shot click:0:9 shot q c => 0
+| «MESSAGES_ONE_LINE "n" null 0»…
+70 8 «FILE_OF_2 CHECKED MODE_CHANGE» q click:1:1 shot click:1:68 shot click:0:9 shot q c => 0
 | screen 0
 | "[File] [Edit] [Select] [View]
 | "( ) f                                                              (+)
@@ -2090,7 +2097,7 @@ size 70 6 | «BAR "a" null 0» | script | answer "n" | batch q | batch e | batch
 | accepted…
 
 # Help, and help over the quit dialog, with each key that closes it; an interrupt opens the quit dialog under help.
-«PLAIN» ? shot c c => 0
+«NO_SECTIONS» ? shot c c => 0
 | screen 0
 | "[File] [Edit] [Select] [View]
 | "( ) foo/bar                                                                  (+)
@@ -2114,14 +2121,14 @@ size 70 6 | «BAR "a" null 0» | script | answer "n" | batch q | batch e | batch
 | "│    Invert all uniformly    A                                                 │
 | "└───────────────────────────────────────────────────────────────────────(Close)┘
 | accepted
-| «PLAIN»…
-«PLAIN» ? click:20:75 shot c => 0
+| «NO_SECTIONS»…
+«NO_SECTIONS» ? click:20:75 shot c => 0
 | screen 0
 | "[File] [Edit] [Select] [View]
 | "( ) foo/bar                                                                  (+)
 | accepted
-| «PLAIN»…
-60 5 «OF1 K» q shot ? shot q shot ctrl-c => 1
+| «NO_SECTIONS»…
+60 5 «FILE_OF_1 CHECKED» q shot ? shot q shot ctrl-c => 1
 | screen 0
 | "[File] [Edit] [Select] [View]
 | "┌Quit──────────────────────────────────────────────────────┐
@@ -2139,7 +2146,7 @@ size 70 6 | «BAR "a" null 0» | script | answer "n" | batch q | batch e | batch
 | "│You have changes to 1 file. Are you sure you want to quit?│
 | "└──────────────────────────────────────────[Go Back]─(Quit)┘
 | fault: cancelled by user
-60 4 «OF1 K» q ? ? shot ? esc shot ? space shot ? enter shot ? c shot ctrl-c => 1
+60 4 «FILE_OF_1 CHECKED» q ? ? shot ? esc shot ? space shot ? enter shot ? c shot ctrl-c => 1
 | screen 0
 | "┌Quit──────────────────────────────────────────────────────┐
 | "│You have changes to 1 file. Are you sure you want to quit?│
@@ -2162,7 +2169,7 @@ size 70 6 | «BAR "a" null 0» | script | answer "n" | batch q | batch e | batch
 | "│                                                          │
 | "└───────────────────────────────────────────────────(Close)┘
 | fault: cancelled by user
-60 4 «OF1 K» ? ctrl-c shot q shot q shot c => 0
+60 4 «FILE_OF_1 CHECKED» ? ctrl-c shot q shot q shot c => 0
 | screen 0
 | "┌Help──────────────────────────────────────────────────────┐
 | "│You can click the menus with a mouse, or use these keyboar│
@@ -2176,10 +2183,10 @@ size 70 6 | «BAR "a" null 0» | script | answer "n" | batch q | batch e | batch
 | "[File] [Edit] [Select] [View]
 | "(●) f                                                    (+)
 | accepted
-| «OF1 K»…
-«PLAIN» ? ctrl-c c => 1 | fault: cancelled by user
-«OF1 K» ? space ? enter ? esc ? q ? ? ? c c => 0 | accepted | «OF1 K»…
-60 6 «OF1 K» ? j l a click:1:2 click:0:1 shot click:5:54 shot c => 0
+| «FILE_OF_1 CHECKED»…
+«NO_SECTIONS» ? ctrl-c c => 1 | fault: cancelled by user
+«FILE_OF_1 CHECKED» ? space ? enter ? esc ? q ? ? ? c c => 0 | accepted | «FILE_OF_1 CHECKED»…
+60 6 «FILE_OF_1 CHECKED» ? j l a click:1:2 click:0:1 shot click:5:54 shot c => 0
 | screen 0
 | "┌Help──────────────────────────────────────────────────────┐
 | "│You can click the menus with a mouse, or use these keyboar│
@@ -2195,24 +2202,24 @@ size 70 6 | «BAR "a" null 0» | script | answer "n" | batch q | batch e | batch
 | accepted…
 
 # Both commits side by side: each with its own keys, from the column behind what the first one draws.
-41 5 «BAR null null 0» view shot c => 0
+41 5 «MESSAGES_ONE_LINE null null 0» view shot c => 0
 | screen 0
 | "[File] [Edit] [Select] [View]
 | "( ) foo/bar      (+) [ ] foo/bar      [+]
 | accepted…
-41 5 «BAR null null 0» view click:1:22 shot c => 0
+41 5 «MESSAGES_ONE_LINE null null 0» view click:1:22 shot c => 0
 | screen 0
 | "[File] [Edit] [Select] [View]
 | "[ ] foo/bar      [+] ( ) foo/bar      (+)
 | accepted…
-41 5 «BAR null null 0» view click:1:22 click:1:22 c => 0 | accepted | «BAR null null 1»…
-41 5 «BAR null null 0» view click:1:39 click:1:39 shot c => 0
+41 5 «MESSAGES_ONE_LINE null null 0» view click:1:22 click:1:22 c => 0 | accepted | «MESSAGES_ONE_LINE null null 1»…
+41 5 «MESSAGES_ONE_LINE null null 0» view click:1:39 click:1:39 shot c => 0
 | screen 0
 | "[File] [Edit] [Select] [View]
 | "[ ] foo/bar      [+] ( ) foo/bar      (±)
 | "                       [ ] Section 1/1[+]
 | accepted…
-size 41 5 | «BAR "a" "b" 0» | script | answer "z" | batch view | batch shot | batch click:2:22 | batch shot | batch c => 0
+size 41 5 | «MESSAGES_ONE_LINE "a" "b" 0» | script | answer "z" | batch view | batch shot | batch click:2:22 | batch shot | batch c => 0
 | screen 0
 | "[File] [Edit] [Select] [View]
 | "
@@ -2226,13 +2233,13 @@ size 41 5 | «BAR "a" "b" 0» | script | answer "z" | batch view | batch shot | 
 | "
 | "( ) foo/bar      (+) [ ] foo/bar      [+]
 | accepted
-| «BAR "a" "z" 0»…
-41 5 «BAR null null 0» view view shot c => 0
+| «MESSAGES_ONE_LINE "a" "z" 0»…
+41 5 «MESSAGES_ONE_LINE null null 0» view view shot c => 0
 | screen 0
 | "[File] [Edit] [Select] [View]
 | "( ) foo/bar                           (+)
 | accepted…
-61 6 «BAR "a" null 0» view shot c => 0
+61 6 «MESSAGES_ONE_LINE "a" null 0» view shot c => 0
 | screen 0
 | "[File] [Edit] [Select] [View]
 | "                               [ ] foo/bar                [+]
@@ -2240,7 +2247,7 @@ size 41 5 | «BAR "a" "b" 0» | script | answer "z" | batch view | batch shot | 
 | "
 | "( ) foo/bar                (+)
 | accepted…
-61 6 «BAR null "b" 0» view shot c => 0
+61 6 «MESSAGES_ONE_LINE null "b" 0» view shot c => 0
 | screen 0
 | "[File] [Edit] [Select] [View]
 | "( ) foo/bar                (+)
@@ -2248,7 +2255,7 @@ size 41 5 | «BAR "a" "b" 0» | script | answer "z" | batch view | batch shot | 
 | "
 | "                               [ ] foo/bar                [+]
 | accepted…
-size 41 5 | «BAR "a" null 0» | script | answer "z" | batch view | batch click:2:5 click:2:22 | batch shot | batch c => 0
+size 41 5 | «MESSAGES_ONE_LINE "a" null 0» | script | answer "z" | batch view | batch click:2:5 click:2:22 | batch shot | batch c => 0
 | screen 0
 | "[File] [Edit] [Select] [View]
 | "                     [ ] foo/bar      [+]
@@ -2256,34 +2263,34 @@ size 41 5 | «BAR "a" null 0» | script | answer "z" | batch view | batch click:
 | "
 | "( ) foo/bar      (+)
 | accepted
-| «BAR "z" null 0»…
+| «MESSAGES_ONE_LINE "z" null 0»…
 
 # Both commits without files, with and without messages: the second begins behind the words of the first.
-80 7 «NOTHING» view shot c => 0
+80 7 «EMPTY_STATE» view shot c => 0
 | screen 0
 | "[File] [Edit] [Select] [View]
 | "
 | "     There are no changes to view. There are no changes to view.
 | accepted…
-80 7 «MESSAGES "a" null» view shot c => 0
+80 7 «TWO_MESSAGES "a" null» view shot c => 0
 | screen 0
 | "[File] [Edit] [Select] [View]
 | "
 | "[EditThere are no changes to view.           There are no changes to view.
 | accepted…
-80 7 «MESSAGES null "b"» view shot c => 0
+80 7 «TWO_MESSAGES null "b"» view shot c => 0
 | screen 0
 | "[File] [Edit] [Select] [View]
 | "
 | "     There are no changes to v[EditThere are no changes to view.
 | accepted…
-41 5 «MESSAGES "a" "b"» view shot c => 0
+41 5 «TWO_MESSAGES "a" "b"» view shot c => 0
 | screen 0
 | "[File] [Edit] [Select] [View]
 | "
 | "There are no change… There are no change…
 | accepted…
-41 5 «NOTHING» view shot c => 0
+41 5 «EMPTY_STATE» view shot c => 0
 | screen 0
 | "[File] [Edit] [Select] [View]
 | "
@@ -2291,24 +2298,24 @@ size 41 5 | «BAR "a" null 0» | script | answer "z" | batch view | batch click:
 | accepted…
 
 # The second commit's message blanks its first and its third row, from the second view's column on: there the first view's words go.
-67 2 «MESSAGES null ""» view shot c => 0
+67 2 «TWO_MESSAGES null ""» view shot c => 0
 | screen 0
 | "[File] [Edit] [Select] [View]
 | "  There are no changes to view  There are no changes to view.
 | accepted…
-67 4 «MESSAGES null ""» view shot c => 0
+67 4 «TWO_MESSAGES null ""» view shot c => 0
 | screen 0
 | "[File] [Edit] [Select] [View]
 | "  There are no changes to view  There are no changes to view.
 | "                              [Edit message]  •  (no message)
 | accepted…
-241 3 «MESSAGES null ""» view shot c => 0
+241 3 «TWO_MESSAGES null ""» view shot c => 0
 | screen 0
 | "[File] [Edit] [Select] [View]
 | "                                                            There are no changes to view.
 | "                              [Edit message]  •  (no message)
 | accepted…
-61 6 «MESSAGES null ""» view shot c => 0
+61 6 «TWO_MESSAGES null ""» view shot c => 0
 | screen 0
 | "[File] [Edit] [Select] [View]
 | "
@@ -2316,46 +2323,46 @@ size 41 5 | «BAR "a" null 0» | script | answer "z" | batch view | batch click:
 | accepted…
 
 # Both commits on screens of any width.
-0 4 «BAR "a" "b" 1» view shot ctrl-f c => 0
+0 4 «MESSAGES_ONE_LINE "a" "b" 1» view shot ctrl-f c => 0
 | screen 0
 | accepted…
-1 4 «BAR "a" "b" 1» view shot ctrl-f c => 0
+1 4 «MESSAGES_ONE_LINE "a" "b" 1» view shot ctrl-f c => 0
 | screen 0
 | "[
 | accepted…
-2 4 «BAR "a" "b" 1» view shot ctrl-f c => 0
+2 4 «MESSAGES_ONE_LINE "a" "b" 1» view shot ctrl-f c => 0
 | screen 0
 | "[F
 | accepted…
-3 4 «BAR "a" "b" 1» view shot ctrl-f c => 0
+3 4 «MESSAGES_ONE_LINE "a" "b" 1» view shot ctrl-f c => 0
 | screen 0
 | "[Fi
 | "
 | "… …
 | accepted…
-9 4 «BAR "a" "b" 1» view shot ctrl-f c => 0
+9 4 «MESSAGES_ONE_LINE "a" "b" 1» view shot ctrl-f c => 0
 | screen 0
 | "[File] [E
 | "
 | "[Ed… [Ed…
 | accepted…
-10 4 «BAR "a" "b" 1» view shot ctrl-f c => 0
+10 4 «MESSAGES_ONE_LINE "a" "b" 1» view shot ctrl-f c => 0
 | screen 0
 | "[File] [Ed
 | "
 | "[Ed… [Ed…
 | accepted…
-9 3 «BAR null null 0» view shot c => 0
+9 3 «MESSAGES_ONE_LINE null null 0» view shot c => 0
 | screen 0
 | "[File] [E
 | "…(+) …[+]
 | accepted…
-10 3 «BAR null null 0» view shot c => 0
+10 3 «MESSAGES_ONE_LINE null null 0» view shot c => 0
 | screen 0
 | "[File] [Ed
 | "…(+) …[+]
 | accepted…
-80 6 «BAR "a" null 1» view l shot c => 0
+80 6 «MESSAGES_ONE_LINE "a" null 1» view l shot c => 0
 | screen 0
 | "[File] [Edit] [Select] [View]
 | "[Edit message]  •  a
@@ -2364,7 +2371,7 @@ size 41 5 | «BAR "a" null 0» | script | answer "z" | batch view | batch click:
 | "  (●) Section 1/1                   (-)
 | "    [●] + n⏎
 | accepted…
-300 5 «BAR null "b" 1» view shot click:1:122 shot c => 0
+300 5 «MESSAGES_ONE_LINE null "b" 1» view shot click:1:122 shot c => 0
 | screen 0
 | "[File] [Edit] [Select] [View]
 | "(●) foo/bar                                                                                                          (+)
@@ -2378,13 +2385,13 @@ size 41 5 | «BAR "a" null 0» | script | answer "z" | batch view | batch click:
 | "
 | "                                                                                                                         [●] foo/bar                                                                                                          [+]
 | accepted…
-20 1 «BAR null null 0» view shot c => 0
+20 1 «MESSAGES_ONE_LINE null null 0» view shot c => 0
 | screen 0
 | "[File] [Edit] [Selec
 | accepted…
 
 # Texts of the first commit reach as far as they are wide for a click, where the second one has nothing.
-41 5 «BESIDES X» view click:2:30 shot click:1:20 shot c => 0
+41 5 «LONG_PATH_AND_FILE_OF_1 ADDED» view click:2:30 shot click:1:20 shot c => 0
 | screen 0
 | "[File] [Edit] [Select] [View]
 | "[ ] a/long/path/…[+] [ ] a/long/path/…[+]
@@ -2394,7 +2401,7 @@ size 41 5 | «BAR "a" null 0» | script | answer "z" | batch view | batch click:
 | "( ) a/long/path/…(+) [ ] a/long/path/…[+]
 | "[ ] g            [+] [ ] g            [+]
 | accepted…
-41 6 «OF2 LONG C1» l view click:3:40 shot click:3:39 shot click:5:9 click:5:23 shot click:4:20 shot c => 0
+41 6 «FILE_OF_2 LONG_LINE_AND_NO_END CONTEXT_1» l view click:3:40 shot click:3:39 shot click:5:9 click:5:23 shot click:4:20 shot c => 0
 | screen 0
 | "[File] [Edit] [Select] [View]
 | "[◐] f            [-] [◐] f            [+]
@@ -2424,7 +2431,7 @@ size 41 5 | «BAR "a" null 0» | script | answer "z" | batch view | batch click:
 | "    [●] - no end
 | "        2 a⏎
 | accepted…
-41 7 «OF2 LONG C1» l view click:1:39 click:1:39 click:2:39 click:2:39 shot click:4:36 shot c => 0
+41 7 «FILE_OF_2 LONG_LINE_AND_NO_END CONTEXT_1» l view click:1:39 click:1:39 click:2:39 click:2:39 shot click:4:36 shot c => 0
 | screen 0
 | "[File] [Edit] [Select] [View]
 | "[◐] f            [-] [◐] f            [-]
@@ -2442,7 +2449,7 @@ size 41 5 | «BAR "a" null 0» | script | answer "z" | batch view | batch click:
 | accepted…
 
 # Menus and dialogs over both commits.
-61 7 «BAR null null 1» view click:0:1 shot click:1:40 shot click:0:1 click:2:2 shot ? shot click:0:20 q q shot c => 0
+61 7 «MESSAGES_ONE_LINE null null 1» view click:0:1 shot click:1:40 shot click:0:1 click:2:2 shot ? shot click:0:20 q q shot c => 0
 | screen 0
 | "[File] [Edit] [Select] [View]
 | "[Confirm (c)]              (+) [●] foo/bar                [+]
@@ -2468,15 +2475,15 @@ size 41 5 | «BAR "a" null 0» | script | answer "z" | batch view | batch click:
 | "[File] [Edit] [Select] [View]
 | "(●) foo/bar                (+) [●] foo/bar                [+]
 | accepted
-| «BAR null null 1»…
-70 5 «OF1 K» q view shot ctrl-c => 1
+| «MESSAGES_ONE_LINE null null 1»…
+70 5 «FILE_OF_1 CHECKED» q view shot ctrl-c => 1
 | screen 0
 | "[File] [Edit] [Select] [View]
 | "(●) f┌Quit──────────────────────────────────────────────────────┐ [+]
 | "     │You have changes to 1 file. Are you sure you want to quit?│
 | "     └──────────────────────────────────────────[Go Back]─(Quit)┘
 | fault: cancelled by user
-80 4 «BAR "a" "b" 1» view q shot click:2:38 click:2:38 h space c => 0
+80 4 «MESSAGES_ONE_LINE "a" "b" 1» view q shot click:2:38 click:2:38 h space c => 0
 | screen 0
 | "[F┌Quit─────────────────────────────────────────────────────────────────────┐
 | "  │You have changes to 2 messages and 1 file. Are you sure you want to quit?│
@@ -2484,7 +2491,7 @@ size 41 5 | «BAR "a" null 0» | script | answer "z" | batch view | batch click:
 | accepted…
 
 # Moves, pages, folds and toggles with the selection in the second commit: its keys are among no keys that a move goes by.
-41 6 «BAR null null 0» view click:1:22 f shot space shot h shot j shot c => 0
+41 6 «MESSAGES_ONE_LINE null null 0» view click:1:22 f shot space shot h shot j shot c => 0
 | screen 0
 | "[File] [Edit] [Select] [View]
 | "[ ] foo/bar      [+] ( ) foo/bar      (±)
@@ -2500,8 +2507,8 @@ size 41 5 | «BAR "a" null 0» | script | answer "z" | batch view | batch click:
 | "[File] [Edit] [Select] [View]
 | "(●) foo/bar      (+) [●] foo/bar      [+]
 | accepted
-| «BAR null null 1»…
-41 6 «BAR null null 0» view click:1:22 f click:2:30 shot f shot click:3:26 click:3:26 shot h shot h h shot c => 0
+| «MESSAGES_ONE_LINE null null 1»…
+41 6 «MESSAGES_ONE_LINE null null 0» view click:1:22 f click:2:30 shot f shot click:3:26 click:3:26 shot h shot h h shot c => 0
 | screen 0
 | "[File] [Edit] [Select] [View]
 | "[ ] foo/bar      [+] [ ] foo/bar      [±]
@@ -2526,8 +2533,8 @@ size 41 5 | «BAR "a" null 0» | script | answer "z" | batch view | batch click:
 | "[●] foo/bar      [+] (●) foo/bar      (±)
 | "                       [●] Section 1/1[+]
 | accepted
-| «BAR null null 1»…
-41 6 «BAR null null 0» l view click:1:22 f click:2:38 click:2:38 shot shift-F shot click:1:21 l shot ctrl-d shot k shot c => 0
+| «MESSAGES_ONE_LINE null null 1»…
+41 6 «MESSAGES_ONE_LINE null null 0» l view click:1:22 f click:2:38 click:2:38 shot shift-F shot click:1:21 l shot ctrl-d shot k shot c => 0
 | screen 0
 | "[File] [Edit] [Select] [View]
 | "[ ] foo/bar      [-] [ ] foo/bar      [-]
@@ -2554,13 +2561,13 @@ size 41 5 | «BAR "a" null 0» | script | answer "z" | batch view | batch click:
 | "  [ ] Section 1/1[-]
 | "    [ ] + n⏎
 | accepted…
-41 5 «OF1 TEN» view click:1:22 f click:2:39 click:2:39 ctrl-f f shot c => 0
+41 5 «FILE_OF_1 TEN_ADDED» view click:1:22 f click:2:39 click:2:39 ctrl-f f shot c => 0
 | screen 0
 | "[File] [Edit] [Select] [View]
 | "[ ] f            [+] [ ] f            [±]
 | "                       ( ) Section 1/1(+)
 | accepted…
-41 5 «OF1 TEN» l view ctrl-d shot ctrl-d shot click:1:21 enter shot c => 0
+41 5 «FILE_OF_1 TEN_ADDED» l view ctrl-d shot ctrl-d shot click:1:21 enter shot c => 0
 | screen 0
 | "[File] [Edit] [Select] [View]
 | "[ ] f            [-] [ ] f            [+]
@@ -2580,7 +2587,7 @@ size 41 5 | «BAR "a" null 0» | script | answer "z" | batch view | batch click:
 | "    [●] + 3⏎
 | "    ( ) + 4⏎
 | accepted…
-41 6 «OF1 TEN» view l l j j j shot ctrl-f shot view shot c => 0
+41 6 «FILE_OF_1 TEN_ADDED» view l l j j j shot ctrl-f shot view shot c => 0
 | screen 0
 | "[File] [Edit] [Select] [View]
 | "[ ] f            [-]
@@ -2603,7 +2610,7 @@ size 41 5 | «BAR "a" null 0» | script | answer "z" | batch view | batch click:
 | "    [ ] + 8⏎
 | "    [ ] + 9⏎
 | accepted…
-41 6 «OF1 TEN» l view click:1:39 click:1:39 click:2:39 click:2:39 wheel-down wheel-down wheel-down shot click:3:30 shot click:1:22 shot space shot click:1:19 click:1:19 shot c => 0
+41 6 «FILE_OF_1 TEN_ADDED» l view click:1:39 click:1:39 click:2:39 click:2:39 wheel-down wheel-down wheel-down shot click:3:30 shot click:1:22 shot space shot click:1:19 click:1:19 shot c => 0
 | screen 0
 | "[File] [Edit] [Select] [View]
 | "[ ] f            [-] [ ] f            [-]
@@ -2642,7 +2649,7 @@ size 41 5 | «BAR "a" null 0» | script | answer "z" | batch view | batch click:
 | accepted…
 
 # All keys are compared with those of the first commit: a key of context, or of the second commit, makes the set another one.
-24 7 «OF2 C1 X» l shift-F click:2:9 shift-F shot shift-F shot c => 0
+24 7 «FILE_OF_2 CONTEXT_1 ADDED» l shift-F click:2:9 shift-F shot shift-F shot c => 0
 | screen 0
 | "[File] [Edit] [Select] [
 | "[ ] f                [-]
@@ -2653,7 +2660,7 @@ size 41 5 | «BAR "a" null 0» | script | answer "z" | batch view | batch click:
 | "[File] [Edit] [Select] [
 | "( ) f                (+)
 | accepted…
-41 5 «BAR null null 0» l shift-F view click:1:22 click:1:39 shift-F shot shift-F shot c => 0
+41 5 «MESSAGES_ONE_LINE null null 0» l shift-F view click:1:22 click:1:39 shift-F shot shift-F shot c => 0
 | screen 0
 | "[File] [Edit] [Select] [View]
 | "[ ] foo/bar      [-] ( ) foo/bar      (+)
@@ -2665,14 +2672,14 @@ size 41 5 | «BAR "a" null 0» | script | answer "z" | batch view | batch click:
 | accepted…
 
 # Screens of a script: places in order of the words, and one that no screen was taken at.
-size 20 5 | «PLAIN» | script | batch shot | fault read disk gone | batch shot => 1
+size 20 5 | «NO_SECTIONS» | script | batch shot | fault read disk gone | batch shot => 1
 | screen 0
 | "[File] [Edit] [Selec
 | "( ) foo/bar      (+)
 | screen 1
 | <this screenshot was never assigned>
 | fault: failed to read user input: disk gone
-20 2 «PLAIN» none,shot,c,shot shot => 0
+20 2 «NO_SECTIONS» none,shot,c,shot shot => 0
 | screen 0
 | "[File] [Edit] [Selec
 | "( ) foo/bar      (+)
@@ -2681,5 +2688,5 @@ size 20 5 | «PLAIN» | script | batch shot | fault read disk gone | batch shot 
 | screen 2
 | <this screenshot was never assigned>
 | accepted
-| «PLAIN»…
+| «NO_SECTIONS»…
 "##;

@@ -1,4 +1,5 @@
-//! The tests of the program: the table of scripts, and streams and inputs that a table cannot hold.
+//! The tests of the program: the table of scripts, and streams and inputs that do not fit in a
+//! table.
 use crate::rows::{ROWS, STATES};
 use crate::{play, read_state};
 use scm_record::{RecordState, text_width};
@@ -7,14 +8,14 @@ use std::io::{self, Read, Write};
 use std::process::Abort;
 use std::test::Fail;
 
-/// What `play` writes for an input, and its status.
+/// Returns what `play` writes for `input`, and its status.
 fn played(alloc: Global, input: &[u8]) -> Result<(String, u8), Fail> {
     let mut output = Vec::new(alloc);
     let status = play(alloc, input, &mut output);
     Ok((String::from_utf8(output)?, status))
 }
 
-/// The form of the state of that name.
+/// Returns the JSON of the state called `name`, in which each `?` is still open.
 fn form_of(name: &str) -> Option<&'static str> {
     for line in STATES.lines() {
         if let Some((found, form)) = line.split_once(' ') {
@@ -26,7 +27,7 @@ fn form_of(name: &str) -> Option<&'static str> {
     None
 }
 
-/// A mark, a piece of JSON by its name, or a piece of JSON, as a row gives it.
+/// Returns the JSON of `word`: a mark, a piece of JSON by its name, or a piece of JSON itself.
 fn piece_of(word: &str) -> &str {
     match word {
         "0" => "false",
@@ -35,7 +36,8 @@ fn piece_of(word: &str) -> &str {
     }
 }
 
-/// The state of a name and of what its `?` are.
+/// Returns the JSON of the state that `text` names, with each `?` replaced by one of the words
+/// after the name.
 fn state_of(alloc: Global, text: &str) -> Result<String, Fail> {
     let mut words = text.split(' ');
     let form = form_of(words.next().unwrap_or("")).ok_or("no state has that name")?;
@@ -52,7 +54,7 @@ fn state_of(alloc: Global, text: &str) -> Result<String, Fail> {
     Ok(state)
 }
 
-/// A text with its states written out.
+/// Returns `text` with each state in `«»` replaced by its JSON.
 fn with_states(alloc: Global, text: &str) -> Result<String, Fail> {
     let mut whole = String::new(alloc);
     for part in text.split('»') {
@@ -67,7 +69,7 @@ fn with_states(alloc: Global, text: &str) -> Result<String, Fail> {
     Ok(whole)
 }
 
-/// The lines of a row's half.
+/// Returns the lines of `half`, one half of a row.
 fn lines_of(alloc: Global, half: &str) -> Result<String, Fail> {
     let mut lines = String::new(alloc);
     for line in half.split(" | ") {
@@ -77,7 +79,7 @@ fn lines_of(alloc: Global, half: &str) -> Result<String, Fail> {
     Ok(lines)
 }
 
-/// The script of a row that gives a size, a state and words.
+/// Returns the script of a row with the size `size`, the state `state` and `words`, a batch each.
 fn script_of(alloc: Global, size: &str, state: &str, words: &str) -> Result<String, Fail> {
     let state = state_of(alloc, state)?;
     let mut script = format!(in alloc; "size {size}\n{state}\nscript\n")?;
@@ -91,7 +93,7 @@ fn script_of(alloc: Global, size: &str, state: &str, words: &str) -> Result<Stri
     Ok(script)
 }
 
-/// What a row's script is.
+/// Returns the script of a row, whose first half is `half`.
 pub fn input_of(alloc: Global, half: &str) -> Result<String, Fail> {
     match half.split_once('»') {
         Some((before, words)) if half.starts_with(|c: char| c == '«' || c.is_ascii_digit()) => {
@@ -105,7 +107,8 @@ pub fn input_of(alloc: Global, half: &str) -> Result<String, Fail> {
     }
 }
 
-/// The text with the control characters that its symbols stand for, and without the ends of lines that it takes away.
+/// Replaces symbols by the control characters that they stand for, and removes the line ends after
+/// `␃`.
 fn with_controls(alloc: Global, text: &str) -> Result<String, AllocError> {
     let mut whole = String::new(alloc);
     for character in text.chars() {
@@ -118,19 +121,20 @@ fn with_controls(alloc: Global, text: &str) -> Result<String, AllocError> {
     whole.replace(alloc, "␃\n", "")
 }
 
-/// A number, or 0.
+/// Returns the number that `word` is, or 0.
 fn number_of(word: Option<&str>) -> usize {
     word.unwrap_or("").parse().unwrap_or(0)
 }
 
-/// The columns and rows of a script's screen.
+/// Returns the columns and rows of a script's screen.
 pub fn size_of(input: &str) -> (usize, usize) {
     let mut words = input.lines().next().unwrap_or("").split(' ').skip(1);
     let columns = number_of(words.next());
     (columns, number_of(words.next()))
 }
 
-/// Adds a row of a screen, which may lack its last spaces and the quote that ends it.
+/// Adds a row of a screen to `text`, with the spaces and the quote at its end, which `row` may
+/// lack.
 fn push_screen_row(text: &mut String, row: &str, columns: usize) -> Result<(), AllocError> {
     text.push_str(row)?;
     if row.len() < 2 || !row.ends_with('"') {
@@ -142,7 +146,8 @@ fn push_screen_row(text: &mut String, row: &str, columns: usize) -> Result<(), A
     text.push('\n')
 }
 
-/// What a row's output is, for its script: screens may lack spaces at the ends of rows, and blank rows at their ends.
+/// Returns the output of a row, given its script `input`. In `half`, rows of a screen may lack the
+/// spaces at their ends, and screens the blank rows at their ends.
 fn output_of(alloc: Global, half: &str, input: &str) -> Result<String, Fail> {
     let (columns, rows) = size_of(input);
     let mut output = String::new(alloc);
@@ -164,7 +169,7 @@ fn output_of(alloc: Global, half: &str, input: &str) -> Result<String, Fail> {
     Ok(output)
 }
 
-/// Checks what is written of an input. Of an output that ends in `…` it is the beginning.
+/// Checks what is written for `input`. An `output` that ends in `…` is only the beginning.
 fn check_output(
     rt: &impl Abort,
     alloc: Global,
@@ -181,7 +186,7 @@ fn check_output(
     Ok(())
 }
 
-/// A script, and what comes of it.
+/// A script, and its output and status.
 #[derive(Drop)]
 pub struct Example {
     pub input: String,
@@ -189,7 +194,7 @@ pub struct Example {
     pub status: u8,
 }
 
-/// The example of a row.
+/// Returns the example of `row`.
 pub fn example_of(alloc: Global, row: &str) -> Result<Example, Fail> {
     let (input, answer) = row.split_once(" => ").ok_or("a row has two halves")?;
     let (status, output) = answer.split_once(" | ").ok_or("a status and an output")?;
@@ -201,7 +206,7 @@ pub fn example_of(alloc: Global, row: &str) -> Result<Example, Fail> {
     })
 }
 
-/// Plays the script of a row.
+/// Plays the script of `row`, and checks its output and status.
 fn check_script(rt: &impl Abort, alloc: Global, row: &str) -> Result<(), Fail> {
     let example = example_of(alloc, row)?;
     check_output(
@@ -224,14 +229,15 @@ fn each_script_has_its_output_and_status(rt: HostRuntime) -> Result<(), Fail> {
     Ok(())
 }
 
-/// A script of 74 bytes that ends in a comment, which may be made longer.
-const LONG_COMMENT: &str = "size 80 24 | «NOTHING» | script | batch q | #␃";
+/// A script of 74 bytes that ends in a comment, to be made longer.
+const LONG_COMMENT: &str = "size 80 24 | «EMPTY_STATE» | script | batch q | #␃";
 
-/// A script that ends in an answer, which may be made longer and has to be closed.
+/// A script that ends in an answer, to be made longer and closed.
 const LONG_ANSWER: &str =
-    "size 80 24 | «MESSAGES \"m\" null» | script | batch e | batch c | answer \"␃";
+    "size 80 24 | «TWO_MESSAGES \"m\" null» | script | batch e | batch c | answer \"␃";
 
-/// A reader that gives a text, at most so many bytes at a read, and fails after so many reads.
+/// A reader of the text `rest`: it returns at most `most` bytes a read, and fails after
+/// `reads_left` reads.
 #[derive(Drop)]
 struct BrokenReader<'a> {
     rest: &'a [u8],
@@ -252,7 +258,8 @@ impl Read for BrokenReader<'_> {
     }
 }
 
-/// A writer that takes at most so many bytes at a write, and fails after so many writes, or at its flush.
+/// A writer that takes at most `most` bytes a write, and fails after `writes_left` writes, and in
+/// its flush unless `flushes`.
 #[derive(Drop)]
 struct BrokenWriter {
     taken: Vec<u8>,
@@ -285,18 +292,20 @@ impl Write for BrokenWriter {
 fn states_are_read(rt: HostRuntime) -> Result<(), Fail> {
     let alloc = rt.alloc();
     assert!(rt; read_state(alloc, "{}")?.is_none());
-    let nothing = state_of(alloc, "NOTHING")?;
+    let nothing = state_of(alloc, "EMPTY_STATE")?;
     assert!(rt; read_state(alloc, nothing.as_str())? == Some(RecordState::empty(alloc)));
     Ok(())
 }
 
-/// Examples whose reads and writes fail: one with a screen that is accepted, and one that ends in a fault.
+/// Examples whose reads and writes are made to fail: one that accepts a state after a screenshot,
+/// and one that ends in a fault.
 const EXAMPLES: [&str; 2] = [
-    "20 5 «PLAIN» shot c => 0 | screen 0 | \"[File] [Edit] [Selec | \"( ) foo/bar      (+) | accepted | «PLAIN» | file 0 | selected 100644 unchanged | unselected 100644 unchanged",
-    "«NOTHING» q => 1 | fault: cancelled by user",
+    "20 5 «NO_SECTIONS» shot c => 0 | screen 0 | \"[File] [Edit] [Selec | \"( ) foo/bar      (+) | accepted | «NO_SECTIONS» | file 0 | selected 100644 unchanged | unselected 100644 unchanged",
+    "«EMPTY_STATE» q => 1 | fault: cancelled by user",
 ];
 
-/// Plays an example to a reader that fails after so many reads, and says whether that was too early: then it is told, and nothing else.
+/// Plays an example from a reader that fails after `reads_left` reads. Returns whether that was
+/// before the end; then the program writes only that it cannot read.
 fn is_cut(
     rt: &impl Abort,
     alloc: Global,
@@ -321,7 +330,8 @@ fn is_cut(
     is_cut
 }
 
-/// How many runs of an example are cut, where the first has no read and each later one a read more.
+/// Returns how many runs of an example fail to read, where the reader of run `n` fails after `n`
+/// reads, from 0 on.
 fn runs_cut(rt: &impl Abort, alloc: Global, example: &Example, most: usize) -> usize {
     let runs = 0..example.input.len().saturating_add(2);
     runs.filter(|reads| is_cut(rt, alloc, example, most, *reads))
@@ -333,7 +343,7 @@ fn a_read_that_fails_is_told(rt: HostRuntime) -> Result<(), Fail> {
     let alloc = rt.alloc();
     for row in EXAMPLES {
         let example = example_of(alloc, row)?;
-        // the end is read too
+        // the end takes a read too
         let reads = example.input.len().saturating_add(1);
         assert_eq!(rt; runs_cut(&rt, alloc, &example, 1), reads);
         assert!(rt; runs_cut(&rt, alloc, &example, usize::MAX) > 1);
@@ -348,8 +358,8 @@ fn inputs_that_are_no_text_are_named(rt: HostRuntime) -> Result<(), Fail> {
     Ok(())
 }
 
-/// Plays an example to a writer that fails after so many writes, or at its flush, where it does not take all: it has taken the beginning of
-/// the output, and nothing twice.
+/// Plays an example to a writer that fails after `writes` writes, or in its flush. Checks that the
+/// writer got the beginning of the output, and nothing twice.
 fn check_writes(
     rt: &impl Abort,
     alloc: Global,
@@ -394,7 +404,7 @@ fn a_write_that_fails_is_told(rt: HostRuntime) -> Result<(), Fail> {
     Ok(())
 }
 
-/// A row's input with so many more bytes, and an end.
+/// Returns the input of `row`, with `more` more bytes and then `end`.
 fn longer_input(alloc: Global, row: &str, more: usize, end: &str) -> Result<Vec<u8>, Fail> {
     let mut input = input_of(alloc, row)?.into_bytes();
     let length = input.len().saturating_add(more);
@@ -403,7 +413,7 @@ fn longer_input(alloc: Global, row: &str, more: usize, end: &str) -> Result<Vec<
     Ok(input)
 }
 
-/// Plays an input, whose output begins so.
+/// Plays `input`, and checks that its output begins with `output`.
 fn check_begin(
     rt: &impl Abort,
     alloc: Global,
@@ -444,7 +454,7 @@ fn long_inputs_are_named(rt: HostRuntime) -> Result<(), Fail> {
     Ok(())
 }
 
-/// A text of three parts, the second of which stands so many times.
+/// A text of three parts, the second of which is repeated `times` times.
 #[derive(Clone, Copy)]
 struct Long {
     begin: &'static str,
@@ -454,7 +464,7 @@ struct Long {
 }
 
 impl Long {
-    /// The whole text.
+    /// Returns the whole text.
     fn text(self, alloc: Global) -> Result<String, AllocError> {
         let mut text = String::from_str(alloc, self.begin)?;
         for _ in 0..self.times {
@@ -465,7 +475,7 @@ impl Long {
     }
 }
 
-/// A reader that gives such a text, a part at a read, and makes it as it goes.
+/// A reader of a long text, one part a read, which is not built as a whole.
 #[derive(Drop)]
 struct LongReader {
     part: &'static [u8],
@@ -480,7 +490,7 @@ impl LongReader {
         }
     }
 
-    /// Goes on to the next part, where one was given whole.
+    /// Goes to the next part, once a part is read to its end.
     fn advance(&mut self) {
         if self.rest.times > 0 {
             self.rest.times -= 1;
@@ -504,7 +514,7 @@ impl Read for LongReader {
     }
 }
 
-/// Plays a long input, whose output begins so.
+/// Plays a long input, and checks that its output begins with `output`.
 fn check_long(rt: &impl Abort, alloc: Global, input: Long, output: &str) -> Result<(), Fail> {
     let mut written = Vec::new(alloc);
     let status = play(alloc, LongReader::new(input), &mut written);
@@ -513,7 +523,8 @@ fn check_long(rt: &impl Abort, alloc: Global, input: Long, output: &str) -> Resu
     Ok(())
 }
 
-/// A script that accepts a state of one file with 999,999 changed lines: 1,000,001 files, sections and lines.
+/// A script that accepts a state of one file with 999,999 changed lines: 1,000,001 files, sections
+/// and lines in all.
 const MANY_LINES: Long = Long {
     begin: "size 80 24\n{\"is_read_only\":false,\"commits\":[],\"files\":[{\"old_path\":null,\"path\":\"f\",\"file_mode\":{\"Unix\":33188},\"sections\":[{\"Changed\":{\"lines\":[",
     middle: "{\"is_checked\":false,\"change_type\":\"Added\",\"line\":\"\"},",
@@ -521,7 +532,7 @@ const MANY_LINES: Long = Long {
     end: "{\"is_checked\":false,\"change_type\":\"Added\",\"line\":\"\"}]}}]}]}\nscript\nbatch c\n",
 };
 
-/// What is written of it: the same state, with two commits.
+/// Its output: the same state, with two commits.
 const MANY_LINES_ACCEPTED: Long = Long {
     begin: "accepted\n{\"is_read_only\":false,\"commits\":[{\"message\":null},{\"message\":null}],\"files\":[{\"old_path\":null,\"path\":\"f\",\"file_mode\":{\"Unix\":33188},\"sections\":[{\"Changed\":{\"lines\":[",
     middle: "{\"is_checked\":false,\"change_type\":\"Added\",\"line\":\"\"},",
@@ -535,7 +546,7 @@ fn states_of_many_lines_are_accepted(rt: HostRuntime) -> Result<(), Fail> {
     check_long(&rt, rt.alloc(), MANY_LINES, output.as_str())
 }
 
-/// A script that shows the last of 100,000 lines of context, before a changed one.
+/// A script that shows the last of 100,000 lines of context, before a changed line.
 const MUCH_CONTEXT: Long = Long {
     begin: "size 24 7\n{\"is_read_only\":false,\"commits\":[],\"files\":[{\"old_path\":null,\"path\":\"f\",\"file_mode\":{\"Unix\":33188},\"sections\":[{\"Unchanged\":{\"lines\":[",
     middle: "\"x\\n\",",
@@ -543,7 +554,7 @@ const MUCH_CONTEXT: Long = Long {
     end: "\"x\\n\"]}},{\"Changed\":{\"lines\":[{\"is_checked\":false,\"change_type\":\"Added\",\"line\":\"y\\n\"}]}}]}]}\nscript\nbatch l\nbatch shot\nbatch c\n",
 };
 
-/// Its screen: a number of six digits stands whole, and moves the text by a column.
+/// Its screen: a number of six digits is shown in full, and moves the text by one column.
 const MUCH_CONTEXT_SHOWN: &str =
     "screen 0 | \"[File] [Edit] [Select] [ | \"[ ] f                [-] | \"    99998 x⏎ | \"    99999 x⏎ | \"    100000 x⏎ | \"  ( ) Section 1/1    (-) | \"    [ ] + y⏎ | accepted";
 
@@ -553,7 +564,7 @@ fn numbers_of_six_digits_stand_whole(rt: HostRuntime) -> Result<(), Fail> {
     check_long(&rt, rt.alloc(), MUCH_CONTEXT, output.as_str())
 }
 
-/// A script that scrolls down over ten lines by far more than they span, in one batch, and then up by two rows.
+/// A script that scrolls down far past the end of ten lines in one batch, and then up by two rows.
 const FAR_DOWN: Long = Long {
     begin: "size 24 8\n{\"is_read_only\":false,\"commits\":[],\"files\":[{\"old_path\":null,\"path\":\"f\",\"file_mode\":{\"Unix\":33188},\"sections\":[{\"Changed\":{\"lines\":[{\"is_checked\":false,\"change_type\":\"Added\",\"line\":\"0\\n\"},{\"is_checked\":false,\"change_type\":\"Added\",\"line\":\"1\\n\"},{\"is_checked\":false,\"change_type\":\"Added\",\"line\":\"2\\n\"},{\"is_checked\":false,\"change_type\":\"Added\",\"line\":\"3\\n\"},{\"is_checked\":false,\"change_type\":\"Added\",\"line\":\"4\\n\"},{\"is_checked\":false,\"change_type\":\"Added\",\"line\":\"5\\n\"},{\"is_checked\":false,\"change_type\":\"Added\",\"line\":\"6\\n\"},{\"is_checked\":false,\"change_type\":\"Added\",\"line\":\"7\\n\"},{\"is_checked\":false,\"change_type\":\"Added\",\"line\":\"8\\n\"},{\"is_checked\":false,\"change_type\":\"Added\",\"line\":\"9\\n\"}]}}]}]}\nscript\nbatch l\nbatch",
     middle: " wheel-down",
@@ -561,7 +572,8 @@ const FAR_DOWN: Long = Long {
     end: "\nbatch shot\nbatch wheel-up wheel-up\nbatch shot\nbatch c\n",
 };
 
-/// Its screens: at 12, the row of the last line, the menu bar alone; at 10 the last line, below the pinned header.
+/// Its screens. At scroll 12, the row of the last line, only the menu bar is visible; at 10 the
+/// last line is below the sticky header.
 const FAR_DOWN_SHOWN: &str =
     "screen 0 | \"[File] [Edit] [Select] [ | screen 1 | \"[File] [Edit] [Select] [ | \"[ ] f                [-] | \"    [ ] + 9⏎ | accepted";
 

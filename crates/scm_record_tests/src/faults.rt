@@ -1,4 +1,4 @@
-//! Reads and edits that fail, and the message that an edit is asked with.
+//! Reads and edits that fail, and the message that an edit gets.
 use crate::record::{commit, file, run_words};
 use crate::worked::{Given, state_of};
 use scm_record::{
@@ -15,12 +15,12 @@ const ACCEPT: Event = Event::QuitAccept;
 /// Edits the first message.
 const EDIT: Event = Event::EditCommitMessage;
 
-/// The words of a fault.
+/// Returns the text of a fault.
 fn gone(alloc: Global) -> Result<String, RecordError> {
     Ok(String::from_str(alloc, "gone")?)
 }
 
-/// A read of this event, or one that fails.
+/// Returns a read of `event`, or one that fails if `fails`.
 fn read_of(alloc: Global, event: Event, fails: bool) -> Result<ScriptRead, RecordError> {
     if fails {
         Ok(ScriptRead::Fault(gone(alloc)?))
@@ -37,7 +37,7 @@ const CHECKING: [Event; 4] = [
     ACCEPT,
 ];
 
-/// Those events, of which the one at this place cannot be read.
+/// Returns reads of the events `CHECKING`, of which the one at `place` fails.
 fn failing_reads(alloc: Global, place: usize) -> Result<Vec<ScriptRead>, RecordError> {
     let mut reads = Vec::new(alloc);
     for (index, event) in CHECKING.iter().enumerate() {
@@ -46,7 +46,7 @@ fn failing_reads(alloc: Global, place: usize) -> Result<Vec<ScriptRead>, RecordE
     Ok(reads)
 }
 
-/// Runs an input over an accepted state.
+/// Runs `input` on a state, which is accepted.
 fn run(
     rt: &impl Abort,
     alloc: Global,
@@ -58,7 +58,7 @@ fn run(
     Ok(())
 }
 
-/// Checks that a read at this place ends the run, and that so many reads are left.
+/// Checks that a failing read at `place` ends the run, and that `left` reads are left.
 fn check_failing_read(
     rt: &impl Abort,
     alloc: Global,
@@ -83,7 +83,7 @@ fn a_read_that_fails_ends_the_run(rt: HostRuntime) -> Result<(), RecordError> {
     Ok(())
 }
 
-/// An edit and the end, where the edit fails.
+/// Returns an input of an edit, which fails, and the accepting event.
 fn failing_edit(alloc: Global) -> Result<ScriptInput, RecordError> {
     let mut reads = Vec::new(alloc);
     reads.push(read_of(alloc, EDIT, false)?)?;
@@ -103,7 +103,7 @@ fn an_edit_that_fails_ends_the_run(rt: HostRuntime) -> Result<(), RecordError> {
     Ok(())
 }
 
-/// An input of single events that notes the message that it is asked to edit, and has no answer.
+/// An input of single events. It keeps the message that it is asked to edit, and has no answer.
 #[derive(Drop)]
 struct Noting {
     events: VecDeque<Event>,
@@ -113,7 +113,7 @@ struct Noting {
 impl RecordInput for Noting {
     ghost use Rattle.std.specs.Prelude.{List, []};
     ghost use Rattle.scm_record.specs.Script.{Read, Reply};
-    ghost use Rattle.scm_record.specs.Testing.{kind_of, single_events};
+    ghost use Rattle.scm_record.specs.TestingInput.{kind_of, single_events};
 
     ghost kind = { λ _. kind_of 80 24 };
 
@@ -146,20 +146,21 @@ impl RecordInput for Noting {
     }
 }
 
-/// Shows both commits beside each other.
+/// Shows both commits side by side.
 const BOTH: Event = Event::ToggleCommitViewMode;
 
-/// The place of the second commit's button for its message.
+/// Clicks the second commit's button for its message.
 const SECOND: Event = Event::Click { row: 2, column: 45 };
 
-/// Both commits' messages, events, and the message with which an edit is asked, if it is asked at all.
+/// Both commits' messages, the events, and the message that an edit gets, if an edit is asked for.
 #[derive(Clone, Copy)]
 struct Asking {
     first: Option<&'static str>,
     second: Option<&'static str>,
     events: &'static [Event],
     asked: Option<&'static str>,
-    /// How many events are left: the edit of this input fails, and the end is not read then.
+    /// The number of events that are left: the edit fails, and then the accepting event is not
+    /// read.
     left: usize,
 }
 
@@ -192,7 +193,7 @@ const ASKINGS: [Asking; 6] = [
         asked: Some("there"),
         left: 1,
     },
-    // without a message nobody is asked
+    // without a message no edit is asked for
     Asking {
         first: None,
         second: Some("there"),
@@ -209,7 +210,7 @@ const ASKINGS: [Asking; 6] = [
     },
 ];
 
-/// The state of those messages and a file.
+/// Returns a state of the two messages of `row` and a file.
 fn asking_state(alloc: Global, row: Asking) -> Result<RecordState<'static>, RecordError> {
     let mut state = RecordState::empty(alloc);
     state.commits.push(commit(alloc, row.first)?)?;
@@ -218,7 +219,7 @@ fn asking_state(alloc: Global, row: Asking) -> Result<RecordState<'static>, Reco
     Ok(state)
 }
 
-/// Checks whether an edit is asked, and with what.
+/// Checks whether an edit is asked for, and with which message.
 fn check_asking(rt: &impl Abort, alloc: Global, row: Asking) -> Result<(), RecordError> {
     let mut input = Noting {
         events: VecDeque::from(Vec::from_slice(alloc, row.events)?),

@@ -1,5 +1,5 @@
-//! Memory, of which no contract can say that it is asked for only where it is needed: a run returns with ample memory, however
-//! small or large its state is.
+//! Memory. No contract can say that memory is requested only where it is needed. So runs are made
+//! with ample memory, on states small and large.
 use scm_record::{
     Event, File, RecordError, RecordState, Recorder, Screens, ScriptInput, ScriptRead,
     TestingScreenshot,
@@ -8,14 +8,14 @@ use scm_samples::{HELD, file_holding};
 use std::alloc::Global;
 use std::process::Abort;
 
-/// An input that opens the selected file, takes a screenshot and accepts.
+/// Returns an input that opens the selected file, takes a screenshot and accepts.
 fn shot_input(alloc: Global, shot: TestingScreenshot) -> Result<ScriptInput, RecordError> {
     let batch = vec![in alloc; Event::FocusInner, shot.event(), Event::QuitAccept]?;
     let reads = vec![in alloc; ScriptRead::Batch(batch)]?;
     ScriptInput::new(alloc, 24, 8, reads, Vec::new(alloc))
 }
 
-/// Runs that input over the state.
+/// Runs `shot_input` on `state`.
 fn run_shot(
     rt: &impl Abort,
     alloc: Global,
@@ -31,7 +31,7 @@ fn run_shot(
 /// The first row of the screen, and the beginning of the second.
 const FIRST: &str = "\"[File] [Edit] [Select] [\"\n\"";
 
-/// Runs that input over the state, and checks the screenshot.
+/// Runs `shot_input` on `state`, and checks the screenshot.
 fn check_shot(
     rt: &impl Abort,
     alloc: Global,
@@ -44,7 +44,7 @@ fn check_shot(
     Ok(answer)
 }
 
-/// Runs that input over a state, no file of which changes.
+/// Runs `shot_input` on `state`, and checks that no file changed.
 fn check_run(
     rt: &impl Abort,
     alloc: Global,
@@ -56,7 +56,7 @@ fn check_run(
     Ok(())
 }
 
-/// A state of the file.
+/// Returns a state of `file`.
 fn state_of(alloc: Global, file: File<'static>) -> Result<RecordState<'static>, RecordError> {
     let mut state = RecordState::empty(alloc);
     state.files.push(file)?;

@@ -1,4 +1,4 @@
-//! The recorder: what a script of the program cannot say.
+//! The recorder, where a script of the program cannot test it.
 use scm_record::{
     Commit, Event, File, OwnedText, RecordError, RecordInput, RecordState, Recorder, Screens,
     ScriptEdit, ScriptInput, ScriptRead, Section, TestingScreenshot,
@@ -7,7 +7,7 @@ use scm_samples::{ADDED, DEFAULT, changed, file_of, text_of};
 use std::alloc::{AllocError, Global};
 use std::process::Abort;
 
-/// A commit with the message.
+/// Returns a commit with `message`, if there is one.
 pub(crate) fn commit(alloc: Global, message: Option<&'static str>) -> Result<Commit, AllocError> {
     match message {
         Some(text) => Ok(Commit {
@@ -17,13 +17,13 @@ pub(crate) fn commit(alloc: Global, message: Option<&'static str>) -> Result<Com
     }
 }
 
-/// A file of two unchecked additions.
+/// Returns a file of two unchecked added lines.
 pub(crate) fn file(alloc: Global) -> Result<File<'static>, RecordError> {
     let lines = changed(alloc, &[(false, ADDED, "x\n"), (false, ADDED, "y\n")])?;
     Ok(file_of(DEFAULT, vec![in alloc; lines]?))
 }
 
-/// That commit, and that file.
+/// Returns a state of a commit with `message` and of `file`.
 fn state(
     alloc: Global,
     message: Option<&'static str>,
@@ -34,7 +34,7 @@ fn state(
     Ok(state)
 }
 
-/// Runs an input over that state.
+/// Runs `input` on a state whose commit has `message`.
 fn run_on(
     alloc: Global,
     message: Option<&'static str>,
@@ -48,7 +48,7 @@ fn run_on(
     Recorder::new(alloc, state)?.run(input, screens)
 }
 
-/// Adds the marks of a section's lines: `1` where one is checked, else `0`.
+/// Adds the marks of a section's lines to `text`: `1` for a checked line, else `0`.
 fn push_marks(text: &mut String, section: &Section<'_>) -> Result<(), AllocError> {
     if let Section::Changed { lines } = section {
         for line in lines.as_slice() {
@@ -58,7 +58,7 @@ fn push_marks(text: &mut String, section: &Section<'_>) -> Result<(), AllocError
     Ok(())
 }
 
-/// Adds a commit's message, if it has one, behind a space.
+/// Adds a space and the commit's message to `text`, if it has one.
 fn push_message(text: &mut String, commit: &Commit) -> Result<(), AllocError> {
     if let Some(message) = &commit.message {
         text.push(' ')?;
@@ -67,7 +67,7 @@ fn push_message(text: &mut String, commit: &Commit) -> Result<(), AllocError> {
     Ok(())
 }
 
-/// The marks of an accepted state, a `1` for a checked one, and its messages; or the words of the error.
+/// Returns the marks and the messages of an accepted state, or the text of the error.
 fn words(
     alloc: Global,
     outcome: &Result<RecordState<'static>, RecordError>,
@@ -89,7 +89,7 @@ fn words(
     }
 }
 
-/// Runs an input over that state, and says the outcome in these words.
+/// Runs `input` on a state whose commit has `message`, and returns the outcome in words.
 pub(crate) fn run_words(
     alloc: Global,
     message: Option<&'static str>,
@@ -107,7 +107,8 @@ enum Read {
     Fault(&'static str),
 }
 
-/// An input of these reads, of the answer `bye`, and then of the fault `gone`.
+/// Returns an input of the reads `given`, and of two edits: the answer `bye`, and then the fault
+/// `gone`.
 fn script(alloc: Global, given: &[Read]) -> Result<ScriptInput, RecordError> {
     let mut reads = Vec::new(alloc);
     for read in given {
@@ -116,7 +117,7 @@ fn script(alloc: Global, given: &[Read]) -> Result<ScriptInput, RecordError> {
     ScriptInput::new(alloc, 80, 24, reads, edits(alloc)?)
 }
 
-/// The read of that constant.
+/// Returns the read of a script for the constant `read`.
 fn read_of(alloc: Global, read: Read) -> Result<ScriptRead, RecordError> {
     Ok(match read {
         Read::Batch(events) => ScriptRead::Batch(Vec::from_slice(alloc, events)?),
@@ -124,7 +125,7 @@ fn read_of(alloc: Global, read: Read) -> Result<ScriptRead, RecordError> {
     })
 }
 
-/// The answer `bye`, and then the fault `gone`.
+/// Returns the answer `bye`, and then the fault `gone`.
 fn edits(alloc: Global) -> Result<Vec<ScriptEdit>, RecordError> {
     let mut edits = Vec::new(alloc);
     edits.push(ScriptEdit::Answer(String::from_str(alloc, "bye")?))?;
@@ -132,7 +133,7 @@ fn edits(alloc: Global) -> Result<Vec<ScriptEdit>, RecordError> {
     Ok(edits)
 }
 
-/// What the next edit returns, or the words of its error.
+/// Returns the answer of the next edit, or the text of its error.
 fn edit_words(alloc: Global, input: &mut dyn RecordInput) -> Result<String, AllocError> {
     match input.edit_commit_message("hello") {
         Ok(answer) => Ok(answer),
@@ -140,8 +141,8 @@ fn edit_words(alloc: Global, input: &mut dyn RecordInput) -> Result<String, Allo
     }
 }
 
-/// A run: the first commit's message, the reads, the outcome, how many frames are drawn, how many reads are left, and
-/// what the next edit is.
+/// A run: the first commit's message, the reads, the outcome, the number of frames, the number of
+/// reads left, and the outcome of the next edit.
 type Row = (
     Option<&'static str>,
     &'static [Read],
@@ -157,30 +158,30 @@ const EDIT: Event = Event::EditCommitMessage;
 /// Accepts, while no dialog is open.
 const ACCEPT: Event = Event::QuitAccept;
 
-/// Toggles what is selected.
+/// Toggles the selection.
 const TOGGLE: Event = Event::ToggleItem;
 
 /// A message.
 const HELLO: Option<&'static str> = Some("hello");
 
-/// What is shown where an input has no more reads.
+/// The error of an input without more reads.
 const NO_EVENTS: &'static str = "failed to read user input: no events left";
 
-/// A place that is on no screen.
+/// A click outside every screen.
 const FAR: Event = Event::Click {
     row: usize::MAX,
     column: usize::MAX,
 };
 
-/// The menu Select.
+/// Opens the menu Select.
 const MENU: Event = Event::Click { row: 0, column: 15 };
 
-/// The second item of that menu.
+/// Chooses the second item of the menu Select.
 const ITEM: Event = Event::Click { row: 2, column: 15 };
 
 /// The rows of the table.
 const ROWS: [Row; 9] = [
-    // what follows the accepting event is not handled, and the next read is left
+    // events after the accepting one are not handled, and the next read is left
     (
         HELLO,
         &[Read::Batch(&[TOGGLE, ACCEPT, EDIT]), Read::Batch(&[TOGGLE])],
@@ -197,7 +198,7 @@ const ROWS: [Row; 9] = [
         0,
         "gone",
     ),
-    // nothing to edit: the answers are left, and yet the screen is drawn anew
+    // there is no message to edit: the answers are left, and yet the screen is drawn again
     (
         None,
         &[Read::Batch(&[EDIT]), Read::Batch(&[ACCEPT])],
@@ -215,7 +216,7 @@ const ROWS: [Row; 9] = [
         1,
         "No more commit messages available",
     ),
-    // a fault of a read too
+    // so does a fault of a read
     (
         HELLO,
         &[
@@ -231,7 +232,7 @@ const ROWS: [Row; 9] = [
     // a batch may be empty
     (HELLO, &[Read::Batch(&[])], NO_EVENTS, 2, 0, "bye"),
     (HELLO, &[], NO_EVENTS, 1, 0, "bye"),
-    // a click as far away as can be hits nothing: what was selected is toggled after it
+    // a click as far away as possible hits nothing: the toggle acts on the selection from before it
     (
         HELLO,
         &[Read::Batch(&[FAR, TOGGLE, FAR, ACCEPT])],
@@ -240,7 +241,7 @@ const ROWS: [Row; 9] = [
         0,
         "bye",
     ),
-    // what a move and a click on a menu's item leave to be handled has its own frames
+    // events that a move and a click on a menu item leave for later have frames of their own
     (
         None,
         &[
@@ -255,7 +256,7 @@ const ROWS: [Row; 9] = [
     ),
 ];
 
-/// Checks what the next edit of the input returns.
+/// Checks that the next edit of `input` returns `next`.
 fn check_next(
     rt: &impl Abort,
     alloc: Global,
@@ -267,7 +268,7 @@ fn check_next(
     Ok(())
 }
 
-/// Checks the outcome of a run, in words, and how many frames it draws.
+/// Checks that the outcome of a run, in words, and its number of frames are `wanted`.
 fn check_outcome(
     rt: &impl Abort,
     alloc: Global,
@@ -281,7 +282,7 @@ fn check_outcome(
     Ok(())
 }
 
-/// Runs a row.
+/// Runs `row` and checks it.
 fn check_row(rt: &impl Abort, alloc: Global, row: Row) -> Result<(), RecordError> {
     let (message, reads, wanted, frames, left, next) = row;
     let mut input = script(alloc, reads)?;
@@ -300,7 +301,7 @@ fn a_script_keeps_what_is_left(rt: HostRuntime) -> Result<(), RecordError> {
     Ok(())
 }
 
-/// Ten thousand events, an edit, and the end.
+/// Returns a batch of ten thousand events, an edit, and the accepting event.
 fn long_batch(alloc: Global) -> Result<Vec<ScriptRead>, RecordError> {
     let mut batch = vec![in alloc; Event::None; 10_000]?;
     batch.push(EDIT)?;
@@ -308,18 +309,18 @@ fn long_batch(alloc: Global) -> Result<Vec<ScriptRead>, RecordError> {
     Ok(vec![in alloc; ScriptRead::Batch(batch)]?)
 }
 
-/// An answer of so many bytes.
+/// Returns an answer of `len` bytes.
 fn long_answer(alloc: Global, len: usize) -> Result<Vec<ScriptEdit>, RecordError> {
     Ok(vec![in alloc; ScriptEdit::Answer(text_of(alloc, len)?)]?)
 }
 
-/// That batch, with that answer.
+/// Returns an input of the long batch, whose answer has `len` bytes.
 fn long_input(alloc: Global, len: usize) -> Result<ScriptInput, RecordError> {
     let edits = long_answer(alloc, len)?;
     Ok(ScriptInput::new(alloc, 80, 24, long_batch(alloc)?, edits)?)
 }
 
-/// Checks how the outcome of a run begins, in words.
+/// Checks that the outcome of a run, in words, begins with `wanted`.
 fn check_words(
     rt: &impl Abort,
     alloc: Global,
@@ -344,7 +345,7 @@ fn long_scripts_and_messages(rt: HostRuntime) -> Result<(), RecordError> {
     Ok(())
 }
 
-/// Adds a batch of one event so many times.
+/// Adds a batch of `times` times `event`.
 fn push_batch(
     alloc: Global,
     reads: &mut Vec<ScriptRead>,
@@ -355,7 +356,8 @@ fn push_batch(
     Ok(())
 }
 
-/// Reads that open the file, scroll down so many times in one batch, take a screenshot, and accept.
+/// Returns reads that open the file, scroll down `times` times in one batch, take a screenshot, and
+/// accept.
 fn scrolling(
     alloc: Global,
     times: usize,
@@ -373,7 +375,7 @@ fn scrolling(
     Ok(reads)
 }
 
-/// Runs those reads on a screen of three columns and rows.
+/// Runs the reads of `scrolling` on a screen of three columns and rows.
 fn scroll_words(
     alloc: Global,
     times: usize,
@@ -385,7 +387,7 @@ fn scroll_words(
     Ok(run_words(alloc, None, &mut input, screens)?)
 }
 
-/// A place that a store of one place has not.
+/// A place outside a store of one place.
 const NOWHERE: TestingScreenshot = TestingScreenshot { place: 3 };
 
 #[test]
@@ -411,7 +413,8 @@ fn screenshots_are_kept_at_their_places(rt: HostRuntime) -> Result<(), RecordErr
     Ok(())
 }
 
-/// Reads that take a screenshot, click as far away as can be, take another, and accept.
+/// Returns reads that take a screenshot, click as far away as possible, take another screenshot,
+/// and accept.
 fn clicking(
     alloc: Global,
     before: TestingScreenshot,

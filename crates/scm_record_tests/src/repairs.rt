@@ -1,4 +1,5 @@
-//! The event that inverts every mark, on files whose marks would not fit each other then, and a state of many lines.
+//! The event that inverts every mark, on files whose marks would conflict then, and a state of many
+//! lines.
 use scm_record::{
     ChangeType, Commit, Event, File, FileMode, Items, KeyCode, KeyEvent, KeyEventKind,
     KeyModifiers, RecordError, RecordState, Recorder, Screens, Section, SectionChangedLine,
@@ -8,7 +9,7 @@ use scm_samples::{ADDED, DEFAULT, REMOVED, changed, file_of};
 use std::alloc::Global;
 use std::process::Abort;
 
-/// Runs a state to its acceptance, with an event before it.
+/// Runs `event` and then the accepting event on `state`.
 fn accepted(
     rt: &impl Abort,
     alloc: Global,
@@ -22,33 +23,33 @@ fn accepted(
     Recorder::new(alloc, state)?.run(&mut input, &mut screens)
 }
 
-/// A state of one file.
+/// Returns a state of one file.
 fn state_of(alloc: Global, file: File<'static>) -> Result<RecordState<'static>, RecordError> {
     let mut state = RecordState::empty(alloc);
     state.files.push(file)?;
     Ok(state)
 }
 
-/// The marks of two lines and of a change of the mode.
+/// The marks of two lines and of a mode change.
 #[derive(Clone, Copy)]
 struct Marks {
-    /// Of the first line.
+    /// The mark of the first line.
     first: bool,
-    /// Of the second one.
+    /// The mark of the second line.
     second: bool,
-    /// Of the change of the mode.
+    /// The mark of the mode change.
     mode: bool,
 }
 
-/// A file of two lines that were both changed so and of a change of its mode, with its marks before and after all
-/// is inverted.
+/// A file of two lines with the same kind of change and of a mode change, and its marks before and
+/// after every mark is inverted.
 #[derive(Clone, Copy)]
 struct Inversion {
-    /// Its mode.
+    /// The old mode of the file.
     old: FileMode,
-    /// The mode that it gets.
+    /// The new mode of the file.
     new: FileMode,
-    /// How the lines were changed.
+    /// The kind of change of both lines.
     change_type: ChangeType,
     /// The marks before.
     before: Marks,
@@ -56,7 +57,7 @@ struct Inversion {
     after: Marks,
 }
 
-/// Such a file with these marks.
+/// Returns the file of `inversion` with `marks`.
 fn marked(
     alloc: Global,
     inversion: &Inversion,
@@ -127,7 +128,7 @@ const INVERSIONS: [Inversion; 3] = [
     },
 ];
 
-/// The state that a run returns of such a file: with two commits.
+/// Returns the state that a run returns for `file`: it has two commits.
 fn answer_of(alloc: Global, file: File<'static>) -> Result<RecordState<'static>, RecordError> {
     let mut state = state_of(alloc, file)?;
     state.commits.push(Commit::default())?;
@@ -135,7 +136,7 @@ fn answer_of(alloc: Global, file: File<'static>) -> Result<RecordState<'static>,
     Ok(state)
 }
 
-/// The event of the key that inverts every mark.
+/// Returns the event of the key that inverts every mark.
 fn inverting() -> Event {
     Event::from(TerminalEvent::Key(KeyEvent {
         code: KeyCode::Char('a'),
@@ -144,7 +145,7 @@ fn inverting() -> Event {
     }))
 }
 
-/// Checks what the inversion of all marks leaves of a file.
+/// Checks the state after every mark of a file is inverted.
 fn check_inversion(
     rt: &impl Abort,
     alloc: Global,
@@ -165,7 +166,7 @@ fn an_inversion_is_repaired(rt: HostRuntime) -> Result<(), RecordError> {
     Ok(())
 }
 
-/// A section of so many unchecked additions.
+/// Returns a section of `count` unchecked added lines.
 fn additions(alloc: Global, count: usize) -> Result<Section<'static>, RecordError> {
     let mut lines = Items::new(alloc);
     for _ in 0..count {
@@ -178,7 +179,7 @@ fn additions(alloc: Global, count: usize) -> Result<Section<'static>, RecordErro
     Ok(Section::Changed { lines })
 }
 
-/// A file of one such section.
+/// Returns a file of one section of `count` unchecked added lines.
 fn many_lines(alloc: Global, count: usize) -> Result<File<'static>, RecordError> {
     let mut sections: Vec<Section<'static>> = Vec::new(alloc);
     sections.push(additions(alloc, count)?)?;

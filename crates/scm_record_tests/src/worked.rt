@@ -1,4 +1,4 @@
-//! Runs over single events: examples of small states, and the states that they end in.
+//! Runs of single events: examples of small states, and the states after them.
 use scm_record::{
     Commit, Event, File, FileMode, Items, RecordError, RecordState, Recorder, Screens, ScriptInput,
     ScriptRead, Section, TestingInput, Text,
@@ -14,11 +14,11 @@ pub(crate) enum Given {
     Nothing,
     /// The file `foo/bar` without sections.
     Plain,
-    /// A file of these changed lines.
+    /// A file of the given changed lines.
     Lines(&'static [Line]),
-    /// A file without sections, and one of these changed lines.
+    /// A file without sections, and a file of the given changed lines.
     Second(&'static [Line]),
-    /// A new file of an added line, and of the mode that it gets: whether both are checked.
+    /// A new file of an added line and its creation. The flag is the mark of both.
     New(bool),
 }
 
@@ -41,12 +41,12 @@ const TEN: [Line; 10] = [
     (false, ADDED, "9\n"),
 ];
 
-/// A file of these changed lines.
+/// Returns a file of `lines`.
 fn file(alloc: Global, lines: &[Line]) -> Result<File<'static>, RecordError> {
     Ok(file_of(DEFAULT, vec![in alloc; changed(alloc, lines)?]?))
 }
 
-/// A file without sections.
+/// Returns a file without sections, whose path is `path`.
 fn plain_file(alloc: Global, path: &'static str) -> File<'static> {
     File {
         old_path: None,
@@ -56,7 +56,7 @@ fn plain_file(alloc: Global, path: &'static str) -> File<'static> {
     }
 }
 
-/// A file that is created with one line.
+/// Returns a new file with one line.
 fn new_file(alloc: Global, is_checked: bool) -> Result<File<'static>, RecordError> {
     let line: Line = (is_checked, ADDED, "n\n");
     let mut file = file(alloc, &[line])?;
@@ -68,7 +68,7 @@ fn new_file(alloc: Global, is_checked: bool) -> Result<File<'static>, RecordErro
     Ok(file)
 }
 
-/// The files of a state.
+/// Returns the files of the state `given`.
 fn files_of(alloc: Global, given: Given) -> Result<Items<File<'static>>, RecordError> {
     let mut files = Items::new(alloc);
     match given {
@@ -84,7 +84,7 @@ fn files_of(alloc: Global, given: Given) -> Result<Items<File<'static>>, RecordE
     Ok(files)
 }
 
-/// Two commits without a message.
+/// Returns two commits without a message.
 fn commits_of(alloc: Global) -> Result<Items<Commit>, RecordError> {
     let mut commits = Items::new(alloc);
     commits.push(Commit::default())?;
@@ -92,7 +92,7 @@ fn commits_of(alloc: Global) -> Result<Items<Commit>, RecordError> {
     Ok(commits)
 }
 
-/// The state.
+/// Returns the state `given`.
 pub(crate) fn state_of(alloc: Global, given: Given) -> Result<RecordState<'static>, RecordError> {
     if matches!(given, Given::Nothing) {
         return Ok(RecordState::empty(alloc));
@@ -105,7 +105,7 @@ pub(crate) fn state_of(alloc: Global, given: Given) -> Result<RecordState<'stati
     })
 }
 
-/// Runs these events over a state, one a batch, on 80 columns and 24 rows.
+/// Runs `events` on the state `given`, one a batch, on 80 columns and 24 rows.
 fn outcome_of(
     alloc: Global,
     given: Given,
@@ -119,19 +119,19 @@ fn outcome_of(
     Recorder::new(alloc, state)?.run(&mut input, &mut Screens::new(alloc))
 }
 
-/// A run: the state, the events, and the state that is accepted.
+/// A run: the state, the events, and the accepted state.
 type Row = (Given, &'static [Event], Given);
 
 /// Accepts, while no dialog is open.
 const ACCEPT: Event = Event::QuitAccept;
 
-/// Gives up, or asks first.
+/// Gives up, or asks whether to quit.
 const CANCEL: Event = Event::QuitCancel;
 
-/// To the first key inside the selected one.
+/// Selects the first key inside the selected one.
 const INNER: Event = Event::FocusInner;
 
-/// The button of the question that goes back.
+/// Clicks the quit dialog's button that goes back.
 const BACK: Event = Event::Click {
     row: 12,
     column: 55,
@@ -162,7 +162,7 @@ const ACCEPTED: [Row; 5] = [
     ),
 ];
 
-/// Checks that a run is accepted with a state.
+/// Checks that the run of `row` accepts the state of the row.
 fn check_accepted(rt: &impl Abort, alloc: Global, row: Row) -> Result<(), RecordError> {
     let (given, events, wanted) = row;
     let state = outcome_of(alloc, given, events)?;
@@ -170,13 +170,13 @@ fn check_accepted(rt: &impl Abort, alloc: Global, row: Row) -> Result<(), Record
     Ok(())
 }
 
-/// Checks that giving up a state without changes is the error for it.
+/// Checks that giving up a state without changes returns `Cancelled`.
 fn check_cancelled(rt: &impl Abort, alloc: Global) {
     let outcome = outcome_of(alloc, Given::Nothing, &[CANCEL]);
     assert!(rt; matches!(outcome, Err(RecordError::Cancelled)));
 }
 
-/// Checks that a run whose events end is the fault of a read.
+/// Checks that a run whose events end fails with the fault of a read.
 fn check_ended(rt: &impl Abort, alloc: Global) {
     match outcome_of(alloc, Given::Plain, &[Event::None]) {
         Err(RecordError::ReadInput(words)) => assert_eq!(rt; words.as_str(), "no events left"),
@@ -195,7 +195,8 @@ fn small_states_are_given_up_and_accepted(rt: HostRuntime) -> Result<(), RecordE
     Ok(())
 }
 
-/// An input on 24 columns and 8 rows that opens a file, the menu Select, and chooses its second item.
+/// Returns an input on 24 columns and 8 rows that opens a file and the menu Select, and chooses the
+/// second item.
 fn choosing(alloc: Global) -> Result<ScriptInput, RecordError> {
     let mut reads = Vec::new(alloc);
     for event in [
@@ -208,7 +209,7 @@ fn choosing(alloc: Global) -> Result<ScriptInput, RecordError> {
     ScriptInput::new(alloc, 24, 8, reads, Vec::new(alloc))
 }
 
-/// How many frames a run draws over a file of ten lines.
+/// Returns the number of frames of a run on a file of ten lines.
 fn frames_of(alloc: Global, input: &mut ScriptInput) -> Result<usize, RecordError> {
     let state = state_of(alloc, Given::Lines(&TEN))?;
     let mut screens = Screens::new(alloc);
@@ -220,8 +221,9 @@ fn frames_of(alloc: Global, input: &mut ScriptInput) -> Result<usize, RecordErro
 
 #[test]
 fn what_a_menu_leaves_has_its_own_frame(rt: HostRuntime) -> Result<(), RecordError> {
-    // one before each of four reads, of which the last finds no events; and three before what is left to be handled: the selection is
-    // brought onto the screen, the item moves it, and it is brought onto the screen again
+    // a frame before each of four reads, of which the last finds no events; and three frames before
+    // the events left for later: the selection is scrolled into view, the item moves it, and it is
+    // scrolled into view again
     let mut input = choosing(rt.alloc())?;
     assert_eq!(rt; frames_of(rt.alloc(), &mut input)?, 7);
     Ok(())

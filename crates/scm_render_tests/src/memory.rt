@@ -1,6 +1,7 @@
-//! Refused memory: what it leaves of a grid and of a trace, and that calls which take no memory succeed, which no contract says.
-//! `tools/refuse-memory` runs each test with each of its requests for memory refused: what is checked here holds, and the test
-//! passes or ends in `OutOfMemory`.
+//! Refused memory: what it leaves of a grid and of a trace. No contract says that the calls that do
+//! not allocate succeed then, so they are run here too. `tools/refuse-memory` runs each test with
+//! each of its requests for memory refused. The checks hold then, and the test passes or ends in
+//! `OutOfMemory`.
 use crate::render::{check_rect, columns, rect, render_pair, viewport_on};
 use crate::samples::{Caption, Pair};
 use scm_cells::{
@@ -11,7 +12,7 @@ use scm_render::{Component, DrawTrace, DrawnRect, DrawnRects, centered_rect};
 use std::alloc::Global;
 use std::process::Abort;
 
-/// The calls on rectangles.
+/// Checks the calls on rectangles.
 fn check_rects(rt: &impl Abort) {
     let whole = rect(0, 0, 4, 2);
     let small = rect(2, 1, 5, 5);
@@ -24,7 +25,7 @@ fn check_rects(rt: &impl Abort) {
     assert!(rt; Rect::default().is_empty());
 }
 
-/// The calls on sizes.
+/// Checks the calls on sizes.
 fn check_sizes(rt: &impl Abort) {
     let size = RectSize {
         width: 5,
@@ -44,7 +45,7 @@ fn check_sizes(rt: &impl Abort) {
     check_rect(rt, centered_rect(whole, size, 50, 50), whole);
 }
 
-/// The calls on masks.
+/// Checks the calls on masks.
 fn check_masks(rt: &impl Abort) {
     let mask = columns(2, 5);
     assert_eq!(rt; (mask.end_x(), mask.end_y()), (Some(7), None));
@@ -53,7 +54,7 @@ fn check_masks(rt: &impl Abort) {
     assert_eq!(rt; Mask::default().width, None);
 }
 
-/// The calls on texts.
+/// Checks the calls on texts.
 fn check_texts(rt: &impl Abort) {
     assert_eq!(rt; replace_control_character('\n'), Some("⏎"));
     assert_eq!(rt; replace_control_character('a'), None);
@@ -61,7 +62,7 @@ fn check_texts(rt: &impl Abort) {
     assert_eq!(rt; text_width("e\u{301}日"), 3);
 }
 
-/// The calls on a grid of six columns and two rows, and on a viewport over it.
+/// Checks the calls on a grid of six columns and two rows, and on a viewport over it.
 fn check_viewport(rt: &impl Abort, alloc: Global, mut grid: Grid) {
     grid.clear();
     let mut viewport = viewport_on(rt, alloc, grid);
@@ -107,7 +108,7 @@ fn refused_memory_keeps_sizes_of_grids(rt: HostRuntime) -> Result<(), RecordErro
     Ok(())
 }
 
-/// The same box with so many ids, from 0.
+/// Returns `count` boxes with the ids from 0 on, all with the same rectangle and `timestamp`.
 fn boxes_of(alloc: Global, count: u8, timestamp: usize) -> Result<DrawnRects<u8>, RecordError> {
     let mut boxes = DrawnRects::new(alloc);
     for id in 0..count {

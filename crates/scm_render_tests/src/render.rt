@@ -1,4 +1,5 @@
-//! Centring, texts, frames, masks and the boxes of components, by the project's values.
+//! Centring, texts, frames, masks and the boxes of components, checked against the project's
+//! values.
 ghost use Rattle.std.specs.Prelude.{◌≡◌, ◌≤◌, length, pos, Some, None};
 ghost use Rattle.scm_cells.specs.Clusters.{text_width};
 ghost use Rattle.scm_cells.specs.Spans.{span_texts};
@@ -14,7 +15,7 @@ use scm_render::{DrawTrace, DrawnRect, DrawnRects, Viewport, centered_rect, find
 use std::alloc::{AllocError, Global};
 use std::process::Abort;
 
-/// The rectangle at a column and a row, with its numbers of columns and rows.
+/// Returns the rectangle of `width` columns and `height` rows at column `x` and row `y`.
 pub(crate) fn rect(x: isize, y: isize, width: usize, height: usize) -> Rect
     ensures { result ≡ record { x = x; y = y; width = width; height = height } }
 {
@@ -26,7 +27,7 @@ pub(crate) fn rect(x: isize, y: isize, width: usize, height: usize) -> Rect
     }
 }
 
-/// A mask of so many columns of all rows.
+/// Returns the mask of `width` columns from column `x`, for all rows from 0 on.
 pub(crate) fn columns(x: isize, width: usize) -> Mask
     ensures { result ≡ record { x = x; y = pos 0; width = Some width; height = None } }
 {
@@ -38,18 +39,18 @@ pub(crate) fn columns(x: isize, width: usize) -> Mask
     }
 }
 
-/// Checks that a rectangle is the expected one.
+/// Checks that `found` is `expected`.
 pub(crate) fn check_rect(rt: &impl Abort, found: Rect, expected: Rect) {
     assert_eq!(rt; found, expected);
 }
 
-/// Checks what stands on a grid.
+/// Checks that `grid` shows `expected`.
 fn check_view(rt: &impl Abort, grid: &Grid, expected: &str) -> Result<(), RecordError> {
     assert_eq!(rt; grid.view()?.as_str(), expected);
     Ok(())
 }
 
-/// Checks what stands on the grid of a viewport.
+/// Checks that the grid of `viewport` shows `expected`.
 fn check_drawing(
     rt: &impl Abort,
     viewport: Viewport<u8>,
@@ -59,7 +60,7 @@ fn check_drawing(
     check_view(rt, &grid, expected)
 }
 
-/// Checks that a place is near the document's corner: at most 1000 columns or rows away.
+/// Checks that `place` is near the document's corner: at most 1000 columns or rows away.
 fn check_near(rt: &impl Abort, place: isize)
     ensures { IsNear place }
 {
@@ -67,7 +68,7 @@ fn check_near(rt: &impl Abort, place: isize)
     assert!(rt; place <= 1000);
 }
 
-/// Checks that what the viewport shows is near the document's corner, and its mask too.
+/// Checks that what `viewport` shows and its mask are near the document's corner.
 fn check_sight(rt: &impl Abort, viewport: &Viewport<u8>)
     ensures { SightWithin near viewport.now.canvas.sight }
 {
@@ -78,14 +79,14 @@ fn check_sight(rt: &impl Abort, viewport: &Viewport<u8>)
     check_near(rt, mask.x);
 }
 
-/// Checks that a text is short: at most 100 columns.
+/// Checks that `text` is short: at most 100 columns.
 fn check_text(rt: &impl Abort, text: &str)
     ensures { text_width text.now ≤ 100 }
 {
     assert!(rt; text_width(text) <= 100);
 }
 
-/// The columns of spans, of which there are few.
+/// Returns the number of columns of `spans`, and checks that they are few.
 fn columns_of(rt: &impl Abort, spans: &[Span]) -> usize
     ensures { result ≡ texts_width (span_texts spans.now) }
 {
@@ -99,14 +100,14 @@ fn columns_of(rt: &impl Abort, spans: &[Span]) -> usize
     columns
 }
 
-/// Checks that spans are short.
+/// Checks that `spans` are short: at most 100 columns in all.
 fn check_spans(rt: &impl Abort, spans: &[Span])
     ensures { texts_width (span_texts spans.now) ≤ 100 }
 {
     assert!(rt; columns_of(rt, spans) <= 100);
 }
 
-/// A viewport on a new grid that shows the part of the document from a column and a row on.
+/// Returns a viewport on a new grid, which shows the document from column `x` and row `y` on.
 fn viewport_at(
     alloc: Global,
     x: isize,
@@ -123,13 +124,14 @@ fn viewport_at(
     Ok(viewport)
 }
 
-/// A viewport on a grid of six columns and two rows, which shows the document from its corner on.
+/// Returns a viewport on `grid`, which has six columns and two rows and shows the document from its
+/// corner on.
 pub(crate) fn viewport_on(rt: &impl Abort, alloc: Global, grid: Grid) -> Viewport<u8> {
     assert_eq!(rt; (grid.width(), grid.height()), (6, 2));
     Viewport::new(alloc, grid, rect(0, 0, 6, 2))
 }
 
-/// Draws a text, which is near the document's corner.
+/// Draws a text, and checks first that it is near the document's corner.
 fn draw_text(
     rt: &impl Abort,
     viewport: &mut Viewport<u8>,
@@ -145,7 +147,7 @@ fn draw_text(
     viewport.draw_text(x, y, spans)
 }
 
-/// Draws a line, which is near the document's corner.
+/// Draws a line, and checks first that it is near the document's corner.
 fn draw_line(
     rt: &impl Abort,
     viewport: &mut Viewport<u8>,
@@ -160,7 +162,7 @@ fn draw_line(
     viewport.draw_line(x, y, line)
 }
 
-/// Draws a span, which is near the document's corner.
+/// Draws a span, and checks first that it is near the document's corner.
 fn draw_span(
     rt: &impl Abort,
     viewport: &mut Viewport<u8>,
@@ -175,7 +177,8 @@ fn draw_span(
     viewport.draw_span(x, y, span)
 }
 
-/// Draws a frame of six columns and three rows, which is near the document's corner.
+/// Draws a frame of six columns and three rows, and checks first that it is near the document's
+/// corner.
 fn draw_frame(
     rt: &impl Abort,
     viewport: &mut Viewport<u8>,
@@ -194,7 +197,7 @@ fn draw_frame(
     viewport.draw_frame(whole, "Quit", &["body"])
 }
 
-/// Draws a caption, which is near the document's corner.
+/// Draws a caption, and checks first that it is near the document's corner.
 fn draw_caption(
     rt: &impl Abort,
     viewport: &mut Viewport<u8>,
@@ -211,7 +214,7 @@ fn draw_caption(
     viewport.draw_component(x, y, caption)
 }
 
-/// Draws a nest, whose masks and texts are near the document's corner, at that corner.
+/// Draws a nest at the document's corner, and checks first that its masks and texts are near it.
 fn draw_nest(
     rt: &impl Abort,
     viewport: &mut Viewport<u8>,
@@ -227,7 +230,7 @@ fn draw_nest(
     viewport.draw_component(0, 0, nest)
 }
 
-/// Draws a pair of short texts on a grid.
+/// Draws a pair of short texts on `grid`.
 pub(crate) fn render_pair(
     rt: &impl Abort,
     alloc: Global,
@@ -243,7 +246,7 @@ pub(crate) fn render_pair(
     Viewport::render_top_level(alloc, grid, 0, 0, pair)
 }
 
-/// Checks that the texts of captions are short.
+/// Checks that the texts of `captions` are short.
 fn check_captions(rt: &impl Abort, captions: &[Caption])
     ensures { AreShort captions.now }
 {
@@ -252,7 +255,7 @@ fn check_captions(rt: &impl Abort, captions: &[Caption])
     }
 }
 
-/// Draws a column of a few short texts on a grid.
+/// Draws a column of a few short texts on `grid`.
 fn render_column(
     rt: &impl Abort,
     alloc: Global,
@@ -282,7 +285,7 @@ fn draw_tag(
     viewport.draw_component(0, 0, tag)
 }
 
-/// What a click hits in row `y` and column `x`.
+/// Returns what a click in row `y` and column `x` hits.
 fn target_at(boxes: &DrawnRects<Spot>, y: isize, x: isize) -> Option<Spot> {
     find_target(boxes, y, x)
 }
@@ -305,7 +308,7 @@ fn centring(rt: HostRuntime) {
     check_rect(&rt, centred, rect(20, 6, 40, 11));
 }
 
-/// A box of one cell, at column 2.
+/// Returns a box of one cell, at column 2.
 fn small_box() -> DrawnRect {
     DrawnRect {
         rect: rect(2, 0, 1, 1),
@@ -313,7 +316,7 @@ fn small_box() -> DrawnRect {
     }
 }
 
-/// Checks the rectangle of a trace, and its box with the id 7.
+/// Checks that the rectangle of `trace` is `rect`, and that its box with the id 7 is `drawn`.
 fn check_trace(rt: &impl Abort, trace: &DrawTrace<u8>, rect: Rect, drawn: Option<DrawnRect>) {
     check_rect(rt, trace.rect, rect);
     assert_eq!(rt; trace.components.get(&7).copied(), drawn);
@@ -334,7 +337,8 @@ fn traces(rt: HostRuntime) -> Result<(), RecordError> {
     Ok(())
 }
 
-/// Checks the place of a viewport of six columns and two rows at row 1, and where it shows rectangles.
+/// Checks the place of a viewport of six columns and two rows at row 1, and the places of two
+/// rectangles on its screen.
 fn check_places(rt: &impl Abort, viewport: &Viewport<u8>) {
     let whole = rect(0, 1, 6, 2);
     check_rect(rt, viewport.rect(), whole);
@@ -358,7 +362,7 @@ fn viewports_have_places(rt: HostRuntime) -> Result<(), RecordError> {
     Ok(())
 }
 
-/// A grid of which the second row has a text that is cut at the end.
+/// Returns a grid whose second row has a text that is clipped at its end.
 fn grid_with_text(rt: &impl Abort, alloc: Global) -> Result<Grid, RecordError> {
     let mut viewport = viewport_at(alloc, 0, 1, 6, 2)?;
     let drawn = draw_text(rt, &mut viewport, 2, 2, &[Span("abcdef")])?;
@@ -406,7 +410,7 @@ fn counts(rt: HostRuntime) -> Result<(), RecordError> {
     Ok(())
 }
 
-/// A viewport at the document's corner, of six columns, of which the mask lets three through.
+/// Returns a viewport of six columns at the document's corner, whose mask shows three of them.
 fn masked_viewport(
     rt: &impl Abort,
     alloc: Global,
@@ -418,7 +422,7 @@ fn masked_viewport(
     Ok(viewport)
 }
 
-/// Takes the mask off, and checks what stands on the screen.
+/// Removes the mask, and checks that the screen shows `expected`.
 fn check_masked(
     rt: &impl Abort,
     mut viewport: Viewport<u8>,
@@ -444,7 +448,8 @@ fn masked_spans(rt: HostRuntime) -> Result<(), RecordError> {
     check_masked(&rt, viewport, expected)
 }
 
-/// Draws spans as a text on row 0 and as a line on row 1, of so many columns.
+/// Draws `spans` as a text on row 0 and as a line on row 1, and checks that each has `width`
+/// columns.
 fn check_texts(
     rt: &impl Abort,
     alloc: Global,
@@ -469,7 +474,8 @@ fn masked_texts(rt: HostRuntime) -> Result<(), RecordError> {
     check_masked(&rt, viewport, "\"   b… \"\n\"   bc \"\n")
 }
 
-/// Draws a frame over a screen of so many columns and rows.
+/// Draws a frame over a screen of `width` columns and `height` rows, and checks that it shows
+/// `expected`.
 fn check_frame(
     rt: &impl Abort,
     alloc: Global,
@@ -500,7 +506,8 @@ fn frames(rt: HostRuntime) -> Result<(), RecordError> {
     Ok(())
 }
 
-/// Draws a frame from a place on, under a mask of so many columns from one on.
+/// Draws a frame at column `x` and row `y` under `mask`, its first column and its number of
+/// columns. Checks that the screen shows `expected`.
 fn check_masked_frame(
     rt: &impl Abort,
     alloc: Global,
@@ -528,7 +535,7 @@ fn check_masked_frame(
 
 #[test]
 fn masked_frames(rt: HostRuntime) -> Result<(), RecordError> {
-    // a frame that begins off the screen, one that ends there, and two that the mask cuts
+    // a frame that begins off the screen, one that ends off it, and two that the mask clips
     for (mask, x, y, expected) in [
         ((0, 6), -2, -1, "\"ody│  \"\n\"───┘  \"\n"),
         ((0, 6), 3, 1, "\"      \"\n\"   ┌Qu\"\n"),
@@ -540,14 +547,15 @@ fn masked_frames(rt: HostRuntime) -> Result<(), RecordError> {
     Ok(())
 }
 
-/// Checks the box of an id: its rectangle, and its rank in the order of beginning, from 0.
+/// Checks the box of `id`: its rectangle, and its rank in the order in which components begin, from
+/// 0.
 fn check_box(rt: &impl Abort, boxes: &DrawnRects<u8>, id: u8, expected: (Rect, usize)) {
     let (rect, timestamp) = expected;
     let expected = DrawnRect { rect, timestamp };
     assert_eq!(rt; boxes.get(&id).copied(), Some(expected));
 }
 
-/// Two texts of one id, under the id 1.
+/// Returns two texts with the same id, in a pair with the id 1.
 fn twins() -> Pair {
     Pair {
         id: 1,
@@ -566,7 +574,7 @@ fn boxes(rt: HostRuntime) -> Result<(), RecordError> {
     check_view(&rt, &grid, "\"ab    \"\n\"c     \"\n\"      \"\n")
 }
 
-/// A pane over a text, under a mask.
+/// Returns a pane over a text, under a mask.
 fn sample_nest() -> Nest {
     Nest {
         id: 1,
@@ -597,7 +605,7 @@ fn nested_masks(rt: HostRuntime) -> Result<(), RecordError> {
     check_drawing(&rt, viewport, "\"  cdef\"\n\" vw…  \"\n")
 }
 
-/// Three texts: of wide symbols, longer than the grid, and without columns.
+/// Returns three texts: of wide symbols, longer than the grid, and without columns.
 fn sample_column(alloc: Global) -> Result<Column, AllocError> {
     let captions = vec![in alloc;
         Caption { id: 2, text: "日" },
@@ -630,7 +638,7 @@ fn rows_of_captions(rt: HostRuntime) -> Result<(), RecordError> {
     )
 }
 
-/// A thousand texts of two hundred ids.
+/// Returns a thousand texts with two hundred ids.
 fn long_column(alloc: Global) -> Result<Column, AllocError> {
     let mut captions = Vec::new(alloc);
     for _ in 0..5 {
@@ -667,7 +675,7 @@ fn texts_without_columns_and_texts_made_while_drawing(rt: HostRuntime) -> Result
     check_drawing(&rt, viewport, "\"(ab)  \"\n")
 }
 
-/// Draws a text of so many columns by each call that takes one.
+/// Draws `text` by each call that takes a text, and checks that it has `width` columns.
 fn check_drawn(
     rt: &impl Abort,
     alloc: Global,
@@ -680,7 +688,7 @@ fn check_drawn(
     check_texts(rt, alloc, viewport, &[Span(text)], width)
 }
 
-/// Fills so many columns and rows by each call that does so.
+/// Fills `width` columns and `height` rows by each call that fills.
 fn check_filled(
     rt: &impl Abort,
     viewport: &mut Viewport<u8>,
@@ -705,7 +713,7 @@ fn texts_without_symbols_are_drawn(rt: HostRuntime) -> Result<(), RecordError> {
     Ok(())
 }
 
-/// A text of one column: a letter under five thousand marks.
+/// Returns a text of one column: a letter with five thousand combining marks.
 fn long_text(alloc: Global) -> Result<String, AllocError> {
     let mut text = String::from_str(alloc, "e")?;
     for _ in 0..5000 {
@@ -724,7 +732,7 @@ fn texts_of_any_size_are_drawn(rt: HostRuntime) -> Result<(), RecordError> {
     check_drawn(&rt, alloc, &mut viewport, long.as_str(), 1)
 }
 
-/// Five thousand rows of text.
+/// Returns five thousand rows of text.
 fn long_body(alloc: Global) -> Result<Vec<&'static str>, AllocError> {
     let mut body = Vec::new(alloc);
     for _ in 0..5000 {

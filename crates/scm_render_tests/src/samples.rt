@@ -1,5 +1,5 @@
-//! Sample components, from a text to texts under nested masks. Each has its picture, and is proved to
-//! draw it.
+//! Sample components, from one text to texts under nested masks. Each has a picture, and is proved
+//! to draw it.
 ghost use Rattle.scm_cells.specs.Mask.{MaskInRange};
 ghost use Rattle.scm_render_tests.specs.Masks.{MaskInRange-prop};
 
@@ -127,7 +127,7 @@ impl Component for Pane {
     }
 }
 
-/// A pane, and a text on the row below it, both drawn under a mask; the pane then sets its own.
+/// A pane, and a text on the row below it, both drawn under a mask. The pane then sets its own.
 #[derive(Drop)]
 pub struct Nest {
     pub id: u8,
@@ -173,7 +173,7 @@ impl Component for Nest {
     }
 }
 
-/// Texts, each on the row below the one before.
+/// Texts, each on the row below the previous one.
 #[derive(Drop)]
 pub struct Column {
     pub id: u8,

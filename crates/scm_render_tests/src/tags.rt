@@ -1,4 +1,5 @@
-//! A sample component that takes memory, for ids of any type, and an id that a click may hit.
+//! A sample component that allocates while drawing, for ids of any type, and an id that a click may
+//! hit.
 ghost use Rattle.std.specs.Prelude.{◌≡◌, IfOk, IfErr, string_bytes};
 ghost use Rattle.scm_render_tests.specs.Tags.{boxed_text};
 ghost use Rattle.scm_errors.specs.declared.error.RecordError.TheVariants.{OutOfMemory};
@@ -9,7 +10,7 @@ use scm_render::{Clickable, Component, Viewport};
 use std::alloc::Global;
 use std::hash::Hash;
 
-/// The label between brackets, which are round where it has the focus.
+/// Returns `label` between brackets, which are round if `is_focused`.
 pub(crate) fn boxed(alloc: Global, is_focused: bool, label: &str) -> Result<String, RecordError>
     ensures ok { IfOk result (λ text. string_bytes text ≡ boxed_text is_focused label.now) }
     ensures err { IfErr result (λ e. e ≡ OutOfMemory) }
@@ -21,7 +22,7 @@ pub(crate) fn boxed(alloc: Global, is_focused: bool, label: &str) -> Result<Stri
     Ok(text)
 }
 
-/// A label between brackets, for ids of any type: its text takes memory when it is drawn.
+/// A label between brackets, for ids of any type. Drawing it allocates its text.
 #[derive(Drop)]
 pub struct Tag<'a, K> {
     pub id: K,
@@ -59,7 +60,7 @@ impl<'a, K: Copy + Eq + Hash + Drop> Component for Tag<'a, K> {
     }
 }
 
-/// A number as an id. A click acts on all but 0.
+/// A number as an id. A click acts on every number but 0.
 #[derive(Clone, Copy, Debug, Eq, Hash, PartialEq)]
 pub struct Spot {
     pub number: u8,

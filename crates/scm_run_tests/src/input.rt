@@ -1,15 +1,16 @@
-//! An input that copies what it gives.
+//! An input that copies what it returns.
 use scm_record::{Event, RecordError, RecordInput, TerminalKind};
 use std::collections::VecDeque;
 
-/// An input of batches and answers, each of which it copies when it is asked for: so each read and each edit asks for memory.
+/// An input of batches and answers. Each read and each edit returns a copy, so each of them
+/// allocates.
 #[derive(Drop)]
 pub(crate) struct Copying {
     /// The screen's columns.
     pub(crate) width: usize,
     /// The screen's rows.
     pub(crate) height: usize,
-    /// The batches that are left. Past them a batch is empty.
+    /// The batches that are left. A read past the last one returns an empty batch.
     pub(crate) batches: VecDeque<Vec<Event>>,
     /// The answers that are left.
     pub(crate) answers: VecDeque<String>,
@@ -18,7 +19,7 @@ pub(crate) struct Copying {
 impl RecordInput for Copying {
     ghost use Rattle.std.specs.Prelude.{List, map};
     ghost use Rattle.scm_record.specs.Script.{Read, Batch, Reply};
-    ghost use Rattle.scm_record.specs.Testing.{answers, kind_of};
+    ghost use Rattle.scm_record.specs.TestingInput.{answers, kind_of};
 
     ghost kind = { λ i. kind_of i.width i.height };
 

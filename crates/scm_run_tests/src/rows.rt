@@ -1,4 +1,4 @@
-//! Runs: a screen, a state, what a user does, and what comes of it.
+//! Runs: a screen, a state, the user's events, and their outcome.
 use scm_record::{Event, TestingScreenshot};
 
 /// A run over one screen.
@@ -10,26 +10,26 @@ pub(crate) struct Row {
     pub(crate) height: usize,
     /// The state, in its JSON form.
     pub(crate) given: &'static str,
-    /// What the user does, a batch after the other.
+    /// The user's events, in batches.
     pub(crate) batches: &'static [&'static [Event]],
-    /// What the first message that is edited becomes.
+    /// The answer of the first edit.
     pub(crate) answer: &'static str,
-    /// The screen that is taken, or what is told of a place without one.
+    /// The screenshot, or the text for a place without one.
     pub(crate) screen: &'static str,
-    /// The state that is accepted, in its JSON form.
+    /// The accepted state, in its JSON form.
     pub(crate) accepted: &'static str,
 }
 
-/// What is told of a place without a screen.
+/// The text for a place without a screenshot.
 pub(crate) const ABSENT: &str = "<this screenshot was never assigned>";
 
-/// Takes the screen.
+/// Takes the screenshot.
 const SHOT: Event = Event::TakeScreenshot(TestingScreenshot { place: 0 });
 
-/// To the first key inside the selected one.
+/// Selects the first key inside the selected one.
 const INNER: Event = Event::FocusInner;
 
-/// To the next key.
+/// Selects the next key.
 const NEXT: Event = Event::FocusNext;
 
 /// Accepts, while no dialog is open.
@@ -38,11 +38,11 @@ const ACCEPT: Event = Event::QuitAccept;
 /// Selects the file of the second view, and then unfolds it.
 const UNFOLD: Event = Event::Click { row: 1, column: 39 };
 
-/// A line of context, a line removed and a line added.
+/// A file of a line of context, a removed line and an added line.
 const OPEN: &str =
     r#"{"is_read_only":false,"commits":[{"message":null},{"message":null}],"files":[{"old_path":null,"path":"f","file_mode":{"Unix":33188},"sections":[{"Unchanged":{"lines":["a\n"]}},{"Changed":{"lines":[{"is_checked":false,"change_type":"Removed","line":"b\n"},{"is_checked":true,"change_type":"Added","line":"c\n"}]}}]}]}"#;
 
-/// That file, with its section selected.
+/// The file of `OPEN`, with its section selected.
 const OPEN_SCREEN: &str = r#""[File] [Edit] [Select] ["
 "[◐] f                [-]"
 "        1 a⏎            "
@@ -53,7 +53,7 @@ const OPEN_SCREEN: &str = r#""[File] [Edit] [Select] ["
 "                        "
 "#;
 
-/// That file after it was scrolled by a row, with the line selected that came under a click.
+/// The file of `OPEN` scrolled down by one row, with the clicked line selected.
 const CLICKED_SCREEN: &str = r#""[File] [Edit] [Select] ["
 "[◐] f                [-]"
 "  [◐] Section 1/1    [-]"
@@ -64,15 +64,15 @@ const CLICKED_SCREEN: &str = r#""[File] [Edit] [Select] ["
 "                        "
 "#;
 
-/// A new file of one line, which nothing is checked of.
+/// A new file of one line, with nothing checked.
 const NEW: &str =
     r#"{"is_read_only":false,"commits":[{"message":null},{"message":null}],"files":[{"old_path":null,"path":"n","file_mode":"Absent","sections":[{"Changed":{"lines":[{"is_checked":false,"change_type":"Added","line":"n\n"}]}},{"FileMode":{"is_checked":false,"mode":{"Unix":33188}}}]}]}"#;
 
-/// The same with the line checked, and with it the file.
+/// The file of `NEW` with its line checked, and so its creation too.
 const NEW_CHECKED: &str =
     r#"{"is_read_only":false,"commits":[{"message":null},{"message":null}],"files":[{"old_path":null,"path":"n","file_mode":"Absent","sections":[{"Changed":{"lines":[{"is_checked":true,"change_type":"Added","line":"n\n"}]}},{"FileMode":{"is_checked":true,"mode":{"Unix":33188}}}]}]}"#;
 
-/// A line of context, and a line of each kind.
+/// A line of context, and changed lines of each kind.
 const SIDES: &str =
     r#"{"is_read_only":false,"commits":[{"message":null},{"message":null}],"files":[{"old_path":null,"path":"f","file_mode":{"Unix":33188},"sections":[{"Unchanged":{"lines":["a\n"]}},{"Changed":{"lines":[{"is_checked":true,"change_type":"Added","line":"b\n"},{"is_checked":false,"change_type":"Removed","line":"c\n"},{"is_checked":false,"change_type":"Added","line":"d\n"},{"is_checked":true,"change_type":"Removed","line":"e\n"}]}}]}]}"#;
 
@@ -80,11 +80,11 @@ const SIDES: &str =
 const MARKED: &str =
     r#"{"is_read_only":false,"commits":[{"message":null},{"message":null}],"files":[{"old_path":null,"path":"f","file_mode":{"Unix":33188},"sections":[{"Changed":{"lines":[{"is_checked":true,"change_type":"Added","line":"c\n"}]}}]}]}"#;
 
-/// Ten lines.
+/// A file of ten lines.
 const TEN: &str =
     r#"{"is_read_only":false,"commits":[{"message":null},{"message":null}],"files":[{"old_path":null,"path":"f","file_mode":{"Unix":33188},"sections":[{"Changed":{"lines":[{"is_checked":false,"change_type":"Added","line":"0\n"},{"is_checked":false,"change_type":"Added","line":"1\n"},{"is_checked":false,"change_type":"Added","line":"2\n"},{"is_checked":false,"change_type":"Added","line":"3\n"},{"is_checked":false,"change_type":"Added","line":"4\n"},{"is_checked":false,"change_type":"Added","line":"5\n"},{"is_checked":false,"change_type":"Added","line":"6\n"},{"is_checked":false,"change_type":"Added","line":"7\n"},{"is_checked":false,"change_type":"Added","line":"8\n"},{"is_checked":false,"change_type":"Added","line":"9\n"}]}}]}]}"#;
 
-/// The sixth of them selected, on a screen that was scrolled by a row for it.
+/// The sixth line selected, on a screen that scrolled down one row for it.
 const TEN_SCREEN: &str = r#""[File] [Edit] [Select] ["
 "[ ] f                [-]"
 "    [ ] + 0⏎            "
@@ -95,11 +95,11 @@ const TEN_SCREEN: &str = r#""[File] [Edit] [Select] ["
 "    ( ) + 5⏎            "
 "#;
 
-/// Two sections, seven lines apart.
+/// A file of two sections, seven lines apart.
 const FAR: &str =
     r#"{"is_read_only":false,"commits":[{"message":null},{"message":null}],"files":[{"old_path":null,"path":"f","file_mode":{"Unix":33188},"sections":[{"Changed":{"lines":[{"is_checked":false,"change_type":"Added","line":"x\n"}]}},{"Unchanged":{"lines":["a\n","b\n","c\n","d\n","e\n","f\n","g\n"]}},{"Changed":{"lines":[{"is_checked":false,"change_type":"Removed","line":"y\n"}]}}]}]}"#;
 
-/// The first of them selected.
+/// The first section of `FAR` selected.
 const FAR_SCREEN: &str = r#""[File] [Edit] [Select] ["
 "[ ] f                [-]"
 "  ( ) Section 1/2    (-)"
@@ -116,27 +116,27 @@ const FAR_SCREEN: &str = r#""[File] [Edit] [Select] ["
 "                        "
 "#;
 
-/// A message.
+/// A state with a message.
 const HELLO: &str =
     r#"{"is_read_only":false,"commits":[{"message":"hello"},{"message":null}],"files":[{"old_path":null,"path":"foo/bar","file_mode":{"Unix":33188},"sections":[]}]}"#;
 
-/// The same with another message.
+/// The state of `HELLO` with another message.
 const BYE: &str =
     r#"{"is_read_only":false,"commits":[{"message":"bye"},{"message":null}],"files":[{"old_path":null,"path":"foo/bar","file_mode":{"Unix":33188},"sections":[]}]}"#;
 
-/// Two messages.
+/// A state with two messages.
 const MESSAGES: &str =
     r#"{"is_read_only":false,"commits":[{"message":"a"},{"message":"b"}],"files":[{"old_path":null,"path":"foo/bar","file_mode":{"Unix":33188},"sections":[{"Changed":{"lines":[{"is_checked":false,"change_type":"Added","line":"n\n"}]}}]}]}"#;
 
-/// The same with another second message.
+/// The state of `MESSAGES` with another second message.
 const OTHER_MESSAGES: &str =
     r#"{"is_read_only":false,"commits":[{"message":"a"},{"message":"z"}],"files":[{"old_path":null,"path":"foo/bar","file_mode":{"Unix":33188},"sections":[{"Changed":{"lines":[{"is_checked":false,"change_type":"Added","line":"n\n"}]}}]}]}"#;
 
-/// The same without messages.
+/// The state of `MESSAGES` without messages.
 const BAR: &str =
     r#"{"is_read_only":false,"commits":[{"message":null},{"message":null}],"files":[{"old_path":null,"path":"foo/bar","file_mode":{"Unix":33188},"sections":[{"Changed":{"lines":[{"is_checked":false,"change_type":"Added","line":"n\n"}]}}]}]}"#;
 
-/// That file beside itself, unfolded in the second view alone.
+/// The file of `BAR` in both views, unfolded only in the second.
 const BAR_SCREEN: &str = r#""[File] [Edit] [Select] [View]            "
 "[ ] foo/bar      [+] ( ) foo/bar      (±)"
 "                       [ ] Section 1/1[+]"
@@ -253,7 +253,7 @@ pub(crate) const ROWS: [Row; 10] = [
         screen: ABSENT,
         accepted: OTHER_MESSAGES,
     },
-    // the second view is unfolded
+    // the file is unfolded in the second view
     Row {
         width: 41,
         height: 5,
@@ -271,5 +271,5 @@ pub(crate) const ROWS: [Row; 10] = [
     },
 ];
 
-/// The sides of the file with a line of each kind: what is checked, and all the rest.
+/// The sides of the file of `SIDES`: with the checked changes, and with the other ones.
 pub(crate) const SPLIT: (&str, &str) = ("a\nb\nc\n", "a\nd\ne\n");

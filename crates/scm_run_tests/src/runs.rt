@@ -1,5 +1,6 @@
-//! The runs. `tools/refuse-memory` runs each test with each of its requests for memory refused: the screen that is taken is the
-//! whole run's or was never taken, and the test passes or ends in `OutOfMemory`.
+//! The runs. `tools/refuse-memory` runs each test with each of its requests for memory refused. The
+//! screenshot is that of the whole run or was never taken, and the test passes or ends in
+//! `OutOfMemory`.
 use crate::input::Copying;
 use crate::rows::{ABSENT, ROWS, Row, SPLIT};
 use scm_json::read_state;
@@ -10,7 +11,7 @@ use std::alloc::Global;
 use std::collections::VecDeque;
 use std::process::Abort;
 
-/// The batches of an input.
+/// Returns the batches of an input.
 fn batches_of(
     alloc: Global,
     given: &'static [&'static [Event]],
@@ -22,7 +23,7 @@ fn batches_of(
     Ok(VecDeque::from(batches))
 }
 
-/// The input of a row.
+/// Returns the input of `row`.
 fn input_of(alloc: Global, row: Row) -> Result<Copying, RecordError> {
     let mut answers = VecDeque::new(alloc);
     answers.push_back(String::from_str(alloc, row.answer)?)?;
@@ -34,7 +35,7 @@ fn input_of(alloc: Global, row: Row) -> Result<Copying, RecordError> {
     })
 }
 
-/// The state of a form.
+/// Returns the state of the JSON `form`.
 fn state_of(
     rt: &impl Abort,
     alloc: Global,
@@ -46,7 +47,7 @@ fn state_of(
     }
 }
 
-/// Runs a row over the store.
+/// Runs `row`, and keeps its screenshot in `screens`.
 fn run_row(
     rt: &impl Abort,
     alloc: Global,
@@ -59,7 +60,7 @@ fn run_row(
     Recorder::new(alloc, state)?.run(&mut input, screens)
 }
 
-/// Runs a row, and checks the screen that it took: where the run ends in a fault it may not have taken it.
+/// Runs `row`, and checks its screenshot, which may be missing if the run ends in a fault.
 fn accepted_of(
     rt: &impl Abort,
     alloc: Global,
@@ -76,7 +77,7 @@ fn accepted_of(
     outcome
 }
 
-/// Checks the state that a row accepts.
+/// Checks the state that `row` accepts.
 fn check_row(rt: &impl Abort, alloc: Global, row: Row) -> Result<(), RecordError> {
     let state = accepted_of(rt, alloc, row)?;
     let wanted = state_of(rt, alloc, row.accepted)?;
@@ -92,7 +93,7 @@ fn refused_memory_ends_runs(rt: HostRuntime) -> Result<(), RecordError> {
     Ok(())
 }
 
-/// The text of a side, or nothing where it is no text.
+/// Returns the text of a side, or an empty text if it is no text.
 fn text_of<'a>(side: &'a SelectedChanges<'_>) -> &'a str {
     match &side.contents {
         SelectedContents::Text { contents } => contents.as_str(),
@@ -100,7 +101,7 @@ fn text_of<'a>(side: &'a SelectedChanges<'_>) -> &'a str {
     }
 }
 
-/// Checks both sides of a file.
+/// Checks both sides of `file`.
 fn check_sides(rt: &impl Abort, alloc: Global, file: &File<'_>) -> Result<(), RecordError> {
     let (selected, unselected) = file.get_selected_contents(alloc)?;
     assert_eq!(rt; (text_of(&selected), text_of(&unselected)), SPLIT);

@@ -7,24 +7,24 @@ use scm_types::{
 };
 use std::alloc::{AllocError, Global};
 
-/// A changed line: its mark, what was done, its text.
+/// A changed line: its mark, its change, its text.
 pub type Line = (bool, ChangeType, &'static str);
 
-/// A line of the new side alone.
+/// A line of the new side only.
 pub const ADDED: ChangeType = ChangeType::Added;
 
-/// A line of the old side alone.
+/// A line of the old side only.
 pub const REMOVED: ChangeType = ChangeType::Removed;
 
 /// The mode of a plain file.
 pub const DEFAULT: FileMode = FileMode::FILE_DEFAULT;
 
-/// A copy of a text, of its own.
+/// Returns an owned copy of `text`.
 pub fn owned(alloc: Global, text: &str) -> Result<OwnedText, AllocError> {
     Ok(OwnedText::from(String::from_str(alloc, text)?))
 }
 
-/// A text of so many bytes.
+/// Returns a text of `count` bytes.
 pub fn text_of(alloc: Global, count: usize) -> Result<String, AllocError> {
     let mut text = String::new(alloc);
     for _ in 0..count {
@@ -33,7 +33,7 @@ pub fn text_of(alloc: Global, count: usize) -> Result<String, AllocError> {
     Ok(text)
 }
 
-/// A section of these lines, all of them context.
+/// Returns a section of context with the lines `texts`.
 pub fn context(alloc: Global, texts: &[&'static str]) -> Result<Section<'static>, RecordError> {
     let mut lines = Items::new(alloc);
     for text in texts {
@@ -42,7 +42,7 @@ pub fn context(alloc: Global, texts: &[&'static str]) -> Result<Section<'static>
     Ok(Section::Unchanged { lines })
 }
 
-/// A section of these changed lines.
+/// Returns a section of the lines `changes`.
 pub fn changed(alloc: Global, changes: &[Line]) -> Result<Section<'static>, RecordError> {
     let mut lines = Items::new(alloc);
     for (is_checked, change_type, text) in changes {
@@ -55,7 +55,7 @@ pub fn changed(alloc: Global, changes: &[Line]) -> Result<Section<'static>, Reco
     Ok(Section::Changed { lines })
 }
 
-/// The file `f` of these sections, which had the mode.
+/// Returns the file `f` of `sections`, whose old mode is `file_mode`.
 pub fn file_of(file_mode: FileMode, sections: Vec<Section<'static>>) -> File<'static> {
     File {
         old_path: None,
@@ -65,7 +65,8 @@ pub fn file_of(file_mode: FileMode, sections: Vec<Section<'static>>) -> File<'st
     }
 }
 
-/// The file `f` of a section of these lines of context, and a section of these changed lines.
+/// Returns the file `f` of a section of context with the lines `texts`, and a section of the lines
+/// `changes`.
 pub fn file_with(
     alloc: Global,
     texts: &[&'static str],
@@ -77,7 +78,7 @@ pub fn file_with(
     Ok(file_of(DEFAULT, sections))
 }
 
-/// A commit with the message, and one without.
+/// Returns a commit with `message`, and one without a message.
 pub fn commits_of(alloc: Global, message: &str) -> Result<Items<Commit>, RecordError> {
     let mut commits = Items::new(alloc);
     commits.push(Commit {
@@ -87,7 +88,7 @@ pub fn commits_of(alloc: Global, message: &str) -> Result<Items<Commit>, RecordE
     Ok(commits)
 }
 
-/// A change of bytes, of which the old ones have a description.
+/// Returns a binary change, whose old contents have a description.
 pub fn binary(is_checked: bool) -> Section<'static> {
     Section::Binary {
         is_checked,
@@ -96,7 +97,7 @@ pub fn binary(is_checked: bool) -> Section<'static> {
     }
 }
 
-/// The deletion of a file, checked.
+/// Returns the deletion of a file, checked.
 pub fn deletion() -> Section<'static> {
     Section::FileMode {
         is_checked: true,
@@ -104,7 +105,7 @@ pub fn deletion() -> Section<'static> {
     }
 }
 
-/// What a file holds: little, much, or something of a kind.
+/// The contents of a sample file.
 #[derive(Clone, Copy)]
 pub enum Held {
     /// No section.
@@ -113,17 +114,17 @@ pub enum Held {
     NoContext,
     /// A section of changes without a line.
     NoChanges,
-    /// A checked change of bytes.
+    /// A checked binary change.
     Bytes,
     /// The deletion of the file.
     Deletion,
-    /// A line of context, an added line and a change of bytes, each a section.
+    /// A line of context, an added line and a binary change, each in its own section.
     Several,
-    /// Ten thousand added lines, and a change of bytes.
+    /// Ten thousand added lines, and a binary change.
     ManyLines,
 }
 
-/// Every kind of what a file may hold.
+/// All contents of sample files.
 pub const HELD: [Held; 7] = [
     Held::Nothing,
     Held::NoContext,
@@ -134,7 +135,7 @@ pub const HELD: [Held; 7] = [
     Held::ManyLines,
 ];
 
-/// A list of this section alone.
+/// Returns a list of `section` alone.
 fn one_section(
     alloc: Global,
     section: Section<'static>,
@@ -144,7 +145,7 @@ fn one_section(
     Ok(sections)
 }
 
-/// A section of each kind but that of modes.
+/// Returns a section of each kind except a mode change.
 fn several_sections(alloc: Global) -> Result<Vec<Section<'static>>, RecordError> {
     let mut sections = one_section(alloc, context(alloc, &["a\n"])?)?;
     sections.push(changed(alloc, &[(false, ADDED, "b\n")])?)?;
@@ -152,7 +153,7 @@ fn several_sections(alloc: Global) -> Result<Vec<Section<'static>>, RecordError>
     Ok(sections)
 }
 
-/// A section of ten thousand lines, and one of bytes.
+/// Returns a section of ten thousand lines, and a binary one.
 fn many_lines(alloc: Global) -> Result<Vec<Section<'static>>, RecordError> {
     let lines = vec![in alloc; (true, ADDED, "b\n"); 10_000]?;
     let mut sections = one_section(alloc, changed(alloc, lines.as_slice())?)?;
@@ -160,7 +161,7 @@ fn many_lines(alloc: Global) -> Result<Vec<Section<'static>>, RecordError> {
     Ok(sections)
 }
 
-/// The sections of what a file holds.
+/// Returns the sections that `held` names.
 fn sections_of(alloc: Global, held: Held) -> Result<Vec<Section<'static>>, RecordError> {
     match held {
         Held::Nothing => Ok(Vec::new(alloc)),
@@ -173,7 +174,7 @@ fn sections_of(alloc: Global, held: Held) -> Result<Vec<Section<'static>>, Recor
     }
 }
 
-/// The file `f`, which holds that.
+/// Returns the file `f` with the sections that `held` names.
 pub fn file_holding(alloc: Global, held: Held) -> Result<File<'static>, RecordError> {
     Ok(file_of(DEFAULT, sections_of(alloc, held)?))
 }

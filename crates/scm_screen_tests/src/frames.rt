@@ -1,17 +1,19 @@
-//! How many rows a frame begins, and how many calls draw it.
+//! The number of rows that a frame begins, and of calls that draw it.
 use crate::given::{number_of, session_of, state_of};
 use scm_record::{RecordError, TerminalKind};
 use std::alloc::Global;
 use std::process::Abort;
 
-/// A row for each frame that shows one commit: the screen's columns and rows, the state and the events in letters, the rows that are
-/// begun and the calls, and the most that a screen of so many rows may take: a row more than it has, eight calls for each of these,
-/// and forty.
+/// A row for each frame that shows one commit: the screen's columns and rows, the state and the
+/// events in letters, the rows begun and the calls, and the most that a screen of that height may
+/// take. The most rows are one more than the screen has. The most calls are eight for each of these
+/// rows, and forty more.
 ///
-/// A row of the document counts where the screen has it, from the row that lies under the menu bar on: the header of a file or of
-/// a section takes four calls (the box of the fold, a blank, the box of the mark, the title), a changed line, a mode and bytes two (the
-/// box and the text), a line of context, the dots and a blank row one. A header that is pinned is one row more. The
-/// menu bar takes five (a blank and four titles), an open menu two for each item.
+/// A row of the document counts if it is on the screen, from the row under the menu bar on. The
+/// header of a file or of a section takes four calls (expand box, blank, toggle box, title). A
+/// changed line, a mode and a binary change take two (toggle box, text). A line of context, the
+/// dots and a blank row take one. A sticky header is one row more. The menu bar takes five (a blank
+/// and four titles), and an open menu two for each item.
 const INLINE: &str = "
 # A file of ten lines, and one of ten thousand, scrolled by a row.
 24 8 t lljjjjj => 9 29 of 9 112
@@ -76,8 +78,8 @@ const INLINE: &str = "
 24 8 !x7y0mb,t FF => 3 14 of 9 112
 ";
 
-/// A row for each frame that shows both commits beside each other: what the second one shows, folded as long as nobody unfolds it,
-/// counts too. Nothing says how much such a frame may take.
+/// A row for each frame that shows both commits side by side: the rows and calls of the second
+/// view, folded until the user unfolds it, count too. No limit is claimed for such a frame.
 const ADJACENT: &str = "
 41 5 x v => 2 13
 41 5 !x v => 5 18
@@ -92,7 +94,7 @@ const ADJACENT: &str = "
 24 8 !- v => 5 12
 ";
 
-/// How many rows and calls the last frame takes after these events.
+/// Returns how many rows and calls the frame after the events `letters` takes.
 fn counts_of(
     rt: &impl Abort,
     alloc: Global,
@@ -105,13 +107,13 @@ fn counts_of(
     Ok((grid.rows_drawn(), grid.calls()))
 }
 
-/// Two numbers of a row.
+/// Returns the two numbers in `text`.
 fn numbers_of(text: &str) -> (usize, usize) {
     let mut words = text.split_whitespace();
     (number_of(words.next()), number_of(words.next()))
 }
 
-/// Checks how many rows and calls a frame takes.
+/// Checks that the frame of `given` takes the rows and calls `wanted`.
 fn check_counts(
     rt: &impl Abort,
     alloc: Global,
@@ -134,14 +136,14 @@ fn check_counts(
     Ok(())
 }
 
-/// The most rows and calls of a frame of a screen, whose columns and rows stand first.
+/// Returns the most rows and calls of a frame of the screen whose columns and rows begin `given`.
 fn most_of(given: &str) -> (usize, usize) {
     let (_, height) = numbers_of(given);
     let rows = height.min(65_535) + 1;
     (rows, 8 * rows + 40)
 }
 
-/// Checks a row of the table: what the frame takes is at most what it may.
+/// Checks a row of the table, and that its numbers are within the most that a frame may take.
 fn check_row(rt: &impl Abort, alloc: Global, row: &str) -> Result<(), RecordError> {
     let (given, wanted) = row.split_once(" => ").unwrap_or((row, ""));
     let (wanted, most) = wanted.split_once(" of ").unwrap_or((wanted, ""));

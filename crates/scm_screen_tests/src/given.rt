@@ -1,4 +1,4 @@
-//! Sessions in few letters: a state, and what a user does.
+//! Sessions written in letters: a state, and the user's events.
 use scm_record::{
     ChangeType, Commit, Event, File, FileMode, Items, LiveSession, RecordError, RecordState,
     Section, SectionChangedLine, TerminalKind, Text, Turn,
@@ -12,7 +12,7 @@ const DIGITS: [&str; 10] = [
     "0\n", "1\n", "2\n", "3\n", "4\n", "5\n", "6\n", "7\n", "8\n", "9\n",
 ];
 
-/// A section of so many unchecked additions.
+/// Returns a section of `count` unchecked added lines.
 fn additions(alloc: Global, count: usize) -> Result<Section<'static>, RecordError> {
     let mut lines = Items::new(alloc);
     for index in 0..count {
@@ -25,7 +25,8 @@ fn additions(alloc: Global, count: usize) -> Result<Section<'static>, RecordErro
     Ok(Section::Changed { lines })
 }
 
-/// The section of a letter: changes of one or more lines, so many lines of context, a mode, bytes.
+/// Returns the section of `letter`: changed lines, a number of lines of context, a mode or a binary
+/// change.
 fn section_of(alloc: Global, letter: char) -> Result<Section<'static>, RecordError> {
     match letter {
         'x' => changed(alloc, &[(false, ADDED, "x\n")]),
@@ -46,7 +47,7 @@ fn section_of(alloc: Global, letter: char) -> Result<Section<'static>, RecordErr
     }
 }
 
-/// The file of such sections; a dot stands for none.
+/// Returns the file of the sections `letters`. A dot adds no section.
 fn file(alloc: Global, letters: &str) -> Result<File<'static>, RecordError> {
     let mut sections = Vec::new(alloc);
     for letter in letters.chars() {
@@ -57,7 +58,7 @@ fn file(alloc: Global, letters: &str) -> Result<File<'static>, RecordError> {
     Ok(file_of(DEFAULT, sections))
 }
 
-/// Files that commas part; a dash stands for none.
+/// Returns the files of `words`, which commas separate. A dash is no file.
 fn files(alloc: Global, words: &str) -> Result<Items<File<'static>>, RecordError> {
     let mut files = Items::new(alloc);
     for word in words.split(',') {
@@ -68,7 +69,7 @@ fn files(alloc: Global, words: &str) -> Result<Items<File<'static>>, RecordError
     Ok(files)
 }
 
-/// The commits, of which the first has a message behind `!`.
+/// Returns the commits of `word`. If it begins with `!`, the first one has a message.
 fn commits(alloc: Global, word: &str) -> Result<Items<Commit>, RecordError> {
     if word.starts_with('!') {
         commits_of(alloc, "hello")
@@ -77,7 +78,8 @@ fn commits(alloc: Global, word: &str) -> Result<Items<Commit>, RecordError> {
     }
 }
 
-/// The state of such files; behind `!` the first commit has a message.
+/// Returns the state of the files in `word`. If `word` begins with `!`, the first commit has a
+/// message.
 pub(crate) fn state_of(alloc: Global, word: &str) -> Result<RecordState<'static>, RecordError> {
     let files = files(alloc, word.trim_start_matches('!'))?;
     Ok(RecordState {
@@ -87,7 +89,7 @@ pub(crate) fn state_of(alloc: Global, word: &str) -> Result<RecordState<'static>
     })
 }
 
-/// The event of a letter; a capital from `A` on opens a menu.
+/// Returns the event of `letter`. The capitals `A` to `D` open a menu.
 fn event_of(letter: char) -> Event {
     match letter {
         'l' => Event::FocusInner,
@@ -109,7 +111,7 @@ fn event_of(letter: char) -> Event {
     }
 }
 
-/// The session after an event that does not end it.
+/// Returns the session after `event`, which must not end it.
 fn after(
     rt: &impl Abort,
     session: LiveSession<'static>,
@@ -121,7 +123,7 @@ fn after(
     Ok(next)
 }
 
-/// The session over a state after the events of these letters.
+/// Returns a session on `state` after the events `letters`.
 pub(crate) fn session_of(
     rt: &impl Abort,
     state: RecordState<'static>,
@@ -137,7 +139,7 @@ pub(crate) fn session_of(
     Ok(session)
 }
 
-/// A number, or 0.
+/// Returns the number that `word` is, or 0.
 pub(crate) fn number_of(word: Option<&str>) -> usize {
     word.unwrap_or("").parse().unwrap_or(0)
 }

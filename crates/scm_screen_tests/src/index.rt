@@ -1,4 +1,4 @@
-//! What stands on each row of a document, who owns each point of a frame, and on which rows each key stands.
+//! What is on each row of a document, who owns each place of a frame, and which rows each key has.
 use crate::given::{number_of, session_of, state_of};
 use scm_record::{
     CommitViewMode, ComponentId, FileKey, LineKey, LiveSession, QuitDialogButtonId, RecordError,
@@ -10,7 +10,8 @@ use std::process::Abort;
 
 // ---- words
 
-/// The key that a word stands for: `f` and the number of a file, `s` and those of a file and a section in it, `l` and those of a line.
+/// Returns the key of `word`: `f` and the number of a file, `s` and the numbers of a file and a
+/// section, or `l` and the numbers of a file, a section and a line.
 fn key_of(word: &str) -> SelectionKey {
     let mut numbers = word.trim_start_matches(['f', 's', 'l']).split('.');
     let commit_idx = 0;
@@ -35,7 +36,7 @@ fn key_of(word: &str) -> SelectionKey {
     }
 }
 
-/// The word of a key.
+/// Returns the word of `key`.
 fn key_word(alloc: Global, key: SelectionKey) -> Result<String, AllocError> {
     match key {
         SelectionKey::None => String::from_str(alloc, "none"),
@@ -47,7 +48,8 @@ fn key_word(alloc: Global, key: SelectionKey) -> Result<String, AllocError> {
     }
 }
 
-/// The word of what stands on a row: a row of the message, the header of a file, a row of a section.
+/// Returns the word of what is on a row: a row of the message, the header of a file, or a row of a
+/// section.
 fn place_word(alloc: Global, place: Option<RowPlace>) -> Result<String, AllocError> {
     match place {
         None => String::from_str(alloc, "-"),
@@ -59,8 +61,8 @@ fn place_word(alloc: Global, place: Option<RowPlace>) -> Result<String, AllocErr
     }
 }
 
-/// The word of a part of the screen: `h` and the number of a file for its header, and behind `t` and `e` the key of the box of a mark
-/// and of a fold.
+/// Returns the word of a component: `h` and the number of a file for its header, `t` and a key for
+/// its toggle box, `e` and a key for its expand box.
 fn id_word(alloc: Global, id: ComponentId) -> Result<String, AllocError> {
     match id {
         ComponentId::Menu(menu_idx) => format!(in alloc; "menu{menu_idx}"),
@@ -83,7 +85,7 @@ fn id_word(alloc: Global, id: ComponentId) -> Result<String, AllocError> {
     }
 }
 
-/// The word of an owner, if there is one.
+/// Returns the word of `owner`, or `-`.
 fn owner_word(alloc: Global, owner: Option<ComponentId>) -> Result<String, AllocError> {
     match owner {
         Some(id) => id_word(alloc, id),
@@ -91,7 +93,7 @@ fn owner_word(alloc: Global, owner: Option<ComponentId>) -> Result<String, Alloc
     }
 }
 
-/// The first row of a key and how many rows it has, if it has any.
+/// Returns the first row of a key and its number of rows as a word, or `-`.
 fn rows_word(alloc: Global, rows: Option<(usize, usize)>) -> Result<String, AllocError> {
     match rows {
         Some((top, rows)) => format!(in alloc; "{top}+{rows}"),
@@ -101,7 +103,8 @@ fn rows_word(alloc: Global, rows: Option<(usize, usize)>) -> Result<String, Allo
 
 // ---- rows
 
-/// A row for each document: its state and events in letters, and what stands on each row from row 0 on, and on the row below it.
+/// A row for each document: its state and events in letters, and what is on each row, from row 0 to
+/// the row below the last.
 const PLACES: &str = "
 # Ten lines; and the same with the sixth line selected, where the screen is scrolled by a row.
 t ll => - f0 s0.0.0 s0.0.1 s0.0.2 s0.0.3 s0.0.4 s0.0.5 s0.0.6 s0.0.7 s0.0.8 s0.0.9 s0.0.10 -
@@ -120,7 +123,7 @@ x,y FF => - f0 f1 -
 k,k1 Flf => - f0 s0.0.0 f1 s1.0.0 s1.0.1 s1.1.0 -
 ";
 
-/// A row for each document: the first rows of keys, and how many rows each has.
+/// A row for each document: the first row and the number of rows of keys.
 const SPANS: &str = "
 # Ten lines.
 t ll => f0=1+12 s0.0=2+11 l0.0.0=3+1 l0.0.1=4+1 l0.0.2=5+1 l0.0.3=6+1 l0.0.4=7+1 l0.0.5=8+1 l0.0.6=9+1 l0.0.7=10+1 l0.0.8=11+1 l0.0.9=12+1 l0.0.10=- s0.1=- f1=- none=-
@@ -133,14 +136,14 @@ t lljjjjj => f0=1+12 s0.0=2+11 l0.0.0=3+1 l0.0.5=8+1 l0.0.9=12+1
 !- - => f0=- none=-
 ";
 
-/// The index of the rows of what a session shows.
+/// Returns the index of the rows that a session shows.
 fn row_index(alloc: Global, session: &LiveSession<'_>) -> Result<RowIndex, RecordError> {
-    let showing = session.showing();
-    let view = showing.commit_view(alloc, 0)?;
+    let view_state = session.view_state();
+    let view = view_state.commit_view(alloc, 0)?;
     RowIndex::new(alloc, &view)
 }
 
-/// The session of a row, on a screen of 24 by 8.
+/// Returns the session of `given`, on a screen of 24 by 8.
 fn session_in(
     rt: &impl Abort,
     alloc: Global,
@@ -154,7 +157,7 @@ fn session_in(
     session_of(rt, state_of(alloc, state)?, alloc, kind, letters)
 }
 
-/// Checks what stands on each row.
+/// Checks what is on each row of the document `given`.
 fn check_places(
     rt: &impl Abort,
     alloc: Global,
@@ -181,12 +184,12 @@ fn each_row_has_its_place(rt: HostRuntime) -> Result<(), RecordError> {
     Ok(())
 }
 
-/// Both numbers, if there are two.
+/// Returns both numbers, or `None` if one is missing.
 fn both(top: Option<usize>, rows: Option<usize>) -> Option<(usize, usize)> {
     Some((top?, rows?))
 }
 
-/// Checks the rows of a key, in both indexes.
+/// Checks the rows of the key in `word`, in both indexes.
 fn check_key(
     rt: &impl Abort,
     alloc: Global,
@@ -203,7 +206,7 @@ fn check_key(
     Ok(())
 }
 
-/// Checks the rows of keys.
+/// Checks the rows of the keys in `wanted`.
 fn check_keys(
     rt: &impl Abort,
     alloc: Global,
@@ -232,8 +235,9 @@ fn keys_have_their_rows(rt: HostRuntime) -> Result<(), RecordError> {
 
 // ---- owners
 
-/// A row for each frame: the screen's columns and rows, the row of the document that is its first, the state and the events, how
-/// many rows all of it spans, and the owners of rows of the document and columns of the screen.
+/// A row for each frame: the screen's columns and rows, the first row of the document on it, the
+/// state and the events, the number of rows of the whole document, and the owners of rows of the
+/// document and columns of the screen.
 const OWNERS: &str = "
 # A question whether to quit stands in columns 10 to 69 of rows 9 to 12, its buttons on the last of them; scrolled, a row further down.
 80 24 0 k q => 13 12:52=quit 12:53=back 12:55=back 12:61=back 12:62=quit 12:63=leave 12:68=leave 12:69=quit 12:70=- 9:10=quit 9:9=- 8:10=-
@@ -257,7 +261,8 @@ const OWNERS: &str = "
 80 24 0 !k ? => 21 1:0=- 2:0=help 2:13=help 20:71=help 20:72=close 20:78=close 20:79=help 21:0=-
 ";
 
-/// The index of the frame that shows a session, with one commit, on so many columns and rows from this row on.
+/// Returns the index of the frame that shows one commit of `session` on `size` columns and rows,
+/// from row `scroll` on.
 #[tactic(auto, unfolding(scm_types::specs::Limits::max_items, scm_types::specs::Limits::max_scroll))]
 fn frame_index(
     rt: &impl Abort,
@@ -270,13 +275,13 @@ fn frame_index(
     assert!(rt; 10 <= width);
     assert!(rt; 2 <= height);
     assert!(rt; scroll <= RecordState::MAX_SCROLL);
-    let showing = session.showing();
-    let view = showing.app_view(alloc)?;
+    let view_state = session.view_state();
+    let view = view_state.app_view(alloc)?;
     assert!(rt; matches!(&view.commit_view_mode, CommitViewMode::Inline));
     FrameIndex::new(alloc, &view, width, height, scroll)
 }
 
-/// Checks who owns a place.
+/// Checks the owner of the place in `word`.
 fn check_owner(
     rt: &impl Abort,
     alloc: Global,
@@ -290,7 +295,7 @@ fn check_owner(
     Ok(())
 }
 
-/// The index of the frame of a row.
+/// Returns the index of the frame `given`.
 fn frame_in(rt: &impl Abort, alloc: Global, given: &str) -> Result<FrameIndex, RecordError> {
     let mut words = given.split_whitespace();
     let width = number_of(words.next()).min(65_535) as u16;
@@ -305,7 +310,7 @@ fn frame_in(rt: &impl Abort, alloc: Global, given: &str) -> Result<FrameIndex, R
     frame_index(rt, alloc, &session, (width, height), scroll)
 }
 
-/// Checks how many rows a frame spans, and its owners.
+/// Checks how many rows the frame `given` spans, and its owners.
 fn check_owners(
     rt: &impl Abort,
     alloc: Global,

@@ -1,4 +1,5 @@
-//! Tests of whole screens: how much a frame draws, and what it says of its rows, in a crate of their own.
+//! Tests of whole screens: how much a frame draws, and its indexes of rows and owners, in a crate
+//! of their own.
 #![tactic(auto)]
 
 #[cfg(test)]

@@ -1,4 +1,4 @@
-//! A session call by call: its screen, another size, a message that is edited, and each of its ends.
+//! A session call by call: its screen, a new size, an edited message, and each of its ends.
 use crate::given::{session_of, state_of};
 use scm_record::{
     ComponentId, Event, FileKey, LiveSession, RecordError, RecordState, Screens, SelectionKey,
@@ -13,8 +13,8 @@ const FILE: FileKey = FileKey {
     file_idx: 0,
 };
 
-/// A row and a column of a screen of 12 columns and 3 rows, and whose they are: below the menu bar stands the header of a
-/// folded file, with the box of its mark and that of its fold.
+/// A row and a column of a screen of 12 columns and 3 rows, and the owner. Below the menu bar is
+/// the header of a folded file, with its toggle box and its expand box.
 const OWNERS: [(usize, usize, Option<ComponentId>); 7] = [
     (0, 0, Some(ComponentId::Menu(0))),
     (1, 2, Some(ComponentId::ToggleBox(SelectionKey::File(FILE)))),
@@ -25,7 +25,7 @@ const OWNERS: [(usize, usize, Option<ComponentId>); 7] = [
     (3, 0, None),
 ];
 
-/// The symbols of a row of the session's screen.
+/// Returns the symbols of row `row` of the session's screen.
 fn row_of(alloc: Global, session: &LiveSession<'_>, row: usize) -> Result<String, RecordError> {
     let grid = session.grid();
     let mut text = String::new(alloc);
@@ -37,7 +37,7 @@ fn row_of(alloc: Global, session: &LiveSession<'_>, row: usize) -> Result<String
     Ok(text)
 }
 
-/// The message of a state's first commit.
+/// Returns the message of the first commit, or an empty text.
 fn message_in<'a>(state: &'a RecordState<'_>) -> &'a str {
     match state
         .commits
@@ -50,7 +50,7 @@ fn message_in<'a>(state: &'a RecordState<'_>) -> &'a str {
     }
 }
 
-/// Checks whose places are.
+/// Checks the owners of places.
 fn check_owners(rt: &impl Abort, session: &LiveSession<'_>) {
     for (row, column, owner) in OWNERS {
         assert_eq!(rt;
@@ -84,7 +84,8 @@ fn a_session_is_shown_on_each_size(rt: HostRuntime) -> Result<(), RecordError> {
     Ok(())
 }
 
-/// The session after the first commit's message is edited: it is this text, and then another one, or kept.
+/// Edits the first commit's message, which is `asked`: answers with `answer`, or keeps the message
+/// if there is none. Returns the session after it.
 fn edited<'a>(
     rt: &impl Abort,
     alloc: Global,
@@ -122,7 +123,7 @@ fn a_message_is_edited(rt: HostRuntime) -> Result<(), RecordError> {
     Ok(())
 }
 
-/// The session over a file of one line, which is marked (`k`) or not (`x`).
+/// Returns a session on a file of one line, which is checked (`k`) or unchecked (`x`).
 fn one_line(
     rt: &impl Abort,
     alloc: Global,
@@ -135,7 +136,7 @@ fn one_line(
     session_of(rt, state_of(alloc, word)?, alloc, kind, "")
 }
 
-/// The error with which an event ends the session.
+/// Returns the error with which `event` ends the session.
 fn error_of(rt: &impl Abort, session: LiveSession<'_>, event: Event) -> RecordError {
     match session.handle(event) {
         Err(error) => error,

@@ -1,9 +1,9 @@
-//! A view of a state, drawn without a recorder: whose each of its places is.
+//! A view of a state, drawn without a recorder: the owner of each of its places.
 use crate::given::state_of;
 use crate::painted::draw;
 use scm_record::{
     ComponentId, DrawnRects, FileKey, Grid, KeySet, LineKey, RecordError, RecordState, SectionKey,
-    SelectionKey, Showing, find_target,
+    SelectionKey, ViewState, find_target,
 };
 use scm_view::laws;
 use std::alloc::Global;
@@ -15,14 +15,14 @@ const FILE: FileKey = FileKey {
     file_idx: 0,
 };
 
-/// Its section of changed lines.
+/// The section of changed lines in the file.
 const SECTION: SelectionKey = SelectionKey::Section(SectionKey {
     commit_idx: 0,
     file_idx: 0,
     section_idx: 1,
 });
 
-/// The first line of that section.
+/// The first line of the section.
 const LINE: SelectionKey = SelectionKey::Line(LineKey {
     commit_idx: 0,
     file_idx: 0,
@@ -30,8 +30,8 @@ const LINE: SelectionKey = SelectionKey::Line(LineKey {
     line_idx: 0,
 });
 
-/// A row of the document and a column, and whose they are. The screen shows the document from row 1 on: there lies the menu bar, and below it the
-/// header of the file is pinned.
+/// A row of the document, a column, and the owner. The screen shows the document from row 1 on: the
+/// menu bar is there, and below it the sticky header of the file.
 const OWNERS: [(isize, isize, Option<ComponentId>); 12] = [
     (0, 0, None),
     (1, 0, Some(ComponentId::Menu(0))),
@@ -51,7 +51,7 @@ const OWNERS: [(isize, isize, Option<ComponentId>); 12] = [
     (6, 10, None),
 ];
 
-/// Checks whose each place is, among these boxes.
+/// Checks the owner of each place among `boxes`.
 fn check_owners(rt: &impl Abort, boxes: &DrawnRects<ComponentId>) {
     laws::ids_are_told_apart();
     for (row, column, owner) in OWNERS {
@@ -63,31 +63,34 @@ fn check_owners(rt: &impl Abort, boxes: &DrawnRects<ComponentId>) {
     }
 }
 
-/// What is shown of a state in which the file and the section are unfolded, and nothing is selected.
-fn showing_of(alloc: Global, state: RecordState<'static>) -> Result<Showing<'static>, RecordError> {
+/// Returns a view state with the file and the section unfolded, and nothing selected.
+fn showing_of(
+    alloc: Global,
+    state: RecordState<'static>,
+) -> Result<ViewState<'static>, RecordError> {
     let mut expanded = KeySet::new(alloc);
     expanded.insert(SelectionKey::File(FILE))?;
     expanded.insert(SECTION)?;
-    Ok(Showing::new(state, SelectionKey::None, expanded))
+    Ok(ViewState::new(state, SelectionKey::None, expanded))
 }
 
-/// Draws it from its row 1 on.
+/// Draws `view_state` from row 1 on.
 fn draw_alone(
     rt: &impl Abort,
     alloc: Global,
-    showing: &Showing<'_>,
+    view_state: &ViewState<'_>,
     grid: &mut Grid,
 ) -> Result<DrawnRects<ComponentId>, RecordError> {
-    assert!(rt; showing.state.is_accepted());
-    draw(rt, alloc, showing, grid, 1)
+    assert!(rt; view_state.state.is_accepted());
+    draw(rt, alloc, view_state, grid, 1)
 }
 
 #[test]
 fn places_have_owners(rt: HostRuntime) -> Result<(), RecordError> {
     let alloc = rt.alloc();
-    let showing = showing_of(alloc, state_of(alloc, "1h")?)?;
+    let view_state = showing_of(alloc, state_of(alloc, "1h")?)?;
     let mut grid = Grid::new(alloc, 24, 8)?;
-    let boxes = draw_alone(&rt, alloc, &showing, &mut grid)?;
+    let boxes = draw_alone(&rt, alloc, &view_state, &mut grid)?;
     check_owners(&rt, &boxes);
     Ok(())
 }

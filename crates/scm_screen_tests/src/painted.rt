@@ -1,17 +1,19 @@
-//! What is painted of a frame is what its components draw, with as many rows and calls, from whatever row on.
+//! Painting a frame has the same result as drawing its components, with as many rows and calls,
+//! from any row on.
 ghost use Rattle.std.specs.Prelude.{IsTrue};
 ghost use Rattle.scm_types.specs.Limits.{is_accepted_state};
 
 use crate::given::{number_of, session_of, state_of};
 use scm_record::{
-    CommitViewMode, ComponentId, DrawnRects, Grid, LiveSession, RecordError, RecordState, Showing,
-    TerminalKind, Viewport,
+    CommitViewMode, ComponentId, DrawnRects, Grid, LiveSession, RecordError, RecordState,
+    TerminalKind, ViewState, Viewport,
 };
 use scm_view::laws;
 use std::alloc::Global;
 use std::process::Abort;
 
-/// A row for each session: the screen's columns and rows, the state and the events in letters, and how far down it is shown from.
+/// A row for each session: the screen's columns and rows, the state and the events in letters, and
+/// the number of scroll offsets to draw, from 0 on.
 const SESSIONS: &str = "
 24 8 1h l 7
 24 14 x7y l 14
@@ -21,7 +23,7 @@ const SESSIONS: &str = "
 300 100 !k Aq 2
 ";
 
-/// Paints what a session shows of one commit.
+/// Paints one commit of `session` from row `scroll` on.
 #[tactic(auto, unfolding(scm_types::specs::Limits::max_items, scm_types::specs::Limits::max_scroll))]
 fn paint(
     rt: &impl Abort,
@@ -33,25 +35,26 @@ fn paint(
     assert!(rt; 10 <= grid.width());
     assert!(rt; 2 <= grid.height());
     assert!(rt; scroll <= RecordState::MAX_SCROLL);
-    let showing = session.showing();
-    let view = showing.app_view(alloc)?;
+    let view_state = session.view_state();
+    let view = view_state.app_view(alloc)?;
     assert!(rt; matches!(&view.commit_view_mode, CommitViewMode::Inline));
     view.paint(alloc, grid, scroll)
 }
 
-/// Draws what is shown of one commit by its components, on a cleared grid, and returns their boxes.
+/// Draws one commit of `view_state` by its components, on a cleared grid from row `scroll` on.
+/// Returns the boxes.
 #[tactic(auto, unfolding(scm_types::specs::Limits::max_items, scm_types::specs::Limits::max_scroll))]
 pub(crate) fn draw(
     rt: &impl Abort,
     alloc: Global,
-    showing: &Showing<'_>,
+    view_state: &ViewState<'_>,
     grid: &mut Grid,
     scroll: usize,
 ) -> Result<DrawnRects<ComponentId>, RecordError>
-    requires { IsTrue (is_accepted_state showing.now.state) }
+    requires { IsTrue (is_accepted_state view_state.now.state) }
 {
     assert!(rt; scroll <= RecordState::MAX_SCROLL);
-    let view = showing.app_view(alloc)?;
+    let view = view_state.app_view(alloc)?;
     laws::apps_are_in_range();
     assert!(rt; grid.width() <= 65_535);
     assert!(rt; grid.height() <= 65_535);
@@ -59,7 +62,7 @@ pub(crate) fn draw(
     Viewport::render_top_level(alloc, grid, 0, scroll as isize, &view)
 }
 
-/// Checks that two grids show the same, and that as much was drawn.
+/// Checks that both grids show the same, and that as much was drawn.
 fn check_alike(rt: &impl Abort, painted: &Grid, drawn: &Grid) -> Result<(), RecordError> {
     let text = drawn.view()?;
     assert_eq!(rt; painted.view()?.as_str(), text.as_str());
@@ -70,7 +73,7 @@ fn check_alike(rt: &impl Abort, painted: &Grid, drawn: &Grid) -> Result<(), Reco
     Ok(())
 }
 
-/// Paints and draws a session from each of so many rows on, on one grid each.
+/// Paints and draws `session` from each of the first `count` rows on, on a grid each.
 fn check_session(
     rt: &impl Abort,
     alloc: Global,
@@ -82,7 +85,7 @@ fn check_session(
     let mut drawn = Grid::new(alloc, size.0, size.1)?;
     for scroll in 0..count {
         paint(rt, alloc, session, &mut painted, scroll)?;
-        let _ = draw(rt, alloc, session.showing(), &mut drawn, scroll)?;
+        let _ = draw(rt, alloc, session.view_state(), &mut drawn, scroll)?;
         check_alike(rt, &painted, &drawn)?;
     }
     Ok(())

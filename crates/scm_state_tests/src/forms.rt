@@ -1,4 +1,4 @@
-//! What the derives of `serde` read and write: each form of a state in JSON, and forms that are refused.
+//! What the `serde` derives read and write: each JSON form of a state, and refused forms.
 use scm_samples::{ADDED, DEFAULT, Line, REMOVED, changed, commits_of, context, file_of, owned};
 use scm_types::{
     ChangeType, Commit, File, FileMode, Items, OwnedText, RecordError, RecordState, Section,
@@ -9,7 +9,7 @@ use std::alloc::Global;
 use std::process::Abort;
 use std::test::Fail;
 
-/// Checks that the value is read from the text, and that the text is written of the value.
+/// Checks that `value` is read from `text`, and that `text` is written for `value`.
 fn check_form<'a, T: Deserialize<'a> + Serialize + PartialEq + Drop>(
     rt: &impl Abort,
     alloc: Global,
@@ -23,7 +23,7 @@ fn check_form<'a, T: Deserialize<'a> + Serialize + PartialEq + Drop>(
     Ok(())
 }
 
-/// Checks that no value is read from any of the texts.
+/// Checks that no value is read from any of `texts`.
 fn check_refused<'a, T: Deserialize<'a> + Drop>(rt: &impl Abort, alloc: Global, texts: &[&'a str]) {
     for text in texts {
         let read: Result<T, serde_json::Error> = serde_json::from_str(alloc, *text);
@@ -31,7 +31,7 @@ fn check_refused<'a, T: Deserialize<'a> + Drop>(rt: &impl Abort, alloc: Global, 
     }
 }
 
-/// A changed line.
+/// Returns a changed line.
 fn line_of(
     is_checked: bool,
     change_type: ChangeType,
@@ -44,7 +44,7 @@ fn line_of(
     }
 }
 
-/// A change of bytes.
+/// Returns a binary change with the descriptions `old` and `new`.
 fn binary(
     is_checked: bool,
     old: Option<&'static str>,
@@ -57,12 +57,12 @@ fn binary(
     }
 }
 
-/// A change of the mode.
+/// Returns a mode change to `mode`.
 fn mode_change(is_checked: bool, mode: FileMode) -> Section<'static> {
     Section::FileMode { is_checked, mode }
 }
 
-/// A renamed file with a section of each kind.
+/// Returns a renamed file with a section of each kind.
 fn renamed_file(alloc: Global) -> Result<File<'static>, RecordError> {
     let mut sections: Vec<Section<'static>> = Vec::new(alloc);
     sections.push(context(alloc, &["a\n"])?)?;
@@ -77,15 +77,15 @@ fn renamed_file(alloc: Global) -> Result<File<'static>, RecordError> {
     })
 }
 
-/// The form of that file.
+/// The JSON of `renamed_file`.
 const RENAMED: &str =
     r#"{"old_path":"o","path":"a/日本.txt","file_mode":"Absent","sections":[{"Unchanged":{"lines":["a\n"]}},{"Changed":{"lines":[{"is_checked":true,"change_type":"Added","line":"b\n"}]}},{"FileMode":{"is_checked":false,"mode":"Absent"}},{"Binary":{"is_checked":true,"old_description":null,"new_description":"x"}}]}"#;
 
-/// The form of a state with two commits and a file without sections.
+/// The JSON of `state_with_file`.
 const WITH_FILE: &str =
     r#"{"is_read_only":true,"commits":[{"message":"m"},{"message":null}],"files":[{"old_path":null,"path":"f","file_mode":{"Unix":33188},"sections":[]}]}"#;
 
-/// A state with two commits and a file without sections.
+/// Returns a state with two commits and a file without sections.
 fn state_with_file(alloc: Global) -> Result<RecordState<'static>, RecordError> {
     let mut files = Items::new(alloc);
     files.push(file_of(DEFAULT, Vec::new(alloc)))?;
@@ -112,7 +112,7 @@ fn modes_and_lines_have_their_forms(rt: HostRuntime) -> Result<(), Fail> {
     check_form(&rt, alloc, removed, line_of(false, REMOVED, ""))
 }
 
-/// Checks the form of a section of context.
+/// Checks that `text` is the JSON of a section of context with `lines`.
 fn check_context(
     rt: &impl Abort,
     alloc: Global,
@@ -122,7 +122,7 @@ fn check_context(
     check_form(rt, alloc, text, context(alloc, lines)?)
 }
 
-/// Checks the form of a section of changed lines.
+/// Checks that `text` is the JSON of a section of the lines `changes`.
 fn check_changed(
     rt: &impl Abort,
     alloc: Global,
@@ -171,7 +171,7 @@ fn sections_of_modes_and_bytes_have_their_forms(rt: HostRuntime) -> Result<(), F
     check_form(&rt, alloc, none, binary(false, None, None))
 }
 
-/// A commit with a message.
+/// Returns a commit with `message`.
 fn commit_with(message: OwnedText) -> Commit {
     Commit {
         message: Some(message),

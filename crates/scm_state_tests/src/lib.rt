@@ -1,4 +1,4 @@
-//! Tests of the state's JSON and of its memory, in a crate of their own.
+//! Tests of the state's JSON and memory, in a crate of their own.
 #![tactic(auto)]
 
 #[cfg(test)]

@@ -1,6 +1,7 @@
-//! Memory, of which no contract can say that it is asked for only where it is needed: calls that take it return with ample
-//! memory, however small or large their arguments are, and the other calls succeed where a request is refused. `tools/refuse-memory`
-//! runs the tests that are named for refused memory with each of their requests refused.
+//! Memory. No contract can say that memory is requested only where it is needed. So with ample
+//! memory the calls that allocate are run, on arguments small and large. The other calls succeed
+//! where requests are refused: `tools/refuse-memory` runs the tests named for refused memory, and
+//! refuses each of their requests in turn.
 use scm_samples::{ADDED, DEFAULT, binary, changed, context, file_of, owned, text_of};
 use scm_types::{
     Commit, File, FileMode, IsizeExt, RecordError, RecordState, Section, Text, Tristate, UsizeExt,
@@ -9,21 +10,21 @@ use scm_types::{
 use std::alloc::Global;
 use std::process::Abort;
 
-/// Describes bytes by a text and a number of one digit.
+/// Describes bytes by `text` and a size of one digit, and checks the length.
 fn check_description(rt: &impl Abort, alloc: Global, text: &str) -> Result<(), RecordError> {
     let description = make_binary_description(alloc, text, 7)?;
     assert_eq!(rt; description.len(), text.len().saturating_add(10));
     Ok(())
 }
 
-/// Copies a text.
+/// Copies `text`, and checks the copies.
 fn check_text(rt: &impl Abort, alloc: Global, text: &Text<'_>) -> Result<(), RecordError> {
     assert!(rt; text.clone()? == *text);
     assert!(rt; text.try_clone(alloc)? == *text);
     Ok(())
 }
 
-/// Copies a commit of a message.
+/// Copies a commit with `message`, and checks the copy.
 fn check_commit(rt: &impl Abort, alloc: Global, message: &str) -> Result<(), RecordError> {
     let commit = Commit {
         message: Some(owned(alloc, message)?),
@@ -32,7 +33,7 @@ fn check_commit(rt: &impl Abort, alloc: Global, message: &str) -> Result<(), Rec
     Ok(())
 }
 
-/// Copies a text of so many bytes, and what holds it.
+/// Copies a text of `count` bytes, and what contains it.
 fn check_texts(rt: &impl Abort, alloc: Global, count: usize) -> Result<(), RecordError> {
     let text = Text::from(text_of(alloc, count)?);
     check_description(rt, alloc, text.as_str())?;
@@ -51,7 +52,7 @@ fn texts_of_any_size_are_copied(rt: HostRuntime) -> Result<(), RecordError> {
 
 // ---- calls that take no memory
 
-/// A file with a section of each kind, in a state; a part of its marks is checked.
+/// Returns a state of one file with a section of each kind, partly checked.
 fn marked_state(alloc: Global) -> Result<RecordState<'static>, RecordError> {
     let mut sections: Vec<Section<'static>> = Vec::new(alloc);
     sections.push(context(alloc, &["a\n"])?)?;
@@ -66,7 +67,7 @@ fn marked_state(alloc: Global) -> Result<RecordState<'static>, RecordError> {
     Ok(state)
 }
 
-/// The calls on the marks of a section.
+/// Checks the calls on the marks of a section.
 fn check_section(rt: &impl Abort, section: &mut Section<'_>) {
     section.set_checked(true);
     let is_editable = section.is_editable();
@@ -75,7 +76,7 @@ fn check_section(rt: &impl Abort, section: &mut Section<'_>) {
     assert_eq!(rt; section.tristate(), Tristate::False);
 }
 
-/// The calls on the marks of a file.
+/// Checks the calls on the marks of a file, and of each of its sections.
 fn check_marks(rt: &impl Abort, file: &mut File<'_>) {
     assert_eq!(rt; file.tristate(), Tristate::Partial);
     file.set_checked(true);
@@ -88,7 +89,7 @@ fn check_marks(rt: &impl Abort, file: &mut File<'_>) {
     }
 }
 
-/// The calls on the files of a state.
+/// Checks the calls on the files of a state.
 fn check_state(rt: &impl Abort, state: &mut RecordState<'_>) {
     assert!(rt; state.is_accepted());
     for file in state.files.iter_mut() {
@@ -96,14 +97,14 @@ fn check_state(rt: &impl Abort, state: &mut RecordState<'_>) {
     }
 }
 
-/// What is made from nothing.
+/// Checks the empty values.
 fn check_empty(rt: &impl Abort, alloc: Global) {
     let empty = RecordState::empty(alloc);
     assert!(rt; empty.is_accepted() && empty.commits.is_empty() && empty.files.is_empty());
     assert!(rt; Commit::default().message.is_none());
 }
 
-/// The conversions to modes.
+/// Checks the conversions to modes.
 fn check_modes(rt: &impl Abort) {
     assert_eq!(rt; FileMode::from(0o100644_usize), DEFAULT);
     assert!(rt; matches!(FileMode::try_from(0o100644_u32), Ok(mode) if mode == DEFAULT));
@@ -111,7 +112,7 @@ fn check_modes(rt: &impl Abort) {
     assert!(rt; FileMode::try_from(-1_i32).is_err());
 }
 
-/// The conversions of numbers.
+/// Checks the conversions of numbers.
 fn check_numbers(rt: &impl Abort) {
     assert_eq!(rt; 7_usize.unwrap_isize(), 7);
     assert_eq!(rt; 7_isize.unwrap_usize(), 7);
@@ -120,7 +121,7 @@ fn check_numbers(rt: &impl Abort) {
     assert_eq!(rt; IsizeExt::clamp_into_usize(-1), 0);
 }
 
-/// Copies a state: the copy equals it, or memory is refused.
+/// Copies `state`: the copy equals it, or memory is refused.
 fn check_copy(
     rt: &impl Abort,
     alloc: Global,

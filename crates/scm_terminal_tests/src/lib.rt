@@ -1,4 +1,4 @@
-//! Tests of what a terminal sends and is sent, in a crate of their own.
+//! Tests of the bytes that a terminal sends and receives, in a crate of their own.
 #![tactic(auto)]
 
 #[cfg(test)]

@@ -1,4 +1,4 @@
-//! The bytes of paints, by the words of ECMA-48.
+//! The bytes of paints, as ECMA-48 defines them.
 ghost use Rattle.std.specs.Prelude.{◌==◌, None, false};
 
 use scm_cells::Grid;
@@ -6,7 +6,7 @@ use scm_errors::RecordError;
 use scm_terminal::{Colour, Painter, Style, Styles};
 use std::process::Abort;
 
-/// All is plain, but for a row that is reversed.
+/// Plain styles, except for the reversed row `row`.
 #[derive(Clone, Copy)]
 struct Reversed {
     row: usize,
@@ -32,7 +32,7 @@ impl Styles for Reversed {
     }
 }
 
-/// Paints the grid with a row reversed, and compares the bytes.
+/// Paints `grid` with row `row` reversed, and checks that the bytes are `wanted`.
 fn check_paint(
     rt: &impl Abort,
     painter: &mut Painter,
@@ -72,7 +72,7 @@ fn a_text_sends_no_command(rt: HostRuntime) -> Result<(), RecordError> {
     check_paint(&rt, &mut painter, &grid, 5, "\x1b[1;1H\x1b[0ma[2Jb")
 }
 
-/// Every place has one style.
+/// The same style for every place.
 #[derive(Clone, Copy)]
 struct Uniform {
     style: Style,
@@ -86,7 +86,8 @@ impl Styles for Uniform {
     }
 }
 
-/// Paints a screen of one column in the style, after a painter forgot, and compares the bytes.
+/// Paints a screen of one column in `style`, after the painter forgot the screen, and checks that
+/// the bytes are `wanted`.
 fn check_style(
     rt: &impl Abort,
     painter: &mut Painter,

@@ -1,4 +1,4 @@
-//! The bytes that terminals send, and their events. The bytes of `TMUX` were recorded from tmux 3.3a.
+//! The bytes that terminals send, and their events. `TMUX` was recorded from tmux 3.3a.
 use scm_input::{
     KeyCode, KeyEvent, KeyEventKind, KeyModifiers, MouseButton, MouseEvent, MouseEventKind,
     TerminalEvent,
@@ -47,8 +47,8 @@ const TMUX: [(&[u8], KeyCode, KeyModifiers); 20] = [
     (b"\xf0\x9f\x99\x82", KeyCode::Char('🙂'), NONE),
 ];
 
-/// Bytes that act as no key: keys that are not in the table, as tmux, xterm, kitty, VTE and the Linux
-/// console send them, reports, and answers that come late.
+/// Bytes that act as no key: keys outside the table, as tmux, xterm, kitty, VTE and the Linux
+/// console send them, reports, and late answers.
 const OTHERS: [&[u8]; 12] = [
     b"\x1b[1~",
     b"\x1b[H",
@@ -64,7 +64,7 @@ const OTHERS: [&[u8]; 12] = [
     b"\x1b]11;rgb:cccc/aaaa/ffff\x07",
 ];
 
-/// Returns the first event of `bytes`, and how many there are.
+/// Returns the first event of `bytes`, and the number of events.
 fn first_event(bytes: &[u8]) -> (Option<TerminalEvent>, usize) {
     let mut decoder = Decoder::new();
     let mut first = None;

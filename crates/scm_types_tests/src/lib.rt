@@ -1,9 +1,9 @@
-//! Tests of the state's marks, splits and limits, of errors, lists and texts, and of keys and toggles, in a crate of their own.
+//! Tests of the state's marks, splits and limits, of errors, lists and texts, and of keys.
 #![tactic(auto)]
 
 #[cfg(test)]
-mod memory;
+mod keys;
 #[cfg(test)]
-mod selection;
+mod memory;
 #[cfg(test)]
 mod types;

@@ -1,9 +1,8 @@
-//! What refused memory leaves of a file that is split and of a set of keys. `tools/refuse-memory` runs each test with each of its
-//! requests for memory refused: what is checked here holds, and the test passes or ends in `OutOfMemory`.
+//! Tests of what an allocation failure leaves of a file that is split. `tools/refuse-memory` runs each
+//! test with each of its allocations refused. The checks hold then, and the test passes or ends in
+//! `OutOfMemory`.
 use scm_samples::{HELD, Held, file_holding};
-use scm_selection::key_lists::line_key;
-use scm_selection::key_set::KeySet;
-use scm_types::{File, RecordError, SelectionKey};
+use scm_types::{File, RecordError};
 use std::alloc::Global;
 use std::process::Abort;
 
@@ -30,43 +29,6 @@ fn check_held(rt: &impl Abort, alloc: Global, held: Held) -> Result<(), RecordEr
 fn refused_memory_keeps_files(rt: HostRuntime) -> Result<(), RecordError> {
     for held in HELD {
         check_held(&rt, rt.alloc(), held)?;
-    }
-    Ok(())
-}
-
-/// The set of the first so many lines' keys.
-fn lines_of(alloc: Global, count: usize) -> Result<KeySet, RecordError> {
-    let mut set = KeySet::new(alloc);
-    for index in 0..count {
-        set.insert(line_key(0, 1, index))?;
-    }
-    Ok(set)
-}
-
-/// Adds a key to a set: it is there then, or memory is refused and the set is as before.
-fn check_insert(
-    rt: &impl Abort,
-    set: &mut KeySet,
-    before: &KeySet,
-    key: SelectionKey,
-) -> Result<(), RecordError> {
-    let outcome = set.insert(key);
-    assert_eq!(rt; set.contains(key), outcome.is_ok());
-    assert_eq!(rt; set.is_same(before), outcome.is_err());
-    outcome
-}
-
-#[test]
-fn refused_memory_keeps_sets_of_keys(rt: HostRuntime) -> Result<(), RecordError> {
-    let alloc = rt.alloc();
-    for count in 0..40 {
-        let mut set = lines_of(alloc, count)?;
-        check_insert(
-            &rt,
-            &mut set,
-            &lines_of(alloc, count)?,
-            line_key(0, 1, count),
-        )?;
     }
     Ok(())
 }

@@ -1,4 +1,4 @@
-//! Marks, splits, limits, errors, lists and texts, by the project's values.
+//! Marks, splits, limits, errors, lists and texts, checked against the project's values.
 use scm_samples::{
     ADDED, DEFAULT, HELD, Line, REMOVED, binary, changed, context, deletion, file_holding, file_of,
     file_with, owned,
@@ -18,10 +18,10 @@ use std::test::Fail;
 /// A checked line of a new file.
 const CHECKED: [Line; 1] = [(true, ADDED, "n\n")];
 
-/// The same, unchecked.
+/// An unchecked line of a new file.
 const UNCHECKED: [Line; 1] = [(false, ADDED, "n\n")];
 
-/// The creation of a file.
+/// Returns the creation of a file.
 fn creation(is_checked: bool) -> Section<'static> {
     Section::FileMode {
         is_checked,
@@ -29,7 +29,7 @@ fn creation(is_checked: bool) -> Section<'static> {
     }
 }
 
-/// A new file: these lines, and its creation, checked or not.
+/// Returns a new file: `lines`, and its creation.
 fn new_file(
     alloc: Global,
     lines: &'static [Line],
@@ -41,7 +41,7 @@ fn new_file(
     Ok(file_of(FileMode::Absent, sections))
 }
 
-/// Added and removed lines, of each a checked one and an unchecked one.
+/// Added and removed lines: of each kind one checked and one unchecked.
 const MIXED: [Line; 4] = [
     (true, ADDED, "b\n"),
     (false, REMOVED, "c\n"),
@@ -49,12 +49,12 @@ const MIXED: [Line; 4] = [
     (true, REMOVED, "e\n"),
 ];
 
-/// A line of context, and a changed line of each kind.
+/// Returns a file of a line of context, and the lines of `MIXED`.
 fn mixed_file(alloc: Global) -> Result<File<'static>, RecordError> {
     file_with(alloc, &["a\n"], &MIXED)
 }
 
-/// A removal, and, if asked for, the deletion of the file, both checked.
+/// Returns a file of a removed line and, if `is_deleted`, its deletion, both checked.
 fn removal(alloc: Global, is_deleted: bool) -> Result<File<'static>, RecordError> {
     let mut sections = Vec::new(alloc);
     sections.push(changed(alloc, &[(true, REMOVED, "x\n")])?)?;
@@ -64,7 +64,7 @@ fn removal(alloc: Global, is_deleted: bool) -> Result<File<'static>, RecordError
     Ok(file_of(DEFAULT, sections))
 }
 
-/// A checked change of bytes, and a line of context after it.
+/// Returns a file of a checked binary change, and a line of context after it.
 fn binary_file(alloc: Global) -> Result<File<'static>, RecordError> {
     let mut sections = Vec::new(alloc);
     sections.push(binary(true))?;
@@ -72,7 +72,7 @@ fn binary_file(alloc: Global) -> Result<File<'static>, RecordError> {
     Ok(file_of(DEFAULT, sections))
 }
 
-/// What the contents of a side are to be.
+/// The expected contents of a side.
 #[derive(Clone, Copy)]
 enum Side {
     Unchanged,
@@ -96,13 +96,13 @@ fn is_side(changes: &SelectedChanges<'_>, mode: FileMode, side: Side) -> bool {
     is_same && changes.file_mode == mode
 }
 
-/// Checks that a copy of the file equals it.
+/// Checks that a copy of `file` equals it.
 fn check_copy(rt: &impl Abort, alloc: Global, file: &File<'_>) -> Result<(), RecordError> {
     assert!(rt; file.try_clone(alloc)? == *file);
     Ok(())
 }
 
-/// Splits the file, which is to have these two sides.
+/// Splits `file`, and checks that its sides are `selected` and `unselected`.
 fn check_split(
     rt: &impl Abort,
     alloc: Global,
@@ -168,7 +168,7 @@ fn new_files_are_split(rt: HostRuntime) -> Result<(), RecordError> {
     Ok(())
 }
 
-/// How many bytes the text of a side has: none where it is no text.
+/// Returns the number of bytes of a side's text, or 0 if it is no text.
 fn text_len(contents: &SelectedContents<'_>) -> usize {
     match contents {
         SelectedContents::Text { contents } => contents.len(),
@@ -176,7 +176,7 @@ fn text_len(contents: &SelectedContents<'_>) -> usize {
     }
 }
 
-/// Splits the file, whose selected text is to have so many bytes.
+/// Splits `file`, and checks that its selected text has `bytes` bytes.
 fn check_selected(
     rt: &impl Abort,
     alloc: Global,
@@ -188,7 +188,8 @@ fn check_selected(
     Ok(())
 }
 
-/// Copies and splits a file of these lines, whose selected text is to have so many bytes.
+/// Copies and splits a file of context `texts` and changed `lines`, and checks that its selected
+/// text has `bytes` bytes.
 fn check_size(
     rt: &impl Abort,
     alloc: Global,
@@ -216,7 +217,7 @@ fn files_of_any_size_are_copied_and_split(rt: HostRuntime) -> Result<(), RecordE
     check_size(&rt, alloc, texts.as_slice(), lines.as_slice(), 40_000)
 }
 
-/// The sides of a toggled file are those of the file in changed places.
+/// Checks that toggling swapped the contents of the two sides.
 fn check_places(
     rt: &impl Abort,
     alloc: Global,
@@ -230,7 +231,8 @@ fn check_places(
     Ok(())
 }
 
-/// Toggles a file, and once more.
+/// Toggles a copy of `file` twice. The first toggle swaps the sides, and the second restores the
+/// file.
 fn check_toggles(rt: &impl Abort, alloc: Global, file: &File<'_>) -> Result<(), RecordError> {
     let mut toggled = file.try_clone(alloc)?;
     toggled.toggle_all();
@@ -257,7 +259,7 @@ fn the_empty_state_has_nothing(rt: HostRuntime) {
     assert!(rt; state.files.is_empty());
 }
 
-/// A state of a new file.
+/// Returns a state of a new file.
 fn new_state(alloc: Global) -> Result<RecordState<'static>, RecordError> {
     let mut state = RecordState::empty(alloc);
     state.files.push(new_file(alloc, &UNCHECKED, false)?)?;
@@ -271,7 +273,7 @@ fn copies_of_a_state_equal_it(rt: HostRuntime) -> Result<(), RecordError> {
     Ok(())
 }
 
-/// Checks that a copy of the section equals it.
+/// Checks that a copy of `section` equals it.
 fn check_section(rt: &impl Abort, alloc: Global, section: &Section<'_>) -> Result<(), RecordError> {
     assert!(rt; section.try_clone(alloc)? == *section);
     Ok(())
@@ -321,7 +323,7 @@ fn copies_of_commits_equal_them(rt: HostRuntime) -> Result<(), RecordError> {
     Ok(())
 }
 
-/// Checks that a copy of what a side has equals it.
+/// Checks that a copy of `contents` equals it.
 fn check_contents(
     rt: &impl Abort,
     alloc: Global,
@@ -331,7 +333,7 @@ fn check_contents(
     Ok(())
 }
 
-/// Checks that copies of what both sides of a split have equal them.
+/// Checks that copies of the contents of both sides equal them.
 fn check_sides(
     rt: &impl Abort,
     alloc: Global,
@@ -341,7 +343,7 @@ fn check_sides(
     check_contents(rt, alloc, &sides.1.contents)
 }
 
-/// Checks that copies of the file, and of what both sides of its split have, equal them.
+/// Checks that copies of `file`, and of the contents of both its sides, equal them.
 fn check_copies(rt: &impl Abort, alloc: Global, file: &File<'_>) -> Result<(), RecordError> {
     check_copy(rt, alloc, file)?;
     let sides = file.get_selected_contents(alloc)?;
@@ -358,7 +360,7 @@ fn copies_of_sides_equal_them(rt: HostRuntime) -> Result<(), RecordError> {
     Ok(())
 }
 
-/// Sets the marks of the section, and inverts them.
+/// Sets the marks of `section`, and then inverts them.
 fn check_marks(rt: &impl Abort, section: &mut Section<'_>) {
     section.set_checked(true);
     let is_editable = section.is_editable();
@@ -382,7 +384,8 @@ fn marks_are_counted_and_written(rt: HostRuntime) -> Result<(), RecordError> {
     Ok(())
 }
 
-/// A file with a removed line, unchecked, and its deletion, checked or not.
+/// Returns a file with an unchecked removed line and the file's deletion, with the mark
+/// `is_checked`.
 fn half_removed(alloc: Global, is_checked: bool) -> Result<File<'static>, RecordError> {
     let lines = changed(alloc, &[(false, REMOVED, "x\n")])?;
     let deletion = Section::FileMode {
@@ -392,20 +395,21 @@ fn half_removed(alloc: Global, is_checked: bool) -> Result<File<'static>, Record
     Ok(file_of(DEFAULT, vec![in alloc; lines, deletion]?))
 }
 
-/// Repairs a file.
+/// Repairs `file`, and checks that it is `wanted`.
 fn check_repaired(rt: &impl Abort, mut file: File<'static>, wanted: &File<'_>) {
     file.repair();
     assert!(rt; file == *wanted);
 }
 
-/// Repairs a file of which a part is removed, and that is deleted or not.
+/// Repairs a file with an unchecked removed line and its deletion, with the mark `is_deleted`.
 fn check_half_removed(rt: &impl Abort, alloc: Global, is_deleted: bool) -> Result<(), RecordError> {
     let file = half_removed(alloc, is_deleted)?;
     check_repaired(rt, file, &half_removed(alloc, false)?);
     Ok(())
 }
 
-/// Repairs a new file of these lines, which are there if it is checked that it is made.
+/// Repairs a new file of `lines`, whose creation has the mark `is_created`. Checks that the
+/// creation is checked then.
 fn check_made(
     rt: &impl Abort,
     alloc: Global,
@@ -446,7 +450,7 @@ fn three_commits_are_not_accepted(rt: HostRuntime) -> Result<(), RecordError> {
     Ok(())
 }
 
-/// The error is shown as this text.
+/// Checks that `error` is displayed as `text`.
 fn check_error(
     rt: &impl Abort,
     alloc: Global,
@@ -458,7 +462,7 @@ fn check_error(
     Ok(())
 }
 
-/// The error that the cause `T` makes is shown as this text.
+/// Checks that the error that `error_of` makes of the cause `T` is displayed as `text`.
 fn check_caused<F: FnOnce(String) -> RecordError>(
     rt: &impl Abort,
     alloc: Global,
@@ -563,7 +567,7 @@ fn bytes_are_described(rt: HostRuntime) -> Result<(), RecordError> {
     Ok(())
 }
 
-/// A list of three numbers.
+/// Returns a list of three numbers.
 fn numbers(alloc: Global) -> Result<Items<u8>, AllocError> {
     [3_u8, 5, 8].into_iter().collect(alloc)
 }
@@ -580,7 +584,7 @@ fn change_numbers(rt: &impl Abort, items: &mut Items<u8>) {
     }
 }
 
-/// Checks the list that is left of those numbers.
+/// Checks the list that `change_numbers` leaves.
 fn check_numbers(rt: &impl Abort, items: &Items<u8>) {
     assert_eq!(rt; items.len(), 3);
     assert_eq!(rt; items[0], 5);
@@ -601,7 +605,7 @@ fn lists_are_read_and_changed(rt: HostRuntime) -> Result<(), RecordError> {
     Ok(())
 }
 
-/// A list of the elements of another, in order.
+/// Returns the elements of `items` in a new list, in order.
 fn gone_through(alloc: Global, items: Items<u8>) -> Result<Items<u8>, AllocError> {
     let mut rest = Items::new(alloc);
     for item in items {
@@ -647,14 +651,14 @@ fn a_script_that_ends_is_told_by_its_kind(rt: HostRuntime) -> Result<(), RecordE
     Ok(())
 }
 
-/// Copies of the text equal it.
+/// Checks that copies of `text` equal it.
 fn check_copied_text(rt: &impl Abort, alloc: Global, text: &Text<'_>) -> Result<(), RecordError> {
     assert!(rt; text.borrowed() == *text);
     assert!(rt; text.try_clone(alloc)? == *text);
     Ok(())
 }
 
-/// The text is "né", however it is asked.
+/// Checks that `text` is "né", by each call that reads it.
 fn check_text(rt: &impl Abort, alloc: Global, text: Text<'_>) -> Result<(), RecordError> {
     assert!(rt; text.as_str() == "né");
     assert!(rt; text.len() == 3 && !text.is_empty());

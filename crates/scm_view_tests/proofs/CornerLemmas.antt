@@ -4,24 +4,25 @@ use Rattle.std.proofs.lemmas.Int.{ints}
 use Rattle.scm_cells.specs.Screen.{Screen}
 use Rattle.scm_render.specs.Canvas.{Sight}
 use Rattle.scm_render.specs.Places.{whole_sight}
-use Rattle.scm_view.specs.Here.{IsHere, RectIsHere, SightIsHere}
-use Rattle.scm_view.specs.ComponentRanges.{AppIsHere}
+use Rattle.scm_widgets.specs.DrawBounds.{IsInDrawBounds, RectIsInDrawBounds}
+use Rattle.scm_document.specs.DrawBounds.{SightIsInDrawBounds}
+use Rattle.scm_view.specs.ComponentRanges.{AppIsInDrawBounds}
 use Rattle.scm_view_tests.specs.Corner.{IsAtCorner, SightIsAtCorner}
 
-pub here : (z : ℤ) → IsAtCorner z → IsHere z
+pub here : (z : ℤ) → IsAtCorner z → IsInDrawBounds z
 here z h = record { low = omega (arith, ints, h.low); high = omega (arith, ints, h.high) }
 
-pub sight-here : (s : Sight) → SightIsAtCorner s → SightIsHere s
+pub sight-here : (s : Sight) → SightIsAtCorner s → SightIsInDrawBounds s
 sight-here s h = record { x = here _ h.x; end_x = here _ h.end_x; mask_x = here _ h.mask_x; mask_y = here _ h.mask_y }
 
-pub rect-here : (s : Sight) → SightIsAtCorner s → RectIsHere s.rect
+pub rect-here : (s : Sight) → SightIsAtCorner s → RectIsInDrawBounds s.rect
 rect-here s h = record { x = here _ h.x; end_x = here _ h.end_x; y = here _ h.y; end_y = here _ h.end_y }
 
-pub corner : IsHere (pos 0)
+pub corner : IsInDrawBounds (pos 0)
 corner = record { low = omega (arith, ints); high = omega (arith, ints) }
 
 -- a whole grid that shows the document from row y on
-pub whole-here : (g : Screen) (y : ℕ) → g.width ≤ 100 → y ≤ 100 → SightIsHere (whole_sight g (pos 0) (pos y))
+pub whole-here : (g : Screen) (y : ℕ) → g.width ≤ 100 → y ≤ 100 → SightIsInDrawBounds (whole_sight g (pos 0) (pos y))
 whole-here g y w h = record {
   x = record { low = omega (arith, ints); high = omega (arith, ints) };
   end_x = record { low = omega (arith, ints); high = omega (arith, ints, w) };
@@ -29,7 +30,7 @@ whole-here g y w h = record {
   mask_y = record { low = omega (arith, ints); high = omega (arith, ints, h) };
 }
 
-pub app-here : (s : Sight) (x : ℤ) → SightIsAtCorner s → IsAtCorner x → AppIsHere s x
+pub app-here : (s : Sight) (x : ℤ) → SightIsAtCorner s → IsAtCorner x → AppIsInDrawBounds s x
 app-here s x h p = record {
   rect = rect-here s h;
   below = record { low = omega (arith, ints, h.y.low); high = omega (arith, ints, h.y.high) };

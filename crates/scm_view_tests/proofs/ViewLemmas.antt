@@ -5,9 +5,9 @@ use Rattle.std.specs.List.{list_all}
 use Rattle.std.proofs.lemmas.List.{drop_all}
 use Rattle.std.proofs.lemmas.List.Sums.{sum_by-cons}
 use Rattle.scm_types.specs.Limits.{has_short_texts, is_short_option, section_size}
-use Rattle.scm_view.specs.declared.section_view.SectionView.{SectionView}
-use Rattle.scm_view.specs.declared.file_view.FileView.{FileView}
-use Rattle.scm_view.specs.declared.commit_view.CommitView.{CommitView}
+use Rattle.scm_document.specs.declared.section_view.SectionView.{SectionView}
+use Rattle.scm_document.specs.declared.file_view.FileView.{FileView}
+use Rattle.scm_document.specs.declared.commit_view.CommitView.{CommitView}
 use Rattle.scm_view.specs.ComponentRanges.{IsShortSection, IsShortFile, AreShortFiles, IsShortCommit, AreShortCommits}
 use Rattle.scm_view_tests.specs.Small.{IsSmallSection, AreSmallSections, IsSmallFile, AreSmallFiles, IsSmallCommit, AreSmallCommits}
 

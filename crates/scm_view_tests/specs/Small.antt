@@ -1,10 +1,10 @@
 -- Views of few and short texts, as the tests draw them.
 use Rattle.std.specs.Prelude.{◌≡◌, ◌≤◌, true, List, [], ◌∷◌, length, None}
 use Rattle.scm_types.specs.Limits.{has_short_texts, is_short_option, is_short_text, section_size}
-use Rattle.scm_view.specs.declared.section_view.SectionView.{SectionView}
-use Rattle.scm_view.specs.declared.file_view.FileView.{FileView}
-use Rattle.scm_view.specs.declared.commit_view.CommitView.{CommitView}
-use Rattle.scm_view.specs.Rows.{lent_text}
+use Rattle.scm_document.specs.declared.section_view.SectionView.{SectionView}
+use Rattle.scm_document.specs.declared.file_view.FileView.{FileView}
+use Rattle.scm_document.specs.declared.commit_view.CommitView.{CommitView}
+use Rattle.scm_document.specs.Rows.{lent_text}
 
 pub record IsSmallSection (v : SectionView) : Type 0 where
   pub texts : has_short_texts v.section.now ≡ true

@@ -1,4 +1,4 @@
-//! Components that stand alone: on the screen, off it and under a mask, and how much each draws.
+//! Components drawn alone: on the screen, off it and under a mask, and how much each draws.
 ghost use Rattle.std.specs.Prelude.{◌≡◌};
 ghost use Rattle.std.specs.List.{list_all};
 ghost use Rattle.scm_types.specs.Limits.{is_short_option};
@@ -17,10 +17,12 @@ use scm_view::{
 use std::alloc::Global;
 use std::process::Abort;
 
-/// Where a component is drawn: the mask's first column and how many columns it lets through, and the component's column and row.
+/// The place of a component: the mask's first column and number of columns, and the component's
+/// column and row.
 pub(crate) type Place = (isize, usize, isize, isize);
 
-/// A viewport on 20 columns and 3 rows, under a mask of so many columns from one on.
+/// Returns a viewport on a new grid of 20 columns and 3 rows, under a mask of `width` columns from
+/// column `left`.
 pub(crate) fn viewport_under(
     rt: &impl Abort,
     alloc: Global,
@@ -31,8 +33,8 @@ pub(crate) fn viewport_under(
     Ok(viewport_on(rt, alloc, grid, left, width))
 }
 
-/// Returns a viewport on a grid of 20 columns and 3 rows, under a mask of `width` columns from column
-/// `left` on.
+/// Returns a viewport on a grid of 20 columns and 3 rows, under a mask of `width` columns from
+/// column `left`.
 pub(crate) fn viewport_on(
     rt: &impl Abort,
     alloc: Global,
@@ -61,7 +63,7 @@ pub(crate) fn viewport_on(
     viewport
 }
 
-/// Checks that a place is near the document's corner: at most 1000 columns or rows away.
+/// Checks that `place` is near the document's corner: at most 1000 columns or rows away.
 pub(crate) fn check_near(rt: &impl Abort, place: isize)
     ensures { IsAtCorner place }
 {
@@ -69,7 +71,7 @@ pub(crate) fn check_near(rt: &impl Abort, place: isize)
     assert!(rt; place <= 1000);
 }
 
-/// Checks that what the viewport shows is near the document's corner, and its mask too.
+/// Checks that what `viewport` shows and its mask are near the document's corner.
 pub(crate) fn check_sight(rt: &impl Abort, viewport: &Viewport<ComponentId>)
     ensures { SightIsAtCorner viewport.now.canvas.sight }
 {
@@ -83,7 +85,7 @@ pub(crate) fn check_sight(rt: &impl Abort, viewport: &Viewport<ComponentId>)
     check_near(rt, mask.y);
 }
 
-/// Checks what stands on the rows of the viewport's screen, and how many rows and calls were counted.
+/// Checks that the screen shows `rows`, and that the counted rows and calls are `counts`.
 pub(crate) fn check_drawing(
     rt: &impl Abort,
     alloc: Global,
@@ -99,7 +101,7 @@ pub(crate) fn check_drawing(
 
 // ---- buttons
 
-/// Draws a button of a short label.
+/// Draws a button with a short label.
 fn draw_button(
     rt: &impl Abort,
     viewport: &mut Viewport<ComponentId>,
@@ -116,7 +118,7 @@ fn draw_button(
     Ok(())
 }
 
-/// Checks what a button draws.
+/// Draws a button at `place`, and checks the screen and the counts.
 fn check_button(
     rt: &impl Abort,
     alloc: Global,
@@ -138,7 +140,7 @@ fn check_button(
 
 #[test]
 fn buttons_are_drawn_alone(rt: HostRuntime) -> Result<(), RecordError> {
-    // a call each, which is made off the screen too; a button is no row of the document
+    // one call each, even off the screen; a button is no row of the document
     for (place, is_focused, rows, counts) in [
         ((0, 20, 3, 1), false, "\n   [Go]\n\n", (0, 1)),
         ((0, 20, 3, 1), true, "\n   (Go)\n\n", (0, 1)),
@@ -155,7 +157,7 @@ fn buttons_are_drawn_alone(rt: HostRuntime) -> Result<(), RecordError> {
 
 // ---- lines
 
-/// Draws a changed line of a short text.
+/// Draws a changed line with a short text.
 fn draw_line(
     rt: &impl Abort,
     viewport: &mut Viewport<ComponentId>,
@@ -196,7 +198,7 @@ fn draw_line(
     Ok(())
 }
 
-/// Draws a line of context of a short text, with its number.
+/// Draws a line of context with a short text and its number.
 fn draw_context(
     rt: &impl Abort,
     viewport: &mut Viewport<ComponentId>,
@@ -225,7 +227,7 @@ fn draw_context(
     Ok(())
 }
 
-/// Checks what a changed line draws.
+/// Draws a changed line at `place`, and checks the screen and the counts.
 fn check_line(
     rt: &impl Abort,
     alloc: Global,
@@ -243,7 +245,8 @@ fn check_line(
 #[test]
 fn lines_are_drawn_alone(rt: HostRuntime) -> Result<(), RecordError> {
     use ChangeType::{Added, Removed};
-    // a row of the document with two calls where the screen has it, whatever the mask lets through; the text goes on to the mask's end
+    // a row of the document that is on the screen takes two calls, whatever the mask shows; the
+    // text ends at the mask's end
     for (place, change_type, rows, counts) in [
         ((0, 20, 2, 1), Added, "\n  [●] + ab⏎\n\n", (1, 2)),
         ((0, 20, 2, 2), Removed, "\n\n  [●] - ab⏎\n", (1, 2)),
@@ -258,7 +261,7 @@ fn lines_are_drawn_alone(rt: HostRuntime) -> Result<(), RecordError> {
     Ok(())
 }
 
-/// Checks what a line of context draws.
+/// Draws a line of context at `place`, and checks the screen and the counts.
 fn check_context(
     rt: &impl Abort,
     alloc: Global,
@@ -275,7 +278,7 @@ fn check_context(
 
 #[test]
 fn lines_of_context_are_drawn_alone(rt: HostRuntime) -> Result<(), RecordError> {
-    // likewise, with one call
+    // one call for a row that is on the screen, whatever the mask shows
     for (place, line_num, rows, counts) in [
         ((0, 20, 2, 1), 7, "\n      7 ab⏎\n\n", (1, 1)),
         ((0, 20, 2, 2), 100_000, "\n\n  100000 ab⏎\n", (1, 1)),
@@ -293,14 +296,14 @@ fn lines_of_context_are_drawn_alone(rt: HostRuntime) -> Result<(), RecordError> 
 
 // ---- menus
 
-/// The labels are within the limit of a state's texts.
+/// Returns whether all labels are within the limit of a state's texts.
 fn has_short_items(items: &[MenuItem<'_>]) -> bool
     ensures { result ≡ list_all is_short_item items.now }
 {
     items.iter().all(|item| item.label.len() <= 1_000_000)
 }
 
-/// The labels of a menu are short, and its items few.
+/// Returns whether the labels of `menu` are short, and its items few.
 fn is_short_menu(menu: &Menu<'_>) -> bool
     ensures { result ≡ is_short_menu menu.now }
 {
@@ -308,14 +311,14 @@ fn is_short_menu(menu: &Menu<'_>) -> bool
         && (menu.items.len() <= 1000 && has_short_items(menu.items.as_slice()))
 }
 
-/// The menus are short.
+/// Returns whether all menus are short.
 pub(crate) fn has_short_menus(menus: &[Menu<'_>]) -> bool
     ensures { result ≡ list_all is_short_menu menus.now }
 {
     menus.iter().all(|menu| is_short_menu(menu))
 }
 
-/// A menu of these items.
+/// Returns a menu with the label `label` and the items `items`.
 fn menu_of(
     alloc: Global,
     label: &'static str,
@@ -333,7 +336,7 @@ fn menu_of(
     Ok(menu)
 }
 
-/// Draws a menu of short labels.
+/// Draws a menu with short labels.
 fn draw_menu(
     rt: &impl Abort,
     viewport: &mut Viewport<ComponentId>,
@@ -350,7 +353,7 @@ fn draw_menu(
     Ok(())
 }
 
-/// Checks what the items of a menu draw.
+/// Draws the items of a menu at `place`, and checks the screen and the counts.
 fn check_menu(
     rt: &impl Abort,
     alloc: Global,
@@ -367,7 +370,7 @@ fn check_menu(
 
 #[test]
 fn menus_are_drawn_alone(rt: HostRuntime) -> Result<(), RecordError> {
-    // two calls for each item, which are made off the screen too; items are no rows of the document
+    // two calls for each item, even off the screen; items are no rows of the document
     for (place, rows, counts) in [
         ((0, 20, 3, 0), "   [a]\n   [long]\n\n", (0, 4)),
         ((0, 20, -2, 2), "\n\n]\n", (0, 4)),
@@ -381,7 +384,7 @@ fn menus_are_drawn_alone(rt: HostRuntime) -> Result<(), RecordError> {
     Ok(())
 }
 
-/// A bar of two menus, of which one may be open.
+/// Returns a bar of two menus, of which `expanded_menu_idx` is open, if any.
 fn bar_of(
     alloc: Global,
     expanded_menu_idx: Option<usize>,
@@ -414,7 +417,7 @@ fn draw_bar(
     Ok(())
 }
 
-/// Checks what a bar of two menus draws.
+/// Draws a bar of two menus at `place`, and checks the screen and the counts.
 fn check_bar(
     rt: &impl Abort,
     alloc: Global,
@@ -432,7 +435,7 @@ fn check_bar(
 
 #[test]
 fn menu_bars_are_drawn_alone(rt: HostRuntime) -> Result<(), RecordError> {
-    // a blank, a call for each title, and two for each item of the open menu
+    // a blank, a call for each title, and two calls for each item of the open menu
     for (place, open, rows, counts) in [
         ((0, 20, 0, 0), None, "[File] [Edit]\n\n\n", (0, 3)),
         (
@@ -458,21 +461,21 @@ fn menu_bars_are_drawn_alone(rt: HostRuntime) -> Result<(), RecordError> {
 
 // ---- dialogs
 
-/// The labels are within the limit of a state's texts.
+/// Returns whether all labels are within the limit of a state's texts.
 fn has_short_labels(buttons: &[Button<'_, ComponentId>]) -> bool
     ensures { result ≡ list_all is_short_button buttons.now }
 {
     buttons.iter().all(|button| button.label.len() <= 1_000_000)
 }
 
-/// The buttons are few, and their labels short.
+/// Returns whether the buttons are few, and their labels short.
 fn are_short_buttons(buttons: &[Button<'_, ComponentId>]) -> bool
     ensures { result ≡ are_short_buttons buttons.now }
 {
     buttons.len() <= 1000 && has_short_labels(buttons)
 }
 
-/// Draws a dialog of short labels.
+/// Draws a dialog with short labels.
 fn draw_dialog(
     rt: &impl Abort,
     viewport: &mut Viewport<ComponentId>,
@@ -486,7 +489,7 @@ fn draw_dialog(
     Ok(())
 }
 
-/// Draws the question whether to quit, of a session without changes.
+/// Draws the dialog that asks whether to quit, for a session without changes.
 fn draw_quit(
     rt: &impl Abort,
     viewport: &mut Viewport<ComponentId>,
@@ -499,7 +502,7 @@ fn draw_quit(
     Ok(())
 }
 
-/// Draws the help.
+/// Draws the help dialog.
 fn draw_help(
     rt: &impl Abort,
     viewport: &mut Viewport<ComponentId>,
@@ -512,18 +515,18 @@ fn draw_help(
     Ok(())
 }
 
-/// A dialog that a test draws.
+/// The dialogs of the tests.
 #[derive(Clone, Copy)]
 enum Asked {
     /// A body of one line, and one button.
     Line,
-    /// Whether to quit.
+    /// The dialog that asks whether to quit.
     Quit,
-    /// The keys.
+    /// The help.
     Help,
 }
 
-/// Draws that dialog.
+/// Draws the dialog `asked`.
 fn draw_asked(
     rt: &impl Abort,
     viewport: &mut Viewport<ComponentId>,
@@ -556,7 +559,8 @@ fn draw_asked(
     }
 }
 
-/// Checks what a dialog draws under a mask of so many columns from one on.
+/// Draws the dialog `asked` under `mask`, its first column and its number of columns. Checks the
+/// screen and the counts.
 fn check_dialog(
     rt: &impl Abort,
     alloc: Global,
@@ -572,7 +576,8 @@ fn check_dialog(
 
 #[test]
 fn dialogs_are_drawn_alone(rt: HostRuntime) -> Result<(), RecordError> {
-    // a frame and a call for each button, whatever the mask lets through; a dialog stands in the middle of the screen
+    // a frame and a call for each button, whatever the mask shows; a dialog is in the middle of the
+    // screen
     for (mask, asked, rows, counts) in [
         (
             (0, 20),
@@ -612,7 +617,7 @@ fn dialogs_are_drawn_alone(rt: HostRuntime) -> Result<(), RecordError> {
     Ok(())
 }
 
-/// A viewport on 32 columns and 3 rows.
+/// Returns a viewport on 32 columns and 3 rows.
 fn wide_viewport(alloc: Global) -> Result<Viewport<ComponentId>, RecordError> {
     let grid = Grid::new(alloc, 32, 3)?;
     let rect = Rect {
@@ -653,7 +658,7 @@ pub(crate) fn draw_message(
     Ok(())
 }
 
-/// The message is within the limit of a state's texts.
+/// Returns whether `message` is within the limit of a state's texts.
 fn has_short_message(message: &Option<OwnedText>) -> bool
     ensures { result ≡ is_short_option message.now }
 {
@@ -663,7 +668,7 @@ fn has_short_message(message: &Option<OwnedText>) -> bool
     }
 }
 
-/// Checks what a message of one line draws.
+/// Draws a message of two lines at `place`, and checks the screen and the counts.
 fn check_message(
     rt: &impl Abort,
     alloc: Global,
@@ -686,7 +691,8 @@ fn check_message(
 
 #[test]
 fn messages_are_drawn_alone(rt: HostRuntime) -> Result<(), RecordError> {
-    // three rows where the screen has them; one call for the first and the third, three for the middle one
+    // up to three rows that are on the screen: one call each for the first and the third, three for
+    // the second
     for (place, rows, counts) in [
         ((0, 20, 0, 0), "\n[Edit message]  •  …\n\n", (3, 5)),
         ((0, 20, -10, 0), "\nage]  •  hi\n\n", (3, 5)),

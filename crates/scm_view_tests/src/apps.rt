@@ -1,4 +1,5 @@
-//! All that is shown of a state, drawn alone: on the screen, off it and under a mask, and how much is drawn.
+//! The whole view of a state, drawn alone: on the screen, off it and under a mask, and how much it
+//! draws.
 ghost use Rattle.scm_view.specs.ComponentRanges.{IsShortApp};
 ghost use Rattle.scm_view_tests.specs.Small.{AreSmallCommits};
 
@@ -8,14 +9,14 @@ use scm_cells::Grid;
 use scm_render::Viewport;
 use scm_samples::{ADDED, file_with};
 use scm_selection::KeySet;
-use scm_shown::Showing;
 use scm_types::{Items, RecordError, RecordState};
 use scm_view::{AppView, CommitView, ComponentId, SelectionKey, laws};
+use scm_view_state::ViewState;
 use std::alloc::Global;
 use std::process::Abort;
 
-/// Draws all that is shown of a state whose files are all folded, on a new grid that shows the document
-/// from a row on.
+/// Draws the view of `state`, with all files folded, on a grid that shows the document from row
+/// `scroll` on.
 fn draw_app(
     rt: &impl Abort,
     alloc: Global,
@@ -27,14 +28,14 @@ fn draw_app(
     assert!(rt; scroll <= 1000);
     assert!(rt; grid.width() <= 100);
     assert!(rt; grid.height() <= 100);
-    let showing = Showing::new(state, SelectionKey::None, KeySet::new(alloc));
-    let view = showing.app_view(alloc)?;
+    let view_state = ViewState::new(state, SelectionKey::None, KeySet::new(alloc));
+    let view = view_state.app_view(alloc)?;
     laws::apps_are_in_range();
     let _ = Viewport::render_top_level(alloc, grid, 0, scroll as isize, &view)?;
     Ok(())
 }
 
-/// A state of one file, of which an added line is not selected.
+/// Returns a state of one file with an added line, which is unchecked.
 fn sample_state(alloc: Global) -> Result<RecordState<'static>, RecordError> {
     let mut state = RecordState::empty(alloc);
     state
@@ -43,7 +44,8 @@ fn sample_state(alloc: Global) -> Result<RecordState<'static>, RecordError> {
     Ok(state)
 }
 
-/// Checks what is drawn of that state on 30 columns and 3 rows, and how many rows and calls are counted.
+/// Draws `sample_state` from row `scroll` on, on 30 columns and 3 rows. Checks the screen and the
+/// counts.
 fn check_app(
     rt: &impl Abort,
     alloc: Global,
@@ -61,8 +63,8 @@ fn check_app(
 
 #[test]
 fn apps_are_drawn_alone(rt: HostRuntime) -> Result<(), RecordError> {
-    // the menu bar takes a blank and four titles, wherever the document is; the header is a row of four calls where the screen has it,
-    // though the menu bar hides it on the screen's first row
+    // the menu bar takes a blank and four titles at any scroll; the header is a row of four calls
+    // if it is on the screen, even where the menu bar hides it on the first row
     let bar = "[File] [Edit] [Select] [View]\n\n\n";
     for (scroll, rows, counts) in [
         (
@@ -90,7 +92,7 @@ fn check_commits(rt: &impl Abort, views: &[CommitView<'_>])
     }
 }
 
-/// Checks that a view has short menus, and small commits.
+/// Checks that `view` has short menus, and small commits.
 fn check_view(rt: &impl Abort, view: &AppView<'_>)
     ensures { IsShortApp view.now }
 {
@@ -101,7 +103,7 @@ fn check_view(rt: &impl Abort, view: &AppView<'_>)
     check_commits(rt, commits);
 }
 
-/// Draws all that a view shows, from a column on.
+/// Draws `view` from column `x` on.
 fn draw_view(
     rt: &impl Abort,
     viewport: &mut Viewport<ComponentId>,
@@ -117,7 +119,7 @@ fn draw_view(
     Ok(())
 }
 
-/// Draws all that is shown of a state whose files are all folded, from a column on.
+/// Draws the view of `state`, with all files folded, from column `x` on.
 fn draw_state(
     rt: &impl Abort,
     alloc: Global,
@@ -126,12 +128,13 @@ fn draw_state(
     state: RecordState<'_>,
 ) -> Result<(), RecordError> {
     assert!(rt; state.is_accepted());
-    let showing = Showing::new(state, SelectionKey::None, KeySet::new(alloc));
-    let view = showing.app_view(alloc)?;
+    let view_state = ViewState::new(state, SelectionKey::None, KeySet::new(alloc));
+    let view = view_state.app_view(alloc)?;
     draw_view(rt, viewport, x, &view)
 }
 
-/// Checks what is drawn of the state from a column on, on 20 columns and 3 rows under a mask of so many columns from one on.
+/// Draws `sample_state` from column `x` on, on 20 columns and 3 rows under `mask`, its first column
+/// and its number of columns. Checks the screen.
 fn check_masked(
     rt: &impl Abort,
     alloc: Global,
@@ -147,7 +150,7 @@ fn check_masked(
 
 #[test]
 fn apps_are_drawn_under_masks(rt: HostRuntime) -> Result<(), RecordError> {
-    // the mask cuts the menu bar; the document has a mask of its own, which replaces it
+    // the mask clips the menu bar; the document sets a mask of its own, which replaces it
     for (mask, x, rows) in [
         ((0, 20), 0, "[File] [Edit] [Selec\n[ ] f            [+]\n\n"),
         ((4, 2), 0, "    e]\n[ ] f            [+]\n\n"),

@@ -6,8 +6,6 @@ mod alone;
 #[cfg(test)]
 mod apps;
 #[cfg(test)]
-mod keys;
-#[cfg(test)]
 mod over_letters;
 #[cfg(test)]
 mod views;

@@ -1,4 +1,4 @@
-//! Components that are drawn over letters: what they blank, and what stays.
+//! Components drawn over letters: what they blank, and what stays.
 use crate::alone::{Place, check_drawing, check_near, check_sight, draw_message, viewport_on};
 use crate::views::{check_section, middle_section_view};
 use scm_cells::{Grid, Rect};
@@ -12,7 +12,7 @@ use std::process::Abort;
 /// A row of letters.
 const LETTERS: &str = "abcdefghijklmnopqrst";
 
-/// Returns a grid of 20 columns and 3 rows, on each of which the letters stand.
+/// Returns a grid of 20 columns and 3 rows, each filled with the letters.
 fn grid_of_letters(rt: &impl Abort, alloc: Global) -> Result<Grid, RecordError> {
     let mut grid = Grid::new(alloc, 20, 3)?;
     for row in 0..3 {
@@ -25,7 +25,7 @@ fn grid_of_letters(rt: &impl Abort, alloc: Global) -> Result<Grid, RecordError> 
 
 // ---- messages
 
-/// Checks what a message of one line makes of the letters.
+/// Draws a message of one line over the letters, and checks the screen and the counts.
 fn check_message(
     rt: &impl Abort,
     alloc: Global,
@@ -49,7 +49,7 @@ fn check_message(
 
 #[test]
 fn messages_blank_their_first_and_third_row(rt: HostRuntime) -> Result<(), RecordError> {
-    // from their column to the end of the mask; between the texts of the middle row letters stay
+    // from their column to the end of the mask; letters stay between the texts of the middle row
     for (place, rows, counts) in [
         ((0, 20, 0, 0), "\n[Edit message]o • s…\n\n", (3, 5)),
         ((0, 20, 4, 0), "abcd\nabcd[Edit message]s…\nabcd\n", (3, 5)),
@@ -93,7 +93,7 @@ fn draw_section(
     viewport.draw_component(x, y, view)
 }
 
-/// Draws a section as the middle one of a file, and returns its box.
+/// Draws `section` as the middle one of a file, and returns its box.
 fn draw_middle_section(
     rt: &impl Abort,
     viewport: &mut Viewport<ComponentId>,
@@ -105,7 +105,7 @@ fn draw_middle_section(
     draw_section(rt, viewport, x, y, &view)
 }
 
-/// Checks what a section of context without lines makes of the letters.
+/// Draws a section of context without lines over the letters, and checks the screen and the counts.
 fn check_section_of_no_lines(
     rt: &impl Abort,
     alloc: Global,
@@ -151,7 +151,8 @@ fn context_without_lines_blanks_its_row(rt: HostRuntime) -> Result<(), RecordErr
     Ok(())
 }
 
-/// Checks the first column of the box of a section of context with one line, and how many columns the box has.
+/// Draws a section of context with one line, and checks the first column of its box and its number
+/// of columns.
 fn check_columns(
     rt: &impl Abort,
     alloc: Global,
@@ -170,7 +171,8 @@ fn check_columns(
 
 #[test]
 fn boxes_of_context_begin_at_their_column(rt: HostRuntime) -> Result<(), RecordError> {
-    // at the mask's first column where that is further left, since a line covers all columns of the mask
+    // a line covers all columns of the mask, so the box begins at the mask's first column if that
+    // is further left
     for (place, columns) in [
         ((0, 20, 2, 1), (0, 20)),
         ((2, 18, 2, 1), (2, 18)),

@@ -2,7 +2,7 @@
 ghost use Rattle.std.specs.Prelude.{◌≡◌, IsTrue, true};
 ghost use Rattle.std.specs.List.{list_all};
 ghost use Rattle.scm_types.specs.Limits.{has_short_texts, is_short_option, is_short_text, section_size};
-ghost use Rattle.scm_view.specs.Rows.{lent_text};
+ghost use Rattle.scm_document.specs.Rows.{lent_text};
 ghost use Rattle.scm_view_tests.specs.Small.{AreSmallFiles, AreSmallSections, IsSmallCommit, IsSmallFile, IsSmallSection};
 
 use scm_cells::Grid;
@@ -20,7 +20,7 @@ use std::process::Abort;
 
 // ---- what is drawn is in range
 
-/// The path of a file that has no other one is within the limit of a state.
+/// Returns whether a file with only the path `path` is within the limit of a state.
 fn has_short_path(old_path: Option<&str>, path: &str) -> bool
     ensures old_path { IsTrue result → is_short_option (lent_text old_path.entry) ≡ true }
     ensures path { IsTrue result → is_short_text path.now ≡ true }
@@ -31,21 +31,21 @@ fn has_short_path(old_path: Option<&str>, path: &str) -> bool
     }
 }
 
-/// The lines of context are within the limit of a state.
+/// Returns whether the lines of context are within the limit of a state.
 fn has_short_lines(lines: &[Text<'_>]) -> bool
     ensures { result ≡ list_all is_short_text lines.now }
 {
     lines.iter().all(|line| line.len() <= 1_000_000)
 }
 
-/// The changed lines are within the limit of a state.
+/// Returns whether the changed lines are within the limit of a state.
 fn has_short_changes(lines: &[SectionChangedLine<'_>]) -> bool
     ensures { result ≡ list_all (λ l. is_short_text l.line) lines.now }
 {
     lines.iter().all(|line| line.line.len() <= 1_000_000)
 }
 
-/// The section has lines alone, within the limit of a state.
+/// Returns whether `section` has only lines, within the limit of a state.
 fn has_short_texts(section: &Section<'_>) -> bool
     ensures { IsTrue result → has_short_texts section.now ≡ true }
 {
@@ -56,7 +56,7 @@ fn has_short_texts(section: &Section<'_>) -> bool
     }
 }
 
-/// How many lines the section has.
+/// Returns the number of lines of `section`.
 fn line_count(section: &Section<'_>) -> usize
     ensures { result ≡ section_size section.now }
 {
@@ -67,7 +67,7 @@ fn line_count(section: &Section<'_>) -> usize
     }
 }
 
-/// Checks that a section has few and short lines.
+/// Checks that `view` has few and short lines.
 pub(crate) fn check_section(rt: &impl Abort, view: &SectionView<'_>)
     ensures { IsSmallSection view.now }
 {
@@ -75,7 +75,7 @@ pub(crate) fn check_section(rt: &impl Abort, view: &SectionView<'_>)
     assert!(rt; line_count(view.section) <= 1000);
 }
 
-/// Checks that sections have few and short lines.
+/// Checks that the sections have few and short lines.
 fn check_sections(rt: &impl Abort, views: &[SectionView<'_>])
     ensures { AreSmallSections views.now }
 {
@@ -84,7 +84,7 @@ fn check_sections(rt: &impl Abort, views: &[SectionView<'_>])
     }
 }
 
-/// Checks that a file has a short path, and few sections of few and short lines.
+/// Checks that `view` has a short path, and few sections of few and short lines.
 fn check_file(rt: &impl Abort, view: &FileView<'_>)
     ensures { IsSmallFile view.now }
 {
@@ -93,7 +93,7 @@ fn check_file(rt: &impl Abort, view: &FileView<'_>)
     assert!(rt; view.section_views.len() <= 1000);
 }
 
-/// Checks that files have short paths, and few sections of few and short lines.
+/// Checks that the files have short paths, and few sections of few and short lines.
 fn check_files(rt: &impl Abort, views: &[FileView<'_>])
     ensures { AreSmallFiles views.now }
 {
@@ -102,7 +102,7 @@ fn check_files(rt: &impl Abort, views: &[FileView<'_>])
     }
 }
 
-/// Checks that a commit has no message, and few and small files.
+/// Checks that `view` has no message, and few and small files.
 pub(crate) fn check_commit(rt: &impl Abort, view: &CommitView<'_>)
     ensures { IsSmallCommit view.now }
 {
@@ -111,7 +111,7 @@ pub(crate) fn check_commit(rt: &impl Abort, view: &CommitView<'_>)
     assert!(rt; view.file_views.len() <= 1000);
 }
 
-/// Draws the document of a commit on a grid that shows it from a row on.
+/// Draws the document of a commit on a grid that shows it from row `y` on.
 fn draw_commit(
     rt: &impl Abort,
     alloc: Global,
@@ -128,7 +128,7 @@ fn draw_commit(
     Viewport::render_top_level(alloc, grid, 0, y as isize, view)
 }
 
-/// Draws a section on a grid.
+/// Draws a section on `grid`.
 fn draw_section(
     rt: &impl Abort,
     alloc: Global,
@@ -143,7 +143,7 @@ fn draw_section(
     Viewport::render_top_level(alloc, grid, 0, 0, view)
 }
 
-/// Draws the header of a file on a grid.
+/// Draws the header of a file on `grid`.
 fn draw_header(
     rt: &impl Abort,
     alloc: Global,
@@ -158,7 +158,7 @@ fn draw_header(
     Viewport::render_top_level(alloc, grid, 0, 0, view)
 }
 
-/// Draws a box on a grid.
+/// Draws a toggle box or an expand box on `grid`.
 fn draw_box(
     rt: &impl Abort,
     alloc: Global,
@@ -174,7 +174,7 @@ fn draw_box(
 
 // ---- views of a file
 
-/// How a file is shown: whether symbols beyond ASCII may be used, and what is selected.
+/// The look of a file: whether symbols beyond ASCII may be used, and what is selected.
 #[derive(Clone, Copy)]
 struct Look {
     use_unicode: bool,
@@ -187,7 +187,7 @@ const FILE_KEY: FileKey = FileKey {
     file_idx: 0,
 };
 
-/// The key of a section of the file.
+/// Returns the key of section `section_idx` of the file.
 fn section_key(section_idx: usize) -> SectionKey {
     SectionKey {
         commit_idx: 0,
@@ -197,7 +197,7 @@ fn section_key(section_idx: usize) -> SectionKey {
 }
 
 impl Look {
-    /// The box of a mark.
+    /// Returns the toggle box of `key`.
     fn toggle_box(self, key: SelectionKey, tristate: Tristate) -> TristateBox<ComponentId> {
         TristateBox {
             use_unicode: self.use_unicode,
@@ -209,7 +209,7 @@ impl Look {
         }
     }
 
-    /// The box of a fold that is open.
+    /// Returns the expand box of `key`, which is unfolded.
     fn expand_box(self, key: SelectionKey) -> TristateBox<ComponentId> {
         TristateBox {
             use_unicode: self.use_unicode,
@@ -221,7 +221,8 @@ impl Look {
         }
     }
 
-    /// A section of a file, which is the so many-th of those that can be edited, and begins on a line.
+    /// Returns the view of section `index` of `total`. `editable` has its number among the sections
+    /// that can be edited, and how many there are. Its first line has the number `line_start_num`.
     fn section_view<'a>(
         self,
         index: usize,
@@ -246,7 +247,7 @@ impl Look {
         }
     }
 
-    /// The sections of a file.
+    /// Returns the views of the sections of a file.
     fn section_views<'a>(
         self,
         alloc: Global,
@@ -275,7 +276,7 @@ impl Look {
         Ok(views)
     }
 
-    /// A file, all unfolded.
+    /// Returns the view of `file`, with everything unfolded.
     fn file_view<'a>(self, alloc: Global, file: &'a File<'a>) -> Result<FileView<'a>, RecordError> {
         let key = SelectionKey::File(FILE_KEY);
         Ok(FileView {
@@ -299,7 +300,7 @@ pub(crate) fn middle_section_view<'a>(section: &'a Section<'a>) -> SectionView<'
     look.section_view(1, 3, (1, 2), 1, section)
 }
 
-/// How many lines of the file before the changes the section has.
+/// Returns how many lines `section` has in the old file.
 fn old_lines(section: &Section<'_>) -> usize {
     match section {
         Section::Unchanged { lines } => lines.len(),
@@ -311,7 +312,7 @@ fn old_lines(section: &Section<'_>) -> usize {
     }
 }
 
-/// The rows of a screen, without the spaces at their ends.
+/// Returns the rows of a screen, without the spaces at their ends.
 pub(crate) fn rows_of(alloc: Global, grid: &Grid) -> Result<String, RecordError> {
     let mut rows = String::new(alloc);
     let view = grid.view()?;
@@ -332,7 +333,7 @@ enum Part {
     Changes(&'static [Line]),
 }
 
-/// The section of a part.
+/// Returns the section of `part`.
 fn section_of(alloc: Global, part: Part) -> Result<Section<'static>, RecordError> {
     match part {
         Part::Context(lines) => context(alloc, lines),
@@ -340,7 +341,7 @@ fn section_of(alloc: Global, part: Part) -> Result<Section<'static>, RecordError
     }
 }
 
-/// A file of these parts, alone.
+/// Returns one file of `parts`.
 fn files_of(alloc: Global, parts: &[Part]) -> Result<Vec<File<'static>>, RecordError> {
     let mut sections = Vec::new(alloc);
     for part in parts {
@@ -349,21 +350,21 @@ fn files_of(alloc: Global, parts: &[Part]) -> Result<Vec<File<'static>>, RecordE
     Ok(vec![in alloc; file_of(DEFAULT, sections)]?)
 }
 
-/// A line of context, and two changes of it.
-const HILL: [Part; 2] = [
+/// A line of context, and two changes after it.
+const CONTEXT_BEFORE_CHANGES: [Part; 2] = [
     Part::Context(&["a\n"]),
     Part::Changes(&[(false, REMOVED, "b\n"), (true, ADDED, "c\n")]),
 ];
 
 /// Two changes with seven lines between them.
-const VALLEY: [Part; 3] = [
+const CONTEXT_BETWEEN_CHANGES: [Part; 3] = [
     Part::Changes(&[(false, ADDED, "x\n")]),
     Part::Context(&["a\n", "b\n", "c\n", "d\n", "e\n", "f\n", "g\n"]),
     Part::Changes(&[(false, REMOVED, "y\n")]),
 ];
 
-/// A document: whether symbols beyond ASCII are used, its parts, the selected section, the screen's columns and rows, the document's
-/// row that is its first, and its rows.
+/// A document: whether symbols beyond ASCII are used, its parts, the selected section, the screen's
+/// columns and rows, the first row of the document on the screen, and the screen's rows.
 type Row = (
     bool,
     &'static [Part],
@@ -378,7 +379,7 @@ type Row = (
 const DOCUMENTS: [Row; 5] = [
     (
         true,
-        &HILL,
+        &CONTEXT_BEFORE_CHANGES,
         Some(1),
         24,
         5,
@@ -387,7 +388,7 @@ const DOCUMENTS: [Row; 5] = [
     ),
     (
         true,
-        &HILL,
+        &CONTEXT_BEFORE_CHANGES,
         Some(1),
         24,
         5,
@@ -396,7 +397,7 @@ const DOCUMENTS: [Row; 5] = [
     ),
     (
         false,
-        &HILL,
+        &CONTEXT_BEFORE_CHANGES,
         None,
         24,
         5,
@@ -405,7 +406,7 @@ const DOCUMENTS: [Row; 5] = [
     ),
     (
         true,
-        &VALLEY,
+        &CONTEXT_BETWEEN_CHANGES,
         Some(0),
         24,
         12,
@@ -414,7 +415,7 @@ const DOCUMENTS: [Row; 5] = [
     ),
     (
         false,
-        &VALLEY,
+        &CONTEXT_BETWEEN_CHANGES,
         None,
         24,
         3,
@@ -423,7 +424,7 @@ const DOCUMENTS: [Row; 5] = [
     ),
 ];
 
-/// The document of a commit without message, of these files.
+/// Returns the view of a commit with `files`.
 fn commit_view<'a>(
     alloc: Global,
     look: Look,
@@ -443,7 +444,7 @@ fn commit_view<'a>(
     })
 }
 
-/// Draws the document of these files alone, from a row on.
+/// Draws the document of `files` from row `y` on.
 fn draw_files(
     rt: &impl Abort,
     alloc: Global,
@@ -458,7 +459,7 @@ fn draw_files(
     Ok(())
 }
 
-/// Shows the rows of the screen.
+/// Checks that the screen shows `wanted`.
 fn check_rows(
     rt: &impl Abort,
     alloc: Global,
@@ -469,7 +470,7 @@ fn check_rows(
     Ok(())
 }
 
-/// Draws the document of a row.
+/// Draws the document of `row`, and checks the screen.
 fn check_document(rt: &impl Abort, alloc: Global, row: Row) -> Result<(), RecordError> {
     let (use_unicode, parts, selected, width, height, y, wanted) = row;
     let look = Look {
@@ -493,7 +494,7 @@ fn documents_are_drawn_alone(rt: HostRuntime) -> Result<(), RecordError> {
     Ok(())
 }
 
-/// A file of so many added lines, alone.
+/// Returns one file of `count` added lines.
 fn long_file(alloc: Global, count: usize) -> Result<Vec<File<'static>>, RecordError> {
     let mut lines = Items::new(alloc);
     for _ in 0..count {
@@ -507,7 +508,7 @@ fn long_file(alloc: Global, count: usize) -> Result<Vec<File<'static>>, RecordEr
     Ok(vec![in alloc; file_of(DEFAULT, sections)]?)
 }
 
-/// How many rows and calls a screen of 24 by 8 takes that shows such a file from its second row on.
+/// Returns how many rows and calls a screen of 24 by 8 takes that shows `long_file` from row 1 on.
 fn counts_of(rt: &impl Abort, alloc: Global, count: usize) -> Result<(usize, usize), RecordError> {
     let look = Look {
         use_unicode: true,
@@ -526,7 +527,7 @@ fn long_files_take_no_more_calls(rt: HostRuntime) -> Result<(), RecordError> {
     Ok(())
 }
 
-/// Draws the document without files.
+/// Draws a document without files, and checks the screen.
 fn check_no_files(
     rt: &impl Abort,
     alloc: Global,
@@ -555,7 +556,8 @@ fn documents_without_files_say_so(rt: HostRuntime) -> Result<(), RecordError> {
 /// The texts of lines of context.
 const TEXTS: [&str; 7] = ["a\n", "b\n", "c\n", "d\n", "e\n", "f\n", "g\n"];
 
-/// The rows of context that are named by the numbers of their lines; a dot stands for the row that takes the place of lines.
+/// Returns the rows of context named by `names`: a digit is the number of a line, and a dot is the
+/// row in place of hidden lines.
 fn context_rows(alloc: Global, names: &str) -> Result<String, AllocError> {
     let mut rows = String::new(alloc);
     for name in names.chars() {
@@ -577,7 +579,7 @@ fn context_rows(alloc: Global, names: &str) -> Result<String, AllocError> {
     Ok(rows)
 }
 
-/// Draws a section alone, and gives the number of rows of its box.
+/// Draws a section alone, and returns the number of rows of its box.
 fn drawn_height(
     rt: &impl Abort,
     alloc: Global,
@@ -597,7 +599,7 @@ fn drawn_height(
     Ok(drawn.map(|drawn| drawn.rect.height))
 }
 
-/// Draws a section of context alone, which is to have these rows.
+/// Draws a section of context alone, and checks that it has the rows named by `names`.
 fn check_section_rows(
     rt: &impl Abort,
     alloc: Global,
@@ -612,7 +614,8 @@ fn check_section_rows(
     check_rows(rt, alloc, &grid, context_rows(alloc, names)?.as_str())
 }
 
-/// Draws a section of so many lines of context alone, which is to have these rows.
+/// Draws a section of `count` lines of context alone, and checks that it has the rows named by
+/// `names`.
 fn check_context(
     rt: &impl Abort,
     alloc: Global,
@@ -646,7 +649,7 @@ fn lines_of_context_are_left_out(rt: HostRuntime) -> Result<(), RecordError> {
 
 // ---- headers and boxes
 
-/// Draws the header of a folded file, on so many columns.
+/// Draws the header of a folded file on `width` columns, and checks the screen.
 fn check_header(
     rt: &impl Abort,
     alloc: Global,
@@ -682,7 +685,7 @@ fn headers_are_drawn_alone(rt: HostRuntime) -> Result<(), RecordError> {
     check_header(&rt, alloc, 11, "( ) 日 …(+)\n")
 }
 
-/// Draws a box.
+/// Draws a box, and checks the screen.
 fn check_box(
     rt: &impl Abort,
     alloc: Global,

@@ -21,4 +21,4 @@ render_top_level-requires-clause-picture g c =
     let y : to_z w64 c.args.scroll ≡ pos c.args.scroll = to_z_pos w64 c.args.scroll (omega arith) in
     let wide : c.args.grid.now.width ≤ 65535 = omega (arith, c.width.ensures.value) in
     let high : length c.args.grid.now.rows ≤ 65535 = omega (arith, c.height.ensures.value) in
-    rw y (c.apps_are_in_range.ensures _ c.in_ok-view.view c.args.grid.now.width (length c.args.grid.now.rows) c.args.scroll (pos 0) (rw c.new-showing.ensures (search rules)) c.in_ok-view.ensures.ok wide high (omega arith))
+    rw y (c.apps_are_in_range.ensures _ c.in_ok-view.view c.args.grid.now.width (length c.args.grid.now.rows) c.args.scroll (pos 0) (rw c.new-view_state.ensures (search rules)) c.in_ok-view.ensures.ok wide high (omega arith))

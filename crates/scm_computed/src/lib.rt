@@ -1,3 +1,0 @@
-//! Worked examples of the definitions: screens, owners and steps of small states, each computed from the
-//! definitions by `refl` in `proofs/`. The crate has no code.
-#![tactic(auto)]
