@@ -85,17 +85,33 @@ module _ (p : SelectionKey → Bool) where
   pub find-file : (i : ℕ) (fs : List File) (f : File) → slice_get fs i ≡ Some f → find p (files_keys i (drop i fs)) ≡ option_or (find p (file_key i ∷ sections_keys i 0 f.sections)) (find p (files_keys (i + 1) (drop (i + 1) fs)))
   find-file i fs f e = rw (drop-at fs i f e) (find-append p (file_key i ∷ sections_keys i 0 f.sections) (files_keys (i + 1) (drop (i + 1) fs)))
 
-  pub sooner : (xs ys : List SelectionKey) (k : SelectionKey) → Some k ≡ find p xs → Some k ≡ find p (xs ++ ys)
+  sooner : (xs ys : List SelectionKey) (k : SelectionKey) → Some k ≡ find p xs → Some k ≡ find p (xs ++ ys)
   sooner xs ys k e = sym (find-append p xs ys ∙ ap (λ o. option_or o (find p ys)) (sym e))
 
-  pub later : (xs ys : List SelectionKey) (r : Option SelectionKey) → None ≡ find p xs → r ≡ find p ys → r ≡ find p (xs ++ ys)
+  later : (xs ys : List SelectionKey) (r : Option SelectionKey) → None ≡ find p xs → r ≡ find p ys → r ≡ find p (xs ++ ys)
   later xs ys r e h = h ∙ sym (find-append p xs ys ∙ ap (λ o. option_or o (find p ys)) (sym e))
 
-  pub last-sooner : (xs ys : List SelectionKey) (k : SelectionKey) → Some k ≡ find_last p ys → Some k ≡ find_last p (xs ++ ys)
+  last-sooner : (xs ys : List SelectionKey) (k : SelectionKey) → Some k ≡ find_last p ys → Some k ≡ find_last p (xs ++ ys)
   last-sooner xs ys k e = sym (find_last-append p xs ys ∙ ap (λ o. option_or o (find_last p xs)) (sym e))
 
-  pub last-later : (xs ys : List SelectionKey) (r : Option SelectionKey) → None ≡ find_last p ys → r ≡ find_last p xs → r ≡ find_last p (xs ++ ys)
+  last-later : (xs ys : List SelectionKey) (r : Option SelectionKey) → None ≡ find_last p ys → r ≡ find_last p xs → r ≡ find_last p (xs ++ ys)
   last-later xs ys r e h = h ∙ sym (find_last-append p xs ys ∙ ap (λ o. option_or o (find_last p xs)) (sym e))
+
+  pub kept : (xs ys : List SelectionKey) (r : Option SelectionKey) → is_some r ≡ true → r ≡ find p xs → r ≡ find p (xs ++ ys)
+  kept xs ys None h e = absurd (cc h)
+  kept xs ys (Some k) h e = sooner xs ys k e
+
+  pub missed : (xs ys : List SelectionKey) (r s : Option SelectionKey) → is_some r ≡ false → r ≡ find p xs → s ≡ find p ys → s ≡ find p (xs ++ ys)
+  missed xs ys None s h e g = later xs ys s e g
+  missed xs ys (Some k) s h e g = absurd (cc h)
+
+  pub last-kept : (xs ys : List SelectionKey) (r : Option SelectionKey) → is_some r ≡ true → r ≡ find_last p ys → r ≡ find_last p (xs ++ ys)
+  last-kept xs ys None h e = absurd (cc h)
+  last-kept xs ys (Some k) h e = last-sooner xs ys k e
+
+  pub last-missed : (xs ys : List SelectionKey) (r s : Option SelectionKey) → is_some r ≡ false → r ≡ find_last p ys → s ≡ find_last p xs → s ≡ find_last p (xs ++ ys)
+  last-missed xs ys None s h e g = last-later xs ys s e g
+  last-missed xs ys (Some k) s h e g = absurd (cc h)
 
   or-found : (a b : Option SelectionKey) → is_some a ≡ true → a ≡ option_or a b
   or-found None b e = absurd (cc e)

@@ -158,10 +158,11 @@ fn first_of_section(
     if !section.is_editable() {
         return None;
     }
-    match stop_at(reach, expanded, section_key(file, index)) {
-        None => first_of_lines(reach, expanded, file, index, 0, line_count(section)),
-        Some(key) => Some(key),
+    let found = stop_at(reach, expanded, section_key(file, index));
+    if found.is_some() {
+        return found;
     }
+    first_of_lines(reach, expanded, file, index, 0, line_count(section))
 }
 
 /// Returns the first stop among the keys of sections `from..`.
@@ -194,10 +195,11 @@ fn first_of_file(
     ensures { result ≡ first_stop reach (has_key expanded.now)
         (file_key index ∷ sections_keys index 0 file.now.sections) }
 {
-    match stop_at(reach, expanded, file_key(index)) {
-        None => first_of_sections(reach, expanded, index, 0, file.sections.as_slice()),
-        Some(key) => Some(key),
+    let found = stop_at(reach, expanded, file_key(index));
+    if found.is_some() {
+        return found;
     }
+    first_of_sections(reach, expanded, index, 0, file.sections.as_slice())
 }
 
 /// Returns the first stop among the keys of files `from..`.
@@ -265,10 +267,11 @@ fn first_after_section(
         (keys_after_section files.now file section) }
 {
     let sections = sections_at(files, file);
-    match first_of_later_sections(reach, expanded, file, section, sections) {
-        None => first_after_file(reach, expanded, files, file),
-        Some(key) => Some(key),
+    let found = first_of_later_sections(reach, expanded, file, section, sections);
+    if found.is_some() {
+        return found;
     }
+    first_after_file(reach, expanded, files, file)
 }
 
 /// Returns the first stop among the lines after `line`.
@@ -304,28 +307,31 @@ fn first_after(
         SelectionKey::None => None,
         SelectionKey::File(key) => {
             let file = key.file_idx;
-            match first_of_sections(reach, expanded, file, 0, sections_at(files, file)) {
-                None => first_after_file(reach, expanded, files, file),
-                Some(key) => Some(key),
+            let found = first_of_sections(reach, expanded, file, 0, sections_at(files, file));
+            if found.is_some() {
+                return found;
             }
+            first_after_file(reach, expanded, files, file)
         }
         SelectionKey::Section(key) => {
             let file = key.file_idx;
             let section = key.section_idx;
             let count = line_count_at(sections_at(files, file), section);
-            match first_of_lines(reach, expanded, file, section, 0, count) {
-                None => first_after_section(reach, expanded, files, file, section),
-                Some(key) => Some(key),
+            let found = first_of_lines(reach, expanded, file, section, 0, count);
+            if found.is_some() {
+                return found;
             }
+            first_after_section(reach, expanded, files, file, section)
         }
         SelectionKey::Line(key) => {
             let file = key.file_idx;
             let section = key.section_idx;
             let count = line_count_at(sections_at(files, file), section);
-            match first_of_later_lines(reach, expanded, file, section, key.line_idx, count) {
-                None => first_after_section(reach, expanded, files, file, section),
-                Some(key) => Some(key),
+            let found = first_of_later_lines(reach, expanded, file, section, key.line_idx, count);
+            if found.is_some() {
+                return found;
             }
+            first_after_section(reach, expanded, files, file, section)
         }
     }
 }
@@ -366,10 +372,11 @@ fn last_of_section(
         return None;
     }
     let count = line_count(section);
-    match last_of_lines(reach, expanded, file, index, count, count) {
-        None => stop_at(reach, expanded, section_key(file, index)),
-        Some(key) => Some(key),
+    let found = last_of_lines(reach, expanded, file, index, count, count);
+    if found.is_some() {
+        return found;
     }
+    stop_at(reach, expanded, section_key(file, index))
 }
 
 /// Returns the last stop among the keys of sections `0..upto`.
@@ -405,10 +412,11 @@ fn last_of_file(
         (file_key index ∷ sections_keys index 0 file.now.sections) }
 {
     let sections = file.sections.as_slice();
-    match last_of_sections(reach, expanded, index, sections.len(), sections) {
-        None => stop_at(reach, expanded, file_key(index)),
-        Some(key) => Some(key),
+    let found = last_of_sections(reach, expanded, index, sections.len(), sections);
+    if found.is_some() {
+        return found;
     }
+    stop_at(reach, expanded, file_key(index))
 }
 
 /// Returns the last stop among the keys of files `0..upto`.
@@ -442,13 +450,15 @@ fn last_before_section(
     ensures { result ≡ last_stop reach (has_key expanded.now)
         (keys_before_section files.now file section) }
 {
-    match last_of_sections(reach, expanded, file, section, sections_at(files, file)) {
-        None => match stop_at(reach, expanded, file_key(file)) {
-            None => last_of_files(reach, expanded, file, files),
-            Some(key) => Some(key),
-        },
-        Some(key) => Some(key),
+    let found = last_of_sections(reach, expanded, file, section, sections_at(files, file));
+    if found.is_some() {
+        return found;
     }
+    let found = stop_at(reach, expanded, file_key(file));
+    if found.is_some() {
+        return found;
+    }
+    last_of_files(reach, expanded, file, files)
 }
 
 /// Returns the last stop before `key`.
@@ -470,13 +480,15 @@ fn last_before(
             let file = key.file_idx;
             let section = key.section_idx;
             let count = line_count_at(sections_at(files, file), section);
-            match last_of_lines(reach, expanded, file, section, key.line_idx, count) {
-                None => match stop_at(reach, expanded, section_key(file, section)) {
-                    None => last_before_section(reach, expanded, files, file, section),
-                    Some(key) => Some(key),
-                },
-                Some(key) => Some(key),
+            let found = last_of_lines(reach, expanded, file, section, key.line_idx, count);
+            if found.is_some() {
+                return found;
             }
+            let found = stop_at(reach, expanded, section_key(file, section));
+            if found.is_some() {
+                return found;
+            }
+            last_before_section(reach, expanded, files, file, section)
         }
     }
 }
