@@ -1,0 +1,81 @@
+//! The walk over the sections of a file that have rows. Drawing, measuring and indexing take it.
+ghost use Rattle.std.specs.Prelude.{◌≡◌, [], ◌∷◌, false, MatchOption};
+ghost use Rattle.std.specs.Iterator.{YieldsFirstBy};
+ghost use Rattle.scm_document.specs.Rows.{is_first_open, is_open, is_section_visible};
+ghost use Rattle.scm_document.specs.SectionWalk.{sections_left, visible_views};
+
+use crate::section_view::SectionView;
+
+/// Returns whether there is a first section and it is open.
+fn is_first_open(views: &[SectionView<'_>]) -> bool
+    ensures { result ≡ is_first_open views.now }
+{
+    match views.split_first() {
+        Some((view, _)) => view.is_open(),
+        None => false,
+    }
+}
+
+/// Returns whether `view` has rows: it is editable, or the section before or after it is open.
+fn is_section_visible(before: bool, view: &SectionView<'_>, after: bool) -> bool
+    ensures { result ≡ is_section_visible before view.now after }
+{
+    // `|`: one branch for the prover
+    let is_editable = view.section.is_editable();
+    is_editable | (before | after)
+}
+
+/// Returns the first section that has rows, and the views below it. `before` says whether the
+/// section above all `views` is open.
+fn first_visible<'v, 'a>(
+    before: bool,
+    views: &'v [SectionView<'a>],
+) -> Option<(&'v SectionView<'a>, &'v [SectionView<'a>])>
+    ensures cases { MatchOption result (visible_views before views.now ≡ [])
+        (λ p. visible_views before views.now
+        ≡ p.0.now ∷ visible_views (is_open p.0.now) p.1.now) }
+{
+    let mut is_above_open = before;
+    let mut rest = views;
+    'views: while let Some((view, below)) = rest.split_first() {
+        if is_section_visible(is_above_open, view, is_first_open(below)) {
+            return Some((view, below));
+        }
+        is_above_open = view.is_open();
+        rest = below;
+    }
+    None
+}
+
+/// A walk over the sections of a file that have rows, from the top down.
+#[derive(Clone, Copy)]
+pub(crate) struct SectionWalk<'v, 'a> {
+    /// Whether the section above `views` is open.
+    is_above_open: bool,
+    /// The views that the walk has not reached.
+    views: &'v [SectionView<'a>],
+}
+
+impl<'v, 'a> SectionWalk<'v, 'a> {
+    /// Returns the walk over the sections of `views`, which are all sections of a file.
+    pub(crate) fn new(views: &'v [SectionView<'a>]) -> SectionWalk<'v, 'a>
+        ensures { sections_left result ≡ visible_views false views.now }
+    {
+        SectionWalk {
+            is_above_open: false,
+            views,
+        }
+    }
+
+    /// Returns the next section that has rows, or `None` after the last one.
+    pub(crate) fn next_section(&mut self) -> Option<&'v SectionView<'a>>
+        ensures steps { YieldsFirstBy (λ v. v.now) sections_left self.old result self.new }
+    {
+        let (view, views) = first_visible(self.is_above_open, self.views)?;
+        *self = SectionWalk {
+            is_above_open: view.is_open(),
+            views,
+        };
+        Some(view)
+    }
+}
