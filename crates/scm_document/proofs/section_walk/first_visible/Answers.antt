@@ -8,7 +8,7 @@ returns-then-is_section_visible c =
     let above = c.views.is_above_open in
     let v = c.in-Some.view.now in
     let test = ap (is_section_visible above v) (sym c.is_first_open.ensures) ∙ sym c.is_section_visible.ensures ∙ c.if-is_section_visible.true in
-    sym c.views.invariant ∙ visible-first above _ v _ c.in-Some.ensures.cases.0 test
+    record { cases = sym c.views.invariant ∙ visible-first above _ v _ c.in-Some.ensures.cases.0 test }
 
 pub views-preserved : goal.views-preserved
 views-preserved c =
@@ -18,4 +18,4 @@ views-preserved c =
     rw c.is_open-is_above_open.ensures (sym (visible-later above _ v _ c.in-Some.ensures.cases.0 test) ∙ c.views.invariant)
 
 pub returns : goal.returns
-returns c = sym c.views.invariant ∙ visible-none _ _ c.in_default.ensures.cases
+returns c = record { cases = sym c.views.invariant ∙ visible-none _ _ c.in_default.ensures.cases }
