@@ -1,6 +1,6 @@
 //! The walk over the sections of a file that have rows. Drawing, measuring and indexing take it.
 ghost use Rattle.std.specs.Prelude.{◌≡◌, [], ◌∷◌, false, MatchOption};
-ghost use Rattle.std.specs.Iterator.{YieldsFirstBy};
+ghost use Rattle.std.specs.Iterator.{YieldsFirstRef};
 ghost use Rattle.scm_document.specs.Rows.{is_first_open, is_open, is_section_visible};
 ghost use Rattle.scm_document.specs.SectionWalk.{sections_left, visible_views};
 
@@ -69,7 +69,7 @@ impl<'v, 'a> SectionWalk<'v, 'a> {
 
     /// Returns the next section that has rows, or `None` after the last one.
     pub(crate) fn next_section(&mut self) -> Option<&'v SectionView<'a>>
-        ensures steps { YieldsFirstBy (λ v. v.now) sections_left self.old result self.new }
+        ensures steps { YieldsFirstRef sections_left self.old result self.new }
     {
         let (view, views) = first_visible(self.is_above_open, self.views)?;
         *self = SectionWalk {
