@@ -1,7 +1,7 @@
 -- Sections below one another.
-use Rattle.std.proofs.Common.{◌≡◌, ℕ, ◌+◌, ◌-◌, ◌≤◌, Bool, true, false, ◌==◌, min, ℤ, pos, ◌+ℤ◌, List, [], ◌∷◌, ◌++◌, length, length-append, map, drop, take, refl, ap, ◌∙◌, sym, arith, suc}
+use Rattle.std.proofs.Common.{◌≡◌, ℕ, ◌+◌, ◌-◌, ◌<◌, ◌≤◌, Bool, true, false, ◌==◌, min, ℤ, pos, ◌+ℤ◌, List, [], ◌∷◌, ◌++◌, length, length-append, map, drop, take, get_or, refl, ap, ◌∙◌, sym, arith, add-one, drop-cons, suc}
 use Rattle.std.specs.Prelude.{if◌then◌else◌}
-use Rattle.std.proofs.lemmas.List.{length-drop}
+use Rattle.std.proofs.lemmas.List.{drop_all, length-drop}
 use Rattle.std.proofs.lemmas.Int.{ints}
 use Rattle.scm_types.specs.declared.line.SectionChangedLine.{SectionChangedLine}
 use Rattle.scm_types.specs.declared.section.Section.{Section}
@@ -108,18 +108,14 @@ shown-visible before (v ∷ vs) = go (is_section_visible before v (is_first_open
     go true h = ap (λ ps. shown_of_view v ∷ ps) h
     go false h = h
 
--- the first view has rows, or not
-pub visible-first : (before : Bool) (views : List SectionView) (v : SectionView) (vs : List SectionView) → views ≡ v ∷ vs → is_section_visible before v (is_first_open vs) ≡ true
-    → visible_views before views ≡ v ∷ visible_views (is_open v) vs
-visible-first before views v vs e t = ap (visible_views before) e ∙ ap (λ b. if b then v ∷ visible_views (is_open v) vs else visible_views (is_open v) vs) t
+pub visible-more : (before : Bool) (vs : List SectionView) (i : ℕ) (d : SectionView) → i < length vs
+    → visible_views before (drop i vs)
+    ≡ (if is_section_visible before (get_or vs i d) (is_first_open (drop (i + 1) vs)) then get_or vs i d ∷ visible_views (is_open (get_or vs i d)) (drop (i + 1) vs)
+    else visible_views (is_open (get_or vs i d)) (drop (i + 1) vs))
+visible-more before vs i d h = rw (add-one, drop-cons vs i d h) refl
 
-pub visible-later : (before : Bool) (views : List SectionView) (v : SectionView) (vs : List SectionView) → views ≡ v ∷ vs → is_section_visible before v (is_first_open vs) ≡ false
-    → visible_views before views ≡ visible_views (is_open v) vs
-visible-later before views v vs e t = ap (visible_views before) e ∙ ap (λ b. if b then v ∷ visible_views (is_open v) vs else visible_views (is_open v) vs) t
-
-pub visible-none : (before : Bool) (views : List SectionView) → length views ≡ 0 → visible_views before views ≡ []
-visible-none before [] h = refl
-visible-none before (v ∷ vs) h = absurd (omega (arith, h))
+pub visible-none : (before : Bool) (vs : List SectionView) (i : ℕ) → length vs ≤ i → visible_views before (drop i vs) ≡ []
+visible-none before vs i h = ap (visible_views before) (drop_all i vs h)
 
 -- the first of the sections that are left, and those below it
 pub sections-more : (left : List SectionView) (v : SectionView) (vs : List SectionView) (s : Sight) (x y : ℤ) → left ≡ v ∷ vs

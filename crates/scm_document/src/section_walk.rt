@@ -1,17 +1,17 @@
 //! The walk over the sections of a file that have rows. Drawing, measuring and indexing take it.
-ghost use Rattle.std.specs.Prelude.{◌≡◌, [], ◌∷◌, false, MatchOption};
+ghost use Rattle.std.specs.Prelude.{◌≡◌, [], drop, false, MatchOption};
 ghost use Rattle.std.specs.Iterator.{YieldsFirstRef};
-ghost use Rattle.scm_document.specs.Rows.{is_first_open, is_open, is_section_visible};
-ghost use Rattle.scm_document.specs.SectionWalk.{sections_left, visible_views};
+ghost use Rattle.scm_document.specs.Rows.{is_first_open, is_section_visible};
+ghost use Rattle.scm_document.specs.SectionWalk.{IsFirstVisible, sections_left, visible_views};
 
 use crate::section_view::SectionView;
 
-/// Returns whether there is a first section and it is open.
-fn is_first_open(views: &[SectionView<'_>]) -> bool
-    ensures { result ≡ is_first_open views.now }
+/// Returns whether there is a section at `index` and it is open.
+fn is_open_at(views: &[SectionView<'_>], index: usize) -> bool
+    ensures { result ≡ is_first_open (drop index views.now) }
 {
-    match views.split_first() {
-        Some((view, _)) => view.is_open(),
+    match views.get(index) {
+        Some(view) => view.is_open(),
         None => false,
     }
 }
@@ -25,24 +25,21 @@ fn is_section_visible(before: bool, view: &SectionView<'_>, after: bool) -> bool
     is_editable | (before | after)
 }
 
-/// Returns the first section that has rows, and the views below it. `before` says whether the
+/// Returns the index of the first section that has rows, and its view. `before` says whether the
 /// section above all `views` is open.
 fn first_visible<'v, 'a>(
     before: bool,
     views: &'v [SectionView<'a>],
-) -> Option<(&'v SectionView<'a>, &'v [SectionView<'a>])>
+) -> Option<(usize, &'v SectionView<'a>)>
     ensures cases { MatchOption result (visible_views before views.now ≡ [])
-        (λ p. visible_views before views.now
-        ≡ p.0.now ∷ visible_views (is_open p.0.now) p.1.now) }
+        (λ p. IsFirstVisible before views.now p.0 p.1.now) }
 {
     let mut is_above_open = before;
-    let mut rest = views;
-    'views: while let Some((view, below)) = rest.split_first() {
-        if is_section_visible(is_above_open, view, is_first_open(below)) {
-            return Some((view, below));
+    for (index, view) in views.iter().enumerate() {
+        if is_section_visible(is_above_open, view, is_open_at(views, index + 1)) {
+            return Some((index, view));
         }
         is_above_open = view.is_open();
-        rest = below;
     }
     None
 }
@@ -71,10 +68,10 @@ impl<'v, 'a> SectionWalk<'v, 'a> {
     pub(crate) fn next_section(&mut self) -> Option<&'v SectionView<'a>>
         ensures steps { YieldsFirstRef sections_left self.old result self.new }
     {
-        let (view, views) = first_visible(self.is_above_open, self.views)?;
+        let (index, view) = first_visible(self.is_above_open, self.views)?;
         *self = SectionWalk {
             is_above_open: view.is_open(),
-            views,
+            views: &self.views[index + 1..],
         };
         Some(view)
     }
