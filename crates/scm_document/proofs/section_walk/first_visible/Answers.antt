@@ -1,6 +1,6 @@
-use Rattle.std.proofs.Common.{◌≡◌, ◌∙◌, ◌+◌, ◌∷◌, drop, sym, ap}
+use Rattle.std.proofs.Common.{◌∙◌, ◌+◌, ◌∷◌, drop, sym, ap}
 use Rattle.std.specs.Prelude.{if◌then◌else◌}
-use Rattle.scm_document.specs.Rows.{is_first_open, is_open, is_section_visible}
+use Rattle.scm_document.specs.Rows.{is_open, is_section_visible}
 use Rattle.scm_document.specs.SectionWalk.{visible_views}
 use Rattle.scm_document.proofs.SectionsLemmas.{visible-more, visible-none}
 use Rattle.scm_document.proofs.section_walk.first_visible.Goals as goal
