@@ -1,6 +1,6 @@
 -- How much is drawn: on one row, call after call, and on rows below one another.
-use Rattle.std.proofs.Common.{◌≡◌, ℕ, suc, ◌+◌, ◌<◌, ◌≤◌, List, [], ◌∷◌, ◌++◌, length, length-append, map, drop, get_or, refl, sym, ap, ◌∙◌, arith, add-one, drop-cons, true, false, Bool}
-use Rattle.std.specs.Prelude.{ℤ, pos, ◌+ℤ◌, ◌-◌, Some, if◌then◌else◌}
+use Rattle.std.proofs.Common.{◌≡◌, ℕ, suc, ◌+◌, ◌<◌, ◌≤◌, List, [], ◌∷◌, ◌++◌, length, map, drop, get_or, refl, sym, ap, ◌∙◌, arith, add-one, drop-cons, true, false, Bool}
+use Rattle.std.specs.Prelude.{ℤ, pos, ◌+ℤ◌, Some, if◌then◌else◌}
 use Rattle.std.proofs.lemmas.Int.{ints}
 use Rattle.std.proofs.lemmas.List.{drop_all}
 use Rattle.scm_cells.specs.Counts.{Counts, no_counts, plus, added}
@@ -8,16 +8,18 @@ use Rattle.scm_cells.specs.declared.rect.Rect.{Rect}
 use Rattle.scm_render.specs.Drawing.{has_row}
 use Rattle.scm_render.specs.Canvas.{Sight, under}
 use Rattle.scm_render.proofs.CountLemmas.{counts-then}
+use Rattle.scm_document.specs.declared.section_view.SectionView.{SectionView}
 use Rattle.scm_document.specs.declared.file_view.FileView.{FileView}
 use Rattle.scm_document.specs.declared.commit_view.CommitView.{CommitView}
 use Rattle.scm_types.specs.declared.keys.LineKey.{LineKey}
 use Rattle.scm_document.specs.declared.section_line_view.SectionLineView.{SectionLineView}
 use Rattle.scm_document.specs.declared.section_line_view.SectionLineViewInner.{SectionLineViewInner}
 use Rattle.scm_document.specs.declared.section_line_view.SectionLineViewInner.TheVariants as inner
-use Rattle.scm_document.specs.Rows.{DocRow, view_row, ShownSection, shown_file, file_rows, sections_rows, document_of}
+use Rattle.scm_document.specs.Rows.{DocRow, view_row, ShownSection, section_height, section_rows, shown_of_view, shown_file, file_rows, document_of}
 use Rattle.scm_document.specs.ViewColumns.{view_mask, next_view, views_counts}
 use Rattle.scm_widgets.specs.Counts.{drawn, on_row}
 use Rattle.scm_document.specs.Counts.{row_calls, row_counts, rows_counts, line_calls, line_counts, sections_counts, file_counts, pinned_counts, files_counts, message_counts, document_counts}
+use Rattle.scm_document.proofs.SectionsLemmas.{section-size}
 
 pub counts-same : (a b : Counts) → a.rows ≡ b.rows → a.calls ≡ b.calls → a ≡ b
 counts-same a b p q = let e : ◌≡◌ {A = Counts} (record { rows = a.rows; calls = a.calls }) (record { rows = b.rows; calls = b.calls }) = cc (p, q) in e
@@ -86,25 +88,17 @@ rows_counts-append (r ∷ rs) qs v y =
 
 -- ---- sections below one another
 
-pub sections_counts-one : (p : ShownSection) (v : Rect) (y : ℤ) → sections_counts (p ∷ []) v y ≡ rows_counts p.rows v y
-unfolding sections_counts
-sections_counts-one p v y = plus-none (rows_counts p.rows v y)
-
 pub sections_counts-none : (ps : List ShownSection) (v : Rect) (y : ℤ) → ps ≡ [] → sections_counts ps v y ≡ no_counts
 unfolding sections_counts
 sections_counts-none ps v y e = rw e refl
 
-pub sections_counts-append : (ps qs : List ShownSection) (v : Rect) (y : ℤ)
-    → sections_counts (ps ++ qs) v y ≡ plus (sections_counts ps v y) (sections_counts qs v (y +ℤ pos (length (sections_rows ps))))
-unfolding sections_counts sections_rows
-sections_counts-append [] qs v y =
-    let same : y ≡ y +ℤ pos 0 = omega (arith, ints) in
-    ap (sections_counts qs v) same ∙ sym (none-plus (sections_counts qs v (y +ℤ pos 0)))
-sections_counts-append (p ∷ ps) qs v y =
-    let next = y +ℤ pos (length p.rows) in
-    let sum : next +ℤ pos (length (sections_rows ps)) ≡ y +ℤ pos (length (p.rows ++ sections_rows ps)) = omega (arith, ints, length-append p.rows (sections_rows ps)) in
-    ap (plus (rows_counts p.rows v y)) (sections_counts-append ps qs v next ∙ ap (λ z. plus (sections_counts ps v next) (sections_counts qs v z)) sum)
-    ∙ sym (plus-assoc (rows_counts p.rows v y) (sections_counts ps v next) (sections_counts qs v (y +ℤ pos (length (p.rows ++ sections_rows ps)))))
+pub sections_counts-more : (left : List SectionView) (v : SectionView) (vs : List SectionView) (r : Rect) (y : ℤ) → left ≡ v ∷ vs
+    → sections_counts (map shown_of_view left) r y
+    ≡ plus (rows_counts (section_rows v) r y) (sections_counts (map shown_of_view vs) r (y +ℤ pos (section_height v v.section.now)))
+unfolding sections_counts
+sections_counts-more left v vs r y e =
+    ap (λ ws. sections_counts (map shown_of_view ws) r y) e
+    ∙ ap (λ n. plus (rows_counts (section_rows v) r y) (sections_counts (map shown_of_view vs) r (y +ℤ pos n))) (section-size v)
 
 -- ---- files below one another
 

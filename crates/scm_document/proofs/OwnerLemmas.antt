@@ -1,5 +1,5 @@
 -- Who owns the columns of the rows of a section, by the boxes that are drawn: whom the strips name.
-use Rattle.std.proofs.Common.{ℕ, ◌-◌, List, [], ◌∷◌, refl}
+use Rattle.std.proofs.Common.{ℕ, List, [], ◌∷◌, refl}
 use Rattle.scm_types.specs.declared.keys.SectionKey.{SectionKey}
 use Rattle.scm_document.specs.Owners.{AreRowsOf}
 use Rattle.scm_document.specs.Rows.{DocRow, HeaderRow, SectionRow, LineRow, MarkRow, ContextRow, DotsRow, BlankRow}

@@ -1,5 +1,5 @@
 -- What stands on the screen's rows after drawing: one picture after another, and pictures off the screen.
-use Rattle.std.proofs.Common.{◌≡◌, ℕ, suc, ◌+◌, ◌-◌, ◌<◌, ◌≤◌, List, [], ◌∷◌, ◌++◌, length, length-append, append-nil, append_assoc, take, drop, refl, sym, ap, ap₂, subst, ◌∙◌, arith, true, false, FitsSigned, w64}
+use Rattle.std.proofs.Common.{◌≡◌, ℕ, suc, ◌+◌, ◌-◌, ◌<◌, ◌≤◌, List, [], ◌∷◌, ◌++◌, length, length-append, append_assoc, take, drop, refl, sym, ap, ap₂, subst, ◌∙◌, arith, true, false, FitsSigned, w64}
 use Rattle.std.specs.Prelude.{ℤ, pos, ◌+ℤ◌, ◌<ℤ◌, ◌≤ℤ◌, Some}
 use Rattle.std.proofs.lemmas.List.{length-take, length-drop, take-append-drop}
 use Rattle.scm_cells.proofs.RectLemmas.{places}
@@ -27,8 +27,8 @@ use Rattle.scm_widgets.specs.Counts.{drawn}
 use Rattle.scm_document.specs.Counts.{row_counts, rows_counts, sections_counts, file_counts}
 use Rattle.scm_widgets.specs.Paints.{IsPainted, is_seen, rows_above}
 use Rattle.scm_document.proofs.RowsLemmas.{rows_picture-append, rows-fit}
-use Rattle.scm_document.proofs.SectionsLemmas.{section-size}
-use Rattle.scm_document.proofs.CountLemmas.{plus-none, none-plus, rows_counts-append, sections_counts-one}
+use Rattle.scm_document.proofs.SectionsLemmas.{length-changed, section-size}
+use Rattle.scm_document.proofs.CountLemmas.{plus-none, none-plus, rows_counts-append}
 use Rattle.scm_widgets.proofs.HiddenLemmas.{painted-same, on-screen, no-reach, on_row-hidden}
 use Rattle.scm_document.proofs.StripLemmas.{no-highlight}
 
@@ -198,11 +198,6 @@ none-counted (r ∷ rs) v y e =
 
 -- ---- changed lines: only a range of them is on the screen
 
-length-changed : (v : SectionView) (i : ℕ) (ls : List SectionChangedLine) → length (changed_rows v i ls) ≡ length ls
-unfolding changed_rows
-length-changed v i [] = refl
-length-changed v i (l ∷ ls) = ap suc (length-changed v (suc i) ls)
-
 changed-append : (v : SectionView) (i : ℕ) (ls ms : List SectionChangedLine) → changed_rows v i (ls ++ ms) ≡ changed_rows v i ls ++ changed_rows v (i + length ls) ms
 unfolding changed_rows
 changed-append v i [] ms = let same : i ≡ i + 0 = omega arith in ap (λ n. changed_rows v n ms) same
@@ -331,16 +326,6 @@ lines-counted c d r v ls y first end p q h =
 -- a section off the screen
 pub section-off : (v : SectionView) (r : Rect) (y : ℤ) → is_seen r y (y +ℤ pos (section_height v v.section.now)) ≡ false → AreOff r y (length (section_rows v))
 section-off v r y h = rw (section-size v) (off-unseen r y (section_height v v.section.now) h)
-
-puts-alone : (p : ShownSection) (s : Sight) (x y : ℤ) → (rows_picture p.rows s x y).puts ≡ (sections_picture (p ∷ []) s x y).puts
-unfolding sections_picture part followed_by nothing
-puts-alone p s x y = sym (append-nil (rows_picture p.rows s x y).puts)
-
-pub one-painted : (c d : Canvas ComponentId) (p : ShownSection) (x y : ℤ) → IsPainted c d (rows_picture p.rows c.sight x y) → IsPainted c d (sections_picture (p ∷ []) c.sight x y)
-one-painted c d p x y h = painted-as c d _ _ (puts-alone p c.sight x y) h
-
-pub one-counted : (c d : Counts) (p : ShownSection) (r : Rect) (y : ℤ) → d ≡ added c (rows_counts p.rows r y) → d ≡ added c (sections_counts (p ∷ []) r y)
-one-counted c d p r y h = h ∙ ap (added c) (sym (sections_counts-one p r y))
 
 -- sections off the screen, and a file
 pub leaves-sections : (ps : List ShownSection) (s : Sight) (x y : ℤ) → AreOff s.rect y (length (sections_rows ps)) → LeavesRows s.rect (sections_picture ps s x y).puts

@@ -1,13 +1,12 @@
 -- Drawing in either pass: one picture after another, under a mask, and a loop of parts.
-use Rattle.std.proofs.Common.{◌≡◌, List, [], ◌∷◌, sym}
+use Rattle.std.proofs.Common.{◌≡◌, List, [], ◌∷◌, refl}
 use Rattle.std.specs.Prelude.{ℤ, pos, ◌+ℤ◌, Some}
 use Rattle.scm_cells.specs.declared.mask.Mask.{Mask}
 use Rattle.scm_render.specs.Picture.{PictureInRange, nothing, followed_by}
 use Rattle.scm_render.specs.Canvas.{Sight, Canvas, with_mask, with_picture, under}
 use Rattle.scm_render.specs.Left.{IsLeft}
-use Rattle.scm_render.proofs.CanvasLemmas.{with_picture-nothing}
 use Rattle.scm_render.proofs.PictureLemmas.{PictureInRange-right}
-use Rattle.scm_render.proofs.StepLemmas.{sight-after, step, masked, left-part, left-more, left-none}
+use Rattle.scm_render.proofs.StepLemmas.{sight-after, step, masked, left-first, left-part, left-more, left-none}
 use Rattle.scm_widgets.specs.declared.ids.ComponentId.{ComponentId}
 use Rattle.scm_widgets.specs.declared.paint_pass.Pass.{Pass}
 use Rattle.scm_widgets.specs.declared.paint_pass.Pass.TheVariants.{Draw, Paint}
@@ -16,7 +15,7 @@ use Rattle.scm_widgets.specs.Pictures.{IdPicture}
 use Rattle.scm_document.specs.Pictures.{row_picture, rows_picture}
 use Rattle.scm_widgets.specs.Paints.{IsDrawn}
 use Rattle.scm_document.proofs.RowsLemmas.{row-alone}
-use Rattle.scm_document.proofs.PaintsLemmas.{IsToPaint, drawn-painted, painted-step, painted-nothing, painted-masked, to-part, to-more, to-none}
+use Rattle.scm_document.proofs.PaintsLemmas.{IsToPaint, drawn-painted, painted-step, painted-masked, to-part, to-more, to-none}
 
 -- ---- one picture after another
 
@@ -44,10 +43,6 @@ then-drawn k c d f m n p q = step-pass k c d f m n p (drawn-pass k d f (n d.sigh
 pub rest-pass : (k : Pass) (c d : Canvas ComponentId) (m : IdPicture) (n : Sight → IdPicture) → IsDrawn k c d m → PictureInRange (followed_by m (n c.sight)) → PictureInRange (n d.sight)
 rest-pass k c d m n p r = rw (sight-pass k c d m p) (PictureInRange-right m (n c.sight) r)
 
-pub nothing-pass : (k : Pass) (c : Canvas ComponentId) → IsDrawn k c c nothing
-nothing-pass Draw c = sym (with_picture-nothing c)
-nothing-pass Paint c = painted-nothing c
-
 -- under a mask, which is taken away again
 pub masked-pass : (k : Pass) (c d f g : Canvas ComponentId) (mask : Mask) (n : Sight → IdPicture) → d ≡ with_mask (Some mask) c → IsDrawn k d f (n d.sight) → g ≡ with_mask c.sight.mask f
     → IsDrawn k c g (n (under mask c.sight))
@@ -60,6 +55,10 @@ masked-pass Paint c d f g mask n p q r = painted-masked c d f g mask n p q r
 abbrev pub IsToDraw : Pass → Canvas ComponentId → Canvas ComponentId → IdPicture → IdPicture → Type 0
 IsToDraw Draw c d left whole = IsLeft c d left whole
 IsToDraw Paint c d left whole = IsToPaint c d left whole
+
+pub pass-first : (k : Pass) (c : Canvas ComponentId) (whole : IdPicture) → PictureInRange whole → IsToDraw k c c whole whole
+pass-first Draw c whole r = left-first c whole r
+pass-first Paint c whole r = record { sight = refl; in_range = r; rows = refl }
 
 pub pass-sight : (k : Pass) (c d : Canvas ComponentId) (left whole : IdPicture) → IsToDraw k c d left whole → d.sight ≡ c.sight
 pass-sight Draw c d left whole h = h.sight

@@ -17,15 +17,16 @@ use Rattle.scm_document.specs.declared.index_pieces.SectionPiece.{SectionPiece}
 use Rattle.scm_document.specs.declared.index_pieces.RowKinds.TheVariants as kinds
 use Rattle.scm_document.specs.declared.index_pieces.Piece.{Piece}
 use Rattle.scm_document.specs.declared.index_pieces.Piece.TheVariants as pieces
-use Rattle.scm_document.specs.Rows.{DocRow, SectionRow, DotsRow, BlankRow, is_selected, section_heading, is_first_open, is_section_visible, is_open, are_all_shown, is_first, is_last, lines_above, has_dots, dots_height, first_below, changed_rows, numbered_rows, rows_below, shown_lines, context_rows, lines_height, section_height, rows_of, section_rows, shown_section, shown_sections, shown_file, file_rows}
+use Rattle.scm_document.specs.Rows.{DocRow, SectionRow, DotsRow, BlankRow, is_selected, section_heading, are_all_shown, is_first, is_last, lines_above, has_dots, dots_height, first_below, changed_rows, numbered_rows, rows_below, shown_lines, context_rows, lines_height, section_height, rows_of, section_rows, shown_of_view, shown_sections, shown_file, file_rows}
 use Rattle.scm_widgets.specs.Boxes.{is_fold_open}
 use Rattle.scm_types.specs.Keys.{line_key_of}
 use Rattle.scm_document.specs.Places.{Place, line_places, rows_places, sections_places, files_places}
 use Rattle.scm_document.specs.RowIndex.{section_parts, sections_parts, files_parts}
-use Rattle.scm_document.specs.ViewPieces.{kinds_of, section_piece_of, height_where, section_piece_where, section_piece_list, file_height, sections_in_file, file_piece_of, file_piece_list, sections_in_files}
+use Rattle.scm_document.specs.SectionWalk.{visible_views}
+use Rattle.scm_document.specs.ViewPieces.{kinds_of, section_piece_of, section_piece_list, file_height, sections_in_file, file_piece_of, file_piece_list, sections_in_files}
 use Rattle.scm_document.specs.Pieces.{file_pieces, files_pieces, files_of, sections_of, run_places, lines_places, section_places, piece_places, piece_parts}
 use Rattle.scm_document.proofs.RowsLemmas.{length-numbered, length-taken}
-use Rattle.scm_document.proofs.SectionsLemmas.{at_most, section-size}
+use Rattle.scm_document.proofs.SectionsLemmas.{at_most, most-below, section-size, shown-visible}
 use Rattle.scm_document.proofs.ViewPieceLemmas.{file-height}
 
 -- ---- the files and sections among them
@@ -73,11 +74,6 @@ dots-places : (b : Bool) (t : List ℕ) (top : ℕ) (qs : List DocRow) → rows_
 unfolding rows_places
 dots-places true t top qs = ap (λ n. rows_places n qs) (omega arith)
 dots-places false t top qs = let same : top ≡ top + 0 = omega arith in ap (λ n. rows_places n qs) same
-
-most-below : (a b : Bool) (n : ℕ) → (if a then n else if b then n else n - 3) ≤ n
-most-below true b n = omega arith
-most-below false true n = omega arith
-most-below false false n = omega arith
 
 -- lines of context: a of n above d rows, and those from the b-th on below
 two-runs : (k : SectionKey) (top a d b n : ℕ) → b ≤ n
@@ -157,21 +153,16 @@ section-is v top =
     ap (λ r. record { key = selection.Section v.section_key; top = top; rows = r } ∷ lines_places v.section_key (kinds_of v v.section.now) top (top + h) r) size
     ∙ ap₂ (λ (r : ℕ) (ps : List Place). record { key = selection.Section v.section_key; top = top; rows = r } ∷ ps) (sym (section-size v)) (sym (lines-places v top v.section.now))
 
-sections-places : (top : ℕ) (before : Bool) (vs : List SectionView) → flat_map piece_places (map pieces.Section (section_piece_list top before vs)) ≡ sections_places top (shown_sections before vs)
-unfolding shown_sections sections_places
-sections-places top before [] = refl
-sections-places top before (v ∷ vs) = go (is_section_visible before v (is_first_open vs)) (λ t. sections-places t (is_open v) vs)
-  where
-    go : (b : Bool) → ((t : ℕ) → flat_map piece_places (map pieces.Section (section_piece_list t (is_open v) vs)) ≡ sections_places t (shown_sections (is_open v) vs))
-        → flat_map piece_places (map pieces.Section (section_piece_where b v top ++ section_piece_list (top + height_where b v) (is_open v) vs)) ≡ sections_places top (shown_section b v ++ shown_sections (is_open v) vs)
-    go true more =
-        let next = top + section_height v v.section.now in
-        let rest = map pieces.Section (section_piece_list next (is_open v) vs) in
-        flat_map-cons piece_places (pieces.Section (section_piece_of v top)) rest
-        ∙ ap (λ w. w ++ flat_map piece_places rest) (section-is v top)
-        ∙ ap (λ w. (record { key = selection.Section v.section_key; top = top; rows = length (section_rows v) } ∷ rows_places top (section_rows v)) ++ w)
-        (more next ∙ ap (λ n. sections_places (top + n) (shown_sections (is_open v) vs)) (sym (section-size v)))
-    go false more = let same : top + 0 ≡ top = omega arith in more (top + 0) ∙ ap (λ t. sections_places t (shown_sections (is_open v) vs)) same
+sections-places : (top : ℕ) (vs : List SectionView) → flat_map piece_places (map pieces.Section (section_piece_list top vs)) ≡ sections_places top (map shown_of_view vs)
+unfolding sections_places
+sections-places top [] = refl
+sections-places top (v ∷ vs) =
+    let next = top + section_height v v.section.now in
+    let rest = map pieces.Section (section_piece_list next vs) in
+    flat_map-cons piece_places (pieces.Section (section_piece_of v top)) rest
+    ∙ ap (λ w. w ++ flat_map piece_places rest) (section-is v top)
+    ∙ ap (λ w. (record { key = selection.Section v.section_key; top = top; rows = length (section_rows v) } ∷ rows_places top (section_rows v)) ++ w)
+    (sections-places next vs ∙ ap (λ n. sections_places (top + n) (map shown_of_view vs)) (sym (section-size v)))
 
 no-places : (t : ℕ) → [] ≡ sections_places t []
 unfolding sections_places
@@ -186,8 +177,11 @@ file-places m top v =
     size : top + file_height v - top ≡ length (file_rows (shown_file v))
     size = omega (arith, file-height v)
 
-    go : (b : Bool) → flat_map piece_places (map pieces.Section (if b then section_piece_list (top + 1) false v.section_views else [])) ≡ sections_places (suc top) (if b then shown_sections false v.section_views else [])
-    go true = let one : top + 1 ≡ suc top = omega arith in sections-places (top + 1) false v.section_views ∙ ap (λ t. sections_places t (shown_sections false v.section_views)) one
+    go : (b : Bool) → flat_map piece_places (map pieces.Section (if b then section_piece_list (top + 1) (visible_views false v.section_views) else [])) ≡ sections_places (suc top) (if b then shown_sections false v.section_views else [])
+    go true =
+        let one : top + 1 ≡ suc top = omega arith in
+        sections-places (top + 1) (visible_views false v.section_views)
+        ∙ ap₂ (λ t ps. sections_places t ps) one (sym (shown-visible false v.section_views))
     go false = no-places (suc top)
 
 pub files-places : (m top : ℕ) (vs : List FileView) → flat_map piece_places (files_pieces m top vs) ≡ files_places top (map shown_file vs)
@@ -207,18 +201,13 @@ section-parts v top =
     let size : top + section_height v v.section.now - top ≡ length (section_rows v) = omega (arith, section-size v) in
     ap (section_parts v.section_key 0) size
 
-sections-parts : (top : ℕ) (before : Bool) (vs : List SectionView) → flat_map piece_parts (map pieces.Section (section_piece_list top before vs)) ≡ sections_parts (shown_sections before vs)
-unfolding shown_sections sections_parts
-sections-parts top before [] = refl
-sections-parts top before (v ∷ vs) = go (is_section_visible before v (is_first_open vs)) (λ t. sections-parts t (is_open v) vs)
-  where
-    go : (b : Bool) → ((t : ℕ) → flat_map piece_parts (map pieces.Section (section_piece_list t (is_open v) vs)) ≡ sections_parts (shown_sections (is_open v) vs))
-        → flat_map piece_parts (map pieces.Section (section_piece_where b v top ++ section_piece_list (top + height_where b v) (is_open v) vs)) ≡ sections_parts (shown_section b v ++ shown_sections (is_open v) vs)
-    go true more =
-        let next = top + section_height v v.section.now in
-        flat_map-cons piece_parts (pieces.Section (section_piece_of v top)) (map pieces.Section (section_piece_list next (is_open v) vs))
-        ∙ ap₂ (λ a b. a ++ b) (section-parts v top) (more next)
-    go false more = more (top + 0)
+sections-parts : (top : ℕ) (vs : List SectionView) → flat_map piece_parts (map pieces.Section (section_piece_list top vs)) ≡ sections_parts (map shown_of_view vs)
+unfolding sections_parts
+sections-parts top [] = refl
+sections-parts top (v ∷ vs) =
+    let next = top + section_height v v.section.now in
+    flat_map-cons piece_parts (pieces.Section (section_piece_of v top)) (map pieces.Section (section_piece_list next vs))
+    ∙ ap₂ (λ a b. a ++ b) (section-parts v top) (sections-parts next vs)
 
 no-parts : [] ≡ sections_parts []
 unfolding sections_parts
@@ -228,8 +217,8 @@ file-parts : (m top : ℕ) (v : FileView) → flat_map piece_parts (file_pieces 
 unfolding shown_file
 file-parts m top v = flat_map-cons piece_parts (pieces.File (file_piece_of m top v)) (map pieces.Section (sections_in_file top v)) ∙ ap (λ w. part.File v.file_key ∷ w) (go (is_fold_open v.expand_box))
   where
-    go : (b : Bool) → flat_map piece_parts (map pieces.Section (if b then section_piece_list (top + 1) false v.section_views else [])) ≡ sections_parts (if b then shown_sections false v.section_views else [])
-    go true = sections-parts (top + 1) false v.section_views
+    go : (b : Bool) → flat_map piece_parts (map pieces.Section (if b then section_piece_list (top + 1) (visible_views false v.section_views) else [])) ≡ sections_parts (if b then shown_sections false v.section_views else [])
+    go true = sections-parts (top + 1) (visible_views false v.section_views) ∙ ap sections_parts (sym (shown-visible false v.section_views))
     go false = no-parts
 
 pub files-parts : (m top : ℕ) (vs : List FileView) → flat_map piece_parts (files_pieces m top vs) ≡ files_parts (map shown_file vs)

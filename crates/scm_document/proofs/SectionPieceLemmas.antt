@@ -1,6 +1,6 @@
 -- A section's place answers for the rows of its view: who owns their columns.
 use Rattle.std.proofs.Common.{◌≡◌, ℕ, zero, suc, ◌+◌, ◌-◌, ◌<◌, ◌≤◌, ◌==◌, Bool, true, false, not, ◌&&◌, ◌||◌, cond, List, [], ◌∷◌, ◌++◌, length, map, take, drop, get_or, nat_lt, refl, sym, ap, ap₂, ◌∙◌, arith}
-use Rattle.std.specs.Prelude.{pos, ◌+ℤ◌, int_le, int_lt, if◌then◌else◌, min, nat_le, Option, Some, None, option_map}
+use Rattle.std.specs.Prelude.{pos, ◌+ℤ◌, int_le, int_lt, if◌then◌else◌, nat_le, Option, Some, None, option_map}
 use Rattle.std.specs.List.{list_any}
 use Rattle.std.proofs.lemmas.Bool.Decides.{nat_tests}
 use Rattle.std.proofs.lemmas.Int.{ints}
@@ -20,14 +20,14 @@ use Rattle.scm_document.specs.declared.index_pieces.RowKinds.TheVariants as kind
 use Rattle.scm_widgets.specs.Layers.{Strip, clear, owned, is_among}
 use Rattle.scm_document.specs.Owners.{AreRowsOf}
 use Rattle.scm_document.specs.Texts.{dots_text}
-use Rattle.scm_document.specs.Rows.{DocRow, SectionRow, DotsRow, BlankRow, line_id, changed_rows, numbered_rows, context_rows, shown_lines, rows_below, rows_of, section_heading, is_selected, lines_above, first_below, has_dots, dots_height, lines_height, context_height, section_height, section_rows, section_id, is_first, is_last, ShownSection}
+use Rattle.scm_document.specs.Rows.{DocRow, SectionRow, DotsRow, BlankRow, line_id, changed_rows, numbered_rows, context_rows, shown_lines, rows_below, rows_of, section_heading, is_selected, lines_above, first_below, has_dots, dots_height, lines_height, context_height, section_height, section_rows, section_id, is_first, is_last, are_all_shown, shown_of_view}
 use Rattle.scm_widgets.specs.Boxes.{is_fold_open}
 use Rattle.scm_types.specs.Keys.{line_key_of}
 use Rattle.scm_document.specs.Strips.{row_strip, is_whole, is_wide, is_of_section, section_strips}
 use Rattle.scm_document.specs.PieceOwners.{box_owner, line_owner, context_line, part_owner, section_owner}
 use Rattle.scm_document.specs.ViewPieces.{context_kinds, kinds_of, is_wide_of, section_piece_of}
 use Rattle.scm_document.proofs.RowsLemmas.{length-numbered, length-taken}
-use Rattle.scm_document.proofs.SectionsLemmas.{height-of}
+use Rattle.scm_document.proofs.SectionsLemmas.{at_most, most-below, height-of, section-size}
 use Rattle.scm_widgets.proofs.DrawsStrips.{line-owned}
 
 -- ---- who owns a row's columns
@@ -100,20 +100,6 @@ module _ {K : Type 0} (f : ℕ → K) (x : ℕ) where
 
 -- ---- context
 
--- no more lines stand above, or begin below, than there are
-most-above : (first last few : Bool) (n : ℕ) → (if not first && (not last && few) then n else if first then 0 else min n 3) ≤ n
-most-above true last few n = omega arith
-most-above false true few n = omega arith
-most-above false false true n = omega arith
-most-above false false false n = omega arith
-
-most-below : (first last few : Bool) (n : ℕ) → (if not first && (not last && few) then n else if last then n else n - 3) ≤ n
-most-below true true few n = omega arith
-most-below true false few n = omega arith
-most-below false true few n = omega arith
-most-below false false true n = omega arith
-most-below false false false n = omega arith
-
 abbrev dots_rows : SectionView → Bool → List DocRow
 dots_rows v b = if b then DotsRow (dots_text v.use_unicode) ∷ [] else []
 
@@ -132,8 +118,8 @@ shown-part : (w x j : ℕ) (v : SectionView) (ls : List (List ℕ)) → j < line
     ≡ option_map (λ n. line_id (line_key_of v.section_key n)) (context_line (lines_above v (length ls)) (lines_above v (length ls) + dots_height v (length ls)) (length ls) (lines_height v (length ls)) j)
 shown-part w x j v ls within =
     let n = length ls in
-    let most = most-above (is_first v) (is_last v) (nat_le n 6) n in
-    let low = most-below (is_first v) (is_last v) (nat_le n 6) n in
+    let most = at_most (are_all_shown v n) (is_first v) n in
+    let low = most-below (are_all_shown v n) (is_last v) n in
     let top : List DocRow = numbered_rows v 0 (take (lines_above v n) ls) in
     let end : List DocRow = numbered_rows v (first_below v n) (drop (first_below v n) ls) in
     let all : map (row_strip w) (shown_lines v ls) ≡ map (row_strip w) top ++ (map (row_strip w) (dots_rows v (has_dots v n)) ++ map (row_strip w) end) =
@@ -216,7 +202,7 @@ some-left a b n e = go (nat_lt b n) refl
 any-shown : (v : SectionView) (ls : List (List ℕ)) → list_any is_whole (shown_lines v ls) ≡ (nat_lt 0 (lines_above v (length ls)) || nat_lt (first_below v (length ls)) (length ls))
 any-shown v ls =
     let n = length ls in
-    let most = most-above (is_first v) (is_last v) (nat_le n 6) n in
+    let most = at_most (are_all_shown v n) (is_first v) n in
     let taken : length (take (lines_above v n) ls) ≡ lines_above v n = omega (arith, most, length-take (lines_above v n) ls) in
     let top : List DocRow = numbered_rows v 0 (take (lines_above v n) ls) in
     let end : List DocRow = numbered_rows v (first_below v n) (drop (first_below v n) ls) in
@@ -242,10 +228,6 @@ wide-is v (Binary checked old new) = or_false (is_selected v)
 
 -- ---- who owns a section's columns
 
--- a section as it is shown
-abbrev pub shown_of_view : SectionView → ShownSection
-shown_of_view v = record { key = v.section_key; rows = section_rows v }
-
 if_wide : (t a b : Bool) (i : ComponentId) → t ≡ true → a ≡ b → ◌≡◌ {A = Option ComponentId} (cond (t && a) (Some i) None) (if b then Some i else None)
 if_wide t a b i e f = rw (e, f) refl
 
@@ -255,15 +237,11 @@ row-within top j n h =
     let b : int_lt (pos (top + j)) (pos top +ℤ pos n) ≡ true = grind (arith, ints, h) in
     rw (a, b) refl
 
-pub section-height : (v : SectionView) → length (section_rows v) ≡ section_height v v.section.now
-unfolding section_rows
-section-height v = height-of v v.section.now
-
 pub length-section : (w : ℕ) (v : SectionView) → length (section_strips w (shown_of_view v)) ≡ section_height v v.section.now
 unfolding section_strips
 length-section w v =
     length-map (map (row_strip w) (section_rows v)) (owned (section_id v.section_key) (is_of_section (section_rows v)))
-    ∙ length-map (section_rows v) (row_strip w) ∙ section-height v
+    ∙ length-map (section_rows v) (row_strip w) ∙ section-size v
 
 pub section-owner : (w x top j : ℕ) (v : SectionView) → AreRowsOf v.section_key 0 (section_rows v) → j < section_height v v.section.now
     → (line clear (section_strips w (shown_of_view v)) (pos top) (pos (top + j))).owner x ≡ section_owner w (section_piece_of v top) j x

@@ -1,5 +1,5 @@
 -- Sections below one another.
-use Rattle.std.proofs.Common.{◌≡◌, ℕ, ◌+◌, ◌<◌, ◌≤◌, Bool, true, false, ◌==◌, min, ℤ, pos, ◌+ℤ◌, List, [], ◌∷◌, ◌++◌, length, length-append, drop, take, get_or, refl, ap, ◌∙◌, sym, arith, add-one, drop-cons, suc, append-nil}
+use Rattle.std.proofs.Common.{◌≡◌, ℕ, ◌+◌, ◌-◌, ◌<◌, ◌≤◌, Bool, true, false, ◌==◌, min, ℤ, pos, ◌+ℤ◌, List, [], ◌∷◌, ◌++◌, length, length-append, map, drop, take, get_or, refl, ap, ◌∙◌, sym, arith, add-one, drop-cons, suc}
 use Rattle.std.specs.Prelude.{if◌then◌else◌}
 use Rattle.std.proofs.lemmas.List.{drop_all, length-drop}
 use Rattle.std.proofs.lemmas.Int.{ints}
@@ -8,15 +8,15 @@ use Rattle.scm_types.specs.declared.section.Section.{Section}
 use Rattle.scm_types.specs.declared.section.Section.TheVariants.{Unchanged, Changed, FileMode, Binary}
 use Rattle.scm_cells.specs.Rect.{InRange}
 use Rattle.scm_render.specs.Picture.{PictureInRange, nothing, followed_by, part}
-use Rattle.scm_render.specs.Canvas.{Sight, Canvas, with_picture}
+use Rattle.scm_render.specs.Canvas.{Sight}
 use Rattle.scm_render.proofs.PictureLemmas.{PictureInRange-left, PictureInRange-right, PictureInRange-part}
-use Rattle.scm_widgets.specs.declared.ids.ComponentId.{ComponentId}
 use Rattle.scm_document.specs.declared.section_view.SectionView.{SectionView}
-use Rattle.scm_document.specs.Rows.{DocRow, DotsRow, BlankRow, HeaderRow, ShownSection, ShownFile, file_rows, section_id, is_first, is_open, is_first_open, is_section_visible, are_all_shown, lines_above, has_dots, first_below, rows_below, shown_lines, context_rows, lines_height, section_height, changed_rows, numbered_rows, rows_of, section_rows, shown_section, shown_sections, sections_rows}
+use Rattle.scm_document.specs.Rows.{DocRow, DotsRow, BlankRow, HeaderRow, ShownSection, ShownFile, file_rows, section_id, is_first, is_open, is_first_open, is_section_visible, are_all_shown, lines_above, has_dots, first_below, rows_below, shown_lines, context_rows, lines_height, section_height, changed_rows, numbered_rows, rows_of, section_rows, shown_of_view, shown_section, shown_sections, sections_rows}
+use Rattle.scm_document.specs.SectionWalk.{visible_views}
 use Rattle.scm_widgets.specs.Boxes.{is_fold_open}
-use Rattle.scm_document.specs.Pictures.{row_picture, rows_picture, sections_picture, shown_file_picture}
+use Rattle.scm_document.specs.Pictures.{row_picture, rows_picture, section_picture, sections_picture, shown_file_picture}
 use Rattle.scm_document.proofs.HeadingLemmas.{heading-rect}
-use Rattle.scm_document.proofs.RowsLemmas.{followed-assoc, nothing-followed, followed-nothing, row-end, length-numbered, length-taken}
+use Rattle.scm_document.proofs.RowsLemmas.{row-end, length-numbered, length-taken}
 
 -- ---- heights
 
@@ -24,6 +24,11 @@ pub at_most : (a b : Bool) (n : ℕ) → (if a then n else if b then 0 else min 
 at_most true b n = omega arith
 at_most false true n = omega arith
 at_most false false n = omega arith
+
+pub most-below : (a b : Bool) (n : ℕ) → (if a then n else if b then n else n - 3) ≤ n
+most-below true b n = omega arith
+most-below false true n = omega arith
+most-below false false n = omega arith
 
 one_or_none : (b : Bool) (r : DocRow) → length (if b then r ∷ [] else []) ≡ (if b then 1 else 0)
 one_or_none true r = refl
@@ -42,7 +47,7 @@ lines-height v ls =
     ∙ ap (λ k. length (numbered_rows v 0 (take (lines_above v n) ls)) + k) (length-append dots below)
     ∙ sum-of _ _ _ _ _ _ (length-taken v (lines_above v n) ls (at_most (are_all_shown v n) (is_first v) n)) (one_or_none (has_dots v n) _) (length-numbered v f (drop f ls) ∙ length-drop f ls)
 
-length-changed : (v : SectionView) (i : ℕ) (ls : List SectionChangedLine) → length (changed_rows v i ls) ≡ length ls
+pub length-changed : (v : SectionView) (i : ℕ) (ls : List SectionChangedLine) → length (changed_rows v i ls) ≡ length ls
 unfolding changed_rows
 length-changed v i [] = refl
 length-changed v i (l ∷ ls) = ap suc (length-changed v (suc i) ls)
@@ -62,35 +67,11 @@ height-of v (Changed ls) = go (is_fold_open v.expand_box)
 height-of v (FileMode checked mode) = refl
 height-of v (Binary checked old new) = refl
 
-pub one-height : (v : SectionView) → length (sections_rows (shown_section true v)) ≡ section_height v v.section.now
-unfolding sections_rows section_rows
-one-height v = ap length (append-nil (rows_of v v.section.now)) ∙ height-of v v.section.now
-
-pub none-height : (v : SectionView) → length (sections_rows (shown_section false v)) ≡ 0
-unfolding sections_rows
-none-height v = refl
+pub section-size : (v : SectionView) → length (section_rows v) ≡ section_height v v.section.now
+unfolding section_rows
+section-size v = height-of v v.section.now
 
 -- ---- pictures
-
-pub one-first : (p : ShownSection) (s : Sight) (x y : ℤ) → PictureInRange (sections_picture (p ∷ []) s x y) → PictureInRange (part (section_id p.key) (rows_picture p.rows s x y))
-unfolding sections_picture
-one-first p s x y h = PictureInRange-left _ _ h
-
-pub one-alone : (c d : Canvas ComponentId) (p : ShownSection) (x y : ℤ) → d ≡ with_picture c (part (section_id p.key) (rows_picture p.rows c.sight x y)) → d ≡ with_picture c (sections_picture (p ∷ []) c.sight x y)
-unfolding sections_picture
-one-alone c d p x y e = e ∙ ap (with_picture c) (sym (followed-nothing _))
-
-pub sections_picture-append : (ps qs : List ShownSection) (s : Sight) (x y : ℤ)
-    → sections_picture (ps ++ qs) s x y ≡ followed_by (sections_picture ps s x y) (sections_picture qs s x (y +ℤ pos (length (sections_rows ps))))
-unfolding sections_picture sections_rows
-sections_picture-append [] qs s x y =
-    ap (sections_picture qs s x) (omega (arith, ints)) ∙ sym (nothing-followed (sections_picture qs s x (y +ℤ pos 0)))
-sections_picture-append (p ∷ ps) qs s x y =
-    let next = y +ℤ pos (length p.rows) in
-    let sum : next +ℤ pos (length (sections_rows ps)) ≡ y +ℤ pos (length (p.rows ++ sections_rows ps)) = omega (arith, ints, length-append p.rows (sections_rows ps)) in
-    ap (followed_by (part (section_id p.key) (rows_picture p.rows s x y)))
-    (sections_picture-append ps qs s x next ∙ ap (λ z. followed_by (sections_picture ps s x next) (sections_picture qs s x z)) sum)
-    ∙ sym (followed-assoc (part (section_id p.key) (rows_picture p.rows s x y)) (sections_picture ps s x next) (sections_picture qs s x (y +ℤ pos (length (p.rows ++ sections_rows ps)))))
 
 -- the row below the last is in range
 rows-in : (rs : List DocRow) (s : Sight) (x y : ℤ) → InRange y → PictureInRange (rows_picture rs s x y) → InRange (y +ℤ pos (length rs))
@@ -110,30 +91,50 @@ sections-in (p ∷ ps) s x y f r =
     let same : (y +ℤ pos (length p.rows)) +ℤ pos (length (sections_rows ps)) ≡ y +ℤ pos (length (p.rows ++ sections_rows ps)) = omega (arith, ints, length-append p.rows (sections_rows ps)) in
     rw same at more
 
--- ---- a step of the loop
+-- the row below a section is in range
+pub section-in : (v : SectionView) (s : Sight) (x y : ℤ) → InRange y → PictureInRange (section_picture v s x y) → InRange (y +ℤ pos (section_height v v.section.now))
+unfolding section_picture
+section-in v s x y f r = rw (section-size v) at (rows-in (section_rows v) s x y f r)
 
-pub shown_sections-more : (before : Bool) (vs : List SectionView) (i : ℕ) (d : SectionView) → i < length vs
-    → shown_sections before (drop i vs) ≡ shown_section (is_section_visible before (get_or vs i d) (is_first_open (drop (i + 1) vs))) (get_or vs i d) ++ shown_sections (is_open (get_or vs i d)) (drop (i + 1) vs)
+-- ---- the sections that have rows
+
+pub shown-visible : (before : Bool) (vs : List SectionView) → shown_sections before vs ≡ map shown_of_view (visible_views before vs)
 unfolding shown_sections
-shown_sections-more before vs i d h = rw (add-one, drop-cons vs i d h) refl
+shown-visible before [] = refl
+shown-visible before (v ∷ vs) = go (is_section_visible before v (is_first_open vs)) (shown-visible (is_open v) vs)
+  where
+    go : (b : Bool) → shown_sections (is_open v) vs ≡ map shown_of_view (visible_views (is_open v) vs)
+        → shown_section b v ++ shown_sections (is_open v) vs ≡ map shown_of_view (if b then v ∷ visible_views (is_open v) vs else visible_views (is_open v) vs)
+    go true h = ap (λ ps. shown_of_view v ∷ ps) h
+    go false h = h
 
-pub shown_sections-none : (before : Bool) (vs : List SectionView) (i : ℕ) → length vs ≤ i → shown_sections before (drop i vs) ≡ []
-unfolding shown_sections
-shown_sections-none before vs i h = rw (drop_all i vs h) refl
+pub visible-more : (before : Bool) (vs : List SectionView) (i : ℕ) (d : SectionView) → i < length vs
+    → visible_views before (drop i vs)
+    ≡ (if is_section_visible before (get_or vs i d) (is_first_open (drop (i + 1) vs)) then get_or vs i d ∷ visible_views (is_open (get_or vs i d)) (drop (i + 1) vs)
+    else visible_views (is_open (get_or vs i d)) (drop (i + 1) vs))
+visible-more before vs i d h = rw (add-one, drop-cons vs i d h) refl
 
-pub shown_sections-end : (before : Bool) (vs : List SectionView) (i : ℕ) (s : Sight) (x y : ℤ) → length vs ≤ i → sections_picture (shown_sections before (drop i vs)) s x y ≡ nothing
-unfolding shown_sections sections_picture
-shown_sections-end before vs i s x y h = rw (drop_all i vs h) refl
+pub visible-none : (before : Bool) (vs : List SectionView) (i : ℕ) → length vs ≤ i → visible_views before (drop i vs) ≡ []
+visible-none before vs i h = ap (visible_views before) (drop_all i vs h)
+
+-- the first of the sections that are left, and those below it
+pub sections-more : (left : List SectionView) (v : SectionView) (vs : List SectionView) (s : Sight) (x y : ℤ) → left ≡ v ∷ vs
+    → sections_picture (map shown_of_view left) s x y
+    ≡ followed_by (part (section_id v.section_key) (section_picture v s x y)) (sections_picture (map shown_of_view vs) s x (y +ℤ pos (section_height v v.section.now)))
+unfolding sections_picture section_picture
+sections-more left v vs s x y e =
+    ap (λ ws. sections_picture (map shown_of_view ws) s x y) e
+    ∙ ap (λ n. followed_by (part (section_id v.section_key) (rows_picture (section_rows v) s x y)) (sections_picture (map shown_of_view vs) s x (y +ℤ pos n))) (section-size v)
+
+pub sections-end : (left : List SectionView) (s : Sight) (x y : ℤ) → left ≡ [] → sections_picture (map shown_of_view left) s x y ≡ nothing
+unfolding sections_picture
+sections-end left s x y e = ap (λ ws. sections_picture (map shown_of_view ws) s x y) e
 
 pub length-sections : (ps qs : List ShownSection) → length (sections_rows (ps ++ qs)) ≡ length (sections_rows ps) + length (sections_rows qs)
 unfolding sections_rows
 length-sections [] qs = omega arith
 length-sections (p ∷ ps) qs =
     omega (arith, length-append p.rows (sections_rows (ps ++ qs)), length-sections ps qs, length-append p.rows (sections_rows ps))
-
-pub no-sections : (before : Bool) (vs : List SectionView) (i : ℕ) → length vs ≤ i → length (sections_rows (shown_sections before (drop i vs))) ≡ 0
-unfolding shown_sections sections_rows
-no-sections before vs i h = rw (drop_all i vs h) refl
 
 -- the places of a file whose picture is in range
 pub record FileFits (f : ShownFile) (x y : ℤ) : Type 0 where
@@ -153,7 +154,3 @@ file-fits f s x y r =
 pub header-fits : (f : ShownFile) (s : Sight) (x y : ℤ) → PictureInRange (row_picture (HeaderRow f.key f.heading) s x y) → InRange x × InRange y × InRange (y +ℤ pos 1)
 unfolding row_picture
 header-fits f s x y r = let h = heading-rect f.heading s x y (PictureInRange-part _ _ r) in (h.x, h.y, h.end_y)
-
-pub section-size : (v : SectionView) → length (section_rows v) ≡ section_height v v.section.now
-unfolding section_rows
-section-size v = height-of v v.section.now

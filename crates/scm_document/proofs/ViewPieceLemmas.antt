@@ -18,36 +18,31 @@ use Rattle.scm_document.specs.declared.index_pieces.FilePiece.{FilePiece}
 use Rattle.scm_document.specs.declared.index_pieces.SectionPiece.{SectionPiece}
 use Rattle.scm_widgets.specs.Layers.{Strip, clear, owned, is_among}
 use Rattle.scm_document.specs.Owners.{AreRowsOf, AreSectionsOf}
-use Rattle.scm_document.specs.Rows.{file_id, section_id, section_height, section_rows, is_open, is_section_visible, is_first_open, ShownSection, ShownFile, shown_section, shown_sections, sections_rows, shown_file, file_rows}
+use Rattle.scm_document.specs.Rows.{file_id, section_id, section_height, section_rows, ShownSection, ShownFile, shown_of_view, shown_sections, sections_rows, shown_file, file_rows}
 use Rattle.scm_widgets.specs.Boxes.{is_fold_open}
 use Rattle.scm_document.specs.Strips.{everywhere, is_of_section, row_strip, section_strips, sections_strips, header_strip, file_strips, is_over, files_strips}
 use Rattle.scm_widgets.specs.OverlayRects.{is_from}
 use Rattle.scm_document.specs.PieceOwners.{section_owner, sections_owner, header_owner, file_owner, files_owner, rows_owner}
-use Rattle.scm_document.specs.ViewPieces.{section_piece_of, height_where, section_piece_where, sections_height, section_piece_list, file_height, sections_in_file, file_piece_of, file_piece_list, sections_in_files}
+use Rattle.scm_document.specs.SectionWalk.{visible_views}
+use Rattle.scm_document.specs.ViewPieces.{section_piece_of, sections_height, section_piece_list, file_height, sections_in_file, file_piece_of, file_piece_list, sections_in_files}
 use Rattle.scm_widgets.proofs.DrawsStrips.{line-owned}
 use Rattle.scm_document.proofs.FilesOf.{IsHeadingOf, IsFileOf, AreFilesOf}
-use Rattle.scm_document.proofs.SectionPieceLemmas.{shown_of_view, section-height, length-section, section-owner, row-within, two_boxes}
+use Rattle.scm_document.proofs.SectionsLemmas.{section-size, shown-visible}
+use Rattle.scm_document.proofs.SectionPieceLemmas.{length-section, section-owner, row-within, two_boxes}
 
 -- ---- how many rows there are
 
-height-shown : (b : Bool) (v : SectionView) (rest : List ShownSection) → length (sections_rows (shown_section b v ++ rest)) ≡ height_where b v + length (sections_rows rest)
+sections-height : (vs : List SectionView) → length (sections_rows (map shown_of_view vs)) ≡ sections_height vs
 unfolding sections_rows
-height-shown true v rest = length-append (section_rows v) (sections_rows rest) ∙ ap (λ n. n + length (sections_rows rest)) (section-height v)
-height-shown false v rest = omega arith
-
-pub sections-height : (before : Bool) (vs : List SectionView) → length (sections_rows (shown_sections before vs)) ≡ sections_height before vs
-unfolding shown_sections sections_rows
-sections-height before [] = refl
-sections-height before (v ∷ vs) =
-    height-shown (is_section_visible before v (is_first_open vs)) v (shown_sections (is_open v) vs)
-    ∙ ap (λ n. height_where (is_section_visible before v (is_first_open vs)) v + n) (sections-height (is_open v) vs)
+sections-height [] = refl
+sections-height (v ∷ vs) = length-append (section_rows v) (sections_rows (map shown_of_view vs)) ∙ ap₂ (λ a b. a + b) (section-size v) (sections-height vs)
 
 pub file-height : (v : FileView) → length (file_rows (shown_file v)) ≡ file_height v
 unfolding shown_file file_rows sections_rows
 file-height v = go (is_fold_open v.expand_box)
   where
-    go : (b : Bool) → suc (length (sections_rows (if b then shown_sections false v.section_views else []))) ≡ 1 + (if b then sections_height false v.section_views else 0)
-    go true = ap suc (sections-height false v.section_views) ∙ omega arith
+    go : (b : Bool) → suc (length (sections_rows (if b then shown_sections false v.section_views else []))) ≡ 1 + (if b then sections_height (visible_views false v.section_views) else 0)
+    go true = ap (λ ps. suc (length (sections_rows ps))) (shown-visible false v.section_views) ∙ ap suc (sections-height (visible_views false v.section_views)) ∙ omega arith
     go false = omega arith
 
 -- the strips of sections, and of a file
@@ -101,64 +96,48 @@ section-there w x top y v e low high =
     ap (λ z. (line clear (section_strips w (shown_of_view v)) (pos top) (pos z)).owner x) (sym there)
     ∙ section-owner w x top (y - top) v e (omega (arith, low, high))
 
-sections-owned : (w x y : ℕ) (f : FileKey) (n top : ℕ) (before : Bool) (vs : List SectionView) → AreSectionsOf f n (shown_sections before vs) → top ≤ y
-    → owner_of (sections_strips w (shown_sections before vs)) top y x ≡ sections_owner w (section_piece_list top before vs) y x
-unfolding shown_sections sections_strips
-sections-owned w x y f n top before [] e h = no-strips top y x
-sections-owned w x y f n top before (v ∷ vs) e h =
-    go (is_section_visible before v (is_first_open vs)) e (λ m next q p. sections-owned w x y f m next (is_open v) vs q p)
+sections-owned : (w x y : ℕ) (f : FileKey) (n top : ℕ) (vs : List SectionView) → AreSectionsOf f n (map shown_of_view vs) → top ≤ y
+    → owner_of (sections_strips w (map shown_of_view vs)) top y x ≡ sections_owner w (section_piece_list top vs) y x
+unfolding sections_strips
+sections-owned w x y f n top [] e h = no-strips top y x
+sections-owned w x y f n top (v ∷ vs) e h =
+    go (λ m next q p. sections-owned w x y f m next vs q p) e (is_from top (top + section_height v v.section.now) y) refl
   where
-    here : ((m next : ℕ) → AreSectionsOf f m (shown_sections (is_open v) vs) → next ≤ y → owner_of (sections_strips w (shown_sections (is_open v) vs)) next y x ≡ sections_owner w (section_piece_list next (is_open v) vs) y x)
-        → AreSectionsOf f n (shown_of_view v ∷ shown_sections (is_open v) vs) → (t : Bool) → is_from top (top + section_height v v.section.now) y ≡ t
-        → owner_of (section_strips w (shown_of_view v) ++ sections_strips w (shown_sections (is_open v) vs)) top y x
-        ≡ (if t then section_owner w (section_piece_of v top) (y - top) x else sections_owner w (section_piece_list (top + section_height v v.section.now) (is_open v) vs) y x)
-    here more e true q =
+    go : ((m next : ℕ) → AreSectionsOf f m (map shown_of_view vs) → next ≤ y → owner_of (sections_strips w (map shown_of_view vs)) next y x ≡ sections_owner w (section_piece_list next vs) y x)
+        → AreSectionsOf f n (shown_of_view v ∷ map shown_of_view vs) → (t : Bool) → is_from top (top + section_height v v.section.now) y ≡ t
+        → owner_of (section_strips w (shown_of_view v) ++ sections_strips w (map shown_of_view vs)) top y x
+        ≡ (if t then section_owner w (section_piece_of v top) (y - top) x else sections_owner w (section_piece_list (top + section_height v v.section.now) vs) y x)
+    go more e true q =
         let in_it = from-true top (top + section_height v v.section.now) y q in
         let size = length-section w v in
-        upper (section_strips w (shown_of_view v)) (sections_strips w (shown_sections (is_open v) vs)) top y x (omega (arith, in_it.1, size))
+        upper (section_strips w (shown_of_view v)) (sections_strips w (map shown_of_view vs)) top y x (omega (arith, in_it.1, size))
         ∙ section-there w x top y v e.2 in_it.0 in_it.1
-    here more e false q =
+    go more e false q =
         let size = length-section w v in
         let past = from-false top (top + section_height v v.section.now) y q h in
-        lower (section_strips w (shown_of_view v)) (sections_strips w (shown_sections (is_open v) vs)) top (top + section_height v v.section.now) y x (omega (arith, size)) past
+        lower (section_strips w (shown_of_view v)) (sections_strips w (map shown_of_view vs)) top (top + section_height v v.section.now) y x (omega (arith, size)) past
         ∙ more (suc v.section_key.section_idx) (top + section_height v v.section.now) e.3 past
 
-    go : (b : Bool) → AreSectionsOf f n (shown_section b v ++ shown_sections (is_open v) vs)
-        → ((m next : ℕ) → AreSectionsOf f m (shown_sections (is_open v) vs) → next ≤ y → owner_of (sections_strips w (shown_sections (is_open v) vs)) next y x ≡ sections_owner w (section_piece_list next (is_open v) vs) y x)
-        → owner_of (sections_strips w (shown_section b v ++ shown_sections (is_open v) vs)) top y x ≡ sections_owner w (section_piece_where b v top ++ section_piece_list (top + height_where b v) (is_open v) vs) y x
-    go true e more = here more e (is_from top (top + section_height v v.section.now) y) refl
-    go false e more = let same : top + 0 ≡ top = omega arith in rw same (more n top e h)
-
 -- the sections of a file are above those of the files below it
-sections-past : (w x y top : ℕ) (before : Bool) (vs : List SectionView) (rest : List SectionPiece) → top + sections_height before vs ≤ y
-    → sections_owner w (section_piece_list top before vs ++ rest) y x ≡ sections_owner w rest y x
-sections-past w x y top before [] rest h = refl
-sections-past w x y top before (v ∷ vs) rest h = go (is_section_visible before v (is_first_open vs)) h (λ next p. sections-past w x y next (is_open v) vs rest p)
-  where
-    go : (b : Bool) → top + (height_where b v + sections_height (is_open v) vs) ≤ y
-        → ((next : ℕ) → next + sections_height (is_open v) vs ≤ y → sections_owner w (section_piece_list next (is_open v) vs ++ rest) y x ≡ sections_owner w rest y x)
-        → sections_owner w ((section_piece_where b v top ++ section_piece_list (top + height_where b v) (is_open v) vs) ++ rest) y x ≡ sections_owner w rest y x
-    go true p more =
-        let out : is_from top (top + section_height v v.section.now) y ≡ false = grind (arith, nat_tests, p) in
-        rw out (more (top + section_height v v.section.now) (omega (arith, p)))
-    go false p more = more (top + 0) (omega (arith, p))
+sections-past : (w x y top : ℕ) (vs : List SectionView) (rest : List SectionPiece) → top + sections_height vs ≤ y → sections_owner w (section_piece_list top vs ++ rest) y x ≡ sections_owner w rest y x
+sections-past w x y top [] rest h = refl
+sections-past w x y top (v ∷ vs) rest h =
+    let p : top + (section_height v v.section.now + sections_height vs) ≤ y = h in
+    let out : is_from top (top + section_height v v.section.now) y ≡ false = grind (arith, nat_tests, p) in
+    rw out (sections-past w x y (top + section_height v v.section.now) vs rest (omega (arith, p)))
 
-sections-within : (w x y top : ℕ) (before : Bool) (vs : List SectionView) (rest : List SectionPiece) → top ≤ y → y < top + sections_height before vs
-    → sections_owner w (section_piece_list top before vs ++ rest) y x ≡ sections_owner w (section_piece_list top before vs) y x
-sections-within w x y top before [] rest low h = absurd (omega (arith, low, h))
-sections-within w x y top before (v ∷ vs) rest low h = go (is_section_visible before v (is_first_open vs)) h (λ next q p. sections-within w x y next (is_open v) vs rest q p)
+sections-within : (w x y top : ℕ) (vs : List SectionView) (rest : List SectionPiece) → top ≤ y → y < top + sections_height vs
+    → sections_owner w (section_piece_list top vs ++ rest) y x ≡ sections_owner w (section_piece_list top vs) y x
+sections-within w x y top [] rest low h = absurd (omega (arith, low, h))
+sections-within w x y top (v ∷ vs) rest low h = go h (λ next q p. sections-within w x y next vs rest q p) (is_from top (top + section_height v v.section.now) y) refl
   where
-    go : (b : Bool) → y < top + (height_where b v + sections_height (is_open v) vs)
-        → ((next : ℕ) → next ≤ y → y < next + sections_height (is_open v) vs → sections_owner w (section_piece_list next (is_open v) vs ++ rest) y x ≡ sections_owner w (section_piece_list next (is_open v) vs) y x)
-        → sections_owner w ((section_piece_where b v top ++ section_piece_list (top + height_where b v) (is_open v) vs) ++ rest) y x ≡ sections_owner w (section_piece_where b v top ++ section_piece_list (top + height_where b v) (is_open v) vs) y x
-    go true p more = found (is_from top (top + section_height v v.section.now) y) refl
-      where
-        found : (t : Bool) → is_from top (top + section_height v v.section.now) y ≡ t
-            → (if t then section_owner w (section_piece_of v top) (y - top) x else sections_owner w (section_piece_list (top + section_height v v.section.now) (is_open v) vs ++ rest) y x)
-            ≡ (if t then section_owner w (section_piece_of v top) (y - top) x else sections_owner w (section_piece_list (top + section_height v v.section.now) (is_open v) vs) y x)
-        found true q = refl
-        found false q = more (top + section_height v v.section.now) (from-false top (top + section_height v v.section.now) y q low) (omega (arith, p))
-    go false p more = more (top + 0) (omega (arith, low)) (omega (arith, p))
+    go : y < top + (section_height v v.section.now + sections_height vs)
+        → ((next : ℕ) → next ≤ y → y < next + sections_height vs → sections_owner w (section_piece_list next vs ++ rest) y x ≡ sections_owner w (section_piece_list next vs) y x)
+        → (t : Bool) → is_from top (top + section_height v v.section.now) y ≡ t
+        → (if t then section_owner w (section_piece_of v top) (y - top) x else sections_owner w (section_piece_list (top + section_height v v.section.now) vs ++ rest) y x)
+        ≡ (if t then section_owner w (section_piece_of v top) (y - top) x else sections_owner w (section_piece_list (top + section_height v v.section.now) vs) y x)
+    go p more true q = refl
+    go p more false q = more (top + section_height v v.section.now) (from-false top (top + section_height v v.section.now) y q low) (omega (arith, p))
 
 -- ---- who owns a point among files
 
@@ -183,8 +162,10 @@ file-parts w x y m top v b heading sections pinned h = go (y == top) refl
   where
     below : (c : Bool) → AreSectionsOf v.file_key 0 (if c then shown_sections false v.section_views else []) → suc top ≤ y
         → (line clear (sections_strips w (if c then shown_sections false v.section_views else [])) (pos (top + 1)) (pos y)).owner x
-        ≡ sections_owner w (if c then section_piece_list (top + 1) false v.section_views else []) y x
-    below true e p = sections-owned w x y v.file_key 0 (top + 1) false v.section_views e (omega (arith, p))
+        ≡ sections_owner w (if c then section_piece_list (top + 1) (visible_views false v.section_views) else []) y x
+    below true e p =
+        let all = shown-visible false v.section_views in
+        rw all (sections-owned w x y v.file_key 0 (top + 1) (visible_views false v.section_views) (rw all at e) (omega (arith, p)))
     below false e p = no-sections w (pos (top + 1)) (pos y) x
 
     go : (t : Bool) → (y == top) ≡ t
@@ -225,17 +206,17 @@ tops-within w x y top v rest e low high = go (is_fold_open v.expand_box) high
     differ : y ≡ top → ⊥
     differ q = grind (arith, e, q)
 
-    go : (b : Bool) → y < top + (1 + (if b then sections_height false v.section_views else 0))
-        → sections_owner w ((if b then section_piece_list (top + 1) false v.section_views else []) ++ rest) y x ≡ sections_owner w (if b then section_piece_list (top + 1) false v.section_views else []) y x
-    go true h = sections-within w x y (top + 1) false v.section_views rest (grind (arith, differ, low)) (omega (arith, h))
+    go : (b : Bool) → y < top + (1 + (if b then sections_height (visible_views false v.section_views) else 0))
+        → sections_owner w ((if b then section_piece_list (top + 1) (visible_views false v.section_views) else []) ++ rest) y x ≡ sections_owner w (if b then section_piece_list (top + 1) (visible_views false v.section_views) else []) y x
+    go true h = sections-within w x y (top + 1) (visible_views false v.section_views) rest (grind (arith, differ, low)) (omega (arith, h))
     go false h = absurd (differ (omega (arith, h, low)))
 
 tops-past : (w x y top : ℕ) (v : FileView) (rest : List SectionPiece) → top + file_height v ≤ y → sections_owner w (sections_in_file top v ++ rest) y x ≡ sections_owner w rest y x
 tops-past w x y top v rest high = go (is_fold_open v.expand_box) high
   where
-    go : (b : Bool) → top + (1 + (if b then sections_height false v.section_views else 0)) ≤ y
-        → sections_owner w ((if b then section_piece_list (top + 1) false v.section_views else []) ++ rest) y x ≡ sections_owner w rest y x
-    go true h = sections-past w x y (top + 1) false v.section_views rest (omega (arith, h))
+    go : (b : Bool) → top + (1 + (if b then sections_height (visible_views false v.section_views) else 0)) ≤ y
+        → sections_owner w ((if b then section_piece_list (top + 1) (visible_views false v.section_views) else []) ++ rest) y x ≡ sections_owner w rest y x
+    go true h = sections-past w x y (top + 1) (visible_views false v.section_views) rest (omega (arith, h))
     go false h = refl
 
 -- the header's row asks no section

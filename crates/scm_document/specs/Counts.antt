@@ -1,5 +1,5 @@
 -- The counts of drawing each part of a document. They count only on rows that the screen shows.
-use Rattle.std.specs.Prelude.{ℕ, ◌+◌, ◌==◌, ℤ, pos, ◌+ℤ◌, List, [], ◌∷◌, length, if◌then◌else◌, Option, Some, None}
+use Rattle.std.specs.Prelude.{ℕ, ◌==◌, ℤ, pos, ◌+ℤ◌, List, [], ◌∷◌, length, if◌then◌else◌, Option, Some, None}
 use Rattle.scm_cells.specs.Counts.{Counts, no_counts, plus}
 use Rattle.scm_cells.specs.declared.rect.Rect.{Rect}
 use Rattle.scm_render.specs.Canvas.{Sight}

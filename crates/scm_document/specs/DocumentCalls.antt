@@ -12,7 +12,7 @@ use Rattle.scm_document.specs.declared.file_view.FileView.{FileView}
 use Rattle.scm_document.specs.declared.commit_view.CommitView.{CommitView}
 use Rattle.scm_errors.specs.declared.error.RecordError.{RecordError}
 use Rattle.scm_widgets.specs.Boxes.{IdBox}
-use Rattle.scm_document.specs.Rows.{Heading, DocRow, SectionRow, MarkRow, ShownSection, ShownFile, file_id, is_selected, section_box, section_heading, section_rows, shown_file, document_of}
+use Rattle.scm_document.specs.Rows.{Heading, DocRow, SectionRow, MarkRow, ShownSection, ShownFile, file_id, section_id, is_selected, section_box, section_heading, section_rows, shown_file, document_of}
 use Rattle.scm_document.specs.Pictures.{title_picture, heading_picture, changed_picture, context_picture, row_picture, rows_picture, section_picture, sections_picture, file_picture, beside_button, button_row_picture, message_picture, mask_row, pinned_header, pinned_picture, one_file_picture, files_picture, no_files_picture, body_picture, commit_picture}
 use Rattle.scm_widgets.specs.Counts.{drawn, on_row}
 use Rattle.scm_document.specs.Counts.{row_counts, rows_counts, header_counts, sections_counts, file_counts, pinned_counts, files_counts, message_counts, no_files_counts, body_counts, document_counts}
@@ -93,6 +93,13 @@ rows_call rows x y = record {
 abbrev pub section_call : SectionView → ℤ → ℤ → IdCall
 section_call view x y = record {
   picture = λ sight. section_picture view sight x y;
+  counts = λ sight. rows_counts (section_rows view) sight.rect y;
+}
+
+-- the same as a component of its own
+abbrev pub section_part_call : SectionView → ℤ → ℤ → IdCall
+section_part_call view x y = record {
+  picture = λ sight. part (section_id view.section_key) (section_picture view sight x y);
   counts = λ sight. rows_counts (section_rows view) sight.rect y;
 }
 

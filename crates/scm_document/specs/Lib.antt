@@ -34,6 +34,8 @@ pub mod Counts
 pub mod DocumentRows
 -- The owners of the columns of a document's rows, by its pieces alone.
 pub mod PieceOwners
+-- The sections of a file that have rows.
+pub mod SectionWalk
 -- The pieces of files and sections, from the views that show them.
 pub mod ViewPieces
 -- The overlay rectangles of a message's button and of the headers of files.

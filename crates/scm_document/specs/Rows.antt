@@ -273,9 +273,13 @@ is_first_open (v ∷ vs) = is_open v
 abbrev pub is_section_visible : Bool → SectionView → Bool → Bool
 is_section_visible before v after = is_editable_section v.section.now || (before || after)
 
+-- what section v shows
+abbrev pub shown_of_view : SectionView → ShownSection
+shown_of_view v = record { key = v.section_key; rows = section_rows v }
+
 -- section v in a list, which is empty if the section is not shown
 abbrev pub shown_section : Bool → SectionView → List ShownSection
-shown_section shown v = if shown then record { key = v.section_key; rows = section_rows v } ∷ [] else []
+shown_section shown v = if shown then shown_of_view v ∷ [] else []
 
 -- the sections that have rows; `before` says whether the section above the first is open
 unfoldable pub shown_sections : Bool → List SectionView → List ShownSection

@@ -8,7 +8,8 @@ use Rattle.scm_document.specs.declared.index_pieces.FilePiece.{FilePiece}
 use Rattle.scm_document.specs.declared.index_pieces.SectionPiece.{SectionPiece}
 use Rattle.scm_document.specs.declared.index_pieces.RowKinds.{RowKinds}
 use Rattle.scm_document.specs.declared.index_pieces.RowKinds.TheVariants as kinds
-use Rattle.scm_document.specs.Rows.{is_selected, is_open, is_section_visible, is_first_open, lines_above, first_below, dots_height, section_height}
+use Rattle.scm_document.specs.Rows.{is_selected, lines_above, first_below, dots_height, section_height}
+use Rattle.scm_document.specs.SectionWalk.{visible_views}
 use Rattle.scm_widgets.specs.Boxes.{is_fold_open}
 
 -- the row kinds of a section of n lines of context
@@ -43,33 +44,23 @@ section_piece_of v top = record {
   kinds = kinds_of v v.section.now;
 }
 
--- how many rows section v has: 0 if it is not shown
-abbrev pub height_where : Bool → SectionView → ℕ
-height_where shown v = if shown then section_height v v.section.now else 0
+-- how many rows sections have
+abbrev pub sections_height : List SectionView → ℕ
+sections_height [] = 0
+sections_height (v ∷ vs) = section_height v v.section.now + sections_height vs
 
--- the piece of section v in a list, which is empty if the section is not shown
-abbrev pub section_piece_where : Bool → SectionView → ℕ → List SectionPiece
-section_piece_where shown v top = if shown then section_piece_of v top ∷ [] else []
-
--- how many rows sections have; `before` says whether the section above the first is open
-abbrev pub sections_height : Bool → List SectionView → ℕ
-sections_height before [] = 0
-sections_height before (v ∷ vs) = height_where (is_section_visible before v (is_first_open vs)) v + sections_height (is_open v) vs
-
--- the pieces of sections from row `top` on; `before` says whether the section above the first is open
-abbrev pub section_piece_list : ℕ → Bool → List SectionView → List SectionPiece
-section_piece_list top before [] = []
-section_piece_list top before (v ∷ vs) =
-    section_piece_where (is_section_visible before v (is_first_open vs)) v top
-    ++ section_piece_list (top + height_where (is_section_visible before v (is_first_open vs)) v) (is_open v) vs
+-- the pieces of sections from row `top` on
+abbrev pub section_piece_list : ℕ → List SectionView → List SectionPiece
+section_piece_list top [] = []
+section_piece_list top (v ∷ vs) = section_piece_of v top ∷ section_piece_list (top + section_height v v.section.now) vs
 
 -- how many rows file v has
 abbrev pub file_height : FileView → ℕ
-file_height v = 1 + (if is_fold_open v.expand_box then sections_height false v.section_views else 0)
+file_height v = 1 + (if is_fold_open v.expand_box then sections_height (visible_views false v.section_views) else 0)
 
 -- the pieces of the sections of file v, if its first row is `top`
 abbrev pub sections_in_file : ℕ → FileView → List SectionPiece
-sections_in_file top v = if is_fold_open v.expand_box then section_piece_list (top + 1) false v.section_views else []
+sections_in_file top v = if is_fold_open v.expand_box then section_piece_list (top + 1) (visible_views false v.section_views) else []
 
 -- the piece of file v, if its first row is `top` and a header may be pinned to row m
 abbrev pub file_piece_of : ℕ → ℕ → FileView → FilePiece

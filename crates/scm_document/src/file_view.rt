@@ -1,11 +1,12 @@
 //! The view of a file of a commit.
-ghost use Rattle.std.specs.Prelude.{◌≡◌, ◌+◌, ◌<◌, ◌^◌, ◌++◌, pos, ◌+ℤ◌, length, map, drop, false, OnOk, IfOk};
+ghost use Rattle.std.specs.Prelude.{◌≡◌, ◌+◌, ◌<◌, ◌^◌, ◌++◌, pos, ◌+ℤ◌, length, map, false, OnOk, IfOk};
 ghost use Rattle.scm_cells.specs.Rect.{InRange};
 ghost use Rattle.scm_document.specs.Counts.{file_counts};
-ghost use Rattle.scm_document.specs.DocumentCalls.{HasPainted, sections_call, file_call};
+ghost use Rattle.scm_document.specs.DocumentCalls.{HasPainted, section_part_call, sections_call, file_call};
 ghost use Rattle.scm_render.specs.Draws.{CanDraw};
-ghost use Rattle.scm_document.specs.Rows.{header_heading, lent_text, shown_file, is_section_visible, is_open, is_first_open, shown_section, shown_sections, sections_rows, file_rows};
+ghost use Rattle.scm_document.specs.Rows.{header_heading, lent_text, section_height, shown_file, shown_sections, file_rows};
 ghost use Rattle.scm_document.specs.Pictures.{file_picture};
+ghost use Rattle.scm_document.specs.SectionWalk.{visible_views};
 ghost use Rattle.scm_document.specs.ViewPieces.{file_height, file_piece_of, section_piece_list, sections_height};
 ghost use Rattle.scm_document.specs.Pieces.{file_pieces};
 ghost use Rattle.scm_document.specs.declared.index_pieces.Piece.TheVariants.{Section as PieceSection};
@@ -14,7 +15,7 @@ ghost use Rattle.scm_widgets.specs.Paints.{HasDrawnIn};
 use crate::file_view_header::FileViewHeader;
 use crate::index_pieces::{FilePiece, Piece};
 use crate::section_view::SectionView;
-use scm_cells::gap;
+use crate::section_walk::SectionWalk;
 use scm_render::{Component, Viewport};
 use scm_types::{FileKey, Items, RecordError, SelectionKey};
 use scm_widgets::clipped_drawing::is_seen;
@@ -42,66 +43,26 @@ pub struct FileView<'a> {
     pub section_views: Items<SectionView<'a>>,
 }
 
-/// Returns whether there is a section at `index` and it is open.
-pub(crate) fn is_open_at(views: &[SectionView<'_>], index: usize) -> bool
-    ensures { result ≡ is_first_open (drop index views.now) }
-{
-    match views.get(index) {
-        Some(view) => view.is_open(),
-        None => false,
-    }
-}
-
-/// Returns whether `view` has rows: it is editable, or the section before or after it is open.
-pub(crate) fn is_section_visible(before: bool, view: &SectionView<'_>, after: bool) -> bool
-    ensures { result ≡ is_section_visible before view.now after }
-{
-    // `|`: one branch for the prover
-    let is_editable = view.section.is_editable();
-    is_editable | (before | after)
-}
-
-/// Draws a section in this pass, if it is visible.
+/// Draws in this pass the rows `y..below`, which are those of the section `view`.
 fn draw_section(
     alloc: Global,
     viewport: &mut Viewport<ComponentId>,
     x: isize,
     y: isize,
+    below: isize,
     view: &SectionView<'_>,
-    is_section_visible: bool,
     pass: Pass,
 ) -> Result<(), RecordError>
-    requires y { InRange y }
-    requires picture { CanDraw viewport.old
-        (sections_call (shown_section is_section_visible view.now) x y) }
-    ensures { HasDrawnIn pass viewport.old viewport.new result
-        (sections_call (shown_section is_section_visible view.now) x y) }
+    requires below { below ≡ y +ℤ pos (section_height view.now view.now.section.now) }
+    requires picture { CanDraw viewport.old (section_part_call view.now x y) }
+    ensures { HasDrawnIn pass viewport.old viewport.new result (section_part_call view.now x y) }
 {
-    if is_section_visible {
-        match pass {
-            Pass::Draw => {
-                viewport.draw_component(x, y, view)?;
-                Ok(())
-            }
-            Pass::Paint => view.paint(alloc, viewport, x, y),
+    match pass {
+        Pass::Draw => {
+            viewport.draw_component(x, y, view)?;
+            Ok(())
         }
-    } else {
-        Ok(())
-    }
-}
-
-/// Returns the row below a section that begins on row `y`, or `y` if the section is hidden.
-fn row_below(y: isize, view: &SectionView<'_>, is_section_visible: bool) -> isize
-    requires y { InRange y }
-    requires end { InRange
-        (y +ℤ pos (length (sections_rows (shown_section is_section_visible view.now)))) }
-    ensures { result
-        ≡ y +ℤ pos (length (sections_rows (shown_section is_section_visible view.now))) }
-{
-    if is_section_visible {
-        view.row_below(y)
-    } else {
-        y
+        Pass::Paint => view.paint(alloc, viewport, x, y, below),
     }
 }
 
@@ -119,31 +80,27 @@ fn draw_sections(
     ensures { HasDrawnIn pass viewport.old viewport.new result
         (sections_call (shown_sections false views.now) x y) }
 {
+    let mut walk = SectionWalk::new(views);
     let mut row = y;
-    let mut before = false;
-    for (index, view) in views.iter().enumerate() {
-        let shown = is_section_visible(before, view, is_open_at(views, index + 1));
-        draw_section(alloc, viewport, x, row, view, shown, pass)?;
-        row = row_below(row, view, shown);
-        before = view.is_open();
+    'sections: while let Some(view) = walk.next_section() {
+        let below = view.row_below(row);
+        draw_section(alloc, viewport, x, row, below, view, pass)?;
+        row = below;
     }
     Ok(())
 }
 
-/// Returns the row below the visible sections, which begin on row `y`.
-fn sections_below(y: isize, views: &[SectionView<'_>]) -> isize
-    requires y { InRange y }
-    requires end { InRange (y +ℤ pos (length (sections_rows (shown_sections false views.now)))) }
-    ensures { result ≡ y +ℤ pos (length (sections_rows (shown_sections false views.now))) }
+/// Returns how many rows the visible sections have.
+fn sections_height(views: &[SectionView<'_>]) -> usize
+    requires { sections_height (visible_views false views.now) < 2 ^ 63 }
+    ensures { result ≡ sections_height (visible_views false views.now) }
 {
-    let mut row = y;
-    let mut before = false;
-    for (index, view) in views.iter().enumerate() {
-        let shown = is_section_visible(before, view, is_open_at(views, index + 1));
-        row = row_below(row, view, shown);
-        before = view.is_open();
+    let mut walk = SectionWalk::new(views);
+    let mut height = 0;
+    'sections: while let Some(view) = walk.next_section() {
+        height += view.height();
     }
-    row
+    height
 }
 
 /// Adds the pieces of the visible sections, which begin on row `top`.
@@ -152,19 +109,16 @@ fn push_sections(
     top: usize,
     views: &[SectionView<'_>],
 ) -> Result<(), AllocError>
-    requires { top + sections_height false views.now < 2 ^ 63 }
+    requires { top + sections_height (visible_views false views.now) < 2 ^ 63 }
     ensures ok { OnOk result (pieces.new.items ≡ pieces.old.items
-        ++ map PieceSection (section_piece_list top false views.now)) }
+        ++ map PieceSection (section_piece_list top (visible_views false views.now))) }
 {
+    let mut walk = SectionWalk::new(views);
     let mut row = top;
-    let mut before = false;
-    for (index, view) in views.iter().enumerate() {
-        if is_section_visible(before, view, is_open_at(views, index + 1)) {
-            let section = view.piece(row);
-            pieces.push(Piece::Section(section))?;
-            row = section.end;
-        }
-        before = view.is_open();
+    'sections: while let Some(view) = walk.next_section() {
+        let section = view.piece(row);
+        pieces.push(Piece::Section(section))?;
+        row = section.end;
     }
     Ok(())
 }
@@ -172,10 +126,14 @@ fn push_sections(
 impl<'a> FileView<'a> {
     /// Returns how many rows the file has.
     fn height(&self) -> usize
-        requires { file_height self.now < 2 ^ 62 }
+        requires { file_height self.now < 2 ^ 63 }
         ensures { result ≡ file_height self.now }
     {
-        gap(0, self.row_below(0))
+        if self.expand_box.is_open() {
+            1 + sections_height(self.section_views.as_slice())
+        } else {
+            1
+        }
     }
 
     /// Returns the file's piece, if its first row is `top`. A header may be pinned to row `pinned`.
@@ -220,11 +178,7 @@ impl<'a> FileView<'a> {
         requires end { InRange (y +ℤ pos (length (file_rows (shown_file self.now)))) }
         ensures { result ≡ y +ℤ pos (length (file_rows (shown_file self.now))) }
     {
-        if self.expand_box.is_open() {
-            sections_below(y + 1, self.section_views.as_slice())
-        } else {
-            y + 1
-        }
+        y.strict_add_unsigned(self.height())
     }
 
     /// Returns the view of the file's header.

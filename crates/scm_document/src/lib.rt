@@ -22,6 +22,7 @@ pub mod row_place;
 mod section_line_view;
 mod section_rows;
 mod section_view;
+mod section_walk;
 mod texts;
 mod title;
 mod widths;

@@ -2,7 +2,7 @@
 ghost use Rattle.std.specs.Prelude.{◌≡◌, ◌≤◌, ◌+◌, ◌<◌, ◌^◌, pos, ◌+ℤ◌};
 ghost use Rattle.scm_cells.specs.Rect.{InRange};
 ghost use Rattle.scm_widgets.specs.Boxes.{is_fold_open};
-ghost use Rattle.scm_document.specs.Rows.{is_first, is_last, is_open, are_all_shown, lines_above, has_dots, first_below, dots_height, lines_height, context_height, changed_height, section_height};
+ghost use Rattle.scm_document.specs.Rows.{is_first, is_last, is_open, are_all_shown, lines_above, has_dots, first_below, dots_height, context_height, section_height};
 ghost use Rattle.scm_document.specs.ViewPieces.{context_kinds, has_context_row, is_wide_of, kinds_of, section_piece_of};
 
 use crate::index_pieces::{RowKinds, SectionPiece};
@@ -82,57 +82,6 @@ impl<'a> SectionView<'a> {
         if self.has_dots(count) { 1 } else { 0 }
     }
 
-    /// Returns the row below `count` lines of context, which begin on row `y`; `count` is not 0.
-    fn lines_below(&self, y: isize, count: usize) -> isize
-        requires y { InRange y }
-        requires end { InRange (y +ℤ pos (lines_height self.now count)) }
-        ensures { result ≡ y +ℤ pos (lines_height self.now count) }
-    {
-        let dots = y.strict_add_unsigned(self.lines_above(count));
-        let below = dots.strict_add_unsigned(self.dots_height(count));
-        below.strict_add_unsigned(count - self.first_below(count))
-    }
-
-    /// Returns the row below a section of `count` lines of context, which begins on row `y`.
-    fn context_below(&self, y: isize, count: usize) -> isize
-        requires y { InRange y }
-        requires end { InRange (y +ℤ pos (context_height self.now count)) }
-        ensures { result ≡ y +ℤ pos (context_height self.now count) }
-    {
-        if count == 0 {
-            y + 1
-        } else {
-            self.lines_below(y, count)
-        }
-    }
-
-    /// Returns the row below a section of `count` changed lines, which begins on row `y`.
-    fn changed_below(&self, y: isize, count: usize) -> isize
-        requires y { InRange y }
-        requires end { InRange (y +ℤ pos (changed_height self.now count)) }
-        ensures { result ≡ y +ℤ pos (changed_height self.now count) }
-    {
-        if self.expand_box.is_open() {
-            (y + 1).strict_add_unsigned(count)
-        } else {
-            y + 1
-        }
-    }
-
-    /// Returns the row below the section, which begins on row `y`.
-    pub(crate) fn row_below(&self, y: isize) -> isize
-        requires y { InRange y }
-        requires end { InRange (y +ℤ pos (section_height self.now self.now.section.now)) }
-        ensures { result ≡ y +ℤ pos (section_height self.now self.now.section.now) }
-    {
-        match self.section {
-            Section::Unchanged { lines } => self.context_below(y, lines.len()),
-            Section::Changed { lines } => self.changed_below(y, lines.len()),
-            Section::FileMode { .. } => y + 1,
-            Section::Binary { .. } => y + 1,
-        }
-    }
-
     /// Returns the row kinds of a section of `count` lines of context.
     fn context_kinds(&self, count: usize) -> RowKinds
         requires { lines_above self.now count + dots_height self.now count < 2 ^ 63 }
@@ -187,7 +136,7 @@ impl<'a> SectionView<'a> {
     }
 
     /// Returns how many rows the section has.
-    fn height(&self) -> usize
+    pub(crate) fn height(&self) -> usize
         requires { section_height self.now self.now.section.now < 2 ^ 63 }
         ensures { result ≡ section_height self.now self.now.section.now }
     {
@@ -203,6 +152,15 @@ impl<'a> SectionView<'a> {
             Section::FileMode { .. } => 1,
             Section::Binary { .. } => 1,
         }
+    }
+
+    /// Returns the row below the section, which begins on row `y`.
+    pub(crate) fn row_below(&self, y: isize) -> isize
+        requires y { InRange y }
+        requires end { InRange (y +ℤ pos (section_height self.now self.now.section.now)) }
+        ensures { result ≡ y +ℤ pos (section_height self.now self.now.section.now) }
+    {
+        y.strict_add_unsigned(self.height())
     }
 
     /// Returns whether the section owns columns 0 and 1 of its rows.

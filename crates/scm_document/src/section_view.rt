@@ -1,6 +1,5 @@
 //! The view of a section of a file.
 ghost use Rattle.std.specs.Prelude.{◌≡◌, ◌≤◌, ◌+◌, ◌-◌, ◌<◌, ◌^◌, pos, ◌+ℤ◌, ◌∷◌};
-ghost use Rattle.scm_cells.specs.Rect.{InRange};
 ghost use Rattle.scm_document.specs.Counts.{rows_counts};
 ghost use Rattle.scm_document.specs.DocumentCalls.{HasPainted, row_call, rows_call, section_header_call, mark_call, section_call};
 ghost use Rattle.scm_types.specs.declared.section.Section.TheVariants.{Changed};
@@ -443,20 +442,20 @@ impl<'a> SectionView<'a> {
         }
     }
 
-    /// Paints the part of the section that is on the screen.
+    /// Paints the part of the section that is on the screen. The section has the rows `y..below`.
     pub(crate) fn paint(
         &self,
         alloc: Global,
         viewport: &mut Viewport<ComponentId>,
         x: isize,
         y: isize,
+        below: isize,
     ) -> Result<(), RecordError>
-        requires y { InRange y }
-        requires end { InRange (y +ℤ pos (section_height self.now self.now.section.now)) }
+        requires below { below ≡ y +ℤ pos (section_height self.now self.now.section.now) }
         requires picture { CanDraw viewport.old (section_call self.now x y) }
         ensures { HasPainted viewport.old viewport.new result (section_call self.now x y) }
     {
-        if is_seen(viewport, y, self.row_below(y)) {
+        if is_seen(viewport, y, below) {
             self.draw_rows(alloc, viewport, x, y, Pass::Paint)
         } else {
             Ok(())
