@@ -10,28 +10,26 @@ use Rattle.scm_render.proofs.HitLemmas.{two_assoc}
 use Rattle.scm_widgets.specs.declared.ids.ComponentId.{ComponentId}
 use Rattle.scm_widgets.specs.declared.ids.ComponentId.TheVariants as ids
 use Rattle.scm_document.specs.declared.file_view.FileView.{FileView}
-use Rattle.scm_widgets.specs.Layers.{clear, is_among}
+use Rattle.scm_widgets.specs.Layers.{clear, is_among, is_within}
 use Rattle.scm_document.specs.Rows.{HeaderRow, ShownFile, shown_file}
 use Rattle.scm_document.specs.Strips.{row_strip, pinned_strips}
-use Rattle.scm_widgets.specs.OverlayRects.{is_from, overlay_owner, shift}
+use Rattle.scm_widgets.specs.OverlayRects.{overlay_owner}
 use Rattle.scm_document.specs.ViewPieces.{file_height, file_piece_list}
 use Rattle.scm_document.specs.HeaderRects.{header_rects, pinned_rects}
 use Rattle.scm_document.proofs.FilesOf.{IsHeadingOf, AreFilesOf}
 use Rattle.scm_document.proofs.ViewPieceLemmas.{file-height}
-use Rattle.scm_widgets.proofs.OverlayRectLemmas.{on_row, far-among, far-all, line-one}
+use Rattle.scm_widgets.proofs.OverlayRectLemmas.{on_row, within-among, within-all, line-one}
 
 -- ---- the pinned header
 
 pinned-owner : (w x : ℕ) (f : ShownFile) → x < w → 3 ≤ w → IsHeadingOf f.key f.heading
-    → first_of_two (if is_from (shift 0) (shift 3) (x + 65536) then Some (ids.ToggleBox (selection.File f.key)) else None)
-    (first_of_two (if is_from (shift (w - 3)) (shift w) (x + 65536) then Some (ids.ExpandBox (selection.File f.key)) else None)
-    (if is_from (shift 0) (shift w) (x + 65536) then Some (ids.FileViewHeader f.key) else None))
+    → first_of_two (if is_within (pos 0) 3 x then Some (ids.ToggleBox (selection.File f.key)) else None)
+    (first_of_two (if is_within (pos (w - 3)) 3 x then Some (ids.ExpandBox (selection.File f.key)) else None)
+    (if is_within (pos 0) w x then Some (ids.FileViewHeader f.key) else None))
     ≡ (row_strip w (HeaderRow f.key f.heading)).owner x
 unfolding row_strip
 pinned-owner w x f within fits ids_are =
-    let end : (w - 3) + 3 ≡ w = omega (arith, fits) in
-    let fold : is_from (shift (w - 3)) (shift w) (x + 65536) ≡ is_among (w - 3) 3 x = ap (λ e. is_from (shift (w - 3)) (shift e) (x + 65536)) (sym end) ∙ far-among (w - 3) 3 x in
-    rw (far-all w x within, fold, far-among 0 3 x, ids_are.toggle, ids_are.fold)
+    rw (within-all w x within, within-among (w - 3) 3 x, within-among 0 3 x, ids_are.toggle, ids_are.fold)
     (three (is_among 0 3 x) (is_among (w - 3) 3 x) (ids.ToggleBox (selection.File f.key)) (ids.ExpandBox (selection.File f.key)) (ids.FileViewHeader f.key))
   where
     three : (t u : Bool) (a b c : ComponentId)
@@ -44,17 +42,17 @@ pinned-owner w x f within fits ids_are =
 header-row : (w m y x : ℕ) (f : ShownFile) → x < w → 3 ≤ w → IsHeadingOf f.key f.heading
     → overlay_owner (header_rects w m f.key) y x ≡ (line clear (row_strip w (HeaderRow f.key f.heading) ∷ []) (pos m) (pos y)).owner x
 header-row w m y x f within fits ids_are =
-    rw (on_row m y, line-one (row_strip w (HeaderRow f.key f.heading)) (pos m) (pos y) x)
+    rw (on_row (pos m) y, line-one (row_strip w (HeaderRow f.key f.heading)) (pos m) (pos y) x)
     (go (int_eq (pos y) (pos m)))
   where
-    go : (t : Bool) → first_of_two (first_of_two (first_of_two None (if t && is_from (shift 0) (shift 3) (x + 65536) then Some (ids.ToggleBox (selection.File f.key)) else None))
-        (if t && is_from (shift (w - 3)) (shift w) (x + 65536) then Some (ids.ExpandBox (selection.File f.key)) else None))
-        (if t && is_from (shift 0) (shift w) (x + 65536) then Some (ids.FileViewHeader f.key) else None)
+    go : (t : Bool) → first_of_two (first_of_two (first_of_two None (if t && is_within (pos 0) 3 x then Some (ids.ToggleBox (selection.File f.key)) else None))
+        (if t && is_within (pos (w - 3)) 3 x then Some (ids.ExpandBox (selection.File f.key)) else None))
+        (if t && is_within (pos 0) w x then Some (ids.FileViewHeader f.key) else None)
         ≡ (if t then (row_strip w (HeaderRow f.key f.heading)).owner x else None)
     go true =
-        two_assoc (if is_from (shift 0) (shift 3) (x + 65536) then Some (ids.ToggleBox (selection.File f.key)) else None)
-        (if is_from (shift (w - 3)) (shift w) (x + 65536) then Some (ids.ExpandBox (selection.File f.key)) else None)
-        (if is_from (shift 0) (shift w) (x + 65536) then Some (ids.FileViewHeader f.key) else None)
+        two_assoc (if is_within (pos 0) 3 x then Some (ids.ToggleBox (selection.File f.key)) else None)
+        (if is_within (pos (w - 3)) 3 x then Some (ids.ExpandBox (selection.File f.key)) else None)
+        (if is_within (pos 0) w x then Some (ids.FileViewHeader f.key) else None)
         ∙ pinned-owner w x f within fits ids_are
     go false = refl
 

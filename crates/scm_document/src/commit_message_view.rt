@@ -15,7 +15,7 @@ use scm_types::{Commit, RecordError, Text};
 use scm_widgets::button::Button;
 use scm_widgets::clipped_drawing::{begin_row, show_blank_rest, show_button, show_span, show_text};
 use scm_widgets::ids::ComponentId;
-use scm_widgets::overlay_rects::{OverlayRect, row_overlay_rect, shift};
+use scm_widgets::overlay_rects::{OverlayRect, row_overlay_rect};
 use std::alloc::{AllocError, Global};
 
 /// The message of a commit, with the button that edits it. Without a message, draws nothing.
@@ -109,7 +109,7 @@ impl<'a> CommitMessageView<'a> {
             None => Ok(()),
             Some(_) => {
                 let id = ComponentId::CommitEditMessageButton(self.commit_idx);
-                rects.push(row_overlay_rect(id, 2, shift(0), shift(14)))?;
+                rects.push(row_overlay_rect(id, 2, 0, 14))?;
                 Ok(())
             }
         }

@@ -11,7 +11,7 @@ ghost use Rattle.scm_document.specs.Pieces.{files_of, sections_of};
 
 use scm_types::{FileKey, LineKey, SectionKey, SelectionKey};
 use scm_widgets::ids::ComponentId;
-use scm_widgets::overlay_rects::{OverlayRect, is_from, row_overlay_rect, shift};
+use scm_widgets::overlay_rects::{OverlayRect, is_from, row_overlay_rect};
 use std::alloc::{AllocError, Global};
 
 /// The kinds of a section's rows.
@@ -327,14 +327,9 @@ fn push_header(
 {
     let fold = ComponentId::ExpandBox(SelectionKey::File(key));
     let mark = ComponentId::ToggleBox(SelectionKey::File(key));
-    rects.push(row_overlay_rect(
-        ComponentId::FileViewHeader(key),
-        row,
-        shift(0),
-        shift(width),
-    ))?;
-    rects.push(row_overlay_rect(fold, row, shift(width.saturating_sub(3)), shift(width)))?;
-    rects.push(row_overlay_rect(mark, row, shift(0), shift(3)))?;
+    rects.push(row_overlay_rect(ComponentId::FileViewHeader(key), row, 0, width))?;
+    rects.push(row_overlay_rect(fold, row, width.saturating_sub(3), 3))?;
+    rects.push(row_overlay_rect(mark, row, 0, 3))?;
     Ok(())
 }
 

@@ -21,10 +21,10 @@ use Rattle.scm_render.proofs.SpanLemmas.{join-x, join-y, join-end_x, join-end_y}
 use Rattle.scm_render.proofs.FillLemmas.{put_over, top_text, side_text, bottom_text, border_puts, border_paints, frame-puts, text_paints, lines_paint}
 use Rattle.scm_widgets.specs.Layers.{Strip, laid_over, owned}
 use Rattle.scm_widgets.specs.declared.button.Button.{Button}
-use Rattle.scm_widgets.specs.Buttons.{button_part, button_strip, button_width, buttons_picture, buttons_strip, leftmost}
+use Rattle.scm_widgets.specs.Buttons.{button_part, button_strip, button_width, buttons_strip, leftmost, placed_from_right, placed_picture}
 use Rattle.scm_widgets.proofs.OwnButtons.{IsOneOf, AreButtons, IsDialog}
 use Rattle.scm_widgets.specs.ShownDialogs.{ShownDialog}
-use Rattle.scm_overlay.specs.Dialogs.{widest_line, dialog_rect, dialog_picture, put_strip, border_strips, frame_strips, is_dialog_column, dialog_strips, dialog_layer}
+use Rattle.scm_overlay.specs.Dialogs.{widest_line, dialog_rect, dialog_buttons, dialog_picture, put_strip, border_strips, frame_strips, is_dialog_column, dialog_strips, dialog_layer}
 use Rattle.scm_widgets.specs.Screens.{screen, sight}
 use Rattle.scm_widgets.proofs.DrawsStrips.{DrawsStrips, draws_clear, draws_both, draws_over, draws_part, draws_again, box-followed, length-laid_over}
 use Rattle.scm_widgets.proofs.ButtonLemmas.{Inside, intersect-inside, reach-screen, draws_button, IsId, box-plain_button}
@@ -187,8 +187,8 @@ module _ {K : Type 0} (same_id : K → K → Bool) (clicks : K → Bool) where
 
 module _ {K : Type 0} (same_id : K → K → Bool) (clicks : K → Bool) where
   buttons_draw : (w h s : ℕ) (end y : ℤ) (bs : List (Button K)) → AreButtons same_id clicks bs
-      → DrawsStrips same_id clicks (screen w h s) (IsOneOf same_id clicks bs) (buttons_picture (sight w h s) end y bs) y (buttons_strip w end bs ∷ [])
-  unfolding buttons_picture buttons_strip
+      → DrawsStrips same_id clicks (screen w h s) (IsOneOf same_id clicks bs) (placed_picture (sight w h s) (placed_from_right end y bs)) y (buttons_strip w end bs ∷ [])
+  unfolding placed_picture placed_from_right buttons_strip
   buttons_draw w h s end y [] good = draws_clear same_id clicks (screen w h s) (λ i. ⊥) y
   buttons_draw w h s end y (b ∷ bs) good =
       let x : ℤ = end -ℤ pos (button_width b) in
@@ -233,12 +233,12 @@ box-none K = refl
 
 module _ {K : Type 0} (same_id : K → K → Bool) (clicks : K → Bool) where
   join-buttons : (s : Sight) (r : Rect) (y z l e end : ℤ) (m : ℕ) (bs : List (Button K)) → AreButtons same_id clicks bs → Reaches r y m l e → y ≤ℤ z → z <ℤ (y +ℤ pos m) → end ≤ℤ e
-      → Reaches (join r (box_rect (buttons_picture s end z bs))) y m (leftmost l end bs) e
-  unfolding buttons_picture leftmost
+      → Reaches (join r (box_rect (placed_picture s (placed_from_right end z bs)))) y m (leftmost l end bs) e
+  unfolding placed_picture placed_from_right leftmost
   join-buttons s r y z l e end m [] good h above below before = rw (box-none K, join-none r) h
   join-buttons s r y z l e end m (b ∷ bs) good h above below before =
       let x : ℤ = end -ℤ pos (button_width b) in
-      rw (box-followed (button_part b s x z) (buttons_picture s (x -ℤ pos 1) z bs), box-plain_button b s x z, not-empty x z (button_width b) good.0, sym (join-assoc r (row_rect x z (button_width b)) (box_rect (buttons_picture s (x -ℤ pos 1) z bs))))
+      rw (box-followed (button_part b s x z) (placed_picture s (placed_from_right (x -ℤ pos 1) z bs)), box-plain_button b s x z, not-empty x z (button_width b) good.0, sym (join-assoc r (row_rect x z (button_width b)) (box_rect (placed_picture s (placed_from_right (x -ℤ pos 1) z bs)))))
       (join-buttons s (join r (row_rect x z (button_width b))) y z (int_min l x) e (x -ℤ pos 1) m bs good.3
       (join-button r y z l e x m (button_width b) h good.0 above below (omega (arith, ints, before)))
       above below (omega (arith, ints, before)))
@@ -249,34 +249,11 @@ box-frame K s r title body = around-one no_rect r
 
 -- ---- a dialog as a part of the screen
 
--- the pictures of a dialog in a place
-abbrev placed_picture : {K : Type 0} → ShownDialog K → Sight → Rect → Picture K
-placed_picture d s r =
-    followed_by (frame_picture s r d.title d.body) (buttons_picture s ((r.x +ℤ pos r.width) -ℤ pos 1) ((r.y +ℤ pos r.height) -ℤ pos 1) d.buttons)
+-- the picture of a dialog in a place
+abbrev picture_at : {K : Type 0} → ShownDialog K → Sight → Rect → Picture K
+picture_at d s r = followed_by (frame_picture s r d.title d.body) (placed_picture s (dialog_buttons d r))
 
-module _ {K : Type 0} (same_id : K → K → Bool) (law : IsLawful same_id) (clicks : K → Bool) where
-  pub box-placed : (w h s c y n m : ℕ) (P : K → Type 0) (d : ShownDialog K) → IsDialog same_id clicks P d → 2 ≤ n → 2 ≤ m
-      → Reaches (box_rect (placed_picture d (sight w h s) (at c y n m))) (pos y) m (leftmost (pos c) (pos (c + n) -ℤ pos 1) d.buttons) (pos (c + n))
-  box-placed w h s c y n m P d good wide high =
-      let r = at c y n m in
-      let full : join no_rect r ≡ r = join-from_empty no_rect r refl (is_empty-in r (omega arith) (omega arith)) in
-      rw (box-followed (frame_picture (sight w h s) r d.title d.body) (buttons_picture (sight w h s) (pos (c + n) -ℤ pos 1) ((pos y +ℤ pos m) -ℤ pos 1) d.buttons), box-frame K (sight w h s) r d.title d.body, full)
-      (join-buttons same_id clicks (sight w h s) r (pos y) ((pos y +ℤ pos m) -ℤ pos 1) (pos c) (pos (c + n)) (pos (c + n) -ℤ pos 1) m d.buttons good.buttons
-      (record { some = is_empty-in r (omega arith) (omega arith); top = refl; rows = refl; left = refl; end = refl })
-      (omega (arith, ints)) (omega (arith, ints)) (omega (arith, ints)))
-
-  rows_draw : (w h s c y n m : ℕ) (P : K → Type 0) (d : ShownDialog K) → IsDialog same_id clicks P d → c + n ≤ w → s ≤ y → y + m ≤ s + h → 2 ≤ n → 2 ≤ m
-      → DrawsStrips same_id clicks (screen w h s) (IsOneOf same_id clicks d.buttons) (placed_picture d (sight w h s) (at c y n m)) (pos y) (frame_strips w d c n m)
-  rows_draw w h s c y n m P d good fits above below wide high =
-      let last : (pos y +ℤ pos m) -ℤ pos 1 ≡ pos y +ℤ pos (m - 1) = omega (arith, ints) in
-      let title : Strip K = put_strip (c + 1) d.title (c + 1) (c + n - 1) in
-      let line_strip : List ℕ → Strip K = λ t. put_strip (c + 1) t (c + 1) (c + n - 1) in
-      draws_over same_id clicks (screen w h s) (λ i. ⊥) (IsOneOf same_id clicks d.buttons) (IsOneOf same_id clicks d.buttons) _ _ (pos y) (m - 1) _ (buttons_strip w (pos (c + n) -ℤ pos 1) d.buttons ∷ [])
-      (omega (arith, length-laid_over 1 (map line_strip (take (m - 2) d.body)) (laid_over 0 (title ∷ []) (border_strips c n m)), length-laid_over 0 (title ∷ []) (border_strips c n m), length-border K c n m high))
-      (frame_draws same_id clicks w h s c y n m d.title d.body fits above below wide high)
-      (rw last (buttons_draw same_id clicks w h s (pos (c + n) -ℤ pos 1) (pos y +ℤ pos (m - 1)) d.buttons good.buttons))
-      (λ i j p q. absurd p) (λ i p. absurd p) (λ i p. p)
-
+module _ {K : Type 0} where
   length-frame : (w c n m : ℕ) (d : ShownDialog K) → 2 ≤ m → length (frame_strips w d c n m) ≡ m
   length-frame w c n m d high =
       let title : Strip K = put_strip (c + 1) d.title (c + 1) (c + n - 1) in
@@ -289,27 +266,50 @@ module _ {K : Type 0} (same_id : K → K → Bool) (law : IsLawful same_id) (cli
   pub length-dialog : (w c n m : ℕ) (d : ShownDialog K) → 2 ≤ m → length (dialog_strips w d c n m) ≡ m
   length-dialog w c n m d high = length-map (frame_strips w d c n m) (owned d.id (is_dialog_column d c n)) ∙ length-frame w c n m d high
 
-  placed_draws : (w h s c y n m : ℕ) (P : K → Type 0) (d : ShownDialog K) → IsDialog same_id clicks P d → c + n ≤ w → s ≤ y → y + m ≤ s + h → 2 ≤ n → 2 ≤ m
-      → DrawsStrips same_id clicks (screen w h s) P (part d.id (placed_picture d (sight w h s) (at c y n m))) (pos y) (dialog_strips w d c n m)
-  placed_draws w h s c y n m P d good fits above below wide high =
-      let r = box_rect (placed_picture d (sight w h s) (at c y n m)) in
-      let box = box-placed w h s c y n m P d good wide high in
-      draws_part same_id clicks (screen w h s) (IsOneOf same_id clicks d.buttons) P d.id (placed_picture d (sight w h s) (at c y n m)) (pos y) (frame_strips w d c n m) (is_dialog_column d c n)
-      (rows_draw w h s c y n m P d good fits above below wide high)
-      (record { top = box.top; rows = box.rows ∙ sym (length-frame w c n m d high); columns = λ x p. rw (box.end, box.left) refl })
-      good.click good.own good.part good.parts
-
-  rect-is : (w h s : ℕ) (d : ShownDialog K)
-      → dialog_rect d (sight w h s) ≡ at (centred_gap w (widest_line d.body + 2) 60) (s + centred_gap h (length d.body + 2) 20) (centred_size w (widest_line d.body + 2) 60) (centred_size h (length d.body + 2) 20)
+  pub rect-is : (w h s : ℕ) (d : ShownDialog K)
+      → dialog_rect d (screen w h s) ≡ at (centred_gap w (widest_line d.body + 2) 60) (s + centred_gap h (length d.body + 2) 20) (centred_size w (widest_line d.body + 2) 60) (centred_size h (length d.body + 2) 20)
   unfolding centred_rect
   rect-is w h s d =
       let e : 0 + centred_gap w (widest_line d.body + 2) 60 ≡ centred_gap w (widest_line d.body + 2) 60 = omega arith in
       λ i. record { x = pos (e i); y = pos (s + centred_gap h (length d.body + 2) 20); width = centred_size w (widest_line d.body + 2) 60; height = centred_size h (length d.body + 2) 20 }
 
   pub dialog-is : (w h s : ℕ) (d : ShownDialog K)
-      → dialog_picture d (sight w h s) ≡ placed_picture d (sight w h s) (at (centred_gap w (widest_line d.body + 2) 60) (s + centred_gap h (length d.body + 2) 20) (centred_size w (widest_line d.body + 2) 60) (centred_size h (length d.body + 2) 20))
+      → dialog_picture d (sight w h s) ≡ picture_at d (sight w h s) (at (centred_gap w (widest_line d.body + 2) 60) (s + centred_gap h (length d.body + 2) 20) (centred_size w (widest_line d.body + 2) 60) (centred_size h (length d.body + 2) 20))
   unfolding dialog_picture
-  dialog-is w h s d = ap (placed_picture d (sight w h s)) (rect-is w h s d)
+  dialog-is w h s d = ap (picture_at d (sight w h s)) (rect-is w h s d)
+
+module _ {K : Type 0} (same_id : K → K → Bool) (law : IsLawful same_id) (clicks : K → Bool) where
+  pub box-placed : (w h s c y n m : ℕ) (P : K → Type 0) (d : ShownDialog K) → IsDialog same_id clicks P d → 2 ≤ n → 2 ≤ m
+      → Reaches (box_rect (picture_at d (sight w h s) (at c y n m))) (pos y) m (leftmost (pos c) (pos (c + n) -ℤ pos 1) d.buttons) (pos (c + n))
+  box-placed w h s c y n m P d good wide high =
+      let r = at c y n m in
+      let full : join no_rect r ≡ r = join-from_empty no_rect r refl (is_empty-in r (omega arith) (omega arith)) in
+      rw (box-followed (frame_picture (sight w h s) r d.title d.body) (placed_picture (sight w h s) (dialog_buttons d r)), box-frame K (sight w h s) r d.title d.body, full)
+      (join-buttons same_id clicks (sight w h s) r (pos y) ((pos y +ℤ pos m) -ℤ pos 1) (pos c) (pos (c + n)) (pos (c + n) -ℤ pos 1) m d.buttons good.buttons
+      (record { some = is_empty-in r (omega arith) (omega arith); top = refl; rows = refl; left = refl; end = refl })
+      (omega (arith, ints)) (omega (arith, ints)) (omega (arith, ints)))
+
+  rows_draw : (w h s c y n m : ℕ) (P : K → Type 0) (d : ShownDialog K) → IsDialog same_id clicks P d → c + n ≤ w → s ≤ y → y + m ≤ s + h → 2 ≤ n → 2 ≤ m
+      → DrawsStrips same_id clicks (screen w h s) (IsOneOf same_id clicks d.buttons) (picture_at d (sight w h s) (at c y n m)) (pos y) (frame_strips w d c n m)
+  rows_draw w h s c y n m P d good fits above below wide high =
+      let last : (pos y +ℤ pos m) -ℤ pos 1 ≡ pos y +ℤ pos (m - 1) = omega (arith, ints) in
+      let title : Strip K = put_strip (c + 1) d.title (c + 1) (c + n - 1) in
+      let line_strip : List ℕ → Strip K = λ t. put_strip (c + 1) t (c + 1) (c + n - 1) in
+      draws_over same_id clicks (screen w h s) (λ i. ⊥) (IsOneOf same_id clicks d.buttons) (IsOneOf same_id clicks d.buttons) _ _ (pos y) (m - 1) _ (buttons_strip w (pos (c + n) -ℤ pos 1) d.buttons ∷ [])
+      (omega (arith, length-laid_over 1 (map line_strip (take (m - 2) d.body)) (laid_over 0 (title ∷ []) (border_strips c n m)), length-laid_over 0 (title ∷ []) (border_strips c n m), length-border K c n m high))
+      (frame_draws same_id clicks w h s c y n m d.title d.body fits above below wide high)
+      (rw last (buttons_draw same_id clicks w h s (pos (c + n) -ℤ pos 1) (pos y +ℤ pos (m - 1)) d.buttons good.buttons))
+      (λ i j p q. absurd p) (λ i p. absurd p) (λ i p. p)
+
+  placed_draws : (w h s c y n m : ℕ) (P : K → Type 0) (d : ShownDialog K) → IsDialog same_id clicks P d → c + n ≤ w → s ≤ y → y + m ≤ s + h → 2 ≤ n → 2 ≤ m
+      → DrawsStrips same_id clicks (screen w h s) P (part d.id (picture_at d (sight w h s) (at c y n m))) (pos y) (dialog_strips w d c n m)
+  placed_draws w h s c y n m P d good fits above below wide high =
+      let r = box_rect (picture_at d (sight w h s) (at c y n m)) in
+      let box = box-placed w h s c y n m P d good wide high in
+      draws_part same_id clicks (screen w h s) (IsOneOf same_id clicks d.buttons) P d.id (picture_at d (sight w h s) (at c y n m)) (pos y) (frame_strips w d c n m) (is_dialog_column d c n)
+      (rows_draw w h s c y n m P d good fits above below wide high)
+      (record { top = box.top; rows = box.rows ∙ sym (length-frame w c n m d high); columns = λ x p. rw (box.end, box.left) refl })
+      good.click good.own good.part good.parts
 
   pub dialog_draws : (w h s : ℕ) (P : K → Type 0) (d : ShownDialog K) → IsDialog same_id clicks P d → 2 ≤ w → 2 ≤ h
       → DrawsStrips same_id clicks (screen w h s) P (part d.id (part d.id (dialog_picture d (sight w h s)))) (pos (dialog_layer w h s d).first) (dialog_layer w h s d).strips

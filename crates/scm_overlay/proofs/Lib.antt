@@ -4,8 +4,7 @@ pub mod Parts
 pub mod OpenMenus
 pub mod OverlaysPicture
 -- ---- lemmas
-pub mod CountLemmas
-pub mod ButtonRowLemmas
+pub mod PlaceLemmas
 pub mod DialogPlaceLemmas
 pub mod MenuPartsLemmas
 pub mod MenuLemmas
@@ -13,5 +12,4 @@ pub mod DialogLemmas
 pub mod RangeLemmas
 pub mod FixedLemmas
 pub mod OverlayLemmas
-pub mod OverlayRectLemmas
 pub mod OverlayOwnerLemmas

@@ -30,13 +30,13 @@ use Rattle.scm_overlay.proofs.Parts.{Part, Menus, part_of}
 use Rattle.scm_widgets.specs.Layers.{Strip, clear, over, owned}
 use Rattle.scm_widgets.specs.Blanks.{blanked, blank_strip}
 use Rattle.scm_widgets.specs.Pictures.{button_picture}
-use Rattle.scm_widgets.specs.Buttons.{button_part, button_strip, button_width}
-use Rattle.scm_overlay.specs.Menus.{header_button, header_step, item_button, widest_item, open_menu_with_column, headers_picture, items_picture, menu_picture, open_picture, menu_bar_picture, headers_strip, items_strips, open_strips, menu_strips}
+use Rattle.scm_widgets.specs.Buttons.{button_part, button_strip, button_width, placed_picture}
+use Rattle.scm_overlay.specs.Menus.{header_button, header_step, item_button, widest_item, open_menu_with_column, placed_headers, placed_items, items_picture, menu_picture, open_picture, menu_bar_picture, headers_strip, items_strips, open_strips, menu_strips}
 use Rattle.scm_overlay.proofs.OpenMenus.{HasColumns, IsOpenWide}
 use Rattle.scm_widgets.specs.Screens.{screen, sight}
 use Rattle.scm_cells.proofs.PutLemmas.{put-empty}
 use Rattle.scm_widgets.proofs.DrawsStrips.{DrawsStrips, Apart, HasBox, over-clear, draws_nothing, draws_clear, draws_both, draws_below, draws_part, draws_still, box-followed, box-part}
-use Rattle.scm_widgets.proofs.ButtonLemmas.{reach-screen, draws_row, draws_button, IsId}
+use Rattle.scm_widgets.proofs.ButtonLemmas.{reach-screen, draws_row, draws_button, IsId, box-plain_button}
 use Rattle.scm_widgets.proofs.MenuLemmas.{not-empty, in-nothing, in-row}
 
 -- ---- blanks
@@ -109,8 +109,8 @@ module _ (same_id : ComponentId → ComponentId → Bool) (law : IsLawful same_i
   item_before : (k : ℕ) → Apart same_id is_clickable (IsId (ids.MenuItem k)) (IsItem (suc k))
   item_before k i j p q = differ i j (λ e. let same : ids.MenuItem k ≡ ids.MenuItem q.0 = cc (p, q.1, e) in let n : k ≡ q.0 = cc same in absurd (omega (arith, n, q.2)))
 
-  pub headers_draw : (w h s c k : ℕ) (y : ℤ) (ms : List Menu) → DrawsStrips same_id is_clickable (screen w h s) (IsHead k) (headers_picture (sight w h s) (pos c) y k ms) y (headers_strip w c k ms ∷ [])
-  unfolding headers_picture headers_strip
+  pub headers_draw : (w h s c k : ℕ) (y : ℤ) (ms : List Menu) → DrawsStrips same_id is_clickable (screen w h s) (IsHead k) (placed_picture (sight w h s) (placed_headers (pos c) y k ms)) y (headers_strip w c k ms ∷ [])
+  unfolding placed_picture placed_headers headers_strip
   headers_draw w h s c k y [] = draws_clear same_id is_clickable (screen w h s) (IsHead k) y
   headers_draw w h s c k y (m ∷ ms) =
       draws_both same_id is_clickable (screen w h s) (IsId (ids.Menu k)) (IsHead (suc k)) (IsHead k) _ _ y y _ _ _
@@ -119,8 +119,8 @@ module _ (same_id : ComponentId → ComponentId → Bool) (law : IsLawful same_i
       (head_before k) (λ i e. (k, e, omega arith)) (λ i p. (p.0, p.1, omega (arith, p.2)))
       (λ z. line-beside (headers_strip w (c + header_step m) (suc k) ms) (button_strip w (pos c) (header_button k m)) [] y z)
 
-  pub items_draw : (w h s n c k : ℕ) (y : ℤ) (ts : List MenuItem) → DrawsStrips same_id is_clickable (screen w h s) (IsItem k) (items_picture n (sight w h s) (pos c) y k ts) y (items_strips w n c k ts)
-  unfolding items_picture items_strips
+  pub items_draw : (w h s n c k : ℕ) (y : ℤ) (ts : List MenuItem) → DrawsStrips same_id is_clickable (screen w h s) (IsItem k) (items_picture n (sight w h s) (placed_items (pos c) y k ts)) y (items_strips w n c k ts)
+  unfolding items_picture placed_items items_strips
   items_draw w h s n c k y [] = draws_nothing same_id is_clickable (screen w h s) (IsItem k) y
   items_draw w h s n c k y (t ∷ ts) =
       draws_below same_id is_clickable (screen w h s) (IsId (ids.MenuItem k)) (IsItem (suc k)) (IsItem k) _ _ y (over (button_strip w (pos c) (item_button k t)) (blank_strip c (min w (c + n))) ∷ []) (items_strips w n c (suc k) ts)
@@ -134,14 +134,6 @@ module _ (same_id : ComponentId → ComponentId → Bool) (law : IsLawful same_i
 
 -- ---- where the menu bar's box lies
 
-box-button : (w h s k : ℕ) (c y : ℤ) (m : Menu) → box_rect (button_part (header_button k m) (sight w h s) c y) ≡ join no_rect (row_rect c y (button_width (header_button k m)))
-unfolding part box_rect button_picture span_picture button_width
-box-button w h s k c y m = around-one no_rect _
-
-box-item : (w h s k : ℕ) (c y : ℤ) (t : MenuItem) → box_rect (button_part (item_button k t) (sight w h s) c y) ≡ join no_rect (row_rect c y (button_width (item_button k t)))
-unfolding part box_rect button_picture span_picture button_width
-box-item w h s k c y t = around-one no_rect _
-
 box-blank : (K : Type 0) (s : Sight) (r : Rect) → box_rect (blank_picture {K = K} s r) ≡ join no_rect r
 unfolding box_rect blank_picture
 box-blank K s r = around-one no_rect r
@@ -150,42 +142,42 @@ box-nothing : (K : Type 0) → box_rect (nothing {K = K}) ≡ no_rect
 unfolding box_rect nothing around
 box-nothing K = refl
 
-headers_in : (w h s c k : ℕ) (y : ℤ) (ms : List Menu) → IsIn (box_rect (headers_picture (sight w h s) (pos c) y k ms)) y 1 (pos 0)
-unfolding headers_picture
+headers_in : (w h s c k : ℕ) (y : ℤ) (ms : List Menu) → IsIn (box_rect (placed_picture (sight w h s) (placed_headers (pos c) y k ms))) y 1 (pos 0)
+unfolding placed_picture placed_headers
 headers_in w h s c k y [] = rw (box-nothing ComponentId) (in-nothing y 1 (pos 0))
 headers_in w h s c k y (m ∷ ms) =
-    rw (box-followed (button_part (header_button k m) (sight w h s) (pos c) y) (headers_picture (sight w h s) (pos (c + header_step m)) y (suc k) ms), box-button w h s k (pos c) y m)
+    rw (box-followed (button_part (header_button k m) (sight w h s) (pos c) y) (placed_picture (sight w h s) (placed_headers (pos (c + header_step m)) y (suc k) ms)), box-plain_button (header_button k m) (sight w h s) (pos c) y)
     (in_more _ _ y 1 (pos 0) (in-row (pos c) y (pos 0) (button_width (header_button k m)) (omega (arith, ints))) (headers_in w h s (c + header_step m) (suc k) y ms))
 
 item_span : (w h s n c k : ℕ) (y : ℤ) (t : MenuItem) → 0 < n
     → Spans (box_rect (followed_by (blank_picture (sight w h s) (row_rect (pos c) y n)) (button_part (item_button k t) (sight w h s) (pos c) y))) y 1 (pos c) (c + n)
 item_span w h s n c k y t some =
-    rw (box-followed (blank_picture (sight w h s) (row_rect (pos c) y n)) (button_part (item_button k t) (sight w h s) (pos c) y), box-blank ComponentId (sight w h s) (row_rect (pos c) y n), box-item w h s k (pos c) y t, not-empty (pos c) y n some)
+    rw (box-followed (blank_picture (sight w h s) (row_rect (pos c) y n)) (button_part (item_button k t) (sight w h s) (pos c) y), box-blank ComponentId (sight w h s) (row_rect (pos c) y n), box-plain_button (item_button k t) (sight w h s) (pos c) y, not-empty (pos c) y n some)
     (spans_in _ _ y 1 (pos c) (c + n) (omega arith) (omega (arith, ints)) (spans_row (pos c) y n (c + n) (omega (arith, ints))) (in-row (pos c) y (pos c) (button_width (item_button k t)) (omega (arith, ints))))
 
 spans_as : (r : Rect) (y : ℤ) (n m : ℕ) (l k : ℤ) (w : ℕ) → n ≡ m → l ≡ k → Spans r y n l w → Spans r y m k w
 spans_as r y n m l k w e f h = rw (e, f) at h
 
 items_span : (w h s n c k : ℕ) (y : ℤ) (t : MenuItem) (ts : List MenuItem) → 0 < n
-    → Spans (box_rect (items_picture n (sight w h s) (pos c) y k (t ∷ ts))) y (suc (length ts)) (pos c) (c + n)
-unfolding items_picture
+    → Spans (box_rect (items_picture n (sight w h s) (placed_items (pos c) y k (t ∷ ts)))) y (suc (length ts)) (pos c) (c + n)
+unfolding items_picture placed_items
 items_span w h s n c k y t [] some =
     rw (box-followed (followed_by (blank_picture (sight w h s) (row_rect (pos c) y n)) (button_part (item_button k t) (sight w h s) (pos c) y)) nothing, box-nothing ComponentId)
     (spans_in _ _ y 1 (pos c) (c + n) (omega arith) (omega (arith, ints)) (item_span w h s n c k y t some) (in-nothing y 1 (pos c)))
 items_span w h s n c k y t (u ∷ us) some =
-    rw (box-followed (followed_by (blank_picture (sight w h s) (row_rect (pos c) y n)) (button_part (item_button k t) (sight w h s) (pos c) y)) (items_picture n (sight w h s) (pos c) (y +ℤ pos 1) (suc k) (u ∷ us)))
+    rw (box-followed (followed_by (blank_picture (sight w h s) (row_rect (pos c) y n)) (button_part (item_button k t) (sight w h s) (pos c) y)) (items_picture n (sight w h s) (placed_items (pos c) (y +ℤ pos 1) (suc k) (u ∷ us))))
     (spans_as _ y (1 + suc (length us)) (suc (suc (length us))) (int_min (pos c) (pos c)) (pos c) (c + n) (omega arith) (omega (arith, places))
     (spans_more _ _ y 1 (suc (length us)) (pos c) (pos c) (c + n) (omega arith) (omega arith) (omega (arith, ints)) (omega (arith, ints)) (item_span w h s n c k y t some) (items_span w h s n c (suc k) (y +ℤ pos 1) u us some)))
 
-length-items : (w n c k : ℕ) (ts : List MenuItem) → length (items_strips w n c k ts) ≡ length ts
+pub length-items : (w n c k : ℕ) (ts : List MenuItem) → length (items_strips w n c k ts) ≡ length ts
 unfolding items_strips
 length-items w n c k [] = refl
 length-items w n c k (t ∷ ts) = ap suc (length-items w n c (suc k) ts)
 
 first_row : (w h s : ℕ) (ms : List Menu) → 0 < w
-    → Spans (box_rect (followed_by (blank_picture (sight w h s) (row_rect (pos 0) (pos s) w)) (headers_picture (sight w h s) (pos 0) (pos s) 0 ms))) (pos s) 1 (pos 0) w
+    → Spans (box_rect (followed_by (blank_picture (sight w h s) (row_rect (pos 0) (pos s) w)) (placed_picture (sight w h s) (placed_headers (pos 0) (pos s) 0 ms)))) (pos s) 1 (pos 0) w
 first_row w h s ms some =
-    rw (box-followed (blank_picture (sight w h s) (row_rect (pos 0) (pos s) w)) (headers_picture (sight w h s) (pos 0) (pos s) 0 ms), box-blank ComponentId (sight w h s) (row_rect (pos 0) (pos s) w), not-empty (pos 0) (pos s) w some)
+    rw (box-followed (blank_picture (sight w h s) (row_rect (pos 0) (pos s) w)) (placed_picture (sight w h s) (placed_headers (pos 0) (pos s) 0 ms)), box-blank ComponentId (sight w h s) (row_rect (pos 0) (pos s) w), not-empty (pos 0) (pos s) w some)
     (spans_in _ _ (pos s) 1 (pos 0) w (omega arith) (omega (arith, ints)) (spans_row (pos 0) (pos s) w w (omega (arith, ints))) (headers_in w h s 0 0 (pos s) ms))
 
 menu_span : (w h s c : ℕ) (y : ℤ) (t : MenuItem) (ts : List MenuItem) → 0 < widest_item (t ∷ ts)
@@ -194,7 +186,7 @@ unfolding menu_picture
 menu_span w h s c y t ts some = items_span w h s (widest_item (t ∷ ts)) c 0 y t ts some
 
 box-no_items : (s : Sight) (x y : ℤ) → box_rect (menu_picture [] s x y) ≡ no_rect
-unfolding menu_picture items_picture
+unfolding menu_picture items_picture placed_items
 box-no_items s x y = box-nothing ComponentId
 
 open_rows : (w h s c : ℕ) (r : Rect) (ts : List MenuItem) → 0 < w → HasColumns ts → Spans r (pos s) 1 (pos 0) w
@@ -217,7 +209,7 @@ pub bar_spans : (w h s : ℕ) (b : MenuBar) → 0 < w → IsOpenWide (open_menu_
 unfolding menu_bar_picture
 bar_spans w h s b some wide =
     let blank = blank_picture {K = ComponentId} (sight w h s) (row_rect (pos 0) (pos s) w) in
-    let heads = headers_picture (sight w h s) (pos 0) (pos s) 0 b.menus in
+    let heads = placed_picture (sight w h s) (placed_headers (pos 0) (pos s) 0 b.menus) in
     let menu = open_picture (open_menu_with_column 0 b.menus b.expanded_menu_idx) (sight w h s) (pos 0) (pos s) in
     let first = rw (box-followed blank heads) at (first_row w h s b.menus some) in
     let all : box_rect (followed_by blank (followed_by heads menu)) ≡ join (join (box_rect blank) (box_rect heads)) (box_rect menu) =

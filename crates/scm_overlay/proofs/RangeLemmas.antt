@@ -9,21 +9,22 @@ use Rattle.scm_render.specs.Canvas.{Sight}
 use Rattle.scm_render.specs.Centring.{centred_rect}
 use Rattle.scm_render.specs.Drawing.{row_rect, blank_picture, span_picture, frame_picture}
 use Rattle.scm_render.proofs.CentringLemmas.{centred-fits}
-use Rattle.scm_render.proofs.PictureLemmas.{PictureInRange-nothing, PictureInRange-followed, PictureInRange-as_part}
+use Rattle.scm_render.proofs.PictureLemmas.{PictureInRange-nothing, PictureInRange-followed, PictureInRange-right, PictureInRange-as_part}
 use Rattle.scm_widgets.specs.declared.ids.ComponentId.TheVariants as ids
 use Rattle.scm_widgets.specs.declared.button.Button.{Button}
 use Rattle.scm_overlay.specs.declared.menu.MenuItem.{MenuItem}
 use Rattle.scm_overlay.specs.declared.menu.Menu.{Menu}
 use Rattle.scm_overlay.specs.declared.menu_bar.MenuBar.{MenuBar}
 use Rattle.scm_widgets.specs.Pictures.{button_picture}
-use Rattle.scm_widgets.specs.Buttons.{button_part, button_width, buttons_picture}
-use Rattle.scm_overlay.specs.Menus.{header_button, item_button, header_step, widest_item, headers_width, open_menu_with_column, headers_picture, items_picture, menu_picture, open_picture, menu_bar_picture}
+use Rattle.scm_widgets.specs.Buttons.{button_part, button_width, placed_picture, placed_from_right, ArePlacedInRange}
+use Rattle.scm_overlay.specs.Menus.{header_button, item_button, header_step, widest_item, headers_width, open_menu_with_column, placed_headers, placed_items, items_picture, menu_picture, open_picture, menu_bar_picture}
 use Rattle.scm_widgets.specs.ShownDialogs.{ShownDialog}
-use Rattle.scm_overlay.specs.Dialogs.{dialog_rect, dialog_picture, widest_line}
+use Rattle.scm_overlay.specs.Dialogs.{dialog_rect, dialog_buttons, dialog_picture, widest_line}
 use Rattle.scm_widgets.specs.Screens.{sight}
 use Rattle.scm_overlay.proofs.Ranges.{most, IsShortMenu, IsShortBar, button_columns}
 use Rattle.scm_overlay.proofs.MenuPartsLemmas.{header-width}
 use Rattle.scm_widgets.proofs.Near.{IsNear}
+use Rattle.scm_widgets.proofs.PlacedLemmas.{placed-any}
 use Rattle.scm_widgets.specs.DrawBounds.{IsInDrawBounds, RectIsInDrawBounds}
 
 -- ---- rows and buttons
@@ -49,8 +50,8 @@ module _ {K : Type 0} where
   unfolding blank_picture
   blank-range s x y n p q r = record { areas = (row-range x y n p q r, tt) }
 
-  buttons-range : (s : Sight) (end y : ℤ) (bs : List (Button K)) → end ≤ℤ pos (2 ^ 61) → neg_ℤ (pos (2 ^ 61)) ≤ℤ (end -ℤ pos (button_columns bs)) → IsNear y → PictureInRange (buttons_picture s end y bs)
-  unfolding buttons_picture button_columns
+  buttons-range : (s : Sight) (end y : ℤ) (bs : List (Button K)) → end ≤ℤ pos (2 ^ 61) → neg_ℤ (pos (2 ^ 61)) ≤ℤ (end -ℤ pos (button_columns bs)) → IsNear y → PictureInRange (placed_picture s (placed_from_right end y bs))
+  unfolding placed_picture placed_from_right button_columns
   buttons-range s end y [] p q r = PictureInRange-nothing
   buttons-range s end y (b ∷ bs) p q r =
       PictureInRange-followed _ _ (button-range b s (end -ℤ pos (button_width b)) y (omega (arith, places)) (omega (arith, places)) r)
@@ -62,8 +63,8 @@ item-width : (k : ℕ) (t : MenuItem) → button_width (item_button k t) ≡ but
 unfolding button_width
 item-width k t = refl
 
-headers-range : (s : Sight) (x y : ℤ) (k : ℕ) (ms : List Menu) → neg_ℤ (pos (2 ^ 61)) ≤ℤ x → (x +ℤ pos (headers_width ms)) ≤ℤ pos (2 ^ 61) → IsNear y → PictureInRange (headers_picture s x y k ms)
-unfolding headers_picture headers_width
+headers-range : (s : Sight) (x y : ℤ) (k : ℕ) (ms : List Menu) → neg_ℤ (pos (2 ^ 61)) ≤ℤ x → (x +ℤ pos (headers_width ms)) ≤ℤ pos (2 ^ 61) → IsNear y → PictureInRange (placed_picture s (placed_headers x y k ms))
+unfolding placed_picture placed_headers headers_width
 headers-range s x y k [] p q r = PictureInRange-nothing
 headers-range s x y k (m ∷ ms) p q r =
     let e = header-width k m in
@@ -75,8 +76,8 @@ next-row y n p q =
     (record { low = omega (arith, places, p.low); high = omega (arith, places, q.high) }, record { low = omega (arith, places, p.low); high = omega (arith, places, q.high) })
 
 items-range : (n : ℕ) (s : Sight) (x y : ℤ) (k : ℕ) (ts : List MenuItem) → neg_ℤ (pos (2 ^ 61)) ≤ℤ x → (x +ℤ pos n) ≤ℤ pos (2 ^ 61) → widest_item ts ≤ n → IsNear y → IsNear (y +ℤ pos (length ts))
-    → PictureInRange (items_picture n s x y k ts)
-unfolding items_picture widest_item
+    → PictureInRange (items_picture n s (placed_items x y k ts))
+unfolding items_picture placed_items widest_item
 items-range n s x y k [] p q w r e = PictureInRange-nothing
 items-range n s x y k (t ∷ ts) p q w r e =
     let same = item-width k t in
@@ -134,6 +135,10 @@ bar-range w h s b p q r short =
 
 -- ---- dialogs
 
+-- a sight without a mask
+abbrev whole : Rect → Sight
+whole screen = record { rect = screen; mask = None }
+
 module _ {K : Type 0} where
   frame-range : (s : Sight) (r : Rect) (title : List ℕ) (body : List (List ℕ)) → RectInRange r → PictureInRange {K = K} (frame_picture s r title body)
   unfolding frame_picture
@@ -145,9 +150,18 @@ module _ {K : Type 0} where
   dialog-here d s r short =
       let x = centred-fits s.rect.width (widest_line d.body + 2) 60 (omega arith) in
       let y = centred-fits s.rect.height (length d.body + 2) 20 (omega arith) in
-      let place = dialog_rect d s in
+      let place = dialog_rect d s.rect in
       PictureInRange-followed _ _
       (frame-range s place d.title d.body (rect-range place (omega (arith, places, r.x.low)) (omega (arith, places, r.end_x.high, x))
       (record { low = omega (arith, places, r.y.low); high = omega (arith, places, r.end_y.high, y) }) (omega (arith, places, r.end_y.high, y))))
       (buttons-range s ((place.x +ℤ pos place.width) -ℤ pos 1) ((place.y +ℤ pos place.height) -ℤ pos 1) d.buttons
       (omega (arith, places, r.end_x.high, x)) (omega (arith, places, r.x.low, short)) (record { low = omega (arith, places, r.y.low); high = omega (arith, places, r.end_y.high, y) }))
+
+  -- the buttons of such a dialog are in range
+  pub dialog-placed : (d : ShownDialog K) (screen : Rect) → RectIsInDrawBounds screen → button_columns d.buttons ≤ 2 ^ 50 → ArePlacedInRange (dialog_buttons d (dialog_rect d screen))
+  unfolding dialog_picture
+  dialog-placed d screen r short = placed-any (whole screen) _ (PictureInRange-right _ _ (dialog-here d (whole screen) r short))
+
+-- a rectangle within the bounds is in range
+pub bounds-in : (r : Rect) → RectIsInDrawBounds r → RectInRange r
+bounds-in r b = rect-range r (omega (arith, places, b.x.low)) (omega (arith, places, b.end_x.high)) (here-near r.y b.y) (omega (arith, places, b.end_y.high))

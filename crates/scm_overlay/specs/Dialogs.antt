@@ -3,6 +3,7 @@ use Rattle.std.specs.Prelude.{ℕ, ◌+◌, ◌-◌, max, pos, ◌+ℤ◌, ◌-�
 use Rattle.std.specs.List.{concat}
 use Rattle.scm_cells.specs.Row.{put}
 use Rattle.scm_cells.specs.Clusters.{text_width}
+use Rattle.scm_cells.specs.Rect.{end_x_of, end_y_of}
 use Rattle.scm_cells.specs.declared.rect.Rect.{Rect}
 use Rattle.scm_cells.specs.declared.rect.RectSize.{RectSize}
 use Rattle.scm_render.specs.Canvas.{Sight}
@@ -11,7 +12,8 @@ use Rattle.scm_render.specs.Picture.{Picture, followed_by}
 use Rattle.scm_render.specs.Drawing.{frame_picture, body_texts}
 use Rattle.scm_overlay.specs.declared.dialog.Dialog.{Dialog}
 use Rattle.scm_widgets.specs.Layers.{Strip, Layer, laid_over, owned}
-use Rattle.scm_widgets.specs.Buttons.{buttons_picture, buttons_strip, leftmost}
+use Rattle.scm_widgets.specs.declared.placed_button.PlacedButton.{PlacedButton}
+use Rattle.scm_widgets.specs.Buttons.{buttons_strip, leftmost, placed_from_right, placed_picture}
 use Rattle.scm_widgets.specs.ShownDialogs.{ShownDialog}
 
 -- The width of the widest line, in columns.
@@ -34,16 +36,19 @@ module _ {K : Type 0} where
 
   -- ---- what they draw
 
-  -- The rectangle of a dialog, in the middle of the screen; its rows count from the document's row 0.
-  abbrev pub dialog_rect : ShownDialog K → Sight → Rect
-  dialog_rect d s = centred_rect s.rect (least_size d.body) 60 20
+  -- The rectangle of a dialog, in the middle of the part `screen` of the document.
+  abbrev pub dialog_rect : ShownDialog K → Rect → Rect
+  dialog_rect d screen = centred_rect screen (least_size d.body) 60 20
 
-  -- The frame, and the buttons on its last row, before its last column.
+  -- The buttons of a dialog in the rectangle `r`: on its last row, before its last column.
+  abbrev pub dialog_buttons : ShownDialog K → Rect → List (PlacedButton K)
+  dialog_buttons d r = placed_from_right (end_x_of r -ℤ pos 1) (end_y_of r -ℤ pos 1) d.buttons
+
+  -- The frame, and the buttons.
   unfoldable pub dialog_picture : ShownDialog K → Sight → Picture K
   dialog_picture d s =
-      let r = dialog_rect d s in
-      followed_by (frame_picture s r d.title d.body)
-      (buttons_picture s ((r.x +ℤ pos r.width) -ℤ pos 1) ((r.y +ℤ pos r.height) -ℤ pos 1) d.buttons)
+      let r = dialog_rect d s.rect in
+      followed_by (frame_picture s r d.title d.body) (placed_picture s (dialog_buttons d r))
 
   -- ---- what the screen shows of them, and who owns it
 

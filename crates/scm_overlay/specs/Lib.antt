@@ -10,7 +10,5 @@ pub mod Overlays
 pub mod Counts
 -- Overlay rectangles: rectangles over the rows of files, with their owners.
 pub mod OverlayRects
--- The areas of dialogs.
-pub mod DialogAreas
 -- Draw calls of overlays.
 pub mod OverlayCalls

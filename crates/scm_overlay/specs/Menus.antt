@@ -11,7 +11,8 @@ use Rattle.scm_overlay.specs.declared.menu.Menu.{Menu}
 use Rattle.scm_overlay.specs.declared.menu_bar.MenuBar.{MenuBar}
 use Rattle.scm_widgets.specs.Layers.{Strip, Layer, over, clear, owned}
 use Rattle.scm_widgets.specs.Blanks.{blank_strip}
-use Rattle.scm_widgets.specs.Buttons.{button_part, button_strip, button_width}
+use Rattle.scm_widgets.specs.declared.placed_button.PlacedButton.{PlacedButton}
+use Rattle.scm_widgets.specs.Buttons.{button_part, button_strip, button_width, placed_button, placed_picture}
 
 -- The header of menu `k` in the bar.
 abbrev pub header_button : ℕ → Menu → Button ComponentId
@@ -47,40 +48,49 @@ unfoldable pub headers_width : List Menu → ℕ
 headers_width [] = 0
 headers_width (m ∷ ms) = header_step m + headers_width ms
 
+-- The open menu of a bar and the column of its header, if the first header begins at column 0.
+abbrev pub open_menu : MenuBar → Option (ℕ × Menu)
+open_menu b = open_menu_with_column 0 b.menus b.expanded_menu_idx
+
+-- ---- where they stand
+
+-- Headers side by side on row `y` from column `x` on; the first one is header `k`.
+unfoldable pub placed_headers : ℤ → ℤ → ℕ → List Menu → List (PlacedButton ComponentId)
+placed_headers x y k [] = []
+placed_headers x y k (m ∷ ms) = placed_button x y (header_button k m) ∷ placed_headers (x +ℤ pos (header_step m)) y (suc k) ms
+
+-- Items one per row from row `y` on, each from column `x` on; the first one is item `k`.
+unfoldable pub placed_items : ℤ → ℤ → ℕ → List MenuItem → List (PlacedButton ComponentId)
+placed_items x y k [] = []
+placed_items x y k (t ∷ ts) = placed_button x y (item_button k t) ∷ placed_items x (y +ℤ pos 1) (suc k) ts
+
+-- The items of the open menu, below its header, if the first header begins at column `x` of row `y`.
+abbrev pub placed_open : ℤ → ℤ → Option (ℕ × Menu) → List (PlacedButton ComponentId)
+placed_open x y None = []
+placed_open x y (Some m) = placed_items (x +ℤ pos m.0) (y +ℤ pos 1) 0 m.1.items
+
 -- ---- what they draw
 
--- Headers side by side from column `x` on; the first one is header `k`.
-unfoldable pub headers_picture : Sight → ℤ → ℤ → ℕ → List Menu → Picture ComponentId
-headers_picture s x y k [] = nothing
-headers_picture s x y k (m ∷ ms) =
-    followed_by (button_part (header_button k m) s x y) (headers_picture s (x +ℤ pos (header_step m)) y (suc k) ms)
-
--- Items one per row, each on `n` spaces; the first one is item `k`.
-unfoldable pub items_picture : ℕ → Sight → ℤ → ℤ → ℕ → List MenuItem → Picture ComponentId
-items_picture n s x y k [] = nothing
-items_picture n s x y k (t ∷ ts) =
-    followed_by (followed_by (blank_picture s (row_rect x y n)) (button_part (item_button k t) s x y))
-    (items_picture n s x (y +ℤ pos 1) (suc k) ts)
+-- Items in their places, each on `n` spaces.
+unfoldable pub items_picture : ℕ → Sight → List (PlacedButton ComponentId) → Picture ComponentId
+items_picture n s [] = nothing
+items_picture n s (p ∷ ps) =
+    followed_by (followed_by (blank_picture s (row_rect p.rect.x p.rect.y n)) (button_part p.button s p.rect.x p.rect.y)) (items_picture n s ps)
 
 -- A menu: its items, each on spaces as wide as the widest item.
 unfoldable pub menu_picture : List MenuItem → Sight → ℤ → ℤ → Picture ComponentId
-menu_picture items s x y = items_picture (widest_item items) s x y 0 items
+menu_picture items s x y = items_picture (widest_item items) s (placed_items x y 0 items)
 
 -- The open menu, below its header.
 abbrev pub open_picture : Option (ℕ × Menu) → Sight → ℤ → ℤ → Picture ComponentId
 open_picture None s x y = nothing
 open_picture (Some m) s x y = part ids.MenuHeader (menu_picture m.1.items s (x +ℤ pos m.0) (y +ℤ pos 1))
 
--- The first menu, below row `y`; nothing if there is no menu.
-abbrev pub first_menu_picture : List Menu → Sight → ℤ → ℤ → Picture ComponentId
-first_menu_picture [] s x y = nothing
-first_menu_picture (m ∷ ms) s x y = part ids.MenuHeader (menu_picture m.items s x (y +ℤ pos 1))
-
 -- Spaces on the screen's first row, the headers, and the open menu below its header.
 unfoldable pub menu_bar_picture : MenuBar → Sight → ℤ → ℤ → Picture ComponentId
 menu_bar_picture b s x y =
     followed_by (blank_picture s (row_rect s.rect.x s.rect.y s.rect.width))
-    (followed_by (headers_picture s x y 0 b.menus) (open_picture (open_menu_with_column 0 b.menus b.expanded_menu_idx) s x y))
+    (followed_by (placed_picture s (placed_headers x y 0 b.menus)) (open_picture (open_menu b) s x y))
 
 -- ---- what the screen shows of them, and its owners
 

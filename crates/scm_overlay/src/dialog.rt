@@ -1,21 +1,20 @@
-//! Dialogs: their area on the screen, their overlay rectangles and their drawing.
-ghost use Rattle.std.specs.Prelude.{◌≡◌, ◌<◌, ◌≤◌, ◌+◌, ◌^◌, min, ◌++◌, OnOk, IfOk};
-ghost use Rattle.scm_types.specs.Limits.{max_scroll};
-ghost use Rattle.scm_overlay.specs.Dialogs.{shown_dialog as as_shown};
-ghost use Rattle.scm_overlay.specs.OverlayRects.{dialog_run, dialog_rects};
-ghost use Rattle.scm_overlay.specs.DialogAreas.{dialog_area};
+//! Dialogs: their place on the screen, their overlay rectangles and their drawing.
+ghost use Rattle.std.specs.Prelude.{◌≡◌, ◌++◌, OnOk, IfOk};
 ghost use Rattle.scm_cells.specs.Rect.{RectInRange};
 ghost use Rattle.scm_render.specs.Centring.{centred_rect};
 ghost use Rattle.scm_render.specs.Drawing.{body_texts};
-ghost use Rattle.scm_overlay.specs.Dialogs.{widest_line, least_size};
+ghost use Rattle.scm_widgets.specs.Buttons.{ArePlacedInRange};
+ghost use Rattle.scm_overlay.specs.Dialogs.{dialog_buttons, dialog_rect, least_size, shown_dialog as as_shown, widest_line};
+ghost use Rattle.scm_overlay.specs.OverlayRects.{dialog_rects, dialog_run, least_column};
 
-use crate::button_row::{draw_buttons, least_left, push_buttons};
-use scm_cells::{Rect, RectSize, text_width};
-use scm_render::{Component, Viewport, centered_rect, centred_gap, centred_size};
+use crate::button_row::place_from_right;
+use scm_cells::{Rect, RectSize, gap, text_width};
+use scm_render::{Component, Viewport, centered_rect};
 use scm_types::{RecordError, Text};
 use scm_widgets::button::Button;
 use scm_widgets::ids::ComponentId;
-use scm_widgets::overlay_rects::{OverlayRect, shift};
+use scm_widgets::overlay_rects::OverlayRect;
+use scm_widgets::placed_button::{PlacedButton, draw_buttons, push_buttons};
 use std::alloc::{AllocError, Global};
 use std::hash::Hash;
 
@@ -24,13 +23,13 @@ use std::hash::Hash;
 /// needs more and the screen has room.
 #[derive(Drop)]
 pub struct Dialog<'a, Id> {
-    /// The id of the dialog.
+    /// Its id.
     pub id: Id,
-    /// The title of the dialog, on its first row.
+    /// Its title.
     pub title: Text<'a>,
-    /// The lines of the dialog's body, from the top.
+    /// The lines of its body, from the top.
     pub body: &'a [&'a str],
-    /// The buttons of the dialog, from the right.
+    /// Its buttons, from the right.
     pub buttons: &'a [Button<'a, Id>],
 }
 
@@ -58,78 +57,60 @@ fn dialog_place(rect: Rect, lines: &[&str]) -> Rect
     centered_rect(rect, least, 60, 20)
 }
 
-/// The rectangle of a dialog: its columns on the screen, and its rows in the document.
-#[derive(Clone, Copy)]
-struct DialogArea {
-    /// Its first column, counted from 0.
-    left: usize,
-    /// Its width, in columns.
-    width: usize,
-    /// Its first row, counted from the document's row 0.
-    top: usize,
-    /// Its height, in rows.
-    height: usize,
+/// Returns the least first column of `buttons`, or `first` if that is less.
+fn least_column(first: isize, buttons: &[PlacedButton<'_, ComponentId>]) -> isize
+    ensures { result ≡ least_column first buttons.now }
+{
+    let mut least = first;
+    for placed in buttons {
+        least = least.min(placed.rect.x);
+    }
+    least
 }
 
-/// Returns `size`, at most 65,535, and a border of one cell on both sides.
-fn bordered(size: usize) -> usize
-    ensures { result ≡ min size 65535 + 2 }
-{
-    size.min(65_535) + 2
-}
-
-/// Returns the area of a dialog with the body `lines`. The screen has `width` columns and `height`
-/// rows; its first row shows row `row` of the document.
-#[tactic(auto, using(scm_types::proofs::LimitLemmas::scroll_room))]
-fn dialog_area(width: u16, height: u16, row: usize, lines: &[&str]) -> DialogArea
-    requires { row ≤ max_scroll }
-    ensures place { result ≡ dialog_area width height row (body_texts lines.now) }
-    ensures right { result.left + result.width ≤ 2 ^ 17 }
-    ensures below { result.top + result.height ≤ 2 ^ 42 }
-{
-    let (columns, rows) = (usize::from(width), usize::from(height));
-    let (widest, longest) = (bordered(widest_line(lines)), bordered(lines.len()));
-    DialogArea {
-        left: centred_gap(columns, widest, 60),
-        width: centred_size(columns, widest, 60),
-        top: row + centred_gap(rows, longest, 20),
-        height: centred_size(rows, longest, 20),
+impl<'a, Id: Copy + Drop> Dialog<'a, Id> {
+    /// Places the buttons of the dialog, whose rectangle is `place`: on its last row, before its
+    /// last column.
+    fn place_buttons(
+        &self,
+        alloc: Global,
+        place: Rect,
+    ) -> Result<Vec<PlacedButton<'a, Id>>, AllocError>
+        requires place { RectInRange place }
+        requires buttons { ArePlacedInRange (dialog_buttons (as_shown self.now) place) }
+        ensures ok { IfOk result (λ placed.
+            placed.items ≡ dialog_buttons (as_shown self.now) place) }
+    {
+        place_from_right(alloc, place.end_x() - 1, place.end_y() - 1, self.buttons)
     }
 }
 
 impl<'a> Dialog<'a, ComponentId> {
-    /// Adds the rectangles of the dialog and of its buttons to `rects`. Returns the dialog's first
-    /// row and its end row (exclusive). The screen has `width` columns and `height` rows; its first
-    /// row shows row `row` of the document.
-    ///
-    /// # Errors
-    /// `AllocError`: an allocation failed.
-    #[tactic(auto, using(scm_types::proofs::LimitLemmas::scroll_room))]
+    /// Adds the rectangles of the dialog and of its buttons. Returns the dialog's first row and its
+    /// end row (exclusive). The screen shows the part `screen` of the document.
     pub fn push_rects(
         &self,
+        alloc: Global,
         rects: &mut Vec<OverlayRect>,
-        width: u16,
-        height: u16,
-        row: usize,
+        screen: Rect,
     ) -> Result<(usize, usize), AllocError>
-        requires { row ≤ max_scroll }
-        ensures rows { IfOk result (λ r. r ≡ dialog_run width height row (as_shown self.now)) }
-        ensures ok { OnOk result (rects.new.items
-            ≡ rects.old.items ++ dialog_rects width height row (as_shown self.now)) }
+        requires screen { RectInRange screen }
+        requires buttons { ArePlacedInRange
+            (dialog_buttons (as_shown self.now) (dialog_rect (as_shown self.now) screen)) }
+        ensures rows { IfOk result (λ r. r ≡ dialog_run screen (as_shown self.now)) }
+        ensures ok { OnOk result
+            (rects.new.items ≡ rects.old.items ++ dialog_rects screen (as_shown self.now)) }
     {
-        let place = dialog_area(width, height, row, self.body);
-        let right = shift(place.left + place.width);
-        let end = place.top + place.height;
-        let left = least_left(shift(place.left), right - 1, self.buttons)?;
+        let place = dialog_place(screen, self.body);
+        let buttons = self.place_buttons(alloc, place)?;
+        let x = least_column(place.x, buttons.as_slice());
+        let width = gap(x, place.end_x());
         rects.push(OverlayRect {
             id: self.id,
-            top: place.top,
-            end,
-            left,
-            right,
+            rect: Rect { x, width, ..place },
         })?;
-        push_buttons(rects, end.saturating_sub(1), right - 1, self.buttons)?;
-        Ok((place.top, end))
+        push_buttons(rects, buttons.as_slice())?;
+        Ok((gap(0, place.y), gap(0, place.end_y())))
     }
 }
 
@@ -162,7 +143,8 @@ impl<'a, Id: Copy + Eq + Hash + Drop> Component for Dialog<'a, Id> {
     ) -> Result<(), RecordError> {
         let place = dialog_place(viewport.rect(), self.body);
         viewport.draw_frame(place, self.title.as_str(), self.body)?;
-        draw_buttons(viewport, place.end_x() - 1, place.end_y() - 1, self.buttons)?;
+        let buttons = self.place_buttons(alloc, place)?;
+        draw_buttons(viewport, buttons.as_slice())?;
         Ok(())
     }
 }

@@ -1,11 +1,13 @@
 //! The dialog with the keyboard shortcuts.
-ghost use Rattle.std.specs.Prelude.{◌≡◌, ◌≤◌, ◌++◌, OnOk, IfOk};
-ghost use Rattle.scm_types.specs.Limits.{max_scroll};
+ghost use Rattle.std.specs.Prelude.{◌≡◌, ◌++◌, OnOk, IfOk};
 ghost use Rattle.scm_render.specs.Drawing.{body_texts};
 ghost use Rattle.scm_overlay.specs.Tables.{help_lines, close_button, help_dialog as shown_help};
-ghost use Rattle.scm_overlay.specs.OverlayRects.{dialog_run, dialog_rects};
+ghost use Rattle.scm_widgets.specs.DrawBounds.{RectIsInDrawBounds};
+ghost use Rattle.scm_overlay.specs.Dialogs.{shown_dialog as as_shown};
+ghost use Rattle.scm_overlay.specs.OverlayRects.{dialog_rects, dialog_run};
 
 use crate::dialog::Dialog;
+use scm_cells::Rect;
 use scm_render::{Component, Viewport};
 use scm_types::{RecordError, Text};
 use scm_widgets::button::Button;
@@ -57,32 +59,32 @@ fn close_button() -> Button<'static, ComponentId>
 }
 
 impl HelpDialog {
-    /// Adds the rectangles of the dialog and of its button to `rects`. Returns the dialog's first
-    /// row and its end row (exclusive). The screen has `width` columns and `height` rows; its first
-    /// row shows row `row` of the document.
-    ///
-    /// # Errors
-    /// `AllocError`: an allocation failed.
-    #[tactic(auto, using(scm_types::proofs::LimitLemmas::scroll_room))]
-    pub fn push_rects(
-        &self,
-        rects: &mut Vec<OverlayRect>,
-        width: u16,
-        height: u16,
-        row: usize,
-    ) -> Result<(usize, usize), AllocError>
-        requires { row ≤ max_scroll }
-        ensures rows { IfOk result (λ r. r ≡ dialog_run width height row shown_help) }
-        ensures ok { OnOk result (rects.new.items
-            ≡ rects.old.items ++ dialog_rects width height row shown_help) }
+    /// Returns the dialog with the button `buttons`.
+    fn dialog<'b>(&self, buttons: &'b [Button<'b, ComponentId>]) -> Dialog<'b, ComponentId>
+        ensures { as_shown result ≡ record shown_help { buttons = buttons.now } }
     {
-        let dialog = Dialog {
+        Dialog {
             id: ComponentId::HelpDialog,
             title: Text::from("Help"),
             body: help_lines(),
-            buttons: &[close_button()],
-        };
-        dialog.push_rects(rects, width, height, row)
+            buttons,
+        }
+    }
+
+    /// Adds the rectangles of the dialog and of its button. Returns the dialog's first row and its
+    /// end row (exclusive). The screen shows the part `screen` of the document.
+    pub fn push_rects(
+        &self,
+        alloc: Global,
+        rects: &mut Vec<OverlayRect>,
+        screen: Rect,
+    ) -> Result<(usize, usize), AllocError>
+        requires { RectIsInDrawBounds screen }
+        ensures rows { IfOk result (λ r. r ≡ dialog_run screen shown_help) }
+        ensures ok { OnOk result (rects.new.items ≡ rects.old.items ++ dialog_rects screen shown_help) }
+    {
+        self.dialog(&[close_button()])
+            .push_rects(alloc, rects, screen)
     }
 }
 
@@ -112,13 +114,7 @@ impl Component for HelpDialog {
         x: isize,
         y: isize,
     ) -> Result<(), RecordError> {
-        let dialog = Dialog {
-            id: ComponentId::HelpDialog,
-            title: Text::from("Help"),
-            body: help_lines(),
-            buttons: &[close_button()],
-        };
-        viewport.draw_component(x, y, &dialog)?;
+        viewport.draw_component(x, y, &self.dialog(&[close_button()]))?;
         Ok(())
     }
 }

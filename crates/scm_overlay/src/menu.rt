@@ -1,14 +1,14 @@
 //! A menu of the menu bar: its header and its items.
-ghost use Rattle.std.specs.Prelude.{◌≡◌, ◌+◌, ◌<◌, ◌^◌, ◌++◌, length, IfOk, OnOk};
-ghost use Rattle.scm_overlay.specs.Menus.{header_button, item_button, widest_item};
-ghost use Rattle.scm_overlay.specs.OverlayRects.{menu_item_rects};
+ghost use Rattle.std.specs.Prelude.{◌≡◌, ◌++◌, IfOk, OnOk};
+ghost use Rattle.scm_widgets.specs.Buttons.{ArePlacedInRange};
+ghost use Rattle.scm_overlay.specs.Menus.{header_button, item_button, placed_items, widest_item};
 
 use scm_cells::Rect;
 use scm_render::{Component, Viewport};
 use scm_types::{Items, RecordError, Text};
 use scm_widgets::button::{Button, button_width};
 use scm_widgets::ids::ComponentId;
-use scm_widgets::overlay_rects::{OverlayRect, row_overlay_rect, shift};
+use scm_widgets::placed_button::PlacedButton;
 use std::alloc::{AllocError, Global};
 
 /// An item of a menu.
@@ -67,27 +67,21 @@ fn widest_item(items: &[MenuItem<'_>]) -> Result<usize, AllocError>
     Ok(widest)
 }
 
-/// Adds the rectangles of `items`, one per row from row `top` on. Each begins at column `left`.
-pub(crate) fn push_items(
-    rects: &mut Vec<OverlayRect>,
-    top: usize,
-    left: usize,
-    items: &[MenuItem<'_>],
+/// Adds `items` in their places to `placed`: one per row from row `y` on, each from column `x` on.
+pub(crate) fn place_items<'m>(
+    placed: &mut Vec<PlacedButton<'m, ComponentId>>,
+    x: isize,
+    y: isize,
+    items: &'m [MenuItem<'_>],
 ) -> Result<(), AllocError>
-    requires columns { left + widest_item items.now < 2 ^ 62 }
-    requires rows { top + length items.now < 2 ^ 62 }
-    ensures ok { OnOk result
-        (rects.new.items ≡ rects.old.items ++ menu_item_rects top left 0 items.now) }
+    requires { ArePlacedInRange (placed_items x y 0 items.now) }
+    ensures ok { OnOk result (placed.new.items ≡ placed.old.items ++ placed_items x y 0 items.now) }
 {
-    let mut row = top;
+    let mut row = y;
     for (item_idx, item) in items.iter().enumerate() {
-        let right = left + button_width(&item.button(item_idx))?;
-        rects.push(row_overlay_rect(
-            ComponentId::MenuItem(item_idx),
-            row,
-            shift(left),
-            shift(right),
-        ))?;
+        let button = item.button(item_idx);
+        let width = button_width(&button)?;
+        placed.push(PlacedButton::new(x, row, width, button))?;
         row += 1;
     }
     Ok(())
@@ -121,16 +115,17 @@ impl<'a> Component for Menu<'a> {
         y: isize,
     ) -> Result<(), RecordError> {
         let width = widest_item(self.items.as_slice())?;
-        let mut row = y;
-        for (item_idx, item) in self.items.as_slice().iter().enumerate() {
+        let mut items = Vec::new(alloc);
+        place_items(&mut items, x, y, self.items.as_slice())?;
+        for item in &items {
+            let place = item.rect;
             viewport.draw_blank(Rect {
-                x,
-                y: row,
+                x: place.x,
+                y: place.y,
                 width,
                 height: 1,
             })?;
-            viewport.draw_component(x, row, &item.button(item_idx))?;
-            row += 1;
+            viewport.draw_component(place.x, place.y, &item.button)?;
         }
         Ok(())
     }

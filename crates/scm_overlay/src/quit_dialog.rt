@@ -1,11 +1,14 @@
 //! The quit dialog: it asks whether to quit and give up the changes.
-ghost use Rattle.std.specs.Prelude.{◌≡◌, codes, IfOk, string_bytes, ◌≤◌, ◌++◌, OnOk};
-ghost use Rattle.scm_types.specs.Limits.{max_scroll};
-ghost use Rattle.scm_overlay.specs.Tables.{count_text, changes_text, quit_text, quit_button, go_back_button, quit_dialog as shown_quit};
+ghost use Rattle.std.specs.Prelude.{◌≡◌, codes, IfOk, string_bytes, ◌++◌, OnOk};
+ghost use Rattle.scm_render.specs.Drawing.{body_texts};
+ghost use Rattle.scm_widgets.specs.DrawBounds.{RectIsInDrawBounds};
 ghost use Rattle.scm_widgets.specs.QuitButtons.{is_quit, is_go_back};
-ghost use Rattle.scm_overlay.specs.OverlayRects.{dialog_run, dialog_rects};
+ghost use Rattle.scm_overlay.specs.Dialogs.{shown_dialog as as_shown};
+ghost use Rattle.scm_overlay.specs.OverlayRects.{dialog_rects, dialog_run};
+ghost use Rattle.scm_overlay.specs.Tables.{count_text, changes_text, quit_text, quit_button, go_back_button, quit_dialog as shown_quit};
 
 use crate::dialog::Dialog;
+use scm_cells::Rect;
 use scm_render::{Component, Viewport};
 use scm_types::{RecordError, Text};
 use scm_widgets::button::Button;
@@ -82,37 +85,44 @@ impl QuitDialog {
             is_focused: self.focused_button.is_go_back(),
         }
     }
-}
 
-impl QuitDialog {
-    /// Adds the rectangles of the dialog and of its buttons to `rects`. Returns the dialog's first
-    /// row and its end row (exclusive). The screen has `width` columns and `height` rows; its first
-    /// row shows row `row` of the document.
-    ///
-    /// # Errors
-    /// `AllocError`: an allocation failed.
-    #[tactic(auto, using(scm_types::proofs::LimitLemmas::scroll_room))]
+    /// Returns the dialog with the lines `body` and the buttons `buttons`.
+    fn dialog<'b>(
+        &self,
+        body: &'b [&'b str],
+        buttons: &'b [Button<'b, ComponentId>],
+    ) -> Dialog<'b, ComponentId>
+        ensures { as_shown result ≡ record (shown_quit self.now) {
+          body = body_texts body.now;
+          buttons = buttons.now;
+        } }
+    {
+        Dialog {
+            id: ComponentId::QuitDialog,
+            title: Text::from("Quit"),
+            body,
+            buttons,
+        }
+    }
+
+    /// Adds the rectangles of the dialog and of its buttons. Returns the dialog's first row and its
+    /// end row (exclusive). The screen shows the part `screen` of the document.
     pub fn push_rects(
         &self,
         alloc: Global,
         rects: &mut Vec<OverlayRect>,
-        width: u16,
-        height: u16,
-        row: usize,
+        screen: Rect,
     ) -> Result<(usize, usize), AllocError>
-        requires { row ≤ max_scroll }
-        ensures rows { IfOk result (λ r. r ≡ dialog_run width height row (shown_quit self.now)) }
-        ensures ok { OnOk result (rects.new.items
-            ≡ rects.old.items ++ dialog_rects width height row (shown_quit self.now)) }
+        requires { RectIsInDrawBounds screen }
+        ensures rows { IfOk result (λ r. r ≡ dialog_run screen (shown_quit self.now)) }
+        ensures ok { OnOk result
+            (rects.new.items ≡ rects.old.items ++ dialog_rects screen (shown_quit self.now)) }
     {
         let text = self.text(alloc)?;
-        let dialog = Dialog {
-            id: self.id(),
-            title: Text::from("Quit"),
-            body: &[text.as_str()],
-            buttons: &[self.quit_button(), self.go_back_button()],
-        };
-        dialog.push_rects(rects, width, height, row)
+        let body = [text.as_str()];
+        let buttons = [self.quit_button(), self.go_back_button()];
+        let dialog = self.dialog(&body, &buttons);
+        dialog.push_rects(alloc, rects, screen)
     }
 }
 
@@ -143,12 +153,9 @@ impl Component for QuitDialog {
         y: isize,
     ) -> Result<(), RecordError> {
         let text = self.text(alloc)?;
-        let dialog = Dialog {
-            id: ComponentId::QuitDialog,
-            title: Text::from("Quit"),
-            body: &[text.as_str()],
-            buttons: &[self.quit_button(), self.go_back_button()],
-        };
+        let body = [text.as_str()];
+        let buttons = [self.quit_button(), self.go_back_button()];
+        let dialog = self.dialog(&body, &buttons);
         viewport.draw_component(x, y, &dialog)?;
         Ok(())
     }

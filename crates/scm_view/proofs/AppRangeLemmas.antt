@@ -20,7 +20,8 @@ use Rattle.scm_view.specs.ViewState.{ViewState}
 use Rattle.scm_document.specs.ScrollBounds.{IsInScrollBounds, SightIsInScrollBounds}
 use Rattle.scm_overlay.specs.Menus.{menu_bar_picture}
 use Rattle.scm_overlay.specs.Tables.{menus_with, quit_dialog, help_dialog, named_dialog_picture}
-use Rattle.scm_widgets.specs.Screens.{sight}
+use Rattle.scm_widgets.specs.DrawBounds.{RectIsInDrawBounds}
+use Rattle.scm_widgets.specs.Screens.{screen, sight}
 use Rattle.scm_overlay.specs.Overlays.{quit_picture, help_picture}
 use Rattle.scm_document.specs.ViewColumns.{view_count, view_width, view_mask, view_picture, next_view}
 use Rattle.scm_view.specs.AppView.{shown_views, views_picture, has_help, app_picture, ShowInOrder, ShowsSession}
@@ -86,20 +87,23 @@ first-columns l h = omega (arith, places, h)
 
 -- ---- what lies over them
 
-bar-in : (w h s : ℕ) (b : MenuBar) (menu : Option ℕ) → b ≡ menus_with menu → w ≤ 65535 → h ≤ 65535 → s ≤ max_scroll → PictureInRange (menu_bar_picture b (sight w h s) (pos 0) (pos s))
+pub screen-in : (w h s : ℕ) → w ≤ 65535 → h ≤ 65535 → s ≤ max_scroll → RectIsInDrawBounds (screen w h s)
+screen-in w h s pw ph ps = screen-here w h s (omega (arith, pw)) (omega (arith, ph)) (omega (arith, ps, scroll_room))
+
+pub bar-in : (w h s : ℕ) (b : MenuBar) (menu : Option ℕ) → b ≡ menus_with menu → w ≤ 65535 → h ≤ 65535 → s ≤ max_scroll → PictureInRange (menu_bar_picture b (sight w h s) (pos 0) (pos s))
 bar-in w h s b menu e pw ph ps = bar-range w h s b (omega (arith, pw)) (omega (arith, ph)) (omega (arith, ps, scroll_room)) (rw e (short_bar menu))
 
 quit-in : (w h s : ℕ) (q : Option QuitDialog) → w ≤ 65535 → h ≤ 65535 → s ≤ max_scroll → PictureInRange (quit_picture q (sight w h s))
 unfolding named_dialog_picture
 quit-in w h s None pw ph ps = PictureInRange-nothing
 quit-in w h s (Some q) pw ph ps =
-    PictureInRange-as_part ids.QuitDialog _ (PictureInRange-as_part ids.QuitDialog _ (dialog-here (quit_dialog q) (sight w h s) (screen-here w h s (omega (arith, pw)) (omega (arith, ph)) (omega (arith, ps, scroll_room))) (omega (arith, short_quit q))))
+    PictureInRange-as_part ids.QuitDialog _ (PictureInRange-as_part ids.QuitDialog _ (dialog-here (quit_dialog q) (sight w h s) (screen-in w h s pw ph ps) (omega (arith, short_quit q))))
 
 help-in : (w h s : ℕ) (is_shown : Bool) → w ≤ 65535 → h ≤ 65535 → s ≤ max_scroll → PictureInRange (help_picture is_shown (sight w h s))
 unfolding named_dialog_picture
 help-in w h s false pw ph ps = PictureInRange-nothing
 help-in w h s true pw ph ps =
-    PictureInRange-as_part ids.HelpDialog _ (PictureInRange-as_part ids.HelpDialog _ (dialog-here help_dialog (sight w h s) (screen-here w h s (omega (arith, pw)) (omega (arith, ph)) (omega (arith, ps, scroll_room))) (omega (arith, short_help))))
+    PictureInRange-as_part ids.HelpDialog _ (PictureInRange-as_part ids.HelpDialog _ (dialog-here help_dialog (sight w h s) (screen-in w h s pw ph ps) (omega (arith, short_help))))
 
 pub apps-in-range : (shown : ViewState) (a : AppView) (w h s : ℕ) (y : ℤ) → is_accepted_state shown.state ≡ true → ShowsSession a shown → w ≤ 65535 → h ≤ 65535 → s ≤ max_scroll
     → PictureInRange (part ids.App (app_picture a (sight w h s) (pos 0) y))

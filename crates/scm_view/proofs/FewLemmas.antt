@@ -19,8 +19,8 @@ use Rattle.scm_document.specs.Rows.{DocRow, HeaderRow, SectionRow, LineRow, Mark
 use Rattle.scm_document.specs.Pictures.{mask_row, is_pinned, no_files_place}
 use Rattle.scm_widgets.specs.Counts.{drawn, on_row}
 use Rattle.scm_document.specs.Counts.{row_calls, rows_counts, header_counts, sections_counts, file_counts, pinned_counts, files_counts, message_counts, document_counts}
-use Rattle.scm_overlay.specs.Counts.{first_calls, bar_calls, quit_calls, help_calls}
-use Rattle.scm_overlay.specs.Menus.{menus_before}
+use Rattle.scm_overlay.specs.Counts.{open_calls, bar_calls, quit_calls, help_calls}
+use Rattle.scm_overlay.specs.Menus.{open_menu_with_column}
 use Rattle.scm_overlay.specs.Tables.{all_menus, menus_with}
 use Rattle.scm_widgets.specs.Screens.{sight}
 use Rattle.scm_document.specs.declared.commit_view.CommitViewMode.TheVariants.{Inline}
@@ -199,16 +199,18 @@ document-few d s y = go (length d.files == 0) refl
 -- ---- all that is shown
 
 -- an open menu has at most nine items
-menu-few : (n : ℕ) → first_calls (drop n all_menus) ≤ 18
-menu-few zero = omega arith
-menu-few (suc zero) = omega arith
-menu-few (suc (suc zero)) = omega arith
-menu-few (suc (suc (suc zero))) = omega arith
-menu-few (suc (suc (suc (suc n)))) = rw (drop_all {X = Menu} n [] (omega arith)) (omega arith)
+menu-few : (k : Option ℕ) → open_calls (open_menu_with_column 0 all_menus k) ≤ 18
+unfolding open_menu_with_column
+menu-few None = omega arith
+menu-few (Some zero) = omega arith
+menu-few (Some (suc zero)) = omega arith
+menu-few (Some (suc (suc zero))) = omega arith
+menu-few (Some (suc (suc (suc zero)))) = omega arith
+menu-few (Some (suc (suc (suc (suc n))))) = omega arith
 
 bar-few : (m : Option ℕ) → bar_calls (menus_with m) ≤ 23
 unfolding bar_calls
-bar-few m = omega (arith, menu-few (menus_before m 4))
+bar-few m = omega (arith, menu-few m)
 
 quit-few : (q : Option QuitDialog) → quit_calls q ≤ 3
 quit-few None = omega arith

@@ -6,8 +6,10 @@ use Rattle.std.proofs.lemmas.Bool.Decides.{nat_tests}
 use Rattle.std.proofs.lemmas.Int.{ints}
 use Rattle.std.proofs.lemmas.List.{length-append}
 use Rattle.std.specs.List.{flat_map}
-use Rattle.scm_types.specs.Limits.{is_accepted_state}
+use Rattle.scm_types.specs.Limits.{is_accepted_state, max_text}
 use Rattle.scm_types.specs.declared.keys.SelectionKey.{SelectionKey}
+use Rattle.scm_cells.specs.Rect.{end_y_of, or_zero}
+use Rattle.scm_cells.specs.declared.rect.Rect.{Rect}
 use Rattle.scm_render.specs.Hits.{first_of_two}
 use Rattle.scm_render.specs.Lines.{line}
 use Rattle.scm_render.proofs.LineLemmas.{line-above}
@@ -22,7 +24,8 @@ use Rattle.scm_widgets.specs.declared.overlay_rects.OverlayRect.{OverlayRect}
 use Rattle.scm_overlay.specs.declared.quit_dialog.QuitDialog.{QuitDialog}
 use Rattle.scm_document.specs.declared.index_pieces.FilePiece.{FilePiece}
 use Rattle.scm_document.specs.declared.index_pieces.SectionPiece.{SectionPiece}
-use Rattle.scm_widgets.specs.Layers.{Strip, Layer, clear, strip_at, owned_by, end_of, rows_around}
+use Rattle.scm_widgets.specs.Layers.{Strip, Layer, clear, is_within, strip_at, owned_by, end_of, rows_around}
+use Rattle.scm_widgets.specs.Screens.{screen}
 use Rattle.scm_document.specs.Rows.{Document, document_of, shown_file, file_rows, message_height}
 use Rattle.scm_view.specs.ViewState.{ViewState, Shows}
 use Rattle.scm_view.specs.AppView.{ShowInOrder, has_help}
@@ -32,22 +35,23 @@ use Rattle.scm_document.specs.Places.{places}
 use Rattle.scm_view.specs.Window.{IsPlain, body_layers, owner, span, extent}
 use Rattle.scm_document.specs.DocumentRows.{rows_layers, rows_of_key}
 use Rattle.scm_overlay.specs.Overlays.{overlays, quit_layers, help_layers}
-use Rattle.scm_overlay.specs.Menus.{menu_layer, open_menu_with_column}
+use Rattle.scm_overlay.specs.Menus.{menu_layer, open_menu}
 use Rattle.scm_overlay.specs.Tables.{menus_with, quit_dialog, help_dialog}
-use Rattle.scm_widgets.specs.OverlayRects.{is_from, overlay_owner, shift}
+use Rattle.scm_widgets.specs.OverlayRects.{is_from, overlay_owner}
 use Rattle.scm_document.specs.PieceOwners.{files_owner, rows_owner, sections_owner}
 use Rattle.scm_document.specs.Pieces.{piece_places, files_pieces}
 use Rattle.scm_document.specs.ViewPieces.{file_height, files_height, file_piece_list, sections_in_files}
 use Rattle.scm_document.specs.HeaderRects.{message_rects, pinned_rects}
-use Rattle.scm_overlay.specs.OverlayRects.{menu_bar_rects, quit_dialog_rects, help_dialog_rects, dialog_run, open_menu_height, IsShortMenu}
+use Rattle.scm_overlay.specs.OverlayRects.{menu_bar_rects, quit_dialog_rects, help_dialog_rects, dialog_run, open_menu_height}
 use Rattle.scm_render.specs.Centring.{centred_gap, centred_size}
 use Rattle.scm_widgets.specs.ShownDialogs.{ShownDialog}
 use Rattle.scm_overlay.specs.Dialogs.{widest_line, dialog_layer}
 use Rattle.scm_view.specs.Runs.{joined, joined_with, words_run, document_run}
-use Rattle.scm_overlay.specs.declared.menu_bar.MenuBar.{MenuBar}
-use Rattle.scm_overlay.proofs.Ranges as short
 use Rattle.scm_overlay.specs.declared.menu.Menu.{Menu}
-use Rattle.scm_overlay.proofs.DialogLemmas.{centred_20}
+use Rattle.scm_overlay.specs.declared.menu_bar.MenuBar.{MenuBar}
+use Rattle.scm_overlay.proofs.Ranges.{IsShortMenu}
+use Rattle.scm_overlay.proofs.FixedLemmas.{short_bar}
+use Rattle.scm_overlay.proofs.DialogLemmas.{centred_20, length-dialog, rect-is}
 use Rattle.scm_document.proofs.FilesOf.{AreFilesOf, HasItsIds}
 use Rattle.scm_document.specs.FilesRows.{files_rows}
 use Rattle.scm_widgets.proofs.ButtonLemmas.{no-owner}
@@ -58,17 +62,16 @@ use Rattle.scm_view.proofs.LimitLemmas.{session-few}
 use Rattle.scm_view.proofs.SessionLemmas.{session-ids}
 use Rattle.scm_document.proofs.ViewPieceLemmas.{file-strips-length, owner_of, upper, lower, files-owned, file-height}
 use Rattle.scm_document.proofs.PieceLemmas.{files-places}
-use Rattle.scm_overlay.proofs.OverlayRectLemmas.{spots-append}
-use Rattle.scm_widgets.proofs.OverlayRectLemmas.{on_row, far-among}
+use Rattle.scm_widgets.proofs.OverlayRectLemmas.{on_row, spots-append, within-among}
 use Rattle.scm_document.proofs.OverlayRectLemmas.{pinned-spots}
-use Rattle.scm_overlay.proofs.OverlayOwnerLemmas.{overlays-owner, length-bar, length-placed}
+use Rattle.scm_overlay.proofs.OverlayOwnerLemmas.{overlays-owner, length-bar}
 
 -- ---- the message
 
 message-button : (y x commit : ℕ) → ◌≡◌ {A = Option ComponentId}
-    (if is_from 2 3 y && is_from (shift 0) (shift 14) (x + 65536) then Some (ids.CommitEditMessageButton commit) else None)
+    (if is_within (pos 2) 1 y && is_within (pos 0) 14 x then Some (ids.CommitEditMessageButton commit) else None)
     (cond (int_eq (pos y) (pos 2) && (nat_le 0 x && nat_lt x 14)) (Some (ids.CommitEditMessageButton commit)) None)
-message-button y x commit = rw (on_row 2 y, far-among 0 14 x) refl
+message-button y x commit = rw (on_row (pos 2) y, within-among 0 14 x) refl
 
 no-message-strips : (w commit y x : ℕ) → None ≡ (line clear (message_strips w commit None) (pos 1) (pos y)).owner x
 unfolding message_strips line
@@ -176,14 +179,14 @@ four o p m r = two_assoc (first_of_two o p) m r ∙ two_assoc o p (first_of_two 
 all-owner : (w h s y x : ℕ) (menu : Option ℕ) (quit : Option QuitDialog) (help : Bool) (v : CommitView) → HasItsIds (document_of v) → 10 ≤ w → 2 ≤ h → x < w
     → let d = document_of v in
     first_of_two (overlay_owner (message_rects d.commit (is_some d.message) ++ (pinned_rects w (s + 1) (file_piece_list (s + 1) (1 + message_height d.message) v.file_views)
-    ++ (menu_bar_rects w s (menus_with menu) ++ (quit_dialog_rects w h s quit ++ help_dialog_rects w h s help)))) y x)
+    ++ (menu_bar_rects (screen w h s) (menus_with menu) ++ (quit_dialog_rects (screen w h s) quit ++ help_dialog_rects (screen w h s) help)))) y x)
     (rows_owner w (file_piece_list (s + 1) (1 + message_height d.message) v.file_views) (sections_in_files (1 + message_height d.message) v.file_views) y x)
     ≡ owned_by (body_layers w h s d ++ overlays w h s menu quit help) y x
 all-owner w h s y x menu quit help v e wide high within =
     let d = document_of v in
     let ms = message_rects d.commit (is_some d.message) in
     let ps = pinned_rects w (s + 1) (file_piece_list (s + 1) (1 + message_height d.message) v.file_views) in
-    let os = menu_bar_rects w s (menus_with menu) ++ (quit_dialog_rects w h s quit ++ help_dialog_rects w h s help) in
+    let os = menu_bar_rects (screen w h s) (menus_with menu) ++ (quit_dialog_rects (screen w h s) quit ++ help_dialog_rects (screen w h s) help) in
     let r = rows_owner w (file_piece_list (s + 1) (1 + message_height d.message) v.file_views) (sections_in_files (1 + message_height d.message) v.file_views) y x in
     ap (λ o. first_of_two o r) (spots-append ms (ps ++ os) y x ∙ ap (λ o. first_of_two o (overlay_owner ms y x)) (spots-append ps os y x))
     ∙ four (overlay_owner os y x) (overlay_owner ps y x) (overlay_owner ms y x) r
@@ -195,7 +198,7 @@ all-owner w h s y x menu quit help v e wide high within =
 pub index-owner : (w h s y x : ℕ) (shown : ViewState) (v : CommitView) → Shows v shown 0 → 10 ≤ w → 2 ≤ h → x < w
     → let d = document_of v in
     first_of_two (overlay_owner (message_rects d.commit (is_some d.message) ++ (pinned_rects w (s + 1) (file_piece_list (s + 1) (1 + message_height d.message) v.file_views)
-    ++ (menu_bar_rects w s (menus_with shown.open_menu) ++ (quit_dialog_rects w h s shown.quit_dialog ++ help_dialog_rects w h s shown.is_help_open)))) y x)
+    ++ (menu_bar_rects (screen w h s) (menus_with shown.open_menu) ++ (quit_dialog_rects (screen w h s) shown.quit_dialog ++ help_dialog_rects (screen w h s) shown.is_help_open)))) y x)
     (rows_owner w (file_piece_list (s + 1) (1 + message_height d.message) v.file_views) (sections_in_files (1 + message_height d.message) v.file_views) y x)
     ≡ owner w h s shown y x
 unfolding owner
@@ -237,9 +240,12 @@ shows-first a shown w h v plain f =
     let one : 1 ≤ length a.commit_views = subst (λ (mode : CommitViewMode). view_count mode ≤ length a.commit_views) plain.view_mode plain.shows.count in
     first-shows a.commit_views shown v plain.shows.views one f
 
-pub short-menu : (m : Option (ℕ × Menu)) → short.IsShortMenu m → IsShortMenu m
-short-menu None p = tt
-short-menu (Some m) p = p
+few-items : (m : Option (ℕ × Menu)) → IsShortMenu m → open_menu_height m ≤ max_text
+few-items None p = omega arith
+few-items (Some m) p = p.1
+
+pub bar-few : (b : MenuBar) (menu : Option ℕ) → b ≡ menus_with menu → open_menu_height (open_menu b) ≤ max_text
+bar-few b menu e = rw e (few-items (open_menu (menus_with menu)) (short_bar menu).1)
 
 -- ---- the extent
 
@@ -290,30 +296,31 @@ document-around w h m commit message (v ∷ vs) r =
     let end : 1 + length (message_strips w commit message ++ files_strips w m (1 + length (message_strips w commit message)) (map shown_file (v ∷ vs))) ≡ 1 + message_height message + files_height (v ∷ vs) = omega (arith, above, rest, all) in
     rw (some, many) (ap (λ e. joined r (1, e)) end)
 
-dialog-around : (w h s : ℕ) (d : ShownDialog ComponentId) (r : ℕ × ℕ) → 2 ≤ h → joined r ((dialog_layer w h s d).first, end_of (dialog_layer w h s d)) ≡ joined r (dialog_run w h s d)
+dialog-around : (w h s : ℕ) (d : ShownDialog ComponentId) (r : ℕ × ℕ) → 2 ≤ h → joined r ((dialog_layer w h s d).first, end_of (dialog_layer w h s d)) ≡ joined r (dialog_run (screen w h s) d)
 dialog-around w h s d r high =
     let cy = centred_20 h (length d.body + 2) high (omega arith) in
     ap (λ n. joined r (s + centred_gap h (length d.body + 2) 20, s + centred_gap h (length d.body + 2) 20 + n))
-    (length-placed w (centred_gap w (widest_line d.body + 2) 60) (centred_size w (widest_line d.body + 2) 60) (centred_size h (length d.body + 2) 20) d cy.some)
+    (length-dialog w (centred_gap w (widest_line d.body + 2) 60) (centred_size w (widest_line d.body + 2) 60) (centred_size h (length d.body + 2) 20) d cy.some)
+    ∙ ap (λ (k : Rect). joined r (or_zero k.y, or_zero (end_y_of k))) (sym (rect-is w h s d))
 
-quit-around : (w h s : ℕ) (q : Option QuitDialog) (r : ℕ × ℕ) → 2 ≤ h → around r (quit_layers w h s q) ≡ joined_with r (option_map (λ d. dialog_run w h s (quit_dialog d)) q)
+quit-around : (w h s : ℕ) (q : Option QuitDialog) (r : ℕ × ℕ) → 2 ≤ h → around r (quit_layers w h s q) ≡ joined_with r (option_map (λ d. dialog_run (screen w h s) (quit_dialog d)) q)
 unfolding around
 quit-around w h s None r high = refl
 quit-around w h s (Some q) r high = dialog-around w h s (quit_dialog q) r high
 
-help-around : (w h s : ℕ) (t : Bool) (r : ℕ × ℕ) → 2 ≤ h → around r (help_layers w h s t) ≡ joined_with r (if t then Some (dialog_run w h s help_dialog) else None)
+help-around : (w h s : ℕ) (t : Bool) (r : ℕ × ℕ) → 2 ≤ h → around r (help_layers w h s t) ≡ joined_with r (if t then Some (dialog_run (screen w h s) help_dialog) else None)
 unfolding around
 help-around w h s true r high = dialog-around w h s help_dialog r high
 help-around w h s false r high = refl
 
-bar-end : (w s : ℕ) (b : MenuBar) → end_of (menu_layer w s b) ≡ s + 1 + open_menu_height (open_menu_with_column 0 b.menus b.expanded_menu_idx)
+bar-end : (w s : ℕ) (b : MenuBar) → end_of (menu_layer w s b) ≡ s + (1 + open_menu_height (open_menu b))
 bar-end w s b = length-bar w s b
 
 pub index-extent : (w h s : ℕ) (shown : ViewState) (v : CommitView) → Shows v shown 0 → 2 ≤ h
     → let b = menus_with shown.open_menu in
     let d = document_of v in
-    let r = joined_with (joined_with (joined (s, s + 1 + open_menu_height (open_menu_with_column 0 b.menus b.expanded_menu_idx)) (document_run (h - 1) (message_height d.message) (length v.file_views == 0) (1 + message_height d.message + files_height v.file_views)))
-    (option_map (λ q. dialog_run w h s (quit_dialog q)) shown.quit_dialog)) (if shown.is_help_open then Some (dialog_run w h s help_dialog) else None) in
+    let r = joined_with (joined_with (joined (s, s + (1 + open_menu_height (open_menu b))) (document_run (h - 1) (message_height d.message) (length v.file_views == 0) (1 + message_height d.message + files_height v.file_views)))
+    (option_map (λ q. dialog_run (screen w h s) (quit_dialog q)) shown.quit_dialog)) (if shown.is_help_open then Some (dialog_run (screen w h s) help_dialog) else None) in
     r.1 - r.0 ≡ extent w h s shown
 unfolding extent
 index-extent w h s shown v shows high =
@@ -322,8 +329,8 @@ index-extent w h s shown v shows high =
     let rows = rows_layers w h s d in
     let quit = quit_layers w h s shown.quit_dialog in
     let help = help_layers w h s shown.is_help_open in
-    let all : around (s, end_of (menu_layer w s b)) (rows ++ (quit ++ help)) ≡ joined_with (joined_with (joined (s, s + 1 + open_menu_height (open_menu_with_column 0 b.menus b.expanded_menu_idx)) (document_run (h - 1) (message_height d.message) (length v.file_views == 0) (1 + message_height d.message + files_height v.file_views)))
-    (option_map (λ q. dialog_run w h s (quit_dialog q)) shown.quit_dialog)) (if shown.is_help_open then Some (dialog_run w h s help_dialog) else None) =
+    let all : around (s, end_of (menu_layer w s b)) (rows ++ (quit ++ help)) ≡ joined_with (joined_with (joined (s, s + (1 + open_menu_height (open_menu b))) (document_run (h - 1) (message_height d.message) (length v.file_views == 0) (1 + message_height d.message + files_height v.file_views)))
+    (option_map (λ q. dialog_run (screen w h s) (quit_dialog q)) shown.quit_dialog)) (if shown.is_help_open then Some (dialog_run (screen w h s) help_dialog) else None) =
     ap (λ e. around (s, e) (rows ++ (quit ++ help))) (bar-end w s b)
     ∙ around-append rows (quit ++ help) _ ∙ ap (λ r. around r (quit ++ help)) (document-around w (h - 1) (s + 1) d.commit d.message v.file_views _)
     ∙ around-append quit help _ ∙ ap (λ r. around r help) (quit-around w h s shown.quit_dialog _ high) ∙ help-around w h s shown.is_help_open _ high in
@@ -342,18 +349,18 @@ if-same true a b h = h refl
 if-same false a b h = refl
 
 pub answers-owner : (w h s y x : ℕ) (a : AppView) (shown : ViewState) (v : CommitView) (m0 m1 m2 m3 m4 : List OverlayRect) (fs : List FilePiece) (ss : List SectionPiece) → IsPlain a shown w h → Shows v shown 0
-    → m0 ≡ message_rects (document_of v).commit (is_some (document_of v).message) → m1 ≡ m0 ++ pinned_rects w (s + 1) fs → m2 ≡ m1 ++ menu_bar_rects w s a.menu_bar
-    → m3 ≡ m2 ++ quit_dialog_rects w h s a.quit_dialog → m4 ≡ m3 ++ help_dialog_rects w h s (has_help a.help_dialog)
+    → m0 ≡ message_rects (document_of v).commit (is_some (document_of v).message) → m1 ≡ m0 ++ pinned_rects w (s + 1) fs → m2 ≡ m1 ++ menu_bar_rects (screen w h s) a.menu_bar
+    → m3 ≡ m2 ++ quit_dialog_rects (screen w h s) a.quit_dialog → m4 ≡ m3 ++ help_dialog_rects (screen w h s) (has_help a.help_dialog)
     → fs ≡ file_piece_list (s + 1) (1 + message_height (document_of v).message) v.file_views → ss ≡ sections_in_files (1 + message_height (document_of v).message) v.file_views
     → (if nat_lt x w then first_of_two (overlay_owner m4 y x) (rows_owner w fs ss y x) else None) ≡ (if nat_lt x w then owner w h s shown y x else None)
 answers-owner w h s y x a shown v m0 m1 m2 m3 m4 fs ss plain shows e0 e1 e2 e3 e4 ef es =
-    let bar : menu_bar_rects w s a.menu_bar ≡ menu_bar_rects w s (menus_with shown.open_menu) = ap (menu_bar_rects w s) plain.shows.menu_bar in
-    let quit : quit_dialog_rects w h s a.quit_dialog ≡ quit_dialog_rects w h s shown.quit_dialog = ap (quit_dialog_rects w h s) plain.shows.quit_dialog in
-    let help : help_dialog_rects w h s (has_help a.help_dialog) ≡ help_dialog_rects w h s shown.is_help_open = ap (help_dialog_rects w h s) plain.shows.help_dialog in
+    let bar : menu_bar_rects (screen w h s) a.menu_bar ≡ menu_bar_rects (screen w h s) (menus_with shown.open_menu) = ap (menu_bar_rects (screen w h s)) plain.shows.menu_bar in
+    let quit : quit_dialog_rects (screen w h s) a.quit_dialog ≡ quit_dialog_rects (screen w h s) shown.quit_dialog = ap (quit_dialog_rects (screen w h s)) plain.shows.quit_dialog in
+    let help : help_dialog_rects (screen w h s) (has_help a.help_dialog) ≡ help_dialog_rects (screen w h s) shown.is_help_open = ap (help_dialog_rects (screen w h s)) plain.shows.help_dialog in
     let d = document_of v in
     let ps = pinned_rects w (s + 1) (file_piece_list (s + 1) (1 + message_height d.message) v.file_views) in
-    let all : m4 ≡ message_rects d.commit (is_some d.message) ++ (ps ++ (menu_bar_rects w s (menus_with shown.open_menu) ++ (quit_dialog_rects w h s shown.quit_dialog ++ help_dialog_rects w h s shown.is_help_open))) =
-    spots-all (message_rects d.commit (is_some d.message)) ps (menu_bar_rects w s (menus_with shown.open_menu)) (quit_dialog_rects w h s shown.quit_dialog) (help_dialog_rects w h s shown.is_help_open) m1 m2 m3 m4
+    let all : m4 ≡ message_rects d.commit (is_some d.message) ++ (ps ++ (menu_bar_rects (screen w h s) (menus_with shown.open_menu) ++ (quit_dialog_rects (screen w h s) shown.quit_dialog ++ help_dialog_rects (screen w h s) shown.is_help_open))) =
+    spots-all (message_rects d.commit (is_some d.message)) ps (menu_bar_rects (screen w h s) (menus_with shown.open_menu)) (quit_dialog_rects (screen w h s) shown.quit_dialog) (help_dialog_rects (screen w h s) shown.is_help_open) m1 m2 m3 m4
     (e1 ∙ ap₂ (λ i j. i ++ j) e0 (ap (pinned_rects w (s + 1)) ef)) (e2 ∙ ap (λ k. m1 ++ k) bar) (e3 ∙ ap (λ k. m2 ++ k) quit) (e4 ∙ ap (λ k. m3 ++ k) help) in
     if-same (nat_lt x w) _ _ (λ q.
     let within : x < w = grind (arith, nat_tests) in
@@ -362,18 +369,18 @@ answers-owner w h s y x a shown v m0 m1 m2 m3 m4 fs ss plain shows e0 e1 e2 e3 e
 
 pub answers-extent : (w h s : ℕ) (a : AppView) (shown : ViewState) (v : CommitView) (run : ℕ × ℕ) (below n e : ℕ) (none : Bool) (quit help : Option (ℕ × ℕ)) → IsPlain a shown w h → Shows v shown 0
     → run ≡ joined_with (joined_with (joined (s, below) (document_run (h - 1) n none e)) quit) help
-    → below ≡ s + 1 + open_menu_height (open_menu_with_column 0 a.menu_bar.menus a.menu_bar.expanded_menu_idx) → n ≡ message_height (document_of v).message → none ≡ (length v.file_views == 0)
+    → below ≡ s + (1 + open_menu_height (open_menu a.menu_bar)) → n ≡ message_height (document_of v).message → none ≡ (length v.file_views == 0)
     → e ≡ 1 + message_height (document_of v).message + files_height v.file_views
-    → quit ≡ option_map (λ q. dialog_run w h s (quit_dialog q)) a.quit_dialog → help ≡ (if has_help a.help_dialog then Some (dialog_run w h s help_dialog) else None)
+    → quit ≡ option_map (λ q. dialog_run (screen w h s) (quit_dialog q)) a.quit_dialog → help ≡ (if has_help a.help_dialog then Some (dialog_run (screen w h s) help_dialog) else None)
     → run.1 - run.0 ≡ extent w h s shown
 answers-extent w h s a shown v run below n e none quit help plain shows er eb en ez ee eq eh =
-    let bar = eb ∙ ap (λ (b : MenuBar). s + 1 + open_menu_height (open_menu_with_column 0 b.menus b.expanded_menu_idx)) plain.shows.menu_bar in
-    let q = eq ∙ ap (option_map (λ q. dialog_run w h s (quit_dialog q))) plain.shows.quit_dialog in
-    let k = eh ∙ ap (λ t. if t then Some (dialog_run w h s help_dialog) else None) plain.shows.help_dialog in
+    let bar = eb ∙ ap (λ (b : MenuBar). s + (1 + open_menu_height (open_menu b))) plain.shows.menu_bar in
+    let q = eq ∙ ap (option_map (λ q. dialog_run (screen w h s) (quit_dialog q))) plain.shows.quit_dialog in
+    let k = eh ∙ ap (λ t. if t then Some (dialog_run (screen w h s) help_dialog) else None) plain.shows.help_dialog in
     let d = document_of v in
     let doc : document_run (h - 1) n none e ≡ document_run (h - 1) (message_height d.message) (length v.file_views == 0) (1 + message_height d.message + files_height v.file_views) = rw (en, ez, ee) refl in
     let b = menus_with shown.open_menu in
-    let all : run ≡ joined_with (joined_with (joined (s, s + 1 + open_menu_height (open_menu_with_column 0 b.menus b.expanded_menu_idx)) (document_run (h - 1) (message_height d.message) (length v.file_views == 0) (1 + message_height d.message + files_height v.file_views)))
-    (option_map (λ q. dialog_run w h s (quit_dialog q)) shown.quit_dialog)) (if shown.is_help_open then Some (dialog_run w h s help_dialog) else None) =
+    let all : run ≡ joined_with (joined_with (joined (s, s + (1 + open_menu_height (open_menu b))) (document_run (h - 1) (message_height d.message) (length v.file_views == 0) (1 + message_height d.message + files_height v.file_views)))
+    (option_map (λ q. dialog_run (screen w h s) (quit_dialog q)) shown.quit_dialog)) (if shown.is_help_open then Some (dialog_run (screen w h s) help_dialog) else None) =
     er ∙ ap₂ joined_with (ap₂ joined_with (ap₂ joined (ap (λ z. (s, z)) bar) doc) q) k in
     ap (λ (r : ℕ × ℕ). r.1 - r.0) all ∙ index-extent w h s shown v shows plain.high

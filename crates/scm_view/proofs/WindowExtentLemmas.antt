@@ -58,7 +58,7 @@ module _ (same : ComponentId → ComponentId → Bool) (law : IsLawful same) whe
       let c = centred_gap w (widest_line d.body + 2) 60 in
       let top = s + centred_gap h (length d.body + 2) 20 in
       let box = box-placed same law is_clickable w h s c top n m P d good x.some y.some in
-      rw (dialog-is same law is_clickable w h s d, length-dialog same law is_clickable w c n m d y.some)
+      rw (dialog-is w h s d, length-dialog w c n m d y.some)
       (record { some = box.some; top = box.top; end = rw (box.rows, box.top) refl })
 
   -- a run, and a dialog that is drawn as a part of its own id

@@ -1,6 +1,8 @@
 //! The index of an inline frame: hit tests, the row ranges of keys, and the extent.
 ghost use Rattle.std.specs.Prelude.{◌≡◌, ◌<◌, ◌≤◌, ◌^◌, ◌++◌, ℕ, nat_lt, if◌then◌else◌, None, Some, option_map, IfOk, IfErr, OnOk};
 ghost use Rattle.scm_types.specs.Limits.{max_scroll};
+ghost use Rattle.scm_widgets.specs.DrawBounds.{RectIsInDrawBounds};
+ghost use Rattle.scm_widgets.specs.Screens.{screen};
 ghost use Rattle.scm_errors.specs.declared.error.RecordError.TheVariants.{OutOfMemory};
 ghost use Rattle.scm_view.specs.ViewState.{ViewState};
 ghost use Rattle.scm_view.specs.Window.{IsPlain, ShowsInline, extent, owner, span};
@@ -11,6 +13,7 @@ ghost use Rattle.scm_overlay.specs.OverlayRects.{dialog_run, help_dialog_rects, 
 ghost use Rattle.scm_view.specs.Index.{HasNear, IsIndexOf, OwnAlike, owner_in};
 
 use crate::app_view::AppView;
+use scm_cells::Rect;
 use scm_document::commit_view::push_pieces;
 use scm_document::index_pieces::{Piece, pieces_near, push_pinned, rows_owner};
 use scm_document::key_rows::find_in;
@@ -41,6 +44,21 @@ pub struct FrameIndex {
     near: Vec<Piece>,
     /// The extent: the number of rows that the frame spans.
     extent: usize,
+}
+
+/// Returns the part of the document that a screen of `width` columns and `height` rows shows. Its
+/// first row shows row `scroll` of the document.
+#[tactic(auto, using(scm_types::proofs::LimitLemmas::scroll_room))]
+fn screen(width: u16, height: u16, scroll: usize) -> Rect
+    requires { scroll ≤ max_scroll }
+    ensures { result ≡ screen width height scroll }
+{
+    Rect {
+        x: 0,
+        y: scroll as isize,
+        width: usize::from(width),
+        height: usize::from(height),
+    }
 }
 
 /// Returns the least row range that holds both. A row range is its first row and its end row
@@ -81,44 +99,43 @@ fn document_run(height: usize, message: usize, is_empty: bool, end: usize) -> (u
     }
 }
 
-/// If the quit dialog is open, adds its rectangles and returns its row range.
+/// If the quit dialog is open, adds its rectangles and returns its row range. The screen shows the
+/// part `screen` of the document.
 fn push_quit(
     alloc: Global,
     rects: &mut Vec<OverlayRect>,
-    width: u16,
-    height: u16,
-    row: usize,
+    screen: Rect,
     dialog: &Option<QuitDialog>,
 ) -> Result<Option<(usize, usize)>, AllocError>
-    requires { row ≤ max_scroll }
+    requires { RectIsInDrawBounds screen }
     ensures rows { IfOk result (λ r. r
-        ≡ option_map (λ q. dialog_run width height row (quit_dialog q)) dialog.now) }
+        ≡ option_map (λ q. dialog_run screen (quit_dialog q)) dialog.now) }
     ensures ok { OnOk result
-        (rects.new.items ≡ rects.old.items ++ quit_dialog_rects width height row dialog.now) }
+        (rects.new.items ≡ rects.old.items ++ quit_dialog_rects screen dialog.now) }
 {
     match dialog {
         None => Ok(None),
-        Some(dialog) => Ok(Some(dialog.push_rects(alloc, rects, width, height, row)?)),
+        Some(dialog) => Ok(Some(dialog.push_rects(alloc, rects, screen)?)),
     }
 }
 
-/// If the help dialog is open, adds its rectangles and returns its row range.
+/// If the help dialog is open, adds its rectangles and returns its row range. The screen shows the
+/// part `screen` of the document.
 fn push_help(
+    alloc: Global,
     rects: &mut Vec<OverlayRect>,
-    width: u16,
-    height: u16,
-    row: usize,
+    screen: Rect,
     dialog: &Option<HelpDialog>,
 ) -> Result<Option<(usize, usize)>, AllocError>
-    requires { row ≤ max_scroll }
+    requires { RectIsInDrawBounds screen }
     ensures rows { IfOk result (λ r. r
-        ≡ (if has_help dialog.now then Some (dialog_run width height row help_dialog) else None)) }
-    ensures ok { OnOk result (rects.new.items
-        ≡ rects.old.items ++ help_dialog_rects width height row (has_help dialog.now)) }
+        ≡ (if has_help dialog.now then Some (dialog_run screen help_dialog) else None)) }
+    ensures ok { OnOk result
+        (rects.new.items ≡ rects.old.items ++ help_dialog_rects screen (has_help dialog.now)) }
 {
     match dialog {
         None => Ok(None),
-        Some(dialog) => Ok(Some(dialog.push_rects(rects, width, height, row)?)),
+        Some(dialog) => Ok(Some(dialog.push_rects(alloc, rects, screen)?)),
     }
 }
 
@@ -146,17 +163,21 @@ impl FrameIndex {
         let message = commit.commit_message_view.height();
         let views = commit.file_views.as_slice();
         let columns = usize::from(width);
+        let screen = screen(width, height, scroll);
         let mut rects = Vec::new(alloc);
         let mut pieces = Vec::new(alloc);
         let end = push_pieces(&mut pieces, scroll + 1, 1 + message, views)?;
         commit.commit_message_view.push_rects(&mut rects)?;
         push_pinned(&mut rects, columns, scroll + 1, &pieces)?;
-        let below = view.menu_bar.push_rects(&mut rects, columns, scroll)?;
-        let quit = push_quit(alloc, &mut rects, width, height, scroll, &view.quit_dialog)?;
-        let help = push_help(&mut rects, width, height, scroll, &view.help_dialog)?;
+        let bar = view.menu_bar.push_rects(alloc, &mut rects, screen)?;
+        let quit = push_quit(alloc, &mut rects, screen, &view.quit_dialog)?;
+        let help = push_help(alloc, &mut rects, screen, &view.help_dialog)?;
         let rows = usize::from(height).saturating_sub(1);
         let document = document_run(rows, message, views.is_empty(), end);
-        let run = joined_with(joined_with(joined((scroll, below), document), quit), help);
+        let run = joined_with(
+            joined_with(joined((scroll, scroll + bar), document), quit),
+            help,
+        );
         let last = scroll + usize::from(height);
         let near = pieces_near(alloc, pieces.as_slice(), scroll, last)?;
         Ok(FrameIndex {

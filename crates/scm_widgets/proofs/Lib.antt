@@ -8,6 +8,7 @@ pub mod WidthLemmas
 pub mod CountLemmas
 pub mod DrawsStrips
 pub mod ButtonLemmas
+pub mod PlacedLemmas
 pub mod MenuLemmas
 pub mod DialogLemmas
 pub mod BoxLemmas

@@ -4,8 +4,10 @@ use Rattle.std.specs.Int.{int_min}
 use Rattle.scm_cells.specs.Row.{put}
 use Rattle.scm_cells.specs.Clusters.{text_width}
 use Rattle.scm_render.specs.Canvas.{Sight}
-use Rattle.scm_render.specs.Picture.{Picture, nothing, followed_by, part}
+use Rattle.scm_render.specs.Drawing.{row_rect}
+use Rattle.scm_render.specs.Picture.{Picture, PictureInRange, nothing, followed_by, part}
 use Rattle.scm_widgets.specs.declared.button.Button.{Button}
+use Rattle.scm_widgets.specs.declared.placed_button.PlacedButton.{PlacedButton}
 use Rattle.scm_widgets.specs.Texts.{button_text}
 use Rattle.scm_widgets.specs.Pictures.{button_picture}
 use Rattle.scm_widgets.specs.Layers.{Strip, clear, over, is_within}
@@ -19,12 +21,25 @@ module _ {K : Type 0} where
   abbrev pub button_part : Button K → Sight → ℤ → ℤ → Picture K
   button_part b s x y = part b.id (button_picture b s x y)
 
-  -- Buttons from the right, with one column between two. The first one ends before column `end`.
-  unfoldable pub buttons_picture : Sight → ℤ → ℤ → List (Button K) → Picture K
-  buttons_picture s end y [] = nothing
-  buttons_picture s end y (b ∷ bs) =
+  -- The button in its place: on row `y`, from column `x` on.
+  abbrev pub placed_button : ℤ → ℤ → Button K → PlacedButton K
+  placed_button x y b = record { rect = row_rect x y (button_width b); button = b }
+
+  -- What buttons draw in their places, one after another.
+  unfoldable pub placed_picture : Sight → List (PlacedButton K) → Picture K
+  placed_picture s [] = nothing
+  placed_picture s (p ∷ ps) = followed_by (button_part p.button s p.rect.x p.rect.y) (placed_picture s ps)
+
+  -- The buttons `ps` are drawn in range, whatever is in sight.
+  abbrev pub ArePlacedInRange : List (PlacedButton K) → Type 0
+  ArePlacedInRange ps = (s : Sight) → PictureInRange (placed_picture s ps)
+
+  -- Buttons on row `y` from the right, with one column between two. The first one ends before column `end`.
+  unfoldable pub placed_from_right : ℤ → ℤ → List (Button K) → List (PlacedButton K)
+  placed_from_right end y [] = []
+  placed_from_right end y (b ∷ bs) =
       let x = end -ℤ pos (button_width b) in
-      followed_by (button_part b s x y) (buttons_picture s (x -ℤ pos 1) y bs)
+      placed_button x y b ∷ placed_from_right (x -ℤ pos 1) y bs
 
   -- ---- on the screen
 
@@ -35,7 +50,7 @@ module _ {K : Type 0} where
     owner = λ x. cond (is_within c (button_width b) x) (Some b.id) None;
   }
 
-  -- Buttons from the right, as in `buttons_picture`.
+  -- Buttons from the right, as in `placed_from_right`.
   unfoldable pub buttons_strip : ℕ → ℤ → List (Button K) → Strip K
   buttons_strip w end [] = clear
   buttons_strip w end (b ∷ bs) =

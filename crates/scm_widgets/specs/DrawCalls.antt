@@ -1,15 +1,15 @@
 -- Draw calls on one row, and of a component under a mask.
-use Rattle.std.specs.Prelude.{ℕ, ℤ, List}
+use Rattle.std.specs.Prelude.{ℕ, ℤ, List, length}
 use Rattle.scm_cells.specs.Counts.{one_call}
 use Rattle.scm_cells.specs.declared.mask.Mask.{Mask}
 use Rattle.scm_render.specs.Canvas.{Sight, under}
 use Rattle.scm_render.specs.Draws.{DrawCall}
 use Rattle.scm_render.specs.Drawing.{row_rect, span_picture, text_picture, blank_picture}
-use Rattle.scm_render.specs.Picture.{Picture, part}
 use Rattle.scm_widgets.specs.declared.button.Button.{Button}
 use Rattle.scm_widgets.specs.declared.ids.ComponentId.{ComponentId}
-use Rattle.scm_widgets.specs.Buttons.{button_part}
-use Rattle.scm_widgets.specs.Counts.{on_row}
+use Rattle.scm_widgets.specs.declared.placed_button.PlacedButton.{PlacedButton}
+use Rattle.scm_widgets.specs.Buttons.{button_part, placed_picture}
+use Rattle.scm_widgets.specs.Counts.{drawn, on_row}
 use Rattle.scm_widgets.specs.Pictures.{IdPicture, blank_rest, box_part}
 use Rattle.scm_widgets.specs.Boxes.{IdBox}
 
@@ -42,11 +42,11 @@ abbrev pub button_call : Button ComponentId → ℤ → ℤ → DrawCall Compone
 button_call b x y = call_on_row y (λ sight. button_part b sight x y)
 
 module _ {K : Type 0} where
-  -- A component at column `x` and row `y`, by its id, its picture, its rows and its calls.
-  abbrev pub component_call : K → (Sight → ℤ → ℤ → Picture K) → (Sight → ℤ → ℤ → ℕ) → (Sight → ℤ → ℤ → ℕ) → ℤ → ℤ → DrawCall K
-  component_call id picture rows calls x y = record {
-    picture = λ sight. part id (picture sight x y);
-    counts = λ sight. record { rows = rows sight x y; calls = calls sight x y };
+  -- Buttons in their places.
+  abbrev pub placed_call : List (PlacedButton K) → DrawCall K
+  placed_call buttons = record {
+    picture = λ sight. placed_picture sight buttons;
+    counts = λ sight. drawn 0 (length buttons);
   }
 
   -- The call, made while `mask` is set.

@@ -1,16 +1,20 @@
 -- Overlay rectangles: the owners of columns and rows over the document. Where two overlap, the later one of a list owns the place.
-use Rattle.std.specs.Prelude.{ℕ, ◌+◌, nat_le, nat_lt, Bool, ◌&&◌, if◌then◌else◌, List, [], ◌∷◌, Option, Some, None}
+use Rattle.std.specs.Prelude.{ℕ, pos, nat_le, nat_lt, Bool, ◌&&◌, if◌then◌else◌, List, [], ◌∷◌, map, Option, Some, None}
+use Rattle.scm_render.specs.Drawing.{row_rect}
+use Rattle.scm_render.specs.Hits.{first_of_two}
 use Rattle.scm_widgets.specs.declared.ids.ComponentId.{ComponentId}
 use Rattle.scm_widgets.specs.declared.overlay_rects.OverlayRect.{OverlayRect}
-use Rattle.scm_render.specs.Hits.{first_of_two}
+use Rattle.scm_widgets.specs.declared.placed_button.PlacedButton.{PlacedButton}
+use Rattle.scm_widgets.specs.Layers.{is_within}
 
--- The rectangle that `i` owns on row `y`, in columns `left..right`.
+-- The rectangle that `i` owns on row `y`: `n` columns from column `x` on.
 abbrev pub row_overlay_rect : ComponentId → ℕ → ℕ → ℕ → OverlayRect
-row_overlay_rect i y left right = record { id = i; top = y; end = y + 1; left = left; right = right }
+row_overlay_rect i y x n = record { id = i; rect = row_rect (pos x) (pos y) n }
 
--- The screen's column `x`, counted from 65,536 columns left of the screen.
-abbrev pub shift : ℕ → ℕ
-shift x = x + 65536
+-- The rectangles of buttons in their places, each owned by its button.
+abbrev pub button_rects : List (PlacedButton ComponentId) → List OverlayRect
+button_rects [] = []
+button_rects (p ∷ ps) = record { id = p.button.id; rect = p.rect } ∷ button_rects ps
 
 -- ---- owners
 
@@ -18,9 +22,9 @@ shift x = x + 65536
 abbrev pub is_from : ℕ → ℕ → ℕ → Bool
 is_from top end y = nat_le top y && nat_lt y end
 
--- whether overlay rectangle `s` has row y and column x; its columns are counted from 65,536 columns left of the screen
+-- whether overlay rectangle `s` has row y and column x
 abbrev pub is_at : OverlayRect → ℕ → ℕ → Bool
-is_at s y x = is_from s.top s.end y && is_from s.left s.right (x + 65536)
+is_at s y x = is_within s.rect.y s.rect.height y && is_within s.rect.x s.rect.width x
 
 -- the owner of a point among overlay rectangles: the last one that has the point
 abbrev pub overlay_owner : List OverlayRect → ℕ → ℕ → Option ComponentId

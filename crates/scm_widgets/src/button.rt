@@ -38,6 +38,17 @@ impl<'a, Id: Copy> Button<'a, Id> {
         };
         Ok(text)
     }
+
+    /// Returns the same button, with its label borrowed from this one.
+    pub fn borrowed(&self) -> Button<'_, Id>
+        ensures { result ≡ self.now }
+    {
+        Button {
+            id: self.id,
+            label: self.label.borrowed(),
+            is_focused: self.is_focused,
+        }
+    }
 }
 
 impl<'a, Id: Copy + Eq + Hash + Drop> Component for Button<'a, Id> {

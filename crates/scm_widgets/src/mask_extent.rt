@@ -8,7 +8,8 @@ ghost use Rattle.scm_render.specs.Canvas.{with_picture};
 ghost use Rattle.scm_widgets.specs.declared.ids.ComponentId.{ComponentId};
 ghost use Rattle.scm_widgets.specs.Pictures.{to_end, fold_column, rest_of_row, whole_row, highlight};
 ghost use Rattle.scm_render.specs.Draws.{CanDraw, HasDrawn};
-ghost use Rattle.scm_widgets.specs.DrawCalls.{component_call, masked_call};
+ghost use Rattle.scm_render.specs.DrawCalls.{part_call};
+ghost use Rattle.scm_widgets.specs.DrawCalls.{masked_call};
 
 use crate::ids::ComponentId;
 use scm_cells::{Mask, Rect, gap};
@@ -106,10 +107,10 @@ pub fn draw_under<K: Copy + Eq + Hash + Drop, C: Component<Id = K>>(
 ) -> Result<(), RecordError>
     requires mask { MaskInRange mask }
     requires picture { CanDraw viewport.old
-        (masked_call mask (component_call (C.key component.now) (C.picture component.now)
+        (masked_call mask (part_call (C.key component.now) (C.picture component.now)
         (C.rows component.now) (C.calls component.now) x y)) }
     ensures { HasDrawn viewport.old viewport.new result
-        (masked_call mask (component_call (C.key component.now) (C.picture component.now)
+        (masked_call mask (part_call (C.key component.now) (C.picture component.now)
         (C.rows component.now) (C.calls component.now) x y)) }
 {
     let outer = viewport.swap_mask(Some(mask));

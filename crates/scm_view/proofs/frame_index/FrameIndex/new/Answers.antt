@@ -1,17 +1,14 @@
-use Rattle.std.proofs.Common.{◌∙◌, ◌≤◌, ◌+◌, ap, sym, get_or, subst, List}
+use Rattle.std.proofs.Common.{◌∙◌, ◌≤◌, ◌+◌, ap, sym, get_or, List, arith}
 use Rattle.std.specs.List.{flat_map}
-use Rattle.scm_types.specs.Limits.{max_text}
+use Rattle.scm_types.proofs.LimitLemmas.{scroll_room}
 use Rattle.scm_document.specs.declared.commit_view.CommitView.{CommitView}
-use Rattle.scm_overlay.specs.declared.menu_bar.MenuBar.{MenuBar}
 use Rattle.scm_document.specs.Rows.{document_of, message_height}
 use Rattle.scm_document.specs.DocumentRows.{rows_of_key}
 use Rattle.scm_document.specs.PieceOwners.{near}
 use Rattle.scm_document.specs.Pieces.{piece_places, files_of, sections_of}
-use Rattle.scm_overlay.specs.Menus.{headers_width, open_menu_with_column}
-use Rattle.scm_overlay.specs.OverlayRects.{IsShortMenu}
-use Rattle.scm_overlay.proofs.FixedLemmas.{short_bar}
 use Rattle.scm_document.proofs.PieceLemmas.{pieces-files, pieces-sections}
-use Rattle.scm_view.proofs.FrameIndexLemmas.{index-few, shows-first, short-menu, answers-owner, index-span, answers-extent}
+use Rattle.scm_view.proofs.AppRangeLemmas.{bar-in, screen-in}
+use Rattle.scm_view.proofs.FrameIndexLemmas.{bar-few, index-few, shows-first, answers-owner, index-span, answers-extent}
 use Rattle.scm_view.proofs.frame_index.FrameIndex.new.Goals as goal
 
 pub push_pieces-requires : goal.push_pieces-requires
@@ -22,15 +19,31 @@ push_pieces-requires c =
     let shows = shows-first c.args.view.now c.requires.shows.shown c.args.width c.args.height v plain first in
     rw (c.height-message.ensures, c.as_slice-views.ensures) (index-few c.requires.shows.shown v c.requires.shows.accepted shows)
 
-pub push_rects-requires-2-clause-headers : goal.push_rects-requires-2-clause-headers
-push_rects-requires-2-clause-headers c =
+pub push_rects-requires-2-clause-screen : goal.push_rects-requires-2-clause-screen
+push_rects-requires-2-clause-screen c =
     let plain = c.requires.shows.plain in
-    subst (λ (b : MenuBar). headers_width b.menus ≤ max_text) (sym plain.shows.menu_bar) (short_bar c.requires.shows.shown.open_menu).0
+    rw c.screen-screen.ensures (screen-in c.args.width c.args.height c.args.scroll plain.width plain.height c.requires.shows.scroll)
 
-pub push_rects-requires-2-clause-items : goal.push_rects-requires-2-clause-items
-push_rects-requires-2-clause-items c =
+pub push_rects-requires-2-clause-picture : goal.push_rects-requires-2-clause-picture
+push_rects-requires-2-clause-picture c =
     let plain = c.requires.shows.plain in
-    subst (λ (b : MenuBar). IsShortMenu (open_menu_with_column 0 b.menus b.expanded_menu_idx)) (sym plain.shows.menu_bar) (short-menu _ (short_bar c.requires.shows.shown.open_menu).1)
+    rw c.screen-screen.ensures (bar-in c.args.width c.args.height c.args.scroll c.args.view.now.menu_bar c.requires.shows.shown.open_menu plain.shows.menu_bar plain.width plain.height c.requires.shows.scroll)
+
+pub push_quit-requires : goal.push_quit-requires
+push_quit-requires c =
+    let plain = c.requires.shows.plain in
+    rw c.screen-screen.ensures (screen-in c.args.width c.args.height c.args.scroll plain.width plain.height c.requires.shows.scroll)
+
+pub push_help-requires : goal.push_help-requires
+push_help-requires c =
+    let plain = c.requires.shows.plain in
+    rw c.screen-screen.ensures (screen-in c.args.width c.args.height c.args.scroll plain.width plain.height c.requires.shows.scroll)
+
+pub overflow_add-scroll-3 : goal.overflow_add-scroll-3
+overflow_add-scroll-3 c =
+    let plain = c.requires.shows.plain in
+    let few = bar-few c.args.view.now.menu_bar c.requires.shows.shown.open_menu plain.shows.menu_bar in
+    omega (arith, few, c.in_ok-bar.ensures.rows, c.requires.shows.scroll, scroll_room)
 
 pub returns-clause-ok : goal.returns-clause-ok
 returns-clause-ok c = λ shown plain.
@@ -47,15 +60,15 @@ returns-clause-ok c = λ shown plain.
     let sections = ap sections_of made ∙ pieces-sections (s + 1) top v.file_views in
     let m0 = rw c.new-rects.ensures.items at c.in_ok-push_rects.ensures.ok in
     let m1 = rw (c.from-columns.ensures, c.deref.ensures.value) at c.in_ok-push_pinned.ensures.ok in
-    let m2 = rw c.from-columns.ensures at c.in_ok-below.ensures.ok in
+    let m2 = rw c.screen-screen.ensures at c.in_ok-bar.ensures.ok in
     let run = rw (c.joined_with.ensures, c.joined.ensures, c.document_run-document.ensures, c.saturating_sub-rows.ensures, c.from.ensures) at c.joined_with-run.ensures in
     let empty = rw c.as_slice-views.ensures at c.is_empty.ensures in
     let end = rw (c.height-message.ensures, c.as_slice-views.ensures) at c.in_ok-end.ensures.end in
     record {
       near = c.in_ok-near.ensures.ok ∙ ap (near s _) c.as_slice-2.ensures.value;
       owner = λ y x. answers-owner w h s y x a shown v c.push_rects.new.rects.items c.push_pinned.new.rects.items c.push_rects-2.new.rects.items c.push_quit.new.rects.items c.push_help.new.rects.items
-          (files_of c.push_pieces.new.pieces.items) (sections_of c.push_pieces.new.pieces.items) plain shows m0 m1 m2 c.in_ok-quit.ensures.ok c.in_ok-help.ensures.ok files sections;
+          (files_of c.push_pieces.new.pieces.items) (sections_of c.push_pieces.new.pieces.items) plain shows m0 m1 m2 (rw c.screen-screen.ensures at c.in_ok-quit.ensures.ok) (rw c.screen-screen.ensures at c.in_ok-help.ensures.ok) files sections;
       span = λ k. ap (λ ps. rows_of_key k (flat_map piece_places ps)) made ∙ index-span (s + 1) shown v k shows;
-      extent = c.saturating_sub.ensures ∙ answers-extent w h s a shown v c.joined_with-run.result c.in_ok-below.below c.height-message.result c.in_ok-end.end c.is_empty.result c.in_ok-quit.quit c.in_ok-help.help plain shows
-          run c.in_ok-below.ensures.end c.height-message.ensures empty end c.in_ok-quit.ensures.rows c.in_ok-help.ensures.rows;
+      extent = c.saturating_sub.ensures ∙ answers-extent w h s a shown v c.joined_with-run.result (s + c.in_ok-bar.bar) c.height-message.result c.in_ok-end.end c.is_empty.result c.in_ok-quit.quit c.in_ok-help.help plain shows
+          run (ap (λ n. s + n) c.in_ok-bar.ensures.rows) c.height-message.ensures empty end (rw c.screen-screen.ensures at c.in_ok-quit.ensures.rows) (rw c.screen-screen.ensures at c.in_ok-help.ensures.rows);
     }
