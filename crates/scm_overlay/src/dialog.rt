@@ -23,13 +23,13 @@ use std::hash::Hash;
 /// needs more and the screen has room.
 #[derive(Drop)]
 pub struct Dialog<'a, Id> {
-    /// Its id.
+    /// The id of the dialog.
     pub id: Id,
-    /// Its title.
+    /// The title of the dialog, on its first row.
     pub title: Text<'a>,
-    /// The lines of its body, from the top.
+    /// The lines of the dialog's body, from the top.
     pub body: &'a [&'a str],
-    /// Its buttons, from the right.
+    /// The buttons of the dialog, from the right.
     pub buttons: &'a [Button<'a, Id>],
 }
 
@@ -86,8 +86,11 @@ impl<'a, Id: Copy + Drop> Dialog<'a, Id> {
 }
 
 impl<'a> Dialog<'a, ComponentId> {
-    /// Adds the rectangles of the dialog and of its buttons. Returns the dialog's first row and its
-    /// end row (exclusive). The screen shows the part `screen` of the document.
+    /// Adds the rectangles of the dialog and of its buttons to `rects`. Returns the dialog's first
+    /// row and its end row (exclusive). The screen shows the part `screen` of the document.
+    ///
+    /// # Errors
+    /// `AllocError`: an allocation failed.
     pub fn push_rects(
         &self,
         alloc: Global,

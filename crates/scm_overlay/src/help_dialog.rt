@@ -71,8 +71,11 @@ impl HelpDialog {
         }
     }
 
-    /// Adds the rectangles of the dialog and of its button. Returns the dialog's first row and its
-    /// end row (exclusive). The screen shows the part `screen` of the document.
+    /// Adds the rectangles of the dialog and of its button to `rects`. Returns the dialog's first
+    /// row and its end row (exclusive). The screen shows the part `screen` of the document.
+    ///
+    /// # Errors
+    /// `AllocError`: an allocation failed.
     pub fn push_rects(
         &self,
         alloc: Global,

@@ -88,9 +88,12 @@ impl<'a> MenuBar<'a> {
         Ok(placed)
     }
 
-    /// Adds the rectangles of the bar, of its headers, and of the items of the open menu. Returns
-    /// the number of rows of the bar and the open menu. The screen shows the part `screen` of the
-    /// document.
+    /// Adds the rectangles of the bar, of its headers, and of the items of the open menu to
+    /// `rects`. Returns the number of rows of the bar and the open menu. The screen shows the part
+    /// `screen` of the document.
+    ///
+    /// # Errors
+    /// `AllocError`: an allocation failed.
     pub fn push_rects(
         &self,
         alloc: Global,

@@ -10,7 +10,7 @@ use scm_cells::{Rect, gap};
 /// A rectangle that a component owns.
 #[derive(Clone, Copy)]
 pub struct OverlayRect {
-    /// The component.
+    /// The component that owns the rectangle.
     pub id: ComponentId,
     /// The rectangle: columns of the screen and rows of the document.
     pub rect: Rect,
@@ -60,7 +60,7 @@ fn is_at(rect: OverlayRect, row: usize, column: usize) -> bool
     is_within(rect.y, rect.height, row) & is_within(rect.x, rect.width, column)
 }
 
-/// Returns the owner of the last rectangle that holds the place at `row` and `column`, if any.
+/// Returns the owner of the last of `rects` that holds the place at `row` and `column`, if any.
 pub fn overlay_owner(rects: &[OverlayRect], row: usize, column: usize) -> Option<ComponentId>
     ensures { result ≡ overlay_owner rects.now row column }
 {
