@@ -17,7 +17,7 @@ ghost use Rattle.scm_record.specs.Ending.{EndsWith, FailsWith};
 use crate::frame::DrawnFrame;
 use crate::session::{ActiveSession, Flow};
 use scm_input::{Event, RecordInput, Screens};
-use scm_types::RecordError;
+use scm_types::{RecordError, RecordState};
 use std::alloc::Global;
 
 /// What the run does after a batch of events.
@@ -59,11 +59,11 @@ pub(crate) fn too_long(alloc: Global) -> RecordError
     }
 }
 
-/// Returns whether `text` is within the limit of a message, 1,000,000 bytes.
+/// Returns whether `text` is within the limit of a message.
 pub(crate) fn is_short(text: &String) -> bool
     ensures { result ≡ is_short_text (string_bytes text.now) }
 {
-    text.len() <= 1_000_000
+    text.len() <= RecordState::MAX_TEXT
 }
 
 /// Has the input edit the message of the commit at index `commit`, and returns its answer.
