@@ -49,7 +49,7 @@ pub extern "C" fn scm_new(
     }
 }
 
-/// Returns the code of what the session waits for.
+/// Returns the stage of `session`: the code of what it waits for, or of how it ended.
 #[unsafe(no_mangle)]
 pub extern "C" fn scm_stage(alloc: Global, session: &mut CSession) -> u32
     ensures code { result ≡ code_of_session session.old.pointer.value }
@@ -65,7 +65,7 @@ pub extern "C" fn scm_stage(alloc: Global, session: &mut CSession) -> u32
     }
 }
 
-/// Handles `bytes` from a terminal. Returns the code of the call.
+/// Handles `bytes`, which a terminal sent. Returns the code of the call.
 #[unsafe(no_mangle)]
 pub extern "C" fn scm_type(alloc: Global, session: &mut CSession, bytes: &[u8]) -> u32
     ensures code { result ≡ code_of_call session.old.pointer.value }
@@ -101,7 +101,7 @@ pub extern "C" fn scm_idle(alloc: Global, session: &mut CSession) -> u32
     }
 }
 
-/// Handles the event of a script's word. Returns the code of the call.
+/// Handles the event of `word`, a word of scripts. Returns the code of the call.
 #[unsafe(no_mangle)]
 pub extern "C" fn scm_press(alloc: Global, session: &mut CSession, word: &[u8]) -> u32
     ensures code { result ≡ code_of_press (event_of_bytes word.now) session.old.pointer.value }
@@ -168,7 +168,8 @@ fn done_or_not_now(is_done: bool) -> u32
     if is_done { codes::DONE } else { codes::NOT_NOW }
 }
 
-/// Answers with the message `text`. Returns the code of the call.
+/// Answers with the message `text`, if the session waits for a message. Returns the code of the
+/// call.
 #[unsafe(no_mangle)]
 pub extern "C" fn scm_answer(alloc: Global, session: &mut CSession, text: &[u8]) -> u32
     ensures code { IsCode (is_message text.now)
@@ -234,8 +235,8 @@ pub extern "C" fn scm_resize(alloc: Global, session: &mut CSession, width: u16, 
     }
 }
 
-/// Writes the update that makes the terminal show the session to `out`, if it fits. Returns the
-/// length of the update in bytes.
+/// Writes to `out` the update that makes the terminal show the session, if it fits. Returns the
+/// length of the update, in bytes.
 #[unsafe(no_mangle)]
 pub extern "C" fn scm_paint(alloc: Global, session: &mut CSession, out: &mut [u8]) -> usize
     ensures { PaintsSession session.old.pointer.value session.new.pointer.value
@@ -276,7 +277,7 @@ fn write_update(inner: &mut OpenSession, update: &[u8], out: &mut [u8]) -> usize
     }
 }
 
-/// Makes the next update have every row. Returns the code of the call.
+/// Makes the next update write every row. Returns the code of the call.
 #[unsafe(no_mangle)]
 pub extern "C" fn scm_repaint(alloc: Global, session: &mut CSession) -> u32
     ensures code { result ≡ code_of_repaint session.old.pointer.value }
@@ -292,7 +293,9 @@ pub extern "C" fn scm_repaint(alloc: Global, session: &mut CSession) -> u32
     }
 }
 
-/// Writes the text of the stage to `out`, clipped to its length. Returns the whole length in bytes.
+/// Writes to `out` the text of the stage, clipped to the length of `out`: the screen's rows, the
+/// message to edit, the accepted state and its sides, or the error. Returns the whole length, in
+/// bytes.
 #[unsafe(no_mangle)]
 pub extern "C" fn scm_text(alloc: Global, session: &mut CSession, out: &mut [u8]) -> usize
     ensures text { Writes session.old.pointer.value out.old out.new result }
@@ -321,8 +324,8 @@ fn write_text(bytes: &[u8], out: &mut [u8]) -> usize
     bytes.len()
 }
 
-/// Returns the code of the owner at `row`, `column` of the screen, both counted from 0. Writes the
-/// item that it belongs to to `key`.
+/// Returns the code of the owner at `row` and `column` of the screen, both counted from 0. Writes
+/// to `key` the indices of the item that the place belongs to.
 #[unsafe(no_mangle)]
 pub extern "C" fn scm_owner(
     alloc: Global,
@@ -349,8 +352,8 @@ pub extern "C" fn scm_owner(
     }
 }
 
-/// Writes the symbol that begins at `row`, `column` of the screen to `out`, clipped to its length.
-/// Returns the whole length in bytes.
+/// Writes to `out` the symbol that begins at `row` and `column` of the screen, both counted from 0,
+/// clipped to the length of `out`. Returns the whole length, in bytes.
 #[unsafe(no_mangle)]
 pub extern "C" fn scm_symbol(
     alloc: Global,
@@ -374,8 +377,8 @@ pub extern "C" fn scm_symbol(
     }
 }
 
-/// Writes the sentence of `code` to `out`, clipped to its length. Returns the whole length in
-/// bytes.
+/// Writes to `out` the sentence of `code`, clipped to the length of `out`. Returns the whole
+/// length, in bytes.
 #[unsafe(no_mangle)]
 pub extern "C" fn scm_words(code: u32, out: &mut [u8]) -> usize
     ensures len { result ≡ length (words_of_code code) }

@@ -19,13 +19,13 @@ use scm_record::{ComponentId, FileKey, ItemKind, SelectionKey, ViewState};
 #[repr(C)]
 #[derive(Clone, Copy)]
 pub struct Key {
-    /// The commit whose view shows the place.
+    /// The index of the commit whose view shows the place, counted from 0.
     pub commit: usize,
-    /// The index of the file in the state.
+    /// The index of the file in the state, counted from 0.
     pub file: usize,
-    /// The index of the section in its file.
+    /// The index of the section in its file, counted from 0.
     pub section: usize,
-    /// The index of the line in its section.
+    /// The index of the line in its section, counted from 0.
     pub line: usize,
 }
 

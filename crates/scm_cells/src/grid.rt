@@ -47,7 +47,7 @@ impl Model for Grid {
 }
 
 impl Grid {
-    /// Returns a grid of spaces.
+    /// Returns a grid of `width` columns and `height` rows, with a space in each column.
     ///
     /// # Errors
     /// `OutOfMemory`: an allocation failed.
@@ -70,7 +70,7 @@ impl Grid {
         })
     }
 
-    /// Returns the number of columns of each row.
+    /// Returns the number of columns of each row of the grid.
     pub fn width(&self) -> usize
         ensures value { result ≡ self.now.width }
         ensures sizes { IsScreen self.now }
@@ -78,7 +78,7 @@ impl Grid {
         self.width
     }
 
-    /// Returns the number of rows.
+    /// Returns the number of rows of the grid.
     pub fn height(&self) -> usize
         ensures value { result ≡ length self.now.rows }
         ensures sizes { IsScreen self.now }
@@ -100,7 +100,7 @@ impl Grid {
         self.calls
     }
 
-    /// Counts one row of a document, saturating.
+    /// Adds 1 to the number of document rows that the grid counts, saturating.
     #[tactic(auto, unfolding(crate::specs::Counts::added, crate::specs::Counts::saturating_plus))]
     pub fn add_row(&mut self)
         ensures { self.new ≡ after_count self.old one_row }
@@ -108,7 +108,7 @@ impl Grid {
         self.rows_drawn = self.rows_drawn.saturating_add(1);
     }
 
-    /// Counts one draw call, saturating.
+    /// Adds 1 to the number of draw calls that the grid counts, saturating.
     #[tactic(auto, unfolding(crate::specs::Counts::added, crate::specs::Counts::saturating_plus))]
     pub fn add_call(&mut self)
         ensures { self.new ≡ after_count self.old one_call }
@@ -116,7 +116,8 @@ impl Grid {
         self.calls = self.calls.saturating_add(1);
     }
 
-    /// Makes every column a space and both counts 0. Keeps the memory of the symbols.
+    /// Makes each column of the grid a space, and its counts of rows and of draw calls 0. Keeps the
+    /// memory of the symbols.
     pub fn clear(&mut self)
         ensures { self.new ≡ blank_screen self.old.width (length self.old.rows) }
     {
@@ -127,10 +128,10 @@ impl Grid {
         }
     }
 
-    /// Puts a text on a row, its clusters side by side from `column`, which may be negative. Clips
-    /// it to the columns `low..high`. A cluster that crosses `low` becomes spaces. The text ends
-    /// before the first cluster that would cross `high`. The other columns of a symbol that is
-    /// covered in part become spaces.
+    /// Puts `text` on row `row`, its clusters side by side from `column`, which may be negative.
+    /// Clips them to the columns `low..high`. A cluster that crosses `low` becomes spaces. The text
+    /// ends before the first cluster that would cross `high`. If a symbol is covered in part, its
+    /// other columns become spaces.
     ///
     /// # Errors
     /// `OutOfMemory`: an allocation failed; the grid is unchanged.
@@ -152,8 +153,8 @@ impl Grid {
         Ok(())
     }
 
-    /// Puts a text like `put`. Returns the width of the whole text in columns, with its clipped
-    /// parts.
+    /// Puts `text` on row `row` from `column` on, clipped to the columns `low..high`, as
+    /// [`Grid::put`] does. Returns the width of the whole text in columns, with its clipped parts.
     ///
     /// # Errors
     /// `OutOfMemory`: an allocation failed; the grid is unchanged.
@@ -207,7 +208,7 @@ impl Grid {
         row::symbol_in(columns.as_slice(), column)
     }
 
-    /// Returns the rows as text: for each row a quote, its symbols, a quote and a newline. The text
+    /// Returns the grid as text: for each row a quote, its symbols, a quote and a newline. The text
     /// of a grid without columns is empty.
     ///
     /// # Errors

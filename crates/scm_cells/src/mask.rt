@@ -9,13 +9,13 @@ use crate::rect::{Rect, gap};
 /// end.
 #[derive(Clone, Copy, Debug, Default, Eq, Hash, Ord, PartialEq, PartialOrd)]
 pub struct Mask {
-    /// The first column.
+    /// The first column that the mask lets through.
     pub x: isize,
-    /// The first row.
+    /// The first row that the mask lets through.
     pub y: isize,
-    /// The number of columns, or `None` without an end.
+    /// The number of columns from `x` that the mask lets through, or `None` for all.
     pub width: Option<usize>,
-    /// The number of rows, or `None` without an end.
+    /// The number of rows from `y` that the mask lets through, or `None` for all.
     pub height: Option<usize>,
 }
 
@@ -44,7 +44,7 @@ fn side(side: Option<usize>, from: isize, end: isize) -> usize
 }
 
 impl Mask {
-    /// Returns the first column after the mask, or `None` if the mask has no end.
+    /// Returns the first column right of the mask, or `None` if the mask has no end there.
     pub fn end_x(self) -> Option<isize>
         requires { MaskInRange self }
         ensures { result ≡ end_of self.x self.width }
@@ -55,7 +55,7 @@ impl Mask {
         }
     }
 
-    /// Returns the first row below the mask, or `None` if the mask has no end.
+    /// Returns the first row below the mask, or `None` if the mask has no end there.
     pub fn end_y(self) -> Option<isize>
         requires { MaskInRange self }
         ensures { result ≡ end_of self.y self.height }

@@ -9,35 +9,35 @@ use std::ops::Range;
 /// The size of a rectangle.
 #[derive(Clone, Copy, Debug, Default, Eq, Hash, Ord, PartialEq, PartialOrd)]
 pub struct RectSize {
-    /// The number of columns.
+    /// The number of columns of the rectangle.
     pub width: usize,
-    /// The number of rows.
+    /// The number of rows of the rectangle.
     pub height: usize,
 }
 
 /// A rectangle of cells: the columns `x..x + width` of the rows `y..y + height`.
 #[derive(Clone, Copy, Debug, Default, Eq, Hash, Ord, PartialEq, PartialOrd)]
 pub struct Rect {
-    /// The first column.
+    /// The first column of the rectangle. A negative one is left of column 0.
     pub x: isize,
-    /// The first row.
+    /// The first row of the rectangle. A negative one is above row 0.
     pub y: isize,
-    /// The number of columns.
+    /// The number of columns of the rectangle.
     pub width: usize,
-    /// The number of rows.
+    /// The number of rows of the rectangle.
     pub height: usize,
 }
 
-/// A rectangle on the screen, with the number types of terminal libraries.
+/// A rectangle on the screen, in numbers of 16 bits as terminal libraries have them.
 #[derive(Clone, Copy, Debug, Eq, PartialEq)]
 pub struct ScreenRect {
-    /// The first column, counted from 0.
+    /// The first column of the rectangle, counted from 0.
     pub x: u16,
-    /// The first row, counted from 0.
+    /// The first row of the rectangle, counted from 0.
     pub y: u16,
-    /// The number of columns.
+    /// The number of columns of the rectangle.
     pub width: u16,
-    /// The number of rows.
+    /// The number of rows of the rectangle.
     pub height: u16,
 }
 
@@ -105,7 +105,7 @@ fn rect_between(x: isize, y: isize, end_x: isize, end_y: isize) -> Rect
 }
 
 impl Rect {
-    /// Returns the first column after the rectangle.
+    /// Returns the first column right of the rectangle.
     pub fn end_x(self) -> isize
         requires { RectInRange self }
         ensures { result ≡ end_x_of self }
@@ -121,7 +121,7 @@ impl Rect {
         self.y.strict_add_unsigned(self.height)
     }
 
-    /// Returns the row range of the rectangle.
+    /// Returns the rows of the rectangle, `y..y + height`.
     pub fn iter_ys(self) -> Range<isize>
         requires { RectInRange self }
         ensures start { result.start ≡ self.y }
@@ -131,7 +131,7 @@ impl Rect {
         self.y..self.end_y()
     }
 
-    /// Returns the rectangle with a height of 1.
+    /// Returns the rectangle with the same corner and width, and a height of 1.
     pub fn top_row(self) -> Rect
         ensures { result ≡ record self { height = 1 } }
     {
@@ -153,7 +153,8 @@ impl Rect {
         self.width == 0 || self.height == 0
     }
 
-    /// Returns the intersection. It begins at the greater `x` and `y`, even if it is empty.
+    /// Returns the intersection with `other`. It begins at the greater `x` and the greater `y` of
+    /// the two, even if it is empty.
     pub fn intersect(self, other: Rect) -> Rect
         requires left { RectInRange self }
         requires right { RectInRange other }
@@ -170,7 +171,7 @@ impl Rect {
         )
     }
 
-    /// Returns the least rectangle around both. An empty rectangle is ignored.
+    /// Returns the least rectangle around `self` and `other`. An empty one is ignored.
     pub fn union_bounding(self, other: Rect) -> Rect
         requires left { RectInRange self }
         requires right { RectInRange other }

@@ -52,9 +52,9 @@ fn picture(code: u32) -> &'static str
     }
 }
 
-/// Returns the replacement of a character that a screen cannot show, and `None` for any other. A
-/// tab becomes an arrow and three spaces, and a newline becomes `⏎`. Another ASCII control
-/// character becomes its Unicode picture. Another character of width 0 becomes U+FFFD.
+/// Returns the replacement of `character` if a screen cannot show it, else `None`. A tab becomes an
+/// arrow and three spaces, and a newline becomes `⏎`. Any other ASCII control character becomes its
+/// Unicode picture, and any other character of width 0 becomes U+FFFD.
 #[tactic(auto, unfolding(crate::specs::Replaced::replacement))]
 pub fn replace_control_character(character: char) -> Option<&'static str>
     ensures { option_map (λ s. s.now) result ≡ replacement character }
@@ -122,11 +122,11 @@ fn push_within<'a>(spans: &mut Vec<Span<'a>>, text: &'a str)
     }
 }
 
-/// Adds the spans of a line to the list. Each replaced character adds the text before it, which may
-/// be empty, and its replacement. The rest of the line follows, unless it is empty.
+/// Adds the spans of `line` to `spans`. Each character that is replaced adds the text before it,
+/// which may be empty, and its replacement. The rest of `line` follows, unless it is empty.
 ///
 /// # Errors
-/// `OutOfMemory`: an allocation failed; the list is unchanged.
+/// `OutOfMemory`: an allocation failed; `spans` is unchanged.
 pub fn push_spans_from_line<'a>(line: &'a str, spans: &mut Vec<Span<'a>>) -> Result<(), RecordError>
     ensures ok { OnOk result (
         span_texts spans.new.items ≡ span_texts spans.old.items ++ line_pieces line.now) }

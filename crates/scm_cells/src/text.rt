@@ -11,11 +11,11 @@ use crate::printable::{Printable, is_printable};
 use unicode_segmentation::{Graphemes, UnicodeSegmentation};
 use unicode_width::UnicodeWidthStr;
 
-/// A piece of text.
+/// A piece of text that is drawn on one row.
 #[derive(Clone, Copy, Debug, Eq, PartialEq)]
 pub struct Span<'a>(pub &'a str);
 
-/// Spans side by side on one row.
+/// Spans that are drawn side by side on one row.
 #[derive(Debug, Drop)]
 pub struct Line<'a>(pub Vec<Span<'a>>);
 
@@ -171,7 +171,7 @@ impl<'a> Iterator for Clusters<'a> {
     }
 }
 
-/// Returns the width of a text in columns: the sum over its visible clusters.
+/// Returns the width of `text`, in columns: the sum over its visible clusters.
 #[tactic(auto, unfolding(crate::specs::Clusters::text_width))]
 pub fn text_width(text: &str) -> usize
     ensures value { result ≡ text_width text.now }

@@ -23,7 +23,7 @@ use std::alloc::{AllocError, Global};
 pub struct CommitMessageView<'a> {
     /// Index of the commit, counted from 0.
     pub commit_idx: usize,
-    /// The commit.
+    /// Commit whose message is shown.
     pub commit: &'a Commit,
 }
 
@@ -96,7 +96,11 @@ fn draw_message(
 }
 
 impl<'a> CommitMessageView<'a> {
-    /// If there is a message, adds the overlay rectangle of the button that edits it.
+    /// Adds the overlay rectangle of the button that edits the message to `rects`, if there is a
+    /// message.
+    ///
+    /// # Errors
+    /// `AllocError`: an allocation failed.
     pub fn push_rects(&self, rects: &mut Vec<OverlayRect>) -> Result<(), AllocError>
         ensures ok { OnOk result (rects.new.items ≡ rects.old.items
             ++ message_rects self.now.commit_idx (is_some self.now.commit.now.message)) }
@@ -111,7 +115,7 @@ impl<'a> CommitMessageView<'a> {
         }
     }
 
-    /// Returns how many rows the message has.
+    /// Returns how many rows the message has: three, or none without a message.
     pub fn height(&self) -> usize
         ensures { result ≡ message_height self.now.commit.now.message }
     {

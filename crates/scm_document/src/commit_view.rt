@@ -37,9 +37,9 @@ pub enum CommitViewMode {
 /// The document of a commit: its message, and its files below.
 #[derive(Drop)]
 pub struct CommitView<'a> {
-    /// View of the message.
+    /// View of the commit's message.
     pub commit_message_view: CommitMessageView<'a>,
-    /// Views of the files.
+    /// Views of the files, in order.
     pub file_views: Items<FileView<'a>>,
 }
 
@@ -218,8 +218,11 @@ fn draw_body(
     }
 }
 
-/// Adds the pieces of files and their sections, and returns the row below them. The first file
-/// begins on row `top`; a header may be pinned to row `pinned`.
+/// Adds the pieces of the files of `views` and of their sections to `pieces`. Returns the row below
+/// them. The first file begins on row `top`; a header may be pinned to row `pinned`.
+///
+/// # Errors
+/// `AllocError`: an allocation failed.
 pub fn push_pieces(
     pieces: &mut Vec<Piece>,
     pinned: usize,
@@ -239,7 +242,10 @@ pub fn push_pieces(
 }
 
 impl<'a> CommitView<'a> {
-    /// Draws the document in this pass.
+    /// Draws the document at column `x` and row `y`, in the pass `pass`.
+    ///
+    /// # Errors
+    /// `OutOfMemory`: an allocation failed; the frame is incomplete.
     pub fn draw_rows(
         &self,
         alloc: Global,

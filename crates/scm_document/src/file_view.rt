@@ -34,7 +34,7 @@ pub struct FileView<'a> {
     pub expand_box: TristateBox<ComponentId>,
     /// Whether the file is selected.
     pub is_header_selected: bool,
-    /// Path before the change, if the file was renamed.
+    /// Path before the change, or `None` if the file was not renamed.
     pub old_path: Option<&'a str>,
     /// Path of the file.
     pub path: &'a str,

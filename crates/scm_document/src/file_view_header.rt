@@ -16,7 +16,7 @@ pub struct FileViewHeader<'a> {
     pub file_key: FileKey,
     /// Path of the file.
     pub path: &'a str,
-    /// Path before the change, if the file was renamed.
+    /// Path before the change, or `None` if the file was not renamed.
     pub old_path: Option<&'a str>,
     /// Whether the file is selected.
     pub is_selected: bool,

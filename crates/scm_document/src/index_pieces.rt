@@ -37,13 +37,13 @@ pub enum RowKinds {
 pub struct SectionPiece {
     /// Key of the section.
     pub key: SectionKey,
-    /// First row.
+    /// First row of the section.
     pub top: usize,
-    /// End of the rows, exclusive.
+    /// End of the section's rows, exclusive.
     pub end: usize,
     /// Whether the section owns columns 0 and 1 of its rows.
     pub is_wide: bool,
-    /// Kinds of the rows.
+    /// Kinds of the section's rows.
     pub kinds: RowKinds,
 }
 
@@ -52,11 +52,11 @@ pub struct SectionPiece {
 pub struct FilePiece {
     /// Key of the file.
     pub key: FileKey,
-    /// First row, which is the header's.
+    /// First row of the file, which is the header's.
     pub top: usize,
-    /// End of the rows, exclusive.
+    /// End of the file's rows, exclusive.
     pub end: usize,
-    /// Whether the header is pinned elsewhere.
+    /// Whether the file's header is pinned to a row other than its own.
     pub is_pinned: bool,
 }
 
@@ -272,7 +272,8 @@ fn files_owner(
     None
 }
 
-/// Returns the owner of `row` and `column` among files and their sections, if any.
+/// Returns the owner of `row` and `column` among the files and sections of `pieces`, if any. The
+/// screen has `width` columns.
 pub fn rows_owner(width: usize, pieces: &[Piece], row: usize, column: usize) -> Option<ComponentId>
     ensures { result ≡ rows_owner width (files_of pieces.now) (sections_of pieces.now) row column }
 {
@@ -292,7 +293,10 @@ impl Piece {
     }
 }
 
-/// Returns the pieces that have one of the rows `first..last`.
+/// Returns those of `pieces` that have one of the rows `first..last`.
+///
+/// # Errors
+/// `AllocError`: an allocation failed.
 pub fn pieces_near(
     alloc: Global,
     pieces: &[Piece],
@@ -334,7 +338,11 @@ fn push_header(
     Ok(())
 }
 
-/// Adds the overlay rectangles of the sticky header on `row`, if there is one.
+/// Adds to `rects` the overlay rectangles of the header that `pieces` has pinned to row `row`, if
+/// there is one. The screen has `width` columns.
+///
+/// # Errors
+/// `AllocError`: an allocation failed.
 pub fn push_pinned(
     rects: &mut Vec<OverlayRect>,
     width: usize,

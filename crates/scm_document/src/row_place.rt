@@ -17,7 +17,7 @@ pub enum RowPlace {
 }
 
 impl Piece {
-    /// Returns how many rows are the piece's own. A file's own row is its header.
+    /// Returns how many rows are the piece's own: one for a file, which is its header.
     pub fn own_rows(&self) -> usize
         ensures { result ≡ length (piece_parts self.now) }
     {

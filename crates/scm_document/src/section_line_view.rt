@@ -48,7 +48,7 @@ pub enum SectionLineViewInner<'a> {
 pub struct SectionLineView<'a> {
     /// Key of the line.
     pub line_key: LineKey,
-    /// What is shown of it.
+    /// Text of the line, and its number or its mark.
     pub inner: SectionLineViewInner<'a>,
 }
 

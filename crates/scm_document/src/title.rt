@@ -36,6 +36,9 @@ pub(crate) enum Title<'a> {
 
 impl<'a> Title<'a> {
     /// Returns the title's text.
+    ///
+    /// # Errors
+    /// `AllocError`: an allocation failed.
     pub fn text(&self, alloc: Global) -> Result<String, AllocError>
         ensures ok { IfOk result (λ s. string_bytes s ≡ title_text self.now) }
     {
@@ -46,6 +49,9 @@ impl<'a> Title<'a> {
     }
 
     /// Returns the title's width, in columns.
+    ///
+    /// # Errors
+    /// `AllocError`: the width exceeds a `usize`; no memory holds such a title.
     pub fn width(&self) -> Result<usize, AllocError>
         ensures ok { IfOk result (λ n. n ≡ text_width (title_text self.now)) }
     {

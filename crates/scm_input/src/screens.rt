@@ -56,7 +56,8 @@ impl Screens {
         Ok(TestingScreenshot { place })
     }
 
-    /// Returns the last screen stored in a slot, or else `<this screenshot was never assigned>`.
+    /// Returns the last screen stored in the slot `shot`, or else `<this screenshot was never
+    /// assigned>`.
     pub fn text(&self, shot: TestingScreenshot) -> &str
         ensures { result.now ≡ text_at self.now shot.place }
     {
@@ -87,7 +88,7 @@ impl Screens {
         put_at(&mut self.texts, place, text);
     }
 
-    /// Adds 1 to the number of frames.
+    /// Adds 1 to the number of frames of the store, saturating.
     pub fn add_frame(&mut self)
         ensures { self.new ≡ with_frame self.old }
     {

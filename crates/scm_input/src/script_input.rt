@@ -17,7 +17,7 @@ pub enum ScriptRead {
 /// An edit of a script.
 #[derive(Drop)]
 pub enum ScriptEdit {
-    /// The new message.
+    /// The message that the edit returns.
     Answer(String),
     /// A failure with `Other` and this text.
     Fault(String),
@@ -70,7 +70,7 @@ impl ScriptInput {
         })
     }
 
-    /// Returns the number of remaining edits.
+    /// Returns the number of edits that the script still has.
     pub fn edits_left(&self) -> usize
         ensures { result ≡ length self.now.edits.items }
     {

@@ -14,7 +14,7 @@ pub struct KeyModifiers {
 }
 
 impl KeyModifiers {
-    /// No modifier.
+    /// No modifier key.
     pub const NONE: KeyModifiers = KeyModifiers {
         shift: false,
         control: false,
@@ -22,7 +22,7 @@ impl KeyModifiers {
         other: false,
     };
 
-    /// Only shift.
+    /// The shift key alone.
     pub const SHIFT: KeyModifiers = KeyModifiers {
         shift: true,
         control: false,
@@ -30,7 +30,7 @@ impl KeyModifiers {
         other: false,
     };
 
-    /// Only control.
+    /// The control key alone.
     pub const CONTROL: KeyModifiers = KeyModifiers {
         shift: false,
         control: true,
@@ -78,7 +78,7 @@ pub enum KeyEventKind {
 /// A key event.
 #[derive(Clone, Copy, Debug, PartialEq, Eq)]
 pub struct KeyEvent {
-    /// The key.
+    /// The key that the event is about.
     pub code: KeyCode,
     /// The modifiers held with it.
     pub modifiers: KeyModifiers,
@@ -112,18 +112,18 @@ pub enum MouseEventKind {
     ScrollUp,
     /// The wheel turns down.
     ScrollDown,
-    /// Anything else.
+    /// Any other event of the mouse.
     Other,
 }
 
 /// A mouse event and its place.
 #[derive(Clone, Copy, Debug, PartialEq, Eq)]
 pub struct MouseEvent {
-    /// The kind of the event.
+    /// The kind of the mouse event.
     pub kind: MouseEventKind,
-    /// The column, counted from 0 on the left.
+    /// The column of the mouse, counted from 0 on the left.
     pub column: u16,
-    /// The row, counted from 0 at the top.
+    /// The row of the mouse, counted from 0 at the top.
     pub row: u16,
     /// The modifiers held during the event.
     pub modifiers: KeyModifiers,
@@ -136,6 +136,6 @@ pub enum TerminalEvent {
     Key(KeyEvent),
     /// A mouse event.
     Mouse(MouseEvent),
-    /// Anything else.
+    /// Any other event of the terminal.
     Other,
 }

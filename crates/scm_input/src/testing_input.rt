@@ -14,7 +14,8 @@ pub struct TestingInput {
     pub width: usize,
     /// The height of the screen, in rows.
     pub height: usize,
-    /// The remaining events. If none is left, each batch is one `Event::None`.
+    /// The remaining events, each of which is a batch. If none is left, each batch is one
+    /// `Event::None`.
     pub events: VecDeque<Event>,
     /// The remaining messages that edits return. If none is left, an edit fails.
     pub commit_messages: VecDeque<String>,

@@ -14,6 +14,9 @@ pub trait FromJson: Sized + Drop {
     ghost form: { Data → Option Self };
 
     /// Returns the value that `value` is the form of, or `None` if there is none.
+    ///
+    /// # Errors
+    /// `AllocError`: an allocation failed.
     fn from_json(alloc: Global, value: &Value) -> Result<Option<Self>, AllocError>
         ensures { IfOk result (λ o. o ≡ form (view value.now)) };
 }

@@ -24,13 +24,13 @@ use std::hash::Hash;
 /// needs more and the screen has room.
 #[derive(Drop)]
 pub struct Dialog<'a, Id> {
-    /// Its id.
+    /// The id of the dialog.
     pub id: Id,
-    /// Its title.
+    /// The title of the dialog, on its first row.
     pub title: Text<'a>,
-    /// The lines of its body, from the top.
+    /// The lines of the dialog's body, from the top.
     pub body: &'a [&'a str],
-    /// Its buttons, from the right.
+    /// The buttons of the dialog, from the right.
     pub buttons: &'a [Button<'a, Id>],
 }
 
@@ -98,9 +98,12 @@ fn dialog_area(width: u16, height: u16, row: usize, lines: &[&str]) -> DialogAre
 }
 
 impl<'a> Dialog<'a, ComponentId> {
-    /// Adds the rectangles of the dialog and of its buttons. Returns the dialog's first row and its
-    /// end row (exclusive). The screen has `width` columns and `height` rows; its first row shows
-    /// row `row` of the document.
+    /// Adds the rectangles of the dialog and of its buttons to `rects`. Returns the dialog's first
+    /// row and its end row (exclusive). The screen has `width` columns and `height` rows; its first
+    /// row shows row `row` of the document.
+    ///
+    /// # Errors
+    /// `AllocError`: an allocation failed.
     #[tactic(auto, using(scm_types::proofs::LimitLemmas::scroll_room))]
     pub fn push_rects(
         &self,

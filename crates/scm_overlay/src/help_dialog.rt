@@ -57,9 +57,12 @@ fn close_button() -> Button<'static, ComponentId>
 }
 
 impl HelpDialog {
-    /// Adds the rectangles of the dialog and of its button. Returns the dialog's first row and its
-    /// end row (exclusive). The screen has `width` columns and `height` rows; its first row shows
-    /// row `row` of the document.
+    /// Adds the rectangles of the dialog and of its button to `rects`. Returns the dialog's first
+    /// row and its end row (exclusive). The screen has `width` columns and `height` rows; its first
+    /// row shows row `row` of the document.
+    ///
+    /// # Errors
+    /// `AllocError`: an allocation failed.
     #[tactic(auto, using(scm_types::proofs::LimitLemmas::scroll_room))]
     pub fn push_rects(
         &self,

@@ -14,7 +14,7 @@ use std::alloc::{AllocError, Global};
 /// An item of a menu.
 #[derive(Drop)]
 pub struct MenuItem<'a> {
-    /// Its label, without the brackets.
+    /// The label of the item, without the brackets.
     pub label: Text<'a>,
 }
 
@@ -35,15 +35,15 @@ impl<'a> MenuItem<'a> {
 /// widest item. An item that is wider than the screen is clipped, without an ellipsis.
 #[derive(Drop)]
 pub struct Menu<'a> {
-    /// The label of its header in the menu bar.
+    /// The label of the menu's header in the menu bar.
     pub label: Text<'a>,
-    /// Its items, from the top.
+    /// The items of the menu, from the top.
     pub items: Items<MenuItem<'a>>,
 }
 
 impl<'a> Menu<'a> {
-    /// Returns the button of its header in the menu bar, where it is menu `menu_idx`, counted from
-    /// 0.
+    /// Returns the button of the menu's header in the menu bar, where the menu has the index
+    /// `menu_idx`, counted from 0.
     pub fn header(&self, menu_idx: usize) -> Button<'_, ComponentId>
         ensures { result ≡ header_button menu_idx self.now }
     {

@@ -175,8 +175,11 @@ fn push_chosen(
 }
 
 impl<'a> MenuBar<'a> {
-    /// Adds the rectangles of the bar and of its open menu. Returns the row below them. The screen
-    /// has `width` columns; its first row shows row `row` of the document.
+    /// Adds the rectangles of the bar and of its open menu to `rects`. Returns the row below them.
+    /// The screen has `width` columns; its first row shows row `row` of the document.
+    ///
+    /// # Errors
+    /// `AllocError`: an allocation failed.
     pub fn push_rects(
         &self,
         rects: &mut Vec<OverlayRect>,

@@ -263,7 +263,7 @@ impl<'state> LiveSession<'state> {
         self.session.view_state()
     }
 
-    /// Returns the screen as a grid.
+    /// Returns the screen of the session as a grid of symbols.
     pub fn grid(&self) -> &Grid
         ensures width { result.now.width ≡ columns_of self.now.kind }
         ensures rows { result.now.rows ≡ (scene_of self.now.kind self.now.session).frame.rows }
@@ -294,14 +294,14 @@ impl<'state> LiveSession<'state> {
 }
 
 impl<'state> Editing<'state> {
-    /// Returns the index of the commit whose message is edited.
+    /// Returns the index of the commit whose message is edited, counted from 0.
     pub fn commit(&self) -> usize
         ensures { result ≡ self.now.commit }
     {
         self.commit
     }
 
-    /// Returns the message of that commit.
+    /// Returns the message that is edited, as it is before the edit.
     pub fn message(&self) -> &str
         ensures text { result.now ≡ message_text self.now.session self.now.commit }
         ensures said { message_of self.now.session self.now.commit ≡ Some result.now }
@@ -363,7 +363,8 @@ impl<'state> Editing<'state> {
     }
 }
 
-/// Driving a session is the same as [`Recorder::run`](crate::Recorder::run) on the same events.
+/// Proves that driving a session is the same as [`Recorder::run`](crate::Recorder::run) on the same
+/// events.
 ///
 /// Each `resize` starts a new run from the current session. In each run, an event that the program
 /// hands in is a read of its own, and a message is an edit. The steps of the run lead to the turn

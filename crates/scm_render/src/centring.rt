@@ -16,8 +16,8 @@ fn hundredths(room: usize, least: usize, percent: usize) -> u128
     preferred.max(100 * least.min(room) as u128)
 }
 
-/// Returns a size in cells: `percent` per cent of `room`, rounded down. It is at least `least`, if
-/// `room` has that many.
+/// Returns a size in cells: `percent` per cent of `room`, rounded down. The size is at least
+/// `least`, if `room` has that many cells.
 pub fn centred_size(room: usize, least: usize, percent: usize) -> usize
     requires { percent ≤ 100 }
     ensures { result ≡ centred_size room least percent }

@@ -10,9 +10,9 @@ use scm_errors::RecordError;
 use std::alloc::Global;
 use std::hash::Hash;
 
-/// A component, which draws itself in a viewport. Drawing adds its picture to the viewport's
-/// canvas, and its rows and calls to the viewport's counts. These depend on the component, its
-/// place, the part of the document on the screen, and the mask.
+/// A component, which draws itself in a viewport. Drawing adds the component's picture to the
+/// viewport's canvas, and its rows and calls to the viewport's counts. They depend on the
+/// component, its place, the part of the document on the screen, and the mask.
 pub trait Component: Sized {
     /// The type of ids, which identify components.
     type Id: Copy + Eq + Hash + Drop;

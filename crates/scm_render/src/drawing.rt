@@ -33,11 +33,11 @@ fn row_rect(x: isize, y: isize, width: usize) -> Rect
 }
 
 impl<K: Copy + Eq + Hash + Drop> Viewport<K> {
-    /// Draws a text from column `x` of row `y`, clipped to the mask. Returns the rectangle of the
+    /// Draws `span` from column `x` of row `y`, clipped to the mask. Returns the rectangle of the
     /// whole text.
     ///
     /// # Errors
-    /// `OutOfMemory`: an allocation failed.
+    /// `OutOfMemory`: an allocation failed; the frame is incomplete.
     pub fn draw_span(&mut self, x: isize, y: isize, span: &Span) -> Result<Rect, RecordError>
         requires { CanDraw self.old (span_call x y span.now.0.now) }
         ensures draws { HasDrawn self.old self.new result (span_call x y span.now.0.now) }
@@ -47,11 +47,11 @@ impl<K: Copy + Eq + Hash + Drop> Viewport<K> {
         self.add_text(x, y, span.0)
     }
 
-    /// Draws a line from column `x` of row `y`, clipped to the mask. Returns the rectangle of the
-    /// whole line.
+    /// Draws the spans of `line` side by side from column `x` of row `y`, clipped to the mask.
+    /// Returns the rectangle of the whole line.
     ///
     /// # Errors
-    /// `OutOfMemory`: an allocation failed.
+    /// `OutOfMemory`: an allocation failed; the frame is incomplete.
     pub fn draw_line(&mut self, x: isize, y: isize, line: &Line) -> Result<Rect, RecordError>
         requires { CanDraw self.old (line_call x y (span_texts line.now.0.items)) }
         ensures draws { HasDrawn self.old self.new result
@@ -63,12 +63,12 @@ impl<K: Copy + Eq + Hash + Drop> Viewport<K> {
         self.add_spans(x, y, line.0.as_slice())
     }
 
-    /// Draws spans side by side from column `x` of row `y`, clipped to the mask. If they end past
+    /// Draws `spans` side by side from column `x` of row `y`, clipped to the mask. If they end past
     /// the mask, draws an ellipsis in the last column of the mask. Returns the rectangle of the
     /// whole spans.
     ///
     /// # Errors
-    /// `OutOfMemory`: an allocation failed.
+    /// `OutOfMemory`: an allocation failed; the frame is incomplete.
     pub fn draw_text(&mut self, x: isize, y: isize, spans: &[Span]) -> Result<Rect, RecordError>
         requires { CanDraw self.old (text_call x y (span_texts spans.now)) }
         ensures draws { HasDrawn self.old self.new result (text_call x y (span_texts spans.now)) }
@@ -78,10 +78,10 @@ impl<K: Copy + Eq + Hash + Drop> Viewport<K> {
         self.add_cut(x, y, spans)
     }
 
-    /// Draws spaces over a rectangle, clipped to the mask. Returns the rectangle.
+    /// Draws spaces over `rect`, clipped to the mask. Returns `rect`.
     ///
     /// # Errors
-    /// `OutOfMemory`: an allocation failed.
+    /// `OutOfMemory`: an allocation failed; the frame is incomplete.
     pub fn draw_blank(&mut self, rect: Rect) -> Result<Rect, RecordError>
         requires { CanDraw self.old (blank_call rect) }
         ensures draws { HasDrawn self.old self.new result (blank_call rect) }
@@ -91,15 +91,15 @@ impl<K: Copy + Eq + Hash + Drop> Viewport<K> {
         self.add_blank(rect)
     }
 
-    /// Draws a frame over a rectangle, clipped to the mask. Returns the rectangle.
+    /// Draws a frame over `rect`, clipped to the mask. Returns `rect`.
     ///
-    /// The frame has a border of line symbols with spaces inside, and the title on its top row. The
-    /// lines of the body are below the title, as many as fit. Title and body are clipped to the
+    /// The frame has a border of line symbols with spaces inside, and `title` on its top row. The
+    /// lines of `body` are below the title, as many as fit. Title and body are clipped to the
     /// columns inside the border, without an ellipsis. A frame of one column has only the left half
     /// of the border. An empty frame draws nothing.
     ///
     /// # Errors
-    /// `OutOfMemory`: an allocation failed.
+    /// `OutOfMemory`: an allocation failed; the frame is incomplete.
     pub fn draw_frame(
         &mut self,
         rect: Rect,

@@ -14,35 +14,36 @@ use crate::target::Clickable;
 use crate::trace::DrawnRects;
 use std::hash::Hash;
 
-/// The picture of several draw calls: in turn, under a temporary mask, and in a loop.
+/// Proves what the picture of several draw calls is: one after the other, under a temporary mask,
+/// and in a loop.
 pub fn pictures_are_composed<K>()
     ensures { PicturesAreComposed K }
 {}
 
-/// The picture of several calls is in range if and only if the picture of each call is. The same
-/// holds for a component, within another and alone.
+/// Proves that the picture of several calls is in range if and only if the picture of each call is.
+/// Proves the same of a component within another component, and of a component alone.
 pub fn parts_are_in_range<K>()
     ensures { PartsAreInRange K }
 {}
 
-/// If the picture of a call is in range, so is the rectangle that the call draws over.
+/// Proves that the rectangle that a call draws over is in range, if the picture of the call is.
 pub fn calls_have_rects<K>()
     ensures { CallsHaveRects K }
 {}
 
-/// A picture within bounds that are in range is in range. A call stays within bounds that contain
-/// its place and width, visible or not.
+/// Proves that a picture within bounds that are in range is in range. A call stays within bounds
+/// that contain its place and width, visible or not.
 pub fn drawing_stays_within<K>()
     ensures { DrawingStaysWithin K }
 {}
 
-/// The counts of several calls are the sum of the counts of each.
+/// Proves that the counts of several calls are the sum of the counts of each.
 pub fn counts_add_up()
     ensures { CountsAddUp }
 {}
 
-/// If `==` is equality of ids, the map of the boxes of a drawing has the last box of each id.
-/// [`find_target`](crate::find_target) finds the last clickable box under the point.
+/// Proves that the map of the boxes of a drawing has the last box of each id, if `==` is equality
+/// of ids. [`find_target`](crate::find_target) finds the last clickable box under the point.
 pub fn maps_have_last_boxes<K: Copy + Eq + Hash + Drop + Clickable>(boxes: &DrawnRects<K>)
     ensures { IsLawful K.eq → HasLastBoxes K.eq K.clicks boxes.now }
 {}

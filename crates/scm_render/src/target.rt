@@ -8,7 +8,7 @@ use crate::trace::{DrawnRect, DrawnRects};
 use scm_cells::Rect;
 use std::hash::Hash;
 
-/// An id of a component that may be clickable.
+/// An id of a component. A click may act on the component or not.
 pub trait Clickable {
     // Whether a click acts on the component.
     ghost clicks: { Self → Bool };
@@ -81,8 +81,8 @@ fn id_of<K: Copy + Drop>(found: Option<(K, DrawnRect)>) -> Option<K>
     Some(id)
 }
 
-/// Returns the id that a click on row `y` and column `x` hits. It is the id of the latest clickable
-/// box that contains the point, or `None` without such a box.
+/// Returns the id in `boxes` that a click on row `y` and column `x` hits. It is the id of the
+/// latest clickable box that contains the point, or `None` without such a box.
 pub fn find_target<K: Copy + Eq + Hash + Drop + Clickable>(
     boxes: &DrawnRects<K>,
     y: isize,

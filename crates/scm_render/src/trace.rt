@@ -45,7 +45,7 @@ impl<Id: Copy + Eq + Hash + Drop> DrawTrace<Id> {
         }
     }
 
-    /// Grows the rectangle to contain `rect`. An empty rectangle is ignored.
+    /// Grows the trace's rectangle to contain `rect`. An empty `rect` is ignored.
     pub fn merge_rect(&mut self, rect: Rect)
         requires left { RectInRange self.old.rect }
         requires right { RectInRange rect }
@@ -55,8 +55,8 @@ impl<Id: Copy + Eq + Hash + Drop> DrawTrace<Id> {
         self.rect = self.rect.union_bounding(rect);
     }
 
-    /// Adds another trace: its rectangle by [`DrawTrace::merge_rect`], and its boxes. They replace
-    /// boxes of the same ids.
+    /// Grows the trace's rectangle to contain that of `other`, and adds the boxes of `other`. They
+    /// replace boxes of the same ids.
     ///
     /// # Errors
     /// `OutOfMemory`: an allocation failed; the trace is unchanged.

@@ -85,8 +85,8 @@ impl<K> Model for Viewport<K> {
 }
 
 impl<K: Copy + Eq + Hash + Drop> Viewport<K> {
-    /// Returns a viewport without a mask. It shows the part `rect` of the document on a grid of the
-    /// same size.
+    /// Returns a viewport without a mask. It shows the part `rect` of the document on `grid`, which
+    /// has the size of `rect`.
     pub fn new(alloc: Global, grid: Grid, rect: Rect) -> Viewport<K>
         requires rect { RectInRange rect }
         requires width { grid.width ≡ rect.width }
@@ -109,7 +109,7 @@ impl<K: Copy + Eq + Hash + Drop> Viewport<K> {
         }
     }
 
-    /// Returns the grid.
+    /// Returns the grid of the viewport, with what was drawn.
     pub fn into_grid(self) -> Grid
         ensures width { result.width ≡ self.canvas.sight.rect.width }
         ensures height { length result.rows ≡ self.canvas.sight.rect.height }
@@ -129,7 +129,7 @@ impl<K: Copy + Eq + Hash + Drop> Viewport<K> {
         self.surface.rect()
     }
 
-    /// Returns the mask, or that of the whole rectangle if none is set.
+    /// Returns the mask of the viewport, or that of its whole rectangle if none is set.
     pub fn mask(&self) -> Mask
         ensures value { result ≡ mask_or self.now.canvas.sight.mask self.now.canvas.sight.rect }
         ensures in_range { MaskInRange result }
@@ -140,7 +140,7 @@ impl<K: Copy + Eq + Hash + Drop> Viewport<K> {
         }
     }
 
-    /// Returns the part of the rectangle that the mask lets through.
+    /// Returns the part of the viewport's rectangle that the mask lets through.
     #[tactic(auto, unfolding(crate::specs::Drawing::reach))]
     pub fn mask_rect(&self) -> Rect
         ensures value { result ≡ reach self.now.canvas.sight }
@@ -149,7 +149,7 @@ impl<K: Copy + Eq + Hash + Drop> Viewport<K> {
         self.mask().apply(self.surface.rect())
     }
 
-    /// Sets or removes the mask. Returns the previous one.
+    /// Sets the mask of the viewport to `mask`, or removes it. Returns the previous mask.
     pub fn swap_mask(&mut self, mask: Option<Mask>) -> Option<Mask>
         requires { MaskIsInRange mask }
         ensures old { result ≡ self.old.canvas.sight.mask }
@@ -160,8 +160,8 @@ impl<K: Copy + Eq + Hash + Drop> Viewport<K> {
         mem::replace(&mut self.mask, mask)
     }
 
-    /// Returns the part of a rectangle that is on the screen, in columns and rows of the screen.
-    /// Returns `None` if no cell of it is there.
+    /// Returns the part of `rect` that is on the screen, in columns and rows of the screen. Returns
+    /// `None` if no cell of `rect` is there.
     #[tactic(auto, unfolding(crate::specs::Places::screen_part))]
     pub fn translate_rect(&self, rect: Rect) -> Option<ScreenRect>
         requires { RectInRange rect }
@@ -193,7 +193,7 @@ impl<K: Copy + Eq + Hash + Drop> Viewport<K> {
         rect
     }
 
-    /// Counts one row of the document.
+    /// Counts one row of the document as drawn.
     pub fn begin_row(&mut self)
         ensures canvas { self.new.canvas ≡ self.old.canvas }
         ensures counts { self.new.counts ≡ added self.old.counts one_row }
@@ -201,9 +201,9 @@ impl<K: Copy + Eq + Hash + Drop> Viewport<K> {
         self.surface.add_row();
     }
 
-    /// Adds the box of a component that covers the rectangle `covered`, without drawing. Grows the
-    /// box of the current component to contain it. If `covered` is empty, the new box is a
-    /// rectangle of zeros.
+    /// Adds the box of a component with the id `id` that covers the rectangle `covered`, without
+    /// drawing. Grows the box of the current component to contain it. If `covered` is empty, the
+    /// new box is a rectangle of zeros.
     ///
     /// # Errors
     /// `OutOfMemory`: an allocation failed.
@@ -221,11 +221,11 @@ impl<K: Copy + Eq + Hash + Drop> Viewport<K> {
         Ok(())
     }
 
-    /// Draws a component within the current one. Returns its box: the least rectangle around all
-    /// that it and its parts drew or covered.
+    /// Draws `component` at column `x` and row `y`, within the current component. Returns its box:
+    /// the least rectangle around all that it and its parts drew or covered.
     ///
     /// # Errors
-    /// `OutOfMemory`: an allocation failed.
+    /// `OutOfMemory`: an allocation failed; the frame is incomplete.
     pub fn draw_component<C: Component<Id = K>>(
         &mut self,
         x: isize,
@@ -251,9 +251,9 @@ impl<K: Copy + Eq + Hash + Drop> Viewport<K> {
         Ok(rect)
     }
 
-    /// Draws a component at column 0 and row 0 of the document. The grid shows the document from
-    /// column `x` and row `y`. Keeps the symbols that nothing is drawn over. Returns the boxes of
-    /// all components.
+    /// Draws `component` at column 0 and row 0 of the document. `grid` shows the document from
+    /// column `x` and row `y`, and keeps the symbols that nothing is drawn over. Returns the boxes
+    /// of all components.
     ///
     /// # Errors
     /// `OutOfMemory`: an allocation failed; the grid has the same size.

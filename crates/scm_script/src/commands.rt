@@ -9,18 +9,18 @@ use std::alloc::Global;
 /// The reads, the edits and the screenshots of a script.
 #[derive(Drop)]
 pub struct Commands {
-    /// The result of each read, in order.
+    /// The result of each read of the script, in order.
     pub reads: Vec<ScriptRead>,
-    /// The result of each edit, in order.
+    /// The result of each edit of the script, in order.
     pub edits: Vec<ScriptEdit>,
-    /// The store, with a place for each screenshot.
+    /// The store of screens, with a place for each screenshot.
     pub screens: Screens,
-    /// The screenshots, in order.
+    /// The screenshots of the script, in order.
     pub shots: Vec<TestingScreenshot>,
 }
 
 impl Commands {
-    /// Returns no commands.
+    /// Returns commands without a read, an edit or a screenshot.
     pub fn new(alloc: Global) -> Commands {
         Commands {
             reads: Vec::new(alloc),

@@ -30,8 +30,11 @@ pub fn play<R: Read + Drop, W: Write + Drop>(alloc: Global, reader: R, writer: W
     play_with_hints(alloc, reader, writer, io::sink())
 }
 
-/// Does the same as [`play`], and writes hints to `hints`: where and why it refused the input, and which parts of the
-/// script had no effect. If `writer` fails, writes no hints. Hints are best effort: a failure of `hints` is ignored.
+/// Runs the script from `reader`, and writes the output to `writer` and hints to `hints`. Hints say
+/// where and why the input was refused, and which parts of the script had no effect.
+///
+/// Returns the program's exit status, as [`play`] does. If `writer` fails, writes no hints. Hints
+/// are best effort: a failure of `hints` is ignored.
 pub fn play_with_hints<R: Read + Drop, W: Write + Drop, H: Write + Drop>(
     alloc: Global,
     reader: R,

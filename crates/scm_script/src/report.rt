@@ -43,7 +43,8 @@ fn push_screen(text: &mut String, screen: &str) -> Result<(), AllocError> {
     Ok(())
 }
 
-/// Adds `state` as JSON on a line. Then adds the two sides of each file, after a line with its index, counted from 0.
+/// Adds the output for an accepted `state` to `text`: the state as JSON on a line, and the two
+/// sides of each file after a line with its index, counted from 0.
 ///
 /// # Errors
 /// `Fault`: an allocation failed; `text` may have a part of it.

@@ -5,20 +5,21 @@ use crate::error::PlayError;
 use crate::words::{read_decimal, words_of};
 use std::alloc::{AllocError, Global};
 
-/// An input that is read.
+/// The input of the program, read: the size of the screen, the text of the state, and the commands.
 #[derive(Drop)]
 pub struct Script<'a> {
     /// The width of the screen, in columns.
     pub width: u16,
     /// The height of the screen, in rows.
     pub height: u16,
-    /// The text of the state.
+    /// The text before the line `script`, which should be a state as JSON.
     pub state: &'a str,
-    /// The commands.
+    /// The commands after the line `script`.
     pub commands: Commands,
 }
 
-/// Reads an input.
+/// Reads the program's input `text`: a line with the screen's size, a state, a line `script`, and
+/// commands.
 ///
 /// # Errors
 /// `BadLine`: the first line is not a size, or a later line is not a command.
@@ -48,12 +49,12 @@ pub fn split_line(text: &str) -> (&str, &str) {
     }
 }
 
-/// The text before the line `script`.
+/// The text of a state, which stands before the line `script`.
 #[derive(Clone, Copy)]
 pub struct StateText<'a> {
-    /// The text of the state.
+    /// The text before the line `script`.
     pub text: &'a str,
-    /// The number of its lines.
+    /// The number of lines before the line `script`.
     pub lines: usize,
 }
 

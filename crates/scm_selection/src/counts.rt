@@ -14,7 +14,7 @@ fn has_text(commit: &Commit) -> bool
     }
 }
 
-/// Returns the number of commits whose message is not empty.
+/// Returns the number of commits of `state` whose message is not empty.
 pub fn message_count(state: &RecordState<'_>) -> usize
     ensures { result ≡ message_count state.now }
 {
@@ -36,7 +36,7 @@ fn is_changed(file: &File<'_>) -> bool
     }
 }
 
-/// Returns the number of files that are not wholly unchecked.
+/// Returns the number of files of `state` that are not wholly unchecked.
 pub fn changed_count(state: &RecordState<'_>) -> usize
     ensures { result ≡ changed_count state.now }
 {

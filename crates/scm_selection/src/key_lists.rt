@@ -8,7 +8,7 @@ use scm_types::{
 };
 use std::alloc::{AllocError, Global};
 
-/// Returns the key of file `file` in the view of the first commit.
+/// Returns the key of file `file`, counted from 0, in the view of the first commit.
 pub fn file_key(file: usize) -> SelectionKey
     ensures { result ≡ file_key file }
 {
@@ -18,7 +18,8 @@ pub fn file_key(file: usize) -> SelectionKey
     })
 }
 
-/// Returns the key of section `section` of file `file` in the view of the first commit.
+/// Returns the key of section `section` of file `file` in the view of the first commit. Both are
+/// counted from 0.
 pub fn section_key(file: usize, section: usize) -> SelectionKey
     ensures { result ≡ section_key file section }
 {
@@ -29,7 +30,8 @@ pub fn section_key(file: usize, section: usize) -> SelectionKey
     })
 }
 
-/// Returns the key of line `line` of a section in the view of the first commit.
+/// Returns the key of line `line` of section `section` of file `file` in the view of the first
+/// commit. All three are counted from 0.
 pub fn line_key(file: usize, section: usize, line: usize) -> SelectionKey
     ensures { result ≡ line_key file section line }
 {
@@ -40,7 +42,7 @@ pub fn line_key(file: usize, section: usize, line: usize) -> SelectionKey
     SelectionKey::Line(file.section(section).line(line))
 }
 
-/// Returns the key of the first file, or `SelectionKey::None` if there is no file.
+/// Returns the key of the first of `files`, or `SelectionKey::None` if `files` is empty.
 pub fn first_key(files: &[File<'_>]) -> SelectionKey
     ensures { result ≡ first_key files.now }
 {
@@ -105,7 +107,8 @@ fn push_sections(
     Ok(())
 }
 
-/// Returns all keys of `files`.
+/// Returns the keys of `files` in order: each file before its sections that are not context, and
+/// each section before its changed lines.
 ///
 /// # Errors
 /// `OutOfMemory`: an allocation failed.

@@ -8,7 +8,7 @@ use std::alloc::Global;
 use std::collections::BTreeSet;
 use std::marker::Model;
 
-/// A set of keys.
+/// A set of keys, which contracts see as their list in ascending order.
 #[derive(Debug, Drop)]
 pub struct KeySet {
     /// The keys, in ascending order.
@@ -25,7 +25,7 @@ impl Model for KeySet {
 }
 
 impl KeySet {
-    /// Returns the empty set. It allocates from `alloc`.
+    /// Returns the empty set. It takes memory from `alloc` once keys are added.
     pub fn new(alloc: Global) -> KeySet
         ensures { result ≡ [] }
     {
@@ -48,7 +48,7 @@ impl KeySet {
         self.keys == other.keys
     }
 
-    /// Adds `key`.
+    /// Adds `key` to the set.
     ///
     /// # Errors
     /// `OutOfMemory`: an allocation failed; the set is unchanged.
@@ -61,14 +61,14 @@ impl KeySet {
         Ok(())
     }
 
-    /// Removes `key`, if the set has it.
+    /// Removes `key` from the set, if the set has it.
     pub fn remove(&mut self, key: SelectionKey)
         ensures { self.new ≡ without_key self.old key }
     {
         self.keys.remove(&key);
     }
 
-    /// Removes `key` if the set has it, else adds it.
+    /// Removes `key` from the set if the set has it, else adds it.
     ///
     /// # Errors
     /// `OutOfMemory`: an allocation failed; the set is unchanged.

@@ -12,7 +12,7 @@ use crate::key_lists::{file_key, line_key, section_key};
 use crate::key_set::KeySet;
 use scm_types::{File, Section, SelectionKey};
 
-/// The keys at which a move stops.
+/// The kind of keys at which a move stops.
 #[derive(Clone, Copy)]
 pub enum Reach {
     /// Each visible key.

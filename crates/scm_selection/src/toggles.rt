@@ -205,7 +205,8 @@ fn toggle_line(file: &mut File<'_>, section: usize, line: usize)
     }
 }
 
-/// Toggles what `key` names, if it is there, and sets the marks that follow in the same file.
+/// Toggles what `key` names in `files`, if it is there, and sets the marks that follow in the same
+/// file.
 pub fn toggle_key(files: &mut [File<'_>], key: SelectionKey)
     ensures { files.new ≡ with_key_toggled key files.old }
 {
@@ -283,7 +284,8 @@ fn mark_all(files: &mut [File<'_>], checked: bool)
     }
 }
 
-/// Unchecks everything if there are files and all are wholly checked, else checks everything.
+/// Unchecks everything in `files` if there are files and all are wholly checked, else checks
+/// everything.
 pub fn set_all(files: &mut [File<'_>])
     ensures { files.new ≡ with_all_set files.old }
 {
@@ -291,8 +293,8 @@ pub fn set_all(files: &mut [File<'_>])
     mark_all(files, checked);
 }
 
-/// Each file that was coherent stays so, unless it is new and also deleted. This is proved of
-/// [`toggle_key`], [`set_all`] and [`invert_all`]. The call is a no-op.
+/// Proves that [`toggle_key`], [`set_all`] and [`invert_all`] keep each coherent file coherent,
+/// unless it is new and also deleted. The call is a no-op.
 pub fn toggles_keep_coherence(_files: &[File<'_>], _key: SelectionKey)
     ensures key { KeepsCoherent _files.now (with_key_toggled _key _files.now) }
     ensures all { KeepsCoherent _files.now (with_all_set _files.now) }

@@ -12,9 +12,9 @@ use std::alloc::AllocError;
 /// Ctrl+C.
 #[derive(Clone, Copy, Debug, PartialEq, Eq)]
 pub struct EventPair {
-    /// The first event, if any.
+    /// The first event of the byte, if any.
     pub first: Option<TerminalEvent>,
-    /// The second event, if any.
+    /// The second event of the byte, if any.
     pub second: Option<TerminalEvent>,
 }
 

@@ -19,45 +19,45 @@ ghost use Rattle.scm_terminal.specs.Terminal.{
   bytes_of,
 };
 
-/// A stream may be cut anywhere: its pieces have the same events as the whole stream.
+/// Proves that a stream may be cut anywhere: its pieces have the same events as the whole stream.
 pub fn streams_may_be_cut()
     ensures { (is_pasted : Bool) (a b : List ℕ) → IsCut is_pasted a b }
 {}
 
-/// An escape begins a new token, whatever bytes precede it: a decoder always recovers.
+/// Proves that an escape begins a new token, whatever bytes precede it: a decoder always recovers.
 pub fn an_escape_begins_anew()
     ensures { (bytes : List ℕ) → rest (bytes ++ 27 ∷ []) ≡ 27 ∷ [] }
 {}
 
-/// The end mark of a bracketed paste ends the paste, whatever bytes precede it. It leaves no
-/// unfinished token.
+/// Proves that the end mark of a bracketed paste ends the paste, whatever bytes precede it. It
+/// leaves no unfinished token.
 pub fn a_paste_ends_with_its_mark()
     ensures ends { (is_pasted : Bool) (bytes : List ℕ)
         → is_pasted_after is_pasted (bytes ++ paste_end) ≡ false }
     ensures waits { (bytes : List ℕ) → rest (bytes ++ paste_end) ≡ [] }
 {}
 
-/// A bracketed paste without an escape has only `Other` events. The bytes after it have the same
-/// events as without the paste.
+/// Proves that a bracketed paste without an escape has only `Other` events. The bytes after it have
+/// the same events as without the paste.
 pub fn what_is_pasted_does_not_act()
     ensures { (pasted more : List ℕ) → HasNoEscape pasted → IsQuiet pasted more }
 {}
 
-/// A symbol that is safe to put has no control character and no control byte. So no text of a
-/// grid can send a command to the terminal.
+/// Proves that a symbol that is safe to put has no control character and no control byte. So no
+/// text of a grid can send a command to the terminal.
 pub fn symbols_hold_no_control()
     ensures { (symbol : List ℕ) → (columns : ℕ) → HoldsNoControl symbol columns }
 {}
 
-/// Commands are read back from their bytes if they are `AreReadable`. Such commands put only kept
-/// clusters and stay within 65,536 rows and columns. They move the cursor before and after each
-/// cluster of several bytes.
+/// Proves that commands are read back from their bytes if they are `AreReadable`. Such commands put
+/// only kept clusters and stay within 65,536 rows and columns. They move the cursor before and
+/// after each cluster of several bytes.
 pub fn commands_are_read_back()
     ensures { (commands : List Command) → AreReadable commands
         → read_commands (flat_map bytes_of commands) ≡ Some commands }
 {}
 
-/// Two lists of `AreReadable` commands with the same bytes are equal.
+/// Proves that two lists of `AreReadable` commands with the same bytes are equal.
 pub fn bytes_are_read_in_one_way()
     ensures { (commands others : List Command) → AreReadable commands → AreReadable others
         → flat_map bytes_of commands ≡ flat_map bytes_of others → commands ≡ others }

@@ -44,11 +44,11 @@ pub struct Sequence {
     pub kind: SequenceKind,
     /// The number of semicolons so far, at most 2.
     pub semicolons: u8,
-    /// The parameter before `second`, if there are two semicolons.
+    /// The parameter before `second`, if the sequence has two semicolons so far.
     pub first: u16,
-    /// The parameter before `last`, if there is a semicolon.
+    /// The parameter before `last`, if the sequence has a semicolon so far.
     pub second: u16,
-    /// The last parameter so far.
+    /// The last parameter of the sequence so far.
     pub last: u16,
 }
 

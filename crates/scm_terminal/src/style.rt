@@ -111,21 +111,21 @@ impl Style {
         }
     }
 
-    /// Returns this style with bold set.
+    /// Returns this style, made bold.
     pub fn bold(self) -> Style
         ensures { result ≡ record self { bold = true } }
     {
         Style { bold: true, ..self }
     }
 
-    /// Returns this style with dim set.
+    /// Returns this style, made dim.
     pub fn dim(self) -> Style
         ensures { result ≡ record self { dim = true } }
     {
         Style { dim: true, ..self }
     }
 
-    /// Returns this style with underlined set.
+    /// Returns this style, made underlined.
     pub fn underlined(self) -> Style
         ensures { result ≡ record self { underlined = true } }
     {
@@ -135,7 +135,7 @@ impl Style {
         }
     }
 
-    /// Returns this style with reversed set.
+    /// Returns this style with the colours of the symbol and of its background exchanged.
     pub fn reversed(self) -> Style
         ensures { result ≡ record self { reversed = true } }
     {

@@ -12,16 +12,16 @@ use serde::{Deserialize, Serialize};
 /// A file with its changes.
 #[derive(Debug, Drop, PartialEq, Eq, Serialize, Deserialize)]
 pub struct File<'a> {
-    /// The path before a rename or a copy.
+    /// The path of the file before a rename or a copy, or `None` if it was neither.
     pub old_path: Option<Text<'a>>,
 
-    /// The path.
+    /// The path of the file, after a rename or a copy if there was one.
     pub path: Text<'a>,
 
-    /// The mode before the changes.
+    /// The mode of the file before its changes.
     pub file_mode: FileMode,
 
-    /// The sections, in the order of the file.
+    /// The sections of the file, in order from its first line.
     pub sections: Items<Section<'a>>,
 }
 

@@ -53,7 +53,7 @@ impl<T> Items<T> {
         Ok(Items { inner })
     }
 
-    /// Returns the number of elements.
+    /// Returns the number of elements of the list.
     pub fn len(&self) -> usize
         ensures { result ≡ length self.now }
     {
@@ -67,14 +67,14 @@ impl<T> Items<T> {
         self.inner.is_empty()
     }
 
-    /// Returns the elements.
+    /// Returns the elements of the list as a slice.
     pub fn as_slice(&self) -> &[T]
         ensures { result.now ≡ self.now }
     {
         self.inner.as_slice()
     }
 
-    /// Borrows the elements to change them in place.
+    /// Returns the elements of the list as a slice, to change them in place.
     pub fn as_mut_slice(&mut self) -> &mut [T]
         ensures* writes_back { sem 𝓛 (lends_slice T.row self.entry result) }
         ensures value { result.now ≡ self.old }
@@ -82,14 +82,15 @@ impl<T> Items<T> {
         self.inner.as_mut_slice()
     }
 
-    /// Returns the element at `index`, if there is one.
+    /// Returns the element at `index`, counted from 0, or `None` if `index` is past the end.
     pub fn get(&self, index: usize) -> Option<&T>
         ensures { option_copied result ≡ slice_get self.now index }
     {
         self.as_slice().get(index)
     }
 
-    /// Borrows the element at `index`, if there is one, to change it in place.
+    /// Returns the element at `index`, counted from 0, to change it in place. Returns `None` if
+    /// `index` is past the end.
     pub fn get_mut(&mut self, index: usize) -> Option<&mut T>
         ensures* writes_back { sem 𝓛 (lends_item_if T.row self.entry index result) }
         ensures variant { IsSome result ↔ (index < length self.old) }
@@ -98,14 +99,14 @@ impl<T> Items<T> {
         self.inner.get_mut(index)
     }
 
-    /// Returns the last element, if there is one.
+    /// Returns the last element of the list, or `None` if the list is empty.
     pub fn last(&self) -> Option<&T>
         ensures { option_copied result ≡ slice_get self.now (length self.now - 1) }
     {
         self.as_slice().last()
     }
 
-    /// Adds `value` at the end.
+    /// Adds `value` at the end of the list.
     ///
     /// # Errors
     /// `AllocFailed`: an allocation failed; the list is unchanged, and the error returns `value`.
@@ -116,7 +117,7 @@ impl<T> Items<T> {
         self.inner.push(value)
     }
 
-    /// Removes and returns the last element, if there is one.
+    /// Removes and returns the last element of the list, or returns `None` if the list is empty.
     pub fn pop(&mut self) -> Option<T>
         ensures items { self.old ≡ self.new ++ option_to_list result }
         ensures variant { IsSome result ↔ (0 < length self.old) }
@@ -124,7 +125,7 @@ impl<T> Items<T> {
         self.inner.pop()
     }
 
-    /// Returns the elements as a `Vec`, without an allocation.
+    /// Returns the elements of the list as a `Vec`, without an allocation.
     pub fn into_inner(self) -> Vec<T>
         ensures { result.items ≡ self }
     {

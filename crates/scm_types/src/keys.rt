@@ -63,7 +63,7 @@ impl FileKey {
 }
 
 impl SectionKey {
-    /// Returns the key of the section's file.
+    /// Returns the key of the file that has this section.
     pub fn file(self) -> FileKey
         ensures { result ≡ file_of_section self }
     {
@@ -88,7 +88,7 @@ impl SectionKey {
 }
 
 impl LineKey {
-    /// Returns the key of the line's section.
+    /// Returns the key of the section that has this line.
     pub fn section(self) -> SectionKey
         ensures { result ≡ section_of_line self }
     {
@@ -99,7 +99,7 @@ impl LineKey {
         }
     }
 
-    /// Returns the key of the line's file.
+    /// Returns the key of the file that has this line.
     pub fn file(self) -> FileKey
         ensures { result ≡ file_of_line self }
     {
@@ -108,7 +108,8 @@ impl LineKey {
 }
 
 impl SelectionKey {
-    /// Returns the key of the file that this key names or lies in, or `None` for `None`.
+    /// Returns the key of the file that this key names or lies in. Returns `SelectionKey::None` for
+    /// `SelectionKey::None`.
     pub fn file(self) -> SelectionKey
         ensures { result ≡ file_of self }
     {

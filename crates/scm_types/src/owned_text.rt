@@ -33,14 +33,14 @@ impl Model for OwnedText {
 }
 
 impl OwnedText {
-    /// Returns the text.
+    /// Returns the text as a `&str`.
     pub fn as_str(&self) -> &str
         ensures { result.now ≡ self.now }
     {
         self.inner.as_str()
     }
 
-    /// Returns the length, in bytes.
+    /// Returns the length of the text, in bytes of UTF-8.
     pub fn len(&self) -> usize
         ensures { result ≡ length self.now }
     {

@@ -83,7 +83,7 @@ fn check_mode(section: &mut Section<'_>)
     }
 }
 
-/// Unchecks every section that deletes the file.
+/// Unchecks each section of `sections` that deletes the file.
 pub fn uncheck_deletions(sections: &mut [Section<'_>])
     ensures { sections.new ≡ map with_deletion_unchecked sections.old }
 {
@@ -92,7 +92,7 @@ pub fn uncheck_deletions(sections: &mut [Section<'_>])
     }
 }
 
-/// Checks every section that changes the mode.
+/// Checks each section of `sections` that changes the file's mode.
 pub fn check_modes(sections: &mut [Section<'_>])
     ensures { sections.new ≡ map with_mode_checked sections.old }
 {

@@ -9,7 +9,7 @@ use crate::text::OwnedText;
 use serde::{Deserialize, Serialize};
 use std::alloc::Global;
 
-/// The state of a selection.
+/// The state of a selection: commits, and files with their changes and marks.
 #[derive(Debug, Drop, PartialEq, Eq, Serialize, Deserialize)]
 pub struct RecordState<'a> {
     /// Whether the user cannot change the marks.
@@ -30,13 +30,13 @@ pub struct Commit {
 }
 
 impl<'a> RecordState<'a> {
-    /// The greatest number of files, sections and lines together.
+    /// The greatest number of files, sections and lines together that an accepted state has.
     pub const MAX_ITEMS: usize = 16_000_000;
 
-    /// The greatest scroll offset, in rows.
+    /// The greatest scroll offset of a session, in rows.
     pub const MAX_SCROLL: usize = 2 * Self::MAX_ITEMS;
 
-    /// The greatest length of a text, in bytes.
+    /// The greatest length of each text of an accepted state, in bytes of UTF-8.
     pub const MAX_TEXT: usize = 1_000_000;
 
     /// Returns a state without commits and files that is not read-only. It takes no memory.

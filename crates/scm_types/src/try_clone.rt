@@ -12,11 +12,11 @@ use crate::text::{OwnedText, Text};
 use scm_errors::RecordError;
 use std::alloc::Global;
 
-/// A copy that can fail for lack of memory.
+/// A type whose values are copied by a call that fails if an allocation fails.
 ///
 /// Each type of a state also has its own method `try_clone`, which needs no import.
 pub trait TryClone: Sized + Drop {
-    /// Returns a copy.
+    /// Returns a copy of the value.
     ///
     /// # Errors
     /// `OutOfMemory`: an allocation failed.

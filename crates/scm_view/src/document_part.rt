@@ -8,9 +8,10 @@ ghost use Rattle.scm_view.specs.Anchors.{first_visible_in, last_in, visible_part
 pub struct Anchor {
     /// Index of the file, counted from 0.
     pub file: usize,
-    /// How many sections the file has down to this one, which counts too; 0 for the header.
+    /// How many sections of the file there are down to this section, itself included; 0 for a
+    /// header.
     pub sections: usize,
-    /// First row, in rows of the document.
+    /// First row of the header or section, in rows of the document.
     pub top: usize,
 }
 
@@ -19,11 +20,13 @@ pub struct Anchor {
 pub struct DocumentPart {
     /// Index of the first file, counted from 0.
     pub first_file: usize,
-    /// Index of the first section kept of `first_file`, counted from 0. The header is kept too.
+    /// Index of the first section of `first_file` that is kept, counted from 0. The header of the
+    /// file is kept too.
     pub first_section: usize,
     /// Index of the last file, counted from 0.
     pub last_file: usize,
-    /// End of the sections kept of `last_file`, exclusive. The header is kept even if this is 0.
+    /// End of the sections of `last_file` that are kept, exclusive. The header of the file is kept
+    /// even if this is 0.
     pub end_section: usize,
     /// Whether the part has the commit's message.
     pub has_message: bool,
@@ -54,8 +57,9 @@ fn first_visible(anchors: &[Anchor], scroll: usize) -> Anchor
     }
 }
 
-/// Returns a part that covers a screen of `height` rows, the first of which shows row `scroll` of
-/// the document with these `anchors`. The law `searches_show_windows` says that it shows the same.
+/// Returns a part of the document with these `anchors` that covers a screen of `height` rows. The
+/// first row of the screen shows row `scroll` of the document. By the law `searches_show_windows`
+/// the part shows the same as the document.
 pub fn visible_part(anchors: &[Anchor], scroll: usize, height: usize) -> DocumentPart
     requires rising { IsNonDecreasingBy (λ (y : Anchor). y.top) anchors.now }
     requires high { 2 ≤ height }

@@ -7,8 +7,8 @@ ghost use Rattle.scm_view.specs.DocumentParts.{PartsShowWindows};
 ghost use Rattle.scm_view.specs.Anchors.{SearchesShowWindows};
 ghost use Rattle.scm_view.specs.Window.{AppsHaveExtents, AppsShowWindows, AppsTakeFewCalls, ClicksFindOwners, KeysHaveRows};
 
-/// All that a `CommitView` draws is in range, if it shows a commit of a session with an accepted
-/// state.
+/// Proves that all that a `CommitView` draws is in range, if it shows a commit of a session with an
+/// accepted state.
 ///
 /// These lie from 0 to `RecordState::MAX_SCROLL` + 131,072: the column and row that the view is
 /// drawn at, the screen's first and end column, and the mask's first column and row (without a
@@ -17,8 +17,8 @@ pub fn commits_are_in_range()
     ensures { CommitsAreInRange }
 {}
 
-/// Drawing a commit makes each screen row inside the mask what the document's rows say, and draws
-/// the pinned header over it.
+/// Proves that drawing a commit makes each screen row inside the mask what the document's rows say,
+/// and draws the pinned header over it.
 ///
 /// - The document is drawn from column 0 on, and from row 0 or a later row.
 /// - The screen has 10 to 65,535 columns, from column 0 on, all inside the mask.
@@ -27,8 +27,8 @@ pub fn documents_are_painted()
     ensures { DocumentsArePainted }
 {}
 
-/// The latest clickable box of a file's sections at a place is that of the owner that their rows
-/// name. If the rows name no owner, there is no such box.
+/// Proves that the latest clickable box of a file's sections at a place is that of the owner that
+/// their rows name. If the rows name no owner, there is no such box.
 ///
 /// - The sections are of one file, in order, and their rows have the ids of their keys.
 /// - They are drawn one below another, from column 2 on and from row 0 or a later row.
@@ -38,9 +38,9 @@ pub fn sections_own_their_columns()
     ensures { SectionsOwnTheirColumns }
 {}
 
-/// All that an `AppView` draws is in range, if it shows a session with an accepted state. The
-/// screen has at most 65,535 columns and rows, and is scrolled by at most `RecordState::MAX_SCROLL`
-/// rows.
+/// Proves that all that an `AppView` draws is in range, if it shows a session with an accepted
+/// state. The screen has at most 65,535 columns and rows, and is scrolled by at most
+/// `RecordState::MAX_SCROLL` rows.
 pub fn apps_are_in_range()
     ensures { AppsAreInRange }
 {}
@@ -67,63 +67,65 @@ pub fn components_are_in_range()
     ensures { ComponentsAreInRange }
 {}
 
-/// `==` is true for two ids exactly if they are the same id. So laws on boxes apply to the map that
-/// `render_top_level` returns.
+/// Proves that `==` is true for two ids exactly if they are the same id. So laws on boxes apply to
+/// the map that `render_top_level` returns.
 pub fn ids_are_told_apart()
     ensures { IdsAreToldApart }
 {}
 
-/// A cleared grid whose first row shows row `scroll` of the document is the screen there. It is in
-/// range with at most 65,535 columns and rows and a scroll of at most `RecordState::MAX_SCROLL`. So
-/// laws on screens apply to the grid that `render_top_level` draws on.
+/// Proves that a cleared grid whose first row shows row `scroll` of the document is the screen
+/// there. It is in range with at most 65,535 columns and rows and a scroll of at most
+/// `RecordState::MAX_SCROLL`. So laws on screens apply to the grid that `render_top_level` draws
+/// on.
 pub fn cleared_grids_are_screens()
     ensures { ClearedGridsAreScreens }
 {}
 
-/// What is drawn depends on the session alone: each `AppView` that shows a session draws the same
-/// as the view that the definition makes of the session.
+/// Proves that what is drawn depends on the session alone: each `AppView` that shows a session
+/// draws the same as the view that the definition makes of the session.
 pub fn apps_are_drawn_alike()
     ensures { AppsAreDrawnAlike }
 {}
 
-/// Drawing an inline `AppView` on a cleared screen leaves the window: each row shows its layers, a
-/// later layer over an earlier one.
+/// Proves that drawing an inline `AppView` on a cleared screen leaves the window: each row shows
+/// its layers, a later layer over an earlier one.
 pub fn apps_show_windows()
     ensures { AppsShowWindows }
 {}
 
-/// In an inline `AppView`, the latest clickable box at a place is that of the owner that the layers
-/// name, on each row of the document and each column of the screen.
+/// Proves of an inline `AppView`: the latest clickable box at a place is that of the owner that the
+/// layers name, on each row of the document and each column of the screen.
 pub fn clicks_find_owners()
     ensures { ClicksFindOwners }
 {}
 
-/// In an inline `AppView`, the box of each key covers the key's rows. A key without rows has no
-/// box.
+/// Proves of an inline `AppView`: the box of each key covers the key's rows. A key without rows has
+/// no box.
 pub fn keys_have_rows()
     ensures { KeysHaveRows }
 {}
 
-/// The box of an inline `AppView` is as high as the least row range that holds the document, the
-/// menu bar with its open menu, and the open dialogs.
+/// Proves that the box of an inline `AppView` is as high as the least row range that holds the
+/// document, the menu bar with its open menu, and the open dialogs.
 pub fn apps_have_extents()
     ensures { AppsHaveExtents }
 {}
 
-/// Drawing an inline `AppView` begins at most one row more than the screen has, for the pinned
-/// header, and takes few drawing calls, however long the document is.
+/// Proves that drawing an inline `AppView` begins at most one row more than the screen has, for the
+/// pinned header, and takes few drawing calls, however long the document is.
 pub fn apps_take_few_calls()
     ensures { AppsTakeFewCalls }
 {}
 
-/// A part of a document shows the same as the whole document, on a screen of at least two rows that
-/// the part covers. The part is scrolled up by the number of rows that it leaves out above.
+/// Proves that a part of a document shows the same as the whole document, on a screen of at least
+/// two rows that the part covers. The part is scrolled up by the number of rows that it leaves out
+/// above.
 pub fn parts_show_windows()
     ensures { PartsShowWindows }
 {}
 
-/// The part that `visible_part` finds shows the same as the whole document, on a screen of at least
-/// two rows. It is scrolled up by `visible_part_offset`.
+/// Proves that the part that `visible_part` finds shows the same as the whole document, on a screen
+/// of at least two rows. It is scrolled up by `visible_part_offset`.
 pub fn searches_show_windows()
     ensures { SearchesShowWindows }
 {}

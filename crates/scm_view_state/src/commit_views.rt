@@ -24,7 +24,8 @@ impl<'state> ViewState<'state> {
         }
     }
 
-    /// Returns the view of commit `commit_idx`, counted from 0. The state must be within the limits.
+    /// Returns the view of the document of commit `commit_idx`, counted from 0. The state must be
+    /// within the limits, see [`RecordState::is_accepted`](scm_types::RecordState::is_accepted).
     ///
     /// # Errors
     /// `OutOfMemory`: an allocation failed.

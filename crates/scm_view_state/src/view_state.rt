@@ -52,8 +52,8 @@ impl<'state> Model for ViewState<'state> {
 }
 
 impl<'state> ViewState<'state> {
-    /// Returns the view state of `state` in which the files and sections of `expanded` are unfolded.
-    /// One commit is shown, and no menu or dialog is open.
+    /// Returns the view state of `state` in which `selection` is selected, and the files and
+    /// sections of `expanded` are unfolded. One commit is shown, and no menu or dialog is open.
     pub fn new(
         state: RecordState<'state>,
         selection: SelectionKey,

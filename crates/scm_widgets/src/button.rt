@@ -14,16 +14,19 @@ use std::hash::Hash;
 /// A button: its label in square brackets, or in round ones if it is focused.
 #[derive(Drop)]
 pub struct Button<'a, Id> {
-    /// Its id.
+    /// The id of the button.
     pub id: Id,
-    /// Its label, without the brackets.
+    /// The label of the button, without the brackets.
     pub label: Text<'a>,
     /// Whether the button has the keyboard focus.
     pub is_focused: bool,
 }
 
 impl<'a, Id: Copy> Button<'a, Id> {
-    /// Returns the label with its brackets.
+    /// Returns the label of the button with its brackets.
+    ///
+    /// # Errors
+    /// `AllocError`: an allocation failed.
     pub fn text(&self, alloc: Global) -> Result<String, AllocError>
         ensures ok { IfOk result (λ s. string_bytes s ≡ button_text self.now) }
     {
@@ -69,6 +72,9 @@ impl<'a, Id: Copy + Eq + Hash + Drop> Component for Button<'a, Id> {
 
 /// Returns the width of `button` in columns: of its label and of two brackets. A bracket never
 /// joins a character of the label.
+///
+/// # Errors
+/// `AllocError`: the sum exceeds a `usize`; no memory holds such a label.
 pub fn button_width<K: Copy>(button: &Button<'_, K>) -> Result<usize, AllocError>
     ensures ok { IfOk result (λ n. n ≡ button_width button.now) }
 {

@@ -58,7 +58,7 @@ pub fn rows_above(y: isize, row: isize, count: usize) -> usize
     gap(y, row).min(count)
 }
 
-/// If the screen shows row `y`, counts it as begun.
+/// Counts row `y` of the document as drawn, if the screen shows it.
 pub fn begin_row(viewport: &mut Viewport<ComponentId>, y: isize)
     ensures canvas { viewport.new.canvas ≡ viewport.old.canvas }
     ensures counts { viewport.new.counts ≡ added viewport.old.counts
@@ -70,6 +70,9 @@ pub fn begin_row(viewport: &mut Viewport<ComponentId>, y: isize)
 }
 
 /// Draws `text` on row `y`, from column `x` on.
+///
+/// # Errors
+/// `OutOfMemory`: an allocation failed; the frame is incomplete.
 pub fn show_span(
     viewport: &mut Viewport<ComponentId>,
     x: isize,
@@ -88,7 +91,8 @@ pub fn show_span(
     }
 }
 
-/// Covers columns `x..x + width` of row `y`. If they exceed the mask, covers its ellipsis too.
+/// Covers columns `x..x + width` of row `y`. If they exceed the mask, covers the ellipsis in its
+/// last column too.
 pub fn cover_texts(viewport: &mut Viewport<ComponentId>, x: isize, y: isize, width: usize)
     requires { PictureInRange (texts_cover viewport.old.canvas.sight x y width) }
     ensures new { viewport.new.canvas ≡ with_picture viewport.old.canvas
@@ -118,6 +122,9 @@ fn spans_width(spans: &[Span]) -> usize
 
 /// Draws `spans` side by side on row `y`, from column `x` on. If they exceed the mask, draws an
 /// ellipsis in its last column.
+///
+/// # Errors
+/// `OutOfMemory`: an allocation failed; the frame is incomplete.
 pub fn show_text(
     viewport: &mut Viewport<ComponentId>,
     x: isize,
@@ -137,6 +144,9 @@ pub fn show_text(
 }
 
 /// Draws spaces in columns `x..x + width` of row `y`.
+///
+/// # Errors
+/// `OutOfMemory`: an allocation failed; the frame is incomplete.
 pub fn show_blank(
     viewport: &mut Viewport<ComponentId>,
     x: isize,
@@ -156,6 +166,9 @@ pub fn show_blank(
 }
 
 /// Draws spaces on row `y`, from column `x` to the end of the mask.
+///
+/// # Errors
+/// `OutOfMemory`: an allocation failed; the frame is incomplete.
 pub fn show_blank_rest(
     viewport: &mut Viewport<ComponentId>,
     x: isize,
@@ -168,7 +181,10 @@ pub fn show_blank_rest(
     show_blank(viewport, x, y, width)
 }
 
-/// Draws a checkbox or an expand box on row `y`, from column `x` on.
+/// Draws `tristate_box`, a checkbox or an expand box, on row `y`, from column `x` on.
+///
+/// # Errors
+/// `OutOfMemory`: an allocation failed; the frame is incomplete.
 pub fn show_box(
     viewport: &mut Viewport<ComponentId>,
     x: isize,
@@ -188,6 +204,9 @@ pub fn show_box(
 }
 
 /// Draws `button` on row `y`, from column `x` on.
+///
+/// # Errors
+/// `OutOfMemory`: an allocation failed; the frame is incomplete.
 pub fn show_button(
     viewport: &mut Viewport<ComponentId>,
     x: isize,

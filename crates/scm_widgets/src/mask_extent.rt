@@ -16,7 +16,7 @@ use scm_render::{Component, Viewport};
 use scm_types::RecordError;
 use std::hash::Hash;
 
-/// Returns the number of columns from `x` to the end of the mask.
+/// Returns the number of columns from column `x` to the end of the mask.
 pub fn to_end(viewport: &Viewport<ComponentId>, x: isize) -> usize
     ensures columns { result ≡ to_end viewport.now.canvas.sight x }
     ensures in_range { InRange x → InRange (x +ℤ pos result) }
@@ -80,7 +80,7 @@ pub fn cover_row(viewport: &mut Viewport<ComponentId>, y: isize)
     viewport.cover(whole);
 }
 
-/// If the section is selected, covers the columns of row `y` that lie inside the mask.
+/// Covers the columns of row `y` that lie inside the mask, if `is_selected`.
 pub fn highlight(viewport: &mut Viewport<ComponentId>, y: isize, is_selected: bool)
     requires { PictureInRange (highlight is_selected viewport.old.canvas.sight y) }
     ensures new { viewport.new.canvas ≡ with_picture viewport.old.canvas
@@ -94,6 +94,9 @@ pub fn highlight(viewport: &mut Viewport<ComponentId>, y: isize, is_selected: bo
 }
 
 /// Draws `component` at column `x` and row `y` while `mask` is set, and restores the outer mask.
+///
+/// # Errors
+/// `OutOfMemory`: an allocation failed; the frame is incomplete.
 pub fn draw_under<K: Copy + Eq + Hash + Drop, C: Component<Id = K>>(
     viewport: &mut Viewport<K>,
     mask: Mask,

@@ -9,15 +9,15 @@ use crate::ids::ComponentId;
 /// A rectangle that a component owns.
 #[derive(Clone, Copy)]
 pub struct OverlayRect {
-    /// The component.
+    /// The component that owns the rectangle.
     pub id: ComponentId,
-    /// Its first row, counted from the document's row 0.
+    /// The first row of the rectangle, counted from the document's row 0.
     pub top: usize,
-    /// Its end row (exclusive).
+    /// The end row of the rectangle (exclusive), counted from the document's row 0.
     pub end: usize,
-    /// Its first column, counted from 65,536 columns left of the screen.
+    /// The first column of the rectangle, counted from 65,536 columns left of the screen.
     pub left: usize,
-    /// Its end column (exclusive), counted from 65,536 columns left of the screen.
+    /// The end column of the rectangle (exclusive), counted from 65,536 columns left of the screen.
     pub right: usize,
 }
 
@@ -60,7 +60,7 @@ fn is_at(rect: OverlayRect, row: usize, column: usize) -> bool
     is_from(rect.top, rect.end, row) & is_from(rect.left, rect.right, shift(column))
 }
 
-/// Returns the owner of the last rectangle that holds the place at `row` and `column`, if any.
+/// Returns the owner of the last of `rects` that holds the place at `row` and `column`, if any.
 pub fn overlay_owner(rects: &[OverlayRect], row: usize, column: usize) -> Option<ComponentId>
     requires { column < 2 ^ 16 }
     ensures { result ≡ overlay_owner rects.now row column }

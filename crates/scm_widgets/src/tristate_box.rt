@@ -25,15 +25,15 @@ pub enum TristateIconStyle {
 pub struct TristateBox<Id> {
     /// Whether it may use symbols beyond ASCII.
     pub use_unicode: bool,
-    /// Whether its item has the keyboard focus.
+    /// Whether the item of the box has the keyboard focus.
     pub is_focused: bool,
-    /// Whether the user cannot change its state.
+    /// Whether the user cannot change the state of the box.
     pub is_read_only: bool,
-    /// Its id.
+    /// The id of the box.
     pub id: Id,
-    /// The state that it shows.
+    /// The state that the box shows.
     pub tristate: Tristate,
-    /// Its kind.
+    /// The kind of the box: a checkbox or an expand box.
     pub icon_style: TristateIconStyle,
 }
 
@@ -134,7 +134,7 @@ impl<Id: Copy> TristateBox<Id> {
         }
     }
 
-    /// As an expand box, returns whether its item is expanded, fully or in part.
+    /// Returns whether the item of this expand box is expanded, fully or in part.
     pub fn is_open(&self) -> bool
         ensures { result ≡ is_fold_open self.now }
     {

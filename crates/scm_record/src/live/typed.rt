@@ -74,7 +74,7 @@ impl<'state> LiveSession<'state> {
     }
 }
 
-/// Driving a session by bytes is the same as handing in the events that the bytes mean.
+/// Proves that driving a session by bytes is the same as handing in the events that the bytes mean.
 ///
 /// So [`sessions_are_runs`](crate::live::sessions_are_runs) applies. The events are those that the
 /// decoder's definition finds in the bytes, in order. If a stream is cut into chunks anywhere, the
