@@ -1,0 +1,197 @@
+"""Files below a folder, read and put in place. Nothing outside the folder is read or written, whatever links lie in it."""
+import contextlib
+import os
+import signal
+import stat
+
+from .change import ABSENT, LINK
+from .words import Stop, shown
+
+IS_FOLDER = os.O_RDONLY | os.O_DIRECTORY | os.O_NOFOLLOW | os.O_CLOEXEC
+ABSENT_SIDE = ABSENT, b""
+SPARE = ".choosing-%d"
+
+
+@contextlib.contextmanager
+def closing(folder):
+    try:
+        yield folder
+    finally:
+        os.close(folder)
+
+
+@contextlib.contextmanager
+def signals_wait():
+    """What is begun here is brought to its end before a signal is heard."""
+    before = signal.pthread_sigmask(signal.SIG_BLOCK, [signal.SIGHUP, signal.SIGINT, signal.SIGTERM])
+    try:
+        yield
+    finally:
+        signal.pthread_sigmask(signal.SIG_SETMASK, before)
+
+
+def read_all(folder, name, flags=os.O_NOFOLLOW):
+    with open(os.open(name, os.O_RDONLY | os.O_CLOEXEC | flags, dir_fd=folder), "rb") as file:
+        return file.read()
+
+
+def permissions_for(mode, before):
+    """Returns the permissions of a file of git's mode `mode`: those that it had `before`, or None if it had none."""
+    if before is None:
+        return None
+    return before | (before & 0o444) >> 2 if mode == "100755" else before & ~0o111
+
+
+class Files:
+    """The files below the folder `top`. With `follows`, a link to a file counts as that file."""
+
+    def __init__(self, top, follows=False):
+        self.top, self.follows = top, follows
+
+    def folder(self, parts, makes=False):
+        """Opens a folder by the names that lead to it. Makes those that are missing, if `makes`."""
+        at = os.open(self.top, os.O_RDONLY | os.O_DIRECTORY | os.O_CLOEXEC)
+        for name in parts:
+            with closing(at):
+                if makes:
+                    with contextlib.suppress(FileExistsError):
+                        os.mkdir(name, dir_fd=at)
+                below = os.open(name, IS_FOLDER, dir_fd=at)
+            at = below
+        return at
+
+    def beside(self, path, makes=False):
+        """Opens the folder that `path` lies in. Returns it, to be closed, and the name in it."""
+        *parts, name = path.split("/")
+        return closing(self.folder(parts, makes)), name
+
+    def read(self, path):
+        """Returns the mode and the bytes of what is at `path`, and its permissions. What is no file is absent."""
+        try:
+            folder, name = self.beside(path)
+        except (FileNotFoundError, NotADirectoryError):
+            return ABSENT_SIDE, None
+        with folder as folder:
+            return self.read_in(folder, name)
+
+    def read_in(self, folder, name):
+        try:
+            found = os.stat(name, dir_fd=folder, follow_symlinks=False)
+        except FileNotFoundError:
+            return ABSENT_SIDE, None
+        flags = os.O_NOFOLLOW
+        if stat.S_ISLNK(found.st_mode):
+            if not self.follows:
+                return (LINK, os.fsencode(os.readlink(name, dir_fd=folder))), None
+            found, flags = os.stat(name, dir_fd=folder), 0
+        if not stat.S_ISREG(found.st_mode):
+            return ABSENT_SIDE, None
+        mode = "100755" if found.st_mode & 0o100 else "100644"
+        return (mode, read_all(folder, name, flags)), stat.S_IMODE(found.st_mode)
+
+    def change(self, entries):
+        """Puts all of `entries` in place, or none of them: paths, each with the mode and bytes that are there and those
+        that are to be there. Files come by a rename. Stops if something else is there."""
+        at = self.folder([])
+        with closing(at), signals_wait(), self.spare(at) as spare, contextlib.ExitStack() as undo:
+            self.make_all(spare, entries)
+            gone = [entry for entry in enumerate(entries) if entry[1][2][0] == ABSENT]
+            rest = [entry for entry in enumerate(entries) if entry[1][2][0] != ABSENT]
+            for number, (path, old, _) in [*gone, *rest]:
+                with self.named(path):
+                    self.set_aside(spare, number, path, old, undo)
+                    if (number, entries[number]) in rest:
+                        self.put(spare, number, path, undo)
+                    else:
+                        self.prune(path, undo)
+            undo.pop_all()
+            for name in os.listdir(spare):
+                os.unlink(name, dir_fd=spare)
+
+    @contextlib.contextmanager
+    def named(self, path):
+        """An error here names the file."""
+        try:
+            yield
+        except OSError as error:
+            raise Stop("%s cannot be written: %s" % (shown(path), error.strerror)) from None
+
+    @contextlib.contextmanager
+    def spare(self, at):
+        """A folder for what comes and what goes, which is removed in the end. What could not be given back stays in it."""
+        name = SPARE % os.getpid()
+        with self.named(name):
+            os.mkdir(name, 0o700, dir_fd=at)
+        with closing(os.open(name, IS_FOLDER, dir_fd=at)) as spare:
+            try:
+                yield spare
+            finally:
+                for left in os.listdir(spare):
+                    if left.startswith("new-"):
+                        os.unlink(left, dir_fd=spare)
+                os.rmdir(name, dir_fd=at)
+
+    def make_all(self, spare, entries):
+        for number, (path, old, (mode, data)) in enumerate(entries):
+            with self.named(path):
+                now, permissions = self.read(path)
+                self.check_same(path, old, now)
+                if mode != ABSENT:
+                    self.make(spare, "new-%d" % number, mode, data, permissions_for(mode, permissions))
+
+    def make(self, spare, name, mode, data, permissions):
+        if mode == LINK:
+            os.symlink(os.fsdecode(data), name, dir_fd=spare)
+            return
+        flags = os.O_WRONLY | os.O_CREAT | os.O_EXCL | os.O_CLOEXEC
+        with open(os.open(name, flags, 0o777 if mode == "100755" else 0o666, dir_fd=spare), "wb") as file:
+            file.write(data)
+            file.flush()
+            if permissions is not None:
+                os.fchmod(file.fileno(), permissions)
+            os.fsync(file.fileno())
+
+    def check_same(self, path, old, now):
+        if old != now:
+            raise Stop("%s changed meanwhile" % shown(path))
+
+    def set_aside(self, spare, number, path, old, undo):
+        """Moves what is at `path` into `spare`, where it is the same as `old`."""
+        if old[0] == ABSENT:
+            return
+        name = "old-%d" % number
+        folder, last = self.beside(path)
+        with folder as folder:
+            os.rename(last, name, src_dir_fd=folder, dst_dir_fd=spare)
+        undo.callback(self.give_back, spare, name, path)
+        self.check_same(path, old, self.read_in(spare, name)[0])
+
+    def give_back(self, spare, name, path):
+        folder, last = self.beside(path, makes=True)
+        with folder as folder:
+            os.rename(name, last, src_dir_fd=spare, dst_dir_fd=folder)
+
+    def put(self, spare, number, path, undo):
+        folder, last = self.beside(path, makes=True)
+        with folder as folder:
+            if os.access(last, os.F_OK, dir_fd=folder, follow_symlinks=False):
+                raise Stop("%s cannot be written: something else is in its place" % shown(path))
+            os.rename("new-%d" % number, last, src_dir_fd=spare, dst_dir_fd=folder)
+        undo.callback(self.remove, path)
+
+    def remove(self, path):
+        folder, last = self.beside(path)
+        with folder as folder:
+            os.unlink(last, dir_fd=folder)
+        self.prune(path, None)
+
+    def prune(self, path, undo):
+        """Removes the folders above `path` that are empty now."""
+        parts = path.split("/")[:-1]
+        while parts:
+            with closing(self.folder(parts[:-1])) as folder:
+                try:
+                    os.rmdir(parts[-1], dir_fd=folder)
+                except OSError:
+                    return
+            parts.pop()
