@@ -1,6 +1,8 @@
 """How the programs name what they speak of, and why they stop."""
 import os
 
+VERSION = "1.1"
+
 
 class Stop(Exception):
     """Why a program ends without success."""

@@ -48,7 +48,7 @@ class Repository(Git):
 
     def tracked(self, paths, start):
         """Yields what may differ from the index: a path, its side there, its mode now, and git's letter for the change."""
-        parts = split_by_zeros(self.git("diff-files", "-z", "--ignore-submodules=all", "--", *paths, folder=start))
+        parts = split_by_zeros(self.git("diff-files", "-z", "--ignore-submodules=dirty", "--", *paths, folder=start))
         for head, path in zip(parts[0::2], parts[1::2]):
             old_mode, new_mode, name, _, letter = head[1:].split()
             yield path, Side(old_mode, None if old_mode == ABSENT else name), new_mode, letter

@@ -1,6 +1,7 @@
 """What git-select does with a choice: stages it, takes it out of the index, takes it back, or commits it."""
 import contextlib
 import os
+import shutil
 
 from choosing.accepted import message_in, state_in
 from choosing.change import ABSENT, LINK, Side, in_the_way
@@ -39,6 +40,15 @@ class Way:
 
     def prepare(self, choices, accepted):
         """Reads what `write` needs as it was before all is looked at again. Stops if what was accepted cannot be used."""
+
+    @contextlib.contextmanager
+    def locked_index(self):
+        """Keeps others from the index, as git does, and gives a copy of it that can take its place."""
+        lock = Lock(self.repository.index, os.path.join(self.folder, "index"))
+        try:
+            yield lock
+        finally:
+            lock.release()
 
 
 class Stage(Way):
@@ -87,7 +97,7 @@ class Unstage(Stage):
 
 
 class Commit(Stage):
-    done, nothing, empty = "committed", "nothing is committed", "there is nothing to commit"
+    done, nothing, empty = "committed", "nothing is committed", "there is nothing to commit beside what is staged"
     words = "git-select", "--commit"
 
     def commits(self, message):
@@ -97,7 +107,7 @@ class Commit(Stage):
         status, path, _ = self.repository.run("config", "--type=path", "--get", "commit.template")
         if status:
             return ""
-        with open(os.path.join(self.repository.top, os.fsdecode(path).rstrip("\n")), encoding="utf-8") as file:
+        with open(os.path.join(self.repository.top, os.fsdecode(path).rstrip("\n")), encoding="utf-8", errors="replace") as file:
             return file.read()
 
     def environment(self):
@@ -132,15 +142,6 @@ class Commit(Stage):
         if status:
             raise Stop("git did not commit")
 
-    @contextlib.contextmanager
-    def locked_index(self):
-        """Keeps others from the index, as git does, and gives a copy of it that can take its place."""
-        lock = Lock(self.repository.index, os.path.join(self.folder, "index"))
-        try:
-            yield lock
-        finally:
-            lock.release()
-
 
 class Lock:
     """The lock of an index, by git's own file for it, and a copy of the index in the file `copy`."""
@@ -151,9 +152,12 @@ class Lock:
             self.file = open(self.lock, "xb")
         except FileExistsError:
             raise Stop("%s is there: another git command is at work, or one was cut off" % shown(self.lock)) from None
-        if os.path.exists(index):
-            with open(index, "rb") as old, open(copy, "wb") as new:
-                new.write(old.read())
+        try:
+            if os.path.exists(index):
+                shutil.copyfile(index, copy)
+        except BaseException:
+            self.release()
+            raise
 
     def keep(self):
         """Has the copy take the place of the index."""
@@ -186,9 +190,10 @@ class Restore(Way):
         wanted = self.wanted(choices, now, scratch)
         entries = [(path, now[path], wanted[path]) for path in now]
         lost = [(path, old[1]) for path, old, new in entries if old[0] != ABSENT and old[1] != new[1]]
-        names = self.repository.store([data for _, data in lost], self.folder)
-        tell(["kept: %s %s" % (name, shown(path)) for name, (path, _) in zip(names, lost)], "nothing is restored")
-        self.files.change(entries)
+        with self.locked_index():
+            names = self.repository.store([data for _, data in lost], self.folder)
+            tell(["kept: %s %s" % (name, shown(path)) for name, (path, _) in zip(names, lost)], self.nothing)
+            self.files.change(entries)
         reports = ["%s: %s" % (self.done, shown(path)) for path in now]
         if names:
             reports.append("to have back what was kept: git cat-file blob %s > FILE" % names[0])
