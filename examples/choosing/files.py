@@ -119,6 +119,8 @@ class Files:
     def change(self, entries):
         """Puts all of `entries` in place, or none of them: paths, each with the mode and bytes that are there and those
         that are to be there. Files come by a rename. Stops if something else is there."""
+        if not entries:
+            return
         at = self.folder([])
         with closing(at), signals_wait(), self.spare(at) as spare, contextlib.ExitStack() as undo:
             self.make_all(spare, entries)

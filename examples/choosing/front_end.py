@@ -8,9 +8,9 @@ import sys
 import tempfile
 
 from .accepted import sides_in
-from .change import Choice
+from .change import ABSENT, Choice
 from .git import run_to_end
-from .words import Stop, words_of
+from .words import Stop, shown, words_of
 
 HERE = os.path.dirname(os.path.realpath(__file__))
 # where it lies beside an installed program, and else what builds it
@@ -82,6 +82,15 @@ def tell(lines, done):
         # what could not be written is not tried once more at the end
         os.dup2(os.open(os.devnull, os.O_WRONLY), 1)
         raise Stop("%s: %s" % (done, error.strerror)) from None
+
+
+def keep_lost(git, entries, folder, nothing):
+    """Stores in git what files lose by `entries` (see Files.change), by way of files in `folder`, and prints the names of it.
+    Returns these names. Stops with the words `nothing` if they cannot be printed."""
+    lost = [(path, old[1]) for path, old, new in entries if old[0] != ABSENT and old[1] != new[1]]
+    names = git.store([data for _, data in lost], folder) if lost else []
+    tell(["kept: %s %s" % (name, shown(path)) for name, (path, _) in zip(names, lost)], nothing)
+    return names
 
 
 def ignore(numbers):

@@ -6,7 +6,7 @@ import shutil
 from choosing.accepted import message_in, state_in
 from choosing.change import ABSENT, LINK, Side, in_the_way
 from choosing.files import Files
-from choosing.front_end import say, tell
+from choosing.front_end import keep_lost, say
 from choosing.words import Stop, shown
 from sides import changed_in_index, changed_in_tree
 
@@ -189,10 +189,8 @@ class Restore(Way):
         now = self.files_now
         wanted = self.wanted(choices, now, scratch)
         entries = [(path, now[path], wanted[path]) for path in now]
-        lost = [(path, old[1]) for path, old, new in entries if old[0] != ABSENT and old[1] != new[1]]
         with self.locked_index():
-            names = self.repository.store([data for _, data in lost], self.folder)
-            tell(["kept: %s %s" % (name, shown(path)) for name, (path, _) in zip(names, lost)], self.nothing)
+            names = keep_lost(self.repository, entries, self.folder, self.nothing)
             self.files.change(entries)
         reports = ["%s: %s" % (self.done, shown(path)) for path in now]
         if names:

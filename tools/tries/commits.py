@@ -1,4 +1,7 @@
-"""scm-diff-editor on commits of this repository: LEFT is the parent and RIGHT the commit, with the files that it changes."""
+"""Commits of this repository, with the files that they change, and random choices among their changes.
+
+scm-diff-editor has a commit's parent and the commit itself as LEFT and RIGHT. git-select has the parent's files in the last
+commit and the commit's own in the working tree. What each one writes is what a splitter makes of the marks, in here."""
 import json
 import os
 import random
@@ -7,54 +10,34 @@ import subprocess
 import changed
 import trying
 from options import content_of, edit_folders
+from places import Repository
 
 COMMITS = 24
-# marks some items of the state, in the way that a number says, and has the front end show them
-MARKER = """#!/bin/sh
-exec python3 - "$@" << 'END'
-import json, os, random, sys
-state, accepted = sys.argv[1:]
-with open(state) as file:
-    shown = json.load(file)
-chance = random.Random(int(os.environ["SEED"]))
-for file in shown["files"]:
-    parts = [part for section in file["sections"] for kind, part in section.items()]
-    lines = [line for part in parts for line in part.get("lines", []) if isinstance(line, dict)]
-    rest = [part for part in parts if "is_checked" in part]
-    for item in lines + rest:
-        item["is_checked"] = chance.random() < 0.5
-    for part in rest:
-        if part.get("mode") == "Absent" and not all(line["is_checked"] for line in lines):
-            part["is_checked"] = False
-        if file["file_mode"] == "Absent" and any(line["is_checked"] for line in lines):
-            part["is_checked"] = True
-for path in (state, os.environ["MARKED"]):
-    with open(path, "w") as file:
-        json.dump(shown, file)
-os.execvp(os.environ["FRONT"], [os.environ["FRONT"], state, accepted])
-END
-"""
-MODES = {None: "file", 0o100644: "file", 0o100755: "run", 0o120000: "link"}
+MARKER = os.path.join(os.path.dirname(os.path.abspath(__file__)), "mark-at-random")
+KINDS = {"100644": "file", "100755": "run", "120000": "link"}
+
+
+def git(*words):
+    return subprocess.run(["git", "-C", str(trying.ROOT), *words], capture_output=True, check=True).stdout
 
 
 def history():
     """Returns commits of this repository, each with the files that it changes as they are in its parent and in itself."""
-    def git(*words):
-        return subprocess.run(["git", "-C", str(trying.ROOT), *words], capture_output=True, check=True).stdout
-
     names = git("rev-list", "--no-merges", "--min-parents=1", "HEAD").decode().split()
-    chosen = random.Random(1).sample(names, min(COMMITS, len(names)))
-    for name in chosen:
+    for name in random.Random(1).sample(names, min(COMMITS, len(names))):
         sides = {}, {}
         parts = os.fsdecode(git("diff-tree", "-r", "-z", "--no-renames", name + "^", name)).split("\0")[:-1]
         for head, path in zip(parts[0::2], parts[1::2]):
             modes, objects = head[1:].split()[:2], head.split()[2:4]
             for side, mode, blob in zip(sides, modes, objects):
-                if mode in ("100644", "100755", "120000"):
-                    data = git("cat-file", "blob", blob)
-                    kind = MODES[int(mode, 8)]
-                    side[path] = data if kind == "file" else (kind, os.fsdecode(data) if kind == "link" else data)
+                if mode in KINDS:
+                    side[path] = what_of(KINDS[mode], git("cat-file", "blob", blob))
         yield name[:10], *sides
+
+
+def what_of(kind, data):
+    """Returns what a file is in a table of changed.py."""
+    return data if kind == "file" else (kind, os.fsdecode(data) if kind == "link" else data)
 
 
 def lines_in(data):
@@ -66,24 +49,28 @@ def lines_in(data):
 def split(file, old, new):
     """Returns what a file is with its marked changes alone, by walking both of its sides beside the marks. `old` and `new`
     are what the file is in LEFT and RIGHT, or None."""
-    kinds = [kind_and_data(what) for what in (old, new)]
-    kind, data, lines, place = kinds[0][0], kinds[0][1], [], [0, 0]
-    sides = [lines_in(data) for _, data in kinds]
-    has_lines = False
-    for section in file["sections"]:
-        (name, part), = section.items()
+    (kind, data), (new_kind, new_data) = kind_and_data(old), kind_and_data(new)
+    sides, lines, place = [lines_in(data), lines_in(new_data)], [], [0, 0]
+    has_lines = any("lines" in part for _, part in parts_of(file))
+    for name, part in parts_of(file):
         if name == "FileMode" and part["is_checked"]:
-            kind = kinds[1][0]
-            data = kinds[1][1] if len(file["sections"]) == 1 else data
+            kind = new_kind
+            data = new_data if len(file["sections"]) == 1 else data
         elif name == "Binary" and part["is_checked"]:
-            data = kinds[1][1]
+            data = new_data
         for line in part.get("lines", ()):
-            has_lines = True
             step(line, sides, place, lines)
     if has_lines:
         data = b"".join(line for line in lines if line)
         data = data[:-1] if lines[-1:] == [None] else data
-    return None if kind is None else data if kind == "file" else (kind, os.fsdecode(data) if kind == "link" else data)
+        # where lines stay, the file stays too
+        kind = kind or (kind_and_data(old)[0] or new_kind if data else None)
+    return None if kind is None else what_of(kind, data)
+
+
+def parts_of(file):
+    """Returns the sections of a file of a state, each with its name."""
+    return [item for section in file["sections"] for item in section.items()]
 
 
 def step(line, sides, place, lines):
@@ -103,22 +90,60 @@ def kind_and_data(what):
     return (what[0], content_of(what)) if isinstance(what, tuple) else ("file", what)
 
 
-def commit_by_folders(place, name, old, new):
-    """A commit's parent and itself as LEFT and RIGHT: everything, nothing, and a random choice."""
-    del name
-    is_all = edit_folders(place, old, new)
-    left, right = place.folder("left", old), place.folder("right", new)
-    marker, marked = os.path.join(place.top, "marker"), os.path.join(place.top, "marked")
-    with open(marker, "w") as file:
-        file.write(MARKER)
-    os.chmod(marker, 0o755)
-    front = os.path.join(place.prefix, "bin", "scm-select")
-    more = {"SELECT": marker, "FRONT": front, "MARKED": marked, "SEED": str(len(old) + len(new))}
-    status, said = place.type(["scm-diff-editor", left, right], ["c"], **more)
-    if not os.path.exists(marked):
+def with_other_marks(part):
+    """Returns a part of a state with all that was marked unmarked, and the other way round."""
+    if isinstance(part, dict):
+        return {name: not it if name == "is_checked" else with_other_marks(it) for name, it in part.items()}
+    return [with_other_marks(it) for it in part] if isinstance(part, list) else part
+
+
+def marked_at_random(place, command, seed, folder=None):
+    """Runs a command with marks that `seed` chooses. Returns the files that it showed, with their marks, by path."""
+    marked, front = os.path.join(place.top, "marked"), os.path.join(place.prefix, "bin", "scm-select")
+    status, said = place.type(command, ["c"], folder, SELECT=MARKER, FRONT=front, MARKED=marked, SEED=str(seed))
+    if status:
         raise RuntimeError(said)
+    if not os.path.exists(marked):
+        return {}
     with open(marked) as file:
         files = {file["path"]: file for file in json.load(file)["files"]}
-    wanted = {path: split(files[path], old.get(path), new.get(path)) for path in files}
-    wanted = {path: what for path, what in wanted.items() if what is not None}
-    return is_all and status == 0 and changed.read(right) == wanted
+    os.unlink(marked)
+    return files
+
+
+def chosen(files, old, new):
+    """Returns the table `old` with the marked changes of `files`, which lead to `new`."""
+    made = {path: split(files[path], old.get(path), new.get(path)) for path in files}
+    return {path: what for path, what in {**old, **made}.items() if what is not None}
+
+
+def commit_in_folders(place, name, old, new):
+    """A commit's parent and itself as LEFT and RIGHT: everything, nothing, and a random choice."""
+    left, right = place.folder("left", old), place.folder("right", new)
+    files = marked_at_random(place, ["scm-diff-editor", left, right], int(name, 16))
+    is_random = changed.read(right) == chosen(files, old, new) and place.has_left_nothing()
+    return edit_folders(place, old, new) and is_random
+
+
+def commit_in_a_repository(place, name, old, new):
+    """A commit's changes in the working tree: a random choice is staged, then of the rest one is taken back. Then all is
+    staged, and one is taken out of the index."""
+    repository = Repository(place, old, new)
+
+    def select(*words):
+        return marked_at_random(place, ["git", "select", *words], int(name, 16) + len(words), repository.folder)
+
+    marked = select()
+    staged = repository.index_files()
+    is_staged = staged == chosen(marked, old, new) and repository.files() == new
+    marked = with_other_marks(select("--restore"))
+    untracked = {path: what for path, what in new.items() if path not in staged}
+    there = {**untracked, **chosen(marked, staged, new)}
+    is_back = repository.files() == there and repository.index_files() == staged
+    repository.git("add", "--all")
+    marked = with_other_marks(select("--unstage"))
+    is_out = repository.index_files() == chosen(marked, old, there) and repository.files() == there
+    return is_staged and is_back and is_out and repository.is_sound()
+
+
+ALL = commit_in_folders, commit_in_a_repository

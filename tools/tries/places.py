@@ -99,6 +99,12 @@ class Repository:
             self.git(*words, **copy)
         return self.git("ls-files", "-z", "--stage", **copy)
 
+    def index_files(self):
+        """Returns the table of the files of the index."""
+        folder = self.place.folder("index")
+        self.git("checkout-index", "--all", "--prefix=%s/" % folder)
+        return changed.read(folder)
+
     def files(self):
         return changed.read(self.folder)
 
