@@ -107,7 +107,8 @@ class Commit(Stage):
         status, path, _ = self.repository.run("config", "--type=path", "--get", "commit.template")
         if status:
             return ""
-        with open(os.path.join(self.repository.top, os.fsdecode(path).rstrip("\n")), encoding="utf-8", errors="replace") as file:
+        path = os.path.join(self.repository.top, os.fsdecode(path).rstrip("\n"))
+        with open(path, encoding="utf-8", errors="replace") as file:
             return file.read()
 
     def environment(self):

@@ -2,7 +2,6 @@
 import os
 
 import changed
-from options import is_refused_restore
 from places import Repository
 
 
@@ -92,7 +91,8 @@ def in_a_subdirectory(place):
     below = os.path.join(repository.folder, "b")
     is_one = repository.select("a", keys=["a", "c"], folder=below)[0] == 0
     is_one = is_one and repository.git("diff", "--cached", "--name-only") == "b/a\n"
-    is_out = repository.select("--unstage", "a", keys=["a", "c"], folder=below)[0] == 0 and not repository.git("diff", "--cached")
+    is_out = repository.select("--unstage", "a", keys=["a", "c"], folder=below)[0] == 0
+    is_out = is_out and not repository.git("diff", "--cached")
     is_back = repository.select("--restore", "a", keys=["a", "c"], folder=below)[0] == 0
     is_back = is_back and repository.files() == {**new, "b/a": b"1\n"}
     changed.write(repository.folder, new)
@@ -265,7 +265,8 @@ def a_file_that_changed(place):
     repository = Repository(place, {"a": b"1\n", "b": b"1\n"}, {"a": b"2\n", "b": b"2\n"})
     left, right = place.folder("left", {"a": b"1\n", "b": b"1\n"}), place.folder("right", {"a": b"2\n", "b": b"2\n"})
     wanted = {"a": b"2\n", "b": b"3\n"}
-    status, said = repository.select("--restore", keys=["a", "c"], before_last=lambda: changed.write(repository.folder, wanted))
+    change = {"before_last": lambda: changed.write(repository.folder, wanted)}
+    status, said = repository.select("--restore", keys=["a", "c"], **change)
     is_left = status == 1 and "b changed meanwhile: nothing is restored" in said and repository.files() == wanted
     status, said = place.type(["scm-diff-editor", left, right], ["c"], before_last=lambda: changed.write(right, wanted))
     is_stopped = status == 1 and "b changed meanwhile: nothing is written" in said and changed.read(right) == wanted
