@@ -18,14 +18,15 @@ SETTINGS = {
 
 
 class Place:
-    """A temporary folder, in which programs are run and typed into."""
+    """A temporary folder, in which programs are run and typed into. With `path` they get that PATH, and no variable of others."""
 
     def __init__(self, prefix, path=None):
         self.prefix = prefix
         self.top = tempfile.mkdtemp(prefix="try-tools-")
         self.temporary = self.folder("temporary")
-        path = os.path.join(prefix, "bin") + os.pathsep + (path or os.environ["PATH"])
-        self.environment = {**SETTINGS, "PATH": path, "TMPDIR": self.temporary}
+        folders = os.path.join(prefix, "bin") + os.pathsep + (path or os.environ["PATH"])
+        self.environment = {**SETTINGS, "PATH": folders, "TMPDIR": self.temporary}
+        self.head = ["env", "-i", *("%s=%s" % it for it in self.environment.items())] if path else []
 
     def folder(self, name, files=()):
         path = os.path.join(self.top, name)
@@ -35,7 +36,7 @@ class Place:
 
     def type(self, command, words, folder=None, before_last=None, **more):
         """Types `words` into a command. Returns its status, and what it said."""
-        typed = Typed(command, 60, 24, {**self.environment, **more}, folder or self.top)
+        typed = Typed([*self.head, *command], 60, 24, {**self.environment, **more}, folder or self.top)
         for number, word in enumerate(words):
             if before_last and number == len(words) - 1:
                 before_last()
