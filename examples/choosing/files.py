@@ -1,6 +1,7 @@
 """Files below a folder, read and put in place. Nothing outside the folder is read or written, whatever links lie in it."""
 import contextlib
 import errno
+import functools
 import os
 import signal
 import stat
@@ -60,9 +61,14 @@ class Files:
     def __init__(self, top, follows=False):
         self.top, self.follows = top, follows
 
+    @functools.cached_property
+    def at(self):
+        """The folder `top`, as it was when it was first used, also if its name then leads elsewhere."""
+        return os.open(self.top, os.O_RDONLY | os.O_DIRECTORY | os.O_CLOEXEC)
+
     def folder(self, parts, undo=None):
         """Opens a folder by the names that lead to it. With `undo` it makes those that are missing, which `undo` removes."""
-        at = os.open(self.top, os.O_RDONLY | os.O_DIRECTORY | os.O_CLOEXEC)
+        at = os.open(".", IS_FOLDER, dir_fd=self.at)
         for number, name in enumerate(parts):
             with closing(at):
                 if undo:
@@ -121,8 +127,7 @@ class Files:
         that are to be there. Files come by a rename. Stops if something else is there."""
         if not entries:
             return
-        at = self.folder([])
-        with closing(at), signals_wait(), self.spare(at) as spare, contextlib.ExitStack() as undo:
+        with signals_wait(), self.spare() as spare, contextlib.ExitStack() as undo:
             self.make_all(spare, entries)
             # what goes makes room for what comes
             for number, (path, old, new) in sorted(enumerate(entries), key=lambda entry: entry[1][2][0] != ABSENT):
@@ -137,12 +142,12 @@ class Files:
                 os.unlink(name, dir_fd=spare)
 
     @contextlib.contextmanager
-    def spare(self, at):
+    def spare(self):
         """A folder for what comes and what goes, which is removed in the end. What could not be given back stays in it."""
         name = SPARE % os.getpid()
         with named(name, "made"):
-            os.mkdir(name, 0o700, dir_fd=at)
-        with closing(os.open(name, IS_FOLDER, dir_fd=at)) as spare:
+            os.mkdir(name, 0o700, dir_fd=self.at)
+        with closing(os.open(name, IS_FOLDER, dir_fd=self.at)) as spare:
             try:
                 yield spare
             finally:
@@ -151,7 +156,7 @@ class Files:
                         os.unlink(left, dir_fd=spare)
                 if os.listdir(spare):
                     raise Stop("what could not be put back is in " + name)
-                os.rmdir(name, dir_fd=at)
+                os.rmdir(name, dir_fd=self.at)
 
     def make_all(self, spare, entries):
         for number, (path, old, (mode, data)) in enumerate(entries):
