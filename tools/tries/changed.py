@@ -26,6 +26,8 @@ CASES = {
     "a folder that becomes a file": ({"a/b": b"1\n", "a/c": b"2\n"}, {"a": b"3\n"}),
     "a file that becomes a folder": ({"a": b"1\n"}, {"a/b": b"2\n", "a/c": b"3\n"}),
 }
+# cases of which one change cannot be had without another
+NEED_ONE_ANOTHER = "a folder that becomes a file", "a file that becomes a folder"
 
 
 def write(folder, files):

@@ -1,4 +1,4 @@
-"""Commits of this repository, with the files that they change, and random choices among their changes.
+"""Random choices among the changes of each case of changed.py, and of commits of this repository.
 
 scm-diff-editor has a commit's parent and the commit itself as LEFT and RIGHT. git-select has the parent's files in the last
 commit and the commit's own in the working tree. What each one writes is what a splitter makes of the marks, in here."""
@@ -9,10 +9,11 @@ import subprocess
 
 import changed
 import trying
+from choosing.words import shown
 from options import content_of, edit_folders
 from places import Repository
 
-COMMITS = 24
+COMMITS, SEEDS = 24, 2
 MARKER = os.path.join(os.path.dirname(os.path.abspath(__file__)), "mark-at-random")
 KINDS = {"100644": "file", "100755": "run", "120000": "link"}
 
@@ -112,26 +113,25 @@ def marked_at_random(place, command, seed, folder=None):
 
 
 def chosen(files, old, new):
-    """Returns the table `old` with the marked changes of `files`, which lead to `new`."""
-    made = {path: split(files[path], old.get(path), new.get(path)) for path in files}
+    """Returns the table `old` with the marked changes of `files`, which lead to `new`. In `files` names are as they are shown."""
+    made = {path: split(files[shown(path)], old.get(path), new.get(path)) for path in {**old, **new} if shown(path) in files}
     return {path: what for path, what in {**old, **made}.items() if what is not None}
 
 
-def commit_in_folders(place, name, old, new):
-    """A commit's parent and itself as LEFT and RIGHT: everything, nothing, and a random choice."""
+def some_in_folders(place, seed, old, new):
+    """A random choice of what LEFT and RIGHT differ in is written."""
     left, right = place.folder("left", old), place.folder("right", new)
-    files = marked_at_random(place, ["scm-diff-editor", left, right], int(name, 16))
-    is_random = changed.read(right) == chosen(files, old, new) and place.has_left_nothing()
-    return edit_folders(place, old, new) and is_random
+    files = marked_at_random(place, ["scm-diff-editor", left, right], seed)
+    return changed.read(right) == chosen(files, old, new) and changed.read(left) == old and place.has_left_nothing()
 
 
-def commit_in_a_repository(place, name, old, new):
-    """A commit's changes in the working tree: a random choice is staged, then of the rest one is taken back. Then all is
-    staged, and one is taken out of the index."""
+def some_in_a_repository(place, seed, old, new):
+    """A random choice of what the working tree has changed is staged, then of the rest one is taken back. Then all is staged,
+    and one is taken out of the index."""
     repository = Repository(place, old, new)
 
     def select(*words):
-        return marked_at_random(place, ["git", "select", *words], int(name, 16) + len(words), repository.folder)
+        return marked_at_random(place, ["git", "select", *words], seed, repository.folder)
 
     marked = select()
     staged = repository.index_files()
@@ -146,4 +146,16 @@ def commit_in_a_repository(place, name, old, new):
     return is_staged and is_back and is_out and repository.is_sound()
 
 
-ALL = commit_in_folders, commit_in_a_repository
+RANDOM = some_in_folders, some_in_a_repository
+
+
+def tries():
+    """Yields what is tried: its words, and what is called with a place and with what follows."""
+    for name, (old, new) in changed.CASES.items():
+        for seed in range(0 if name in changed.NEED_ONE_ANOTHER else SEEDS):
+            for attempt in RANDOM:
+                yield "%s, %s, by %d" % (attempt.__name__.replace("_", " "), name, seed), attempt, seed, old, new
+    for name, old, new in history():
+        yield "the folders of the commit %s" % name, edit_folders, old, new
+        for attempt in RANDOM:
+            yield "%s, the commit %s" % (attempt.__name__.replace("_", " "), name), attempt, int(name, 16), old, new
