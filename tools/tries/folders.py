@@ -3,7 +3,7 @@ import os
 
 import changed
 from options import is_refused_restore
-from places import Repository
+from places import Repository, without_rights
 
 
 def links_out_of_the_folder(place):
@@ -100,7 +100,21 @@ def permissions(place):
     return all(ends)
 
 
+def what_cannot_be_written(place):
+    """A file in a folder of RIGHT that may not be written is named, and all stays. Skipped where all may be written."""
+    before = without_rights()
+    if before is None:
+        return None
+    old, new = {"a": b"1\n", "b/c": b"1\n", "d": b"1\n"}, {"a": b"2\n", "b/c": b"2\n", "d": b"2\n"}
+    left, right = place.folder("left", old), place.folder("right", new)
+    os.chmod(os.path.join(right, "b"), 0o555)
+    status, said = place.type([*before, "scm-diff-editor", left, right], ["c"])
+    os.chmod(os.path.join(right, "b"), 0o755)
+    is_named = status == 1 and "b/c cannot be written: " in said and ": nothing is written" in said
+    return is_named and changed.read(right) == new and sorted(os.listdir(right)) == ["a", "b", "d"]
+
+
 ALL = (
     links_out_of_the_folder, a_folder_that_becomes_a_link, by_git_difftool, as_jj_calls_it, what_is_no_folder,
-    what_is_no_file, a_working_tree, permissions,
+    what_is_no_file, what_cannot_be_written, a_working_tree, permissions,
 )

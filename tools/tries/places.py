@@ -17,6 +17,17 @@ SETTINGS = {
 }
 
 
+WITHOUT_RIGHTS = "setpriv", "--bounding-set", "-dac_override,-dac_read_search"
+
+
+def without_rights():
+    """Returns the words before a command that keep it from what it has no right to, or None if nothing does."""
+    if os.geteuid():
+        return ()
+    is_there = shutil.which(WITHOUT_RIGHTS[0])
+    return WITHOUT_RIGHTS if is_there and subprocess.run([*WITHOUT_RIGHTS, "true"]).returncode == 0 else None
+
+
 class Place:
     """A temporary folder, in which programs are run and typed into. With `path` they get that PATH, and no variable of others."""
 
