@@ -1,84 +1,16 @@
-"""Git, as git-select asks it: what may differ between the index and the working tree, and what is written in the end."""
-import collections
+"""Git, as git-select asks it: what may differ between the last commit, the index and the working tree."""
 import os
-import re
 import stat
-import subprocess
 
-ABSENT, LINK, SUBMODULE = "000000", "120000", "160000"
-
-# One side of a file: its mode, and the name of git's object with its contents.
-Side = collections.namedtuple("Side", "mode name")
+from choosing.change import ABSENT, Side
+from choosing.git import Git, reason_in, split_by_zeros
+from choosing.words import Stop, shown
 
 
-class Stop(Exception):
-    """Why the program ends without success."""
-
-
-def shown(path):
-    """Returns a path as it can stand on a screen: bytes that are no UTF-8 and control characters are written out."""
-    text = os.fsencode(path).decode("utf-8", "backslashreplace")
-    return "".join(c if c.isprintable() else c.encode("unicode_escape").decode() for c in text)
-
-
-def run_to_end(command, given=None, **settings):
-    """Runs `command` to its end. If a signal ends this program, the command is ended first, so that it can tidy up."""
-    with subprocess.Popen(command, **settings) as process:
-        try:
-            output, words = process.communicate(given)
-        except BaseException:
-            process.terminate()
-            raise
-    return process.returncode, output, words
-
-
-def words_of(error):
-    """Returns what an error says, in one line."""
-    name = getattr(error, "filename", None)
-    return "%s: %s" % (shown(name), error.strerror) if name else str(error)
-
-
-def reason_in(said):
-    """Returns why git failed: the first line of what it said that is no warning, without the word before it."""
-    lines = [line for line in os.fsdecode(said).splitlines() if not line.startswith(("warning: ", "hint: "))]
-    return shown(re.sub("^(error|fatal): ", "", lines[0])) if lines else "git failed"
-
-
-def split_by_zeros(output):
-    return os.fsdecode(output).split("\0")[:-1]
-
-
-class Git:
-    """Runs git in the folder `top`, with an environment of its own."""
-
-    options = ()
-
-    def __init__(self, top, environment):
-        self.top, self.environment = top, environment
-
-    def run(self, *words, given=None, folder=None):
-        """Returns git's status, its output and what it said, both as bytes."""
-        pipes = dict.fromkeys(("stdin", "stdout", "stderr"), subprocess.PIPE)
-        try:
-            return run_to_end(["git", *self.options, *words], given, cwd=folder or self.top, env=self.environment, **pipes)
-        except FileNotFoundError:
-            raise Stop("it needs git, and there is no such program") from None
-
-    def git(self, *words, given=None, folder=None):
-        """Returns git's output. Stops with git's reason if it fails."""
-        status, output, said = self.run(*words, given=given, folder=folder)
-        if status:
-            raise Stop(reason_in(said))
-        return output
-
-    def store(self, contents, folder):
-        """Stores each of `contents` as an object, by way of files in `folder`. Returns the names of the objects."""
-        paths = [os.path.join(folder, "content-%d" % number) for number in range(len(contents))]
-        for path, data in zip(paths, contents):
-            with open(path, "wb") as file:
-                file.write(data)
-        given = b"".join(os.fsencode(path) + b"\n" for path in paths)
-        return self.git("hash-object", "-w", "--no-filters", "--stdin-paths", given=given).decode().split()
+def index_lines(entries):
+    """Returns paths with their sides in the form that `git update-index --index-info` reads."""
+    lines = [b"%s %s\t%s\0" % (side.mode.encode(), side.name.encode(), os.fsencode(path)) for path, side in entries]
+    return b"".join(lines)
 
 
 class Repository(Git):
@@ -99,7 +31,7 @@ class Repository(Git):
         return os.path.join(self.top, os.fsdecode(self.git("rev-parse", *words)).removesuffix("\n"))
 
     def check_writable(self):
-        """Stops if it can be seen already that nothing could be staged."""
+        """Stops if it can be seen already that nothing could be written."""
         lock = self.index + ".lock"
         if os.path.lexists(lock):
             raise Stop("%s is there: another git command is at work, or one was cut off" % shown(lock))
@@ -116,10 +48,24 @@ class Repository(Git):
 
     def tracked(self, paths, start):
         """Yields what may differ from the index: a path, its side there, its mode now, and git's letter for the change."""
-        parts = split_by_zeros(self.git("diff-files", "-z", "--ignore-submodules=all", "--", *paths, folder=start))
+        parts = split_by_zeros(self.git("diff-files", "-z", "--ignore-submodules=dirty", "--", *paths, folder=start))
         for head, path in zip(parts[0::2], parts[1::2]):
             old_mode, new_mode, name, _, letter = head[1:].split()
             yield path, Side(old_mode, None if old_mode == ABSENT else name), new_mode, letter
+
+    def staged(self, paths, start):
+        """Yields what differs between the last commit and the index: a path, its two sides, and git's letter."""
+        words = "diff-index", "-z", "--cached", "--no-renames", "--ita-invisible-in-index", "--ignore-submodules=none"
+        parts = split_by_zeros(self.git(*words, self.last_tree(), "--", *paths, folder=start))
+        for head, path in zip(parts[0::2], parts[1::2]):
+            old_mode, new_mode, *names, letter = head[1:].split()
+            old, new = (Side(mode, None if mode == ABSENT else name) for mode, name in zip((old_mode, new_mode), names))
+            yield path, old, new, letter
+
+    def last_tree(self):
+        """Returns the name of the last commit, or of an empty folder if there is none."""
+        status, name, _ = self.run("rev-parse", "--verify", "--quiet", "HEAD^{commit}")
+        return (self.git("hash-object", "-t", "tree", "--stdin", given=b"") if status else name).decode().strip()
 
     def untracked(self, paths, start):
         """Returns the paths that only the working tree has, and what git said of folders that it cannot read."""
@@ -141,7 +87,6 @@ class Repository(Git):
         """Returns the paths in the index."""
         return split_by_zeros(self.git("ls-files", "-z"))
 
-    def update(self, entries):
+    def update(self, entries, **more):
         """Writes paths with their sides into the index. A side that is absent takes its path out of it."""
-        lines = [b"%s %s\t%s\0" % (side.mode.encode(), side.name.encode(), os.fsencode(path)) for path, side in entries]
-        self.git("update-index", "-z", "--index-info", given=b"".join(lines))
+        self.git("update-index", "-z", "--index-info", given=index_lines(entries), **more)

@@ -1,8 +1,12 @@
 """Where git finds out what it would store, before anything of the repository is written."""
 import os
 import shutil
+import tempfile
 
-from repository import Git, Side, Stop, reason_in, split_by_zeros
+from choosing.change import Side
+from choosing.git import Git, reason_in, split_by_zeros
+from choosing.words import Stop
+from repository import index_lines
 
 
 class Scratch(Git):
@@ -61,7 +65,10 @@ class Scratch(Git):
             place += 1
         return found
 
-    def tree(self, names):
-        """Stores a folder whose files are these objects, called 0, 1 and so on. Returns its name."""
-        lines = ["100644 blob %s\t%d\n" % (name, number) for number, name in enumerate(names)]
-        return self.git("mktree", given="".join(lines).encode()).decode().strip()
+    def checked_out(self, entries, folder):
+        """Writes paths with their sides into a new folder below `folder`, as a checkout does. Returns that folder."""
+        top = tempfile.mkdtemp(dir=folder)
+        index = {"GIT_INDEX_FILE": os.path.join(top, "index")}
+        self.git("update-index", "-z", "--index-info", given=index_lines(entries), **index)
+        self.git("checkout-index", "--all", "--prefix=%s/files/" % top, **index)
+        return os.path.join(top, "files")

@@ -12,8 +12,12 @@
 #include <termios.h>
 #include <unistd.h>
 
+#ifndef NAME
+#define NAME "terminal"
+#endif
+
 static const char HELP[] =
-    "usage: terminal STATE.json [ACCEPTED]\n\nShows changes, and writes what you accept to ACCEPTED or to standard output.\n"
+    "usage: " NAME " STATE.json [ACCEPTED]\n\nShows changes, and writes what you accept to ACCEPTED or to standard output.\n"
     "`?` shows the keys. The status is 0 for accepted changes, 1 if you gave up, and 2 for an error.\n";
 
 /* Takes the second screen, a title, the mouse, and marks around what is pasted; and gives the terminal back. */
@@ -57,7 +61,7 @@ static void check(bool is_well, const char *what, const char *why) {
     int error = errno;
     if (!is_well) {
         give_back();
-        fprintf(stderr, "terminal: %s: %s\n", what, why ? why : strerror(error));
+        fprintf(stderr, NAME ": %s: %s\n", what, why ? why : strerror(error));
         exit(FAILED);
     }
 }
@@ -111,7 +115,7 @@ static void edit_message(void) {
     unlink(path);
     uint32_t code = edited ? scm_answer(&session, edited, edited_length) : SCM_NOT_NOW;
     if (code != SCM_DONE) {
-        fprintf(screen, "terminal: the message stays: %s\nPress Enter: ", edited ? words_of(code) : "the editor failed");
+        fprintf(screen, NAME ": the message stays: %s\nPress Enter: ", edited ? words_of(code) : "the editor failed");
         while (byte != '\n' && !ended_by && read(terminal, &byte, 1) == 1) {
         }
         scm_answer(&session, message, length);
@@ -225,7 +229,7 @@ static int report(const char *path) {
     uint32_t stage = scm_stage(&session);
     scm_free(&session);
     if (stage != SCM_ACCEPTED) {
-        fprintf(stderr, "terminal: %s\n", stage == SCM_ENDED ? text : "the terminal is gone");
+        fprintf(stderr, NAME ": %s\n", stage == SCM_ENDED ? text : "the terminal is gone");
         return GIVEN_UP;
     }
     FILE *file = path ? fopen(path, "wb") : stdout;
@@ -236,9 +240,9 @@ static int report(const char *path) {
 int main(int argc, char **argv) {
     bool asks_version = argc == 2 && strcmp(argv[1], "--version") == 0;
     if (asks_version || (argc == 2 && strcmp(argv[1], "--help") == 0)) {
-        return fputs(asks_version ? "terminal 1.0\n" : HELP, stdout) < 0 ? FAILED : 0;
+        return fputs(asks_version ? NAME " 1.1\n" : HELP, stdout) < 0 ? FAILED : 0;
     }
-    check(argc == 2 || argc == 3, "wrong arguments", "try terminal --help");
+    check(argc == 2 || argc == 3, "wrong arguments", "try " NAME " --help");
     begin(argv[1]);
     run();
     give_back();

@@ -219,7 +219,7 @@ def what_is_asked_for():
     write(".gitignore", b"empty/\n")
     commit()
     nothing = 0, "git-select: there is nothing to stage\n"
-    is_told = called("--help")[1].startswith("usage: git-select ") and called("--version") == (0, "git-select 1.0\n")
+    is_told = called("--help")[1].startswith("usage: git-select ") and called("--version") == (0, "git-select 1.1\n")
     is_nothing = called() == called(".gitignore") == called("--", ".") == called(".", ":!nowhere") == nothing
     lost = [called("nowhere"), called("--", "-x"), called("*.c"), called(".gitignore", ":/nowhere")]
     is_lost = all(status == 1 and "did not match any file" in said for status, said in lost)

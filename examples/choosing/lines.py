@@ -54,16 +54,16 @@ def changed(old, new):
     return {"Changed": {"lines": removed + added}}
 
 
-def hunks_of(scratch, pairs, folder):
+def hunks_of(git, pairs, folder):
     """For each pair of old and new lines, returns where they differ, as git finds it: the first line and the one past the
     last, of both sides, counted from 0."""
     hunks = [[] if old and new else [(0, len(old), 0, len(new))] for old, new in pairs]
     compared = [number for number, (old, new) in enumerate(pairs) if old and new]
     if not compared:
         return hunks
-    names = scratch.store(["".join(side).encode() for number in compared for side in pairs[number]], folder)
-    trees = scratch.tree(names[0::2]), scratch.tree(names[1::2])
-    for place in PLACE.finditer(scratch.git("diff", *PLAIN, *trees, "--")):
+    names = git.store(["".join(side).encode() for number in compared for side in pairs[number]], folder)
+    trees = git.tree(names[0::2]), git.tree(names[1::2])
+    for place in PLACE.finditer(git.git("diff", *PLAIN, *trees, "--")):
         if place[1]:
             current = hunks[compared[int(place[1])]]
             continue

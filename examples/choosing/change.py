@@ -1,0 +1,97 @@
+"""What a file has changed: as a file of a state, and as the sides that a choice leaves of it."""
+import collections
+import os
+
+from .lines import hunks_of, joined, line_sections, lines_of, marker_for, text_of
+from .words import shown
+
+ABSENT, LINK, SUBMODULE = "000000", "120000", "160000"
+
+# One side of a file: its mode, and the name of git's object with its contents.
+Side = collections.namedtuple("Side", "mode name")
+
+
+class Change:
+    """The two sides of a file, old and new, with their bytes."""
+
+    def __init__(self, path, sides, contents):
+        self.path, (self.old, self.new) = path, sides
+        self.old_data, self.new_data = (b"" if side.mode == ABSENT else contents[side.name] for side in sides)
+        modes, texts = [side.mode for side in sides], [text_of(data) for data in (self.old_data, self.new_data)]
+        is_text = LINK not in modes and None not in texts
+        # a file that is no text comes and goes as one item, its mode, and so does one that becomes a link or was one
+        self.is_whole = not is_text and self.old.mode != self.new.mode and (ABSENT in modes or LINK in modes)
+        self.marker = marker_for(*texts) if is_text else None
+        self.lines = [lines_of(text, self.marker) for text in texts] if is_text else ([], [])
+
+    def has_changed_lines(self):
+        return self.lines[0] != self.lines[1]
+
+    def file(self, hunks):
+        """Returns the file of a state. `hunks` says where its lines differ."""
+        sections = []
+        if self.old.mode != self.new.mode:
+            sections.append({"FileMode": {"is_checked": False, "mode": mode_of(self.new.mode)}})
+        if self.has_changed_lines():
+            sections += line_sections(*self.lines, hunks)
+        elif self.old_data != self.new_data and not self.is_whole:
+            sections.append(self.binary_section())
+        mode = mode_of(self.old.mode)
+        return {"old_path": None, "path": shown(self.path), "file_mode": mode, "sections": sections}
+
+    def binary_section(self):
+        old, new = described(self.old, self.old_data), described(self.new, self.new_data)
+        return {"Binary": {"is_checked": False, "old_description": old, "new_description": new}}
+
+    def bytes_of(self, text):
+        return joined(text, self.marker).encode()
+
+    def selected(self, mode, kind, text):
+        """Returns the mode and the bytes of the old side with what was chosen."""
+        if not mode.isdigit():
+            return ABSENT, b""
+        if kind == "binary" or self.is_whole and mode == self.new.mode:
+            return mode, self.new_data
+        return mode, self.bytes_of(text) if kind == "text" else self.old_data
+
+    def unselected(self, mode, kind, text):
+        """Returns the mode and the bytes of the new side without what was chosen."""
+        if not mode.isdigit():
+            # where lines stay, the file stays too
+            has_mode = self.new if self.old.mode == ABSENT else self.old
+            return (has_mode.mode, self.bytes_of(text)) if text else (ABSENT, b"")
+        if kind == "binary" or self.is_whole and mode == self.new.mode:
+            return mode, self.new_data
+        if kind == "text":
+            return mode, self.bytes_of(text)
+        return mode, b"" if self.has_changed_lines() else self.old_data
+
+
+# What is to be of a change: a mode, and the bytes of the file.
+Choice = collections.namedtuple("Choice", "change mode data")
+
+
+def described(side, data):
+    return "to " + shown(os.fsdecode(data)) if side.mode == LINK else "%s (%d bytes)" % (side.name[:10], len(data))
+
+
+def mode_of(mode):
+    return "Absent" if mode == ABSENT else {"Unix": int(mode, 8)}
+
+
+def files_of(git, changes, folder):
+    """Returns the files of a state."""
+    hunks = hunks_of(git, [change.lines for change in changes], folder)
+    return [change.file(found) for change, found in zip(changes, hunks)]
+
+
+def folders_of(path):
+    parts = path.split("/")
+    return ["/".join(parts[:count]) for count in range(1, len(parts))]
+
+
+def in_the_way(kept, added):
+    """Returns, by path of `added`, a path of `kept` that cannot be beside it: one of the two would lie in the other."""
+    found = {folder: path for path in kept for folder in folders_of(path) if folder in added}
+    found.update((path, folder) for path in added for folder in folders_of(path) if folder in kept)
+    return found

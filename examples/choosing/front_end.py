@@ -1,0 +1,132 @@
+"""How a program has the user choose in the front end, says what is wrong, and ends."""
+import json
+import os
+import shlex
+import shutil
+import signal
+import sys
+import tempfile
+
+from .accepted import sides_in
+from .change import ABSENT, Choice
+from .git import run_to_end
+from .words import Stop, shown, words_of
+
+HERE = os.path.dirname(os.path.realpath(__file__))
+# where it lies beside an installed program, and else what builds it
+INSTALLED, BUILDS = os.path.join(HERE, "../../../bin/scm-select"), os.path.join(HERE, "../../tools/select")
+ENVIRONMENT = """SELECT names another front end: a command that takes the file of a state, and a file to write to what was
+accepted."""
+SIGNALS = signal.SIGHUP, signal.SIGINT, signal.SIGTERM
+
+
+class Stopped(BaseException):
+    """A signal that ends the program."""
+
+
+def say(text):
+    print("%s: %s" % (os.path.basename(sys.argv[0]), text), file=sys.stderr)
+
+
+def front_end():
+    try:
+        return shlex.split(os.environ.get("SELECT", "")) or [INSTALLED if os.path.exists(INSTALLED) else BUILDS]
+    except ValueError as error:
+        raise Stop("SELECT has no such form: %s" % error) from None
+
+
+def choose(files, folder, given_up, commits=(), environment=None):
+    """Has the user choose in the front end. Returns the path of what the front end wrote. Stops with the words `given_up`
+    if the user gives up."""
+    state, accepted = os.path.join(folder, "state.json"), os.path.join(folder, "accepted")
+    with open(state, "w", encoding="utf-8") as file:
+        json.dump({"is_read_only": False, "commits": list(commits), "files": files}, file)
+    open(accepted, "w").close()
+    # what Ctrl-C does now is the front end's matter
+    before = signal.signal(signal.SIGINT, lambda *_: None)
+    try:
+        status, *_ = run_to_end([*front_end(), state, accepted], env={**os.environ, **(environment or {})})
+    except OSError as error:
+        raise Stop("the front end cannot be run: " + words_of(error)) from None
+    signal.signal(signal.SIGINT, before)
+    if status:
+        raise Stop(given_up)
+    return accepted
+
+
+def choices_in(accepted, changes, side, now):
+    """Returns what is to be of each change by the sides that were accepted, if it is not so now. `side` is `selected` or
+    `unselected`, and `now` says which side of a change is in place: `old` or `new`."""
+    choices = []
+    for change, found in zip(changes, sides_in(accepted, side, len(changes))):
+        wanted = getattr(change, side)(*found)
+        if wanted != (getattr(change, now).mode, getattr(change, now + "_data")):
+            choices.append(Choice(change, *wanted))
+    return choices
+
+
+def keep(accepted, words):
+    """Keeps what was accepted in a file that stays, and says where. `words` are the command that takes it up."""
+    handle, kept = tempfile.mkstemp(prefix=words[0] + "-", suffix=".marks")
+    os.close(handle)
+    os.chmod(accepted, 0o600)
+    shutil.move(accepted, kept)
+    say("your marks are kept; to take them up: %s --marks %s" % (" ".join(words), shlex.quote(kept)))
+
+
+def tell(lines, done):
+    """Prints `lines`. Stops with the words `done` if they cannot be written."""
+    try:
+        print("".join(line + "\n" for line in lines), end="", flush=True)
+    except OSError as error:
+        # what could not be written is not tried once more at the end
+        os.dup2(os.open(os.devnull, os.O_WRONLY), 1)
+        raise Stop("%s: %s" % (done, error.strerror)) from None
+
+
+def keep_lost(git, entries, folder, nothing):
+    """Stores in git what files lose by `entries` (see Files.change), by way of files in `folder`, and prints the names of it.
+    Returns these names. Stops with the words `nothing` if they cannot be printed."""
+    lost = [(path, old[1]) for path, old, new in entries if old[0] != ABSENT and old[1] != new[1]]
+    names = git.store([data for _, data in lost], folder) if lost else []
+    tell(["kept: %s %s" % (name, shown(path)) for name, (path, _) in zip(names, lost)], nothing)
+    return names
+
+
+def ignore(numbers):
+    for number in numbers:
+        signal.signal(number, signal.SIG_IGN)
+
+
+def stop_on_signals():
+    """Has signals end the program as an error does, so that its temporary files are removed. Returns their numbers."""
+    numbers = [it for it in SIGNALS if signal.getsignal(it) != signal.SIG_IGN]
+
+    def stop(number, _):
+        ignore(numbers)
+        raise Stopped(number)
+
+    for number in numbers:
+        signal.signal(number, stop)
+    return numbers
+
+
+def run(work):
+    """Calls `work` with a folder for temporary files, which is removed in the end. Returns the program's status."""
+    if sys.stdout:
+        sys.stdout.reconfigure(errors="backslashreplace")
+    numbers = stop_on_signals()
+    try:
+        with tempfile.TemporaryDirectory(prefix=os.path.basename(sys.argv[0]) + "-") as folder:
+            try:
+                return work(folder)
+            finally:
+                # what removes the folder is not cut off
+                ignore(numbers)
+    except (Stop, OSError) as error:
+        say(words_of(error))
+        return 1
+    except Stopped as stopped:
+        number = stopped.args[0]
+        signal.signal(number, signal.SIG_DFL)
+        os.kill(os.getpid(), number)

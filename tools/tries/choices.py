@@ -1,0 +1,161 @@
+"""Random choices among the changes of each case of changed.py, and of commits of this repository.
+
+scm-diff-editor has a commit's parent and the commit itself as LEFT and RIGHT. git-select has the parent's files in the last
+commit and the commit's own in the working tree. What each one writes is what a splitter makes of the marks, in here."""
+import json
+import os
+import random
+import subprocess
+
+import changed
+import trying
+from choosing.words import shown
+from options import content_of, edit_folders
+from places import Repository
+
+COMMITS, SEEDS = 24, 2
+MARKER = os.path.join(os.path.dirname(os.path.abspath(__file__)), "mark-at-random")
+KINDS = {"100644": "file", "100755": "run", "120000": "link"}
+
+
+def git(*words):
+    return subprocess.run(["git", "-C", str(trying.ROOT), *words], capture_output=True, check=True).stdout
+
+
+def history():
+    """Returns commits of this repository, each with the files that it changes as they are in its parent and in itself."""
+    names = git("rev-list", "--no-merges", "--min-parents=1", "HEAD").decode().split()
+    for name in random.Random(1).sample(names, min(COMMITS, len(names))):
+        sides = {}, {}
+        parts = os.fsdecode(git("diff-tree", "-r", "-z", "--no-renames", name + "^", name)).split("\0")[:-1]
+        for head, path in zip(parts[0::2], parts[1::2]):
+            modes, objects = head[1:].split()[:2], head.split()[2:4]
+            for side, mode, blob in zip(sides, modes, objects):
+                if mode in KINDS:
+                    side[path] = what_of(KINDS[mode], git("cat-file", "blob", blob))
+        yield name[:10], *sides
+
+
+def what_of(kind, data):
+    """Returns what a file is in a table of changed.py."""
+    return data if kind == "file" else (kind, os.fsdecode(data) if kind == "link" else data)
+
+
+def lines_in(data):
+    """Returns the lines of a file, of which the last one is followed by None if it has no line end."""
+    lines = data.split(b"\n")
+    return [line + b"\n" for line in lines[:-1]] + ([lines[-1] + b"\n", None] if lines[-1] else [])
+
+
+def split(file, old, new):
+    """Returns what a file is with its marked changes alone, by walking both of its sides beside the marks. `old` and `new`
+    are what the file is in LEFT and RIGHT, or None."""
+    (kind, data), (new_kind, new_data) = kind_and_data(old), kind_and_data(new)
+    sides, lines, place = [lines_in(data), lines_in(new_data)], [], [0, 0]
+    has_lines = any("lines" in part for _, part in parts_of(file))
+    for name, part in parts_of(file):
+        if name == "FileMode" and part["is_checked"]:
+            kind = new_kind
+            data = new_data if len(file["sections"]) == 1 else data
+        elif name == "Binary" and part["is_checked"]:
+            data = new_data
+        for line in part.get("lines", ()):
+            step(line, sides, place, lines)
+    if has_lines:
+        data = b"".join(line for line in lines if line)
+        data = data[:-1] if lines[-1:] == [None] else data
+        # where lines stay, the file stays too
+        kind = kind or (kind_and_data(old)[0] or new_kind if data else None)
+    return None if kind is None else what_of(kind, data)
+
+
+def parts_of(file):
+    """Returns the sections of a file of a state, each with its name."""
+    return [item for section in file["sections"] for item in section.items()]
+
+
+def step(line, sides, place, lines):
+    """Goes past a line of a state on the sides that have it, and takes it if the choice does."""
+    is_context = isinstance(line, str)
+    is_added = not is_context and line["change_type"] == "Added"
+    taken = sides[is_added][place[is_added]]
+    for side in (0, 1) if is_context else (is_added,):
+        place[side] += 1
+    if is_context or is_added == line["is_checked"]:
+        lines.append(taken)
+
+
+def kind_and_data(what):
+    if what is None:
+        return None, b""
+    return (what[0], content_of(what)) if isinstance(what, tuple) else ("file", what)
+
+
+def with_other_marks(part):
+    """Returns a part of a state with all that was marked unmarked, and the other way round."""
+    if isinstance(part, dict):
+        return {name: not it if name == "is_checked" else with_other_marks(it) for name, it in part.items()}
+    return [with_other_marks(it) for it in part] if isinstance(part, list) else part
+
+
+def marked_at_random(place, command, seed, folder=None):
+    """Runs a command with marks that `seed` chooses. Returns the files that it showed, with their marks, by path."""
+    marked, front = os.path.join(place.top, "marked"), os.path.join(place.prefix, "bin", "scm-select")
+    status, said = place.type(command, ["c"], folder, SELECT=MARKER, FRONT=front, MARKED=marked, SEED=str(seed))
+    if status:
+        raise RuntimeError(said)
+    if not os.path.exists(marked):
+        return {}
+    with open(marked) as file:
+        files = {file["path"]: file for file in json.load(file)["files"]}
+    os.unlink(marked)
+    return files
+
+
+def chosen(files, old, new):
+    """Returns the table `old` with the marked changes of `files`, which lead to `new`. In `files` names are as they are shown."""
+    made = {path: split(files[shown(path)], old.get(path), new.get(path)) for path in {**old, **new} if shown(path) in files}
+    return {path: what for path, what in {**old, **made}.items() if what is not None}
+
+
+def some_in_folders(place, seed, old, new):
+    """A random choice of what LEFT and RIGHT differ in is written."""
+    left, right = place.folder("left", old), place.folder("right", new)
+    files = marked_at_random(place, ["scm-diff-editor", left, right], seed)
+    return changed.read(right) == chosen(files, old, new) and changed.read(left) == old and place.has_left_nothing()
+
+
+def some_in_a_repository(place, seed, old, new):
+    """A random choice of what the working tree has changed is staged, then of the rest one is taken back. Then all is staged,
+    and one is taken out of the index."""
+    repository = Repository(place, old, new)
+
+    def select(*words):
+        return marked_at_random(place, ["git", "select", *words], seed, repository.folder)
+
+    marked = select()
+    staged = repository.index_files()
+    is_staged = staged == chosen(marked, old, new) and repository.files() == new
+    marked = with_other_marks(select("--restore"))
+    untracked = {path: what for path, what in new.items() if path not in staged}
+    there = {**untracked, **chosen(marked, staged, new)}
+    is_back = repository.files() == there and repository.index_files() == staged
+    repository.git("add", "--all")
+    marked = with_other_marks(select("--unstage"))
+    is_out = repository.index_files() == chosen(marked, old, there) and repository.files() == there
+    return is_staged and is_back and is_out and repository.is_sound()
+
+
+RANDOM = some_in_folders, some_in_a_repository
+
+
+def tries():
+    """Yields what is tried: its words, and what is called with a place and with what follows."""
+    for name, (old, new) in changed.CASES.items():
+        for seed in range(0 if name in changed.NEED_ONE_ANOTHER else SEEDS):
+            for attempt in RANDOM:
+                yield "%s, %s, by %d" % (attempt.__name__.replace("_", " "), name, seed), attempt, seed, old, new
+    for name, old, new in history():
+        yield "the folders of the commit %s" % name, edit_folders, old, new
+        for attempt in RANDOM:
+            yield "%s, the commit %s" % (attempt.__name__.replace("_", " "), name), attempt, int(name, 16), old, new

@@ -1,0 +1,124 @@
+"""Temporary folders and repositories, in which the installed programs are typed into."""
+import os
+import shutil
+import subprocess
+import sys
+import tempfile
+
+import changed
+import trying
+
+sys.path.insert(0, str(trying.EXAMPLES / "terminal"))
+from typed import Typed  # noqa: E402
+
+SETTINGS = {
+    "GIT_CONFIG_NOSYSTEM": "1", "GIT_CONFIG_GLOBAL": os.devnull, "GIT_AUTHOR_NAME": "n", "GIT_AUTHOR_EMAIL": "e",
+    "GIT_COMMITTER_NAME": "n", "GIT_COMMITTER_EMAIL": "e", "LC_ALL": "C.UTF-8", "PYTHONDONTWRITEBYTECODE": "1",
+}
+
+
+WITHOUT_RIGHTS = "setpriv", "--bounding-set", "-dac_override,-dac_read_search"
+
+
+def without_rights():
+    """Returns the words before a command that keep it from what it has no right to, or None if nothing does."""
+    if os.geteuid():
+        return ()
+    is_there = shutil.which(WITHOUT_RIGHTS[0])
+    return WITHOUT_RIGHTS if is_there and subprocess.run([*WITHOUT_RIGHTS, "true"]).returncode == 0 else None
+
+
+class Place:
+    """A temporary folder, in which programs are run and typed into. With `path` they get that PATH, and no variable of others."""
+
+    def __init__(self, prefix, path=None):
+        self.prefix = prefix
+        self.top = tempfile.mkdtemp(prefix="try-tools-")
+        self.temporary = self.folder("temporary")
+        folders = os.path.join(prefix, "bin") + os.pathsep + (path or os.environ["PATH"])
+        self.environment = {**SETTINGS, "PATH": folders, "TMPDIR": self.temporary}
+        self.head = ["env", "-i", *("%s=%s" % it for it in self.environment.items())] if path else []
+
+    def folder(self, name, files=()):
+        path = os.path.join(self.top, name)
+        os.makedirs(path, exist_ok=True)
+        changed.write(path, dict(files))
+        return path
+
+    def type(self, command, words, folder=None, before_last=None, **more):
+        """Types `words` into a command. Returns its status, and what it said."""
+        typed = Typed([*self.head, *command], 60, 24, {**self.environment, **more}, folder or self.top)
+        for number, word in enumerate(words):
+            if before_last and number == len(words) - 1:
+                before_last()
+            typed.press(word)
+        return typed.end(), typed.said()
+
+    def call(self, *command, folder=None, given=b""):
+        """Returns the status and all that a command wrote, which is typed into by nobody."""
+        how = {"stdout": subprocess.PIPE, "stderr": subprocess.STDOUT, "start_new_session": True, "timeout": 120}
+        environment = {**os.environ, **self.environment}
+        done = subprocess.run(command, input=given, cwd=folder or self.top, env=environment, **how)
+        return done.returncode, os.fsdecode(done.stdout)
+
+    def has_left_nothing(self):
+        return not os.listdir(self.temporary)
+
+    def forget_marks(self):
+        """Removes the marks that were kept where something was refused."""
+        for name in os.listdir(self.temporary):
+            if name.endswith(".marks"):
+                os.unlink(os.path.join(self.temporary, name))
+
+    def close(self):
+        shutil.rmtree(self.top, ignore_errors=True)
+
+
+class Repository:
+    """A repository with a commit of the files `old`, of which the working tree now has the files `new`."""
+
+    def __init__(self, place, old, new, name="repository"):
+        self.place, self.folder = place, place.folder(name)
+        self.git("init", "--quiet")
+        changed.write(self.folder, old)
+        self.commit()
+        changed.write(self.folder, new)
+
+    def git(self, *words, given=b"", **more):
+        environment = {**os.environ, **self.place.environment, **more}
+        how = {"capture_output": True, "cwd": self.folder, "env": environment}
+        done = subprocess.run(["git", *words], input=given, **how)
+        if done.returncode and words[0] != "merge":
+            raise RuntimeError("git %s: %s" % (" ".join(words), os.fsdecode(done.stderr)))
+        return os.fsdecode(done.stdout)
+
+    def commit(self):
+        self.git("add", "--all", "--force")
+        self.git("commit", "--quiet", "--allow-empty", "--message=base")
+
+    def select(self, *words, keys, **more):
+        """Types `keys` into git select. Returns its status, and what it said."""
+        return self.place.type(["git", "select", *words], keys, more.pop("folder", self.folder), **more)
+
+    def index(self):
+        return self.git("ls-files", "-z", "--stage")
+
+    def index_of(self, *words):
+        """Returns what the index would be after a git command."""
+        copy = {"GIT_INDEX_FILE": os.path.join(self.place.top, "copy")}
+        self.git("read-tree", "HEAD", **copy)
+        if words:
+            self.git(*words, **copy)
+        return self.git("ls-files", "-z", "--stage", **copy)
+
+    def index_files(self):
+        """Returns the table of the files of the index."""
+        folder = self.place.folder("index")
+        self.git("checkout-index", "--all", "--prefix=%s/" % folder)
+        return changed.read(folder)
+
+    def files(self):
+        return changed.read(self.folder)
+
+    def is_sound(self):
+        return not self.git("fsck", "--strict", "--no-dangling") and self.place.has_left_nothing()
