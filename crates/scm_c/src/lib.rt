@@ -19,7 +19,7 @@ mod raw_box;
 use crate::c_session::{CSession, put, take};
 use crate::open_session::OpenSession;
 use crate::owners::Key;
-use scm_record::Event;
+use scm_record::{Event, RecordState};
 use scm_script::read_event;
 use std::alloc::Global;
 
@@ -203,7 +203,7 @@ fn message_of(alloc: Global, text: &[u8]) -> Result<String, u32>
         → IsCode (is_message text.now) (code_of_message text.now otherwise) code) }
     ensures refused { IfErr result (λ code. 0 < code) }
 {
-    if text.len() > 1_000_000 {
+    if text.len() > RecordState::MAX_TEXT {
         return Err(codes::TOO_LONG);
     }
     let Ok(text) = str::from_utf8(text) else {

@@ -140,13 +140,11 @@ fn update_for(
     ensures forgotten { IfNone result (painter.new ≡ []) }
 {
     let bytes = session.paint(painter).ok()?;
-    match update_of(alloc, &bytes) {
-        Some(update) => Some(update),
-        None => {
-            painter.forget();
-            None
-        }
+    let update = update_of(alloc, &bytes);
+    if update.is_none() {
+        painter.forget();
     }
+    update
 }
 
 impl OpenSession {
