@@ -33,8 +33,8 @@ static uint32_t open_session(scm_session *session, const char *path) {
 /* Shows the session, and handles what the user types next, or the silence. Returns whether the terminal is still there. */
 static bool take_turn(scm_session *session) {
     struct pollfd typed = {.fd = STDIN_FILENO, .events = POLLIN};
-    size_t length = scm_paint(session, buffer, sizeof buffer);
-    if (length <= sizeof buffer) {
+    size_t length;
+    if (scm_paint(session, buffer, sizeof buffer, &length) == SCM_DONE && length <= sizeof buffer) {
         fwrite(buffer, 1, length, stderr);
     }
     if (poll(&typed, 1, SILENCE) <= 0) {
@@ -50,8 +50,8 @@ static bool take_turn(scm_session *session) {
 
 /* Answers with the message that the session asks to edit, as it is. */
 static bool keep_message(scm_session *session) {
-    size_t length = scm_text(session, buffer, sizeof buffer);
-    return scm_answer(session, buffer, length) == SCM_DONE;
+    size_t length;
+    return scm_text(session, buffer, sizeof buffer, &length) == SCM_DONE && scm_answer(session, buffer, length) == SCM_DONE;
 }
 
 /* Takes turns until the changes are accepted or the session has ended. */
@@ -80,9 +80,10 @@ static void ask_in_terminal(scm_session *session) {
 /* Prints the two sides of each file: the text of accepted changes, without its first two lines. */
 static bool print_sides(scm_session *session) {
     char none;
-    size_t length = scm_text(session, &none, 0);
+    size_t length = 0;
+    uint32_t code = scm_text(session, &none, 0, &length);
     char *text = malloc(length + 1);
-    bool is_read = text && scm_text(session, text, length) == length;
+    bool is_read = text && code == SCM_DONE && scm_text(session, text, length, &length) == SCM_DONE;
     char *end = is_read ? text + length : NULL;
     char *line = text;
     for (int skipped = 0; skipped < 2 && line && end; skipped++) {

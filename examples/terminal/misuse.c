@@ -44,7 +44,8 @@ static standing look(void) {
             now.owners[row][column] = scm_owner(&session, row, column, &now.keys[row][column]);
         }
     }
-    now.length = scm_text(&session, now.text, sizeof now.text);
+    uint32_t code = scm_text(&session, now.text, sizeof now.text, &now.length);
+    assert(code == (now.stage == SCM_NONE ? SCM_CLOSED : SCM_DONE));
     return now;
 }
 
@@ -80,12 +81,19 @@ static uint32_t type(const char *bytes) { return scm_type(&session, bytes, strle
 
 static uint32_t answer(const char *message) { return scm_answer(&session, message, strlen(message)); }
 
-static size_t paint(char *out, size_t length) { return scm_paint(&session, out, length); }
+/* Paints, which has to be done, and returns the length of the update. */
+static size_t paint(char *out, size_t length) {
+    size_t written = 0;
+    assert(scm_paint(&session, out, length, &written) == SCM_DONE);
+    return written;
+}
 
 /* There is nothing to paint. What was painted can be forgotten, unless the session is closed. */
 static void refuse_paint(uint32_t code_of_repaint) {
     char out[] = "............";
-    assert(paint(out, sizeof out) == 0 && strcmp(out, "............") == 0);
+    size_t written = 77;
+    refused(scm_paint(&session, out, sizeof out, &written), code_of_repaint == SCM_CLOSED ? SCM_CLOSED : SCM_NOT_NOW);
+    assert(written == 77 && strcmp(out, "............") == 0);
     refused(scm_repaint(&session), code_of_repaint);
 }
 
@@ -248,17 +256,22 @@ static void paint_rows(void) {
     assert(paint(again, sizeof again) > length);
 #ifdef __GLIBC__
     is_refused = true;
-    size_t nothing = paint(again, sizeof again);
+    size_t nothing = 77, painted = 77;
+    uint32_t code_of_text = scm_text(&session, again, sizeof again, &nothing);
+    uint32_t code_of_paint = scm_paint(&session, again, sizeof again, &painted);
     is_refused = false;
-    assert(nothing == 0 && paint(again, sizeof again) > length);
+    assert(code_of_text == SCM_NO_MEMORY && code_of_paint == SCM_NO_MEMORY && nothing == 77 && painted == 77);
+    assert(paint(again, sizeof again) > length);
 #endif
 }
 
 /* What does not fit is cut, and nothing is written behind it. */
 static void cut_text(void) {
     char text[] = "............";
-    assert(scm_text(&session, text, 0) == before.length && strcmp(text, "............") == 0);
-    assert(scm_text(&session, text, 7) == before.length && strcmp(text, "\"[File]" ".....") == 0);
+    size_t length = 0;
+    assert(scm_text(&session, text, 0, &length) == SCM_DONE && length == before.length && strcmp(text, "............") == 0);
+    length = 0;
+    assert(scm_text(&session, text, 7, &length) == SCM_DONE && length == before.length && strcmp(text, "\"[File]" ".....") == 0);
 }
 
 static void refuse_messages(void) {
@@ -286,6 +299,44 @@ static void refuse_messages(void) {
     done(answer(""), SCM_WAITING);
 }
 
+/* A state that is made by calls stays as it was where a call is refused, and grows no more once the session has begun. */
+static void refuse_additions(void) {
+    static char line[LONGEST_MESSAGE + 1];
+    size_t count = 77;
+    memset(line, 'm', sizeof line);
+    done(scm_state_new(&session, false), SCM_BUILDING);
+    refused(scm_state_context(&session, "a", 1), SCM_NO_ITEM);
+    done(scm_state_file(&session, "f", 1, "", 0, 0100644), SCM_BUILDING);
+    refused(scm_state_context(&session, "\xff", 1), SCM_NOT_TEXT);
+    refused(scm_state_changes(&session, true, true, line, sizeof line), SCM_TOO_LONG);
+    done(scm_state_commit(&session), SCM_BUILDING);
+    done(scm_state_message(&session, line, LONGEST_MESSAGE), SCM_BUILDING);
+    refused(scm_state_commit(&session), SCM_NOT_ACCEPTED);
+    refuse_calls(SCM_NOT_NOW);
+#ifdef __GLIBC__
+    is_refused = true;
+    uint32_t code = scm_state_file(&session, "g", 1, "", 0, 0100644);
+    is_refused = false;
+    refused(code, SCM_NO_MEMORY);
+#endif
+    assert(scm_files(&session, &count) == SCM_DONE && count == 1);
+    done(scm_begin(&session, WIDTH, HEIGHT), SCM_WAITING);
+    refused(scm_begin(&session, WIDTH, HEIGHT), SCM_NOT_NOW);
+    refused(scm_state_context(&session, "a", 1), SCM_NOT_NOW);
+    close_session();
+    refused(scm_state_context(&session, "a", 1), SCM_CLOSED);
+    refused(scm_begin(&session, WIDTH, HEIGHT), SCM_CLOSED);
+    refused(scm_files(&session, &count), SCM_CLOSED);
+#ifdef __GLIBC__
+    done(scm_state_new(&session, false), SCM_BUILDING);
+    is_refused = true;
+    code = scm_begin(&session, WIDTH, HEIGHT);
+    is_refused = false;
+    assert(code == SCM_NO_MEMORY && scm_stage(&session) == SCM_ENDED);
+    close_session();
+#endif
+}
+
 /* Once it has ended a session stays so until it is closed. */
 static void refuse_after_the_end(void) {
     done(press("c"), SCM_ACCEPTED);
@@ -302,6 +353,7 @@ static void refuse_after_the_end(void) {
 int main(void) {
     refuse_where_closed();
     refuse_states();
+    refuse_additions();
     refuse_words();
     take_any_size();
     cut_text();

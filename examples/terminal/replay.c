@@ -42,9 +42,12 @@ static char *read_all(FILE *in) {
 
 static char *session_text(void) {
     char nothing;
-    size_t length = scm_text(&session, &nothing, 0);
+    size_t length = 0;
+    uint32_t code = scm_text(&session, &nothing, 0, &length);
     char *text = more_room(NULL, length + 1);
-    scm_text(&session, text, length);
+    if (code == SCM_NO_MEMORY || scm_text(&session, text, length, &length) == SCM_NO_MEMORY) {
+        stop("there is no memory");
+    }
     text[length] = 0;
     return text;
 }

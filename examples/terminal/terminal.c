@@ -80,10 +80,11 @@ static char *more_room(char *bytes, size_t room) {
 }
 
 /* Returns what `reader` (scm_text or scm_paint) writes, until the next call. */
-static char *read_session(size_t (*reader)(scm_session *, char *, size_t), size_t *length) {
+static char *read_session(uint32_t (*reader)(scm_session *, char *, size_t, size_t *), size_t *length) {
     static char *bytes;
     static size_t room;
-    while (!bytes || (*length = reader(&session, bytes, room)) > room) {
+    *length = 0;
+    while (!bytes || (reader(&session, bytes, room, length) == SCM_DONE && *length > room)) {
         room = bytes ? *length : 1 << 15;
         bytes = more_room(bytes, room + 1);
     }

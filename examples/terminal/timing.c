@@ -76,14 +76,15 @@ static void print_key(const char *word, const char *back) {
 /* Hands in words in turn, and paints after each as `kind` says. */
 static void paint_keys(int count, const char *kind, int words, char **word) {
     static char out[1 << 17];
-    size_t length = scm_paint(&session, out, sizeof out);
+    size_t length = 0;
+    scm_paint(&session, out, sizeof out, &length);
     for (int i = 0; i < count; i++) {
         time_of_key(word[i % words]);
         if (strcmp(kind, "all") == 0) {
             scm_repaint(&session);
         }
         if (strcmp(kind, "none") != 0) {
-            length = scm_paint(&session, out, sizeof out);
+            scm_paint(&session, out, sizeof out, &length);
         }
     }
     printf("%zu bytes\n", length);

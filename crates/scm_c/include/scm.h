@@ -1,23 +1,64 @@
-/* A session of the change selector, for C.
+/* NAME
+ *     scm - a change selector: a user marks changes on a screen, and the program gets both sides of each file
  *
- * A program opens a session over a state, given in its JSON form. Then it passes the bytes that a terminal sent to
- * `scm_type`, and writes the bytes of `scm_paint` to that terminal. It can also pass words of scripts to `scm_press`
- * ("j", "space", "ctrl-d", "click:3:7") and draw the screen itself.
+ * SYNOPSIS
+ *     #include "scm.h"
  *
- * Link libscm_c.a, which `tools/build-c` builds in crates/scm_c/out. Link also the toolchain's liblibc_c.a, in the folder
- * `c` beside the page that `rt doc` names.
+ *     cc -I include tool.c libscm_c.a liblibc_c.a          the static library
+ *     cc tool.c $(pkg-config --cflags --libs scm)          the shared one, libscm.so, where scm.pc is installed
  *
- * Rows and columns are places on the screen, counted from 0. A wide symbol has two columns. Texts are UTF-8 without a
- * terminating zero.
+ * DESCRIPTION
+ *     A program makes a state by calls (scm_state_new, scm_state_file, scm_state_context, scm_state_changes), and begins a
+ *     session with it (scm_begin). Or it opens a session over a state in its JSON form (scm_new). Then it passes the bytes that
+ *     a terminal sent to scm_type, and writes the bytes of scm_paint to that terminal. It can also pass words of scripts to
+ *     scm_press ("j", "space", "ctrl-d", "click:3:7") and draw the screen itself. Once scm_stage returns SCM_ACCEPTED, scm_side
+ *     writes the two sides of each file.
  *
- * The caller must keep these rules. Nothing checks them:
- * - A `scm_session` is all zeros before its first call ({0}), and only these functions write to it.
- * - It is not copied: a call on a copy of an open session may use freed memory.
- * - One thread at a time uses a session, and no signal handler does. Different threads may use different sessions.
- * - A pointer with a length points to `length` bytes, and to at least one byte. No pointer is null.
- * - A buffer that a call writes to overlaps neither the session nor the call's input.
- * - Each open session is closed in the end (`scm_free`), or its memory leaks. To close a closed session is a no-op.
- */
+ *         scm_session session = {0};
+ *         scm_side_info side;
+ *         static char bytes[1 << 20];
+ *         scm_state_new(&session, false);
+ *         scm_state_file(&session, "letter", 6, "", 0, 0100644);
+ *         scm_state_context(&session, "Dear all,\n", 10);
+ *         scm_state_changes(&session, false, false, "old\n", 4);
+ *         scm_state_changes(&session, true, false, "new\n", 4);
+ *         scm_begin(&session, 80, 24);
+ *         scm_press(&session, "a", 1);
+ *         scm_press(&session, "c", 1);
+ *         if (scm_side(&session, 0, true, bytes, sizeof bytes, &side) == SCM_DONE && side.contents == SCM_SIDE_TEXT) {
+ *             fwrite(bytes, 1, side.length, stdout);
+ *         }
+ *         scm_free(&session);
+ *
+ *     Rows and columns are places on the screen, counted from 0. A wide symbol has two columns. Texts are UTF-8 with a length,
+ *     without a terminating zero. They are copied: the caller may free them after the call.
+ *
+ * OWNERSHIP
+ *     A session owns its state, and all memory that the library has taken is freed by scm_free. Nothing that a call writes to
+ *     the caller's memory points into the session. The caller must keep these rules. Nothing checks them:
+ *     - A scm_session is all zeros before its first call ({0}), and only these functions write to it.
+ *     - It is not copied: a call on a copy of an open session may use freed memory.
+ *     - A pointer with a length points to `length` bytes, and to at least one byte. No pointer is null: no text is "" with the
+ *       length 0, and to ask for a length alone is to pass a byte and the length 0.
+ *     - A buffer that a call writes to overlaps neither the session nor the call's input.
+ *     - A bool is 0 or 1.
+ *     - Each open session is closed in the end (scm_free), or its memory leaks. To close a closed session is a no-op.
+ *
+ * THREADS
+ *     The library has no state of its own. One thread at a time uses a session, and different threads may use different
+ *     sessions at once. A session may move to another thread, by a lock or a join. No signal handler calls the library, and
+ *     neither does the child of a fork of a process with threads. Memory comes from malloc and realloc, and goes to free.
+ *
+ * ERRORS
+ *     A call returns a code, or what its comment says. If a call returns another code than SCM_DONE, it wrote nothing, and the
+ *     session is as it was. The exceptions are said at scm_new, scm_state_new, scm_begin and scm_paint. A failed allocation
+ *     always has the code SCM_NO_MEMORY, with one exception: in scm_press, scm_type, scm_click, scm_idle and scm_answer the
+ *     user's input is handled, and if an allocation fails in this, the call returns SCM_DONE and the session has ended. Its
+ *     stage is SCM_ENDED and its text "out of memory". The changes of such a session are lost.
+ *
+ * VERSION
+ *     SCM_VERSION is that of this header, and scm_version returns that of the library. Within one major version a program
+ *     that was built with an older header runs with a newer shared library. */
 #ifndef SCM_H
 #define SCM_H
 
@@ -25,37 +66,42 @@
 #include <stddef.h>
 #include <stdint.h>
 
-typedef struct {
+#ifdef __cplusplus
+extern "C" {
+#endif
+
+/* 10,000 times the major number, 100 times the minor number, and the patch number. */
+#define SCM_VERSION 10100
+#define SCM_VERSION_TEXT "1.1.0"
+
+/* A session. All zeros if it is closed. Its members are the library's own. */
+typedef struct scm_session {
     bool is_open;
     void *at;
 } scm_session;
 
-/* Return codes. `scm_words` writes a sentence for each. If a call returns another code than SCM_DONE, the session is
- * unchanged, except that `scm_new` leaves it closed. */
+/* Return codes. `scm_words` writes a sentence for each. */
 enum {
     SCM_DONE = 0,         /* the call was done */
     SCM_CLOSED = 1,       /* the session is closed */
-    SCM_NOT_NOW = 2,      /* the session doesn't wait for this call now */
+    SCM_NOT_NOW = 2,      /* the session doesn't wait for this call now, or has no state to ask */
     SCM_NO_WORD = 3,      /* the bytes are not the word of an event */
     SCM_NOT_TEXT = 4,     /* the bytes are not UTF-8 */
     SCM_BAD_STATE = 5,    /* the text is not the JSON form of a state */
     SCM_NOT_ACCEPTED = 6, /* the state passes a limit; docs/RULES.md lists the limits, under "Limits" */
-    SCM_TOO_LONG = 7,     /* the message has more than 1,000,000 bytes */
+    SCM_TOO_LONG = 7,     /* a text or a line has more than 1,000,000 bytes */
     SCM_NO_MEMORY = 8,    /* an allocation failed */
+    SCM_NO_ITEM = 9,      /* the state has no such file, section, line or commit */
 };
 
-/* What a session waits for, and the text that `scm_text` writes then.
- *
- * The text of accepted changes has the line `accepted`, a line with the state's JSON form, and three lines for each file:
- * `file I`, `selected MODE C` and `unselected MODE C`. I is the file's index, counted from 0. The last two lines are the
- * file's two sides: MODE is octal digits or `<absent>`. C is `unchanged`, `text "T"` or `binary OLD NEW`, with texts as
- * JSON strings or `null`. */
+/* The stage of a session: what it waits for. */
 enum {
-    SCM_WAITING = 0,  /* an event; the text is the screen's rows, each in quotes and with a line end */
-    SCM_EDITING = 1,  /* the message of a commit; the text is the message before the edit */
-    SCM_ACCEPTED = 2, /* nothing, since the changes are accepted; the text is the state and each file's two sides */
-    SCM_ENDED = 3,    /* nothing, since an error ended the session; the text is the error's sentence */
-    SCM_NONE = 4,     /* nothing, since the session is closed; there is no text */
+    SCM_WAITING = 0,  /* an event */
+    SCM_EDITING = 1,  /* the message of a commit */
+    SCM_ACCEPTED = 2, /* nothing, since the changes are accepted */
+    SCM_ENDED = 3,    /* nothing, since an error ended the session, or the user cancelled it */
+    SCM_NONE = 4,     /* nothing, since the session is closed */
+    SCM_BUILDING = 5, /* additions to its state, and `scm_begin` */
 };
 
 /* The owner of a place on the screen: the component that a click there acts on. */
@@ -77,24 +123,114 @@ enum {
     SCM_FILE_EDGE = 14, /* the columns of a file that are left of its sections */
 };
 
-/* The commit, file, section and line that a place belongs to. Each is an index, counted from 0: of the file in the state,
- * of the section in its file, of the line in its section. SCM_NO_INDEX means that the place belongs to none. */
-typedef struct {
+/* The contents of a side of a file. */
+enum {
+    SCM_SIDE_UNCHANGED = 0, /* the contents do not change: there is nothing to write */
+    SCM_SIDE_TEXT = 1,      /* the contents are the text that `scm_side` writes, which may be empty */
+    SCM_SIDE_BINARY = 2,    /* the contents are binary, and the caller has them */
+};
+
+/* The mark of a file, a section or a line. */
+enum {
+    SCM_UNCHECKED = 0, /* nothing is checked, or there is no item */
+    SCM_PARTLY = 1,    /* some items are checked */
+    SCM_CHECKED = 2,   /* all items are checked */
+};
+
+/* Stands for no section and no line in a key, and for what a place does not belong to. */
+#define SCM_NO_INDEX SIZE_MAX
+
+/* The mode of a file that does not exist. Any other mode is the bits of Unix, as 0100644. */
+#define SCM_ABSENT SIZE_MAX
+
+/* A commit, a file, a section and a line. Each is an index, counted from 0: of the file in the state, of the section in its
+ * file, of the line in its section. */
+typedef struct scm_key {
     size_t commit;
     size_t file;
     size_t section;
     size_t line;
 } scm_key;
 
-#define SCM_NO_INDEX SIZE_MAX
+/* One side of a file. */
+typedef struct scm_side_info {
+    uint32_t contents; /* SCM_SIDE_UNCHANGED to SCM_SIDE_BINARY */
+    size_t mode;       /* the mode of the file on this side, or SCM_ABSENT */
+    size_t length;     /* the number of bytes of its text, and 0 if the contents are no text */
+} scm_side_info;
+
+/* ---- A state by calls ----
+ *
+ * After `scm_state_new` the stage is SCM_BUILDING. Each of the calls below adds at the end of the state: commits, files, and
+ * the sections of the last file. They return SCM_DONE, or the first of these that applies, and then the state is as it was:
+ *
+ *   SCM_NOT_TEXT      a text is not UTF-8
+ *   SCM_CLOSED        the session is closed
+ *   SCM_NOT_NOW       the session has begun
+ *   SCM_NO_ITEM       there is no file for the section
+ *   SCM_TOO_LONG      a text or a line has more than 1,000,000 bytes
+ *   SCM_NOT_ACCEPTED  there are two commits already
+ *   SCM_NO_MEMORY     an allocation failed */
+
+/* Opens `session` over a state without commits and files. If `is_read_only`, the user cannot change the marks. If `session` is
+ * open, closes it first.
+ *
+ * Returns SCM_DONE, or SCM_NO_MEMORY; then the session is closed. */
+uint32_t scm_state_new(scm_session *session, bool is_read_only);
+
+/* Adds a commit with a message, `length` bytes of `text`, which the user can edit. A state has at most two commits. The first
+ * one gets the selected changes. */
+uint32_t scm_state_message(scm_session *session, const char *text, size_t length);
+
+/* Adds a commit without a message. A session adds such commits up to two by itself. */
+uint32_t scm_state_commit(scm_session *session);
+
+/* Adds a file: its path, its path before a rename or a copy (none, if `old_length` is 0), and its mode before the changes,
+ * SCM_ABSENT if it is new. */
+uint32_t scm_state_file(scm_session *session, const char *path, size_t length, const char *old_path, size_t old_length,
+                        size_t mode);
+
+/* Adds context lines to the last file: those of `text`, of `length` bytes. A line ends behind its line feed, and the last one
+ * may lack it. The lines go to the file's last section if that has context lines, and else begin a section. Without a line
+ * this is a no-op. */
+uint32_t scm_state_context(scm_session *session, const char *text, size_t length);
+
+/* Adds changed lines to the last file: those of `text`, as `scm_state_context` cuts it. They are added lines if `is_added`, and
+ * else removed lines, and checked if `is_checked`. They go to the file's last section if that has changed lines, and else begin
+ * a section. */
+uint32_t scm_state_changes(scm_session *session, bool is_added, bool is_checked, const char *text, size_t length);
+
+/* Begins a section of the last file: of changed lines if `is_changed`, or else of context lines. It has no lines yet. Call this
+ * only between lines of one kind that are to be in two sections. */
+uint32_t scm_state_section(scm_session *session, bool is_changed);
+
+/* Adds a section that changes the mode of the last file to `mode`, or SCM_ABSENT. */
+uint32_t scm_state_mode(scm_session *session, bool is_checked, size_t mode);
+
+/* Adds a section that changes the binary contents of the last file. The texts describe the old and the new contents to the
+ * user. One of length 0 is none. */
+uint32_t scm_state_binary(scm_session *session, bool is_checked, const char *old_text, size_t old_length,
+                          const char *new_text, size_t new_length);
+
+/* Begins the session with the state that is made, on a screen of `width` columns and `height` rows. The session takes the state
+ * over, and nothing is copied.
+ *
+ * Returns SCM_DONE, SCM_CLOSED, SCM_NOT_NOW if the session has begun, or SCM_NOT_ACCEPTED if the state has more than 16,000,000
+ * files, sections and lines together. Or returns SCM_NO_MEMORY; then the session has ended, and its stage is SCM_ENDED. */
+uint32_t scm_begin(scm_session *session, uint16_t width, uint16_t height);
+
+/* ---- A state in its JSON form ---- */
 
 /* Opens `session` over the state with the JSON form `json`, of `length` bytes, on a screen of `width` columns and `height`
  * rows. If `session` is open, closes it first.
  *
- * Returns SCM_DONE, or the first of SCM_NOT_TEXT, SCM_BAD_STATE and SCM_NOT_ACCEPTED that applies, or SCM_NO_MEMORY. */
+ * Returns SCM_DONE, or the first of SCM_NOT_TEXT, SCM_BAD_STATE and SCM_NOT_ACCEPTED that applies, or SCM_NO_MEMORY. If it does
+ * not return SCM_DONE, the session is closed. */
 uint32_t scm_new(scm_session *session, const char *json, size_t length, uint16_t width, uint16_t height);
 
-/* Returns what the session waits for: SCM_WAITING to SCM_NONE. */
+/* ---- The user's input ---- */
+
+/* Returns the stage: SCM_WAITING to SCM_BUILDING. */
 uint32_t scm_stage(scm_session *session);
 
 /* Handles `length` bytes from a terminal. They may be any part of its output: a key or a click may be cut between two
@@ -132,15 +268,17 @@ uint32_t scm_answer(scm_session *session, const char *text, size_t length);
  * Returns SCM_DONE, SCM_CLOSED, SCM_NOT_NOW or SCM_NO_MEMORY. */
 uint32_t scm_resize(scm_session *session, uint16_t width, uint16_t height);
 
-/* Writes the bytes that make the terminal show the session, in colours, to `out`. The terminal has the session's size. The
- * first call writes every row. A later call writes the rows that changed since the last call, and expects that nobody else
- * wrote to the terminal. The bytes are one synchronized update (`ESC [ ? 2026 h` to `ESC [ ? 2026 l`). After it no colour
- * is set.
+/* ---- The screen ---- */
+
+/* Writes the bytes that make the terminal show the session, in colours, to `out`, if they fit into its `length` bytes, and
+ * their number to `written`. The terminal has the session's size. The first call writes every row. A later call writes the
+ * rows that changed since the last call, and expects that nobody else wrote to the terminal. The bytes are one synchronized
+ * update (`ESC [ ? 2026 h` to `ESC [ ? 2026 l`). After it no colour is set.
  *
- * Returns the number of bytes. If that is more than `length`, writes nothing, and the next call writes every row: call
- * again with a larger buffer. Returns 0 if the session waits for no event or an allocation failed. After a failed
- * allocation the next call writes every row. */
-size_t scm_paint(scm_session *session, char *out, size_t length);
+ * Returns SCM_DONE, SCM_CLOSED, or SCM_NOT_NOW if the session waits for no event. If `written` is more than `length` after
+ * SCM_DONE, no byte was written, and the next call writes every row: call again with a larger buffer. Or returns SCM_NO_MEMORY;
+ * then the next call writes every row. */
+uint32_t scm_paint(scm_session *session, char *out, size_t length, size_t *written);
 
 /* Makes the next `scm_paint` write every row. Call this if the terminal shows anything else than the last paint. After a
  * resize it is not needed.
@@ -148,12 +286,7 @@ size_t scm_paint(scm_session *session, char *out, size_t length);
  * Returns SCM_DONE or SCM_CLOSED. */
 uint32_t scm_repaint(scm_session *session);
 
-/* Writes the text of the session's stage to `out`, clipped to `length` bytes.
- *
- * Returns the whole length in bytes. Returns 0 if the session is closed or an allocation failed. */
-size_t scm_text(scm_session *session, char *out, size_t length);
-
-/* Writes the key of the owner at `row`, `column` of the screen to `key`.
+/* Writes the key of the owner at `row`, `column` of the screen to `key`. An index that the owner has not is SCM_NO_INDEX.
  *
  * Returns the owner: SCM_NOBODY to SCM_FILE_EDGE. Returns SCM_NOBODY while the session waits for no event. */
 uint32_t scm_owner(scm_session *session, uint16_t row, uint16_t column, scm_key *key);
@@ -164,12 +297,60 @@ uint32_t scm_owner(scm_session *session, uint16_t row, uint16_t column, scm_key 
  * session waits for no event. */
 size_t scm_symbol(scm_session *session, uint16_t row, uint16_t column, char *out, size_t length);
 
+/* Writes the text of the session's stage to `out`, clipped to `length` bytes, and the whole length in bytes to `written`.
+ *
+ * The text of SCM_WAITING is the screen's rows, each in quotes and with a line end; of SCM_EDITING the message before the edit;
+ * of SCM_ENDED the error's sentence ("cancelled by user" if the user cancelled). That of SCM_BUILDING is empty. The text of
+ * SCM_ACCEPTED is a report for scripts: the line `accepted`, a line with the state's JSON form, and three lines for each file:
+ * `file I`, `selected MODE C` and `unselected MODE C`. I is the file's index, counted from 0. The last two lines are the file's
+ * two sides: MODE is octal digits or `<absent>`. C is `unchanged`, `text "T"` or `binary OLD NEW`, with texts as JSON strings
+ * or `null`.
+ *
+ * Returns SCM_DONE, SCM_CLOSED or SCM_NO_MEMORY. */
+uint32_t scm_text(scm_session *session, char *out, size_t length, size_t *written);
+
+/* ---- The answer ----
+ *
+ * These calls ask for the state: the one that is made (SCM_BUILDING), shown (SCM_WAITING) or accepted (SCM_ACCEPTED). They
+ * return SCM_DONE, or the first of SCM_CLOSED, SCM_NOT_NOW (at any other stage) and SCM_NO_ITEM that applies. */
+
+/* Writes the number of files to `count`. */
+uint32_t scm_files(scm_session *session, size_t *count);
+
+/* Writes a side of file `file`, counted from 0: the selected side if `selected`, or the other side. Its kind of contents, its
+ * mode and the number of its bytes go to `side`, and its bytes to `out`, clipped to `length`. If `side->length` is more than
+ * `length`, call again with a larger buffer.
+ *
+ * The selected side is the file with the checked changes alone, and the other side the file with the unchecked changes alone;
+ * docs/RULES.md says it in full, under "The split of a file". If the mode is SCM_ABSENT, the file does not exist on that side.
+ *
+ * May also return SCM_NO_MEMORY. */
+uint32_t scm_side(scm_session *session, size_t file, bool selected, char *out, size_t length, scm_side_info *side);
+
+/* Writes the mark of the line that `key` names to `mark`: SCM_UNCHECKED to SCM_CHECKED. If its line is SCM_NO_INDEX, that of
+ * the section; if its section is SCM_NO_INDEX too, that of the file. The commit of the key does not matter. A context line has
+ * no mark: SCM_NO_ITEM. */
+uint32_t scm_mark(scm_session *session, const scm_key *key, uint32_t *mark);
+
+/* Writes the message of commit `commit`, counted from 0, to `out`, clipped to `length` bytes, and the whole length in bytes to
+ * `written`. Returns SCM_NO_ITEM for a commit without a message too. */
+uint32_t scm_message(scm_session *session, size_t commit, char *out, size_t length, size_t *written);
+
+/* ---- The rest ---- */
+
 /* Writes the sentence of a return code to `out`, clipped to `length` bytes. It is ASCII.
  *
  * Returns the whole length in bytes, or 0 for a code that no call returns. */
 size_t scm_words(uint32_t code, char *out, size_t length);
 
+/* Returns the version of the library, as SCM_VERSION is that of the header. */
+uint32_t scm_version(void);
+
 /* Closes the session and frees its memory. If it is closed, this is a no-op. */
 void scm_free(scm_session *session);
+
+#ifdef __cplusplus
+}
+#endif
 
 #endif

@@ -10,3 +10,7 @@ pub mod StageLemmas
 pub mod ResultLemmas
 -- what `scm_paint` writes
 pub mod PaintLemmas
+-- states that grow by calls
+pub mod BuildLemmas
+-- what calls tell of a state
+pub mod QuestionLemmas

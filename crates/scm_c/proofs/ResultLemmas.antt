@@ -1,5 +1,5 @@
 -- Return codes, and the texts that calls write.
-use Rattle.std.proofs.Common.{◌≡◌, ℕ, min, List, [], ◌++◌, ◌<◌, ◌≤◌, length, take, drop, Bool, true, false, ◌&&◌, IsTrue, if◌then◌else◌, Option, Some, None, option_and_then, IsUtf8, refl, sym, ap, ◌∙◌, subst, arith}
+use Rattle.std.proofs.Common.{◌≡◌, ℕ, min, List, [], ◌++◌, ◌<◌, ◌≤◌, length, take, drop, Bool, true, false, ◌&&◌, IsTrue, if◌then◌else◌, Option, Some, None, option_and_then, is_some, IsUtf8, refl, sym, ap, ◌∙◌, subst, arith}
 use Rattle.std.specs.Str.{is_utf8}
 use Rattle.std.proofs.lemmas.Str.{IsUtf8-from_is_utf8, is_utf8-from_IsUtf8}
 use Rattle.std.proofs.lemmas.Bool.{false≢true, lt-leb, le-leb}
@@ -11,10 +11,10 @@ use Rattle.scm_json.specs.Form.{state_of}
 use Rattle.scm_script.specs.Words.{event_of_word}
 use Rattle.scm_c.specs.declared.open_session.OpenSession.{OpenSession}
 use Rattle.scm_c.specs.declared.open_session.Stage.{Stage}
-use Rattle.scm_c.specs.declared.open_session.Stage.TheVariants.{Waiting, Editing, Accepted, Ended}
+use Rattle.scm_c.specs.declared.open_session.Stage.TheVariants.{Building, Waiting, Editing, Accepted, Ended}
 use Rattle.scm_record.specs.Live.{Live}
 use Rattle.scm_c.specs.Stages.{is_waiting}
-use Rattle.scm_c.specs.Results.{IsCode, IsRead, IsText, Writes, code_of_call, code_of_form, code_of_json, code_of_message, code_of_press, code_where, done_code, event_of_bytes, is_message, over, is_session_waiting}
+use Rattle.scm_c.specs.Results.{IsCode, IsRead, IsText, Writes, code_of_call, code_of_form, code_of_json, code_of_message, code_of_press, code_of_repaint, code_where, done_code, event_of_bytes, is_message, over, is_session_waiting}
 
 -- the event of a word
 
@@ -25,7 +25,7 @@ is_false : (t : Bool) → (t ≡ true → ⊥) → t ≡ false
 is_false true n = absurd (n refl)
 is_false false n = refl
 
-not_utf8 : (bytes : List ℕ) → ¬ (IsUtf8 bytes) → is_utf8 bytes ≡ false
+pub not_utf8 : (bytes : List ℕ) → ¬ (IsUtf8 bytes) → is_utf8 bytes ≡ false
 not_utf8 bytes n = is_false (is_utf8 bytes) (λ e. n (IsUtf8-from_is_utf8 bytes e))
 
 pub no_event : (bytes : List ℕ) → ¬ (IsUtf8 bytes) → None ≡ event_of_bytes bytes
@@ -49,6 +49,7 @@ resize_code is_due true answer e f = rw (e, f) IsCode.known
 resize_code is_due false answer e f = rw (e, f) (IsCode.no_memory refl)
 
 pub waits_not : (s : Stage) → ((l : Live) → s ≡ Waiting l → ⊥) → is_waiting s ≡ false
+waits_not (Building state) n = refl
 waits_not (Waiting l) n = absurd (n l refl)
 waits_not (Editing a) n = refl
 waits_not (Accepted state) n = refl
@@ -124,13 +125,16 @@ not_accepted json given u e f = formed_large (is_utf8 json) (option_and_then sta
 
 -- texts
 
-over_nothing : (n : ℕ) (out : List ℕ) → n ≡ 0 → out ≡ take n [] ++ drop n out
-over_nothing n out e = rw e refl
+pub text_done : (old : Option OpenSession) (h : OpenSession) → old ≡ Some h → IsCode (is_some old) (code_of_repaint old) 0
+text_done old h e = rw e IsCode.known
 
-pub writes_nothing : (old : Option OpenSession) (out : List ℕ) → Writes old out out 0
-writes_nothing old out = record { text = []; is_read = IsRead.unread; answered = refl; written = over_nothing (min 0 (length out)) out (omega arith) }
+pub text_refused : (old : Option OpenSession) (h : OpenSession) → old ≡ Some h → IsCode (is_some old) (code_of_repaint old) 8
+text_refused old h e = rw e (IsCode.no_memory refl)
+
+pub text_closed : (old : Option OpenSession) → old ≡ None → IsCode (is_some old) (code_of_repaint old) 1
+text_closed old e = rw e IsCode.known
 
 pub writes_text : (old : Option OpenSession) (h before : OpenSession) (text : List ℕ) (out new : List ℕ) (answer : ℕ)
     → old ≡ Some h → before ≡ h → IsText before.stage text → answer ≡ length text → new ≡ over text out → Writes old out new answer
 writes_text old h before text out new answer e f is l w =
-    record { text = text; is_read = rw e (IsRead.of_stage (subst (λ (x : OpenSession). IsText x.stage text) f is)); answered = l; written = w }
+    record { text = text; is_read = rw e (IsRead.of_stage (subst (λ (x : OpenSession). IsText x.stage text) f is)); length_told = l; written = w }

@@ -8,5 +8,9 @@ pub mod Stages
 pub mod Results
 -- the owner of a place on the screen: its code and its key
 pub mod Owners
+-- what calls add to a state that is made, and how a session begins with it
+pub mod Building
+-- what calls tell of a state: sides of files, marks and messages
+pub mod Questions
 -- what `scm_paint` writes
 pub mod Paint

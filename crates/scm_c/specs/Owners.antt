@@ -13,7 +13,7 @@ use Rattle.scm_record.specs.Frames.{scene_of}
 use Rattle.scm_record.specs.FrameQueries.{hit}
 use Rattle.scm_c.specs.declared.open_session.OpenSession.{OpenSession}
 use Rattle.scm_c.specs.declared.open_session.Stage.{Stage}
-use Rattle.scm_c.specs.declared.open_session.Stage.TheVariants.{Waiting, Editing, Accepted, Ended}
+use Rattle.scm_c.specs.declared.open_session.Stage.TheVariants.{Building, Waiting, Editing, Accepted, Ended}
 use Rattle.scm_c.specs.declared.owners.Key.{Key}
 
 -- ---- codes
@@ -107,6 +107,7 @@ key_of_owner (Some id) = key_of_component id
 
 -- The code of the owner that a click at `row`, `column` of the screen hits. 0 unless the session waits for an event.
 abbrev pub owner_of_stage : Stage → ℕ → ℕ → ℕ
+owner_of_stage (Building state) row column = 0
 owner_of_stage (Waiting l) row column =
     code_of_owner l.session.shown (hit (scene_of l.kind l.session) l.session.scroll row column)
 owner_of_stage (Editing a) row column = 0
@@ -115,6 +116,7 @@ owner_of_stage (Ended error) row column = 0
 
 -- The key of that owner. No key unless the session waits for an event.
 abbrev pub key_of_stage : Stage → ℕ → ℕ → Key
+key_of_stage (Building state) row column = no_key
 key_of_stage (Waiting l) row column = key_of_owner (hit (scene_of l.kind l.session) l.session.scroll row column)
 key_of_stage (Editing a) row column = no_key
 key_of_stage (Accepted state) row column = no_key

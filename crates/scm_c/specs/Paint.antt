@@ -1,5 +1,5 @@
 -- What `scm_paint` writes: synchronized updates for the terminal.
-use Rattle.std.specs.Prelude.{◌≡◌, ℕ, ◌≤◌, ◌<◌, List, [], ◌∷◌, ◌++◌, length, false, Option, Some, None, codes}
+use Rattle.std.specs.Prelude.{◌≡◌, ℕ, ◌≤◌, ◌<◌, List, [], ◌∷◌, ◌++◌, length, false, Option, Some, None, Result, Ok, Err, codes}
 use Rattle.scm_terminal.specs.StyledCell.{StyledCell}
 use Rattle.scm_terminal.specs.Promise.{Paints}
 use Rattle.scm_terminal.specs.Style.{style_bytes}
@@ -33,29 +33,32 @@ pub record Shows (l : Live) (last : List (List StyledCell)) (update : List ℕ) 
 abbrev pub with_painter : OpenSession → List (List StyledCell) → OpenSession
 with_painter inner rows = record inner { painter = rows }
 
--- An update of an open session, if it waits for an event. If an allocation failed: no update, and nothing counts as painted.
-pub data Updates (old : OpenSession) : OpenSession → Option (List ℕ) → Type 0 where
+-- An update of an open session, if it waits for an event. If an allocation failed: its code, and nothing counts as painted.
+-- If the session waits for no event: the code of that.
+pub data Updates (old : OpenSession) : OpenSession → Result (List ℕ) ℕ → Type 0 where
   shown : {l : Live} {update : List ℕ} → old.stage ≡ Waiting l → Shows l old.painter update
-      → Updates old (with_painter old (picture_of l)) (Some update)
-  refused : {l : Live} → old.stage ≡ Waiting l → Updates old (with_painter old []) None
-  not_due : is_waiting old.stage ≡ false → Updates old old None
+      → Updates old (with_painter old (picture_of l)) (Ok update)
+  refused : {l : Live} → old.stage ≡ Waiting l → Updates old (with_painter old []) (Err 8)
+  not_due : is_waiting old.stage ≡ false → Updates old old (Err 2)
 
 -- If the buffer has room for the update, it is written. If not, nothing is written, and nothing counts as painted.
 pub data Fills (inner : OpenSession) : OpenSession → List ℕ → List ℕ → List ℕ → Type 0 where
   written : {update out : List ℕ} → length update ≤ length out → Fills inner inner update out (over update out)
   no_room : {update out : List ℕ} → length out < length update → Fills inner (with_painter inner []) update out out
 
--- `scm_paint` on an open session: the session, the buffer, and the length that is returned.
-pub data PaintsOpenSession (old : OpenSession) : OpenSession → List ℕ → List ℕ → ℕ → Type 0 where
-  painted : {inner new : OpenSession} {update out filled : List ℕ} → Updates old inner (Some update)
-      → Fills inner new update out filled → PaintsOpenSession old new out filled (length update)
-  unpainted : {new : OpenSession} {out : List ℕ} → Updates old new None → PaintsOpenSession old new out out 0
+-- `scm_paint` on an open session: the session, the buffer, and the length of the update or the code of the failure.
+pub data PaintsOpenSession (old : OpenSession) : OpenSession → List ℕ → List ℕ → Result ℕ ℕ → Type 0 where
+  painted : {inner new : OpenSession} {update out filled : List ℕ} → Updates old inner (Ok update)
+      → Fills inner new update out filled → PaintsOpenSession old new out filled (Ok (length update))
+  unpainted : {new : OpenSession} {out : List ℕ} {code : ℕ} → Updates old new (Err code) → PaintsOpenSession old new out out (Err code)
 
--- `scm_paint` on a session: a no-op if it is closed.
-pub data PaintsSession : Option OpenSession → Option OpenSession → List ℕ → List ℕ → ℕ → Type 0 where
-  closed : {out : List ℕ} → PaintsSession None None out out 0
-  open_one : {old new : OpenSession} {out filled : List ℕ} {count : ℕ} → PaintsOpenSession old new out filled count
-      → PaintsSession (Some old) (Some new) out filled count
+-- `scm_paint` on a session: the session, the buffer, the code, and the length that it tells. A call that fails tells none.
+pub data PaintsSession : Option OpenSession → Option OpenSession → List ℕ → List ℕ → ℕ → ℕ → ℕ → Type 0 where
+  closed : {out : List ℕ} {told : ℕ} → PaintsSession None None out out 1 told told
+  painted : {old new : OpenSession} {out filled : List ℕ} {told count : ℕ} → PaintsOpenSession old new out filled (Ok count)
+      → PaintsSession (Some old) (Some new) out filled 0 told count
+  unpainted : {old new : OpenSession} {out filled : List ℕ} {told code : ℕ} → PaintsOpenSession old new out filled (Err code)
+      → PaintsSession (Some old) (Some new) out filled code told told
 
 -- After `scm_repaint` nothing counts as painted, so the next update has every row.
 abbrev pub Forgets : Option OpenSession → Option OpenSession → Type 0

@@ -14,7 +14,7 @@ use Rattle.scm_script.specs.Words.{event_of_word}
 use Rattle.scm_c.specs.Stages.{is_waiting, is_editing}
 use Rattle.scm_c.specs.declared.open_session.OpenSession.{OpenSession}
 use Rattle.scm_c.specs.declared.open_session.Stage.{Stage}
-use Rattle.scm_c.specs.declared.open_session.Stage.TheVariants.{Waiting, Editing, Accepted, Ended}
+use Rattle.scm_c.specs.declared.open_session.Stage.TheVariants.{Building, Waiting, Editing, Accepted, Ended}
 
 -- The event of a script's word. None if the bytes are not UTF-8.
 abbrev pub event_of_bytes : List ℕ → Option Event
@@ -32,8 +32,9 @@ words_of_code code =
     else if code == 4 then codes "the bytes are no UTF-8"
     else if code == 5 then codes "the text is no state's JSON form"
     else if code == 6 then codes "the state passes a limit: of commits, of files, sections and lines together, or of a text's bytes"
-    else if code == 7 then codes "the message has more than 1,000,000 bytes"
+    else if code == 7 then codes "a text has more than 1,000,000 bytes"
     else if code == 8 then codes "there is not enough memory"
+    else if code == 9 then codes "the state has no such file, section, line or commit"
     else []
 
 -- A call returns `code`. If it needs memory, it may return 8 instead: an allocation failed.
@@ -63,7 +64,7 @@ code_where is_due (Some inner) = done_code (is_due inner.stage)
 abbrev pub code_of_call : Option OpenSession → ℕ
 code_of_call inner = code_where is_waiting inner
 
--- The code of `scm_repaint`, which needs an open session.
+-- The code of a call that needs an open session, at any stage.
 abbrev pub code_of_repaint : Option OpenSession → ℕ
 code_of_repaint None = 1
 code_of_repaint (Some inner) = 0
@@ -94,6 +95,7 @@ is_message text = is_short_text text && is_utf8 text
 
 -- The symbol that begins at `row`, `column` of the screen. Empty unless the session waits for an event.
 abbrev pub symbol_of_stage : Stage → ℕ → ℕ → List ℕ
+symbol_of_stage (Building state) row column = []
 symbol_of_stage (Waiting l) row column = unwrap_or (symbol_at (scene_of l.kind l.session).frame.rows row column) []
 symbol_of_stage (Editing a) row column = []
 symbol_of_stage (Accepted state) row column = []
@@ -106,30 +108,30 @@ symbol_of_session (Some inner) row column = symbol_of_stage inner.stage row colu
 
 -- ---- the text of a stage
 
--- The text of a stage: the screen's rows, or the message to edit. For an accepted state and an error it is any text: no
+-- The text of a stage: the screen's rows, or the message to edit. None of a state that is made. For an accepted state and an error it is any text: no
 -- contract says what the writers of JSON and of errors write.
 abbrev pub IsText : Stage → List ℕ → Type 0
+IsText (Building state) text = text ≡ []
 IsText (Waiting l) text = text ≡ view_of (scene_of l.kind l.session).frame.rows
 IsText (Editing a) text = text ≡ unwrap_or (message_of a.session a.commit) []
 IsText (Accepted state) text = ⊤
 IsText (Ended error) text = ⊤
 
--- The text that `scm_text` reads: that of the stage, or nothing if the session is closed or an allocation failed.
+-- The text that `scm_text` reads: that of the stage of an open session.
 pub data IsRead : Option OpenSession → List ℕ → Type 0 where
-  unread : {inner : Option OpenSession} → IsRead inner []
   of_stage : {inner : OpenSession} {bytes : List ℕ} → IsText inner.stage bytes → IsRead (Some inner) bytes
 
 -- The buffer with the text over its beginning, clipped to the buffer's length.
 abbrev pub over : List ℕ → List ℕ → List ℕ
 over text buffer = let fits = min (length text) (length buffer) in take fits text ++ drop fits buffer
 
--- `scm_text` writes the text that it reads over the buffer, and returns its whole length.
-pub record Writes (inner : Option OpenSession) (old new : List ℕ) (answer : ℕ) : Type 0 where
+-- `scm_text` writes the text that it reads over the buffer, and tells its whole length.
+pub record Writes (inner : Option OpenSession) (old new : List ℕ) (told : ℕ) : Type 0 where
   -- the text
   pub text : List ℕ
   -- it is read from the session
   pub is_read : IsRead inner text
-  -- its whole length is returned
-  pub answered : answer ≡ length text
+  -- its whole length is told
+  pub length_told : told ≡ length text
   -- the buffer begins with it
   pub written : new ≡ over text old

@@ -18,10 +18,11 @@ use Rattle.scm_json.specs.Form.{state_of}
 use Rattle.serde_json.specs.Read.{read}
 use Rattle.scm_c.specs.declared.open_session.OpenSession.{OpenSession}
 use Rattle.scm_c.specs.declared.open_session.Stage.{Stage}
-use Rattle.scm_c.specs.declared.open_session.Stage.TheVariants.{Waiting, Editing, Accepted, Ended}
+use Rattle.scm_c.specs.declared.open_session.Stage.TheVariants.{Building, Waiting, Editing, Accepted, Ended}
 
 -- The code of a stage.
 abbrev pub code_of_stage : Stage → ℕ
+code_of_stage (Building state) = 5
 code_of_stage (Waiting l) = 0
 code_of_stage (Editing a) = 1
 code_of_stage (Accepted state) = 2
@@ -34,6 +35,7 @@ code_of_session (Some inner) = code_of_stage inner.stage
 
 -- Whether a session at this stage waits for an event.
 abbrev pub is_waiting : Stage → Bool
+is_waiting (Building state) = false
 is_waiting (Waiting l) = true
 is_waiting (Editing a) = false
 is_waiting (Accepted state) = false
@@ -41,6 +43,7 @@ is_waiting (Ended error) = false
 
 -- Whether a session at this stage waits for a message.
 abbrev pub is_editing : Stage → Bool
+is_editing (Building state) = false
 is_editing (Waiting l) = false
 is_editing (Editing a) = true
 is_editing (Accepted state) = false

@@ -6,20 +6,22 @@ ghost use Rattle.scm_c.specs.Results.{words_of_code};
 pub const DONE: u32 = 0;
 /// Code of a call: the session is closed.
 pub const CLOSED: u32 = 1;
-/// Code of a call: the session does not wait for this now.
+/// Code of a call: the session does not wait for this now, or has no state to ask.
 pub const NOT_NOW: u32 = 2;
 /// Code of a call: the bytes are not the word of an event.
 pub const NO_WORD: u32 = 3;
-/// Code of a call: the state or the message is not UTF-8.
+/// Code of a call: the state, the message or a text is not UTF-8.
 pub const NOT_TEXT: u32 = 4;
 /// Code of a call: the text is not the JSON form of a state.
 pub const BAD_STATE: u32 = 5;
 /// Code of a call: the state passes a limit.
 pub const NOT_ACCEPTED: u32 = 6;
-/// Code of a call: the message has more than 1,000,000 bytes.
+/// Code of a call: a text or a line has more than 1,000,000 bytes.
 pub const TOO_LONG: u32 = 7;
 /// Code of a call: an allocation failed.
 pub const NO_MEMORY: u32 = 8;
+/// Code of a call: the state has no such file, section, line or commit.
+pub const NO_ITEM: u32 = 9;
 
 /// Stage: the session waits for an event.
 pub const WAITING: u32 = 0;
@@ -31,6 +33,8 @@ pub const ACCEPTED: u32 = 2;
 pub const ENDED: u32 = 3;
 /// Stage: none, as the session is closed.
 pub const NONE: u32 = 4;
+/// Stage: the state is made by calls, and the session has not begun.
+pub const BUILDING: u32 = 5;
 
 /// Owner: nobody.
 pub const NOBODY: u32 = 0;
@@ -63,6 +67,20 @@ pub const BINARY: u32 = 13;
 /// Owner: the columns of a file that are left of its sections.
 pub const FILE_EDGE: u32 = 14;
 
+/// Side: the contents do not change.
+pub const SIDE_UNCHANGED: u32 = 0;
+/// Side: the contents are a text.
+pub const SIDE_TEXT: u32 = 1;
+/// Side: the contents are binary, and not in the state.
+pub const SIDE_BINARY: u32 = 2;
+
+/// Mark: nothing is checked.
+pub const UNCHECKED: u32 = 0;
+/// Mark: a part is checked.
+pub const PARTLY: u32 = 1;
+/// Mark: all is checked.
+pub const CHECKED: u32 = 2;
+
 /// Returns the sentence of `code`, or the empty text for a number that no call returns.
 pub(crate) fn words(code: u32) -> &'static str
     ensures { result.now ≡ words_of_code code }
@@ -76,8 +94,9 @@ pub(crate) fn words(code: u32) -> &'static str
         BAD_STATE => "the text is no state's JSON form",
         NOT_ACCEPTED =>
             "the state passes a limit: of commits, of files, sections and lines together, or of a text's bytes",
-        TOO_LONG => "the message has more than 1,000,000 bytes",
+        TOO_LONG => "a text has more than 1,000,000 bytes",
         NO_MEMORY => "there is not enough memory",
+        NO_ITEM => "the state has no such file, section, line or commit",
         _ => "",
     }
 }

@@ -1,7 +1,7 @@
 //! A session for C. `include/scm.h` documents each function.
 #![tactic(auto)]
 
-ghost use Rattle.std.specs.Prelude.{◌≡◌, ℕ, ◌<◌, IfErr, IfOk, IsTrue, None, false, length, string_bytes};
+ghost use Rattle.std.specs.Prelude.{◌≡◌, ℕ, ◌<◌, IfErr, IfOk, IsTrue, None, false, is_some, length, string_bytes};
 ghost use Rattle.scm_input.specs.declared.events.Event.TheVariants as events;
 ghost use Rattle.scm_input.specs.declared.inputs.TerminalKind.TheVariants.{Testing};
 ghost use Rattle.std.specs.Str.{is_utf8};
@@ -14,7 +14,10 @@ pub mod c_session;
 mod codes;
 pub mod open_session;
 pub mod owners;
+pub mod question_calls;
 mod raw_box;
+pub mod sides;
+pub mod state_calls;
 
 use crate::c_session::{CSession, put, take};
 use crate::open_session::OpenSession;
@@ -235,31 +238,45 @@ pub extern "C" fn scm_resize(alloc: Global, session: &mut CSession, width: u16, 
     }
 }
 
-/// Writes to `out` the update that makes the terminal show the session, if it fits. Returns the
-/// length of the update, in bytes.
+/// Writes to `out` the update that makes the terminal show the session, if it fits, and its length
+/// in bytes to `written`. Returns the code of the call.
 #[unsafe(no_mangle)]
-pub extern "C" fn scm_paint(alloc: Global, session: &mut CSession, out: &mut [u8]) -> usize
+pub extern "C" fn scm_paint(
+    alloc: Global,
+    session: &mut CSession,
+    out: &mut [u8],
+    written: &mut usize,
+) -> u32
     ensures { PaintsSession session.old.pointer.value session.new.pointer.value
-        out.old out.new result }
+        out.old out.new result written.old written.new }
 {
     match take(alloc, session) {
         Some(mut inner) => {
-            let len = paint_open_session(alloc, &mut inner, out);
+            let painted = paint_open_session(alloc, &mut inner, out);
             put(alloc, session, inner);
-            len
+            match painted {
+                Ok(len) => {
+                    *written = len;
+                    codes::DONE
+                }
+                Err(code) => code,
+            }
         }
-        None => 0,
+        None => codes::CLOSED,
     }
 }
 
 /// Writes the update that makes the terminal show `inner` to `out`, if it fits. Returns the length
 /// of the update in bytes.
-fn paint_open_session(alloc: Global, inner: &mut OpenSession, out: &mut [u8]) -> usize
+///
+/// # Errors
+/// The code of the failure: `NOT_NOW` or `NO_MEMORY`.
+fn paint_open_session(alloc: Global, inner: &mut OpenSession, out: &mut [u8]) -> Result<usize, u32>
     ensures { PaintsOpenSession inner.old inner.new out.old out.new result }
 {
     match inner.paint(alloc) {
-        Some(update) => write_update(inner, update.as_bytes(), out),
-        None => 0,
+        Ok(update) => Ok(write_update(inner, update.as_bytes(), out)),
+        Err(code) => Err(code),
     }
 }
 
@@ -293,12 +310,21 @@ pub extern "C" fn scm_repaint(alloc: Global, session: &mut CSession) -> u32
     }
 }
 
-/// Writes to `out` the text of the stage, clipped to the length of `out`: the screen's rows, the
-/// message to edit, the accepted state and its sides, or the error. Returns the whole length, in
-/// bytes.
+/// Writes to `out` the text of the stage, clipped to the length of `out`, and its whole length in
+/// bytes to `written`: the screen's rows, the message to edit, the accepted state and its sides, or
+/// the error. Returns the code of the call.
 #[unsafe(no_mangle)]
-pub extern "C" fn scm_text(alloc: Global, session: &mut CSession, out: &mut [u8]) -> usize
-    ensures text { Writes session.old.pointer.value out.old out.new result }
+pub extern "C" fn scm_text(
+    alloc: Global,
+    session: &mut CSession,
+    out: &mut [u8],
+    written: &mut usize,
+) -> u32
+    ensures code { IsCode (is_some session.old.pointer.value)
+        (code_of_repaint session.old.pointer.value) result }
+    ensures text { result ≡ 0
+        → Writes session.old.pointer.value out.old out.new written.new }
+    ensures unwritten { 0 < result → (out.new ≡ out.old) × (written.new ≡ written.old) }
     ensures kept { session.new.pointer.value ≡ session.old.pointer.value }
 {
     match take(alloc, session) {
@@ -306,16 +332,19 @@ pub extern "C" fn scm_text(alloc: Global, session: &mut CSession, out: &mut [u8]
             let text = inner.text(alloc);
             put(alloc, session, inner);
             match text {
-                Some(text) => write_text(text.as_bytes(), out),
-                None => 0,
+                Some(text) => {
+                    *written = write_text(text.as_bytes(), out);
+                    codes::DONE
+                }
+                None => codes::NO_MEMORY,
             }
         }
-        None => 0,
+        None => codes::CLOSED,
     }
 }
 
 /// Writes `bytes` to `out`, clipped to its length. Returns the whole length.
-fn write_text(bytes: &[u8], out: &mut [u8]) -> usize
+pub(crate) fn write_text(bytes: &[u8], out: &mut [u8]) -> usize
     ensures len { result ≡ length bytes.now }
     ensures written { out.new ≡ over bytes.now out.old }
 {
@@ -385,6 +414,15 @@ pub extern "C" fn scm_words(code: u32, out: &mut [u8]) -> usize
     ensures written { out.new ≡ over (words_of_code code) out.old }
 {
     write_text(codes::words(code).as_bytes(), out)
+}
+
+/// Returns the version of the library: 10,000 times the major number, 100 times the minor number,
+/// and the patch number.
+#[unsafe(no_mangle)]
+pub extern "C" fn scm_version() -> u32
+    ensures { result ≡ 10100 }
+{
+    10_100
 }
 
 /// Closes `session`, and frees its memory.

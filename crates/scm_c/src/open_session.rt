@@ -1,19 +1,26 @@
 //! An open session of a C program, and what each call does to it.
-ghost use Rattle.std.specs.Prelude.{◌≡◌, ◌<◌, [], IfErr, IfNone, IfOk, IfSome, IsTrue, OnSome, Some, false, if◌then◌else◌, option_and_then, option_map, string_bytes};
+ghost use Rattle.std.specs.Prelude.{◌≡◌, ◌<◌, [], IfErr, IfNone, IfOk, IfSome, IsTrue, OnSome, Some, false, if◌then◌else◌, ok_or, option_and_then, string_bytes, true};
 ghost use Rattle.scm_input.specs.declared.inputs.TerminalKind.TheVariants.{Testing};
 ghost use Rattle.std.specs.Str.{is_utf8};
 ghost use Rattle.serde_json.specs.Read.{read};
 ghost use Rattle.scm_types.specs.Limits.{is_accepted_state};
 ghost use Rattle.scm_json.specs.Form as form_of;
+ghost use Rattle.scm_c.specs.declared.open_session.Stage.TheVariants.{Building};
 ghost use Rattle.scm_c.specs.Stages.{Begins, Idles, Presses, Resizes, Says, Types, is_editing, code_of_stage, stage_after, is_waiting};
 ghost use Rattle.scm_record.specs.Live.{on_screen};
 ghost use Rattle.scm_c.specs.Results.{IsCode, IsText, code_of_json, done_code, symbol_of_stage};
 ghost use Rattle.scm_c.specs.Owners.{key_of_stage, owner_of_stage};
 ghost use Rattle.scm_c.specs.Paint.{Shows, Updates, as_update, with_painter};
 ghost use Rattle.scm_record.specs.Painted.{picture_of};
+ghost use Rattle.std.specs.Option.{option_copied};
+ghost use Rattle.std.specs.Result.{result_map_both};
+ghost use Rattle.scm_embed.specs.Additions.{after_addition, refusal_of};
+ghost use Rattle.scm_c.specs.Building.{BeginsState, Builds, Starts, code_at_stage, code_of_error, code_of_refusal};
+ghost use Rattle.scm_c.specs.Questions.{state_of_stage};
 
 use crate::codes;
 use crate::owners::{Key, owner_code};
+use scm_embed::{Addition, BuildError, StateBuilder};
 use scm_json::read_state;
 use scm_record::{
     Decoder, Editing, Event, LiveSession, Painter, RecordError, RecordState, TerminalKind, Turn,
@@ -25,6 +32,8 @@ use std::mem;
 /// What a session waits for.
 #[derive(Drop)]
 pub enum Stage {
+    /// The state is made by calls, and the session has not begun.
+    Building(StateBuilder),
     /// The session waits for an event.
     Waiting(LiveSession<'static>),
     /// The session waits for the message of a commit.
@@ -147,6 +156,55 @@ fn update_for(
     update
 }
 
+/// Returns `update`, or the code of a failed allocation.
+fn update_or_code(update: Option<String>) -> Result<String, u32>
+    ensures { result ≡ ok_or update 8 }
+{
+    match update {
+        Some(update) => Ok(update),
+        None => Err(codes::NO_MEMORY),
+    }
+}
+
+/// Returns the code of `error`.
+fn error_code(error: BuildError) -> u32
+    ensures code { result ≡ code_of_error error }
+    ensures fails { 0 < result }
+{
+    match error {
+        BuildError::NoFile => codes::NO_ITEM,
+        BuildError::TooLong => codes::TOO_LONG,
+        BuildError::TooManyCommits => codes::NOT_ACCEPTED,
+        BuildError::OutOfMemory => codes::NO_MEMORY,
+    }
+}
+
+/// Adds `addition` to the state of `builder`. Returns the code of the call.
+fn add_to_builder(alloc: Global, builder: &mut StateBuilder, addition: Addition<'_>) -> u32
+    ensures code { IsCode true (code_of_refusal (refusal_of addition.entry builder.old)) result }
+    ensures added { result ≡ 0 → builder.new ≡ after_addition addition.entry builder.old }
+    ensures kept { 0 < result → builder.new ≡ builder.old }
+{
+    match builder.add(alloc, addition) {
+        Ok(()) => codes::DONE,
+        Err(error) => error_code(error),
+    }
+}
+
+/// Returns the stage and the code of a session that begins with the state of `builder`, on a screen
+/// of size `kind`.
+fn start(alloc: Global, builder: StateBuilder, kind: TerminalKind) -> (Stage, u32)
+    ensures { Starts kind (Building builder) result.0 result.1 }
+{
+    if !builder.is_accepted() {
+        return (Stage::Building(builder), codes::NOT_ACCEPTED);
+    }
+    match LiveSession::new(alloc, kind, builder.into_state()) {
+        Ok(session) => (Stage::Waiting(session), codes::DONE),
+        Err(error) => (Stage::Ended(error), codes::NO_MEMORY),
+    }
+}
+
 impl OpenSession {
     /// Returns a session over the state with the JSON form `json`. Its screen has `width` columns
     /// and `height` rows.
@@ -180,11 +238,25 @@ impl OpenSession {
         Ok(inner)
     }
 
+    /// Returns a session over a state without commits and files, which later calls make. Returns
+    /// `None` if an allocation failed.
+    pub(crate) fn building(alloc: Global, is_read_only: bool) -> Option<Box<OpenSession>>
+        ensures { IfSome result (λ inner. BeginsState is_read_only inner.value) }
+    {
+        let inner = OpenSession {
+            stage: Stage::Building(StateBuilder::new(alloc, is_read_only)),
+            decoder: Decoder::new(),
+            painter: Painter::new(alloc),
+        };
+        Box::new(alloc, inner).ok()
+    }
+
     /// Returns the code of what the session waits for.
     pub(crate) fn stage(&self) -> u32
         ensures { result ≡ code_of_stage self.now.stage }
     {
         match &self.stage {
+            Stage::Building(_) => codes::BUILDING,
             Stage::Waiting(_) => codes::WAITING,
             Stage::Editing(_) => codes::EDITING,
             Stage::Accepted(_) => codes::ACCEPTED,
@@ -199,6 +271,60 @@ impl OpenSession {
         ensures painter { self.new.painter ≡ self.old.painter }
     {
         mem::replace(&mut self.stage, Stage::Ended(RecordError::OutOfMemory))
+    }
+
+    /// Adds `addition` to the state that is made. Returns the code of the call.
+    pub(crate) fn add(&mut self, alloc: Global, addition: Addition<'_>) -> u32
+        ensures code { IsCode true (code_at_stage addition.entry self.old.stage) result }
+        ensures added { result ≡ 0 → Builds addition.entry self.old.stage self.new.stage }
+        ensures decoder { self.new.decoder ≡ self.old.decoder }
+        ensures painter { self.new.painter ≡ self.old.painter }
+        ensures kept { 0 < result → self.new ≡ self.old }
+    {
+        match self.take_stage() {
+            Stage::Building(mut builder) => {
+                let code = add_to_builder(alloc, &mut builder, addition);
+                self.stage = Stage::Building(builder);
+                code
+            }
+            other => {
+                self.stage = other;
+                codes::NOT_NOW
+            }
+        }
+    }
+
+    /// Begins the session with the state that is made, on a screen of `width` columns and `height`
+    /// rows. Returns the code of the call.
+    pub(crate) fn begin(&mut self, alloc: Global, width: u16, height: u16) -> u32
+        ensures starts { Starts (Testing width height) self.old.stage self.new.stage result }
+        ensures decoder { self.new.decoder ≡ self.old.decoder }
+        ensures painter { self.new.painter ≡ self.old.painter }
+    {
+        match self.take_stage() {
+            Stage::Building(builder) => {
+                let (stage, code) = start(alloc, builder, screen(width, height));
+                self.stage = stage;
+                code
+            }
+            other => {
+                self.stage = other;
+                codes::NOT_NOW
+            }
+        }
+    }
+
+    /// Returns the state that is made, shown or accepted, if any. A session that waits for a message
+    /// lends none.
+    pub(crate) fn state(&self) -> Option<&RecordState<'static>>
+        ensures { option_copied result ≡ state_of_stage self.now.stage }
+    {
+        match &self.stage {
+            Stage::Building(builder) => Some(builder.state()),
+            Stage::Waiting(session) => Some(session.state()),
+            Stage::Accepted(state) => Some(state),
+            Stage::Editing(_) | Stage::Ended(_) => None,
+        }
     }
 
     /// Handles `event` if the session waits for an event, and returns whether it does.
@@ -308,16 +434,23 @@ impl OpenSession {
     }
 
     /// Returns the update that makes the terminal show the session, if it shows what was painted
-    /// last. Returns `None` if the session waits for no event, or an allocation failed. After a
-    /// failed allocation the next update has every row.
-    pub(crate) fn paint(&mut self, alloc: Global) -> Option<String>
-        ensures { Updates self.old self.new (option_map string_bytes result) }
+    /// last.
+    ///
+    /// # Errors
+    /// - `NOT_NOW`: the session waits for no event.
+    /// - `NO_MEMORY`: an allocation failed; the next update has every row.
+    pub(crate) fn paint(&mut self, alloc: Global) -> Result<String, u32>
+        ensures { Updates self.old self.new
+            (result_map_both string_bytes (λ code. code) result) }
     {
         match &self.stage {
-            Stage::Waiting(session) => update_for(alloc, session, &mut self.painter),
-            Stage::Editing(_) => None,
-            Stage::Accepted(_) => None,
-            Stage::Ended(_) => None,
+            Stage::Waiting(session) => {
+                update_or_code(update_for(alloc, session, &mut self.painter))
+            }
+            Stage::Building(_) => Err(codes::NOT_NOW),
+            Stage::Editing(_) => Err(codes::NOT_NOW),
+            Stage::Accepted(_) => Err(codes::NOT_NOW),
+            Stage::Ended(_) => Err(codes::NOT_NOW),
         }
     }
 
@@ -329,12 +462,13 @@ impl OpenSession {
     }
 
     /// Returns the text of the stage: the screen's rows, the message to edit, the error's sentence,
-    /// or the accepted state. With the accepted state come each file's two sides. Returns `None`
-    /// if an allocation failed.
+    /// or the accepted state. With the accepted state come each file's two sides. It is empty while
+    /// the state is made. Returns `None` if an allocation failed.
     pub(crate) fn text(&self, alloc: Global) -> Option<String>
         ensures { IfSome result (λ text. IsText self.now.stage (string_bytes text)) }
     {
         match &self.stage {
+            Stage::Building(_) => Some(String::new(alloc)),
             Stage::Waiting(session) => session.grid().view().ok(),
             Stage::Editing(editing) => String::from_str(alloc, editing.message()).ok(),
             Stage::Accepted(state) => accepted_text(alloc, state),
@@ -354,7 +488,7 @@ impl OpenSession {
                 let code = owner_code(session.view_state(), owner);
                 (code, Key::of_owner(owner))
             }
-            Stage::Editing(_) | Stage::Accepted(_) | Stage::Ended(_) => {
+            Stage::Building(_) | Stage::Editing(_) | Stage::Accepted(_) | Stage::Ended(_) => {
                 (codes::NOBODY, Key::none())
             }
         }
@@ -370,7 +504,7 @@ impl OpenSession {
                 let symbol = session.grid().symbol(row as usize, column as usize);
                 symbol.unwrap_or("")
             }
-            Stage::Editing(_) | Stage::Accepted(_) | Stage::Ended(_) => "",
+            Stage::Building(_) | Stage::Editing(_) | Stage::Accepted(_) | Stage::Ended(_) => "",
         }
     }
 }

@@ -5,14 +5,13 @@ pub mod FilesOf
 pub mod HeadingLemmas
 pub mod WidthLemmas
 pub mod CountLemmas
-pub mod PaintsLemmas
--- Drawing in either pass: one picture after another, under a mask, and a loop of parts.
-pub mod PassLemmas
 pub mod RowsLemmas
 pub mod SectionsLemmas
 pub mod FilesLemmas
 pub mod NearLemmas
 pub mod StripLemmas
+-- Rows off the screen, which drawing passes over where no boxes are kept.
+pub mod PassLemmas
 pub mod DocumentLemmas
 pub mod AppShapeLemmas
 pub mod BoxLemmas

@@ -1,5 +1,5 @@
 -- Overlay rectangles have the owners that the layers over the rows of files name.
-use Rattle.std.proofs.Common.{◌≡◌, ℕ, suc, ◌+◌, ◌-◌, ◌<◌, ◌≤◌, Bool, true, false, ◌&&◌, cond, List, [], ◌∷◌, map, nat_lt, refl, sym, ap, ◌∙◌, arith, subst}
+use Rattle.std.proofs.Common.{◌≡◌, ℕ, suc, ◌+◌, ◌-◌, ◌<◌, ◌≤◌, Bool, true, false, ◌&&◌, cond, List, [], ◌∷◌, map, nat_lt, refl, sym, ◌∙◌, subst}
 use Rattle.std.specs.Prelude.{ℤ, pos, if◌then◌else◌, Option, Some, None}
 use Rattle.std.specs.Ordering.{int_eq}
 use Rattle.scm_types.specs.declared.keys.FileKey.{FileKey}

@@ -1,30 +1,19 @@
 -- The draw calls of the document's parts: the picture of each with its counts, both by what is in sight.
-use Rattle.std.specs.Prelude.{ℕ, ℤ, List, Bool, Option, Result}
+use Rattle.std.specs.Prelude.{ℕ, ℤ, List, Bool, Option}
 use Rattle.scm_cells.specs.Counts.{plus, one_call}
-use Rattle.scm_render.specs.Canvas.{ViewportState}
 use Rattle.scm_render.specs.Draws.{DrawCall}
 use Rattle.scm_render.specs.Drawing.{text_picture}
-use Rattle.scm_render.specs.Picture.{part}
 use Rattle.scm_widgets.specs.declared.ids.ComponentId.{ComponentId}
-use Rattle.scm_widgets.specs.declared.paint_pass.Pass.TheVariants as passes
 use Rattle.scm_document.specs.declared.section_view.SectionView.{SectionView}
-use Rattle.scm_document.specs.declared.file_view.FileView.{FileView}
-use Rattle.scm_document.specs.declared.commit_view.CommitView.{CommitView}
-use Rattle.scm_errors.specs.declared.error.RecordError.{RecordError}
 use Rattle.scm_widgets.specs.Boxes.{IdBox}
-use Rattle.scm_document.specs.Rows.{Heading, DocRow, SectionRow, MarkRow, ShownSection, ShownFile, file_id, section_id, is_selected, section_box, section_heading, section_rows, shown_file, document_of}
-use Rattle.scm_document.specs.Pictures.{title_picture, heading_picture, changed_picture, context_picture, row_picture, rows_picture, section_picture, sections_picture, file_picture, beside_button, button_row_picture, message_picture, mask_row, pinned_header, pinned_picture, one_file_picture, files_picture, no_files_picture, body_picture, commit_picture}
+use Rattle.scm_document.specs.Rows.{Heading, DocRow, SectionRow, MarkRow, ShownSection, ShownFile, is_selected, section_box, section_heading}
+use Rattle.scm_document.specs.Pictures.{title_picture, heading_picture, changed_picture, context_picture, row_picture, rows_picture, sections_picture, beside_button, button_row_picture, message_picture, mask_row, pinned_header, pinned_picture, one_file_picture, files_picture, no_files_picture, body_picture}
 use Rattle.scm_widgets.specs.Counts.{drawn, on_row}
-use Rattle.scm_document.specs.Counts.{row_counts, rows_counts, header_counts, sections_counts, file_counts, pinned_counts, files_counts, message_counts, no_files_counts, body_counts, document_counts}
-use Rattle.scm_widgets.specs.Paints.{HasDrawnIn}
+use Rattle.scm_document.specs.Counts.{row_counts, rows_counts, header_counts, sections_counts, file_counts, pinned_counts, files_counts, message_counts, no_files_counts, body_counts}
 
 -- a draw call with component ids
 abbrev pub IdCall : Type 0
 IdCall = DrawCall ComponentId
-
--- a function that returned `result` has painted the call's picture, unless an allocation failed
-abbrev pub HasPainted : {A : Type 0} → ViewportState ComponentId → ViewportState ComponentId → Result A RecordError → IdCall → Type 0
-HasPainted before after result call = HasDrawnIn passes.Paint before after result call
 
 -- ---- headings
 
@@ -89,39 +78,11 @@ rows_call rows x y = record {
   counts = λ sight. rows_counts rows sight.rect y;
 }
 
--- a section
-abbrev pub section_call : SectionView → ℤ → ℤ → IdCall
-section_call view x y = record {
-  picture = λ sight. section_picture view sight x y;
-  counts = λ sight. rows_counts (section_rows view) sight.rect y;
-}
-
--- the same as a component of its own
-abbrev pub section_part_call : SectionView → ℤ → ℤ → IdCall
-section_part_call view x y = record {
-  picture = λ sight. part (section_id view.section_key) (section_picture view sight x y);
-  counts = λ sight. rows_counts (section_rows view) sight.rect y;
-}
-
 -- sections from row y on
 abbrev pub sections_call : List ShownSection → ℤ → ℤ → IdCall
 sections_call sections x y = record {
   picture = λ sight. sections_picture sections sight x y;
   counts = λ sight. sections_counts sections sight.rect y;
-}
-
--- a file, without its sticky header
-abbrev pub file_call : FileView → ℤ → ℤ → IdCall
-file_call view x y = record {
-  picture = λ sight. file_picture view sight x y;
-  counts = λ sight. file_counts (shown_file view) sight.rect y;
-}
-
--- the same as a component of its own
-abbrev pub file_part_call : FileView → ℤ → ℤ → IdCall
-file_part_call view x y = record {
-  picture = λ sight. part (file_id view.file_key) (file_picture view sight x y);
-  counts = λ sight. file_counts (shown_file view) sight.rect y;
 }
 
 -- the sticky header of a file on row y
@@ -187,11 +148,4 @@ abbrev pub body_call : List ShownFile → ℤ → ℤ → ℤ → IdCall
 body_call files x y below = record {
   picture = λ sight. body_picture files sight x y below;
   counts = λ sight. body_counts files sight y below;
-}
-
--- the document of a commit
-abbrev pub commit_call : CommitView → ℤ → ℤ → IdCall
-commit_call view x y = record {
-  picture = λ sight. commit_picture view sight x y;
-  counts = λ sight. document_counts (document_of view) sight y;
 }

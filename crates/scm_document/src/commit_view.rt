@@ -5,13 +5,12 @@ ghost use Rattle.std.specs.Prelude.{◌≡◌, ◌+◌, ◌<◌, ◌^◌, ◌++�
 ghost use Rattle.scm_cells.specs.Rect.{InRange};
 ghost use Rattle.scm_cells.specs.Mask.{MaskInRange};
 ghost use Rattle.scm_document.specs.Counts.{document_counts};
-ghost use Rattle.scm_document.specs.DocumentCalls.{pinned_header_call, pinned_call, file_part_call, one_file_call, files_call, body_call, commit_call};
+ghost use Rattle.scm_document.specs.DocumentCalls.{pinned_header_call, pinned_call, one_file_call, files_call, body_call};
 ghost use Rattle.scm_document.specs.Rows.{shown_file, file_rows, document_of};
 ghost use Rattle.scm_document.specs.ViewPieces.{files_height};
 ghost use Rattle.scm_document.specs.Pieces.{files_pieces};
 ghost use Rattle.scm_document.specs.Pictures.{mask_row, file_mask, pinned_mask, commit_picture};
 ghost use Rattle.scm_render.specs.Draws.{CanDraw, HasDrawn};
-ghost use Rattle.scm_widgets.specs.Paints.{HasDrawnIn};
 
 use crate::commit_message_view::CommitMessageView;
 use crate::file_view::FileView;
@@ -22,7 +21,6 @@ use scm_render::{Component, Viewport};
 use scm_types::{Items, RecordError};
 use scm_widgets::ids::ComponentId;
 use scm_widgets::mask_extent::{draw_under, to_end};
-use scm_widgets::paint_pass::Pass;
 use std::alloc::{AllocError, Global};
 
 /// Whether one commit is shown, or two side by side.
@@ -130,91 +128,60 @@ fn draw_pinned(
     }
 }
 
-/// Draws in this pass the rows `y..below`, which are those of `file`.
-fn draw_rows(
-    alloc: Global,
-    viewport: &mut Viewport<ComponentId>,
-    x: isize,
-    y: isize,
-    below: isize,
-    file: &FileView<'_>,
-    pass: Pass,
-) -> Result<(), RecordError>
-    requires below { below ≡ y +ℤ pos (length (file_rows (shown_file file.now))) }
-    requires picture { CanDraw viewport.old (file_part_call file.now x y) }
-    ensures { HasDrawnIn pass viewport.old viewport.new result (file_part_call file.now x y) }
-{
-    match pass {
-        Pass::Draw => {
-            viewport.draw_component(x, y, file)?;
-            Ok(())
-        }
-        Pass::Paint => file.paint(alloc, viewport, x, y, below),
-    }
-}
-
-/// Draws `file` and its sticky header in this pass, and returns the row below the file.
+/// Draws `file` and its sticky header, and returns the row below the file.
 fn draw_file(
-    alloc: Global,
     viewport: &mut Viewport<ComponentId>,
     x: isize,
     y: isize,
     file: &FileView<'_>,
-    pass: Pass,
 ) -> Result<isize, RecordError>
     requires { CanDraw viewport.old (one_file_call (shown_file file.now) x y) }
-    ensures draws { HasDrawnIn pass viewport.old viewport.new result
+    ensures draws { HasDrawn viewport.old viewport.new result
         (one_file_call (shown_file file.now) x y) }
     ensures below { IfOk result (λ row. row ≡ y +ℤ pos (length (file_rows (shown_file file.now)))) }
 {
     let below = file.row_below(y);
     let rows = file_mask(viewport, x, y);
-    let outer = viewport.swap_mask(Some(rows));
-    draw_rows(alloc, viewport, x, y, below, file, pass)?;
-    viewport.swap_mask(outer);
+    draw_under(viewport, rows, x, y, file)?;
     draw_pinned(viewport, x, y, below, file)?;
     Ok(below)
 }
 
-/// Draws `files` in this pass, from row `y` on.
+/// Draws `files` from row `y` on.
 fn draw_files(
-    alloc: Global,
     viewport: &mut Viewport<ComponentId>,
     x: isize,
     y: isize,
     files: &[FileView<'_>],
-    pass: Pass,
 ) -> Result<(), RecordError>
     requires { CanDraw viewport.old (files_call (map shown_file files.now) x y) }
-    ensures { HasDrawnIn pass viewport.old viewport.new result
+    ensures { HasDrawn viewport.old viewport.new result
         (files_call (map shown_file files.now) x y) }
 {
     let mut row = y;
     for file in files {
-        row = draw_file(alloc, viewport, x, row, file, pass)?;
+        row = draw_file(viewport, x, row, file)?;
     }
     Ok(())
 }
 
-/// Draws in this pass the files below a message of `height` rows, or the empty-state text.
+/// Draws the files below a message of `height` rows, or the empty-state text.
 fn draw_body(
-    alloc: Global,
     viewport: &mut Viewport<ComponentId>,
     x: isize,
     y: isize,
     height: usize,
     files: &[FileView<'_>],
-    pass: Pass,
 ) -> Result<(), RecordError>
     requires { CanDraw viewport.old (body_call (map shown_file files.now) x y (y +ℤ pos height)) }
-    ensures { HasDrawnIn pass viewport.old viewport.new result
+    ensures { HasDrawn viewport.old viewport.new result
         (body_call (map shown_file files.now) x y (y +ℤ pos height)) }
 {
     if files.is_empty() {
         draw_no_files(viewport, x, y)
     } else {
         let first = y.strict_add_unsigned(height);
-        draw_files(alloc, viewport, x, first, files, pass)
+        draw_files(viewport, x, first, files)
     }
 }
 
@@ -241,29 +208,6 @@ pub fn push_pieces(
     Ok(row)
 }
 
-impl<'a> CommitView<'a> {
-    /// Draws the document at column `x` and row `y`, in the pass `pass`.
-    ///
-    /// # Errors
-    /// `OutOfMemory`: an allocation failed; the frame is incomplete.
-    pub fn draw_rows(
-        &self,
-        alloc: Global,
-        viewport: &mut Viewport<ComponentId>,
-        x: isize,
-        y: isize,
-        pass: Pass,
-    ) -> Result<(), RecordError>
-        requires { CanDraw viewport.old (commit_call self.now x y) }
-        ensures { HasDrawnIn pass viewport.old viewport.new result (commit_call self.now x y) }
-    {
-        let height = self.commit_message_view.height();
-        let files = self.file_views.as_slice();
-        viewport.draw_component(x, y, &self.commit_message_view)?;
-        draw_body(alloc, viewport, x, y, height, files, pass)
-    }
-}
-
 impl<'a> Component for CommitView<'a> {
     type Id = ComponentId;
 
@@ -283,12 +227,15 @@ impl<'a> Component for CommitView<'a> {
 
     fn draw(
         &self,
-        alloc: Global,
+        _alloc: Global,
         viewport: &mut Viewport<ComponentId>,
         x: isize,
         y: isize,
     ) -> Result<(), RecordError> {
-        self.draw_rows(alloc, viewport, x, y, Pass::Draw)
+        let height = self.commit_message_view.height();
+        let files = self.file_views.as_slice();
+        viewport.draw_part(x, y, &self.commit_message_view)?;
+        draw_body(viewport, x, y, height, files)
     }
 }
 

@@ -2,15 +2,14 @@
 ghost use Rattle.std.specs.Prelude.{◌≡◌, ◌+◌, ◌<◌, ◌^◌, ◌++◌, pos, ◌+ℤ◌, length, map, false, OnOk, IfOk};
 ghost use Rattle.scm_cells.specs.Rect.{InRange};
 ghost use Rattle.scm_document.specs.Counts.{file_counts};
-ghost use Rattle.scm_document.specs.DocumentCalls.{HasPainted, section_part_call, sections_call, file_call};
-ghost use Rattle.scm_render.specs.Draws.{CanDraw};
-ghost use Rattle.scm_document.specs.Rows.{header_heading, lent_text, section_height, shown_file, shown_sections, file_rows};
+ghost use Rattle.scm_document.specs.DocumentCalls.{sections_call};
+ghost use Rattle.scm_render.specs.Draws.{CanDraw, HasDrawn};
+ghost use Rattle.scm_document.specs.Rows.{header_heading, lent_text, shown_file, shown_sections, file_rows};
 ghost use Rattle.scm_document.specs.Pictures.{file_picture};
 ghost use Rattle.scm_document.specs.SectionWalk.{visible_views};
 ghost use Rattle.scm_document.specs.ViewPieces.{file_height, file_piece_of, section_piece_list, sections_height};
 ghost use Rattle.scm_document.specs.Pieces.{file_pieces};
 ghost use Rattle.scm_document.specs.declared.index_pieces.Piece.TheVariants.{Section as PieceSection};
-ghost use Rattle.scm_widgets.specs.Paints.{HasDrawnIn};
 
 use crate::file_view_header::FileViewHeader;
 use crate::index_pieces::{FilePiece, Piece};
@@ -18,9 +17,7 @@ use crate::section_view::SectionView;
 use crate::section_walk::SectionWalk;
 use scm_render::{Component, Viewport};
 use scm_types::{FileKey, Items, RecordError, SelectionKey};
-use scm_widgets::clipped_drawing::is_seen;
 use scm_widgets::ids::ComponentId;
-use scm_widgets::paint_pass::Pass;
 use scm_widgets::tristate_box::TristateBox;
 use std::alloc::{AllocError, Global};
 
@@ -43,48 +40,23 @@ pub struct FileView<'a> {
     pub section_views: Items<SectionView<'a>>,
 }
 
-/// Draws in this pass the rows `y..below`, which are those of the section `view`.
-fn draw_section(
-    alloc: Global,
-    viewport: &mut Viewport<ComponentId>,
-    x: isize,
-    y: isize,
-    below: isize,
-    view: &SectionView<'_>,
-    pass: Pass,
-) -> Result<(), RecordError>
-    requires below { below ≡ y +ℤ pos (section_height view.now view.now.section.now) }
-    requires picture { CanDraw viewport.old (section_part_call view.now x y) }
-    ensures { HasDrawnIn pass viewport.old viewport.new result (section_part_call view.now x y) }
-{
-    match pass {
-        Pass::Draw => {
-            viewport.draw_component(x, y, view)?;
-            Ok(())
-        }
-        Pass::Paint => view.paint(alloc, viewport, x, y, below),
-    }
-}
-
-/// Draws the visible sections in this pass, from row `y` on.
+/// Draws the visible sections from row `y` on.
 fn draw_sections(
-    alloc: Global,
     viewport: &mut Viewport<ComponentId>,
     x: isize,
     y: isize,
     views: &[SectionView<'_>],
-    pass: Pass,
 ) -> Result<(), RecordError>
     requires y { InRange y }
     requires picture { CanDraw viewport.old (sections_call (shown_sections false views.now) x y) }
-    ensures { HasDrawnIn pass viewport.old viewport.new result
+    ensures { HasDrawn viewport.old viewport.new result
         (sections_call (shown_sections false views.now) x y) }
 {
     let mut walk = SectionWalk::new(views);
     let mut row = y;
     'sections: while let Some(view) = walk.next_section() {
         let below = view.row_below(row);
-        draw_section(alloc, viewport, x, row, below, view, pass)?;
+        viewport.draw_part(x, row, view)?;
         row = below;
     }
     Ok(())
@@ -202,50 +174,6 @@ impl<'a> FileView<'a> {
     }
 }
 
-impl<'a> FileView<'a> {
-    /// Draws the file's header, and its sections in this pass.
-    fn draw_parts(
-        &self,
-        alloc: Global,
-        viewport: &mut Viewport<ComponentId>,
-        x: isize,
-        y: isize,
-        pass: Pass,
-    ) -> Result<(), RecordError>
-        requires { CanDraw viewport.old (file_call self.now x y) }
-        ensures { HasDrawnIn pass viewport.old viewport.new result (file_call self.now x y) }
-    {
-        let header = self.header();
-        viewport.draw_component(x, y, &header)?;
-        if self.expand_box.is_open() {
-            let views = self.section_views.as_slice();
-            draw_sections(alloc, viewport, x + 2, y + 1, views, pass)
-        } else {
-            Ok(())
-        }
-    }
-
-    /// Paints the part of the file that is on the screen. The file has the rows `y..below`.
-    pub(crate) fn paint(
-        &self,
-        alloc: Global,
-        viewport: &mut Viewport<ComponentId>,
-        x: isize,
-        y: isize,
-        below: isize,
-    ) -> Result<(), RecordError>
-        requires below { below ≡ y +ℤ pos (length (file_rows (shown_file self.now))) }
-        requires picture { CanDraw viewport.old (file_call self.now x y) }
-        ensures { HasPainted viewport.old viewport.new result (file_call self.now x y) }
-    {
-        if is_seen(viewport, y, below) {
-            self.draw_parts(alloc, viewport, x, y, Pass::Paint)
-        } else {
-            Ok(())
-        }
-    }
-}
-
 impl<'a> Component for FileView<'a> {
     type Id = ComponentId;
 
@@ -265,11 +193,17 @@ impl<'a> Component for FileView<'a> {
 
     fn draw(
         &self,
-        alloc: Global,
+        _alloc: Global,
         viewport: &mut Viewport<ComponentId>,
         x: isize,
         y: isize,
     ) -> Result<(), RecordError> {
-        self.draw_parts(alloc, viewport, x, y, Pass::Draw)
+        let header = self.header();
+        viewport.draw_part(x, y, &header)?;
+        if self.expand_box.is_open() {
+            draw_sections(viewport, x + 2, y + 1, self.section_views.as_slice())
+        } else {
+            Ok(())
+        }
     }
 }

@@ -1,14 +1,13 @@
 //! The view of a section of a file.
-ghost use Rattle.std.specs.Prelude.{◌≡◌, ◌≤◌, ◌+◌, ◌-◌, ◌<◌, ◌^◌, pos, ◌+ℤ◌, ◌∷◌};
+ghost use Rattle.std.specs.Prelude.{◌≡◌, ◌≤◌, ◌+◌, ◌-◌, ◌<◌, ◌^◌, ◌∷◌};
 ghost use Rattle.scm_document.specs.Counts.{rows_counts};
-ghost use Rattle.scm_document.specs.DocumentCalls.{HasPainted, row_call, rows_call, section_header_call, mark_call, section_call};
+ghost use Rattle.scm_document.specs.DocumentCalls.{row_call, rows_call, section_header_call, mark_call};
 ghost use Rattle.scm_types.specs.declared.section.Section.TheVariants.{Changed};
 ghost use Rattle.scm_document.specs.Texts.{mode_change_text, binary_text, dots_text};
-ghost use Rattle.scm_document.specs.Rows.{DotsRow, mark_of, section_box, line_box, line_number, changed_rows, lines_count, line_rows, rows_from, view_row, context_rows, section_rows, is_selected, is_line_selected, rows_below, shown_lines, rows_of, section_height};
+ghost use Rattle.scm_document.specs.Rows.{DotsRow, mark_of, section_box, line_box, line_number, changed_rows, lines_count, line_rows, rows_from, view_row, context_rows, section_rows, is_selected, is_line_selected, rows_below, shown_lines, rows_of};
 ghost use Rattle.scm_types.specs.Keys.{line_key_of};
 ghost use Rattle.scm_document.specs.Pictures.{section_picture};
 ghost use Rattle.scm_render.specs.Draws.{CanDraw, HasDrawn};
-ghost use Rattle.scm_widgets.specs.Paints.{HasDrawnIn};
 
 use crate::heading::draw_heading;
 use crate::section_line_view::{SectionLineView, SectionLineViewInner};
@@ -20,12 +19,9 @@ use scm_types::{
     FileMode, LineKey, RecordError, Section, SectionChangedLine, SectionKey, SelectionKey, Text,
     Tristate,
 };
-use scm_widgets::clipped_drawing::{
-    begin_row, is_seen, rows_above, show_blank_rest, show_box, show_span, show_text,
-};
+use scm_widgets::clipped_drawing::{begin_row, show_blank_rest, show_box, show_span, show_text};
 use scm_widgets::ids::ComponentId;
 use scm_widgets::mask_extent::{cover_rest, highlight};
-use scm_widgets::paint_pass::Pass;
 use scm_widgets::tristate_box::TristateBox;
 use std::alloc::Global;
 
@@ -97,7 +93,7 @@ fn draw_line_row(
     ensures { HasDrawn viewport.old viewport.new result (row_call (view_row view.now) x y) }
 {
     cover_rest(viewport, x, y);
-    viewport.draw_component(x + 2, y, view)?;
+    viewport.draw_part(x + 2, y, view)?;
     Ok(())
 }
 
@@ -212,43 +208,23 @@ impl<'a> SectionView<'a> {
         Ok(())
     }
 
-    /// Paints the changed lines that are on the screen. The first of `lines` is on row `y`.
-    fn paint_changed_lines(
-        &self,
-        viewport: &mut Viewport<ComponentId>,
-        x: isize,
-        y: isize,
-        lines: &[SectionChangedLine<'a>],
-    ) -> Result<(), RecordError>
-        requires { CanDraw viewport.old (rows_call (changed_rows self.now 0 lines.now) x y) }
-        ensures { HasPainted viewport.old viewport.new result
-            (rows_call (changed_rows self.now 0 lines.now) x y) }
-    {
-        let screen = viewport.rect();
-        let first = rows_above(y, screen.y, lines.len());
-        let end = rows_above(y, screen.end_y(), lines.len());
-        let upper = &lines[..end];
-        let seen = Lines::Changed(&upper[first..]);
-        self.draw_lines(viewport, x, y.strict_add_unsigned(first), first, seen)
-    }
-
-    /// Draws the changed lines in this pass, from row `y` on.
+    /// Draws the changed lines `lines`, the first of them on row `y`. Where no boxes are kept,
+    /// draws only those on the screen.
     fn draw_changed_lines(
         &self,
         viewport: &mut Viewport<ComponentId>,
         x: isize,
         y: isize,
         lines: &[SectionChangedLine<'a>],
-        pass: Pass,
     ) -> Result<(), RecordError>
         requires { CanDraw viewport.old (rows_call (changed_rows self.now 0 lines.now) x y) }
-        ensures { HasDrawnIn pass viewport.old viewport.new result
+        ensures { HasDrawn viewport.old viewport.new result
             (rows_call (changed_rows self.now 0 lines.now) x y) }
     {
-        match pass {
-            Pass::Draw => self.draw_lines(viewport, x, y, 0, Lines::Changed(lines)),
-            Pass::Paint => self.paint_changed_lines(viewport, x, y, lines),
-        }
+        let (first, end) = viewport.rows_to_draw(y, lines.len());
+        let upper = &lines[..end];
+        let seen = Lines::Changed(&upper[first..]);
+        self.draw_lines(viewport, x, y.strict_add_unsigned(first), first, seen)
     }
 
     /// Draws the header of a section of changed lines.
@@ -388,7 +364,7 @@ impl<'a> SectionView<'a> {
         }
     }
 
-    /// Draws a section of changed lines in this pass.
+    /// Draws a section of changed lines.
     fn draw_changed(
         &self,
         alloc: Global,
@@ -396,67 +372,14 @@ impl<'a> SectionView<'a> {
         x: isize,
         y: isize,
         lines: &[SectionChangedLine<'a>],
-        pass: Pass,
     ) -> Result<(), RecordError>
         requires { CanDraw viewport.old (rows_call (rows_of self.now (Changed lines.now)) x y) }
-        ensures { HasDrawnIn pass viewport.old viewport.new result
+        ensures { HasDrawn viewport.old viewport.new result
             (rows_call (rows_of self.now (Changed lines.now)) x y) }
     {
         self.draw_header(alloc, viewport, x, y)?;
         if self.expand_box.is_open() {
-            self.draw_changed_lines(viewport, x, y + 1, lines, pass)
-        } else {
-            Ok(())
-        }
-    }
-
-    /// Draws the section in this pass.
-    fn draw_rows(
-        &self,
-        alloc: Global,
-        viewport: &mut Viewport<ComponentId>,
-        x: isize,
-        y: isize,
-        pass: Pass,
-    ) -> Result<(), RecordError>
-        requires { CanDraw viewport.old (section_call self.now x y) }
-        ensures { HasDrawnIn pass viewport.old viewport.new result (section_call self.now x y) }
-    {
-        match self.section {
-            Section::Unchanged { lines } => self.draw_context(viewport, x, y, lines.as_slice()),
-            Section::Changed { lines } => {
-                self.draw_changed(alloc, viewport, x, y, lines.as_slice(), pass)
-            }
-            Section::FileMode { is_checked, mode } => {
-                let text = mode_change_text(alloc, *mode)?;
-                self.draw_mark(viewport, x, y, *is_checked, text.as_str())
-            }
-            Section::Binary {
-                is_checked,
-                old_description,
-                new_description,
-            } => {
-                let text = binary_text(alloc, old_description, new_description)?;
-                self.draw_mark(viewport, x, y, *is_checked, text.as_str())
-            }
-        }
-    }
-
-    /// Paints the part of the section that is on the screen. The section has the rows `y..below`.
-    pub(crate) fn paint(
-        &self,
-        alloc: Global,
-        viewport: &mut Viewport<ComponentId>,
-        x: isize,
-        y: isize,
-        below: isize,
-    ) -> Result<(), RecordError>
-        requires below { below ≡ y +ℤ pos (section_height self.now self.now.section.now) }
-        requires picture { CanDraw viewport.old (section_call self.now x y) }
-        ensures { HasPainted viewport.old viewport.new result (section_call self.now x y) }
-    {
-        if is_seen(viewport, y, below) {
-            self.draw_rows(alloc, viewport, x, y, Pass::Paint)
+            self.draw_changed_lines(viewport, x, y + 1, lines)
         } else {
             Ok(())
         }
@@ -487,6 +410,23 @@ impl<'a> Component for SectionView<'a> {
         x: isize,
         y: isize,
     ) -> Result<(), RecordError> {
-        self.draw_rows(alloc, viewport, x, y, Pass::Draw)
+        match self.section {
+            Section::Unchanged { lines } => self.draw_context(viewport, x, y, lines.as_slice()),
+            Section::Changed { lines } => {
+                self.draw_changed(alloc, viewport, x, y, lines.as_slice())
+            }
+            Section::FileMode { is_checked, mode } => {
+                let text = mode_change_text(alloc, *mode)?;
+                self.draw_mark(viewport, x, y, *is_checked, text.as_str())
+            }
+            Section::Binary {
+                is_checked,
+                old_description,
+                new_description,
+            } => {
+                let text = binary_text(alloc, old_description, new_description)?;
+                self.draw_mark(viewport, x, y, *is_checked, text.as_str())
+            }
+        }
     }
 }

@@ -12,7 +12,7 @@ use Rattle.scm_cells.proofs.RectLemmas.{places}
 use Rattle.scm_render.specs.Picture.{nothing, followed_by, part, box_rect}
 use Rattle.scm_render.specs.Around.{join, around, no_rect}
 use Rattle.scm_render.specs.Canvas.{Row, Sight, clamp_column}
-use Rattle.scm_render.specs.Drawing.{row_rect, blank_picture, span_picture}
+use Rattle.scm_render.specs.Drawing.{row_rect, blank_picture}
 use Rattle.scm_render.specs.Hits.{IsLawful}
 use Rattle.scm_render.specs.Lines.{line}
 use Rattle.scm_render.proofs.AroundLemmas.{around-one, join-assoc}
@@ -29,7 +29,6 @@ use Rattle.scm_widgets.specs.Clicks.{is_clickable}
 use Rattle.scm_overlay.proofs.Parts.{Part, Menus, part_of}
 use Rattle.scm_widgets.specs.Layers.{Strip, clear, over, owned}
 use Rattle.scm_widgets.specs.Blanks.{blanked, blank_strip}
-use Rattle.scm_widgets.specs.Pictures.{button_picture}
 use Rattle.scm_widgets.specs.Buttons.{button_part, button_strip, button_width, placed_picture}
 use Rattle.scm_overlay.specs.Menus.{header_button, header_step, item_button, widest_item, open_menu_with_column, placed_headers, placed_items, items_picture, menu_picture, open_picture, menu_bar_picture, headers_strip, items_strips, open_strips, menu_strips}
 use Rattle.scm_overlay.proofs.OpenMenus.{HasColumns, IsOpenWide}

@@ -29,13 +29,13 @@ use Rattle.scm_overlay.specs.declared.menu.MenuItem.{MenuItem}
 use Rattle.scm_overlay.specs.declared.menu.Menu.{Menu}
 use Rattle.scm_overlay.specs.declared.menu_bar.MenuBar.{MenuBar}
 use Rattle.scm_overlay.specs.declared.quit_dialog.QuitDialog.{QuitDialog}
-use Rattle.scm_overlay.specs.Dialogs.{widest_line, edge, put_strip, border_strips, frame_strips, is_dialog_column, dialog_strips, dialog_layer, dialog_buttons}
+use Rattle.scm_overlay.specs.Dialogs.{widest_line, edge, put_strip, border_strips, frame_strips, is_dialog_column, dialog_strips, dialog_layer}
 use Rattle.scm_overlay.specs.Tables.{menus_with, quit_dialog, help_dialog}
 use Rattle.scm_overlay.specs.Overlays.{quit_layers, help_layers, overlays}
 use Rattle.scm_overlay.specs.Menus.{header_button, item_button, header_step, widest_item, open_menu, placed_headers, placed_items, placed_open, headers_strip, items_strips, open_strips, menu_strips, menu_layer}
-use Rattle.scm_overlay.specs.OverlayRects.{open_menu_height, menu_bar_rects, least_column, placed_dialog_rects, dialog_rects, dialog_run, quit_dialog_rects, help_dialog_rects}
+use Rattle.scm_overlay.specs.OverlayRects.{open_menu_height, menu_bar_rects, least_column, placed_dialog_rects, dialog_rects, quit_dialog_rects, help_dialog_rects}
 use Rattle.scm_overlay.proofs.OverlayLemmas.{owned-append}
-use Rattle.scm_overlay.proofs.DialogLemmas.{at, length-border, length-dialog, centred_60, centred_20, rect-is}
+use Rattle.scm_overlay.proofs.DialogLemmas.{at, length-border, centred_60, centred_20, rect-is}
 use Rattle.scm_overlay.proofs.MenuLemmas.{length-items}
 
 -- ---- buttons on one row

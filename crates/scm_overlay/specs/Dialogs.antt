@@ -1,5 +1,5 @@
 -- Dialogs: a frame in the middle of the screen, with a title, a body, and buttons on its last row.
-use Rattle.std.specs.Prelude.{ℕ, ◌+◌, ◌-◌, max, pos, ◌+ℤ◌, ◌-ℤ◌, Bool, List, [], ◌∷◌, ◌++◌, map, length, replicate, take, encode_utf8, int_le, int_lt, ◌&&◌, None}
+use Rattle.std.specs.Prelude.{ℕ, ◌+◌, ◌-◌, max, pos, ◌-ℤ◌, Bool, List, [], ◌∷◌, ◌++◌, map, length, replicate, take, encode_utf8, int_le, int_lt, ◌&&◌, None}
 use Rattle.std.specs.List.{concat}
 use Rattle.scm_cells.specs.Row.{put}
 use Rattle.scm_cells.specs.Clusters.{text_width}

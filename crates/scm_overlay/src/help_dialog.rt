@@ -117,7 +117,7 @@ impl Component for HelpDialog {
         x: isize,
         y: isize,
     ) -> Result<(), RecordError> {
-        viewport.draw_component(x, y, &self.dialog(&[close_button()]))?;
+        viewport.draw_part(x, y, &self.dialog(&[close_button()]))?;
         Ok(())
     }
 }

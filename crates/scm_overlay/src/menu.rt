@@ -125,7 +125,7 @@ impl<'a> Component for Menu<'a> {
                 width,
                 height: 1,
             })?;
-            viewport.draw_component(place.x, place.y, &item.button)?;
+            viewport.draw_part(place.x, place.y, &item.button)?;
         }
         Ok(())
     }

@@ -156,7 +156,7 @@ impl<'a> Component for MenuBar<'a> {
         let places = headers.as_slice();
         prove!(open < places.len());
         let column = places[open].rect.x;
-        viewport.draw_component(column, y + 1, &menus[open])?;
+        viewport.draw_part(column, y + 1, &menus[open])?;
         Ok(())
     }
 }

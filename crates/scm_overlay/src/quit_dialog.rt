@@ -159,7 +159,7 @@ impl Component for QuitDialog {
         let body = [text.as_str()];
         let buttons = [self.quit_button(), self.go_back_button()];
         let dialog = self.dialog(&body, &buttons);
-        viewport.draw_component(x, y, &dialog)?;
+        viewport.draw_part(x, y, &dialog)?;
         Ok(())
     }
 }

@@ -3,6 +3,7 @@ use Rattle.std.proofs.Common.{◌≡◌, ℕ, ◌≤◌, true, false, replicate,
 use Rattle.std.proofs.lemmas.Bool.Decides.{nat_tests}
 use Rattle.std.specs.Prelude.{ℤ, pos, option_map, List}
 use Rattle.std.specs.HashMap.{HashMap, IsFromIterResult}
+use Rattle.scm_types.specs.Limits.{is_accepted_state, max_scroll}
 use Rattle.scm_cells.specs.Screen.{Screen, blank_screen}
 use Rattle.scm_render.specs.Canvas.{Row, Sight, paint_rows}
 use Rattle.scm_render.specs.Picture.{part}
@@ -17,13 +18,14 @@ use Rattle.scm_view.specs.Laws.{ClearedGridsAreScreens}
 use Rattle.scm_widgets.specs.SameIds.{same_id}
 use Rattle.scm_widgets.specs.Screens.{screen, sight}
 use Rattle.scm_view.specs.ViewState.{ViewState}
-use Rattle.scm_view.specs.Window.{rows_of_box, height_of_box, IsPlain, window}
+use Rattle.scm_view.specs.Window.{rows_of_box, height_of_box, window}
 use Rattle.scm_view.specs.declared.app_view.AppView.{AppView}
 use Rattle.scm_document.specs.declared.commit_view.CommitViewMode.{CommitViewMode}
 use Rattle.scm_document.specs.declared.commit_view.CommitViewMode.TheVariants.{Inline, Adjacent}
 use Rattle.scm_widgets.specs.declared.ids.ComponentId.{ComponentId}
 use Rattle.scm_widgets.specs.declared.ids.ComponentId.TheVariants as ids
 use Rattle.scm_input.specs.declared.inputs.TerminalKind.{TerminalKind}
+use Rattle.scm_layout_index.specs.LayoutIndex.{IsInline}
 use Rattle.scm_record.specs.declared.frame.Places.{Places}
 use Rattle.scm_record.specs.Frames.{IsMapOf, KnowsPlaces, columns_of, rows_of, scene_of, frame_of}
 use Rattle.scm_record.specs.Session.{Session}
@@ -69,14 +71,14 @@ drawn-rows laws w h s a grid y rows cleared place drawn =
     sight-rows w h s a (whole_sight (blank_screen w h) (pos 0) (pos s)) rows (laws.cleared w h s) d
 
 -- the frame of a view that shows a session is that of the session's view
-view-is : AppsAreDrawnAlike → (w h scroll : ℕ) (a : AppView) (shown : ViewState) → ShowsSession a shown → frame_of_view w h scroll a ≡ frame_of_view w h scroll (app_view_of shown)
+pub view-is : AppsAreDrawnAlike → (w h scroll : ℕ) (a : AppView) (shown : ViewState) → ShowsSession a shown → frame_of_view w h scroll a ≡ frame_of_view w h scroll (app_view_of shown)
 view-is alike w h scroll a shown shows = ap (frame_of_picture w h scroll) (alike shown a (sight w h scroll) (pos 0) (pos 0) shows)
 
-pub plain-view : (w h : ℕ) (a : AppView) (shown : ViewState) → ShowsSession a shown → is_plain w h shown.view_mode ≡ true → w ≤ 65535 → h ≤ 65535 → IsPlain a shown w h
-plain-view w h a shown shows e p q = go shown.view_mode refl e
+pub plain-inline : (w h scroll : ℕ) (shown : ViewState) → is_plain w h shown.view_mode ≡ true → w ≤ 65535 → h ≤ 65535 → is_accepted_state shown.state ≡ true → scroll ≤ max_scroll → IsInline shown w h scroll
+plain-inline w h scroll shown e p q accepted low = go shown.view_mode refl e
   where
-    go : (mode : CommitViewMode) → shown.view_mode ≡ mode → is_plain w h mode ≡ true → IsPlain a shown w h
-    go Inline m f = record { shows = shows; view_mode = m; wide = grind (arith, nat_tests); high = grind (arith, nat_tests); width = p; height = q }
+    go : (mode : CommitViewMode) → shown.view_mode ≡ mode → is_plain w h mode ≡ true → IsInline shown w h scroll
+    go Inline m f = record { accepted = accepted; view_mode = m; wide = grind (arith, nat_tests); high = grind (arith, nat_tests); width = p; height = q; scroll = low }
     go Adjacent m f = absurd (cc f)
 
 pub plain-mode : (w h : ℕ) (mode : CommitViewMode) → mode ≡ Inline → 10 ≤ w → 2 ≤ h → is_plain w h mode ≡ true
@@ -87,14 +89,14 @@ pub plain-frame : (w h : ℕ) (drawn : Session) → drawn.shown.view_mode ≡ In
 unfolding frame_of
 plain-frame w h drawn e p q = rw (plain-mode w h drawn.shown.view_mode e p q) refl
 
--- the frame of a session is that of its document where it is plain, and else that of each view that shows it
+-- the frame of a session is that of its document where it is plain, and else that of its view
 pub plain-is : (w h : ℕ) (s : Session) → is_plain w h s.shown.view_mode ≡ true → frame_of w h s ≡ frame_of_document w h s.scroll s.shown
 unfolding frame_of
 plain-is w h s e = rw e refl
 
-pub free-is : AppsAreDrawnAlike → (w h : ℕ) (a : AppView) (s : Session) → is_plain w h s.shown.view_mode ≡ false → ShowsSession a s.shown → frame_of w h s ≡ frame_of_view w h s.scroll a
+pub free-is : (w h : ℕ) (s : Session) → is_plain w h s.shown.view_mode ≡ false → frame_of w h s ≡ frame_of_view w h s.scroll (app_view_of s.shown)
 unfolding frame_of
-free-is alike w h a s e shows = rw e (sym (view-is alike w h s.scroll a s.shown shows))
+free-is w h s e = rw e refl
 
 -- ---- what is drawn shows the scene
 
@@ -102,14 +104,12 @@ free-is alike w h a s e shows = rw e (sym (view-is alike w h s.scroll a s.shown 
 abbrev pub Answers : ℕ → Frame → List Row → Places → Type 0
 Answers w frame rows places = (rows ≡ frame.rows) × KnowsPlaces w frame places
 
-pub plain-shows : (kind : TerminalKind) (s : Session) (a : AppView) (shown : ViewState) (scroll w h : ℕ) (rows : List Row) (places : Places) → w ≡ columns_of kind → h ≡ rows_of kind
-    → ShowsSession a shown → s.shown ≡ shown → s.scroll ≡ scroll → columns_of kind ≤ 65535 → rows_of kind ≤ 65535 → is_plain w h shown.view_mode ≡ true
-    → ((k : ViewState) → IsPlain a k w h → rows ≡ window w h scroll k)
-    → ((k : ViewState) → IsPlain a k w h → KnowsPlaces w (frame_of_document w h scroll k) places)
+pub plain-shows : (kind : TerminalKind) (s : Session) (shown : ViewState) (scroll w h : ℕ) (rows : List Row) (places : Places) → w ≡ columns_of kind → h ≡ rows_of kind
+    → s.shown ≡ shown → s.scroll ≡ scroll → is_plain w h shown.view_mode ≡ true
+    → rows ≡ window w h scroll shown → KnowsPlaces w (frame_of_document w h scroll shown) places
     → Answers (columns_of kind) (scene_of kind s).frame rows places
-plain-shows kind s a shown scroll w h rows places ew eh shows same place few_columns few_rows plain drawn kept =
-    let is = plain-view w h a shown shows plain (rw ew few_columns) (rw eh few_rows) in
-    let here : Answers w (frame_of_document w h scroll shown) rows places = (drawn shown is, kept shown is) in
+plain-shows kind s shown scroll w h rows places ew eh same place plain drawn kept =
+    let here : Answers w (frame_of_document w h scroll shown) rows places = (drawn, kept) in
     let mode : is_plain (columns_of kind) (rows_of kind) s.shown.view_mode ≡ true =
     subst (λ (k : ViewState). is_plain (columns_of kind) (rows_of kind) k.view_mode ≡ true) (sym same)
     (subst (λ n. is_plain (columns_of kind) n shown.view_mode ≡ true) eh (subst (λ n. is_plain n h shown.view_mode ≡ true) ew plain)) in
@@ -120,16 +120,18 @@ plain-shows kind s a shown scroll w h rows places ew eh shows same place few_col
     (subst (λ n. Answers n (frame_of_document n h scroll shown) rows places) ew here))) in
     subst (λ frame. Answers (columns_of kind) frame rows places) (sym (plain-is (columns_of kind) (rows_of kind) s mode)) there
 
-pub free-shows : AppsAreDrawnAlike → (kind : TerminalKind) (s : Session) (a : AppView) (shown : ViewState) (scroll w h : ℕ) (rows : List Row) (places : Places) → w ≡ columns_of kind → h ≡ rows_of kind
-    → ShowsSession a shown → s.shown ≡ shown → s.scroll ≡ scroll → is_plain w h shown.view_mode ≡ false
-    → rows ≡ (frame_of_view w h scroll a).rows → KnowsPlaces w (frame_of_view w h scroll a) places
+pub free-shows : (kind : TerminalKind) (s : Session) (shown : ViewState) (scroll w h : ℕ) (rows : List Row) (places : Places) → w ≡ columns_of kind → h ≡ rows_of kind
+    → s.shown ≡ shown → s.scroll ≡ scroll → is_plain w h shown.view_mode ≡ false
+    → rows ≡ (frame_of_view w h scroll (app_view_of shown)).rows → KnowsPlaces w (frame_of_view w h scroll (app_view_of shown)) places
     → Answers (columns_of kind) (scene_of kind s).frame rows places
-free-shows alike kind s a shown scroll w h rows places ew eh shows same place free drawn kept =
+free-shows kind s shown scroll w h rows places ew eh same place free drawn kept =
+    let here : Answers w (frame_of_view w h scroll (app_view_of shown)) rows places = (drawn, kept) in
     let mode : is_plain (columns_of kind) (rows_of kind) s.shown.view_mode ≡ false =
     subst (λ (k : ViewState). is_plain (columns_of kind) (rows_of kind) k.view_mode ≡ false) (sym same)
     (subst (λ n. is_plain (columns_of kind) n shown.view_mode ≡ false) eh (subst (λ n. is_plain n h shown.view_mode ≡ false) ew free)) in
-    let there : Answers (columns_of kind) (frame_of_view (columns_of kind) (rows_of kind) s.scroll a) rows places =
-    subst (λ n. Answers (columns_of kind) (frame_of_view (columns_of kind) (rows_of kind) n a) rows places) (sym place)
-    (subst (λ n. Answers (columns_of kind) (frame_of_view (columns_of kind) n scroll a) rows places) eh
-    (subst (λ n. Answers n (frame_of_view n h scroll a) rows places) ew (drawn, kept))) in
-    subst (λ frame. Answers (columns_of kind) frame rows places) (sym (free-is alike (columns_of kind) (rows_of kind) a s mode (subst (ShowsSession a) (sym same) shows))) there
+    let there : Answers (columns_of kind) (frame_of_view (columns_of kind) (rows_of kind) s.scroll (app_view_of s.shown)) rows places =
+    subst (λ (k : ViewState). Answers (columns_of kind) (frame_of_view (columns_of kind) (rows_of kind) s.scroll (app_view_of k)) rows places) (sym same)
+    (subst (λ n. Answers (columns_of kind) (frame_of_view (columns_of kind) (rows_of kind) n (app_view_of shown)) rows places) (sym place)
+    (subst (λ n. Answers (columns_of kind) (frame_of_view (columns_of kind) n scroll (app_view_of shown)) rows places) eh
+    (subst (λ n. Answers n (frame_of_view n h scroll (app_view_of shown)) rows places) ew here))) in
+    subst (λ frame. Answers (columns_of kind) frame rows places) (sym (free-is (columns_of kind) (rows_of kind) s mode)) there

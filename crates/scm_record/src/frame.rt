@@ -4,19 +4,24 @@ ghost use Rattle.scm_render.specs.Picture.{PictureInRange, part};
 ghost use Rattle.scm_errors.specs.declared.error.RecordError.TheVariants.{OutOfMemory};
 ghost use Rattle.scm_types.specs.Limits.{is_accepted_state, max_scroll};
 ghost use Rattle.scm_widgets.specs.declared.ids.ComponentId.TheVariants as ids;
-ghost use Rattle.scm_view.specs.ViewState.{ViewState};
-ghost use Rattle.scm_view.specs.Window.{IsPlain, ShowsInline, rows_of_box, window};
+ghost use Rattle.scm_view.specs.AppView.{app_view_of};
+ghost use Rattle.scm_view.specs.Window.{rows_of_box, window};
 ghost use Rattle.scm_view.specs.Frame.{frame_of_document, frame_of_view, is_plain, picture_of};
+ghost use Rattle.scm_layout.specs.Layouts.{layout_of};
+ghost use Rattle.scm_layout_index.specs.LayoutIndex.{IsInline};
 ghost use Rattle.scm_record.specs.Frames.{HasSize, IsMapOf, IsSceneOf, KnowsPlaces, Scene, is_indexed, scene_of};
 ghost use Rattle.scm_record.specs.Session.{Session};
 ghost use Rattle.scm_record.specs.FrameQueries.{scroll_to_show, limited_scroll, hit, free_rows_above, scroll_to_rows, shot_of, top_in};
 
 use scm_cells::{Grid, Rect};
 use scm_input::TerminalKind;
+use scm_layout::Layout;
+use scm_layout_index::frame_index;
 use scm_render::{DrawnRects, Viewport, find_target};
 use scm_types::{RecordError, RecordState};
 use scm_view::{AppView, CommitViewMode, ComponentId, FrameIndex, SelectionKey, laws};
 use scm_view_state::ViewState;
+use scm_view_state::visible_views::visible_views_show_windows;
 use std::alloc::Global;
 
 /// Where components are on the frame last drawn, in rows of the document and columns of the screen.
@@ -135,71 +140,85 @@ impl DrawnFrame {
         })
     }
 
-    /// Draws `view`, which shows a document inline, and indexes the document.
+    /// Draws the part of `view_state` that the screen shows inline, and indexes the document by the
+    /// rows of `layout`.
     fn draw_plain(
         &mut self,
         alloc: Global,
-        view: &AppView<'_>,
+        view_state: &ViewState<'_>,
+        layout: &Layout,
         scroll: usize,
     ) -> Result<(), RecordError>
-        requires shows { ShowsInline view.now
+        requires shows { IsInline view_state.now
             self.old.grid.width (length self.old.grid.rows) scroll }
-        ensures rows { OnOk result ((shown : ViewState)
-            → IsPlain view.now shown self.old.grid.width (length self.old.grid.rows)
-            → self.new.grid.rows
-            ≡ window self.old.grid.width (length self.old.grid.rows) scroll shown) }
-        ensures places { OnOk result ((shown : ViewState)
-            → IsPlain view.now shown self.old.grid.width (length self.old.grid.rows)
-            → KnowsPlaces self.old.grid.width
-            (frame_of_document self.old.grid.width (length self.old.grid.rows) scroll shown)
-            self.new.places) }
+        requires layout { layout.now ≡ layout_of view_state.now.state view_state.now.expanded }
+        ensures rows { OnOk result (self.new.grid.rows
+            ≡ window self.old.grid.width (length self.old.grid.rows) scroll view_state.now) }
+        ensures places { OnOk result (KnowsPlaces self.old.grid.width
+            (frame_of_document self.old.grid.width (length self.old.grid.rows) scroll
+            view_state.now) self.new.places) }
         ensures indexed { OnOk result (is_indexed self.new.places ≡ true) }
         ensures width { self.new.grid.width ≡ self.old.grid.width }
         ensures height { length self.new.grid.rows ≡ length self.old.grid.rows }
         ensures err { IfErr result (λ e. e ≡ OutOfMemory) }
     {
-        let width = self.grid.width() as u16;
-        let height = self.grid.height() as u16;
-        view.paint(alloc, &mut self.grid, scroll)?;
-        let index = FrameIndex::new(alloc, view, width, height, scroll)?;
+        let width = self.grid.width();
+        let height = self.grid.height();
+        let part = view_state.visible_view(alloc, layout, scroll, height)?;
+        visible_views_show_windows();
+        part.view.paint_part(alloc, &mut self.grid, part.scroll)?;
+        let index = frame_index(
+            alloc,
+            view_state,
+            &part.view.menu_bar,
+            &layout.rows,
+            width as u16,
+            height as u16,
+            scroll,
+        )?;
         self.places = Places::Plain(index);
         Ok(())
     }
 
-    /// Draws `view` component by component, and notes their boxes.
+    /// Draws the views of `view_state` component by component, and notes their boxes.
     fn draw_free(
-        &mut self,
-        alloc: Global,
-        view: &AppView<'_>,
-        scroll: usize,
-    ) -> Result<(), RecordError>
-        requires scroll { scroll ≤ max_scroll }
-        requires in_range { (w h : ℕ) → w ≤ 65535 → h ≤ 65535
-            → PictureInRange (part ids.App (picture_of w h scroll view.now)) }
-        ensures rows { OnOk result (self.new.grid.rows ≡
-            (frame_of_view self.old.grid.width (length self.old.grid.rows) scroll view.now).rows) }
-        ensures places { OnOk result (KnowsPlaces self.old.grid.width
-            (frame_of_view self.old.grid.width (length self.old.grid.rows) scroll view.now)
-            self.new.places) }
-        ensures indexed { OnOk result (is_indexed self.new.places ≡ false) }
-        ensures width { self.new.grid.width ≡ self.old.grid.width }
-        ensures height { length self.new.grid.rows ≡ length self.old.grid.rows }
-        ensures err { IfErr result (λ e. e ≡ OutOfMemory) }
-    {
-        let boxes = render(alloc, &mut self.grid, scroll, view)?;
-        self.places = Places::Free(boxes);
-        Ok(())
-    }
-
-    /// Draws the view state `view_state`, with row `scroll` of the document as the screen's first row.
-    /// If an allocation fails, the frame keeps its size.
-    pub(crate) fn draw(
         &mut self,
         alloc: Global,
         view_state: &ViewState<'_>,
         scroll: usize,
     ) -> Result<(), RecordError>
         requires accepted { IsTrue (is_accepted_state view_state.now.state) }
+        requires scroll { scroll ≤ max_scroll }
+        ensures rows { OnOk result (self.new.grid.rows ≡ (frame_of_view self.old.grid.width
+            (length self.old.grid.rows) scroll (app_view_of view_state.now)).rows) }
+        ensures places { OnOk result (KnowsPlaces self.old.grid.width (frame_of_view
+            self.old.grid.width (length self.old.grid.rows) scroll (app_view_of view_state.now))
+            self.new.places) }
+        ensures indexed { OnOk result (is_indexed self.new.places ≡ false) }
+        ensures width { self.new.grid.width ≡ self.old.grid.width }
+        ensures height { length self.new.grid.rows ≡ length self.old.grid.rows }
+        ensures err { IfErr result (λ e. e ≡ OutOfMemory) }
+    {
+        let view = view_state.app_view(alloc)?;
+        laws::apps_are_in_range();
+        laws::apps_are_drawn_alike();
+        let boxes = render(alloc, &mut self.grid, scroll, &view)?;
+        self.places = Places::Free(boxes);
+        Ok(())
+    }
+
+    /// Draws the view state `view_state`, with row `scroll` of the document as the screen's first row.
+    /// `layout` is that of the state, with the expanded keys unfolded. If an allocation fails, the
+    /// frame keeps its size.
+    pub(crate) fn draw(
+        &mut self,
+        alloc: Global,
+        view_state: &ViewState<'_>,
+        layout: &Layout,
+        scroll: usize,
+    ) -> Result<(), RecordError>
+        requires accepted { IsTrue (is_accepted_state view_state.now.state) }
+        requires layout { layout.now ≡ layout_of view_state.now.state view_state.now.expanded }
         requires scroll { scroll ≤ max_scroll }
         ensures ok { OnOk result ((kind : TerminalKind) (s : Session)
             → s.shown ≡ view_state.now → s.scroll ≡ scroll
@@ -209,15 +228,12 @@ impl DrawnFrame {
         ensures size { (kind : TerminalKind) → HasSize kind self.old → HasSize kind self.new }
         ensures err { IfErr result (λ e. e ≡ OutOfMemory) }
     {
-        let view = view_state.app_view(alloc)?;
-        laws::apps_are_in_range();
-        laws::apps_are_drawn_alike();
         let width = self.grid.width();
         let height = self.grid.height();
         if is_plain(width, height, view_state.view_mode) {
-            self.draw_plain(alloc, &view, scroll)?;
+            self.draw_plain(alloc, view_state, layout, scroll)?;
         } else {
-            self.draw_free(alloc, &view, scroll)?;
+            self.draw_free(alloc, view_state, scroll)?;
         }
         self.open_menu = view_state.open_menu;
         Ok(())

@@ -263,7 +263,9 @@ pub(crate) fn draw_anew(
     if is_current {
         return Ok(());
     }
-    frame.draw(session.allocator(), session.view_state(), session.scroll())?;
+    let alloc = session.allocator();
+    let layout = session.layout();
+    frame.draw(alloc, session.view_state(), layout, session.scroll())?;
     Ok(())
 }
 

@@ -1,6 +1,8 @@
 //! A session in which a user selects changes, and how each event changes it.
-ghost use Rattle.std.specs.Prelude.{◌≡◌, IfErr, IfOk, OnOk};
+ghost use Rattle.std.specs.Prelude.{◌≡◌, ◌≤◌, IfErr, IfOk, OnOk};
 ghost use Rattle.scm_errors.specs.declared.error.RecordError.TheVariants.{OutOfMemory};
+ghost use Rattle.scm_types.specs.Limits.{max_items, state_size};
+ghost use Rattle.scm_layout.specs.Layouts.{layout_of};
 ghost use Rattle.scm_record.specs.Session.{padded_commits, with_keys_above};
 
 mod clicks;
@@ -15,6 +17,7 @@ mod view_mode;
 use crate::frame::DrawnFrame;
 use crate::pages::Way;
 use scm_input::Event;
+use scm_layout::Layout;
 use scm_selection::key_lists::{first_key, section_keys};
 use scm_selection::key_set::{KeySet, key_set_of};
 use scm_types::{Commit, Items, RecordError, RecordState};
@@ -45,6 +48,8 @@ pub(crate) enum Flow {
 pub(crate) struct ActiveSession<'state> {
     /// The view state: the state, the selection, the expanded keys and what is open.
     view_state: ViewState<'state>,
+    /// The layout of the state, with the expanded keys unfolded.
+    layout: Layout,
     /// The row of the document that the screen's first row shows, counted from 0.
     scroll: usize,
     /// Whether the screen was cleared since the last frame.
@@ -58,17 +63,21 @@ impl<'state> Model for ActiveSession<'state> {
 
     ghost Value = { Session };
 
-    ghost use Rattle.scm_record.specs.SessionView.{session_of};
+    ghost use Rattle.scm_record.specs.SessionView.{HasLayout, session_of};
 
     ghost view = { session_of };
+
+    ghost invariant = { HasLayout };
 }
 
 impl<'state> ActiveSession<'state> {
     ghost use Rattle.std.specs.Prelude.{◌≡◌, ◌↔◌, ◌<◌, ◌≤◌, IfErr, IfOk, IsTrue, OnOk, length};
     ghost use Rattle.scm_errors.specs.declared.error.RecordError.TheVariants.{OutOfMemory};
     ghost use Rattle.scm_types.specs.Limits.{is_accepted_state};
+    ghost use Rattle.scm_layout.specs.Layouts.{layout_of};
     ghost use Rattle.scm_record.specs.Frames.{IsSceneOf, Scene};
-    ghost use Rattle.scm_record.specs.Session.{after_frame, after_redraw, after_select, at_key, pending_of, start, with_ensure, with_pushed, without_pending};
+    ghost use Rattle.scm_record.specs.Session.{after_frame, after_redraw, after_select, at_key, pending_of, start, with_ensure, with_keys_above, with_pushed, without_pending};
+    ghost use Rattle.scm_record.specs.SessionView.{with_expanded};
     ghost use Rattle.scm_record.specs.Step.{change};
 
     /// Creates a session over `state`, with commits without a message added up to two.
@@ -101,8 +110,10 @@ impl<'state> ActiveSession<'state> {
             commits: Items::from(commits),
             files,
         };
+        let layout = Layout::new(alloc, &state, &expanded)?;
         Ok(ActiveSession {
             view_state: ViewState::new(state, selection, expanded),
+            layout,
             scroll: 0,
             cleared: false,
             pending: Vec::new(alloc),
@@ -114,6 +125,13 @@ impl<'state> ActiveSession<'state> {
         ensures { result.now ≡ self.now.shown }
     {
         &self.view_state
+    }
+
+    /// Returns the layout of the state, with the expanded keys unfolded.
+    pub(crate) fn layout(&self) -> &Layout
+        ensures { result.now ≡ layout_of self.now.shown.state self.now.shown.expanded }
+    {
+        &self.layout
     }
 
     /// Returns the row of the document that the screen's first row shows, counted from 0.
@@ -165,12 +183,22 @@ impl<'state> ActiveSession<'state> {
         self.push(Event::EnsureSelectionInViewport)
     }
 
+    /// Expands the file and the section that contain `key`.
+    fn expand_containers(&mut self, key: SelectionKey) -> Result<(), RecordError>
+        ensures ok { OnOk result (self.new
+            ≡ with_expanded self.old (with_keys_above self.old.shown.expanded key)) }
+        ensures err { IfErr result (λ e. e ≡ OutOfMemory) }
+    {
+        let shown = &mut self.view_state;
+        expand_above(&mut self.layout, &shown.state, &mut shown.expanded, key)
+    }
+
     /// Selects `key`, and expands the file and the section that contain it.
     fn go_to(&mut self, key: SelectionKey) -> Result<(), RecordError>
         ensures ok { OnOk result (self.new ≡ at_key self.old key) }
         ensures err { IfErr result (λ e. e ≡ OutOfMemory) }
     {
-        expand_above(&mut self.view_state.expanded, key)?;
+        self.expand_containers(key)?;
         self.view_state.selection = key;
         Ok(())
     }
@@ -295,17 +323,27 @@ fn pad(commits: Vec<Commit>) -> Result<Vec<Commit>, AllocError>
     Ok(commits)
 }
 
-/// Expands the file and the section that contain `key`.
-fn expand_above(expanded: &mut KeySet, key: SelectionKey) -> Result<(), RecordError>
+/// Expands the file and the section that contain `key`, and keeps the layout of `state`.
+fn expand_above(
+    layout: &mut Layout,
+    state: &RecordState<'_>,
+    expanded: &mut KeySet,
+    key: SelectionKey,
+) -> Result<(), RecordError>
+    requires layout { layout.old ≡ layout_of state.now expanded.old }
+    requires size { state_size state.now ≤ max_items }
     ensures ok { OnOk result (expanded.new ≡ with_keys_above expanded.old key) }
+    ensures layout { layout.new ≡ layout_of state.now expanded.new }
     ensures err { IfErr result (λ e. e ≡ OutOfMemory) }
 {
     match key {
         SelectionKey::None | SelectionKey::File(_) => Ok(()),
-        SelectionKey::Section(key) => expanded.insert(SelectionKey::File(key.file())),
+        SelectionKey::Section(key) => {
+            layout.unfold(state, expanded, SelectionKey::File(key.file()))
+        }
         SelectionKey::Line(key) => {
-            expanded.insert(SelectionKey::File(key.file()))?;
-            expanded.insert(SelectionKey::Section(key.section()))
+            layout.unfold(state, expanded, SelectionKey::File(key.file()))?;
+            layout.unfold(state, expanded, SelectionKey::Section(key.section()))
         }
     }
 }

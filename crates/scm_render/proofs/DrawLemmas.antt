@@ -16,14 +16,12 @@ use Rattle.scm_cells.specs.declared.rect.Rect.{Rect}
 use Rattle.scm_render.specs.declared.filling.Filling.{Filling}
 use Rattle.scm_cells.specs.Row.{put, ellipsis}
 use Rattle.scm_render.specs.Picture.{Picture, PictureInRange, followed_by, nothing}
-use Rattle.scm_render.specs.Around.{around, join}
-use Rattle.scm_render.specs.Canvas.{Row, Canvas, Sight, SurfaceState, with_puts, with_picture}
+use Rattle.scm_render.specs.Canvas.{Row, Canvas, Sight, SurfaceState, with_puts, with_picture, kept_area}
 use Rattle.scm_render.specs.Rows.{limit}
 use Rattle.scm_render.specs.Drawing.{has_row, whole_put, text_puts, texts_puts, texts_width, symbol_at, row_text, rows_puts, lines_puts, body_texts, reach, row_rect, span_picture, line_picture, text_picture, fill_puts, blank_picture, title_room, body_room, frame_puts, frame_picture}
 use Rattle.scm_render.specs.declared.filling.Filling.TheVariants.{Blank, Border}
 use Rattle.scm_cells.specs.Rect.{RectInRange, is_empty, intersect_of}
 use Rattle.std.specs.Prelude.{int_lt}
-use Rattle.scm_render.proofs.AroundLemmas.{around-one}
 use Rattle.scm_render.proofs.PictureLemmas.{PictureInRange-left, PictureInRange-right}
 use Rattle.scm_render.proofs.CanvasLemmas.{with_picture-plain, with_picture-sight, with_picture-twice, with_picture-nothing, with_picture-then}
 use Rattle.scm_render.proofs.PaintLemmas.{painted-above, painted-below, painted-at, with_puts-same, with_puts-none, with_puts-rest, with_puts-end, with_puts-three}
@@ -211,7 +209,7 @@ module _ {K : Type 0} where
   surface_of c k = record { rect = c.sight.rect; rows = c.rows; counts = k }
 
   -- a picture without a box was put on the rows, and its areas are covered
-  put_and_covered : {j : Counts} (k : Counts) (c d : Canvas K) (p : Picture K) → surface_of d j ≡ with_puts p.puts (surface_of c k) → d.sight.mask ≡ c.sight.mask → d.area ≡ around c.area p.areas → d.boxes ≡ c.boxes → p.boxes ≡ [] → d ≡ with_picture c p
+  put_and_covered : {j : Counts} (k : Counts) (c d : Canvas K) (p : Picture K) → surface_of d j ≡ with_puts p.puts (surface_of c k) → d.sight.mask ≡ c.sight.mask → d.area ≡ kept_area c.boxes c.area p.areas → d.boxes ≡ c.boxes → p.boxes ≡ [] → d ≡ with_picture c p
   unfolding with_puts
   put_and_covered k c d p s m a b none =
       let rect : d.sight.rect ≡ c.sight.rect = ap (λ (w : SurfaceState). w.rect) s in
@@ -219,38 +217,38 @@ module _ {K : Type 0} where
       with_picture-plain c d p sight (ap (λ (w : SurfaceState). w.rows) s) a b none
 
   pub with_picture-span : {j : Counts} (k : Counts) (c d : Canvas K) (m : Rect) (x y : ℤ) (t : List ℕ) → m ≡ reach c.sight
-      → surface_of d j ≡ with_puts (text_puts m x y t) (surface_of c k) → d.sight.mask ≡ c.sight.mask → d.area ≡ join c.area (row_rect x y (text_width t)) → d.boxes ≡ c.boxes
+      → surface_of d j ≡ with_puts (text_puts m x y t) (surface_of c k) → d.sight.mask ≡ c.sight.mask → d.area ≡ kept_area c.boxes c.area ((row_rect x y (text_width t)) ∷ []) → d.boxes ≡ c.boxes
       → d ≡ with_picture c (span_picture c.sight x y t)
   unfolding span_picture
   with_picture-span u c d m x y t e s k a b =
-      put_and_covered u c d (span_picture c.sight x y t) (s ∙ ap (λ w. with_puts (text_puts w x y t) (surface_of c u)) e) k (a ∙ sym (around-one c.area (row_rect x y (text_width t)))) b refl
+      put_and_covered u c d (span_picture c.sight x y t) (s ∙ ap (λ w. with_puts (text_puts w x y t) (surface_of c u)) e) k a b refl
 
   pub with_picture-line : {j : Counts} (k : Counts) (c d : Canvas K) (m : Rect) (x y : ℤ) (ts : List (List ℕ)) → m ≡ reach c.sight
-      → surface_of d j ≡ with_puts (texts_puts m x y ts) (surface_of c k) → d.sight.mask ≡ c.sight.mask → d.area ≡ join c.area (row_rect x y (texts_width ts)) → d.boxes ≡ c.boxes
+      → surface_of d j ≡ with_puts (texts_puts m x y ts) (surface_of c k) → d.sight.mask ≡ c.sight.mask → d.area ≡ kept_area c.boxes c.area ((row_rect x y (texts_width ts)) ∷ []) → d.boxes ≡ c.boxes
       → d ≡ with_picture c (line_picture c.sight x y ts)
   unfolding line_picture
   with_picture-line u c d m x y ts e s k a b =
-      put_and_covered u c d (line_picture c.sight x y ts) (s ∙ ap (λ w. with_puts (texts_puts w x y ts) (surface_of c u)) e) k (a ∙ sym (around-one c.area (row_rect x y (texts_width ts)))) b refl
+      put_and_covered u c d (line_picture c.sight x y ts) (s ∙ ap (λ w. with_puts (texts_puts w x y ts) (surface_of c u)) e) k a b refl
 
   pub with_picture-blank : {j : Counts} (k : Counts) (c d : Canvas K) (m r : Rect) → m ≡ intersect_of r (reach c.sight)
-      → surface_of d j ≡ with_puts (fill_puts Blank m) (surface_of c k) → d.sight.mask ≡ c.sight.mask → d.area ≡ join c.area r → d.boxes ≡ c.boxes
+      → surface_of d j ≡ with_puts (fill_puts Blank m) (surface_of c k) → d.sight.mask ≡ c.sight.mask → d.area ≡ kept_area c.boxes c.area (r ∷ []) → d.boxes ≡ c.boxes
       → d ≡ with_picture c (blank_picture c.sight r)
   unfolding blank_picture
   with_picture-blank u c d m r e s k a b =
-      put_and_covered u c d (blank_picture c.sight r) (s ∙ ap (λ w. with_puts (fill_puts Blank w) (surface_of c u)) e) k (a ∙ sym (around-one c.area r)) b refl
+      put_and_covered u c d (blank_picture c.sight r) (s ∙ ap (λ w. with_puts (fill_puts Blank w) (surface_of c u)) e) k a b refl
 
   pub with_picture-frame : {j : Counts} (k : Counts) (c d : Canvas K) (m r : Rect) (title : List ℕ) (body : List (List ℕ)) → m ≡ reach c.sight → is_empty r ≡ false
-      → surface_of d j ≡ with_puts (frame_puts m r title body) (surface_of c k) → d.sight.mask ≡ c.sight.mask → d.area ≡ join c.area r → d.boxes ≡ c.boxes
+      → surface_of d j ≡ with_puts (frame_puts m r title body) (surface_of c k) → d.sight.mask ≡ c.sight.mask → d.area ≡ kept_area c.boxes c.area (r ∷ []) → d.boxes ≡ c.boxes
       → d ≡ with_picture c (frame_picture c.sight r title body)
   unfolding frame_picture
   with_picture-frame u c d m r title body e full s k a b =
-      put_and_covered u c d (frame_picture c.sight r title body) (s ∙ ap (λ w. with_puts (frame_puts w r title body) (surface_of c u)) e ∙ rw full refl) k (a ∙ sym (around-one c.area r)) b refl
+      put_and_covered u c d (frame_picture c.sight r title body) (s ∙ ap (λ w. with_puts (frame_puts w r title body) (surface_of c u)) e ∙ rw full refl) k a b refl
 
   pub with_picture-no_frame : (c d : Canvas K) (r : Rect) (title : List ℕ) (body : List (List ℕ)) → is_empty r ≡ true
-      → surface_of d no_counts ≡ surface_of c no_counts → d.sight.mask ≡ c.sight.mask → d.area ≡ join c.area r → d.boxes ≡ c.boxes → d ≡ with_picture c (frame_picture c.sight r title body)
+      → surface_of d no_counts ≡ surface_of c no_counts → d.sight.mask ≡ c.sight.mask → d.area ≡ kept_area c.boxes c.area (r ∷ []) → d.boxes ≡ c.boxes → d ≡ with_picture c (frame_picture c.sight r title body)
   unfolding frame_picture
   with_picture-no_frame c d r title body none s k a b =
-      put_and_covered no_counts c d (frame_picture c.sight r title body) (s ∙ sym (with_puts-none (surface_of c no_counts)) ∙ rw none refl) k (a ∙ sym (around-one c.area r)) b refl
+      put_and_covered no_counts c d (frame_picture c.sight r title body) (s ∙ sym (with_puts-none (surface_of c no_counts)) ∙ rw none refl) k a b refl
 
   -- a text with its ellipsis, and one without
   pub text_picture-long : (s : Sight) (x y : ℤ) (ts : List (List ℕ)) → end_x_of (reach s) <ℤ (x +ℤ pos (texts_width ts))

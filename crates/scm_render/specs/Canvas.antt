@@ -30,12 +30,12 @@ abbrev pub under : Mask → Sight → Sight
 under m s = record s { mask = Some m }
 
 -- the content of a viewport: its sight, the rows of the screen, the least rectangle around all that the current component drew
--- so far, and the boxes of all components that have begun
+-- so far, and the boxes of all components that have begun; without boxes (`None`) the rectangle does not grow
 pub record Canvas (K : Type 0) : Type 0 where
   pub sight : Sight
   pub rows : List Row
   pub area : Rect
-  pub boxes : List (Box K)
+  pub boxes : Option (List (Box K))
 
 -- the part of the document on the screen, the rows of the screen, and the counts
 pub record SurfaceState : Type 0 where
@@ -76,11 +76,21 @@ module _ {K : Type 0} where
   abbrev pub with_mask : Option Mask → Canvas K → Canvas K
   with_mask mask c = record c { sight = record c.sight { mask = mask } }
 
+  -- the boxes and more boxes, if boxes are kept
+  abbrev pub kept : Option (List (Box K)) → List (Box K) → Option (List (Box K))
+  kept None more = None
+  kept (Some boxes) more = Some (boxes ++ more)
+
+  -- the least rectangle around `area` and `more`, if boxes are kept, and else `area`
+  abbrev pub kept_area : Option (List (Box K)) → Rect → List Rect → Rect
+  kept_area None area more = area
+  kept_area (Some boxes) area more = around area more
+
   -- the canvas after the picture is drawn
   unfoldable pub with_picture : Canvas K → Picture K → Canvas K
   with_picture c m = record {
     sight = c.sight;
     rows = paint_rows c.sight.rect m.puts c.sight.rect.y c.rows;
-    area = around c.area m.areas;
-    boxes = c.boxes ++ m.boxes;
+    area = kept_area c.boxes c.area m.areas;
+    boxes = kept c.boxes m.boxes;
   }

@@ -28,3 +28,7 @@ pub mod Lines
 pub mod Left
 -- Laws for whoever writes or draws a component.
 pub mod Laws
+-- The boxes that a viewport keeps.
+pub mod Kept
+-- The rows that drawing has to go through.
+pub mod ToDraw

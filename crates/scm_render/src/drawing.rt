@@ -15,7 +15,7 @@ ghost use Rattle.scm_render.specs.DrawCalls.{
 };
 
 use crate::filling::Filling;
-use crate::viewport::{Viewport, grown};
+use crate::viewport::{Viewport, grown_in};
 use scm_cells::{Line, Rect, Span};
 use scm_errors::RecordError;
 use std::hash::Hash;
@@ -132,7 +132,7 @@ impl<K: Copy + Eq + Hash + Drop> Viewport<K> {
         let within = self.mask_rect();
         let columns = self.surface.put_text(within, x, y, text)?;
         let drawn = row_rect(x, y, columns);
-        self.area = grown(self.area, drawn);
+        self.area = grown_in(&self.boxes, self.area, drawn);
         Ok(drawn)
     }
 
@@ -146,7 +146,7 @@ impl<K: Copy + Eq + Hash + Drop> Viewport<K> {
         let within = self.mask_rect();
         let columns = self.surface.put_spans(within, x, y, spans)?;
         let drawn = row_rect(x, y, columns);
-        self.area = grown(self.area, drawn);
+        self.area = grown_in(&self.boxes, self.area, drawn);
         Ok(drawn)
     }
 
@@ -173,7 +173,7 @@ impl<K: Copy + Eq + Hash + Drop> Viewport<K> {
     {
         let part = rect.intersect(self.mask_rect());
         self.surface.fill(&mut self.scratch, part, Filling::Blank)?;
-        self.area = grown(self.area, rect);
+        self.area = grown_in(&self.boxes, self.area, rect);
         Ok(rect)
     }
 
@@ -189,7 +189,7 @@ impl<K: Copy + Eq + Hash + Drop> Viewport<K> {
             self.surface
                 .put_frame(&mut self.scratch, within, rect, title, body)?;
         }
-        self.area = grown(self.area, rect);
+        self.area = grown_in(&self.boxes, self.area, rect);
         Ok(rect)
     }
 }

@@ -1,11 +1,14 @@
 //! A part of a document on a grid.
-ghost use Rattle.std.specs.Prelude.{◌≡◌, ◌<◌, ◌≤◌, OnOk, IfOk, IfErr, length, [], ◌∷◌, Option, None, Some, pos};
+ghost use Rattle.std.specs.Prelude.{◌≡◌, ◌<◌, ◌≤◌, OnOk, IfOk, IfErr, IfSome, length, set, [], ◌∷◌, Option, None, Some, option_map, pos};
 ghost use Rattle.scm_cells.specs.Rect.{RectInRange};
 ghost use Rattle.scm_cells.specs.Mask.{MaskInRange};
 ghost use Rattle.scm_cells.specs.Counts.{added, one_row};
 ghost use Rattle.scm_render.specs.Around.{join, no_rect};
 ghost use Rattle.scm_render.specs.Picture.{PictureInRange, part, box_rect, covering};
-ghost use Rattle.scm_render.specs.Canvas.{paint_rows, with_mask, with_picture, MaskIsInRange};
+ghost use Rattle.scm_render.specs.Canvas.{kept, kept_area, paint_rows, with_mask, with_picture, MaskIsInRange};
+ghost use Rattle.scm_render.specs.Kept.{kept_items};
+ghost use Rattle.scm_render.specs.ToDraw.{end_to_draw, first_to_draw, rows_above};
+ghost use Rattle.std.specs.Option.{is_some};
 ghost use Rattle.scm_render.specs.Drawing.{mask_or, reach};
 ghost use Rattle.scm_render.specs.Places.{screen_part, with_times, screen_rect, whole_sight};
 ghost use Rattle.std.specs.HashMap.{IsFromIterResult};
@@ -16,7 +19,7 @@ ghost use Rattle.scm_render.specs.DrawCalls.{part_call};
 use crate::component::Component;
 use crate::surface::Surface;
 use crate::trace::{DrawnRect, DrawnRects};
-use scm_cells::{Grid, Mask, Rect, ScreenRect};
+use scm_cells::{Grid, Mask, Rect, ScreenRect, gap};
 use scm_errors::RecordError;
 use std::alloc::{AllocError, Global};
 use std::hash::Hash;
@@ -37,6 +40,29 @@ pub(crate) fn grown(area: Rect, rect: Rect) -> Rect
     }
 }
 
+/// Returns the least rectangle around `area` and `rect`, if `boxes` are kept, and else `area`.
+pub(crate) fn grown_in<K: Copy + Eq + Hash + Drop>(
+    boxes: &Option<Vec<(K, Rect)>>,
+    area: Rect,
+    rect: Rect,
+) -> Rect
+    requires area { RectInRange area }
+    requires rect { RectInRange rect }
+    ensures { result ≡ kept_area (kept_items boxes.now) area (rect ∷ []) }
+{
+    match boxes {
+        Some(_) => grown(area, rect),
+        None => area,
+    }
+}
+
+/// Returns how many of the `count` rows from row `y` on lie above row `row`.
+fn rows_above(y: isize, row: isize, count: usize) -> usize
+    ensures { result ≡ rows_above y row count }
+{
+    gap(y, row).min(count)
+}
+
 /// A part of a document on a grid. Drawing outside that part, or outside the mask if one is set, is
 /// invisible. It still counts for the boxes of components. The grid counts rows that are begun and
 /// draw calls, visible or not.
@@ -50,11 +76,11 @@ pub struct Viewport<K> {
     /// The mask, if one is set.
     mask: Option<Mask>,
 
-    /// The least rectangle around all that the current component drew so far.
+    /// The least rectangle around all that the current component drew so far, if boxes are kept.
     pub(crate) area: Rect,
 
-    /// The boxes of the components that have begun, in order.
-    boxes: Vec<(K, Rect)>,
+    /// The boxes of the components that have begun, in order. `None` if no boxes are kept.
+    pub(crate) boxes: Option<Vec<(K, Rect)>>,
 
     /// A buffer for rows.
     pub(crate) scratch: String,
@@ -62,6 +88,7 @@ pub struct Viewport<K> {
 
 impl<K> Model for Viewport<K> {
     ghost use Rattle.scm_render.specs.Canvas.{ViewportState};
+    ghost use Rattle.scm_render.specs.Kept.{kept_items};
 
     ghost Value = { ViewportState K };
 
@@ -70,7 +97,7 @@ impl<K> Model for Viewport<K> {
         sight = record { rect = v.surface.rect; mask = v.mask };
         rows = v.surface.rows;
         area = v.area;
-        boxes = v.boxes.items;
+        boxes = kept_items v.boxes;
       };
       counts = v.surface.counts;
     } };
@@ -85,8 +112,8 @@ impl<K> Model for Viewport<K> {
 }
 
 impl<K: Copy + Eq + Hash + Drop> Viewport<K> {
-    /// Returns a viewport without a mask. It shows the part `rect` of the document on `grid`, which
-    /// has the size of `rect`.
+    /// Returns a viewport without a mask, which keeps the boxes of components. It shows the part
+    /// `rect` of the document on `grid`, which has the size of `rect`.
     pub fn new(alloc: Global, grid: Grid, rect: Rect) -> Viewport<K>
         requires rect { RectInRange rect }
         requires width { grid.width ≡ rect.width }
@@ -95,7 +122,44 @@ impl<K: Copy + Eq + Hash + Drop> Viewport<K> {
           sight = record { rect = rect; mask = None };
           rows = grid.rows;
           area = no_rect;
-          boxes = [];
+          boxes = Some [];
+        } }
+        ensures counts { result.counts ≡ grid.counts }
+    {
+        Viewport::with_boxes(alloc, grid, rect, empty_boxes(alloc))
+    }
+
+    /// Returns a viewport like [`Viewport::new`], which keeps no boxes.
+    pub fn for_painting(alloc: Global, grid: Grid, rect: Rect) -> Viewport<K>
+        requires rect { RectInRange rect }
+        requires width { grid.width ≡ rect.width }
+        requires height { length grid.rows ≡ rect.height }
+        ensures canvas { result.canvas ≡ record {
+          sight = record { rect = rect; mask = None };
+          rows = grid.rows;
+          area = no_rect;
+          boxes = None;
+        } }
+        ensures counts { result.counts ≡ grid.counts }
+    {
+        Viewport::with_boxes(alloc, grid, rect, None)
+    }
+
+    /// Returns a viewport without a mask, with the boxes `boxes`, if they are kept.
+    fn with_boxes(
+        alloc: Global,
+        grid: Grid,
+        rect: Rect,
+        boxes: Option<Vec<(K, Rect)>>,
+    ) -> Viewport<K>
+        requires rect { RectInRange rect }
+        requires width { grid.width ≡ rect.width }
+        requires height { length grid.rows ≡ rect.height }
+        ensures canvas { result.canvas ≡ record {
+          sight = record { rect = rect; mask = None };
+          rows = grid.rows;
+          area = no_rect;
+          boxes = kept_items boxes;
         } }
         ensures counts { result.counts ≡ grid.counts }
     {
@@ -104,7 +168,7 @@ impl<K: Copy + Eq + Hash + Drop> Viewport<K> {
             surface: Surface::new(grid, rect),
             mask: None,
             area: Rect::default(),
-            boxes: Vec::new(alloc),
+            boxes,
             scratch: String::new(alloc),
         }
     }
@@ -189,8 +253,43 @@ impl<K: Copy + Eq + Hash + Drop> Viewport<K> {
         ensures counts { self.new.counts ≡ self.old.counts }
         ensures rect { result ≡ rect }
     {
-        self.area = grown(self.area, rect);
+        self.area = grown_in(&self.boxes, self.area, rect);
         rect
+    }
+
+    /// Returns how many boxes of components are kept, or `None` if no boxes are kept.
+    fn count_boxes(&self) -> Option<usize>
+        ensures { result ≡ option_map length self.now.canvas.boxes }
+    {
+        count_boxes(&self.boxes)
+    }
+
+    /// Returns whether the boxes of components are kept.
+    pub fn keeps_boxes(&self) -> bool
+        ensures { result ≡ is_some self.now.canvas.boxes }
+    {
+        self.count_boxes().is_some()
+    }
+
+    /// Returns the rows that drawing has to go through, of the `count` rows from row `y` on: their
+    /// start and end (exclusive), counted from 0 at row `y`. Where boxes are kept, these are all
+    /// rows, and else those on the screen.
+    pub fn rows_to_draw(&self, y: isize, count: usize) -> (usize, usize)
+        ensures first { result.0 ≡ first_to_draw self.now.canvas y count }
+        ensures end { result.1 ≡ end_to_draw self.now.canvas y count }
+        ensures in_order { result.0 ≤ result.1 }
+        ensures within { result.1 ≤ count }
+        ensures rows { length self.now.canvas.rows ≡ self.now.canvas.sight.rect.height }
+    {
+        let screen = self.rect();
+        if self.keeps_boxes() {
+            (0, count)
+        } else {
+            (
+                rows_above(y, screen.y, count),
+                rows_above(y, screen.end_y(), count),
+            )
+        }
     }
 
     /// Counts one row of the document as drawn.
@@ -202,8 +301,8 @@ impl<K: Copy + Eq + Hash + Drop> Viewport<K> {
     }
 
     /// Adds the box of a component with the id `id` that covers the rectangle `covered`, without
-    /// drawing. Grows the box of the current component to contain it. If `covered` is empty, the
-    /// new box is a rectangle of zeros.
+    /// drawing, if boxes are kept. Grows the box of the current component to contain it. If
+    /// `covered` is empty, the new box is a rectangle of zeros.
     ///
     /// # Errors
     /// `OutOfMemory`: an allocation failed.
@@ -216,8 +315,9 @@ impl<K: Copy + Eq + Hash + Drop> Viewport<K> {
         ensures err { IfErr result (λ e. e ≡ OutOfMemory) }
     {
         let own = grown(Rect::default(), covered);
-        self.boxes.push((id, own))?;
-        self.area = grown(self.area, covered);
+        let area = grown_in(&self.boxes, self.area, covered);
+        push_box(&mut self.boxes, id, own)?;
+        self.area = area;
         Ok(())
     }
 
@@ -239,16 +339,88 @@ impl<K: Copy + Eq + Hash + Drop> Viewport<K> {
         ensures drawn { IfOk result (λ r.
             r ≡ box_rect (C.picture component.now self.old.canvas.sight x y)) }
     {
+        match self.count_boxes() {
+            Some(place) => self.draw_at(place, x, y, component),
+            None => self.draw_measured(x, y, component),
+        }
+    }
+
+    /// Draws `component` like `draw_component`, in a viewport that keeps boxes. `place` is the
+    /// index of the component's box.
+    fn draw_at<C: Component<Id = K>>(
+        &mut self,
+        place: usize,
+        x: isize,
+        y: isize,
+        component: &C,
+    ) -> Result<Rect, RecordError>
+        requires place { Some place ≡ option_map length self.old.canvas.boxes }
+        requires picture { CanDraw self.old (part_call (C.key component.now)
+            (C.picture component.now) (C.rows component.now) (C.calls component.now) x y) }
+        ensures draws { HasDrawn self.old self.new result (part_call (C.key component.now)
+            (C.picture component.now) (C.rows component.now) (C.calls component.now) x y) }
+        ensures drawn { IfOk result (λ r.
+            r ≡ box_rect (C.picture component.now self.old.canvas.sight x y)) }
+    {
         let id = component.id();
-        let place = self.boxes.len();
-        self.boxes.push((id, Rect::default()))?;
+        push_box(&mut self.boxes, id, Rect::default())?;
         let outer = self.area;
         self.area = Rect::default();
         component.draw(self.alloc, self, x, y)?;
         let rect = self.area;
-        self.boxes[place] = (id, rect);
+        set_box(&mut self.boxes, place, id, rect);
         self.area = grown(outer, rect);
         Ok(rect)
+    }
+
+    /// Draws `component` like `draw_component`, in a viewport that keeps no boxes. Keeps them while
+    /// the component is drawn, for its own box.
+    fn draw_measured<C: Component<Id = K>>(
+        &mut self,
+        x: isize,
+        y: isize,
+        component: &C,
+    ) -> Result<Rect, RecordError>
+        requires boxes { self.old.canvas.boxes ≡ None }
+        requires picture { CanDraw self.old (part_call (C.key component.now)
+            (C.picture component.now) (C.rows component.now) (C.calls component.now) x y) }
+        ensures draws { HasDrawn self.old self.new result (part_call (C.key component.now)
+            (C.picture component.now) (C.rows component.now) (C.calls component.now) x y) }
+        ensures drawn { IfOk result (λ r.
+            r ≡ box_rect (C.picture component.now self.old.canvas.sight x y)) }
+    {
+        let outer = self.area;
+        self.area = Rect::default();
+        let none = mem::replace(&mut self.boxes, empty_boxes(self.alloc));
+        component.draw(self.alloc, self, x, y)?;
+        let rect = self.area;
+        self.area = outer;
+        let _measured = mem::replace(&mut self.boxes, none);
+        Ok(rect)
+    }
+
+    /// Draws `component` at column `x` and row `y`, within the current component. Where no boxes
+    /// are kept, it may pass over rows off the screen.
+    ///
+    /// # Errors
+    /// `OutOfMemory`: an allocation failed; the frame is incomplete.
+    pub fn draw_part<C: Component<Id = K>>(
+        &mut self,
+        x: isize,
+        y: isize,
+        component: &C,
+    ) -> Result<(), RecordError>
+        requires { CanDraw self.old (part_call (C.key component.now) (C.picture component.now)
+            (C.rows component.now) (C.calls component.now) x y) }
+        ensures { HasDrawn self.old self.new result (part_call (C.key component.now)
+            (C.picture component.now) (C.rows component.now) (C.calls component.now) x y) }
+    {
+        if self.keeps_boxes() {
+            self.draw_component(x, y, component)?;
+            Ok(())
+        } else {
+            component.draw(self.alloc, self, x, y)
+        }
     }
 
     /// Draws `component` at column 0 and row 0 of the document. `grid` shows the document from
@@ -292,20 +464,82 @@ impl<K: Copy + Eq + Hash + Drop> Viewport<K> {
         let (drawn, boxes) = viewport.into_parts();
         *grid = drawn;
         outcome?;
-        let timed = time_boxes(alloc, boxes.as_slice())?;
+        let timed = time_boxes(alloc, kept_slice(&boxes))?;
         let rects = by_id(alloc, timed)?;
         Ok(rects)
     }
 
-    /// Returns the grid and the boxes.
-    fn into_parts(self) -> (Grid, Vec<(K, Rect)>)
+    /// Returns the grid and the boxes, if boxes are kept.
+    fn into_parts(self) -> (Grid, Option<Vec<(K, Rect)>>)
         ensures width { result.0.width ≡ self.canvas.sight.rect.width }
         ensures height { length result.0.rows ≡ self.canvas.sight.rect.height }
         ensures rows { result.0.rows ≡ self.canvas.rows }
         ensures counts { result.0.counts ≡ self.counts }
-        ensures boxes { result.1.items ≡ self.canvas.boxes }
+        ensures boxes { kept_items result.1 ≡ self.canvas.boxes }
     {
         (self.surface.into_grid(), self.boxes)
+    }
+}
+
+/// Returns a list for boxes, which is empty.
+fn empty_boxes<K: Copy + Eq + Hash + Drop>(alloc: Global) -> Option<Vec<(K, Rect)>>
+    ensures { kept_items result ≡ Some [] }
+{
+    Some(Vec::new(alloc))
+}
+
+/// Returns how many boxes are kept, or `None` if no boxes are kept.
+fn count_boxes<K: Copy + Eq + Hash + Drop>(boxes: &Option<Vec<(K, Rect)>>) -> Option<usize>
+    ensures { result ≡ option_map length (kept_items boxes.now) }
+{
+    match boxes {
+        Some(kept) => Some(kept.len()),
+        None => None,
+    }
+}
+
+/// If boxes are kept, adds the box `rect` of component `id`.
+fn push_box<K: Copy + Eq + Hash + Drop>(
+    boxes: &mut Option<Vec<(K, Rect)>>,
+    id: K,
+    rect: Rect,
+) -> Result<(), AllocError>
+    ensures ok { OnOk result
+        (kept_items boxes.new ≡ kept (kept_items boxes.old) ((id, rect) ∷ [])) }
+{
+    match boxes {
+        Some(kept) => {
+            kept.push((id, rect))?;
+            Ok(())
+        }
+        None => Ok(()),
+    }
+}
+
+/// If boxes are kept, sets the one at index `place` to the box `rect` of component `id`.
+fn set_box<K: Copy + Eq + Hash + Drop>(
+    boxes: &mut Option<Vec<(K, Rect)>>,
+    place: usize,
+    id: K,
+    rect: Rect,
+)
+    requires { IfSome (kept_items boxes.old) (λ kept. place < length kept) }
+    ensures { kept_items boxes.new
+        ≡ option_map (λ kept. set kept place (id, rect)) (kept_items boxes.old) }
+{
+    match boxes {
+        Some(kept) => kept[place] = (id, rect),
+        None => {}
+    }
+}
+
+/// Returns the boxes, or none if boxes are not kept.
+fn kept_slice<K: Copy + Eq + Hash + Drop>(boxes: &Option<Vec<(K, Rect)>>) -> &[(K, Rect)]
+    ensures { IfSome (kept_items boxes.now) (λ kept. result.now ≡ kept) }
+{
+    match boxes {
+        Some(kept) => kept.as_slice(),
+        None => &[],
     }
 }
 

@@ -214,6 +214,23 @@ fn draw_caption(
     viewport.draw_component(x, y, caption)
 }
 
+/// Draws a caption as a part, and checks first that it is near the document's corner.
+fn draw_caption_part(
+    rt: &impl Abort,
+    viewport: &mut Viewport<u8>,
+    x: isize,
+    y: isize,
+    caption: &Caption,
+) -> Result<(), RecordError> {
+    check_sight(rt, viewport);
+    check_text(rt, caption.text);
+    check_near(rt, x);
+    check_near(rt, y);
+    laws::parts_are_in_range::<u8>();
+    laws::drawing_stays_within::<u8>();
+    viewport.draw_part(x, y, caption)
+}
+
 /// Draws a nest at the document's corner, and checks first that its masks and texts are near it.
 fn draw_nest(
     rt: &impl Abort,
@@ -393,6 +410,34 @@ fn captions_over_texts(rt: HostRuntime) -> Result<(), RecordError> {
     let drawn = draw_caption(&rt, &mut viewport, 9, 2, &caption)?;
     check_rect(&rt, drawn, rect(5, 2, 5, 1));
     check_drawing(&rt, viewport, "\"      \"\n\"     …\"\n")
+}
+
+#[test]
+fn painting_draws_the_same(rt: HostRuntime) -> Result<(), RecordError> {
+    let alloc = rt.alloc();
+    let grid = grid_with_text(&rt, alloc)?;
+    assert_eq!(rt; (grid.width(), grid.height()), (6, 2));
+    let mut viewport: Viewport<u8> = Viewport::for_painting(alloc, grid, rect(0, 1, 6, 2));
+    let caption = Caption { id: 1, text: "a" };
+    viewport.note_box(7, rect(3, 1, 2, 2))?;
+    let drawn = draw_caption(&rt, &mut viewport, 9, 2, &caption)?;
+    check_rect(&rt, drawn, rect(5, 2, 5, 1));
+    draw_caption_part(&rt, &mut viewport, 0, 1, &caption)?;
+    check_drawing(&rt, viewport, "\"a     \"\n\"  abc…\"\n")
+}
+
+#[test]
+fn painting_passes_over_rows(rt: HostRuntime) -> Result<(), RecordError> {
+    let alloc = rt.alloc();
+    let viewport = viewport_at(alloc, 0, 1, 6, 2)?;
+    assert!(rt; viewport.keeps_boxes());
+    assert_eq!(rt; viewport.rows_to_draw(0, 5), (0, 5));
+    let grid = Grid::new(alloc, 6, 2)?;
+    let painted: Viewport<u8> = Viewport::for_painting(alloc, grid, rect(0, 1, 6, 2));
+    assert!(rt; !painted.keeps_boxes());
+    assert_eq!(rt; painted.rows_to_draw(0, 5), (1, 3));
+    assert_eq!(rt; painted.rows_to_draw(3, 5), (0, 0));
+    Ok(())
 }
 
 #[test]

@@ -14,11 +14,10 @@ const MAX_COMMITS: usize = 2;
 /// `OutOfMemory`: an allocation failed.
 pub fn check_limits(alloc: Global, state: &RecordState<'_>) -> Result<(), PathHint> {
     check_count(alloc, "commits", state.commits.len(), MAX_COMMITS)?;
-    let items = item_count(state.files.as_slice());
     check_count(
         alloc,
         "files, sections and lines together",
-        items,
+        state.size(),
         RecordState::MAX_ITEMS,
     )?;
     check_commits(alloc, state.commits.as_slice()).map_err(|hint| hint.in_member(
@@ -42,33 +41,6 @@ fn check_length(alloc: Global, length: usize) -> Result<(), PathHint> {
         return Ok(());
     }
     Err(PathHint::new(format!(in alloc; ": {length} bytes, and a text may have {limit}")))
-}
-
-/// Returns the number of lines in a section.
-fn line_count(section: &Section<'_>) -> usize {
-    match section {
-        Section::Unchanged { lines } => lines.len(),
-        Section::Changed { lines } => lines.len(),
-        Section::FileMode { .. } | Section::Binary { .. } => 0,
-    }
-}
-
-/// Returns the number of sections and lines in a file.
-fn file_count(file: &File<'_>) -> usize {
-    let mut count = file.sections.len();
-    for section in file.sections.as_slice() {
-        count = count.saturating_add(line_count(section));
-    }
-    count
-}
-
-/// Returns the number of files, with their sections and lines.
-fn item_count(files: &[File<'_>]) -> usize {
-    let mut count = files.len();
-    for file in files {
-        count = count.saturating_add(file_count(file));
-    }
-    count
 }
 
 /// Checks the length of `text`, which is the member `name`.

@@ -92,6 +92,8 @@ fn check_marks(rt: &impl Abort, file: &mut File<'_>) {
 /// Checks the calls on the files of a state.
 fn check_state(rt: &impl Abort, state: &mut RecordState<'_>) {
     assert!(rt; state.is_accepted());
+    // a file, its four sections, and their three lines
+    assert_eq!(rt; state.size(), 8);
     for file in state.files.iter_mut() {
         check_marks(rt, file);
     }
@@ -101,6 +103,7 @@ fn check_state(rt: &impl Abort, state: &mut RecordState<'_>) {
 fn check_empty(rt: &impl Abort, alloc: Global) {
     let empty = RecordState::empty(alloc);
     assert!(rt; empty.is_accepted() && empty.commits.is_empty() && empty.files.is_empty());
+    assert_eq!(rt; empty.size(), 0);
     assert!(rt; Commit::default().message.is_none());
 }
 

@@ -1,7 +1,6 @@
 //! Tests that a state is within its limits.
-ghost use Rattle.std.specs.Prelude.{◌≡◌, ◌≤◌, ◌+◌, ◌-◌, length, nat_le, sum_by};
+ghost use Rattle.std.specs.Prelude.{◌≡◌, ◌+◌, ◌-◌, ◌^◌, length, min, sum_by};
 ghost use Rattle.std.specs.List.{list_all};
-ghost use Rattle.std.specs.Option.{SomeIff};
 ghost use Rattle.scm_types.specs.Limits.{file_size, has_short_texts, has_short_texts_in_file, is_short_option, is_short_text, section_size};
 
 use crate::file::File;
@@ -108,29 +107,24 @@ fn section_size(section: &Section<'_>) -> usize
     }
 }
 
-/// Returns `room` minus the numbers of the file's sections and lines, or `None` if it is too small.
-fn room_after_file(room: usize, file: &File<'_>) -> Option<usize>
-    ensures { SomeIff result (file_size file.now ≤ room) (room - file_size file.now) }
+/// Returns the number of the file's sections and lines, at most `usize::MAX`.
+fn file_size(file: &File<'_>) -> usize
+    ensures { result ≡ min (file_size file.now) (2 ^ 64 - 1) }
 {
-    let mut left = room.checked_sub(file.sections.len())?;
+    let mut size = file.sections.len();
     for section in file.sections.as_slice() {
-        left = left.checked_sub(section_size(section))?;
+        size = size.saturating_add(section_size(section));
     }
-    Some(left)
+    size
 }
 
-/// Returns whether there are at most `room` files, sections and lines together.
-pub(crate) fn fits(room: usize, files: &[File<'_>]) -> bool
-    ensures { result ≡ nat_le (length files.now + sum_by file_size files.now) room }
+/// Returns the number of files, sections and lines together, at most `usize::MAX`.
+pub(crate) fn files_size(files: &[File<'_>]) -> usize
+    ensures { result ≡ min (length files.now + sum_by file_size files.now) (2 ^ 64 - 1) }
 {
-    let Some(mut left) = room.checked_sub(files.len()) else {
-        return false;
-    };
+    let mut size = files.len();
     for file in files {
-        match room_after_file(left, file) {
-            Some(after) => left = after,
-            None => return false,
-        }
+        size = size.saturating_add(file_size(file));
     }
-    true
+    size
 }

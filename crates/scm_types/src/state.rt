@@ -1,10 +1,10 @@
 //! The state of a selection, and its limits.
-ghost use Rattle.std.specs.Prelude.{◌≡◌, [], false};
-ghost use Rattle.scm_types.specs.Limits.{is_accepted_state};
+ghost use Rattle.std.specs.Prelude.{◌≡◌, ◌-◌, ◌^◌, [], false, min};
+ghost use Rattle.scm_types.specs.Limits.{is_accepted_state, state_size};
 
 use crate::file::File;
 use crate::items::Items;
-use crate::limits::{fits, has_short_messages, has_short_texts_in_files};
+use crate::limits::{files_size, has_short_messages, has_short_texts_in_files};
 use crate::text::OwnedText;
 use serde::{Deserialize, Serialize};
 use std::alloc::Global;
@@ -50,6 +50,15 @@ impl<'a> RecordState<'a> {
         }
     }
 
+    /// Returns the number of files, sections and lines together, at most `usize::MAX`.
+    ///
+    /// It is linear in the number of files and sections, and allocates nothing.
+    pub fn size(&self) -> usize
+        ensures { result ≡ min (state_size self.now) (2 ^ 64 - 1) }
+    {
+        files_size(self.files.as_slice())
+    }
+
     /// Returns whether the state is within the limits.
     ///
     /// A state has at most two commits, and at most [`RecordState::MAX_ITEMS`] files, sections and
@@ -63,7 +72,7 @@ impl<'a> RecordState<'a> {
     {
         self.commits.len() <= 2
             && has_short_messages(self.commits.as_slice())
-            && fits(Self::MAX_ITEMS, self.files.as_slice())
+            && self.size() <= Self::MAX_ITEMS
             && has_short_texts_in_files(self.files.as_slice())
     }
 }

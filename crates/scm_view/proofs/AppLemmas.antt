@@ -20,9 +20,11 @@ use Rattle.scm_overlay.specs.declared.menu_bar.MenuBar.{MenuBar}
 use Rattle.scm_document.specs.Rows.{ShownFile, document_of}
 use Rattle.scm_document.specs.Pictures.{no_files_picture, files_picture, body_picture, document_picture, commit_picture}
 use Rattle.scm_overlay.specs.Menus.{menu_bar_picture}
-use Rattle.scm_document.specs.ViewColumns.{nearest_column, view_mask, view_picture, next_view}
+use Rattle.scm_document.specs.ViewColumns.{nearest_column, view_mask, view_picture, view_counts, views_counts, next_view}
 use Rattle.scm_view.specs.AppView.{views_picture}
 use Rattle.scm_document.proofs.FilesLemmas.{one_file-fits}
+use Rattle.scm_document.proofs.RowsLemmas.{followed-nothing}
+use Rattle.scm_document.proofs.CountLemmas.{plus-none}
 
 -- ---- views beside each other
 
@@ -35,6 +37,19 @@ views_picture-more vs i d n s x z h e = rw (add-one, drop-cons vs i d h, e) refl
 pub views_picture-end : (vs : List CommitView) (i n : ℕ) (s : Sight) (x : ℤ) → length vs ≤ i → views_picture (drop i vs) n s x ≡ nothing
 unfolding views_picture
 views_picture-end vs i n s x h = rw (drop_all i vs h) refl
+
+-- one view alone
+pub views_picture-one : (vs : List CommitView) (d : CommitView) (n : ℕ) (s : Sight) (x : ℤ) → length vs ≡ 1 → views_picture vs n s x ≡ part ids.AppFiles (view_picture (get_or vs 0 d) s x n)
+unfolding views_picture
+views_picture-one [] d n s x h = absurd (omega (arith, h))
+views_picture-one (v ∷ []) d n s x h = followed-nothing (part ids.AppFiles (view_picture v s x n))
+views_picture-one (v ∷ (w ∷ vs)) d n s x h = absurd (omega (arith, h))
+
+pub views_counts-one : (vs : List CommitView) (d : CommitView) (n : ℕ) (s : Sight) (x : ℤ) → length vs ≡ 1 → views_counts vs n s x ≡ view_counts (get_or vs 0 d) s x n
+unfolding views_counts
+views_counts-one [] d n s x h = absurd (omega (arith, h))
+views_counts-one (v ∷ []) d n s x h = plus-none (view_counts v s x n)
+views_counts-one (v ∷ (w ∷ vs)) d n s x h = absurd (omega (arith, h))
 
 -- ---- the mask
 

@@ -1,6 +1,6 @@
 -- How much is drawn: on one row, call after call, and on rows below one another.
 use Rattle.std.proofs.Common.{◌≡◌}
-use Rattle.std.specs.Prelude.{ℤ, ◌-◌}
+use Rattle.std.specs.Prelude.{ℤ}
 use Rattle.scm_cells.specs.Counts.{Counts, plus, added}
 use Rattle.scm_render.specs.Canvas.{Sight}
 use Rattle.scm_render.proofs.CountLemmas.{counts-then}

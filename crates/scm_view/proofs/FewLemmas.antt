@@ -1,8 +1,7 @@
 -- All that is shown inline begins no more rows than the screen has, and one more for the pinned header, and takes few calls.
-use Rattle.std.proofs.Common.{◌≡◌, ◌∙◌, ℕ, zero, suc, ◌+◌, ◌*◌, ◌≤◌, List, [], ◌∷◌, ◌++◌, length, length-append, drop, take, refl, arith, true, false, Bool, inl, inr}
+use Rattle.std.proofs.Common.{◌≡◌, ◌∙◌, ℕ, zero, suc, ◌+◌, ◌*◌, ◌≤◌, List, [], ◌∷◌, ◌++◌, length, length-append, take, refl, arith, true, false, Bool, inl, inr}
 use Rattle.std.specs.Prelude.{ℤ, pos, ◌+ℤ◌, ◌-ℤ◌, ◌≤ℤ◌, ◌<ℤ◌, min, ◌==◌, if◌then◌else◌, Option, Some, None}
 use Rattle.std.proofs.lemmas.Int.{ints}
-use Rattle.std.proofs.lemmas.List.{drop_all}
 use Rattle.scm_cells.specs.Counts.{Counts, no_counts, plus, added}
 use Rattle.scm_render.proofs.CountLemmas.{counts-most}
 use Rattle.scm_cells.specs.Rect.{or_zero, end_y_of}
@@ -13,7 +12,6 @@ use Rattle.scm_render.specs.Drawing.{has_row}
 use Rattle.scm_render.proofs.DrawLemmas.{off_cases}
 use Rattle.scm_view.specs.declared.app_view.AppView.{AppView}
 use Rattle.scm_document.specs.declared.commit_view.CommitView.{CommitView}
-use Rattle.scm_overlay.specs.declared.menu.Menu.{Menu}
 use Rattle.scm_overlay.specs.declared.quit_dialog.QuitDialog.{QuitDialog}
 use Rattle.scm_document.specs.Rows.{DocRow, HeaderRow, SectionRow, LineRow, MarkRow, ContextRow, DotsRow, BlankRow, ShownSection, ShownFile, Document, document_of, file_rows, sections_rows, message_height}
 use Rattle.scm_document.specs.Pictures.{mask_row, is_pinned, no_files_place}

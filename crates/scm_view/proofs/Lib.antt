@@ -3,7 +3,6 @@
 pub mod ScreenLemmas
 pub mod CountLemmas
 pub mod FewLemmas
-pub mod PaintsAppLemmas
 pub mod LimitLemmas
 pub mod AppLemmas
 pub mod AppRangeLemmas

@@ -1,9 +1,9 @@
 -- The pieces near the screen own what all pieces do on the screen's rows.
-use Rattle.std.proofs.Common.{◌≡◌, ℕ, ◌-◌, ◌<◌, ◌≤◌, List, ap, ◌∙◌}
+use Rattle.std.proofs.Common.{◌≡◌, ℕ, ◌<◌, ◌≤◌, List, ap, ◌∙◌}
 use Rattle.scm_view.specs.declared.frame_index.FrameIndex.{FrameIndex}
 use Rattle.scm_document.specs.declared.index_pieces.Piece.{Piece}
 use Rattle.scm_document.specs.Pieces.{files_of, sections_of}
-use Rattle.scm_document.specs.PieceOwners.{rows_owner, near}
+use Rattle.scm_document.specs.PieceOwners.{rows_owner}
 use Rattle.scm_view.specs.Index.{OwnAlike}
 use Rattle.scm_document.proofs.NearPieceLemmas.{rows-near}
 

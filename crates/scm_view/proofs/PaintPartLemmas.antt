@@ -2,7 +2,7 @@
 use Rattle.std.proofs.Common.{◌≡◌, ℕ, ◌≤◌, List, [], ◌∷◌, length, replicate, refl, sym, ap, subst, ◌∙◌, arith, true}
 use Rattle.std.specs.Prelude.{pos}
 use Rattle.scm_cells.specs.Counts.{Counts, no_counts, added}
-use Rattle.scm_render.specs.Canvas.{Row, Sight, Canvas, paint_rows}
+use Rattle.scm_render.specs.Canvas.{Row, Sight, Canvas, paint_rows, with_picture}
 use Rattle.scm_widgets.specs.declared.ids.ComponentId.{ComponentId}
 use Rattle.scm_view.specs.declared.app_view.AppView.{AppView}
 use Rattle.scm_document.specs.declared.commit_view.CommitView.{CommitView}
@@ -15,7 +15,7 @@ use Rattle.scm_widgets.specs.Blanks.{blank_row}
 use Rattle.scm_widgets.specs.Screens.{screen, sight}
 use Rattle.scm_view.specs.AppView.{app_picture, app_counts, ShowInOrder}
 use Rattle.scm_document.specs.ViewColumns.{view_count}
-use Rattle.scm_widgets.specs.Paints.{IsPainted}
+use Rattle.scm_render.proofs.CanvasLemmas.{with_picture-rows}
 use Rattle.scm_view.specs.Window.{inline_document, window, IsPlain, IsFew, ShowsInline}
 use Rattle.scm_document.specs.DocumentParts.{files_to}
 use Rattle.scm_view.specs.DocumentParts.{part_of}
@@ -25,9 +25,10 @@ use Rattle.scm_view.proofs.DocumentPartLemmas.{window-of}
 use Rattle.scm_view.proofs.PartViewLemmas.{shows-document, few-calls}
 
 pub document-painted : (c d : Canvas ComponentId) (a : AppView) (w h s : ℕ) (rows : List Row) → c.sight ≡ sight w h s → c.rows ≡ replicate h (blank_row w) → rows ≡ d.rows → IsPlainScreen w h
-    → IsPainted c d (app_picture a c.sight (pos 0) (pos 0)) → HasWindowOf a w h s rows
+    → d ≡ with_picture c (app_picture a c.sight (pos 0) (pos 0)) → HasWindowOf a w h s rows
 document-painted c d a w h s rows seen blank e plain p doc menu quit help shows =
-    e ∙ p.rows ∙ ap (λ (t : Sight). paint_rows t.rect (app_picture a t (pos 0) (pos 0)).puts t.rect.y c.rows) seen
+    e ∙ ap (λ (v : Canvas ComponentId). v.rows) p ∙ with_picture-rows c (app_picture a c.sight (pos 0) (pos 0))
+    ∙ ap (λ (t : Sight). paint_rows t.rect (app_picture a t (pos 0) (pos 0)).puts t.rect.y c.rows) seen
     ∙ ap (λ q. paint_rows (screen w h s) (app_picture a (sight w h s) (pos 0) (pos 0)).puts (pos s) q) blank
     ∙ shows-document a doc menu quit help w h s shows plain
 

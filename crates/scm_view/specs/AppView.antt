@@ -57,20 +57,9 @@ view_call v x n = record {
   counts = λ s. view_counts v s x n;
 }
 
--- The rows of the document `v`, without a box of their own.
-abbrev pub view_rows_call : CommitView → ℤ → ℕ → DrawCall ComponentId
-view_rows_call v x n = record {
-  picture = λ s. view_picture v s x n;
-  counts = λ s. view_counts v s x n;
-}
-
 -- The documents `vs` side by side from column `x` on, each `n` columns wide.
 abbrev pub views_call : List CommitView → ℤ → ℕ → DrawCall ComponentId
 views_call vs x n = record { picture = λ s. views_picture vs n s x; counts = λ s. views_counts vs n s x }
-
--- The whole screen.
-abbrev pub app_call : AppView → ℤ → ℤ → DrawCall ComponentId
-app_call a x y = record { picture = λ s. app_picture a s x y; counts = λ s. app_counts a s x }
 
 -- ---- views of a session
 

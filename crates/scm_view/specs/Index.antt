@@ -1,10 +1,11 @@
 -- The index of a frame that is shown inline: plain data that says who owns each point, which rows each key has, and how many rows
 -- all of it spans.
-use Rattle.std.specs.Prelude.{◌≡◌, ℕ, nat_lt, if◌then◌else◌, List, Option, None}
+use Rattle.std.specs.Prelude.{◌≡◌, ℕ, ◌+◌, nat_lt, if◌then◌else◌, List, Option, None}
 use Rattle.std.specs.List.{flat_map}
 use Rattle.scm_render.specs.Hits.{first_of_two}
 use Rattle.scm_types.specs.declared.keys.SelectionKey.{SelectionKey}
 use Rattle.scm_widgets.specs.declared.ids.ComponentId.{ComponentId}
+use Rattle.scm_widgets.specs.declared.overlay_rects.OverlayRect.{OverlayRect}
 use Rattle.scm_view.specs.declared.frame_index.FrameIndex.{FrameIndex}
 use Rattle.scm_document.specs.declared.index_pieces.Piece.{Piece}
 use Rattle.scm_view.specs.ViewState.{ViewState}
@@ -30,6 +31,23 @@ abbrev pub OwnAlike : FrameIndex → ℕ → List Piece → Type 0
 OwnAlike i y ps =
     HasNear i → (w x : ℕ) → rows_owner w (files_of ps) (sections_of ps) y x
     ≡ rows_owner w (files_of i.pieces.items) (sections_of i.pieces.items) y x
+
+-- ---- what an index has
+
+-- index i of a screen of w columns and h rows, whose first row shows row s of the document, has rectangles rs, pieces ps and extent n
+pub record HasParts (w h s : ℕ) (rs : List OverlayRect) (ps : List Piece) (n : ℕ) (i : FrameIndex) : Type 0 where
+  -- the width of the screen, in columns
+  pub width : i.width ≡ w
+  -- the rows of the document on the screen: first..last
+  pub first : i.first ≡ s
+  pub last : i.last ≡ s + h
+  -- the rectangles over the rows of files, and the files and their visible sections
+  pub rects : i.rects.items ≡ rs
+  pub pieces : i.pieces.items ≡ ps
+  -- those that have a row on the screen
+  pub near : HasNear i
+  -- how many rows all of it spans
+  pub extent : i.extent ≡ n
 
 -- ---- what an index is the index of
 

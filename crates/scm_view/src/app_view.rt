@@ -6,12 +6,9 @@ ghost use Rattle.scm_errors.specs.declared.error.RecordError.TheVariants.{OutOfM
 ghost use Rattle.scm_view.specs.ViewState.{ViewState};
 ghost use Rattle.scm_view.specs.Window.{IsPlain, ShowsInline, window, IsFew};
 ghost use Rattle.scm_document.specs.ViewColumns.{view_count, view_width, nearest_column, view_mask, next_view};
-ghost use Rattle.scm_view.specs.AppView.{view_call, view_rows_call, views_call, has_help, app_picture, app_counts, app_call};
-ghost use Rattle.scm_document.specs.declared.commit_view.CommitViewMode.TheVariants.{Inline};
+ghost use Rattle.scm_view.specs.AppView.{view_call, views_call, has_help, app_picture, app_counts};
 ghost use Rattle.scm_render.specs.Draws.{CanDraw, HasDrawn};
 ghost use Rattle.scm_overlay.specs.OverlayCalls.{quit_call, help_call};
-ghost use Rattle.scm_widgets.specs.Paints.{HasDrawnIn};
-ghost use Rattle.scm_widgets.specs.declared.paint_pass.Pass.TheVariants as passes;
 ghost use Rattle.scm_view.specs.PartViews.{HasWindowOf, ShowsPartInline};
 
 use scm_cells::{Grid, Mask, Rect, gap};
@@ -22,7 +19,7 @@ use scm_overlay::quit_dialog::QuitDialog;
 use scm_render::{Component, Viewport};
 use scm_types::{Items, RecordError};
 use scm_widgets::ids::ComponentId;
-use scm_widgets::paint_pass::Pass;
+use scm_widgets::mask_extent::draw_under;
 use std::alloc::Global;
 use std::mem;
 
@@ -108,6 +105,40 @@ fn draw_views(
     Ok(())
 }
 
+/// Draws the document `view` below the menu bar, in columns `x..x + width`.
+fn draw_only(
+    viewport: &mut Viewport<ComponentId>,
+    x: isize,
+    width: usize,
+    view: &CommitView<'_>,
+) -> Result<(), RecordError>
+    requires below { InRange (viewport.old.canvas.sight.rect.y +ℤ pos 1) }
+    requires picture { CanDraw viewport.old (view_call view.now x width) }
+    ensures { HasDrawn viewport.old viewport.new result (view_call view.now x width) }
+{
+    let mask = view_mask(viewport, x, width);
+    draw_under(viewport, mask, x, 1, view)
+}
+
+/// Draws the documents `views` side by side from column `x` on, each in `width` columns. One alone
+/// is not measured.
+fn draw_documents(
+    viewport: &mut Viewport<ComponentId>,
+    x: isize,
+    width: usize,
+    views: &[CommitView<'_>],
+) -> Result<(), RecordError>
+    requires below { InRange (viewport.old.canvas.sight.rect.y +ℤ pos 1) }
+    requires end { InRange (end_x_of viewport.old.canvas.sight.rect) }
+    requires picture { CanDraw viewport.old (views_call views.now x width) }
+    ensures { HasDrawn viewport.old viewport.new result (views_call views.now x width) }
+{
+    match views {
+        [view] => draw_only(viewport, x, width, view),
+        _ => draw_views(viewport, x, width, views),
+    }
+}
+
 /// If the quit dialog is open, draws it.
 fn draw_quit(
     viewport: &mut Viewport<ComponentId>,
@@ -118,7 +149,7 @@ fn draw_quit(
 {
     match dialog {
         Some(quit_dialog) => {
-            viewport.draw_component(0, 0, quit_dialog)?;
+            viewport.draw_part(0, 0, quit_dialog)?;
             Ok(())
         }
         None => Ok(()),
@@ -135,7 +166,7 @@ fn draw_help(
 {
     match dialog {
         Some(help_dialog) => {
-            viewport.draw_component(0, 0, help_dialog)?;
+            viewport.draw_part(0, 0, help_dialog)?;
             Ok(())
         }
         None => Ok(()),
@@ -157,64 +188,7 @@ impl<'a> AppView<'a> {
     }
 }
 
-/// Paints what the screen shows of the document `view`, below the menu bar and in columns
-/// `x..x + width`.
-fn paint_view(
-    alloc: Global,
-    viewport: &mut Viewport<ComponentId>,
-    x: isize,
-    width: usize,
-    view: &CommitView<'_>,
-) -> Result<(), RecordError>
-    requires below { InRange (viewport.old.canvas.sight.rect.y +ℤ pos 1) }
-    requires picture { CanDraw viewport.old (view_rows_call view.now x width) }
-    ensures { HasDrawnIn passes.Paint viewport.old viewport.new result
-        (view_rows_call view.now x width) }
-{
-    let mask = view_mask(viewport, x, width);
-    let outer = viewport.swap_mask(Some(mask));
-    view.draw_rows(alloc, viewport, x, 1, Pass::Paint)?;
-    viewport.swap_mask(outer);
-    Ok(())
-}
-
-/// If there is a document, paints what the screen shows of the first one, in columns `0..width`.
-fn paint_first(
-    alloc: Global,
-    viewport: &mut Viewport<ComponentId>,
-    width: usize,
-    views: &[CommitView<'_>],
-) -> Result<(), RecordError>
-    requires below { InRange (viewport.old.canvas.sight.rect.y +ℤ pos 1) }
-    requires picture { CanDraw viewport.old (views_call (take 1 views.now) (pos 0) width) }
-    ensures { HasDrawnIn passes.Paint viewport.old viewport.new result
-        (views_call (take 1 views.now) (pos 0) width) }
-{
-    match views.first() {
-        Some(view) => paint_view(alloc, viewport, 0, width, view),
-        None => Ok(()),
-    }
-}
-
 impl<'a> AppView<'a> {
-    /// Paints what the screen shows of the inline view.
-    fn paint_inline(
-        &self,
-        alloc: Global,
-        viewport: &mut Viewport<ComponentId>,
-    ) -> Result<(), RecordError>
-        requires inline { self.now.commit_view_mode ≡ Inline }
-        requires picture { CanDraw viewport.old (app_call self.now (pos 0) (pos 0)) }
-        ensures { HasDrawnIn passes.Paint viewport.old viewport.new result
-            (app_call self.now (pos 0) (pos 0)) }
-    {
-        let screen = viewport.rect();
-        paint_first(alloc, viewport, screen.width, self.commit_views.as_slice())?;
-        viewport.draw_component(0, screen.y, &self.menu_bar)?;
-        draw_quit(viewport, &self.quit_dialog)?;
-        draw_help(viewport, &self.help_dialog)
-    }
-
     /// Clears `grid` and paints the inline view, scrolled to row `scroll` of the document. Paints
     /// only what the screen shows, with few rows and calls.
     ///
@@ -264,8 +238,8 @@ impl<'a> AppView<'a> {
             height: grid.height(),
         };
         let empty = Grid::new(alloc, 0, 0)?;
-        let mut viewport = Viewport::new(alloc, mem::replace(grid, empty), rect);
-        let outcome = self.paint_inline(alloc, &mut viewport);
+        let mut viewport = Viewport::for_painting(alloc, mem::replace(grid, empty), rect);
+        let outcome = self.draw(alloc, &mut viewport, 0, 0);
         *grid = viewport.into_grid();
         outcome
     }
@@ -298,8 +272,8 @@ impl<'a> Component for AppView<'a> {
     ) -> Result<(), RecordError> {
         let screen = viewport.rect();
         let width = self.commit_view_mode.view_width(screen.width);
-        draw_views(viewport, x, width, self.shown_views())?;
-        viewport.draw_component(x, screen.y, &self.menu_bar)?;
+        draw_documents(viewport, x, width, self.shown_views())?;
+        viewport.draw_part(x, screen.y, &self.menu_bar)?;
         draw_quit(viewport, &self.quit_dialog)?;
         draw_help(viewport, &self.help_dialog)
     }

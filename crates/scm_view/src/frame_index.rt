@@ -10,7 +10,7 @@ ghost use Rattle.scm_view.specs.AppView.{has_help};
 ghost use Rattle.scm_overlay.specs.Tables.{help_dialog, quit_dialog};
 ghost use Rattle.scm_view.specs.Runs.{document_run, joined, joined_with};
 ghost use Rattle.scm_overlay.specs.OverlayRects.{dialog_run, help_dialog_rects, quit_dialog_rects};
-ghost use Rattle.scm_view.specs.Index.{HasNear, IsIndexOf, OwnAlike, owner_in};
+ghost use Rattle.scm_view.specs.Index.{HasNear, HasParts, IsIndexOf, OwnAlike, owner_in};
 
 use crate::app_view::AppView;
 use scm_cells::Rect;
@@ -178,6 +178,33 @@ impl FrameIndex {
             joined_with(joined((scroll, scroll + bar), document), quit),
             help,
         );
+        let extent = run.1.saturating_sub(run.0);
+        let index = FrameIndex::of_pieces(alloc, width, height, scroll, rects, pieces, extent)?;
+        Ok(index)
+    }
+
+    /// Returns the index with the overlay rectangles `rects`, the files and visible sections
+    /// `pieces` and the extent `extent`, for a screen of `width` columns and `height` rows. The
+    /// screen's first row shows row `scroll` of the document.
+    ///
+    /// # Errors
+    ///
+    /// `OutOfMemory`: an allocation failed.
+    #[tactic(auto, using(scm_types::proofs::LimitLemmas::scroll_room))]
+    pub fn of_pieces(
+        alloc: Global,
+        width: u16,
+        height: u16,
+        scroll: usize,
+        rects: Vec<OverlayRect>,
+        pieces: Vec<Piece>,
+        extent: usize,
+    ) -> Result<FrameIndex, RecordError>
+        requires scroll { scroll ≤ max_scroll }
+        ensures ok { IfOk result
+            (λ index. HasParts width height scroll rects.items pieces.items extent index) }
+        ensures err { IfErr result (λ e. e ≡ OutOfMemory) }
+    {
         let last = scroll + usize::from(height);
         let near = pieces_near(alloc, pieces.as_slice(), scroll, last)?;
         Ok(FrameIndex {
@@ -187,7 +214,7 @@ impl FrameIndex {
             first: scroll,
             last,
             near,
-            extent: run.1.saturating_sub(run.0),
+            extent,
         })
     }
 

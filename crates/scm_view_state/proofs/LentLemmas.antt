@@ -65,7 +65,7 @@ shown_file-lent : (v : FileView) → shown_file (lent_file v) ≡ shown_file v
 unfolding shown_file
 shown_file-lent v = rw (path-lent v.old_path, shown_sections-lent false v.section_views) refl
 
-files-lent : (vs : List FileView) → map shown_file (lent_files vs) ≡ map shown_file vs
+pub files-lent : (vs : List FileView) → map shown_file (lent_files vs) ≡ map shown_file vs
 files-lent [] = refl
 files-lent (v ∷ vs) = rw (shown_file-lent v, files-lent vs) refl
 

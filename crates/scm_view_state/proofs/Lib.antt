@@ -2,3 +2,19 @@
 pub mod ViewLemmas
 -- a document depends on what its view borrows, and not on the addresses
 pub mod LentLemmas
+-- views of some sections of a file
+pub mod SectionPartLemmas
+-- the rows of a layout are those of views
+pub mod PartRowLemmas
+-- what the layout finds covers the screen
+pub mod CoverLemmas
+-- views of some files
+pub mod FilePartLemmas
+-- a view of what the layout finds
+pub mod VisibleLemmas
+-- the view of a section by its counts
+pub mod CountedLemmas
+-- first rows do not fall
+pub mod RiseLemmas
+-- which sections of a small file are kept
+pub mod StretchExamples

@@ -10,3 +10,9 @@ pub mod Folds
 pub mod Items
 -- the style of each place of the screen
 pub mod Styles
+-- a mark by counts of items
+pub mod Marks
+-- which files and sections a screen shows; only contracts of this crate cite it
+pub mod Stretches
+-- a view of what a screen shows
+pub mod VisibleViews

@@ -15,7 +15,7 @@ use std::alloc::Global;
 
 impl<'state> ViewState<'state> {
     /// Returns commit `commit_idx`, counted from 0, or one without a message if there is none.
-    fn commit_at(&self, commit_idx: usize) -> &Commit
+    pub(crate) fn commit_at(&self, commit_idx: usize) -> &Commit
         ensures { result.now ≡ commit_at commit_idx self.now.state.commits }
     {
         match self.state.commits.get(commit_idx) {

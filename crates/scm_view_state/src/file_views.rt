@@ -1,13 +1,19 @@
 //! The views of the files of a commit.
-ghost use Rattle.std.specs.Prelude.{◌≡◌, ◌≤◌, sum_by, option_map, IfOk};
+ghost use Rattle.std.specs.Prelude.{◌≡◌, ◌≤◌, length, sum_by, option_map, IfOk};
 ghost use Rattle.scm_types.specs.Limits.{file_size, max_items};
-ghost use Rattle.scm_view.specs.ViewState.{file_view_of, file_views_of, borrow_of};
-ghost use Rattle.scm_view_state.specs.Views.{lent_file, lent_files, lent_path};
+ghost use Rattle.scm_layout.specs.Counts.{file_counts};
+ghost use Rattle.scm_layout.specs.Rows.{folded_count};
+ghost use Rattle.scm_view.specs.ViewState.{expand_box_of, file_view_of, file_views_of, borrow_of, toggle_box_of};
+ghost use Rattle.scm_types.specs.Keys.{is_key};
+ghost use Rattle.scm_types.specs.declared.keys.SelectionKey.TheVariants as keys;
+ghost use Rattle.scm_view_state.specs.Stretches.{file_part_of};
+ghost use Rattle.scm_view_state.specs.Views.{lent_file, lent_files, lent_path, lent_sections};
 
-use crate::section_views::section_views;
+use crate::section_views::{SectionRange, counted_views, section_views, tristate_by};
 use crate::view_state::ViewState;
-use scm_types::{File, Items};
-use scm_view::{FileKey, FileView, SelectionKey};
+use scm_layout::{FileCounts, FileRows};
+use scm_types::{File, Items, Tristate};
+use scm_view::{FileKey, FileView, SectionView, SelectionKey};
 use std::alloc::{AllocError, Global};
 
 /// Returns the path that `file` had before, if it differs.
@@ -15,6 +21,33 @@ fn old_path<'a>(file: &'a File<'_>) -> Option<&'a str>
     ensures { lent_path result ≡ option_map borrow_of file.now.old_path }
 {
     file.old_path.as_ref().map(|path| path.as_str())
+}
+
+/// Returns the view of `file` with the mark `mark`, the fold `fold` and the sections of `section_views`.
+fn view_with<'a>(
+    view_state: &ViewState<'_>,
+    key: FileKey,
+    mark: Tristate,
+    fold: Tristate,
+    file: &'a File<'a>,
+    section_views: Items<SectionView<'a>>,
+) -> FileView<'a>
+    ensures { lent_file result ≡ record (file_view_of view_state.now key file.now) {
+      toggle_box = toggle_box_of view_state.now (keys.File key) mark;
+      expand_box = expand_box_of view_state.now (keys.File key) fold;
+      section_views = lent_sections section_views.entry;
+    } }
+{
+    let header = SelectionKey::File(key);
+    FileView {
+        file_key: key,
+        toggle_box: view_state.toggle_box(header, mark),
+        expand_box: view_state.expand_box(header, fold),
+        is_header_selected: view_state.is_selected(header),
+        old_path: old_path(file),
+        path: file.path.as_str(),
+        section_views,
+    }
 }
 
 /// Returns the view of `file`. The size of `file` must be within the limit for a state.
@@ -27,18 +60,34 @@ fn file_view<'a>(
     requires { file_size file.now ≤ max_items }
     ensures { IfOk result (λ view. lent_file view ≡ file_view_of view_state.now key file.now) }
 {
-    let header = SelectionKey::File(key);
     let section_views = section_views(view_state, alloc, key, file.sections.as_slice())?;
     let fold = view_state.file_fold(key, section_views.as_slice());
-    Ok(FileView {
-        file_key: key,
-        toggle_box: view_state.toggle_box(header, file.tristate()),
-        expand_box: view_state.expand_box(header, fold),
-        is_header_selected: view_state.is_selected(header),
-        old_path: old_path(file),
-        path: file.path.as_str(),
-        section_views,
-    })
+    Ok(view_with(view_state, key, file.tristate(), fold, file, section_views))
+}
+
+/// Returns the view of `file` with the sections of `range` alone. The file has the counts `counts`
+/// and the rows `rows`, and its size must be within the limit for a state.
+pub(crate) fn file_part<'a>(
+    view_state: &ViewState<'_>,
+    alloc: Global,
+    key: FileKey,
+    counts: &FileCounts,
+    rows: &FileRows,
+    range: SectionRange,
+    file: &'a File<'a>,
+) -> Result<FileView<'a>, AllocError>
+    requires counted { counts.now ≡ file_counts file.now }
+    requires folded { rows.now.folded
+        ≡ folded_count view_state.now.expanded key 0 file.now.sections }
+    requires size { file_size file.now ≤ max_items }
+    requires within { range.end ≤ length file.now.sections }
+    ensures { IfOk result
+        (λ view. lent_file view ≡ file_part_of view_state.now key range file.now) }
+{
+    let section_views = counted_views(view_state, alloc, key, counts, range, file)?;
+    let mark = tristate_by(counts.checked, counts.items);
+    let fold = view_state.counted_fold(key, rows.folded);
+    Ok(view_with(view_state, key, mark, fold, file, section_views))
 }
 
 /// Returns the views of `files`. Their sizes together must be within the limit for a state.

@@ -1,5 +1,5 @@
 //! The folds of sections and files, as their expand boxes show them.
-ghost use Rattle.std.specs.Prelude.{◌≡◌};
+ghost use Rattle.std.specs.Prelude.{◌≡◌, ◌==◌};
 ghost use Rattle.std.specs.List.{list_all};
 ghost use Rattle.scm_types.specs.declared.keys.SelectionKey.TheVariants as keys;
 ghost use Rattle.scm_types.specs.Keys.{has_key};
@@ -27,6 +27,20 @@ fn have_no_fold(views: &[SectionView<'_>]) -> bool
     views.iter().all(|view| has_no_fold(view))
 }
 
+/// Returns the fold of a file, by whether it is expanded and whether all its sections of changed lines
+/// are.
+fn fold_of(is_expanded: bool, are_all: bool) -> Tristate
+    ensures { result ≡ fold_of is_expanded are_all }
+{
+    if !is_expanded {
+        Tristate::False
+    } else if are_all {
+        Tristate::True
+    } else {
+        Tristate::Partial
+    }
+}
+
 impl<'state> ViewState<'state> {
     /// Returns the fold of section `key`: `True` if it is unfolded, else `False`.
     pub(crate) fn section_fold(&self, key: SectionKey) -> Tristate
@@ -45,12 +59,17 @@ impl<'state> ViewState<'state> {
         ensures { result ≡ fold_of (has_key self.now.expanded (keys.File key))
             (list_all has_no_fold views.now) }
     {
-        if !self.is_expanded(SelectionKey::File(key)) {
-            Tristate::False
-        } else if have_no_fold(views) {
-            Tristate::True
-        } else {
-            Tristate::Partial
-        }
+        fold_of(
+            self.is_expanded(SelectionKey::File(key)),
+            have_no_fold(views),
+        )
+    }
+
+    /// Returns the fold of file `key`, of which `folded` sections of changed lines are folded: `False`
+    /// if it is folded itself, `Partial` if any of them is.
+    pub(crate) fn counted_fold(&self, key: FileKey, folded: usize) -> Tristate
+        ensures { result ≡ fold_of (has_key self.now.expanded (keys.File key)) (folded == 0) }
+    {
+        fold_of(self.is_expanded(SelectionKey::File(key)), folded == 0)
     }
 }

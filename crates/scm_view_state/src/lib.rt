@@ -11,8 +11,11 @@ mod folds;
 pub mod items;
 pub mod menus;
 mod section_views;
+mod stretches;
 mod styles;
 pub mod view_state;
+pub mod visible_views;
 
 pub use items::ItemKind;
 pub use view_state::ViewState;
+pub use visible_views::VisibleView;

@@ -1,13 +1,16 @@
 //! The views of the sections of a file.
-ghost use Rattle.std.specs.Prelude.{◌≡◌, ◌+◌, ◌<◌, ◌≤◌, ◌^◌, sum_by, IfOk, if◌then◌else◌};
-ghost use Rattle.scm_types.specs.Limits.{max_items};
-ghost use Rattle.scm_types.specs.Marks.{is_editable_section};
+ghost use Rattle.std.specs.Prelude.{◌≡◌, ◌+◌, ◌<◌, ◌≤◌, ◌^◌, length, sum_by, take, drop, IfOk, if◌then◌else◌};
+ghost use Rattle.scm_types.specs.Limits.{file_size, max_items};
+ghost use Rattle.scm_types.specs.Marks.{is_editable_section, section_marks, tristate_of};
+ghost use Rattle.scm_layout.specs.Counts.{file_counts, section_counts};
 ghost use Rattle.scm_view.specs.ViewState.{is_removed, old_lines, section_view_of, section_views_of, selected_in, totals_of};
+ghost use Rattle.scm_view_state.specs.Marks.{tristate_by};
 ghost use Rattle.scm_view_state.specs.Views.{lent_section, lent_sections, totals_in};
 
 use crate::view_state::ViewState;
+use scm_layout::{FileCounts, SectionCounts};
 use scm_types::keys::is_key;
-use scm_types::{ChangeType, Items, Section, SectionChangedLine};
+use scm_types::{ChangeType, File, Items, Section, SectionChangedLine, Tristate};
 use scm_view::{FileKey, SectionKey, SectionSelection, SectionView, SelectionKey};
 use std::alloc::{AllocError, Global};
 
@@ -27,6 +30,15 @@ struct Before {
     editable: usize,
     /// The number of lines of the old file.
     lines: usize,
+}
+
+/// The sections `start..end` of a file, counted from 0.
+#[derive(Clone, Copy)]
+pub(crate) struct SectionRange {
+    /// The first of them.
+    pub(crate) start: usize,
+    /// Their end, exclusive.
+    pub(crate) end: usize,
 }
 
 /// Returns the totals of a file with the sections `sections`.
@@ -108,16 +120,32 @@ impl Before {
     }
 }
 
-/// Returns the view of `section`, if `before` precedes it in a file with the totals `totals`.
+/// Returns whether none, some or all of `items` items are checked, if `checked` are.
+pub(crate) fn tristate_by(checked: usize, items: usize) -> Tristate
+    ensures { result ≡ tristate_by checked items }
+{
+    if checked == 0 {
+        Tristate::False
+    } else if checked == items {
+        Tristate::True
+    } else {
+        Tristate::Partial
+    }
+}
+
+/// Returns the view of `section` with the mark `mark`, if `before` precedes it in a file with the
+/// totals `totals`.
 fn section_view<'a>(
     view_state: &ViewState<'_>,
     totals: FileTotals,
     key: SectionKey,
     before: Before,
+    mark: Tristate,
     section: &'a Section<'a>,
 ) -> SectionView<'a>
     requires editable { before.editable + 1 < 2 ^ 64 }
     requires lines { before.lines + 1 < 2 ^ 64 }
+    requires mark { mark ≡ tristate_of (section_marks section.now) }
     ensures { lent_section result ≡ section_view_of view_state.now (totals_in totals) key
         before.editable before.lines section.now }
 {
@@ -126,7 +154,7 @@ fn section_view<'a>(
         use_unicode: true,
         is_read_only: view_state.state.is_read_only,
         section_key: key,
-        toggle_box: view_state.toggle_box(header, section.tristate()),
+        toggle_box: view_state.toggle_box(header, mark),
         expand_box: view_state.expand_box(header, view_state.section_fold(key)),
         selection: selected_in(key, view_state.selection),
         total_num_sections: totals.sections,
@@ -156,8 +184,65 @@ pub(crate) fn section_views<'a>(
         lines: 0,
     };
     for (index, section) in sections.iter().enumerate() {
-        views.push(section_view(view_state, totals, key.section(index), before, section))?;
+        let key = key.section(index);
+        views.push(section_view(view_state, totals, key, before, section.tristate(), section))?;
         before = before.with(section);
+    }
+    Ok(Items::from(views))
+}
+
+/// Returns the view of `section` with the counts `counts`, in a file with the totals `totals`.
+fn counted_view<'a>(
+    view_state: &ViewState<'_>,
+    totals: FileTotals,
+    key: SectionKey,
+    counts: &SectionCounts,
+    section: &'a Section<'a>,
+) -> SectionView<'a>
+    requires counted { counts.now
+        ≡ section_counts counts.now.editable_before counts.now.lines_before section.now }
+    requires editable { counts.now.editable_before + 1 < 2 ^ 64 }
+    requires lines { counts.now.lines_before + 1 < 2 ^ 64 }
+    ensures { lent_section result ≡ section_view_of view_state.now (totals_in totals) key
+        counts.now.editable_before counts.now.lines_before section.now }
+{
+    let before = Before {
+        editable: counts.editable_before,
+        lines: counts.lines_before,
+    };
+    let mark = tristate_by(counts.checked, counts.items);
+    section_view(view_state, totals, key, before, mark, section)
+}
+
+/// Returns the views of the sections `range` of `file`, which has the counts `counts`. Reads no line
+/// and no other section.
+pub(crate) fn counted_views<'a>(
+    view_state: &ViewState<'_>,
+    alloc: Global,
+    key: FileKey,
+    counts: &FileCounts,
+    range: SectionRange,
+    file: &'a File<'a>,
+) -> Result<Items<SectionView<'a>>, AllocError>
+    requires counted { counts.now ≡ file_counts file.now }
+    requires size { file_size file.now ≤ max_items }
+    requires within { range.end ≤ length file.now.sections }
+    ensures { IfOk result (λ views. lent_sections views ≡ drop range.start (take range.end
+        (section_views_of view_state.now (totals_of file.now.sections) key 0 0 0
+        file.now.sections))) }
+{
+    let sections = file.sections.as_slice();
+    let counted = counts.sections.as_slice();
+    let totals = FileTotals {
+        sections: sections.len(),
+        editable: counts.editable,
+    };
+    let mut views = Vec::new(alloc);
+    for index in range.start..range.end {
+        let key = key.section(index);
+        let counted_section = &counted[index];
+        let section = &sections[index];
+        views.push(counted_view(view_state, totals, key, counted_section, section))?;
     }
     Ok(Items::from(views))
 }

@@ -1,5 +1,5 @@
 -- On which rows and columns the boxes of rows lie, one below another.
-use Rattle.std.proofs.Common.{◌≡◌, ◌-◌, Bool, true, false, refl}
+use Rattle.std.proofs.Common.{◌≡◌, Bool, true, false, refl}
 use lib.Utf8.{encode}
 use Rattle.unicode_segmentation.proofs.Computing.{unicode_segmentation}
 use Rattle.unicode_width.proofs.Computing.{unicode_width}

@@ -1,13 +1,12 @@
 -- Pictures off the screen: what covers as much, with the same boxes, leaves the same.
-use Rattle.std.proofs.Common.{◌≡◌, ℕ, suc, ◌<◌, List, [], ◌∷◌, ◌++◌, length, refl, sym, ap, ◌∙◌, arith, true, false}
+use Rattle.std.proofs.Common.{◌≡◌, ℕ, suc, ◌<◌, List, [], ◌∷◌, length, refl, sym, ap, ◌∙◌, arith, true, false}
 use Rattle.std.specs.Prelude.{ℤ, pos, ◌+ℤ◌}
 use Rattle.std.proofs.lemmas.Int.{ints}
 use Rattle.scm_cells.specs.Clusters.{text_width}
 use Rattle.scm_cells.specs.Counts.{Counts, no_counts, added}
 use Rattle.scm_cells.specs.declared.rect.Rect.{Rect}
-use Rattle.scm_render.specs.Around.{around}
 use Rattle.scm_render.specs.Picture.{Put, covering, part, box_rect}
-use Rattle.scm_render.specs.Canvas.{Row, Canvas, paint, paint_rows, with_picture}
+use Rattle.scm_render.specs.Canvas.{Row, Canvas, kept, kept_area, paint, paint_rows, with_picture}
 use Rattle.scm_render.specs.Drawing.{reach, has_row, row_rect, span_picture, blank_picture}
 use Rattle.scm_render.proofs.CanvasLemmas.{canvas-same}
 use Rattle.scm_render.proofs.CountLemmas.{added-none}
@@ -54,7 +53,7 @@ unfolding with_picture
 hidden c y p q f n e one none b a =
     canvas-same _ _ refl
     (ap (λ ps. paint_rows c.sight.rect ps c.sight.rect.y c.rows) none ∙ painted-none c.sight.rect c.sight.rect.y c.rows ∙ sym (off-screen c.sight.rect y p.puts f c.rows n e one))
-    (ap (around c.area) a) (ap (λ w. c.boxes ++ w) b)
+    (ap (kept_area c.boxes c.area) a) (ap (kept c.boxes) b)
 
 pub span-hidden : (c : Canvas ComponentId) (x y : ℤ) (t : List ℕ) → length c.rows ≡ c.sight.rect.height → has_row c.sight.rect y ≡ false
     → with_picture c (covering (row_rect x y (text_width t))) ≡ with_picture c (span_picture c.sight x y t)

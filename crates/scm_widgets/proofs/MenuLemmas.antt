@@ -1,5 +1,5 @@
 -- What the menu bar and its open menu draw, and where their box lies.
-use Rattle.std.proofs.Common.{◌≡◌, ℕ, ◌-◌, ◌<◌, ◌≤◌, refl, arith}
+use Rattle.std.proofs.Common.{◌≡◌, ℕ, ◌<◌, refl, arith}
 use Rattle.std.specs.Prelude.{ℤ, ◌≤ℤ◌}
 use Rattle.scm_render.specs.Around.{join, no_rect}
 use Rattle.scm_render.specs.Drawing.{row_rect}

@@ -1,5 +1,5 @@
 -- Places and widths far from the ends of their range: what is drawn there is in range.
-use Rattle.std.specs.Prelude.{◌^◌, ◌≤◌, ℤ, pos, neg_ℤ, ◌≤ℤ◌}
+use Rattle.std.specs.Prelude.{◌^◌, ℤ, pos, neg_ℤ, ◌≤ℤ◌}
 
 -- a column or row that is near the document's corner
 pub record IsNear (z : ℤ) : Type 0 where

@@ -2,8 +2,6 @@
 pub mod Texts
 -- Pictures of checkboxes and buttons, and of the columns up to the end of the mask.
 pub mod Pictures
--- The content of the screen's rows after drawing.
-pub mod Paints
 -- What texts cover on rows off the screen.
 pub mod Covers
 -- Layers: strips on consecutive rows, each with what it shows and who owns its columns.

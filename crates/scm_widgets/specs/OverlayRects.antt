@@ -1,5 +1,5 @@
 -- Overlay rectangles: the owners of columns and rows over the document. Where two overlap, the later one of a list owns the place.
-use Rattle.std.specs.Prelude.{ℕ, pos, nat_le, nat_lt, Bool, ◌&&◌, if◌then◌else◌, List, [], ◌∷◌, map, Option, Some, None}
+use Rattle.std.specs.Prelude.{ℕ, pos, nat_le, nat_lt, Bool, ◌&&◌, if◌then◌else◌, List, [], ◌∷◌, Option, Some, None}
 use Rattle.scm_render.specs.Drawing.{row_rect}
 use Rattle.scm_render.specs.Hits.{first_of_two}
 use Rattle.scm_widgets.specs.declared.ids.ComponentId.{ComponentId}

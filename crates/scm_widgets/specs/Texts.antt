@@ -1,5 +1,5 @@
 -- The texts of checkboxes and buttons.
-use Rattle.std.specs.Prelude.{ℕ, ◌-◌, List, ◌++◌, Bool, if◌then◌else◌, codes, encode_utf8}
+use Rattle.std.specs.Prelude.{ℕ, List, ◌++◌, Bool, if◌then◌else◌, codes, encode_utf8}
 use Rattle.scm_types.specs.declared.tristate.Tristate.{Tristate}
 use Rattle.scm_types.specs.declared.tristate.Tristate.TheVariants.{False, Partial, True}
 use Rattle.scm_widgets.specs.declared.tristate_box.TristateIconStyle.{TristateIconStyle}

@@ -7,7 +7,6 @@ ghost use Rattle.scm_render.specs.Picture.{PictureInRange};
 ghost use Rattle.scm_render.specs.Canvas.{with_picture};
 ghost use Rattle.scm_render.specs.Drawing.{has_row, row_rect, texts_width};
 ghost use Rattle.scm_widgets.specs.Counts.{on_row};
-ghost use Rattle.scm_widgets.specs.Paints.{is_seen, rows_above};
 ghost use Rattle.scm_widgets.specs.Covers.{texts_cover};
 ghost use Rattle.scm_render.specs.Draws.{CanDraw, HasDrawn};
 ghost use Rattle.scm_widgets.specs.DrawCalls.{span_call, text_call, blank_call, blank_rest_call, box_call, button_call};
@@ -16,7 +15,7 @@ use crate::button::{Button, button_width};
 use crate::ids::ComponentId;
 use crate::mask_extent::{cover_rect, to_end};
 use crate::tristate_box::TristateBox;
-use scm_cells::{Rect, Span, gap, text_width};
+use scm_cells::{Rect, Span, text_width};
 use scm_render::Viewport;
 use scm_types::RecordError;
 
@@ -39,23 +38,6 @@ pub fn is_on_screen(viewport: &Viewport<ComponentId>, y: isize) -> bool
 {
     let rect = viewport.rect();
     rect.y <= y && y < rect.end_y()
-}
-
-/// Returns whether the screen shows one of the rows `y..below` of the document.
-pub fn is_seen(viewport: &Viewport<ComponentId>, y: isize, below: isize) -> bool
-    ensures test { result ≡ is_seen viewport.now.canvas.sight.rect y below }
-    ensures rows { length viewport.now.canvas.rows ≡ viewport.now.canvas.sight.rect.height }
-{
-    let rect = viewport.rect();
-    rect.y < below && y < rect.end_y()
-}
-
-/// Returns how many of the `count` rows from row `y` on lie above row `row`.
-pub fn rows_above(y: isize, row: isize, count: usize) -> usize
-    ensures value { result ≡ rows_above y row count }
-    ensures most { result ≤ count }
-{
-    gap(y, row).min(count)
 }
 
 /// Counts row `y` of the document as drawn, if the screen shows it.
@@ -195,7 +177,7 @@ pub fn show_box(
     ensures { HasDrawn viewport.old viewport.new result (box_call tristate_box.now x y) }
 {
     if is_on_screen(viewport, y) {
-        viewport.draw_component(x, y, tristate_box)?;
+        viewport.draw_part(x, y, tristate_box)?;
         Ok(())
     } else {
         viewport.note_box(tristate_box.id, row_of(x, y, 3))?;
@@ -217,7 +199,7 @@ pub fn show_button(
     ensures { HasDrawn viewport.old viewport.new result (button_call button.now x y) }
 {
     if is_on_screen(viewport, y) {
-        viewport.draw_component(x, y, button)?;
+        viewport.draw_part(x, y, button)?;
         Ok(())
     } else {
         let width = button_width(button)?;

@@ -12,6 +12,5 @@ pub mod ids;
 pub mod joined_width;
 pub mod mask_extent;
 pub mod overlay_rects;
-pub mod paint_pass;
 pub mod placed_button;
 pub mod tristate_box;

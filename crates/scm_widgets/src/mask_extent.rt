@@ -114,7 +114,7 @@ pub fn draw_under<K: Copy + Eq + Hash + Drop, C: Component<Id = K>>(
         (C.rows component.now) (C.calls component.now) x y)) }
 {
     let outer = viewport.swap_mask(Some(mask));
-    viewport.draw_component(x, y, component)?;
+    viewport.draw_part(x, y, component)?;
     viewport.swap_mask(outer);
     Ok(())
 }

@@ -47,7 +47,7 @@ pub fn draw_buttons<K: Copy + Eq + Hash + Drop>(
     ensures { HasDrawn viewport.old viewport.new result (placed_call buttons.now) }
 {
     for placed in buttons {
-        viewport.draw_component(placed.rect.x, placed.rect.y, &placed.button)?;
+        viewport.draw_part(placed.rect.x, placed.rect.y, &placed.button)?;
     }
     Ok(())
 }

@@ -10,14 +10,36 @@ use std::alloc::AllocError;
 impl<'state> ActiveSession<'state> {
     ghost use Rattle.std.specs.Prelude.{◌≡◌, IfErr, OnOk};
     ghost use Rattle.scm_errors.specs.declared.error.RecordError.TheVariants.{OutOfMemory};
+    ghost use Rattle.scm_selection.specs.KeySet.{with_key_flipped};
+    ghost use Rattle.scm_record.specs.SessionView.{with_expanded};
     ghost use Rattle.scm_record.specs.Session.{after_expand, after_expand_all, after_fold};
 
     /// Folds `key`.
     pub(super) fn fold(&mut self, key: SelectionKey) -> Result<(), AllocError>
         ensures { OnOk result (self.new ≡ after_fold self.old key) }
     {
-        self.view_state.expanded.remove(key);
+        let shown = &mut self.view_state;
+        self.layout.fold(&shown.state, &mut shown.expanded, key);
         self.ensure_selection_in_viewport()
+    }
+
+    /// Flips the fold of `key`.
+    fn flip(&mut self, key: SelectionKey) -> Result<(), RecordError>
+        ensures ok { OnOk result (self.new
+            ≡ with_expanded self.old (with_key_flipped self.old.shown.expanded key)) }
+        ensures err { IfErr result (λ e. e ≡ OutOfMemory) }
+    {
+        let shown = &mut self.view_state;
+        self.layout.flip(&shown.state, &mut shown.expanded, key)
+    }
+
+    /// Expands the keys of `expanded`, and folds all others.
+    fn set_expanded(&mut self, expanded: KeySet)
+        ensures { self.new ≡ with_expanded self.old expanded }
+    {
+        let shown = &mut self.view_state;
+        shown.expanded = expanded;
+        self.layout.refold(&shown.state, &shown.expanded);
     }
 
     /// Flips the fold of the selected file or section.
@@ -29,7 +51,7 @@ impl<'state> ActiveSession<'state> {
         match selection {
             SelectionKey::None | SelectionKey::Line(_) => {}
             SelectionKey::File(_) | SelectionKey::Section(_) => {
-                self.view_state.expanded.flip(selection)?;
+                self.flip(selection)?;
             }
         }
         self.ensure_selection_in_viewport()?;
@@ -44,10 +66,11 @@ impl<'state> ActiveSession<'state> {
         let keys = all_keys(self.allocator(), self.view_state.state.files.as_slice())?;
         let all = key_set_of(self.allocator(), &keys)?;
         if self.view_state.expanded.is_same(&all) {
-            self.view_state.expanded = KeySet::new(self.allocator());
+            let nothing = KeySet::new(self.allocator());
+            self.set_expanded(nothing);
             self.view_state.selection = self.view_state.selection.file();
         } else {
-            self.view_state.expanded = all;
+            self.set_expanded(all);
         }
         self.ensure_selection_in_viewport()?;
         Ok(())

@@ -1,7 +1,6 @@
 //! Checking and unchecking items.
 
 use super::{ActiveSession, Flow};
-use scm_selection::toggles::{invert_all, set_all, toggle_key};
 use scm_types::RecordError;
 
 impl<'state> ActiveSession<'state> {
@@ -17,7 +16,7 @@ impl<'state> ActiveSession<'state> {
     {
         if !self.view_state.state.is_read_only {
             let key = self.view_state.selection;
-            toggle_key(self.view_state.state.files.as_mut_slice(), key);
+            self.layout.toggle_key(&mut self.view_state.state, key);
         }
     }
 
@@ -64,7 +63,7 @@ impl<'state> ActiveSession<'state> {
         ensures { self.new ≡ after_toggle_all self.old }
     {
         if !self.view_state.state.is_read_only {
-            invert_all(self.view_state.state.files.as_mut_slice());
+            self.layout.invert_all(&mut self.view_state.state);
         }
     }
 
@@ -74,7 +73,7 @@ impl<'state> ActiveSession<'state> {
         ensures { self.new ≡ after_toggle_all_uniform self.old }
     {
         if !self.view_state.state.is_read_only {
-            set_all(self.view_state.state.files.as_mut_slice());
+            self.layout.set_all(&mut self.view_state.state);
         }
     }
 }

@@ -3,8 +3,6 @@ use Rattle.std.specs.Prelude.{pos, ◌+ℤ◌}
 use Rattle.std.proofs.lemmas.Int.{to_z-of_z}
 use Rattle.scm_document.specs.Rows.{shown_file}
 use Rattle.scm_render.proofs.StepLemmas.{InRange-fits}
-use Rattle.scm_document.proofs.RowsLemmas.{on-ok}
-use Rattle.scm_document.proofs.PassLemmas.{drawn-pass}
 use Rattle.scm_document.proofs.FilesLemmas.{length-shown, files-top}
 use Rattle.scm_document.proofs.commit_view.draw_body.Goals as goal
 
@@ -37,7 +35,7 @@ returns-then-is_empty c =
     let fy : FitsSigned w64 c.args.y = c.ranges.y in
     let none : (length (map shown_file c.args.files.now) == 0) ≡ true = ap (λ n. n == 0) (length-shown c.args.files.now) ∙ sym c.is_empty.ensures ∙ c.if-is_empty.true in
     record {
-      ok = rw none (on-ok _ (drawn-pass c.args.pass _ _ _) (simp to_z-of_z at c.draw_no_files.ensures.ok));
+      ok = rw none (simp to_z-of_z at c.draw_no_files.ensures.ok);
       counts = rw none (simp to_z-of_z at c.draw_no_files.ensures.counts);
       rect = search rules;
       err = search rules;

@@ -27,8 +27,8 @@ overflow_add-x c =
     let fx : FitsSigned w64 c.args.x = c.ranges.x in
     simp to_z-of_z (InRange-fits _ (view-place c.args.view.now _ _ _ c.requires))
 
-pub draw_component-requires : goal.draw_component-requires
-draw_component-requires c =
+pub draw_part-requires : goal.draw_part-requires
+draw_part-requires c =
     let fx : FitsSigned w64 c.args.x = c.ranges.x in
     let fy : FitsSigned w64 c.args.y = c.ranges.y in
     let wide : FitsSigned w64 (c.args.x +ℤ pos 2) = InRange-fits _ (view-place c.args.view.now _ _ _ c.requires) in
@@ -44,10 +44,10 @@ returns c =
     record {
       ok =
           let cover = simp to_z-of_z at c.cover_rest.ensures.new in
-          let drawn = simp to_z-of_z at c.in_ok-draw_component.ensures.draws.ok in
+          let drawn = simp to_z-of_z at c.in_ok-draw_part.ensures.ok in
           rw (view_row-picture c.args.view.now c.args.viewport.now.canvas.sight c.args.x c.args.y) (step _ _ _ _ (line c.args.view.now c.args.x c.args.y) cover drawn);
       counts =
-          let counted = simp to_z-of_z at c.in_ok-draw_component.ensures.draws.counts in
+          let counted = simp to_z-of_z at c.in_ok-draw_part.ensures.counts in
           rw (view_row-counts c.args.view.now c.args.viewport.now.canvas.sight.rect c.args.y) (rw (c.cover_rest.ensures.counts, c.cover_rest.ensures.rect) at counted);
       rect = search rules;
       err = search rules;

@@ -27,8 +27,8 @@ loop-index-preserved c =
     let left = section_views_of s t k (i + 1) c.with-before.result.editable c.with-before.result.lines (drop (i + 1) sections) in
     let view : lent_section c.section_view.result ≡ section_view_of s t (section_key_of k i) before.editable before.lines section =
     c.section_view.ensures
-    ∙ ap (λ (u : Totals). section_view_of s u c.section.result before.editable before.lines section) c.totals_of-totals.ensures
-    ∙ ap (λ (q : SectionKey). section_view_of s t q before.editable before.lines section) c.section.ensures in
+    ∙ ap (λ (u : Totals). section_view_of s u c.section-key.result before.editable before.lines section) c.totals_of-totals.ensures
+    ∙ ap (λ (q : SectionKey). section_view_of s t q before.editable before.lines section) c.section-key.ensures in
     let more : section_views_of s t k i before.editable before.lines (drop i sections) ≡ section_view_of s t (section_key_of k i) before.editable before.lines section ∷ left =
     rw (c.with-before.ensures.editable, c.with-before.ensures.lines) (rw (sym c.index-sections-index.is) at (section_views-more s t k i before.editable before.lines sections section c.loop-index-test.true)) in
     let lines = rw (sym c.index-sections-index.is) at (old_lines-more i sections section c.loop-index-test.true) in

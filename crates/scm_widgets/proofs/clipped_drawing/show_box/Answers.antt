@@ -30,15 +30,15 @@ returns-in_ok-note_box c =
       err = search rules;
     }
 
-pub returns-in_ok-draw_component : goal.returns-in_ok-draw_component
-returns-in_ok-draw_component c =
+pub returns-in_ok-draw_part : goal.returns-in_ok-draw_part
+returns-in_ok-draw_part c =
     let fx : FitsSigned w64 c.args.x = c.ranges.x in
     let fy : FitsSigned w64 c.args.y = c.ranges.y in
     let test = simp to_z-of_z at c.is_on_screen.ensures.test in
     let rows = c.is_on_screen.ensures.rows in
     record {
       ok = search rules;
-      counts = (counted-shown _ _ _ _ _ (sym test ∙ c.if-is_on_screen.true) c.in_ok-draw_component.ensures.draws.counts);
+      counts = (counted-shown _ _ _ _ _ (sym test ∙ c.if-is_on_screen.true) c.in_ok-draw_part.ensures.counts);
       rect = search rules;
       err = search rules;
     }

@@ -10,11 +10,11 @@ returns g c =
     let inner = c.swap_mask-outer.new.self.canvas in
     record {
       ok =
-          let drawn = simp (to_z-of_z, ap (λ v. v.sight) c.swap_mask-outer.ensures.new) at c.in_ok-draw_component.ensures.draws.ok in
-          with_picture-masked _ inner c.draw_component.new.self.canvas _ c.args.mask _ c.swap_mask-outer.ensures.new drawn
+          let drawn = simp (to_z-of_z, ap (λ v. v.sight) c.swap_mask-outer.ensures.new) at c.in_ok-draw_part.ensures.ok in
+          with_picture-masked _ inner c.draw_part.new.self.canvas _ c.args.mask _ c.swap_mask-outer.ensures.new drawn
           (rw c.swap_mask-outer.ensures.old at c.swap_mask.ensures.new);
       counts =
-          let drawn = simp (to_z-of_z, ap (λ v. v.sight) c.swap_mask-outer.ensures.new) at c.in_ok-draw_component.ensures.draws.counts in
+          let drawn = simp (to_z-of_z, ap (λ v. v.sight) c.swap_mask-outer.ensures.new) at c.in_ok-draw_part.ensures.counts in
           c.swap_mask.ensures.counts ∙ rw c.swap_mask-outer.ensures.counts at drawn;
       rect = search rules;
       err = search rules;

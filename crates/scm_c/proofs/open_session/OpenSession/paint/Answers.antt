@@ -7,8 +7,11 @@ use Rattle.scm_c.proofs.open_session.OpenSession.paint.Goals as goal
 
 pub returns-in-Waiting : goal.returns-in-Waiting
 returns-in-Waiting c =
-    updates string_bytes c.args.self.now c.in-Waiting.session c.update_for.new.painter c.update_for.result
-    c.in-Waiting.is c.update_for.ensures.shown c.update_for.ensures.painted c.update_for.ensures.forgotten
+    updates string_bytes c.args.self.now c.in-Waiting.session c.update_for.new.painter c.update_for.result c.update_or_code.result
+    c.in-Waiting.is c.update_or_code.ensures c.update_for.ensures.shown c.update_for.ensures.painted c.update_for.ensures.forgotten
+
+pub returns-in-Building : goal.returns-in-Building
+returns-in-Building c = Updates.not_due (ap is_waiting c.in-Building.is)
 
 pub returns-in-Editing : goal.returns-in-Editing
 returns-in-Editing c = Updates.not_due (ap is_waiting c.in-Editing.is)

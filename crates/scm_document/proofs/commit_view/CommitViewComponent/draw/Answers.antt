@@ -1,20 +1,51 @@
-use Rattle.std.proofs.Common.{rules, FitsSigned, w64}
+use Rattle.std.proofs.Common.{rules, List, ℕ, map, FitsSigned, w64}
+use Rattle.std.specs.Prelude.{ℤ, pos, ◌+ℤ◌}
 use Rattle.std.proofs.lemmas.Int.{to_z-of_z}
+use Rattle.scm_render.specs.Canvas.{Sight}
+use Rattle.scm_render.proofs.PictureLemmas.{PictureInRange-left}
+use Rattle.scm_document.specs.Rows.{ShownFile, shown_file, message_height}
+use Rattle.scm_widgets.specs.Pictures.{IdPicture}
+use Rattle.scm_document.specs.Pictures.{commit_message_picture, body_picture, document_picture, commit_picture}
+use Rattle.scm_render.proofs.StepLemmas.{rest, sight-after, step}
+use Rattle.scm_document.proofs.RowsLemmas.{on-ok}
+use Rattle.scm_document.specs.Counts.{document_counts}
+use Rattle.scm_render.proofs.CountLemmas.{counts-then}
 use Rattle.scm_document.proofs.commit_view.CommitViewComponent.draw.Goals as goal
 
-pub draw_rows-requires : goal.draw_rows-requires
-draw_rows-requires c =
+abbrev body : List ShownFile → ℕ → ℤ → ℤ → Sight → IdPicture
+body fs n x y s = body_picture fs s x y (y +ℤ pos n)
+
+pub draw_part-requires : goal.draw_part-requires
+unfolding commit_picture document_picture commit_message_picture
+draw_part-requires c =
     let fx : FitsSigned w64 c.args.x = c.ranges.x in
     let fy : FitsSigned w64 c.args.y = c.ranges.y in
-    simp to_z-of_z c.requires
+    simp to_z-of_z (PictureInRange-left _ _ c.requires)
+
+pub draw_body-requires : goal.draw_body-requires
+unfolding commit_picture document_picture commit_message_picture
+draw_body-requires c =
+    let fx : FitsSigned w64 c.args.x = c.ranges.x in
+    let fy : FitsSigned w64 c.args.y = c.ranges.y in
+    let v = c.args.self.now in
+    let message = simp to_z-of_z at c.in_ok-draw_part.ensures.ok in
+    rw (c.as_slice-files.ensures, c.height-height.ensures) (simp to_z-of_z (rest _ _ _ (body (map shown_file v.file_views) (message_height v.commit_message_view.commit.now.message) c.args.x c.args.y) message c.requires))
 
 pub returns : goal.returns
+unfolding commit_picture document_picture commit_message_picture document_counts
 returns c =
     let fx : FitsSigned w64 c.args.x = c.ranges.x in
     let fy : FitsSigned w64 c.args.y = c.ranges.y in
+    let v = c.args.self.now in
+    let message = simp to_z-of_z at c.in_ok-draw_part.ensures.ok in
+    let counted = simp to_z-of_z at c.in_ok-draw_part.ensures.counts in
     record {
-      ok = simp to_z-of_z at c.draw_rows.ensures.ok;
-      counts = simp to_z-of_z at c.draw_rows.ensures.counts;
+      ok =
+          on-ok _ (step _ _ _ _ (body (map shown_file v.file_views) (message_height v.commit_message_view.commit.now.message) c.args.x c.args.y) message)
+          (rw (c.as_slice-files.ensures, c.height-height.ensures) at (simp to_z-of_z at c.draw_body.ensures.ok));
+      counts =
+          on-ok _ (counts-then _ _ _ _ _ counted)
+          (rw (c.as_slice-files.ensures, c.height-height.ensures, sight-after _ _ _ message) at (simp to_z-of_z at c.draw_body.ensures.counts));
       rect = search rules;
       err = search rules;
     }

@@ -2,8 +2,7 @@ use Rattle.std.proofs.Common.{rules, ◌∙◌, sym, FitsSigned, w64}
 use Rattle.std.specs.Prelude.{pos, ◌+ℤ◌}
 use Rattle.std.proofs.lemmas.Int.{to_z-of_z}
 use Rattle.scm_render.proofs.StepLemmas.{InRange-fits}
-use Rattle.scm_document.proofs.RowsLemmas.{row-first, row-rest, row-end, on-ok}
-use Rattle.scm_document.proofs.PassLemmas.{row-pass, row-alone-pass}
+use Rattle.scm_document.proofs.RowsLemmas.{row-first, row-rest, row-then, row-alone, row-end, on-ok}
 use Rattle.scm_document.proofs.CountLemmas.{row-counted, row-counted-alone}
 use Rattle.scm_document.proofs.section_view.SectionView.draw_changed.Goals as goal
 
@@ -37,7 +36,7 @@ returns-then-is_open c =
       ok =
           let header = simp to_z-of_z at c.in_ok-draw_header.ensures.ok in
           let shown = sym c.is_open.ensures ∙ c.if-is_open.true in
-          rw shown (on-ok _ (row-pass c.args.pass _ _ _ _ _ _ _ header) (simp to_z-of_z at c.draw_changed_lines.ensures.ok));
+          rw shown (on-ok _ (row-then _ _ _ _ _ _ _ header) (simp to_z-of_z at c.draw_changed_lines.ensures.ok));
       counts =
           let header = simp to_z-of_z at c.in_ok-draw_header.ensures.counts in
           let shown = sym c.is_open.ensures ∙ c.if-is_open.true in
@@ -52,7 +51,7 @@ returns-else-is_open c =
     let fy : FitsSigned w64 c.args.y = c.ranges.y in
     let folded = sym c.is_open.ensures ∙ c.if-is_open.false in
     record {
-      ok = rw folded (row-alone-pass c.args.pass _ _ _ _ _ (simp to_z-of_z at c.in_ok-draw_header.ensures.ok));
+      ok = rw folded (row-alone _ _ _ _ _ (simp to_z-of_z at c.in_ok-draw_header.ensures.ok));
       counts = rw folded (row-counted-alone _ _ _ _ _ (simp to_z-of_z at c.in_ok-draw_header.ensures.counts));
       rect = search rules;
       err = search rules;

@@ -1,4 +1,4 @@
-use Rattle.std.proofs.Common.{◌≡◌, ◌∙◌, ap, ap₂, FitsSigned, w64}
+use Rattle.std.proofs.Common.{◌∙◌, ap, ap₂, FitsSigned, w64}
 use Rattle.std.proofs.lemmas.Int.{to_z-of_z}
 use Rattle.scm_cells.specs.Rect.{end_x_of, end_y_of, or_zero}
 use Rattle.scm_render.proofs.StepLemmas.{InRange-fits}

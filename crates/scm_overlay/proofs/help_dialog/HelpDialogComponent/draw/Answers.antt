@@ -1,4 +1,4 @@
-use Rattle.std.proofs.Common.{rules, ◌≡◌, ◌∙◌, ◌+◌, [], ◌∷◌, length, ap, sym, subst}
+use Rattle.std.proofs.Common.{rules, ◌∙◌, ◌+◌, [], ◌∷◌, length, ap, sym, subst}
 use Rattle.scm_cells.specs.Counts.{added}
 use Rattle.scm_render.specs.Canvas.{with_picture}
 use Rattle.scm_render.specs.Picture.{PictureInRange, part}
@@ -9,9 +9,9 @@ use Rattle.scm_overlay.specs.Dialogs.{dialog_picture}
 use Rattle.scm_overlay.specs.Tables.{help_dialog, named_dialog_picture}
 use Rattle.scm_overlay.proofs.help_dialog.HelpDialogComponent.draw.Goals as goal
 
-pub draw_component-requires : goal.draw_component-requires
+pub draw_part-requires : goal.draw_part-requires
 unfolding named_dialog_picture
-draw_component-requires c =
+draw_part-requires c =
     let e = c.dialog.ensures ∙ ap (λ b. record help_dialog { buttons = b ∷ [] }) c.close_button.ensures in
     subst (λ (d : ShownDialog ComponentId). PictureInRange (part d.id (dialog_picture d c.args.viewport.now.canvas.sight))) (sym e) c.requires
 
@@ -21,8 +21,8 @@ returns c =
     let e = c.dialog.ensures ∙ ap (λ b. record help_dialog { buttons = b ∷ [] }) c.close_button.ensures in
     let v = c.args.viewport.now in
     record {
-      ok = c.in_ok-draw_component.ensures.draws.ok ∙ ap (λ (d : ShownDialog ComponentId). with_picture v.canvas (part d.id (dialog_picture d v.canvas.sight))) e;
-      counts = c.in_ok-draw_component.ensures.draws.counts ∙ ap (λ (d : ShownDialog ComponentId). added v.counts (drawn 0 (1 + length d.buttons))) e;
+      ok = c.in_ok-draw_part.ensures.ok ∙ ap (λ (d : ShownDialog ComponentId). with_picture v.canvas (part d.id (dialog_picture d v.canvas.sight))) e;
+      counts = c.in_ok-draw_part.ensures.counts ∙ ap (λ (d : ShownDialog ComponentId). added v.counts (drawn 0 (1 + length d.buttons))) e;
       rect = search rules;
       err = search rules;
     }

@@ -11,7 +11,7 @@ use Rattle.scm_widgets.specs.declared.ids.ComponentId.{ComponentId}
 use Rattle.scm_widgets.specs.declared.placed_button.PlacedButton.{PlacedButton}
 use Rattle.scm_widgets.specs.Buttons.{button_part}
 use Rattle.scm_widgets.proofs.CountLemmas.{calls-first, calls-then, calls-more, calls-end}
-use Rattle.scm_overlay.specs.Menus.{items_picture, menu_picture}
+use Rattle.scm_overlay.specs.Menus.{menu_picture}
 use Rattle.scm_overlay.proofs.PlaceLemmas.{blank-rect, items_picture-more, items_picture-end, menu-placed, length-items}
 use Rattle.scm_overlay.proofs.menu.MenuComponent.draw.Goals as goal
 
@@ -43,8 +43,8 @@ draw_blank-requires c =
     let fy : FitsSigned w64 p.rect.y = InRange-fits _ rect.y in
     simp to_z-of_z (PictureInRange-left _ _ fits)
 
-pub draw_component-requires : goal.draw_component-requires
-draw_component-requires c =
+pub draw_part-requires : goal.draw_part-requires
+draw_part-requires c =
     let p = c.item-item.result in
     let more = rw (sym c.item-item.is) at (items_picture-more c.in_ok-width.width _ c.loop-item.item-index p c.args.viewport.now.canvas.sight c.loop-item-test.true) in
     let fits = left-part _ _ (placed c.in_ok-width.width p) _ _ _ more c.loop-item.invariant.left in
@@ -63,10 +63,10 @@ loop-item-preserved c =
     let fx : FitsSigned w64 p.rect.x = InRange-fits _ rect.x in
     let fy : FitsSigned w64 p.rect.y = InRange-fits _ rect.y in
     let blank = simp to_z-of_z at c.in_ok-draw_blank.ensures.draws.ok in
-    let drawn = simp to_z-of_z at c.in_ok-draw_component.ensures.draws.ok in
+    let drawn = simp to_z-of_z at c.in_ok-draw_part.ensures.ok in
     let i = c.loop-item.item-index in
     let n = length c.deref-item-items.result.now in
-    let counted = calls-more _ _ _ (2 * (n - i)) 2 (2 * (n - (i + 1))) (2 * n) (omega arith) c.loop-item.invariant.counts (calls-then _ _ _ 1 1 c.in_ok-draw_blank.ensures.draws.counts c.in_ok-draw_component.ensures.draws.counts) in
+    let counted = calls-more _ _ _ (2 * (n - i)) 2 (2 * (n - (i + 1))) (2 * n) (omega arith) c.loop-item.invariant.counts (calls-then _ _ _ 1 1 c.in_ok-draw_blank.ensures.draws.counts c.in_ok-draw_part.ensures.counts) in
     record {
       left = left-more _ _ _ (placed c.in_ok-width.width p) _ _ _ more c.loop-item.invariant.left
           (step _ _ _ _ (λ s. button_part p.button s p.rect.x p.rect.y) blank drawn);

@@ -1,4 +1,4 @@
-use Rattle.std.proofs.Common.{◌≡◌, ◌∙◌, ◌<◌, ◌≤◌, ◌++◌, length, ap, sym, append-nil, arith, ◌+ℤ◌, pos, FitsSigned, w64}
+use Rattle.std.proofs.Common.{◌∙◌, ◌<◌, ◌≤◌, ◌++◌, length, ap, sym, append-nil, arith, ◌+ℤ◌, pos, FitsSigned, w64}
 use Rattle.std.proofs.lemmas.Int.{to_z-of_z}
 use Rattle.scm_render.proofs.StepLemmas.{InRange-fits}
 use Rattle.scm_widgets.specs.Screens.{sight}

@@ -1,4 +1,4 @@
-use Rattle.std.proofs.Common.{rules, ◌≡◌, ◌∙◌, ◌+◌, ◌*◌, ◌≤◌, ◌<◌, ℕ, length, get_or, ap, sym, subst, arith, ◌+ℤ◌, pos, FitsSigned, w64}
+use Rattle.std.proofs.Common.{rules, ◌≡◌, ◌∙◌, ◌+◌, ◌*◌, ◌≤◌, ◌<◌, length, ap, sym, arith, ◌+ℤ◌, pos, FitsSigned, w64}
 use Rattle.std.specs.Prelude.{ℤ, None}
 use Rattle.std.proofs.lemmas.Int.{to_z-of_z}
 use Rattle.scm_cells.specs.Counts.{added}
@@ -88,9 +88,9 @@ returns-then-menus-open c =
       err = search rules;
     }
 
-pub draw_component-requires : goal.draw_component-requires
+pub draw_part-requires : goal.draw_part-requires
 unfolding menu_bar_picture
-draw_component-requires c =
+draw_part-requires c =
     let fx : FitsSigned w64 c.args.x = c.ranges.x in
     let fy : FitsSigned w64 c.args.y = c.ranges.y in
     let b = c.args.self.now in
@@ -132,7 +132,7 @@ returns c =
     let place = rw (c.as_slice-places.ensures.value, headers, c.open_idx-open.ensures) at c.index-places-open.is in
     let fp : FitsSigned w64 p.rect.x = InRange-fits _ (rw (sym place) at (header-column b.menus _ 0 _ x y p some (PictureInRange-left _ _ (PictureInRange-right _ _ c.requires)))) in
     let open1 = rw (sym menu, sym place) at (opened-picture b e.sight x y m p some) in
-    let last = simp to_z-of_z at (rw (sym c.index-places-open.is) at c.in_ok-draw_component.ensures.draws) in
+    let last = simp to_z-of_z at (rw (sym c.index-places-open.is) at c.in_ok-draw_part.ensures) in
     let count : (1 + length (placed_headers x y 0 b.menus)) + 2 * length m.items ≡ 1 + (length b.menus + open_calls (open_menu b)) = omega (arith, length-headers x y 0 b.menus, rw (sym menu) at (opened-calls b m some)) in
     record {
       ok = three _ _ e _ _ (heads b x y) (opened b x y) blank shown.ok (last.ok ∙ ap (with_picture e) (sym open1));

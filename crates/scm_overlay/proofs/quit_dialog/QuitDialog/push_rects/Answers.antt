@@ -1,4 +1,4 @@
-use Rattle.std.proofs.Common.{◌≡◌, ◌∙◌, ◌++◌, [], ◌∷◌, ap, ap₂, sym, subst, arith, IfOk, OnOk}
+use Rattle.std.proofs.Common.{◌≡◌, ◌∙◌, ◌++◌, [], ◌∷◌, ap₂, sym, subst, arith, IfOk, OnOk}
 use Rattle.std.specs.Prelude.{ℕ, List, codes}
 use Rattle.scm_widgets.specs.ShownDialogs.{ShownDialog}
 use Rattle.scm_widgets.specs.declared.ids.ComponentId.{ComponentId}

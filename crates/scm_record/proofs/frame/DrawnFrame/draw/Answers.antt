@@ -1,18 +1,9 @@
-use Rattle.std.proofs.Common.{◌≡◌, ◌∙◌, ◌≤◌, ap, arith, sym, subst, true, false, length}
+use Rattle.std.proofs.Common.{◌≡◌, ◌∙◌, ap, sym, subst, true, false, length}
 use Rattle.scm_view.specs.ViewState.{ViewState}
 use Rattle.scm_view.specs.Frame.{is_plain}
-use Rattle.scm_record.specs.Frames.{columns_of, rows_of}
-use Rattle.scm_input.specs.declared.inputs.TerminalKind.{TerminalKind}
-use Rattle.scm_input.specs.declared.inputs.TerminalKind.TheVariants.{Testing}
 use Rattle.scm_record.proofs.FrameLemmas.{plain-shows, free-shows}
 use Rattle.scm_record.proofs.frame.DrawnFrame.draw.Goals as goal
 use Rattle.scm_record.proofs.frame.DrawnFrame.draw.Goals.{then-is_plain+in_ok-draw_plain, else-is_plain+in_ok-draw_free}
-
-few-columns : (kind : TerminalKind) → columns_of kind ≤ 65535
-few-columns (Testing width height) = omega arith
-
-few-rows : (kind : TerminalKind) → rows_of kind ≤ 65535
-few-rows (Testing width height) = omega arith
 
 pub returns-clause-ok : goal.returns-clause-ok
 returns-clause-ok c = λ kind s same scroll size.
@@ -23,8 +14,8 @@ returns-clause-ok c = λ kind s same scroll size.
       | then-is_plain+in_ok-draw_plain b ↦
           let tested = rw (c.width-width.ensures.value, c.height-height.ensures.value) at (sym c.is_plain.ensures ∙ b.if-is_plain.true) in
           let plain = subst (λ (shown : ViewState). is_plain w h shown.view_mode ≡ true) c.view_state.view_is tested in
-          let drawn = plain-shows kind s c.in_ok-view.view c.args.view_state.now c.args.scroll w h b.draw_plain.new.self.grid.rows b.draw_plain.new.self.places
-          size.width size.height c.in_ok-view.ensures.ok same scroll (few-columns kind) (few-rows kind) plain b.in_ok-draw_plain.ensures.rows b.in_ok-draw_plain.ensures.places in
+          let drawn = plain-shows kind s c.args.view_state.now c.args.scroll w h b.draw_plain.new.self.grid.rows b.draw_plain.new.self.places
+          size.width size.height same scroll plain b.in_ok-draw_plain.ensures.rows b.in_ok-draw_plain.ensures.places in
           rw b.self-is (record {
             width = b.in_ok-draw_plain.ensures.width ∙ size.width;
             height = b.in_ok-draw_plain.ensures.height ∙ size.height;
@@ -35,8 +26,8 @@ returns-clause-ok c = λ kind s same scroll size.
       | else-is_plain+in_ok-draw_free b ↦
           let tested = rw (c.width-width.ensures.value, c.height-height.ensures.value) at (sym c.is_plain.ensures ∙ b.if-is_plain.false) in
           let free = subst (λ (shown : ViewState). is_plain w h shown.view_mode ≡ false) c.view_state.view_is tested in
-          let drawn = free-shows c.apps_are_drawn_alike.ensures kind s c.in_ok-view.view c.args.view_state.now c.args.scroll w h b.draw_free.new.self.grid.rows b.draw_free.new.self.places
-          size.width size.height c.in_ok-view.ensures.ok same scroll free b.in_ok-draw_free.ensures.rows b.in_ok-draw_free.ensures.places in
+          let drawn = free-shows kind s c.args.view_state.now c.args.scroll w h b.draw_free.new.self.grid.rows b.draw_free.new.self.places
+          size.width size.height same scroll free b.in_ok-draw_free.ensures.rows b.in_ok-draw_free.ensures.places in
           rw b.self-is (record {
             width = b.in_ok-draw_free.ensures.width ∙ size.width;
             height = b.in_ok-draw_free.ensures.height ∙ size.height;

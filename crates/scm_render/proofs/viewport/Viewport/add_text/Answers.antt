@@ -1,9 +1,10 @@
-use Rattle.std.proofs.Common.{rules, ◌∙◌, sym, ap, refl, FitsSigned, w64}
+use Rattle.scm_render.specs.Kept.{kept_items}
+use Rattle.scm_render.specs.Canvas.{kept_area}
+use Rattle.scm_render.proofs.CanvasLemmas.{RectInRange-kept}
+use Rattle.std.proofs.Common.{rules, ◌∙◌, sym, ap, refl, FitsSigned, w64, [], ◌∷◌}
 use Rattle.std.proofs.lemmas.Int.{to_z-of_z}
 use Rattle.scm_cells.specs.Rect.{RectInRange}
-use Rattle.scm_render.specs.Around.{join}
 use Rattle.scm_render.specs.Drawing.{reach}
-use Rattle.scm_render.proofs.AroundLemmas.{RectInRange-join}
 use Rattle.scm_render.proofs.DrawLemmas.{with_picture-span, span_in_range}
 use Rattle.scm_render.proofs.PaintLemmas.{with_puts-counts}
 use Rattle.scm_render.proofs.CountLemmas.{added-none}
@@ -14,8 +15,8 @@ put_text-requires-clause-x g c =
     let fx : FitsSigned w64 c.args.x = c.ranges.x in
     simp to_z-of_z (span_in_range _ _ _ _ c.requires).x
 
-pub grown-self-inside-requires-clause-rect : goal.grown-self-inside-requires-clause-rect
-grown-self-inside-requires-clause-rect g c =
+pub grown_in-self-inside-requires-clause-rect : goal.grown_in-self-inside-requires-clause-rect
+grown_in-self-inside-requires-clause-rect g c =
     let fx : FitsSigned w64 c.args.x = c.ranges.x in
     let fy : FitsSigned w64 c.args.y = c.ranges.y in
     rw (c.row_rect-drawn.ensures, c.in_ok-columns.ensures.columns) (simp to_z-of_z (span_in_range _ _ _ _ c.requires))
@@ -37,7 +38,7 @@ returns-clause-draws g c =
           (with_picture-span _ _ _ c.mask_rect-within.result c.args.x c.args.y c.args.text.now
           (c.mask_rect-within.ensures.value ∙ ap (λ v. reach v.canvas.sight) (sym c.self.view_is))
           drawn refl
-          (c.grown-self-inside.ensures ∙ ap (join c.self.inside.area) (returns-clause-drawn g c))
+          (c.grown_in-self-inside.ensures ∙ ap (λ r. kept_area (kept_items c.self.inside.boxes) c.self.inside.area (r ∷ [])) (returns-clause-drawn g c))
           refl);
       counts = with_puts-counts _ _ _ c.in_ok-columns.ensures.ok ∙ ap (λ v. v.counts) c.self.view_is ∙ sym (added-none _);
       rect = search rules;
@@ -51,5 +52,5 @@ invariant_of-self-2 g c =
     let drawn : RectInRange c.row_rect-drawn.result = rw (c.row_rect-drawn.ensures, c.in_ok-columns.ensures.columns) (simp to_z-of_z (span_in_range _ _ _ _ c.requires)) in
     record {
       mask = c.self.invariant.mask;
-      area = rw c.grown-self-inside.ensures (RectInRange-join _ _ c.self.invariant.area drawn);
+      area = rw c.grown_in-self-inside.ensures (RectInRange-kept _ _ _ c.self.invariant.area drawn);
     }

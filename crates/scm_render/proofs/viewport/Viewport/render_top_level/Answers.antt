@@ -18,7 +18,8 @@ returns-clause-boxes g c =
     let fy : FitsSigned w64 c.args.y = c.ranges.y in
     let began = simp (to_z-of_z, c.width.ensures.value, c.height.ensures.value, c.replace.ensures.value) at c.new-viewport.ensures.canvas in
     let drawn = simp (to_z-of_z, began) at c.in_ok-outcome.ensures.draws.ok in
-    let boxes = c.in_ok-timed.ensures ∙ ap with_times (c.as_slice.ensures.value ∙ c.into_parts-drawn.ensures.boxes ∙ part-boxes _ _ _ _ drawn refl) in
+    let kept = c.into_parts-drawn.ensures.boxes ∙ part-boxes _ _ _ _ drawn refl in
+    let boxes = c.in_ok-timed.ensures ∙ ap with_times (rw kept at c.kept_slice.ensures) in
     rw boxes at c.in_ok-rects.ensures
 
 pub returns-clause-counts : goal.returns-clause-counts

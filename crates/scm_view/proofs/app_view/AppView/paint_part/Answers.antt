@@ -13,16 +13,16 @@ use Rattle.scm_view.proofs.PartViewLemmas.{parts-in-range}
 use Rattle.scm_view.proofs.PaintPartLemmas.{document-painted, few-on}
 use Rattle.scm_view.proofs.app_view.AppView.paint_part.Goals as goal
 
-pub paint_inline-outcome-requires-clause-picture : goal.paint_inline-outcome-requires-clause-picture
-paint_inline-outcome-requires-clause-picture c =
+pub draw-outcome-requires : goal.draw-outcome-requires
+draw-outcome-requires c =
     let w = c.args.grid.now.width in
     let h = length c.args.grid.now.rows in
     let y : to_z w64 c.args.scroll ≡ pos c.args.scroll = to_z_pos w64 c.args.scroll (omega (arith, c.requires.shows.scroll, scroll_room)) in
     let wide : c.width.result ≡ w = c.width.ensures.value ∙ ap (λ (g : Screen). g.width) c.clear.ensures in
     let tall : c.height.result ≡ h = c.height.ensures.value ∙ ap (λ (g : Screen). length g.rows) c.clear.ensures ∙ length-replicate h (blank_row w) in
     let whole = c.replace.ensures.value ∙ c.clear.ensures in
-    let seen : c.new-viewport.result.canvas.sight ≡ sight w h c.args.scroll =
-    rw (y, wide, tall) at (ap (λ (v : Canvas ComponentId). v.sight) c.new-viewport.ensures.canvas) in
+    let seen : c.for_painting-viewport.result.canvas.sight ≡ sight w h c.args.scroll =
+    rw (y, wide, tall) at (ap (λ (v : Canvas ComponentId). v.sight) c.for_painting-viewport.ensures.canvas) in
     let i = c.requires.shows in
     rw seen (parts-in-range i.shown c.args.self.now i.part w h c.args.scroll i.accepted i.inline i.shows i.plain i.scroll)
 
@@ -34,11 +34,11 @@ returns-clause-ok c =
     let wide : c.width.result ≡ w = c.width.ensures.value ∙ ap (λ (g : Screen). g.width) c.clear.ensures in
     let tall : c.height.result ≡ h = c.height.ensures.value ∙ ap (λ (g : Screen). length g.rows) c.clear.ensures ∙ length-replicate h (blank_row w) in
     let whole = c.replace.ensures.value ∙ c.clear.ensures in
-    let seen : c.new-viewport.result.canvas.sight ≡ sight w h c.args.scroll =
-    rw (y, wide, tall) at (ap (λ (v : Canvas ComponentId). v.sight) c.new-viewport.ensures.canvas) in
-    let blank : c.new-viewport.result.canvas.rows ≡ replicate h (blank_row w) = ap (λ (v : Canvas ComponentId). v.rows) c.new-viewport.ensures.canvas ∙ ap (λ (g : Screen). g.rows) whole in
-    on-ok _ (document-painted c.new-viewport.result.canvas c.paint_inline-outcome.new.viewport.canvas c.args.self.now w h c.args.scroll c.into_grid.result.rows seen blank c.into_grid.ensures.rows c.requires.shows.plain)
-    c.paint_inline-outcome.ensures.ok
+    let seen : c.for_painting-viewport.result.canvas.sight ≡ sight w h c.args.scroll =
+    rw (y, wide, tall) at (ap (λ (v : Canvas ComponentId). v.sight) c.for_painting-viewport.ensures.canvas) in
+    let blank : c.for_painting-viewport.result.canvas.rows ≡ replicate h (blank_row w) = ap (λ (v : Canvas ComponentId). v.rows) c.for_painting-viewport.ensures.canvas ∙ ap (λ (g : Screen). g.rows) whole in
+    on-ok _ (document-painted c.for_painting-viewport.result.canvas c.draw-outcome.new.viewport.canvas c.args.self.now w h c.args.scroll c.into_grid.result.rows seen blank c.into_grid.ensures.rows c.requires.shows.plain)
+    c.draw-outcome.ensures.ok
 
 pub returns-clause-few : goal.returns-clause-few
 returns-clause-few c =
@@ -48,8 +48,8 @@ returns-clause-few c =
     let wide : c.width.result ≡ w = c.width.ensures.value ∙ ap (λ (g : Screen). g.width) c.clear.ensures in
     let tall : c.height.result ≡ h = c.height.ensures.value ∙ ap (λ (g : Screen). length g.rows) c.clear.ensures ∙ length-replicate h (blank_row w) in
     let whole = c.replace.ensures.value ∙ c.clear.ensures in
-    let seen : c.new-viewport.result.canvas.sight ≡ sight w h c.args.scroll =
-    rw (y, wide, tall) at (ap (λ (v : Canvas ComponentId). v.sight) c.new-viewport.ensures.canvas) in
-    let none : c.new-viewport.result.counts ≡ no_counts = c.new-viewport.ensures.counts ∙ ap (λ (g : Screen). g.counts) whole in
-    on-ok _ (few-on c.new-viewport.result.counts c.paint_inline-outcome.new.viewport.counts c.into_grid.result.counts c.args.self.now c.requires.shows.shown c.requires.shows.part w h c.args.scroll c.new-viewport.result.canvas.sight c.requires.shows.shows seen none c.into_grid.ensures.counts)
-    c.paint_inline-outcome.ensures.counts
+    let seen : c.for_painting-viewport.result.canvas.sight ≡ sight w h c.args.scroll =
+    rw (y, wide, tall) at (ap (λ (v : Canvas ComponentId). v.sight) c.for_painting-viewport.ensures.canvas) in
+    let none : c.for_painting-viewport.result.counts ≡ no_counts = c.for_painting-viewport.ensures.counts ∙ ap (λ (g : Screen). g.counts) whole in
+    on-ok _ (few-on c.for_painting-viewport.result.counts c.draw-outcome.new.viewport.counts c.into_grid.result.counts c.args.self.now c.requires.shows.shown c.requires.shows.part w h c.args.scroll c.for_painting-viewport.result.canvas.sight c.requires.shows.shows seen none c.into_grid.ensures.counts)
+    c.draw-outcome.ensures.counts

@@ -28,30 +28,30 @@ quit q s = quit_picture q s
 abbrev help : Option HelpDialog → Sight → Picture ComponentId
 help h s = help_picture (has_help h) s
 
-pub draw_views-requires-clause-below : goal.draw_views-requires-clause-below
+pub draw_documents-requires-clause-below : goal.draw_documents-requires-clause-below
 unfolding app_picture
-draw_views-requires-clause-below c = bar-below _ _ _ _ (PictureInRange-part _ _ (PictureInRange-left _ _ (PictureInRange-right _ _ c.requires)))
+draw_documents-requires-clause-below c = bar-below _ _ _ _ (PictureInRange-part _ _ (PictureInRange-left _ _ (PictureInRange-right _ _ c.requires)))
 
-pub draw_views-requires-clause-end : goal.draw_views-requires-clause-end
-draw_views-requires-clause-end c =
+pub draw_documents-requires-clause-end : goal.draw_documents-requires-clause-end
+draw_documents-requires-clause-end c =
     let r : RectInRange c.args.viewport.now.canvas.sight.rect = rw c.rect-screen.ensures.value at c.rect-screen.ensures.in_range in
     r.end_x
 
-pub draw_views-requires-clause-picture : goal.draw_views-requires-clause-picture
+pub draw_documents-requires-clause-picture : goal.draw_documents-requires-clause-picture
 unfolding app_picture
-draw_views-requires-clause-picture c =
+draw_documents-requires-clause-picture c =
     let fx : FitsSigned w64 c.args.x = c.ranges.x in
     rw (c.shown_views.ensures, c.view_width-width.ensures, c.rect-screen.ensures.value) (simp to_z-of_z (PictureInRange-left _ _ c.requires))
 
-pub draw_component-requires : goal.draw_component-requires
+pub draw_part-requires : goal.draw_part-requires
 unfolding app_picture
-draw_component-requires c =
+draw_part-requires c =
     let fx : FitsSigned w64 c.args.x = c.ranges.x in
     let s = c.args.viewport.now.canvas.sight in
     let a = c.args.self.now in
     let r : RectInRange s.rect = rw c.rect-screen.ensures.value at c.rect-screen.ensures.in_range in
     let fy : FitsSigned w64 s.rect.y = InRange-fits _ r.y in
-    let views = simp to_z-of_z at (rw (c.shown_views.ensures, c.view_width-width.ensures, c.rect-screen.ensures.value) at c.in_ok-draw_views.ensures.ok) in
+    let views = simp to_z-of_z at (rw (c.shown_views.ensures, c.view_width-width.ensures, c.rect-screen.ensures.value) at c.in_ok-draw_documents.ensures.ok) in
     let over = second-of-four _ _ _ (bar a.menu_bar c.args.x s.rect.y) (quit a.quit_dialog) (help a.help_dialog) views c.requires in
     rw c.rect-screen.ensures.value (simp to_z-of_z (PictureInRange-left _ _ over))
 
@@ -63,9 +63,9 @@ draw_quit-requires c =
     let a = c.args.self.now in
     let r : RectInRange s.rect = rw c.rect-screen.ensures.value at c.rect-screen.ensures.in_range in
     let fy : FitsSigned w64 s.rect.y = InRange-fits _ r.y in
-    let views = simp to_z-of_z at (rw (c.shown_views.ensures, c.view_width-width.ensures, c.rect-screen.ensures.value) at c.in_ok-draw_views.ensures.ok) in
+    let views = simp to_z-of_z at (rw (c.shown_views.ensures, c.view_width-width.ensures, c.rect-screen.ensures.value) at c.in_ok-draw_documents.ensures.ok) in
     let over = second-of-four _ _ _ (bar a.menu_bar c.args.x s.rect.y) (quit a.quit_dialog) (help a.help_dialog) views c.requires in
-    let menus = simp to_z-of_z at (rw c.rect-screen.ensures.value at c.in_ok-draw_component.ensures.draws.ok) in
+    let menus = simp to_z-of_z at (rw c.rect-screen.ensures.value at c.in_ok-draw_part.ensures.ok) in
     let dialogs = rest _ _ _ (λ t. followed_by (quit a.quit_dialog t) (help a.help_dialog t)) menus over in
     PictureInRange-left _ _ dialogs
 
@@ -77,9 +77,9 @@ draw_help-requires c =
     let a = c.args.self.now in
     let r : RectInRange s.rect = rw c.rect-screen.ensures.value at c.rect-screen.ensures.in_range in
     let fy : FitsSigned w64 s.rect.y = InRange-fits _ r.y in
-    let views = simp to_z-of_z at (rw (c.shown_views.ensures, c.view_width-width.ensures, c.rect-screen.ensures.value) at c.in_ok-draw_views.ensures.ok) in
+    let views = simp to_z-of_z at (rw (c.shown_views.ensures, c.view_width-width.ensures, c.rect-screen.ensures.value) at c.in_ok-draw_documents.ensures.ok) in
     let over = second-of-four _ _ _ (bar a.menu_bar c.args.x s.rect.y) (quit a.quit_dialog) (help a.help_dialog) views c.requires in
-    let menus = simp to_z-of_z at (rw c.rect-screen.ensures.value at c.in_ok-draw_component.ensures.draws.ok) in
+    let menus = simp to_z-of_z at (rw c.rect-screen.ensures.value at c.in_ok-draw_part.ensures.ok) in
     let dialogs = rest _ _ _ (λ t. followed_by (quit a.quit_dialog t) (help a.help_dialog t)) menus over in
     rest _ _ _ (help a.help_dialog) c.in_ok-draw_quit.ensures.ok dialogs
 
@@ -93,12 +93,12 @@ returns c =
     let fy : FitsSigned w64 s.rect.y = InRange-fits _ r.y in
     record {
       ok =
-          let views = simp to_z-of_z at (rw (c.shown_views.ensures, c.view_width-width.ensures, c.rect-screen.ensures.value) at c.in_ok-draw_views.ensures.ok) in
-          let menus = simp to_z-of_z at (rw c.rect-screen.ensures.value at c.in_ok-draw_component.ensures.draws.ok) in
+          let views = simp to_z-of_z at (rw (c.shown_views.ensures, c.view_width-width.ensures, c.rect-screen.ensures.value) at c.in_ok-draw_documents.ensures.ok) in
+          let menus = simp to_z-of_z at (rw c.rect-screen.ensures.value at c.in_ok-draw_part.ensures.ok) in
           on-ok _ (four _ _ _ _ _ _ (bar a.menu_bar c.args.x s.rect.y) (quit a.quit_dialog) (help a.help_dialog) views menus c.in_ok-draw_quit.ensures.ok) c.draw_help.ensures.ok;
       counts =
-          let views = simp to_z-of_z at (rw (c.shown_views.ensures, c.view_width-width.ensures, c.rect-screen.ensures.value) at c.in_ok-draw_views.ensures.counts) in
-          on-ok _ (app-counted _ _ _ _ _ c.args.self.now c.args.viewport.now.canvas.sight c.args.x views c.in_ok-draw_component.ensures.draws.counts c.in_ok-draw_quit.ensures.counts) c.draw_help.ensures.counts;
+          let views = simp to_z-of_z at (rw (c.shown_views.ensures, c.view_width-width.ensures, c.rect-screen.ensures.value) at c.in_ok-draw_documents.ensures.counts) in
+          on-ok _ (app-counted _ _ _ _ _ c.args.self.now c.args.viewport.now.canvas.sight c.args.x views c.in_ok-draw_part.ensures.counts c.in_ok-draw_quit.ensures.counts) c.draw_help.ensures.counts;
       rect = search rules;
       err = search rules;
     }

@@ -1,0 +1,4 @@
+-- the lines of a text, cut off one by one
+pub mod LineLemmas
+-- changes of the last element of a list
+pub mod LastLemmas

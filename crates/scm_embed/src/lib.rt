@@ -1,0 +1,12 @@
+//! States that a program makes by calls, addition by addition, and the marks of their items.
+#![tactic(auto)]
+
+mod add;
+pub mod addition;
+pub mod builder;
+mod lines;
+pub mod marks;
+mod refusals;
+
+pub use addition::{Addition, BuildError, Part};
+pub use builder::StateBuilder;

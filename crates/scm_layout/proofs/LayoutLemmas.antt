@@ -1,0 +1,118 @@
+-- A layout of a state: what its parts are ready for, and what it is after one of them changed.
+use Rattle.std.proofs.Common.{◌≡◌, ℕ, ◌+◌, ◌<◌, ◌≤◌, ◌^◌, List, [], ◌∷◌, true, Option, Some, None, length, map, refl, ap, sym, ◌∙◌, arith}
+use Rattle.std.specs.Prelude.{slice_get}
+use Rattle.scm_types.specs.declared.keys.SelectionKey.{SelectionKey}
+use Rattle.scm_types.specs.declared.state.Commit.{Commit}
+use Rattle.scm_types.specs.declared.state.RecordState.{RecordState}
+use Rattle.scm_types.specs.Limits.{max_items, state_size}
+use Rattle.scm_types.proofs.LimitLemmas.{items_room}
+use Rattle.scm_selection.specs.KeySet.{has_key, with_key, with_key_flipped, without_key}
+use Rattle.scm_layout.specs.declared.file_rows.FileRows.{FileRows}
+use Rattle.scm_layout.specs.declared.state_counts.StateCounts.{StateCounts}
+use Rattle.scm_layout.specs.declared.state_rows.StateRows.{StateRows}
+use Rattle.scm_layout.specs.declared.state_layout.Layout.{Layout}
+use Rattle.scm_layout.specs.Counts.{counts_of}
+use Rattle.scm_layout.specs.Layouts.{files_top, layout_of, message_height, IsLayoutBut, IsLayoutButCommits}
+use Rattle.scm_layout.specs.Refolds.{AreRowsButFile, AreRowsOfFiles, file_index, total_height}
+use Rattle.scm_layout.specs.Rows.{each_file_rows, restacked, rows_of, stacked}
+use Rattle.scm_layout.proofs.FoldLemmas.{added-agrees, again-agrees, each-agree, flipped-agrees, removed-agrees, stacked-again, total-stacked}
+use Rattle.scm_layout.proofs.StackLemmas.{each-fit, rows-of-files}
+
+message-le : (message : Option (List ℕ)) → message_height message ≤ 3
+message-le None = omega arith
+message-le (Some text) = omega arith
+
+pub top-le : (commits : List Commit) → files_top commits ≤ 4
+top-le [] = omega arith
+top-le (c ∷ cs) = omega (arith, message-le c.message)
+
+pub top-fits : (commits : List Commit) → files_top commits ≤ max_items
+unfolding max_items
+top-fits commits = omega (arith, top-le commits)
+
+pub top-get : (commits : List Commit) (c : Commit) → slice_get commits 0 ≡ Some c → files_top commits ≡ 1 + message_height c.message
+top-get [] c e = absurd cc
+top-get (d ∷ ds) c e = let same : d ≡ c = cc in ap (λ (x : Commit). 1 + message_height x.message) same
+
+pub top-none : (commits : List Commit) → slice_get commits 0 ≡ None → files_top commits ≡ 1
+top-none [] e = refl
+top-none (d ∷ ds) e = absurd cc
+
+-- the rows of a layout are those of the state's files
+pub ready-rows : (layout : Layout) (state : RecordState) (set : List SelectionKey) → layout ≡ layout_of state set → state_size state ≤ max_items → AreRowsOfFiles layout.rows.files state.files
+ready-rows layout state set is fits = record {
+  lengths = ap (λ (l : Layout). map (λ (r : FileRows). length r.sections) l.rows.files) is ∙ (rows-of-files set 0 (files_top state.commits) state.files fits).lengths;
+  fits = fits;
+}
+
+pub ready-counts : (layout : Layout) (state : RecordState) (set : List SelectionKey) → layout ≡ layout_of state set → layout.counts ≡ counts_of state.files
+ready-counts layout state set is = ap (λ (l : Layout). l.counts) is
+
+pub ready-file : (layout : Layout) (state : RecordState) (expanded : List SelectionKey) (key : SelectionKey) (index : ℕ) → IsLayoutBut layout state expanded key → file_index key ≡ Some index → state_size state ≤ max_items
+    → AreRowsButFile layout.rows.files expanded 0 state.files index
+ready-file layout state expanded key index h at fits = record {
+  before = h.before;
+  top = files_top state.commits;
+  is_it = ap (λ (l : Layout). l.rows.files) h.is_it;
+  agree = h.agree index at;
+  fits = fits;
+}
+
+-- a layout by its parts
+abbrev layout_with : StateCounts → StateRows → Layout
+layout_with counts rows = record { counts = counts; rows = rows }
+
+-- rows by their files
+abbrev rows_with : List FileRows → StateRows
+rows_with files = record { files = files }
+
+-- the layout after its rows were found anew
+pub refolded : (layout : Layout) (state : RecordState) (set expanded : List SelectionKey) (rows : StateRows) → layout ≡ layout_of state set → rows ≡ rows_of expanded 0 (files_top state.commits) state.files
+    → layout_with layout.counts rows ≡ layout_of state expanded
+refolded layout state set expanded rows is found = ap (λ (l : Layout). layout_with l.counts rows) is ∙ ap (λ rs. layout_with (counts_of state.files) rs) found
+
+-- a set of unfolded keys after one was flipped, added or removed
+pub flipped-but : (layout : Layout) (state : RecordState) (set expanded : List SelectionKey) (key : SelectionKey) → layout ≡ layout_of state set → expanded ≡ with_key_flipped set key → IsLayoutBut layout state expanded key
+flipped-but layout state set expanded key is e = record {
+  before = set;
+  is_it = is;
+  agree = λ index at. rw e (flipped-agrees set key 0 index at);
+}
+
+pub added-but : (layout : Layout) (state : RecordState) (set expanded : List SelectionKey) (key : SelectionKey) → layout ≡ layout_of state set → expanded ≡ with_key set key → IsLayoutBut layout state expanded key
+added-but layout state set expanded key is e = record {
+  before = set;
+  is_it = is;
+  agree = λ index at. rw e (added-agrees set key 0 index at);
+}
+
+pub removed-but : (layout : Layout) (state : RecordState) (set expanded : List SelectionKey) (key : SelectionKey) → layout ≡ layout_of state set → expanded ≡ without_key set key → IsLayoutBut layout state expanded key
+removed-but layout state set expanded key is e = record {
+  before = set;
+  is_it = is;
+  agree = λ index at. rw e (removed-agrees set key 0 index at);
+}
+
+-- a key that was unfolded before changes no row
+pub added-again : (layout : Layout) (state : RecordState) (set expanded : List SelectionKey) (key : SelectionKey) → layout ≡ layout_of state set → expanded ≡ with_key set key → has_key set key ≡ true → layout ≡ layout_of state expanded
+added-again layout state set expanded key is e has =
+    let same : each_file_rows expanded 0 0 state.files ≡ each_file_rows set 0 0 state.files =
+    rw e (each-agree (with_key set key) set 0 0 state.files (again-agrees set key has)) in
+    is ∙ ap (λ (rs : List FileRows). layout_with (counts_of state.files) (rows_with (stacked (files_top state.commits) rs))) (sym same)
+
+-- ---- files below another message
+
+pub restack-fits : (layout : Layout) (state : RecordState) (top : ℕ) → top ≤ max_items → IsLayoutButCommits layout state → state_size state ≤ max_items → top + total_height layout.rows.files < 2 ^ 63
+restack-fits layout state top room h fits =
+    let height : total_height layout.rows.files ≡ total_height (each_file_rows h.expanded 0 0 state.files) =
+    ap (λ (l : Layout). total_height l.rows.files) h.is_it ∙ total-stacked (files_top h.before) (each_file_rows h.expanded 0 0 state.files) in
+    omega (arith, items_room, height, each-fit h.expanded 0 state.files fits, room)
+
+pub restacked-layout : (layout : Layout) (state : RecordState) (before : List Commit) (expanded : List SelectionKey) (rows : StateRows)
+    → layout ≡ layout_of (record state { commits = before }) expanded → rows ≡ restacked (files_top state.commits) layout.rows → layout_with layout.counts rows ≡ layout_of state expanded
+restacked-layout layout state before expanded rows is found =
+    let each = each_file_rows expanded 0 0 state.files in
+    let again : restacked (files_top state.commits) layout.rows ≡ rows_of expanded 0 (files_top state.commits) state.files =
+    ap (λ (l : Layout). restacked (files_top state.commits) l.rows) is
+    ∙ ap (λ (rs : List FileRows). rows_with rs) (stacked-again (files_top state.commits) (files_top before) each) in
+    ap (λ (l : Layout). layout_with l.counts rows) is ∙ ap (λ rs. layout_with (counts_of state.files) rs) (found ∙ again)

@@ -1,0 +1,122 @@
+-- The rows of sections and files: how many there are at most, and the loops that find them.
+use Rattle.std.proofs.Common.{◌≡◌, ℕ, suc, ◌+◌, ◌*◌, ◌<◌, ◌≤◌, Bool, true, false, not, ◌&&◌, ◌||◌, List, [], ◌∷◌, ◌++◌, length, take, drop, get_or, set, refl, ap, ◌∙◌, append_assoc, arith}
+use Rattle.std.specs.Prelude.{min, nat_eq, nat_lt, sum_by, if◌then◌else◌}
+use Rattle.std.proofs.lemmas.List.{drop_all, take_more_set}
+use Rattle.std.proofs.lemmas.List.Sums.{sum_by-cons}
+use Rattle.scm_types.specs.declared.file.File.{File}
+use Rattle.scm_types.specs.declared.keys.FileKey.{FileKey}
+use Rattle.scm_types.specs.declared.keys.SelectionKey.{SelectionKey}
+use Rattle.scm_types.specs.declared.keys.SelectionKey.TheVariants as keys
+use Rattle.scm_types.specs.declared.section.Section.{Section}
+use Rattle.scm_types.specs.declared.section.Section.TheVariants.{Unchanged, Changed, FileMode, Binary}
+use Rattle.scm_types.specs.Keys.{has_key}
+use Rattle.scm_types.specs.Limits.{file_size, section_size}
+use Rattle.scm_types.specs.Marks.{is_editable_section}
+use Rattle.scm_layout.proofs.ZipLemmas.{cut-at}
+use Rattle.scm_layout.specs.Rows.{are_all_shown, context_height, dots_height, file_height, fold_count, folded_count, height_of, is_expanded, is_first_open, is_open, lines_above, lines_below, rows_at, sections_height, sections_rows, visible_height}
+
+-- ---- how many rows there are at most
+
+above-le : (b c : Bool) (n : ℕ) → (if b then n else if c then 0 else min n 3) ≤ n
+above-le true c n = omega arith
+above-le false true n = omega arith
+above-le false false n = omega arith
+
+one-le : (b : Bool) → (if b then 1 else 0) ≤ 1
+one-le true = omega arith
+one-le false = omega arith
+
+blank-le : (b : Bool) (n m : ℕ) → m ≤ n → 1 ≤ n → (if b then 1 else m) ≤ n
+blank-le true n m h k = k
+blank-le false n m h k = h
+
+context-le : (total i n : ℕ) → context_height total i n ≤ 1 + 2 * n
+context-le total i n =
+    let above : lines_above total i n ≤ n = above-le (are_all_shown total i n) (nat_eq i 0) n in
+    let dots : dots_height total i n ≤ 1 = one-le (not (are_all_shown total i n) && nat_lt 3 n) in
+    let below : lines_below total i n ≤ n = omega arith in
+    blank-le (nat_eq n 0) (1 + 2 * n) (lines_above total i n + (dots_height total i n + lines_below total i n)) (omega arith) (omega arith)
+
+changed-le : (b : Bool) (n : ℕ) → (if b then 1 + n else 1) ≤ 1 + 2 * n
+changed-le true n = omega arith
+changed-le false n = omega arith
+
+height-le : (total i : ℕ) (b : Bool) (s : Section) → height_of total i b s ≤ 1 + 2 * section_size s
+height-le total i b (Unchanged lines) = context-le total i (length lines)
+height-le total i b (Changed lines) = changed-le b (length lines)
+height-le total i b (FileMode is_checked mode) = omega arith
+height-le total i b (Binary is_checked old new) = omega arith
+
+none-le : (b : Bool) (n m : ℕ) → m ≤ n → (if b then m else 0) ≤ n
+none-le true n m h = h
+none-le false n m h = omega arith
+
+visible-le : (ks : List SelectionKey) (k : FileKey) (total i : ℕ) (before : Bool) (s : Section) (after : Bool) → visible_height ks k total i before s after ≤ 1 + 2 * section_size s
+visible-le ks k total i before s after =
+    none-le (is_editable_section s || (before || after)) (1 + 2 * section_size s) (height_of total i (is_expanded ks k i) s) (height-le total i (is_expanded ks k i) s)
+
+sections-le : (ks : List SelectionKey) (k : FileKey) (total i : ℕ) (before : Bool) (ss : List Section) → sections_height ks k total i before ss ≤ length ss + 2 * sum_by section_size ss
+unfolding sections_height
+sections-le ks k total i before [] = omega arith
+sections-le ks k total i before (s ∷ ss) =
+    omega (arith, visible-le ks k total i before s (is_first_open ks k (suc i) ss), sections-le ks k total (suc i) (is_open ks k i s) ss, sum_by-cons section_size s ss)
+
+pub sections-fit : (ks : List SelectionKey) (k : FileKey) (total : ℕ) (ss : List Section) → sections_height ks k total 0 false ss ≤ 2 * (length ss + sum_by section_size ss)
+sections-fit ks k total ss = omega (arith, sections-le ks k total 0 false ss)
+
+pub file-fit : (ks : List SelectionKey) (k : FileKey) (f : File) → file_height ks k f ≤ 1 + 2 * file_size f
+file-fit ks k f = omega (arith, none-le (has_key ks (keys.File k)) (2 * file_size f) (sections_height ks k (length f.sections) 0 false f.sections) (sections-fit ks k (length f.sections) f.sections))
+
+-- ---- the loop over the sections of a file
+
+next-index : (i : ℕ) → i + 1 ≡ suc i
+next-index i = omega arith
+
+module _ (ks : List SelectionKey) (k : FileKey) (total : ℕ) where
+  -- the rows of section i and those of the sections below it
+  pub sections_rows-more : (i top : ℕ) (before : Bool) (ss : List Section) (s : Section) → i < length ss → s ≡ get_or ss i s
+      → sections_rows ks k total i top before (drop i ss)
+      ≡ rows_at top (visible_height ks k total i before s (is_first_open ks k (i + 1) (drop (i + 1) ss)))
+      ∷ sections_rows ks k total (i + 1) (top + visible_height ks k total i before s (is_first_open ks k (i + 1) (drop (i + 1) ss))) (is_open ks k i s) (drop (i + 1) ss)
+  unfolding sections_rows
+  sections_rows-more i top before ss s h at =
+      let more : drop i ss ≡ s ∷ drop (i + 1) ss = cut-at ss i s h at in
+      rw (more, next-index i) refl
+
+  pub sections_height-more : (i : ℕ) (before : Bool) (ss : List Section) (s : Section) → i < length ss → s ≡ get_or ss i s
+      → sections_height ks k total i before (drop i ss)
+      ≡ visible_height ks k total i before s (is_first_open ks k (i + 1) (drop (i + 1) ss)) + sections_height ks k total (i + 1) (is_open ks k i s) (drop (i + 1) ss)
+  unfolding sections_height
+  sections_height-more i before ss s h at =
+      let more : drop i ss ≡ s ∷ drop (i + 1) ss = cut-at ss i s h at in
+      rw (more, next-index i) refl
+
+  pub sections_rows-end : (i top : ℕ) (before : Bool) (ss : List Section) → length ss ≤ i → sections_rows ks k total i top before (drop i ss) ≡ []
+  unfolding sections_rows
+  sections_rows-end i top before ss h = rw (drop_all i ss h) refl
+
+  pub sections_height-end : (i : ℕ) (before : Bool) (ss : List Section) → length ss ≤ i → sections_height ks k total i before (drop i ss) ≡ 0
+  unfolding sections_height
+  sections_height-end i before ss h = rw (drop_all i ss h) refl
+
+-- one that is written goes from what is left to what is made
+pub written : {A : Type 0} (xs : List A) (i : ℕ) (y : A) (left whole : List A) → i < length xs → take i xs ++ (y ∷ left) ≡ whole → take (i + 1) (set xs i y) ++ left ≡ whole
+written xs i y left whole h e =
+    ap (λ zs. zs ++ left) (take_more_set xs i y h) ∙ append_assoc (take i xs) (y ∷ []) left ∙ e
+
+pub folded_count-more : (ks : List SelectionKey) (k : FileKey) (i : ℕ) (ss : List Section) (s : Section) → i < length ss → s ≡ get_or ss i s
+    → folded_count ks k i (drop i ss) ≡ fold_count ks k i s + folded_count ks k (i + 1) (drop (i + 1) ss)
+unfolding folded_count
+folded_count-more ks k i ss s h at =
+    let more : drop i ss ≡ s ∷ drop (i + 1) ss = cut-at ss i s h at in
+    rw (more, next-index i) refl
+
+pub folded_count-end : (ks : List SelectionKey) (k : FileKey) (i : ℕ) (ss : List Section) → length ss ≤ i → folded_count ks k i (drop i ss) ≡ 0
+unfolding folded_count
+folded_count-end ks k i ss h = rw (drop_all i ss h) refl
+
+pub length-sections_rows : (ks : List SelectionKey) (k : FileKey) (total i top : ℕ) (before : Bool) (ss : List Section) → length (sections_rows ks k total i top before ss) ≡ length ss
+unfolding sections_rows
+length-sections_rows ks k total i top before [] = refl
+length-sections_rows ks k total i top before (s ∷ ss) =
+    ap suc (length-sections_rows ks k total (suc i) (top + visible_height ks k total i before s (is_first_open ks k (suc i) ss)) (is_open ks k i s) ss)

@@ -1,0 +1,43 @@
+-- The layout of a state: its counts, and its rows where some files and sections are unfolded.
+use Rattle.std.specs.Prelude.{◌≡◌, ℕ, ◌+◌, List, [], ◌∷◌, Option, Some, None}
+use Rattle.scm_types.specs.declared.keys.SelectionKey.{SelectionKey}
+use Rattle.scm_types.specs.declared.state.Commit.{Commit}
+use Rattle.scm_types.specs.declared.state.RecordState.{RecordState}
+use Rattle.scm_layout.specs.declared.state_layout.Layout.{Layout}
+use Rattle.scm_layout.specs.Counts.{counts_of}
+use Rattle.scm_layout.specs.Refolds.{AgreeBut, file_index}
+use Rattle.scm_layout.specs.Rows.{rows_of}
+
+-- how many rows a message has: 3, or 0 if there is none
+abbrev pub message_height : Option (List ℕ) → ℕ
+message_height None = 0
+message_height (Some message) = 3
+
+-- the first row of the files, below the message of the first commit, which begins on row 1
+abbrev pub files_top : List Commit → ℕ
+files_top [] = 1
+files_top (commit ∷ commits) = 1 + message_height commit.message
+
+-- the layout of a state, if the files and sections of `expanded` are unfolded; the keys are those of commit 0
+abbrev pub layout_of : RecordState → List SelectionKey → Layout
+layout_of state expanded = record {
+  counts = counts_of state.files;
+  rows = rows_of expanded 0 (files_top state.commits) state.files;
+}
+
+-- the layout is that of the state where some files and sections are unfolded
+pub record IsLayoutOf (layout : Layout) (state : RecordState) : Type 0 where
+  pub expanded : List SelectionKey
+  pub is_it : layout ≡ layout_of state expanded
+
+-- the layout is that of the state before the set of unfolded keys became `expanded`, by a change of one key
+pub record IsLayoutBut (layout : Layout) (state : RecordState) (expanded : List SelectionKey) (key : SelectionKey) : Type 0 where
+  pub before : List SelectionKey
+  pub is_it : layout ≡ layout_of state before
+  pub agree : (index : ℕ) → file_index key ≡ Some index → AgreeBut expanded before 0 index
+
+-- the layout is that of the state before its commits changed
+pub record IsLayoutButCommits (layout : Layout) (state : RecordState) : Type 0 where
+  pub before : List Commit
+  pub expanded : List SelectionKey
+  pub is_it : layout ≡ layout_of (record state { commits = before }) expanded

@@ -1,0 +1,14 @@
+-- what the lines of a section count for
+pub mod Lines
+-- the counts of a state
+pub mod Counts
+-- what a toggle changes of them
+pub mod Recounts
+-- the rows of a state
+pub mod Rows
+-- what a fold changes of them
+pub mod Refolds
+-- the layout of a state
+pub mod Layouts
+-- searches for a row
+pub mod Searches

@@ -1,0 +1,23 @@
+//! The layout that a session keeps beside its state, so that a frame need not walk the whole document.
+//!
+//! [`StateCounts`] has what the views of a few files and sections need to know of all others: items,
+//! checked items, lines of the old file and editable sections. A toggle mends it in place.
+//! [`StateRows`] has the rows of each file and section. A fold mends it in place.
+#![tactic(auto)]
+
+pub mod file_counts;
+pub mod file_rows;
+pub mod row_search;
+pub mod section_counts;
+pub mod section_rows;
+pub mod state_counts;
+pub mod state_layout;
+pub mod state_rows;
+
+pub use file_counts::FileCounts;
+pub use file_rows::FileRows;
+pub use section_counts::SectionCounts;
+pub use section_rows::SectionRows;
+pub use state_counts::StateCounts;
+pub use state_layout::Layout;
+pub use state_rows::StateRows;

@@ -1,0 +1,213 @@
+//! The rows of the sections of a file.
+ghost use Rattle.std.specs.Prelude.{◌≡◌, ◌+◌, ◌≤◌, ◌<◌, ◌^◌, drop, false, length, sum_by, if◌then◌else◌};
+ghost use Rattle.scm_types.specs.Limits.{max_items, section_size};
+ghost use Rattle.scm_layout.specs.Lines.{is_changed};
+ghost use Rattle.scm_layout.specs.Rows.{are_all_shown, context_height, dots_height, fold_count, folded_count, height_of, is_expanded, is_first_open, is_open, lines_above, lines_below, sections_height, sections_rows, visible_height};
+
+use scm_selection::key_set::KeySet;
+use scm_types::keys::FileKey;
+use scm_types::{Section, SelectionKey};
+
+/// The rows of a section, counted from the row below the header of its file as if the file were
+/// unfolded.
+#[derive(Clone, Copy, Debug)]
+pub struct SectionRows {
+    /// The first row, or where it would be if the section is not shown.
+    pub top: usize,
+    /// The end of the rows, exclusive; `top` if the section is not shown.
+    pub end: usize,
+}
+
+/// Returns whether all of `count` lines of context are shown in section `index` of `total`.
+fn are_all_shown(total: usize, index: usize, count: usize) -> bool
+    requires { index + 1 < 2 ^ 64 }
+    ensures { result ≡ are_all_shown total index count }
+{
+    let is_first = index == 0;
+    let is_last = index + 1 == total;
+    // `&`: one branch for the prover
+    !is_first & (!is_last & (count <= 6))
+}
+
+/// Returns how many of `count` lines of context are shown above the dots of section `index` of `total`.
+pub fn lines_above(total: usize, index: usize, count: usize) -> usize
+    requires { index + 1 < 2 ^ 64 }
+    ensures lines { result ≡ lines_above total index count }
+    ensures most { result ≤ count }
+{
+    if are_all_shown(total, index, count) {
+        count
+    } else if index == 0 {
+        0
+    } else {
+        count.min(3)
+    }
+}
+
+/// Returns how many rows of dots `count` lines of context have in section `index` of `total`: 0 or 1.
+pub fn dots_height(total: usize, index: usize, count: usize) -> usize
+    requires { index + 1 < 2 ^ 64 }
+    ensures rows { result ≡ dots_height total index count }
+    ensures most { result ≤ 1 }
+{
+    let is_whole = are_all_shown(total, index, count);
+    // `&`: one branch for the prover
+    let has_dots = !is_whole & (count > 3);
+    if has_dots { 1 } else { 0 }
+}
+
+/// Returns how many of `count` lines of context are shown below the dots of section `index` of `total`.
+fn lines_below(total: usize, index: usize, count: usize) -> usize
+    requires { index + 1 < 2 ^ 64 }
+    ensures lines { result ≡ lines_below total index count }
+    ensures most { result ≤ count }
+{
+    if are_all_shown(total, index, count) {
+        0
+    } else if index + 1 == total {
+        0
+    } else {
+        count.min(3)
+    }
+}
+
+/// Returns how many rows `count` lines of context have in section `index` of `total`.
+fn context_height(total: usize, index: usize, count: usize) -> usize
+    requires index { index + 1 < 2 ^ 64 }
+    requires count { count ≤ max_items }
+    ensures { result ≡ context_height total index count }
+{
+    if count == 0 {
+        1
+    } else {
+        let above = lines_above(total, index, count);
+        let dots = dots_height(total, index, count);
+        above + (dots + lines_below(total, index, count))
+    }
+}
+
+/// Returns how many rows section `index` of `total` has if it is shown.
+fn height_of(total: usize, index: usize, is_expanded: bool, section: &Section<'_>) -> usize
+    requires index { index + 1 < 2 ^ 64 }
+    requires size { section_size section.now ≤ max_items }
+    ensures { result ≡ height_of total index is_expanded section.now }
+{
+    match section {
+        Section::Unchanged { lines } => context_height(total, index, lines.len()),
+        Section::Changed { lines } => { if is_expanded { 1 + lines.len() } else { 1 } }
+        Section::FileMode { .. } | Section::Binary { .. } => 1,
+    }
+}
+
+/// Returns whether section `index` of file `key` is unfolded.
+fn is_expanded(set: &KeySet, key: FileKey, index: usize) -> bool
+    ensures { result ≡ is_expanded set.now key index }
+{
+    set.contains(SelectionKey::Section(key.section(index)))
+}
+
+/// Returns whether `section`, which has index `index` in file `key`, is open: editable and unfolded.
+fn is_open(set: &KeySet, key: FileKey, index: usize, section: &Section<'_>) -> bool
+    ensures { result ≡ is_open set.now key index section.now }
+{
+    let is_editable = section.is_editable();
+    // `&`: one branch for the prover
+    is_editable & is_expanded(set, key, index)
+}
+
+/// Returns whether there is section `index` of `sections` and it is open.
+fn is_open_at(set: &KeySet, key: FileKey, index: usize, sections: &[Section<'_>]) -> bool
+    ensures { result ≡ is_first_open set.now key index (drop index sections.now) }
+{
+    if index < sections.len() {
+        is_open(set, key, index, &sections[index])
+    } else {
+        false
+    }
+}
+
+/// Returns how many rows `section` has. It has index `index` of `total` in file `key`; `before` and
+/// `after` say whether the sections above and below it are open.
+fn visible_height(
+    set: &KeySet,
+    key: FileKey,
+    total: usize,
+    index: usize,
+    before: bool,
+    section: &Section<'_>,
+    after: bool,
+) -> usize
+    requires index { index + 1 < 2 ^ 64 }
+    requires size { section_size section.now ≤ max_items }
+    ensures { result ≡ visible_height set.now key total index before section.now after }
+{
+    let is_editable = section.is_editable();
+    // `|`: one branch for the prover
+    let is_visible = is_editable | (before | after);
+    if is_visible {
+        height_of(total, index, is_expanded(set, key, index), section)
+    } else {
+        0
+    }
+}
+
+/// Finds the rows of `sections`, all sections of file `key`, anew. Returns how many rows they have.
+#[tactic(auto, using(scm_types::proofs::LimitLemmas::items_room))]
+pub(crate) fn refold_sections(
+    rows: &mut [SectionRows],
+    set: &KeySet,
+    key: FileKey,
+    sections: &[Section<'_>],
+) -> usize
+    requires lengths { length rows.old ≡ length sections.now }
+    requires fits { length sections.now + sum_by section_size sections.now ≤ max_items }
+    ensures rows { rows.new
+        ≡ sections_rows set.now key (length sections.now) 0 0 false sections.now }
+    ensures height { result
+        ≡ sections_height set.now key (length sections.now) 0 false sections.now }
+{
+    let total = sections.len();
+    let mut top = 0;
+    let mut before = false;
+    for (index, section) in sections.iter().enumerate() {
+        let after = is_open_at(set, key, index + 1, sections);
+        let height = visible_height(set, key, total, index, before, section, after);
+        let end = top + height;
+        rows[index] = SectionRows { top, end };
+        top = end;
+        before = is_open(set, key, index, section);
+    }
+    top
+}
+
+/// Returns whether `section` has changed lines.
+fn is_changed(section: &Section<'_>) -> bool
+    ensures { result ≡ is_changed section.now }
+{
+    match section {
+        Section::Changed { .. } => true,
+        Section::Unchanged { .. } | Section::FileMode { .. } | Section::Binary { .. } => false,
+    }
+}
+
+/// Returns 1 if `section`, which has index `index` in file `key`, has changed lines and is folded, else 0.
+fn fold_count(set: &KeySet, key: FileKey, index: usize, section: &Section<'_>) -> usize
+    ensures count { result ≡ fold_count set.now key index section.now }
+    ensures most { result ≤ 1 }
+{
+    let is_changed = is_changed(section);
+    // `&`: one branch for the prover
+    let is_folded = is_changed & !is_expanded(set, key, index);
+    if is_folded { 1 } else { 0 }
+}
+
+/// Returns how many of `sections`, all sections of file `key`, have changed lines and are folded.
+pub(crate) fn folded_count(set: &KeySet, key: FileKey, sections: &[Section<'_>]) -> usize
+    ensures { result ≡ folded_count set.now key 0 sections.now }
+{
+    let mut folded = 0;
+    for (index, section) in sections.iter().enumerate() {
+        folded += fold_count(set, key, index, section);
+    }
+    folded
+}

@@ -1,0 +1,140 @@
+//! The rows of the files of a state, which each fold keeps.
+ghost use Rattle.std.specs.Prelude.{◌≡◌, ℕ, ◌+◌, ◌-◌, ◌≤◌, ◌<◌, ◌^◌, length, sum_by, IfOk};
+ghost use Rattle.scm_types.specs.Limits.{file_size, max_items};
+ghost use Rattle.scm_layout.specs.Rows.{each_file_rows, restacked, rows_of, stacked};
+ghost use Rattle.scm_layout.specs.Refolds.{AreRowsButFile, AreRowsOfFiles, total_height};
+
+use crate::file_rows::FileRows;
+use scm_selection::key_set::KeySet;
+use scm_types::keys::FileKey;
+use scm_types::{File, Items};
+use std::alloc::{AllocError, Global};
+
+/// The rows of the files of a state.
+#[derive(Debug, Drop)]
+pub struct StateRows {
+    /// The rows of each file.
+    pub files: Items<FileRows>,
+}
+
+/// Moves files one below the other, the first to row `top`. Each keeps its number of rows.
+fn restack(rows: &mut [FileRows], top: usize)
+    requires { top + total_height rows.old < 2 ^ 63 }
+    ensures { rows.new ≡ stacked top rows.old }
+{
+    let mut next = top;
+    let count = rows.len();
+    for index in 0..count {
+        let row = &mut rows[index];
+        let height = row.end.saturating_sub(row.top);
+        row.top = next;
+        row.end = next + height;
+        next += height;
+    }
+}
+
+/// Finds the rows of each of `files` anew, from row 0 on.
+fn refold_files(rows: &mut [FileRows], set: &KeySet, commit_idx: usize, files: &[File<'_>])
+    requires { AreRowsOfFiles rows.old files.now }
+    ensures { rows.new ≡ each_file_rows set.now commit_idx 0 files.now }
+{
+    for (file_idx, file) in files.iter().enumerate() {
+        let key = FileKey {
+            commit_idx,
+            file_idx,
+        };
+        rows[file_idx].refold(set, key, file);
+    }
+}
+
+/// Finds the rows of file `file_idx` of `files` anew, from row 0 on, if there is one.
+fn refold_at(
+    rows: &mut [FileRows],
+    set: &KeySet,
+    commit_idx: usize,
+    files: &[File<'_>],
+    file_idx: usize,
+)
+    requires { AreRowsButFile rows.old set.now commit_idx files.now file_idx }
+    ensures stacked { (top : ℕ) → stacked top rows.new
+        ≡ stacked top (each_file_rows set.now commit_idx 0 files.now) }
+    ensures height { total_height rows.new
+        ≡ total_height (each_file_rows set.now commit_idx 0 files.now) }
+{
+    if file_idx < files.len() {
+        let key = FileKey {
+            commit_idx,
+            file_idx,
+        };
+        rows[file_idx].refold(set, key, &files[file_idx]);
+    }
+}
+
+impl StateRows {
+    /// Returns the rows of `files`, if the first begins on row `top` and the files and sections of
+    /// `set` are unfolded. The sizes of `files` together must be within the limit for a state.
+    ///
+    /// # Errors
+    /// `AllocError`: an allocation failed.
+    pub fn new(
+        alloc: Global,
+        set: &KeySet,
+        commit_idx: usize,
+        top: usize,
+        files: &[File<'_>],
+    ) -> Result<StateRows, AllocError>
+        requires top { top ≤ max_items }
+        requires fits { length files.now + sum_by file_size files.now ≤ max_items }
+        ensures { IfOk result (λ rows. rows ≡ rows_of set.now commit_idx top files.now) }
+    {
+        let mut rows = Vec::with_capacity(alloc, files.len())?;
+        for (file_idx, file) in files.iter().enumerate() {
+            let key = FileKey {
+                commit_idx,
+                file_idx,
+            };
+            rows.push(FileRows::new(alloc, set, key, file)?)?;
+        }
+        restack(rows.as_mut_slice(), top);
+        Ok(StateRows {
+            files: Items::from(rows),
+        })
+    }
+
+    /// Finds all rows of `files` anew after `set` changed, without an allocation.
+    pub fn refold(&mut self, set: &KeySet, commit_idx: usize, top: usize, files: &[File<'_>])
+        requires top { top ≤ max_items }
+        requires rows { AreRowsOfFiles self.old.files files.now }
+        ensures { self.new ≡ rows_of set.now commit_idx top files.now }
+    {
+        refold_files(self.files.as_mut_slice(), set, commit_idx, files);
+        restack(self.files.as_mut_slice(), top);
+    }
+
+    /// Moves the first file to row `top`, and the others below it. Each keeps its number of rows. It
+    /// does not allocate.
+    pub fn restack(&mut self, top: usize)
+        requires { top + total_height self.old.files < 2 ^ 63 }
+        ensures { self.new ≡ restacked top self.old }
+    {
+        restack(self.files.as_mut_slice(), top);
+    }
+
+    /// Finds the rows of file `file_idx` anew after `set` changed for it and its sections, and moves
+    /// the files below it. It does not allocate.
+    pub fn refold_file(
+        &mut self,
+        set: &KeySet,
+        commit_idx: usize,
+        top: usize,
+        files: &[File<'_>],
+        file_idx: usize,
+    )
+        requires top { top ≤ max_items }
+        requires rows { AreRowsButFile self.old.files set.now commit_idx files.now file_idx }
+        ensures { self.new ≡ rows_of set.now commit_idx top files.now }
+    {
+        refold_at(self.files.as_mut_slice(), set, commit_idx, files, file_idx);
+        restack(self.files.as_mut_slice(), top);
+    }
+}

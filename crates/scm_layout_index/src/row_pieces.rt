@@ -1,0 +1,286 @@
+//! The pieces of the file and the section that have a row, found by bisection.
+ghost use Rattle.std.specs.Prelude.{◌≡◌, ◌+◌, ◌<◌, ◌^◌, ◌++◌, OnOk, Some};
+ghost use Rattle.scm_document.specs.PieceOwners.{rows_owner};
+ghost use Rattle.scm_document.specs.Pieces.{files_of, sections_of};
+ghost use Rattle.scm_document.specs.HeaderRects.{pinned_rects};
+ghost use Rattle.scm_layout.specs.Searches.{FilesFollow};
+ghost use Rattle.scm_layout_index.specs.RowPieces.{context_kinds, end_of_files, file_piece, found_list, has_lines, is_wide, kinds_of, piece_at, piece_list, pieces_at, pieces_on, pinned_piece, section_in, section_piece, RowsFit, SectionsFit};
+
+use scm_document::index_pieces::{
+    FilePiece, Piece, RowKinds, SectionPiece, push_pinned, rows_owner,
+};
+use scm_layout::row_search::{file_on, section_on};
+use scm_layout::section_rows::{dots_height, lines_above};
+use scm_layout::{FileRows, SectionRows};
+use scm_types::keys::is_key;
+use scm_types::{File, FileKey, Items, Section, SectionKey, SelectionKey};
+use scm_widgets::ids::ComponentId;
+use scm_widgets::overlay_rects::OverlayRect;
+use std::alloc::AllocError;
+
+/// The pieces that have a row.
+#[derive(Clone, Copy)]
+pub struct RowPieces {
+    /// The file that has the row.
+    pub file: FilePiece,
+    /// Its section that has the row, if the row is not the file's header.
+    pub section: Option<SectionPiece>,
+}
+
+/// Returns the row kinds of section `index` of `total`, which has `count` lines of context.
+fn context_kinds(total: usize, index: usize, count: usize) -> RowKinds
+    requires { index + 1 < 2 ^ 64 }
+    ensures { result ≡ context_kinds total index count }
+{
+    if count == 0 {
+        RowKinds::Context {
+            above: 0,
+            first: 1,
+            lines: 0,
+        }
+    } else {
+        let above = lines_above(total, index, count);
+        RowKinds::Context {
+            above,
+            first: above + dots_height(total, index, count),
+            lines: count,
+        }
+    }
+}
+
+/// Returns the row kinds of `section`, which has index `index` of `total`.
+fn kinds_of(total: usize, index: usize, section: &Section<'_>) -> RowKinds
+    requires { index + 1 < 2 ^ 64 }
+    ensures { result ≡ kinds_of total index section.now }
+{
+    match section {
+        Section::Unchanged { lines } => context_kinds(total, index, lines.len()),
+        Section::Changed { .. } => RowKinds::Changed,
+        Section::FileMode { .. } | Section::Binary { .. } => RowKinds::Mark,
+    }
+}
+
+/// Returns whether `rows` rows of section `index` of `total`, which has `count` lines of context,
+/// are more than its dots.
+fn has_lines(total: usize, index: usize, count: usize, rows: usize) -> bool
+    requires { index + 1 < 2 ^ 64 }
+    ensures { result ≡ has_lines total index count rows }
+{
+    let is_some = count != 0;
+    let dots = dots_height(total, index, count);
+    // `&`: one branch for the prover
+    is_some & (dots < rows)
+}
+
+/// Returns whether section `key` of `total`, which has `rows` rows, owns columns 0 and 1 of them if
+/// `selection` is selected.
+fn is_wide(
+    selection: SelectionKey,
+    total: usize,
+    key: SectionKey,
+    rows: usize,
+    section: &Section<'_>,
+) -> bool
+    requires { key.section_idx + 1 < 2 ^ 64 }
+    ensures { result ≡ is_wide selection total key rows section.now }
+{
+    let is_selected = is_key(SelectionKey::Section(key), selection);
+    match section {
+        Section::Unchanged { lines } => has_lines(total, key.section_idx, lines.len(), rows),
+        // `|`: one branch for the prover
+        Section::Changed { .. } => is_selected | (1 < rows),
+        Section::FileMode { .. } | Section::Binary { .. } => is_selected,
+    }
+}
+
+/// Returns the piece of section `key` of `total`, whose rows `rows` are counted from row `first`,
+/// if `selection` is selected.
+pub(crate) fn section_piece(
+    selection: SelectionKey,
+    total: usize,
+    key: SectionKey,
+    first: usize,
+    rows: SectionRows,
+    section: &Section<'_>,
+) -> SectionPiece
+    requires index { key.section_idx + 1 < 2 ^ 64 }
+    requires top { first + rows.top < 2 ^ 64 }
+    requires end { first + rows.end < 2 ^ 64 }
+    ensures { result ≡ section_piece selection total key first rows section.now }
+{
+    let count = rows.end.saturating_sub(rows.top);
+    SectionPiece {
+        key,
+        top: first + rows.top,
+        end: first + rows.end,
+        is_wide: is_wide(selection, total, key, count, section),
+        kinds: kinds_of(total, key.section_idx, section),
+    }
+}
+
+/// Returns the key of file `index` of the first commit.
+pub(crate) fn file_key(index: usize) -> FileKey
+    ensures { result ≡ record { commit_idx = 0; file_idx = index } }
+{
+    FileKey {
+        commit_idx: 0,
+        file_idx: index,
+    }
+}
+
+/// Returns the piece of file `index`, which has the rows `rows`, if a header may be pinned to row
+/// `pinned`.
+pub(crate) fn file_piece(pinned: usize, index: usize, rows: &FileRows) -> FilePiece
+    ensures { result ≡ file_piece pinned index rows.now }
+{
+    FilePiece {
+        key: file_key(index),
+        top: rows.top,
+        end: rows.end,
+        // `&`: one branch for the prover
+        is_pinned: (rows.top < pinned) & (pinned < rows.end),
+    }
+}
+
+/// Returns the piece of section `section_idx` of `file`, if there is one. The file has index
+/// `index` and the rows `rows`; `selection` is selected.
+fn piece_at(
+    selection: SelectionKey,
+    index: usize,
+    rows: &FileRows,
+    file: &File<'_>,
+    section_idx: usize,
+) -> Option<SectionPiece>
+    requires { SectionsFit rows.now file.now }
+    ensures { result ≡ piece_at selection index rows.now file.now section_idx }
+{
+    let sections = file.sections.as_slice();
+    let own = *rows.sections.as_slice().get(section_idx)?;
+    let section = sections.get(section_idx)?;
+    let key = file_key(index).section(section_idx);
+    let total = sections.len();
+    Some(section_piece(selection, total, key, rows.top + 1, own, section))
+}
+
+/// Returns the piece of the section of `file` that has row `row` of the document, if any. The file
+/// has index `index` and the rows `rows`; `selection` is selected.
+fn section_in(
+    selection: SelectionKey,
+    index: usize,
+    rows: &FileRows,
+    file: &File<'_>,
+    row: usize,
+) -> Option<SectionPiece>
+    requires { SectionsFit rows.now file.now }
+    ensures { result ≡ section_in selection index rows.now file.now row }
+{
+    if row <= rows.top {
+        return None;
+    }
+    let first = rows.top + 1;
+    let found = section_on(rows.sections.as_slice(), row - first)?;
+    piece_at(selection, index, rows, file, found)
+}
+
+/// Returns the pieces of file `index` of `files` and of its section that has row `row`, if there is
+/// such a file. The files have the rows `rows`, a header may be pinned to row `pinned`, and
+/// `selection` is selected.
+fn pieces_at(
+    selection: SelectionKey,
+    pinned: usize,
+    rows: &[FileRows],
+    files: &[File<'_>],
+    row: usize,
+    index: usize,
+) -> Option<RowPieces>
+    requires { RowsFit rows.now files.now }
+    ensures { result ≡ pieces_at selection pinned row rows.now files.now index }
+{
+    let file_rows = rows.get(index)?;
+    let file = files.get(index)?;
+    Some(RowPieces {
+        file: file_piece(pinned, index, file_rows),
+        section: section_in(selection, index, file_rows, file, row),
+    })
+}
+
+/// Returns the pieces that have row `row` of the document, if any. `files` have the rows `rows`, a
+/// header may be pinned to row `pinned`, and `selection` is selected.
+pub(crate) fn pieces_on(
+    selection: SelectionKey,
+    pinned: usize,
+    rows: &[FileRows],
+    files: &[File<'_>],
+    row: usize,
+) -> Option<RowPieces>
+    requires { RowsFit rows.now files.now }
+    ensures { result ≡ pieces_on selection pinned row rows.now files.now }
+{
+    let index = file_on(rows, row)?;
+    pieces_at(selection, pinned, rows, files, row, index)
+}
+
+/// Returns the owner of `row` and `column` among the pieces `found`, if any. The screen has `width`
+/// columns.
+pub(crate) fn owner_among(
+    width: usize,
+    found: &RowPieces,
+    row: usize,
+    column: usize,
+) -> Option<ComponentId>
+    ensures { result ≡ rows_owner width (files_of (found_list (Some found.now)))
+        (sections_of (found_list (Some found.now))) row column }
+{
+    let file = Piece::File(found.file);
+    match found.section {
+        None => rows_owner(width, &[file], row, column),
+        Some(section) => {
+            let pieces = [file, Piece::Section(section)];
+            rows_owner(width, &pieces, row, column)
+        }
+    }
+}
+
+/// Returns the piece of the file that has row `row`, to which a header may be pinned, if there is
+/// one. The files have the rows `files`.
+fn pinned_piece(row: usize, files: &[FileRows]) -> Option<Piece>
+    requires { FilesFollow files.now }
+    ensures { result ≡ pinned_piece row files.now }
+{
+    let index = file_on(files, row)?;
+    let rows = files.get(index)?;
+    Some(Piece::File(file_piece(row, index, rows)))
+}
+
+/// Adds to `rects` the overlay rectangles of the header that is pinned to row `row`, if there is
+/// one. The files have the rows `files`, and the screen has `width` columns.
+///
+/// # Errors
+/// `AllocError`: an allocation failed.
+pub(crate) fn push_pinned_on(
+    rects: &mut Vec<OverlayRect>,
+    width: usize,
+    row: usize,
+    files: &[FileRows],
+) -> Result<(), AllocError>
+    requires width { width < 2 ^ 63 }
+    requires row { row < 2 ^ 63 }
+    requires follow { FilesFollow files.now }
+    ensures ok { OnOk result (rects.new.items ≡ rects.old.items
+        ++ pinned_rects width row (files_of (piece_list (pinned_piece row files.now)))) }
+{
+    match pinned_piece(row, files) {
+        None => Ok(()),
+        Some(piece) => push_pinned(rects, width, row, &[piece]),
+    }
+}
+
+/// Returns the row below files with the rows `rows`, or `top` if there are none.
+pub(crate) fn end_of_files(top: usize, rows: &Items<FileRows>) -> usize
+    ensures { result ≡ end_of_files top rows.now }
+{
+    match rows.last() {
+        None => top,
+        Some(file) => file.end,
+    }
+}

@@ -1,0 +1,2 @@
+-- the counts and rows of a session are those of its views
+pub mod ViewLemmas

@@ -1,0 +1,162 @@
+-- The view of a section of a file, by the counts of the layout.
+use Rattle.std.proofs.Common.{◌≡◌, ℕ, zero, suc, ◌+◌, ◌<◌, ◌≤◌, Bool, true, false, not, ◌&&◌, List, [], ◌∷◌, length, get_or, refl, sym, ap, ap₂, subst, ◌∙◌, arith}
+use Rattle.std.specs.Prelude.{sum_by, map, nat_eq, if◌then◌else◌}
+use Rattle.std.proofs.lemmas.Bool.Decides.{nat_tests}
+use Rattle.std.proofs.lemmas.List.Sums.{sum_by-cons}
+use Rattle.scm_types.specs.declared.file.File.{File}
+use Rattle.scm_types.specs.declared.keys.FileKey.{FileKey}
+use Rattle.scm_types.specs.declared.section.Section.{Section}
+use Rattle.scm_types.specs.declared.section.Section.TheVariants.{Unchanged, Changed, FileMode, Binary}
+use Rattle.scm_types.specs.Keys.{section_key_of}
+use Rattle.scm_types.specs.Marks.{is_editable_section}
+use Rattle.scm_document.specs.declared.file_view.FileView.{FileView}
+use Rattle.scm_document.specs.declared.section_view.SectionView.{SectionView}
+use Rattle.scm_view.specs.ViewState.{Totals, ViewState, are_all_expanded, is_changed, old_lines, section_view_of, section_views_of}
+use Rattle.scm_layout.specs.declared.file_counts.FileCounts.{FileCounts}
+use Rattle.scm_layout.specs.declared.section_counts.SectionCounts.{SectionCounts}
+use Rattle.scm_layout.specs.Counts.{file_counts, section_counts, sections_counts}
+use Rattle.scm_layout.specs.Lines.{is_changed as changed, old_lines as lines_of}
+use Rattle.scm_layout.specs.Rows.{file_key_of, folded_count, is_expanded}
+use Rattle.scm_view_state.specs.declared.stretches.Stretch.{Stretch}
+use Rattle.scm_view_state.specs.Stretches.{file_part_of, file_parts_of, is_unfolded, section_range}
+use Rattle.scm_view_state.proofs.FilePartLemmas.{range_by}
+
+same-lines : (x : Section) → lines_of x ≡ old_lines x
+same-lines (Unchanged lines) = refl
+same-lines (Changed lines) = refl
+same-lines (FileMode is_checked mode) = refl
+same-lines (Binary is_checked old new) = refl
+
+-- section x with index n has the counts c and the view v
+pub record IsCounted (s : ViewState) (t : Totals) (k : FileKey) (editable lines : ℕ) (n : ℕ) (x : Section) (c : SectionCounts) (v : SectionView) : Type 0 where
+  pub counts : c ≡ section_counts c.editable_before c.lines_before x
+  pub view : v ≡ section_view_of s t (section_key_of k n) c.editable_before c.lines_before x
+  pub before : c.editable_before ≤ editable
+  pub above : c.lines_before ≤ lines
+
+editable-more : (b : Bool) (n : ℕ) → (if b then n + 1 else n) ≤ n + 1
+editable-more true n = omega arith
+editable-more false n = omega arith
+
+counted-at : (s : ViewState) (t : Totals) (k : FileKey) (i editable line line' n : ℕ) (dx : Section) (dc : SectionCounts) (dv : SectionView) (xs : List Section) → line' ≡ line → n < length xs
+    → IsCounted s t k (editable + n) (line + sum_by old_lines xs) (i + n) (get_or xs n dx) (get_or (sections_counts editable line' xs) n dc) (get_or (section_views_of s t k i editable line xs) n dv)
+unfolding sections_counts section_views_of
+counted-at s t k i editable line line' n dx dc dv [] e h = absurd (omega (arith, h))
+counted-at s t k i editable line line' zero dx dc dv (x ∷ xs) e h =
+    let same : i ≡ i + 0 = omega arith in
+    record {
+      counts = refl;
+      view = ap₂ (λ l j. section_view_of s t (section_key_of k j) editable l x) (sym e) same;
+      before = omega arith;
+      above = omega (arith, e);
+    }
+counted-at s t k i editable line line' (suc n) dx dc dv (x ∷ xs) e h =
+    let editable' = if is_editable_section x then editable + 1 else editable in
+    let lines = same-lines x in
+    let rest = counted-at s t k (suc i) editable' (line + old_lines x) (line' + lines_of x) n dx dc dv xs (omega (arith, e, lines)) (omega (arith, h)) in
+    let next : suc i + n ≡ i + suc n = omega arith in
+    let more = editable-more (is_editable_section x) editable in
+    let all = sum_by-cons old_lines x xs in
+    let b = rest.before in
+    let a = rest.above in
+    record {
+      counts = rest.counts;
+      view = rest.view ∙ ap (λ j. section_view_of s t (section_key_of k j) (get_or (sections_counts editable' (line' + lines_of x) xs) n dc).editable_before (get_or (sections_counts editable' (line' + lines_of x) xs) n dc).lines_before (get_or xs n dx)) next;
+      before = omega (arith, b, more);
+      above = omega (arith, a, all);
+    }
+
+-- section n of a file
+pub section-at : (s : ViewState) (t : Totals) (k : FileKey) (n : ℕ) (dx : Section) (dc : SectionCounts) (dv : SectionView) (xs : List Section) → n < length xs
+    → IsCounted s t k n (sum_by old_lines xs) n (get_or xs n dx) (get_or (sections_counts 0 0 xs) n dc) (get_or (section_views_of s t k 0 0 0 xs) n dv)
+section-at s t k n dx dc dv xs h =
+    let r = counted-at s t k 0 0 0 0 n dx dc dv xs refl h in
+    let zero_and : 0 + n ≡ n = omega arith in
+    let b = r.before in
+    let a = r.above in
+    record {
+      counts = r.counts;
+      view = r.view ∙ ap (λ j. section_view_of s t (section_key_of k j) (get_or (sections_counts 0 0 xs) n dc).editable_before (get_or (sections_counts 0 0 xs) n dc).lines_before (get_or xs n dx)) zero_and;
+      before = omega (arith, b);
+      above = omega (arith, a);
+    }
+
+pub counts-length : (editable lines : ℕ) (xs : List Section) → length (sections_counts editable lines xs) ≡ length xs
+unfolding sections_counts
+counts-length editable lines [] = refl
+counts-length editable lines (x ∷ xs) = ap suc (counts-length (if is_editable_section x then editable + 1 else editable) (lines + lines_of x) xs)
+
+-- ---- files
+
+pub part-at : (s : ViewState) (st : Stretch) (i n : ℕ) (df : File) (dv : FileView) (fs : List File) → n < length fs
+    → get_or (file_parts_of s st i fs) n dv ≡ file_part_of s (file_key_of 0 (i + n)) (section_range (is_unfolded s (i + n)) st (i + n) (length (get_or fs n df).sections)) (get_or fs n df)
+unfolding file_parts_of
+part-at s st i n df dv [] h = absurd (omega (arith, h))
+part-at s st i zero df dv (f ∷ fs) h =
+    let same : i ≡ i + 0 = omega arith in
+    ap (λ j. file_part_of s (file_key_of 0 j) (section_range (is_unfolded s j) st j (length f.sections)) f) same
+part-at s st i (suc n) df dv (f ∷ fs) h =
+    let next : suc i + n ≡ i + suc n = omega arith in
+    part-at s st (suc i) n df dv fs (omega (arith, h))
+    ∙ ap (λ j. file_part_of s (file_key_of 0 j) (section_range (is_unfolded s j) st j (length (get_or fs n df).sections)) (get_or fs n df)) next
+
+pub parts-length : (s : ViewState) (st : Stretch) (i : ℕ) (fs : List File) → length (file_parts_of s st i fs) ≡ length fs
+unfolding file_parts_of
+parts-length s st i [] = refl
+parts-length s st i (f ∷ fs) = ap suc (parts-length s st (suc i) fs)
+
+pub counts-at : (n : ℕ) (df : File) (dc : FileCounts) (fs : List File) → n < length fs → get_or (map file_counts fs) n dc ≡ file_counts (get_or fs n df)
+counts-at n df dc [] h = absurd (omega (arith, h))
+counts-at zero df dc (f ∷ fs) h = refl
+counts-at (suc n) df dc (f ∷ fs) h = counts-at n df dc fs (omega (arith, h))
+
+-- ---- folds
+
+count-step : (changed_lines unfolded more : Bool) (n : ℕ) → more ≡ nat_eq n 0 → ((if changed_lines then unfolded else true) && more) ≡ nat_eq ((if changed_lines && not unfolded then 1 else 0) + n) 0
+count-step true true more n e = grind (arith, nat_tests)
+count-step true false more n e = grind (arith, nat_tests)
+count-step false unfolded more n e = grind (arith, nat_tests)
+
+same-changed : (x : Section) → is_changed x ≡ changed x
+same-changed (Unchanged lines) = refl
+same-changed (Changed lines) = refl
+same-changed (FileMode is_checked mode) = refl
+same-changed (Binary is_checked old new) = refl
+
+pub folds-counted : (s : ViewState) (k : FileKey) (i : ℕ) (xs : List Section) → are_all_expanded s k i xs ≡ nat_eq (folded_count s.expanded k i xs) 0
+unfolding are_all_expanded folded_count
+folds-counted s k i [] = refl
+folds-counted s k i (x ∷ xs) = ap (λ b. (if b then is_expanded s.expanded k i else true) && are_all_expanded s k (suc i) xs) (same-changed x)
+    ∙ count-step (changed x) (is_expanded s.expanded k i) (are_all_expanded s k (suc i) xs) (folded_count s.expanded k (suc i) xs) (folds-counted s k (suc i) xs)
+
+-- an element within a list is the same with any default
+pub get-any : {A : Type 0} (n : ℕ) (d e : A) (xs : List A) → n < length xs → get_or xs n d ≡ get_or xs n e
+get-any n d e [] h = absurd (omega (arith, h))
+get-any zero d e (x ∷ xs) h = refl
+get-any (suc n) d e (x ∷ xs) h = get-any n d e xs (omega (arith, h))
+
+-- the end of a range is within a file
+pub range-within : (unfolded is_first is_last : Bool) (a e n : ℕ) → (is_last ≡ true → e ≤ n) → (range_by unfolded is_first is_last a e n).end ≤ n
+range-within true is_first true a e n h = h refl
+range-within true is_first false a e n h = omega arith
+range-within false is_first is_last a e n h = omega arith
+
+-- section x, with index n, has the counts c and the view that these give
+pub record IsCountedHere (s : ViewState) (t : Totals) (k : FileKey) (n : ℕ) (xs : List Section) (x : Section) (c : SectionCounts) : Type 0 where
+  pub counts : c ≡ section_counts c.editable_before c.lines_before x
+  pub view : (d : SectionView) → get_or (section_views_of s t k 0 0 0 xs) n d ≡ section_view_of s t (section_key_of k n) c.editable_before c.lines_before x
+  pub before : c.editable_before ≤ n
+  pub above : c.lines_before ≤ sum_by old_lines xs
+
+pub counted-here : (s : ViewState) (t : Totals) (k : FileKey) (n : ℕ) (xs : List Section) (ns : List SectionCounts) (x : Section) (d c : SectionCounts) → ns ≡ sections_counts 0 0 xs → n < length xs
+    → x ≡ get_or xs n x → c ≡ get_or ns n d → IsCountedHere s t k n xs x c
+counted-here s t k n xs ns x d c e h is_x is_c =
+    let here : get_or (sections_counts 0 0 xs) n d ≡ c = sym (is_c ∙ ap (λ (ms : List SectionCounts). get_or ms n d) e) in
+    from (get_or xs n x) (get_or (sections_counts 0 0 xs) n d) (sym is_x) here (λ v. section-at s t k n x d v xs h)
+  where
+    from : (y : Section) (m : SectionCounts) → y ≡ x → m ≡ c → ((d : SectionView) → IsCounted s t k n (sum_by old_lines xs) n y m (get_or (section_views_of s t k 0 0 0 xs) n d)) → IsCountedHere s t k n xs x c
+    from y m p q at =
+        let is = λ (d : SectionView). subst (λ (z : Section). IsCounted s t k n (sum_by old_lines xs) n z c (get_or (section_views_of s t k 0 0 0 xs) n d)) p
+        (subst (λ (l : SectionCounts). IsCounted s t k n (sum_by old_lines xs) n y l (get_or (section_views_of s t k 0 0 0 xs) n d)) q (at d)) in
+        let one = is (section_view_of s t (section_key_of k n) 0 0 x) in
+        record { counts = one.counts; view = λ d. (is d).view; before = one.before; above = one.above }

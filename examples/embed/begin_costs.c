@@ -1,0 +1,97 @@
+/* begin_costs calls|lines|json LINES: begins a session over LINES changed lines, by one call for all of them (`calls`), by a call
+ * for each (`lines`), or over the JSON form (`json`). It prints the bytes of the texts, the milliseconds from the first call until
+ * the session waits, and the most bytes of memory that the library had taken at once meanwhile, with 8 bytes for each block. The
+ * status is 1 if that is more than three times the bytes of the texts and 64 bytes for each line. Link it with
+ * -Wl,--wrap=malloc,--wrap=realloc,--wrap=free. */
+#define _XOPEN_SOURCE 700
+#include "scm.h"
+
+#include <malloc.h>
+#include <stdio.h>
+#include <stdlib.h>
+#include <string.h>
+#include <time.h>
+
+enum { LONGEST_LINE = 120 };
+
+static size_t in_use, most_in_use;
+
+extern void *__real_malloc(size_t size);
+extern void *__real_realloc(void *block, size_t size);
+extern void __real_free(void *block);
+
+static void *taken(void *block) {
+    in_use += block ? malloc_usable_size(block) + sizeof(size_t) : 0;
+    most_in_use = in_use > most_in_use ? in_use : most_in_use;
+    return block;
+}
+
+static void given_back(void *block) { in_use -= block ? malloc_usable_size(block) + sizeof(size_t) : 0; }
+
+void *__wrap_malloc(size_t size) { return taken(__real_malloc(size)); }
+
+void *__wrap_realloc(void *block, size_t size) {
+    given_back(block);
+    return taken(__real_realloc(block, size));
+}
+
+void __wrap_free(void *block) {
+    given_back(block);
+    __real_free(block);
+}
+
+static double now(void) {
+    struct timespec time;
+    clock_gettime(CLOCK_MONOTONIC, &time);
+    return (double)time.tv_sec * 1e3 + (double)time.tv_nsec / 1e6;
+}
+
+static char *add_line(char *end, size_t number, bool is_json) {
+    const char *form = is_json ? "%s{\"is_checked\":false,\"change_type\":\"Added\",\"line\":\"    let line_%zu = read(input)?;\\n\"}" : "%s    let line_%zu = read(input)?;\n";
+    return end + sprintf(end, form, is_json && number ? "," : "", number);
+}
+
+/* The text of the lines, or the JSON form of the state. */
+static char *text_of(size_t lines, bool is_json) {
+    char *text = malloc(lines * LONGEST_LINE + 200), *end = text;
+    if (is_json) {
+        end += sprintf(end, "{\"is_read_only\":false,\"commits\":[],\"files\":[{\"old_path\":null,\"path\":\"f\",\"file_mode\":{\"Unix\":33188},"
+                            "\"sections\":[{\"Changed\":{\"lines\":[");
+    }
+    for (size_t i = 0; i < lines; i++) {
+        end = add_line(end, i, is_json);
+    }
+    strcpy(end, is_json ? "]}}]}]}" : "");
+    return text;
+}
+
+static bool add_lines(scm_session *session, const char *text, size_t length, bool is_each) {
+    while (is_each && length > 0) {
+        size_t line = (size_t)((const char *)memchr(text, '\n', length) + 1 - text);
+        if (scm_state_changes(session, true, false, text, line) != SCM_DONE) {
+            return false;
+        }
+        text += line, length -= line;
+    }
+    return scm_state_changes(session, true, false, text, length) == SCM_DONE;
+}
+
+int main(int argc, char **argv) {
+    scm_session session = {0};
+    size_t lines = argc == 3 ? strtoul(argv[2], NULL, 10) : 0;
+    bool is_json = argc == 3 && strcmp(argv[1], "json") == 0;
+    char *text = text_of(lines, false), *given = is_json ? text_of(lines, true) : text;
+    size_t length = strlen(text), before = in_use;
+    most_in_use = in_use;
+    double begun = now();
+    bool is_well = is_json ? scm_new(&session, given, strlen(given), 80, 24) == SCM_DONE
+        : scm_state_new(&session, false) == SCM_DONE && scm_state_file(&session, "f", 1, "", 0, 0100644) == SCM_DONE
+            && add_lines(&session, text, length, argc == 3 && strcmp(argv[1], "lines") == 0)
+            && scm_begin(&session, 80, 24) == SCM_DONE;
+    double ended = now();
+    size_t most = most_in_use - before, limit = 3 * length + 64 * lines;
+    printf("%s: %zu lines, %zu bytes, %.1f ms, %zu bytes of memory, with a limit of %zu\n", argc == 3 ? argv[1] : "", lines, length,
+           ended - begun, most, limit);
+    scm_free(&session);
+    return is_well && (is_json || most <= limit) ? 0 : 1;
+}

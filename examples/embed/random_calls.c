@@ -1,0 +1,300 @@
+/* random_calls COUNT SEED: makes COUNT random calls of the library for C, and holds each answer to what scm.h says of it.
+ *
+ * The calls are of every kind, at every stage: half-made states, words and bytes of terminals, clicks, sizes from 0 on, answers,
+ * buffers that are too short, and some are made while memory is refused. A call that is refused must leave the state as it was:
+ * the answers about it are compared. It prints how many calls had each code, and stops at the first answer that is otherwise. */
+#undef NDEBUG
+#include "scm.h"
+
+#include <assert.h>
+#include <inttypes.h>
+#include <stdio.h>
+#include <stdlib.h>
+#include <string.h>
+
+enum { CODES = 10, ROOM = 4096, LONGEST = 1000000, GUARD = 0x5a };
+
+static volatile uint32_t refused_after; /* 0: no request for memory is refused, 1: the next one, and so on */
+
+/* Memory is refused if this is linked with -Wl,--wrap=malloc,--wrap=realloc. */
+#ifdef WRAPPED
+enum { CAN_REFUSE = true };
+extern void *__real_malloc(size_t size);
+extern void *__real_realloc(void *block, size_t size);
+static bool is_refused(void) { return refused_after > 0 && --refused_after == 0; }
+void *__wrap_malloc(size_t size) { return is_refused() ? NULL : __real_malloc(size); }
+void *__wrap_realloc(void *block, size_t size) { return is_refused() ? NULL : __real_realloc(block, size); }
+#else
+enum { CAN_REFUSE = false };
+#endif
+
+static scm_session session;
+static uint64_t seed;
+static unsigned long counts[CODES];
+static bool may_lack_memory;
+static char long_text[LONGEST + 2];
+
+static uint32_t random_below(uint32_t limit) {
+    seed = seed * 6364136223846793005u + 1442695040888963407u;
+    return (uint32_t)(seed >> 33) % limit;
+}
+
+/* What the state's answers are, as one number. */
+static uint64_t mixed(uint64_t sum, const void *data, size_t length) {
+    const unsigned char *bytes = data;
+    for (size_t i = 0; i < length; i++) {
+        sum = (sum ^ bytes[i]) * 1099511628211u;
+    }
+    return sum;
+}
+
+/* Looks that a buffer is written up to `length` or its end, and not behind that. */
+static void check_buffer(const char *out, size_t room, size_t length, bool is_written) {
+    size_t end = is_written ? (length < room ? length : room) : 0;
+    for (size_t i = end; i < ROOM; i++) {
+        assert(out[i] == GUARD);
+    }
+}
+
+static uint64_t side_sum(uint64_t sum, size_t file, bool selected) {
+    static char out[ROOM];
+    scm_side_info side = {77, 77, 77};
+    memset(out, GUARD, sizeof out);
+    uint32_t code = scm_side(&session, file, selected, out, ROOM, &side);
+    assert(code == SCM_DONE);
+    assert(side.contents <= SCM_SIDE_BINARY && (side.length == 0 || side.contents == SCM_SIDE_TEXT));
+    check_buffer(out, ROOM, side.length, true);
+    sum = mixed(sum, &side.contents, sizeof side.contents);
+    sum = mixed(mixed(sum, &side.mode, sizeof side.mode), &side.length, sizeof side.length);
+    return mixed(sum, out, side.length < ROOM ? side.length : ROOM);
+}
+
+static uint64_t marks_sum(uint64_t sum, size_t file) {
+    uint32_t mark = 77;
+    scm_key key = {0, file, SCM_NO_INDEX, SCM_NO_INDEX};
+    assert(scm_mark(&session, &key, &mark) == SCM_DONE && mark <= SCM_CHECKED);
+    sum = mixed(sum, &mark, sizeof mark);
+    for (key.section = 0; key.section < 4; key.section++) {
+        for (key.line = 0; key.line < 4; key.line++) {
+            uint32_t code = scm_mark(&session, &key, &mark);
+            assert(code == SCM_DONE || code == SCM_NO_ITEM);
+            sum = mixed(mixed(sum, &code, sizeof code), &mark, sizeof mark);
+        }
+    }
+    return sum;
+}
+
+/* What can be asked of a session: its stage, and of its state the files, sides, marks and messages. */
+static uint64_t asked(void) {
+    uint32_t stage = scm_stage(&session), code;
+    uint64_t sum = mixed(0, &stage, sizeof stage);
+    size_t count = 77, length;
+    char out[ROOM];
+    code = scm_files(&session, &count);
+    bool has_state = stage == SCM_BUILDING || stage == SCM_WAITING || stage == SCM_ACCEPTED;
+    assert(code == (has_state ? SCM_DONE : stage == SCM_NONE ? SCM_CLOSED : SCM_NOT_NOW) && (has_state || count == 77));
+    for (size_t file = 0; has_state && file < count && file < 3; file++) {
+        sum = marks_sum(side_sum(side_sum(sum, file, true), file, false), file);
+    }
+    for (size_t commit = 0; has_state && commit < 3; commit++) {
+        code = scm_message(&session, commit, out, sizeof out, &length);
+        assert(code == SCM_DONE || code == SCM_NO_ITEM);
+        sum = code == SCM_DONE ? mixed(sum, out, length < sizeof out ? length : sizeof out) : mixed(sum, &code, sizeof code);
+    }
+    return mixed(sum, &count, sizeof count);
+}
+
+/* Counts a code, which has to be one of these, or SCM_NO_MEMORY while memory may be refused. */
+static uint32_t one_of(uint32_t code, uint32_t a, uint32_t b, uint32_t c) {
+    assert(code == a || code == b || code == c || (may_lack_memory && code == SCM_NO_MEMORY));
+    counts[code]++;
+    return code;
+}
+
+/* A text of up to eight pieces, some of which are no UTF-8. */
+static size_t random_text(char *text) {
+    static const char *const pieces[] = {"a", "line\n", "\n", "wide \xe6\x97\xa5\n", "\xff", "\t", "e\xcc\x81", "\x1b[31m", "x y z\n", "+", "\xf0\x9f\x98\x80\n"};
+    size_t length = 0;
+    for (uint32_t i = random_below(8); i > 0; i--) {
+        const char *piece = pieces[random_below(sizeof pieces / sizeof *pieces)];
+        memcpy(text + length, piece, strlen(piece));
+        length += strlen(piece);
+    }
+    return length;
+}
+
+static bool is_utf8(const char *text, size_t length) { return memchr(text, 0xff, length) == NULL; }
+
+/* The code of an addition with these texts, if memory is there: `is_long` is whether one is too long. */
+static uint32_t addition_code(bool is_text, bool needs_file, bool is_long) {
+    uint32_t stage = scm_stage(&session);
+    size_t count = 0;
+    if (!is_text) {
+        return SCM_NOT_TEXT;
+    }
+    if (stage != SCM_BUILDING) {
+        return stage == SCM_NONE ? SCM_CLOSED : SCM_NOT_NOW;
+    }
+    scm_files(&session, &count);
+    return needs_file && count == 0 ? SCM_NO_ITEM : is_long ? SCM_TOO_LONG : SCM_DONE;
+}
+
+static uint32_t add_lines(void) {
+    char text[ROOM];
+    size_t length = random_text(text);
+    const char *given = text;
+    bool is_long = random_below(200) == 0;
+    if (is_long) {
+        given = long_text, length = LONGEST + 1;
+    }
+    uint32_t wanted = addition_code(is_utf8(given, length), true, is_long);
+    uint32_t code = random_below(2) ? scm_state_context(&session, given, length)
+                                    : scm_state_changes(&session, random_below(2), random_below(2), given, length);
+    return one_of(code, wanted, wanted, wanted);
+}
+
+static uint32_t add_other(void) {
+    char one[ROOM], two[ROOM];
+    size_t first = random_text(one), second = random_text(two);
+    bool both = is_utf8(one, first) && is_utf8(two, second);
+    uint32_t wanted = addition_code(true, true, false);
+    size_t mode = random_below(4) ? 0100644 + random_below(2) * 0111 : SCM_ABSENT;
+    switch (random_below(6)) {
+    case 0: return one_of(scm_state_section(&session, random_below(2)), wanted, wanted, wanted);
+    case 1: return one_of(scm_state_mode(&session, random_below(2), mode), wanted, wanted, wanted);
+    case 2:
+        wanted = addition_code(both, true, false);
+        return one_of(scm_state_binary(&session, random_below(2), one, first, two, second), wanted, wanted, wanted);
+    case 3:
+        wanted = addition_code(is_utf8(one, first), false, false);
+        return one_of(scm_state_message(&session, one, first), wanted, wanted == SCM_DONE ? SCM_NOT_ACCEPTED : wanted, wanted);
+    case 4:
+        wanted = addition_code(true, false, false);
+        return one_of(scm_state_commit(&session), wanted, wanted == SCM_DONE ? SCM_NOT_ACCEPTED : wanted, wanted);
+    default:
+        wanted = addition_code(both, false, false);
+        return one_of(scm_state_file(&session, one, first, two, second, mode), wanted, wanted, wanted);
+    }
+}
+
+static uint32_t code_at(uint32_t stage) {
+    uint32_t now = scm_stage(&session);
+    return now == stage ? SCM_DONE : now == SCM_NONE ? SCM_CLOSED : SCM_NOT_NOW;
+}
+
+static uint32_t begin(void) {
+    uint32_t wanted = code_at(SCM_BUILDING);
+    return one_of(scm_begin(&session, (uint16_t)random_below(90), (uint16_t)random_below(30)), wanted, wanted, wanted);
+}
+
+static uint32_t input(void) {
+    static const char *const words[] = {"j", "k", "l", "h", "space", "enter", "a", "shift-A", "f", "shift-F", "e", "c", "q", "?", "esc",
+                                        "none", "view", "ensure", "pagedown", "ctrl-d", "click:3:4", "click:0:2", "no word", "\xff"};
+    char text[ROOM];
+    size_t length = random_text(text);
+    uint32_t wanted = code_at(SCM_WAITING), which = random_below(sizeof words / sizeof *words);
+    switch (random_below(6)) {
+    case 0: return one_of(scm_type(&session, text, length), wanted, wanted, wanted);
+    case 1: return one_of(scm_idle(&session), wanted, wanted, wanted);
+    case 2: return one_of(scm_click(&session, (uint16_t)random_below(40), (uint16_t)random_below(100)), wanted, wanted, wanted);
+    case 3: return one_of(scm_resize(&session, (uint16_t)random_below(90), (uint16_t)random_below(30)), wanted, wanted, wanted);
+    default:
+        wanted = which >= sizeof words / sizeof *words - 2 ? SCM_NO_WORD : wanted;
+        return one_of(scm_press(&session, words[which], strlen(words[which])), wanted, wanted, wanted);
+    }
+}
+
+static uint32_t answer(void) {
+    char text[ROOM];
+    size_t length = random_text(text);
+    bool is_long = random_below(50) == 0;
+    uint32_t wanted = is_long ? SCM_TOO_LONG : !is_utf8(text, length) ? SCM_NOT_TEXT : code_at(SCM_EDITING);
+    return one_of(is_long ? scm_answer(&session, long_text, LONGEST + 1) : scm_answer(&session, text, length), wanted, wanted, wanted);
+}
+
+/* Reads into a buffer that may be too short. */
+static uint32_t read_out(void) {
+    static char out[ROOM];
+    size_t room = random_below(2) ? random_below(200) : ROOM, length = 77;
+    uint32_t stage = scm_stage(&session), wanted = stage == SCM_NONE ? SCM_CLOSED : SCM_DONE;
+    scm_key key;
+    memset(out, GUARD, sizeof out);
+    uint32_t which = random_below(4), code;
+    if (which == 0) {
+        code = one_of(scm_text(&session, out, room, &length), wanted, wanted, wanted);
+    } else if (which == 1) {
+        wanted = code_at(SCM_WAITING);
+        code = one_of(scm_paint(&session, out, room, &length), wanted, wanted, wanted);
+        check_buffer(out, room, length, code == SCM_DONE && length <= room);
+    } else if (which == 2) {
+        code = one_of(scm_repaint(&session), wanted, wanted, wanted);
+        return code;
+    } else {
+        uint32_t owner = scm_owner(&session, (uint16_t)random_below(40), (uint16_t)random_below(100), &key);
+        assert(owner <= SCM_FILE_EDGE && (stage == SCM_WAITING || owner == SCM_NOBODY));
+        length = scm_symbol(&session, (uint16_t)random_below(40), (uint16_t)random_below(100), out, room);
+        check_buffer(out, room, length, true);
+        assert(stage == SCM_WAITING || length == 0);
+        counts[SCM_DONE]++;
+        return SCM_DONE;
+    }
+    if (which == 0) {
+        check_buffer(out, room, length, code == SCM_DONE);
+    }
+    assert(code == SCM_DONE || length == 77);
+    return code;
+}
+
+/* A call that opens or closes a session. Returns whether what was asked before still counts. */
+static void open_or_close(void) {
+    static const char json[] = "{\"is_read_only\":false,\"commits\":[{\"message\":\"m\"}],\"files\":[{\"old_path\":null,\"path\":\"p\","
+                               "\"file_mode\":\"Absent\",\"sections\":[{\"Changed\":{\"lines\":[{\"is_checked\":true,\"change_type\":\"Added\","
+                               "\"line\":\"x\\n\"}]}}]}]}";
+    uint32_t which = random_below(4), code = SCM_DONE;
+    if (which == 0) {
+        scm_free(&session);
+        assert(scm_stage(&session) == SCM_NONE);
+    } else if (which == 1) {
+        code = one_of(scm_new(&session, json, sizeof json - 1 - random_below(2), 40, 10), SCM_DONE, SCM_BAD_STATE, SCM_DONE);
+        assert(scm_stage(&session) == (code == SCM_DONE ? SCM_WAITING : SCM_NONE));
+    } else {
+        code = one_of(scm_state_new(&session, random_below(4) == 0), SCM_DONE, SCM_DONE, SCM_DONE);
+        assert(scm_stage(&session) == (code == SCM_DONE ? SCM_BUILDING : SCM_NONE));
+    }
+    counts[SCM_DONE] += which == 0;
+}
+
+static void random_call(void) {
+    uint32_t kind = random_below(100);
+    uint64_t before = asked();
+    may_lack_memory = CAN_REFUSE && random_below(8) == 0;
+    refused_after = may_lack_memory ? 1 + random_below(12) : 0;
+    if (kind < 2) {
+        open_or_close();
+        refused_after = 0;
+        return;
+    }
+    uint32_t stage_before = scm_stage(&session);
+    bool is_building = stage_before == SCM_BUILDING;
+    bool is_begin = kind < (is_building ? 8 : 4);
+    uint32_t code = is_begin ? begin() : kind < (is_building ? 55 : 10) ? add_lines() : kind < (is_building ? 90 : 14) ? add_other()
+        : kind < (is_building ? 92 : 70) ? input() : kind < 94 ? read_out() : answer();
+    refused_after = 0;
+    if (code != SCM_DONE) {
+        assert(is_begin && code == SCM_NO_MEMORY ? scm_stage(&session) == SCM_ENDED : asked() == before);
+    }
+}
+
+int main(int argc, char **argv) {
+    unsigned long count = argc > 1 ? strtoul(argv[1], NULL, 10) : 100000;
+    seed = argc > 2 ? strtoull(argv[2], NULL, 10) : 1;
+    memset(long_text, 'x', sizeof long_text);
+    for (unsigned long i = 0; i < count; i++) {
+        random_call();
+    }
+    scm_free(&session);
+    for (int code = 0; code < CODES; code++) {
+        printf("%d: %lu\n", code, counts[code]);
+    }
+    return 0;
+}

@@ -1,0 +1,97 @@
+#!/usr/bin/env python3
+"""try_scm.py: makes a state by calls of scm.py, reads it back by its JSON form, and reads each answer. It ends with status 1 if
+one is otherwise."""
+import json
+
+import scm
+
+
+def fill(session):
+    session.add_commit("first\n")
+    session.add_commit()
+    session.add_file("new/name", 0o100644, "old/name")
+    session.add_mode(0o100755, is_checked=True)
+    session.add_context("one\n\ntwo\n")
+    session.add_context("three\n")
+    session.add_changes("x\ny\n", is_added=False, is_checked=True)
+    session.add_changes("caf\u00e9", is_added=True)
+    session.add_section(is_changed=True)
+    session.add_changes("z\n", is_added=True)
+    session.add_context("")
+    session.add_file("gone", 0o100644)
+    session.add_mode(scm.ABSENT, is_checked=True)
+    session.add_changes("w\n", is_added=False, is_checked=True)
+    session.add_file("image", scm.ABSENT)
+    session.add_mode(0o100644)
+    session.add_binary("", "abc (3 bytes)", is_checked=True)
+
+
+def line(text, kind, is_checked):
+    return {"is_checked": is_checked, "change_type": kind, "line": text}
+
+
+def mode_section(mode, is_checked):
+    return {"FileMode": {"is_checked": is_checked, "mode": mode}}
+
+
+WANTED = {
+    "is_read_only": False,
+    "commits": [{"message": "first\n"}, {"message": None}],
+    "files": [
+        {"old_path": "old/name", "path": "new/name", "file_mode": {"Unix": 0o100644}, "sections": [
+            mode_section({"Unix": 0o100755}, True),
+            {"Unchanged": {"lines": ["one\n", "\n", "two\n", "three\n"]}},
+            {"Changed": {"lines": [line("x\n", "Removed", True), line("y\n", "Removed", True), line("caf\u00e9", "Added", False)]}},
+            {"Changed": {"lines": [line("z\n", "Added", False)]}},
+        ]},
+        {"old_path": None, "path": "gone", "file_mode": {"Unix": 0o100644}, "sections": [
+            mode_section("Absent", True), {"Changed": {"lines": [line("w\n", "Removed", True)]}}]},
+        {"old_path": None, "path": "image", "file_mode": "Absent", "sections": [
+            mode_section({"Unix": 0o100644}, False),
+            {"Binary": {"is_checked": True, "old_description": None, "new_description": "abc (3 bytes)"}}]},
+    ],
+}
+
+
+def refused(call, *arguments):
+    try:
+        call(*arguments)
+    except scm.Error as error:
+        return error.code
+    return None
+
+
+def read_answers(session):
+    assert len(session) == 3
+    assert session.side(0) == (scm.TEXT, 0o100755, b"one\n\ntwo\nthree\n")
+    assert session.side(0, is_selected=False) == (scm.TEXT, 0o100644, "one\n\ntwo\nthree\nx\ny\ncaf\u00e9z\n".encode())
+    assert session.side(1)[:2] == (scm.UNCHANGED, scm.ABSENT)
+    assert session.side(2)[0] == scm.BINARY and session.side(2, False)[0] != scm.BINARY
+    assert (session.mark(0), session.mark(0, 0), session.mark(0, 2), session.mark(0, 2, 1)) == (1, 2, 1, 2)
+    assert refused(session.mark, 0, 1, 0) == refused(session.side, 3) == refused(session.message, 1) == "no_item"
+    assert session.message() == "first\n"
+
+
+def main():
+    with scm.Session() as session:
+        assert session.stage == scm.BUILDING and len(session) == 0
+        assert refused(session.add_context, "a") == "no_item"
+        assert refused(session.add_file, b"\xff", 0) == "not_text"
+        assert refused(session.press, "j") == "not_now"
+        fill(session)
+        assert refused(session.add_commit) == "not_accepted"
+        assert refused(session.add_changes, "a\n" + "b" * 1000001, True) == "too_long"
+        read_answers(session)
+        session.begin(80, 24)
+        assert refused(session.add_context, "a") == refused(session.begin, 1, 1) == "not_now"
+        assert session.stage == scm.WAITING and session.text().count("\n") == 24 and session.paint()
+        read_answers(session)
+        session.press("c")
+        assert session.stage == scm.ACCEPTED and refused(session.paint) == "not_now"
+        read_answers(session)
+        assert json.loads(session.text().split("\n")[1]) == WANTED
+    with scm.Session.of_json(json.dumps(WANTED), 80, 24) as session:
+        read_answers(session)
+
+
+main()
