@@ -9,11 +9,15 @@ use std::process::Abort;
 /// take. The most rows are one more than the screen has. The most calls are eight for each of these
 /// rows, and forty more.
 ///
-/// A row of the document counts if it is on the screen, from the row under the menu bar on. The
-/// header of a file or of a section takes four calls (expand box, blank, toggle box, title). A
-/// changed line, a mode and a binary change take two (toggle box, text). A line of context, the
-/// dots and a blank row take one. A sticky header is one row more. The menu bar takes five (a blank
-/// and four titles), and an open menu two for each item.
+/// A row of the document counts if it is on the screen. The header of a file or of a section takes
+/// four calls (expand box, blank, toggle box, title). A changed line, a mode and a binary change take
+/// two (toggle box, text). A line of context, the dots and a blank row take one. A sticky header is
+/// one row more. The menu bar takes five (a blank and four titles), and an open menu two for each
+/// item.
+///
+/// Only files and sections that have a row below the menu bar are drawn, and the header of the first
+/// of these files. So the row under the menu bar counts if it is one of theirs, not if it is the
+/// message's; and it is that header if a section below it is the first to be drawn.
 const INLINE: &str = "
 # A file of ten lines, and one of ten thousand, scrolled by a row.
 24 8 t lljjjjj => 9 29 of 9 112
@@ -56,7 +60,7 @@ const INLINE: &str = "
 24 8 x7y lddddddd => 7 19 of 9 112
 24 8 x7y ldddddddd => 6 18 of 9 112
 24 8 x7y lddddddddd => 5 17 of 9 112
-24 8 x7y ldddddddddd => 4 16 of 9 112
+24 8 x7y ldddddddddd => 4 19 of 9 112
 24 8 x7y lddddddddddd => 3 15 of 9 112
 10 2 x7y l => 1 9 of 3 64
 10 2 x7y ldd => 3 15 of 3 64
@@ -65,7 +69,7 @@ const INLINE: &str = "
 80 24 x7y l => 12 28 of 25 240
 300 100 x7y ldd => 12 28 of 101 848
 # Rows of every kind, in two files under a message.
-10 2 !x7y0mb,t F => 2 10 of 3 64
+10 2 !x7y0mb,t F => 1 9 of 3 64
 10 2 !x7y0mb,t Fddddd => 3 11 of 3 64
 24 8 !x7y0mb,t Fp => 9 23 of 9 112
 24 8 !x7y0mb,t Fpp => 9 29 of 9 112
@@ -75,7 +79,7 @@ const INLINE: &str = "
 300 100 !x7y0mb,t F => 30 66 of 101 848
 300 100 !x7y0mb,t FCq? => 30 89 of 101 848
 # The same, all folded.
-24 8 !x7y0mb,t FF => 3 14 of 9 112
+24 8 !x7y0mb,t FF => 2 13 of 9 112
 ";
 
 /// A row for each frame that shows both commits side by side: the rows and calls of the second
