@@ -2,27 +2,20 @@
 ghost use Rattle.std.specs.Prelude.{◌≡◌, ℕ, ◌<◌, ◌≤◌, ◌^◌, ◌++◌, nat_lt, if◌then◌else◌, is_some, None, Some, option_map, IfOk, IfErr, OnOk, IsTrue};
 ghost use Rattle.scm_errors.specs.declared.error.RecordError.TheVariants.{OutOfMemory};
 ghost use Rattle.scm_types.specs.Limits.{is_accepted_state, max_scroll};
-ghost use Rattle.scm_widgets.specs.DrawBounds.{RectIsInDrawBounds};
-ghost use Rattle.scm_widgets.specs.Screens.{screen};
 ghost use Rattle.scm_document.specs.HeaderRects.{message_rects};
 ghost use Rattle.scm_document.specs.Rows.{message_height};
-ghost use Rattle.scm_overlay.specs.OverlayRects.{dialog_run, help_dialog_rects, quit_dialog_rects};
-ghost use Rattle.scm_overlay.specs.Tables.{help_dialog, menus_with, quit_dialog};
-ghost use Rattle.scm_view.specs.Runs.{document_run, joined, joined_with};
+ghost use Rattle.scm_overlay.specs.Tables.{menus_with};
 ghost use Rattle.scm_view.specs.ViewState.{ViewState, commit_at};
 ghost use Rattle.scm_view.specs.Window.{extent, owner};
 ghost use Rattle.scm_layout_index.specs.LayoutIndex.{document_owner, owner_in, AreFilesOf, AreRowsOf, AreShown, IsInline, IsLayoutIndexOf, KeepsScreen};
 ghost use Rattle.scm_layout_index.specs.RowPieces.{RowsFit};
 
 use crate::row_pieces::{end_of_files, owner_among, pieces_on, push_pinned_on};
-use scm_cells::Rect;
 use scm_document::CommitMessageView;
 use scm_layout::StateRows;
-use scm_overlay::help_dialog::HelpDialog;
 use scm_overlay::menu_bar::MenuBar;
-use scm_overlay::quit_dialog::QuitDialog;
-use scm_render::centred_gap;
 use scm_types::{Commit, File, Items, RecordError, SelectionKey};
+use scm_view::frame_measures::{document_run, joined, joined_with, push_help, push_quit, screen};
 use scm_view_state::ViewState;
 use scm_widgets::ids::ComponentId;
 use scm_widgets::overlay_rects::{OverlayRect, overlay_owner};
@@ -45,59 +38,6 @@ pub struct LayoutIndex {
     pub(crate) extent: usize,
 }
 
-/// Returns the part of the document that a screen of `width` columns and `height` rows shows. Its
-/// first row shows row `scroll` of the document.
-#[tactic(auto, using(scm_types::proofs::LimitLemmas::scroll_room))]
-fn screen(width: u16, height: u16, scroll: usize) -> Rect
-    requires { scroll ≤ max_scroll }
-    ensures { result ≡ screen width height scroll }
-{
-    Rect {
-        x: 0,
-        y: scroll as isize,
-        width: usize::from(width),
-        height: usize::from(height),
-    }
-}
-
-/// Returns the least row range that holds both. A row range is its first row and its end row
-/// (exclusive).
-fn joined(run: (usize, usize), other: (usize, usize)) -> (usize, usize)
-    ensures { result ≡ joined run other }
-{
-    (run.0.min(other.0), run.1.max(other.1))
-}
-
-/// Returns the least row range that holds `run` and, if there is one, `other`.
-fn joined_with(run: (usize, usize), other: Option<(usize, usize)>) -> (usize, usize)
-    ensures { result ≡ joined_with run other }
-{
-    match other {
-        None => run,
-        Some(other) => joined(run, other),
-    }
-}
-
-/// Returns the row range that a document covers: `1..end`, or without files the rows of the message
-/// and of the empty-state text. The message has `message` rows; `height` rows of the document are
-/// visible.
-fn document_run(height: usize, message: usize, is_empty: bool, end: usize) -> (usize, usize)
-    requires height { height < 2 ^ 16 }
-    requires message { message ≤ 3 }
-    ensures { result ≡ document_run height message is_empty end }
-{
-    if !is_empty {
-        return (1, end);
-    }
-    let row = 1 + centred_gap(height, 1, 50);
-    let words = (row, row + 1);
-    if message == 0 {
-        words
-    } else {
-        joined((1, 1 + message), words)
-    }
-}
-
 /// Adds the rectangle of the button that edits the message of the first of `commits`, if it has
 /// one. Returns how many rows the message has: three, or none without a message.
 fn push_message(rects: &mut Vec<OverlayRect>, commits: &Items<Commit>) -> Result<usize, AllocError>
@@ -116,47 +56,6 @@ fn push_message(rects: &mut Vec<OverlayRect>, commits: &Items<Commit>) -> Result
             view.push_rects(rects)?;
             Ok(view.height())
         }
-    }
-}
-
-/// If the quit dialog is open, adds its rectangles and returns its row range. The screen shows the
-/// part `screen` of the document.
-fn push_quit(
-    alloc: Global,
-    rects: &mut Vec<OverlayRect>,
-    screen: Rect,
-    dialog: Option<QuitDialog>,
-) -> Result<Option<(usize, usize)>, AllocError>
-    requires { RectIsInDrawBounds screen }
-    ensures rows { IfOk result (λ r. r
-        ≡ option_map (λ q. dialog_run screen (quit_dialog q)) dialog) }
-    ensures ok { OnOk result
-        (rects.new.items ≡ rects.old.items ++ quit_dialog_rects screen dialog) }
-{
-    match dialog {
-        None => Ok(None),
-        Some(dialog) => Ok(Some(dialog.push_rects(alloc, rects, screen)?)),
-    }
-}
-
-/// If the help dialog `is_open`, adds its rectangles and returns its row range. The screen shows
-/// the part `screen` of the document.
-fn push_help(
-    alloc: Global,
-    rects: &mut Vec<OverlayRect>,
-    screen: Rect,
-    is_open: bool,
-) -> Result<Option<(usize, usize)>, AllocError>
-    requires { RectIsInDrawBounds screen }
-    ensures rows { IfOk result (λ r. r
-        ≡ (if is_open then Some (dialog_run screen help_dialog) else None)) }
-    ensures ok { OnOk result
-        (rects.new.items ≡ rects.old.items ++ help_dialog_rects screen is_open) }
-{
-    if is_open {
-        Ok(Some(HelpDialog().push_rects(alloc, rects, screen)?))
-    } else {
-        Ok(None)
     }
 }
 

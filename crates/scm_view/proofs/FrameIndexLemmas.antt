@@ -24,6 +24,7 @@ use Rattle.scm_document.specs.declared.commit_view.CommitViewMode.{CommitViewMod
 use Rattle.scm_document.specs.declared.file_view.FileView.{FileView}
 use Rattle.scm_widgets.specs.declared.overlay_rects.OverlayRect.{OverlayRect}
 use Rattle.scm_overlay.specs.declared.quit_dialog.QuitDialog.{QuitDialog}
+use Rattle.scm_overlay.specs.declared.help_dialog.HelpDialog.{HelpDialog}
 use Rattle.scm_document.specs.declared.index_pieces.FilePiece.{FilePiece}
 use Rattle.scm_document.specs.declared.index_pieces.SectionPiece.{SectionPiece}
 use Rattle.scm_widgets.specs.Layers.{Strip, Layer, clear, is_within, strip_at, owned_by, end_of, rows_around}
@@ -246,6 +247,11 @@ shows-first a shown w h v plain f =
 few-items : (m : Option (ℕ × Menu)) → IsShortMenu m → open_menu_height m ≤ max_text
 few-items None p = omega arith
 few-items (Some m) p = p.1
+
+-- there is a help dialog if one is kept
+pub some-help : (d : Option HelpDialog) → is_some d ≡ has_help d
+some-help None = refl
+some-help (Some h) = refl
 
 pub bar-few : (b : MenuBar) (menu : Option ℕ) → b ≡ menus_with menu → open_menu_height (open_menu b) ≤ max_text
 bar-few b menu e = rw e (few-items (open_menu (menus_with menu)) (short_bar menu).1)

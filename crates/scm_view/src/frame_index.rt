@@ -1,29 +1,20 @@
 //! The index of an inline frame: hit tests, the row ranges of keys, and the extent.
-ghost use Rattle.std.specs.Prelude.{◌≡◌, ◌<◌, ◌≤◌, ◌^◌, ◌++◌, ℕ, nat_lt, if◌then◌else◌, None, Some, option_map, IfOk, IfErr, OnOk};
+ghost use Rattle.std.specs.Prelude.{◌≡◌, ◌≤◌, ℕ, nat_lt, if◌then◌else◌, None, IfOk, IfErr};
 ghost use Rattle.scm_types.specs.Limits.{max_scroll};
-ghost use Rattle.scm_widgets.specs.DrawBounds.{RectIsInDrawBounds};
-ghost use Rattle.scm_widgets.specs.Screens.{screen};
 ghost use Rattle.scm_errors.specs.declared.error.RecordError.TheVariants.{OutOfMemory};
 ghost use Rattle.scm_view.specs.ViewState.{ViewState};
 ghost use Rattle.scm_view.specs.Window.{IsPlain, ShowsInline, extent, owner, span};
-ghost use Rattle.scm_view.specs.AppView.{has_help};
-ghost use Rattle.scm_overlay.specs.Tables.{help_dialog, quit_dialog};
-ghost use Rattle.scm_view.specs.Runs.{document_run, joined, joined_with};
-ghost use Rattle.scm_overlay.specs.OverlayRects.{dialog_run, help_dialog_rects, quit_dialog_rects};
 ghost use Rattle.scm_view.specs.Index.{HasNear, HasParts, IsIndexOf, OwnAlike, owner_in};
 
 use crate::app_view::AppView;
-use scm_cells::Rect;
+use crate::frame_measures::{document_run, joined, joined_with, push_help, push_quit, screen};
 use scm_document::commit_view::push_pieces;
 use scm_document::index_pieces::{Piece, pieces_near, push_pinned, rows_owner};
 use scm_document::key_rows::find_in;
-use scm_overlay::help_dialog::HelpDialog;
-use scm_overlay::quit_dialog::QuitDialog;
-use scm_render::centred_gap;
 use scm_types::{RecordError, SelectionKey};
 use scm_widgets::ids::ComponentId;
 use scm_widgets::overlay_rects::{OverlayRect, overlay_owner};
-use std::alloc::{AllocError, Global};
+use std::alloc::Global;
 
 /// The index of an inline frame: the owner of each place, the rows of each key, and the extent. It
 /// needs memory for each file and section, but not for their lines.
@@ -44,99 +35,6 @@ pub struct FrameIndex {
     near: Vec<Piece>,
     /// The extent: the number of rows that the frame spans.
     extent: usize,
-}
-
-/// Returns the part of the document that a screen of `width` columns and `height` rows shows. Its
-/// first row shows row `scroll` of the document.
-#[tactic(auto, using(scm_types::proofs::LimitLemmas::scroll_room))]
-fn screen(width: u16, height: u16, scroll: usize) -> Rect
-    requires { scroll ≤ max_scroll }
-    ensures { result ≡ screen width height scroll }
-{
-    Rect {
-        x: 0,
-        y: scroll as isize,
-        width: usize::from(width),
-        height: usize::from(height),
-    }
-}
-
-/// Returns the least row range that holds both. A row range is its first row and its end row
-/// (exclusive).
-fn joined(run: (usize, usize), other: (usize, usize)) -> (usize, usize)
-    ensures { result ≡ joined run other }
-{
-    (run.0.min(other.0), run.1.max(other.1))
-}
-
-/// Returns the least row range that holds `run` and, if there is one, `other`.
-fn joined_with(run: (usize, usize), other: Option<(usize, usize)>) -> (usize, usize)
-    ensures { result ≡ joined_with run other }
-{
-    match other {
-        None => run,
-        Some(other) => joined(run, other),
-    }
-}
-
-/// Returns the row range that a document covers: `1..end`, or without files the rows of the message
-/// and of the empty-state text. The message has `message` rows; `height` rows of the document are
-/// visible.
-fn document_run(height: usize, message: usize, is_empty: bool, end: usize) -> (usize, usize)
-    requires height { height < 2 ^ 16 }
-    requires message { message ≤ 3 }
-    ensures { result ≡ document_run height message is_empty end }
-{
-    if !is_empty {
-        return (1, end);
-    }
-    let row = 1 + centred_gap(height, 1, 50);
-    let words = (row, row + 1);
-    if message == 0 {
-        words
-    } else {
-        joined((1, 1 + message), words)
-    }
-}
-
-/// If the quit dialog is open, adds its rectangles and returns its row range. The screen shows the
-/// part `screen` of the document.
-fn push_quit(
-    alloc: Global,
-    rects: &mut Vec<OverlayRect>,
-    screen: Rect,
-    dialog: &Option<QuitDialog>,
-) -> Result<Option<(usize, usize)>, AllocError>
-    requires { RectIsInDrawBounds screen }
-    ensures rows { IfOk result (λ r. r
-        ≡ option_map (λ q. dialog_run screen (quit_dialog q)) dialog.now) }
-    ensures ok { OnOk result
-        (rects.new.items ≡ rects.old.items ++ quit_dialog_rects screen dialog.now) }
-{
-    match dialog {
-        None => Ok(None),
-        Some(dialog) => Ok(Some(dialog.push_rects(alloc, rects, screen)?)),
-    }
-}
-
-/// If the help dialog is open, adds its rectangles and returns its row range. The screen shows the
-/// part `screen` of the document.
-fn push_help(
-    alloc: Global,
-    rects: &mut Vec<OverlayRect>,
-    screen: Rect,
-    dialog: &Option<HelpDialog>,
-) -> Result<Option<(usize, usize)>, AllocError>
-    requires { RectIsInDrawBounds screen }
-    ensures rows { IfOk result (λ r. r
-        ≡ (if has_help dialog.now then Some (dialog_run screen help_dialog) else None)) }
-    ensures ok { OnOk result
-        (rects.new.items ≡ rects.old.items ++ help_dialog_rects screen (has_help dialog.now)) }
-{
-    match dialog {
-        None => Ok(None),
-        Some(dialog) => Ok(Some(dialog.push_rects(alloc, rects, screen)?)),
-    }
 }
 
 impl FrameIndex {
@@ -170,8 +68,9 @@ impl FrameIndex {
         commit.commit_message_view.push_rects(&mut rects)?;
         push_pinned(&mut rects, columns, scroll + 1, &pieces)?;
         let bar = view.menu_bar.push_rects(alloc, &mut rects, screen)?;
-        let quit = push_quit(alloc, &mut rects, screen, &view.quit_dialog)?;
-        let help = push_help(alloc, &mut rects, screen, &view.help_dialog)?;
+        let quit = push_quit(alloc, &mut rects, screen, view.quit_dialog)?;
+        let is_help_open = view.help_dialog.is_some();
+        let help = push_help(alloc, &mut rects, screen, is_help_open)?;
         let rows = usize::from(height).saturating_sub(1);
         let document = document_run(rows, message, views.is_empty(), end);
         let run = joined_with(

@@ -16,5 +16,6 @@ pub use scm_widgets::{Button, ComponentId, QuitDialogButtonId, TristateBox, Tris
 mod app_view;
 pub mod document_part;
 mod frame_index;
+pub mod frame_measures;
 pub mod laws;
 mod row_index;

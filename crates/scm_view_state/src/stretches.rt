@@ -6,13 +6,13 @@ ghost use Rattle.scm_types.specs.Limits.{file_size, max_items};
 ghost use Rattle.scm_layout.specs.Counts.{file_counts};
 ghost use Rattle.scm_layout.specs.declared.file_rows.FileRows.{FileRows};
 ghost use Rattle.scm_layout.specs.declared.section_rows.SectionRows.{SectionRows};
-ghost use Rattle.scm_layout.specs.Searches.{count_to};
-ghost use Rattle.scm_view_state.specs.Stretches.{AreFileRows, IsStretch, end_of, end_section_of, file_parts_of, files_begun, first_section_of, is_editable_at, is_unfolded, section_range, sections_begun, start_of, top_at};
+ghost use Rattle.scm_view_state.specs.Stretches.{AreFileRows, IsStretch, end_of, end_section_of, file_parts_of, first_section_of, is_editable_at, is_unfolded, section_range, sections_begun, start_of, top_at};
 ghost use Rattle.scm_view_state.specs.Views.{lent_files};
 
 use crate::file_views::file_part;
 use crate::section_views::SectionRange;
 use crate::view_state::ViewState;
+use scm_layout::row_search::{files_begun, sections_begun};
 use scm_layout::{FileCounts, FileRows, SectionRows};
 use scm_types::{File, Items, Section};
 use scm_view::{FileKey, FileView, SelectionKey};
@@ -56,27 +56,8 @@ impl Stretch {
     }
 }
 
-/// Returns how many of `files` begin on row `row` of the document or above.
-fn files_begun(files: &[FileRows], row: usize) -> usize
-    requires { IsNonDecreasingBy (λ (r : FileRows). r.top) files.now }
-    ensures count { result ≡ files_begun row files.now }
-    ensures most { result ≤ length files.now }
-{
-    files.partition_point(|file| file.top <= row)
-}
-
-/// Returns how many of `sections` begin on row `row` or above, counted from the row below the header
-/// of their file.
-fn sections_to(sections: &[SectionRows], row: usize) -> usize
-    requires { IsNonDecreasingBy (λ (q : SectionRows). q.top) sections.now }
-    ensures count { result ≡ count_to (λ (q : SectionRows). q.top) row sections.now }
-    ensures most { result ≤ length sections.now }
-{
-    sections.partition_point(|section| section.top <= row)
-}
-
 /// Returns how many sections of a file with rows `rows` begin on row `row` of the document or above.
-fn sections_begun(is_unfolded: bool, rows: &FileRows, row: usize) -> usize
+fn sections_begun_in(is_unfolded: bool, rows: &FileRows, row: usize) -> usize
     requires { IsNonDecreasingBy (λ (q : SectionRows). q.top) rows.now.sections }
     ensures count { result ≡ sections_begun is_unfolded row rows.now }
     ensures most { result ≤ length rows.now.sections }
@@ -84,7 +65,7 @@ fn sections_begun(is_unfolded: bool, rows: &FileRows, row: usize) -> usize
     // `&`: one branch for the prover
     let has_begun = is_unfolded & (rows.top < row);
     if has_begun {
-        sections_to(rows.sections.as_slice(), row - rows.top - 1)
+        sections_begun(rows.sections.as_slice(), row - rows.top - 1)
     } else {
         0
     }
@@ -159,7 +140,7 @@ fn first_section(
     requires { IsNonDecreasingBy (λ (q : SectionRows). q.top) rows.now.sections }
     ensures { result ≡ first_section_of view_state.now file_idx row rows.now file.now }
 {
-    let begun = sections_begun(is_unfolded(view_state, file_idx), rows, row);
+    let begun = sections_begun_in(is_unfolded(view_state, file_idx), rows, row);
     start_of(file.sections.as_slice(), begun.saturating_sub(1))
 }
 
@@ -176,7 +157,7 @@ fn end_section(
     requires lengths { length rows.now.sections ≡ length file.now.sections }
     ensures { result ≡ end_section_of view_state.now file_idx row rows.now file.now }
 {
-    let begun = sections_begun(is_unfolded(view_state, file_idx), rows, row);
+    let begun = sections_begun_in(is_unfolded(view_state, file_idx), rows, row);
     end_of(file.sections.as_slice(), begun)
 }
 

@@ -1,7 +1,7 @@
 use Rattle.std.proofs.Common.{◌≡◌, pos, refl, arith, w64, to_z}
 use Rattle.std.proofs.lemmas.Int.{to_z_pos}
 use Rattle.scm_types.proofs.LimitLemmas.{scroll_room}
-use Rattle.scm_view.proofs.frame_index.screen.Goals as goal
+use Rattle.scm_view.proofs.frame_measures.screen.Goals as goal
 
 pub returns : goal.returns
 returns c =

@@ -2,7 +2,7 @@ use Rattle.std.proofs.Common.{leb, rules}
 use Rattle.std.proofs.lemmas.List.Sorted.{IsPartitionPoint-from_clause, IsPartitionedBy-leb}
 use Rattle.scm_layout.specs.declared.section_rows.SectionRows.{SectionRows}
 use Rattle.scm_layout.proofs.SearchLemmas.{point-is}
-use Rattle.scm_view_state.proofs.stretches.sections_to.Goals as goal
+use Rattle.scm_layout.proofs.row_search.sections_begun.Goals as goal
 
 pub returns : goal.returns
 returns c =
