@@ -1,6 +1,6 @@
 -- The pieces of a small file by its rows, computed from the definitions: two lines of context, two changed lines, a mode. The file begins
 -- on row 4, below a message.
-use Rattle.std.proofs.Common.{◌≡◌, ℕ, Bool, true, false, List, [], ◌∷◌, Option, Some, None, refl}
+use Rattle.std.proofs.Common.{◌≡◌, ℕ, Bool, true, false, [], ◌∷◌, Option, Some, None, refl}
 use Rattle.scm_types.specs.declared.keys.SelectionKey.TheVariants as keys
 use Rattle.scm_types.specs.Keys.{section_key_of}
 use Rattle.scm_document.specs.declared.index_pieces.FilePiece.{FilePiece}

@@ -87,7 +87,7 @@ impl LayoutIndex {
             (λ index. IsLayoutIndexOf width height scroll view_state.now index) }
         ensures err { IfErr result (λ e. e ≡ OutOfMemory) }
     {
-        let files = &rows.rows().files;
+        let files = &rows.layout_rows().files;
         let columns = usize::from(width);
         let screen = screen(width, height, scroll);
         let mut rects = Vec::new(alloc);

@@ -92,7 +92,7 @@ impl SharedRows {
     }
 
     /// Returns the rows.
-    pub(crate) fn rows(&self) -> &StateRows
+    pub(crate) fn layout_rows(&self) -> &StateRows
         ensures { result.now ≡ self.now }
     {
         self.rows.as_ref()

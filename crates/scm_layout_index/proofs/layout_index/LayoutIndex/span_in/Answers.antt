@@ -1,4 +1,4 @@
-use Rattle.std.proofs.Common.{◌∙◌, sym}
+use Rattle.std.proofs.Common.{sym}
 use Rattle.scm_layout_index.proofs.SpanLemmas.{no-rows}
 use Rattle.scm_layout_index.proofs.layout_index.LayoutIndex.span_in.Goals as goal
 
