@@ -15,6 +15,8 @@ use Rattle.scm_layout.specs.declared.file_counts.FileCounts.{FileCounts}
 use Rattle.scm_layout.specs.declared.file_rows.FileRows.{FileRows}
 use Rattle.scm_layout.specs.declared.section_counts.SectionCounts.{SectionCounts}
 use Rattle.scm_layout.specs.declared.section_rows.SectionRows.{SectionRows}
+use Rattle.scm_layout.specs.declared.section_rows.SectionShape.{SectionShape}
+use Rattle.scm_layout.specs.declared.section_rows.SectionShape.TheVariants as shapes
 use Rattle.scm_layout.specs.Counts.{file_counts, sections_counts}
 use Rattle.scm_layout.specs.Rows.{each_file_rows, file_rows, folded_count, sections_height, sections_rows, stacked}
 
@@ -63,24 +65,28 @@ checked-counts = refl
 abbrev key : ℕ → FileKey
 key i = record { commit_idx = 0; file_idx = i }
 
-abbrev rows : ℕ → ℕ → SectionRows
-rows top end = record { top = top; end = end }
+abbrev rows : ℕ → ℕ → SectionShape → SectionRows
+rows top end shape = record { top = top; end = end; shape = shape }
 
 abbrev rows_in_file : ℕ → ℕ → ℕ → List SectionRows → FileRows
 rows_in_file top end folded sections = record { top = top; end = end; folded = folded; sections = sections }
 
+-- the rows of the sections if the changed lines are folded
+abbrev closed : List SectionRows
+closed = rows 0 0 (shapes.Context 2) ∷ rows 0 1 shapes.Changed ∷ rows 1 2 shapes.Mark ∷ rows 2 2 (shapes.Context 1) ∷ []
+
 -- the file and its changed lines are unfolded: the context above them is shown, that below the mode is not
-open-rows : file_rows (keys.File (key 0) ∷ keys.Section (section_key_of (key 0) 1) ∷ []) (key 0) sample ≡ rows_in_file 0 7 0 (rows 0 2 ∷ rows 2 5 ∷ rows 5 6 ∷ rows 6 6 ∷ [])
+open-rows : file_rows (keys.File (key 0) ∷ keys.Section (section_key_of (key 0) 1) ∷ []) (key 0) sample ≡ rows_in_file 0 7 0 (rows 0 2 (shapes.Context 2) ∷ rows 2 5 shapes.Changed ∷ rows 5 6 shapes.Mark ∷ rows 6 6 (shapes.Context 1) ∷ [])
 unfolding sections_rows sections_height folded_count
 open-rows = refl
 
 -- the file alone is unfolded: no context is shown, and one section of changed lines is folded
-folded-rows : file_rows (keys.File (key 0) ∷ []) (key 0) sample ≡ rows_in_file 0 3 1 (rows 0 0 ∷ rows 0 1 ∷ rows 1 2 ∷ rows 2 2 ∷ [])
+folded-rows : file_rows (keys.File (key 0) ∷ []) (key 0) sample ≡ rows_in_file 0 3 1 closed
 unfolding sections_rows sections_height folded_count
 folded-rows = refl
 
 -- the first file is folded, the second is unfolded
 two-files : stacked 4 (each_file_rows (keys.File (key 1) ∷ []) 0 0 (sample ∷ sample ∷ []))
-    ≡ rows_in_file 4 5 1 (rows 0 0 ∷ rows 0 1 ∷ rows 1 2 ∷ rows 2 2 ∷ []) ∷ rows_in_file 5 8 1 (rows 0 0 ∷ rows 0 1 ∷ rows 1 2 ∷ rows 2 2 ∷ []) ∷ []
+    ≡ rows_in_file 4 5 1 closed ∷ rows_in_file 5 8 1 closed ∷ []
 unfolding stacked each_file_rows sections_rows sections_height folded_count
 two-files = refl

@@ -18,7 +18,7 @@ use Rattle.scm_selection.specs.KeySet.{key_cmp, with_key, with_key_flipped, with
 use Rattle.scm_layout.specs.Lines.{is_changed}
 use Rattle.scm_layout.specs.declared.file_rows.FileRows.{FileRows}
 use Rattle.scm_layout.specs.declared.section_rows.SectionRows.{SectionRows}
-use Rattle.scm_layout.specs.Rows.{each_file_rows, file_height, file_key_of, file_rows, fold_count, folded_count, height_of, is_expanded, is_first_open, is_open, moved_to, rows_at, sections_height, sections_rows, stacked, visible_height}
+use Rattle.scm_layout.specs.Rows.{each_file_rows, file_height, file_key_of, file_rows, fold_count, folded_count, height_of, is_expanded, is_first_open, is_open, moved_to, rows_at, sections_height, sections_rows, shape_of, stacked, visible_height}
 use Rattle.scm_layout.specs.Refolds.{AgreeBut, AgreeOn, AreRowsButFile, file_index, total_height}
 
 -- ---- sets that agree on a file
@@ -41,10 +41,10 @@ module _ (ks ls : List SelectionKey) (k : FileKey) (h : AgreeOn ks ls k) where
   rows-agree total i top before [] = refl
   rows-agree total i top before (s ∷ ss) =
       let height = visible_height ls k total i before s (is_first_open ls k (suc i) ss) in
-      ap (λ n. rows_at top n ∷ sections_rows ks k total (suc i) (top + n) (is_open ks k i s) ss)
+      ap (λ n. rows_at top n (shape_of s) ∷ sections_rows ks k total (suc i) (top + n) (is_open ks k i s) ss)
       (visible-agree total i before s (is_first_open ks k (suc i) ss) (is_first_open ls k (suc i) ss) (first-agree (suc i) ss))
-      ∙ ap (λ b. rows_at top height ∷ sections_rows ks k total (suc i) (top + height) b ss) (open-agree i s)
-      ∙ ap (λ rs. rows_at top height ∷ rs) (rows-agree total (suc i) (top + height) (is_open ls k i s) ss)
+      ∙ ap (λ b. rows_at top height (shape_of s) ∷ sections_rows ks k total (suc i) (top + height) b ss) (open-agree i s)
+      ∙ ap (λ rs. rows_at top height (shape_of s) ∷ rs) (rows-agree total (suc i) (top + height) (is_open ls k i s) ss)
 
   heights-agree : (total i : ℕ) (before : Bool) (ss : List Section) → sections_height ks k total i before ss ≡ sections_height ls k total i before ss
   unfolding sections_height

@@ -20,7 +20,7 @@ use Rattle.scm_layout.specs.declared.state_counts.StateCounts.{StateCounts}
 use Rattle.scm_layout.specs.declared.state_layout.Layout.{Layout}
 use Rattle.scm_layout.specs.Counts.{counts_of}
 use Rattle.scm_layout.specs.Layouts.{files_top, layout_of}
-use Rattle.scm_layout.specs.Rows.{each_file_rows, file_height, file_key_of, file_rows, fold_count, folded_count, height_of, is_expanded, is_first_open, is_open, rows_at, sections_height, sections_rows, stacked, visible_height}
+use Rattle.scm_layout.specs.Rows.{each_file_rows, file_height, file_key_of, file_rows, fold_count, folded_count, height_of, is_expanded, is_first_open, is_open, rows_at, sections_height, sections_rows, shape_of, stacked, visible_height}
 use Rattle.scm_layout.proofs.BareLemmas.{bare, bare_file, bare_section, editable-same}
 use Rattle.scm_layout.proofs.CountLemmas.{file_length-same, file_size-same, head-same, none-same, sections-same, tail-same}
 
@@ -29,6 +29,15 @@ height-bare total i b (Unchanged lines) = refl
 height-bare total i b (Changed lines) = ap (λ n. if b then 1 + n else 1) (length-map lines (line_with_mark (λ _. false)))
 height-bare total i b (FileMode is_checked mode) = refl
 height-bare total i b (Binary is_checked old new) = refl
+
+shape-bare : (s : Section) → shape_of (bare_section s) ≡ shape_of s
+shape-bare (Unchanged lines) = refl
+shape-bare (Changed lines) = refl
+shape-bare (FileMode is_checked mode) = refl
+shape-bare (Binary is_checked old new) = refl
+
+shape-same : (s t : Section) → bare_section s ≡ bare_section t → shape_of s ≡ shape_of t
+shape-same s t e = sym (shape-bare s) ∙ ap (λ u. shape_of u) e ∙ shape-bare t
 
 changed-bare : (s : Section) → is_changed (bare_section s) ≡ is_changed s
 changed-bare (Unchanged lines) = refl
@@ -65,10 +74,11 @@ module _ (ks : List SelectionKey) (k : FileKey) where
       let head = head-same bare_section s t ss ts e in
       let tail = tail-same bare_section s t ss ts e in
       let h = visible_height ks k total i before t (is_first_open ks k (suc i) ts) in
-      ap (λ n. rows_at top n ∷ sections_rows ks k total (suc i) (top + n) (is_open ks k i s) ss)
+      ap (λ n. rows_at top n (shape_of s) ∷ sections_rows ks k total (suc i) (top + n) (is_open ks k i s) ss)
       (visible-same total i before s t (is_first_open ks k (suc i) ss) (is_first_open ks k (suc i) ts) head (first_open-same (suc i) ss ts tail))
-      ∙ ap (λ b. rows_at top h ∷ sections_rows ks k total (suc i) (top + h) b ss) (open-same i s t head)
-      ∙ ap (λ rs. rows_at top h ∷ rs) (rows-same total (suc i) (top + h) (is_open ks k i t) ss ts tail)
+      ∙ ap (λ b. rows_at top h (shape_of s) ∷ sections_rows ks k total (suc i) (top + h) b ss) (open-same i s t head)
+      ∙ ap (λ shape. rows_at top h shape ∷ sections_rows ks k total (suc i) (top + h) (is_open ks k i t) ss) (shape-same s t head)
+      ∙ ap (λ rs. rows_at top h (shape_of t) ∷ rs) (rows-same total (suc i) (top + h) (is_open ks k i t) ss ts tail)
 
   heights-same : (total i : ℕ) (before : Bool) (ss ts : List Section) → bare ss ≡ bare ts → sections_height ks k total i before ss ≡ sections_height ks k total i before ts
   unfolding sections_height

@@ -13,7 +13,7 @@ use Rattle.scm_types.specs.Keys.{has_key}
 use Rattle.scm_types.specs.Limits.{file_size, section_size}
 use Rattle.scm_types.specs.Marks.{is_editable_section}
 use Rattle.scm_layout.proofs.ZipLemmas.{cut-at}
-use Rattle.scm_layout.specs.Rows.{are_all_shown, context_height, dots_height, file_height, fold_count, folded_count, height_of, is_expanded, is_first_open, is_open, lines_above, lines_below, rows_at, sections_height, sections_rows, visible_height}
+use Rattle.scm_layout.specs.Rows.{are_all_shown, context_height, dots_height, file_height, fold_count, folded_count, height_of, is_expanded, is_first_open, is_open, lines_above, lines_below, rows_at, sections_height, sections_rows, shape_of, visible_height}
 
 -- ---- how many rows there are at most
 
@@ -76,7 +76,7 @@ module _ (ks : List SelectionKey) (k : FileKey) (total : ℕ) where
   -- the rows of section i and those of the sections below it
   pub sections_rows-more : (i top : ℕ) (before : Bool) (ss : List Section) (s : Section) → i < length ss → s ≡ get_or ss i s
       → sections_rows ks k total i top before (drop i ss)
-      ≡ rows_at top (visible_height ks k total i before s (is_first_open ks k (i + 1) (drop (i + 1) ss)))
+      ≡ rows_at top (visible_height ks k total i before s (is_first_open ks k (i + 1) (drop (i + 1) ss))) (shape_of s)
       ∷ sections_rows ks k total (i + 1) (top + visible_height ks k total i before s (is_first_open ks k (i + 1) (drop (i + 1) ss))) (is_open ks k i s) (drop (i + 1) ss)
   unfolding sections_rows
   sections_rows-more i top before ss s h at =

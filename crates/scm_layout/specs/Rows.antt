@@ -10,6 +10,8 @@ use Rattle.scm_types.specs.Keys.{has_key, section_key_of}
 use Rattle.scm_types.specs.Marks.{is_editable_section}
 use Rattle.scm_layout.specs.Lines.{is_changed}
 use Rattle.scm_layout.specs.declared.section_rows.SectionRows.{SectionRows}
+use Rattle.scm_layout.specs.declared.section_rows.SectionShape.{SectionShape}
+use Rattle.scm_layout.specs.declared.section_rows.SectionShape.TheVariants as shapes
 use Rattle.scm_layout.specs.declared.file_rows.FileRows.{FileRows}
 use Rattle.scm_layout.specs.declared.state_rows.StateRows.{StateRows}
 
@@ -63,15 +65,22 @@ abbrev pub visible_height : List SelectionKey → FileKey → ℕ → ℕ → Bo
 visible_height set k total i before section after =
     if is_editable_section section || (before || after) then height_of total i (is_expanded set k i) section else 0
 
--- the rows of a section, which has `height` rows from row `top` on
-abbrev pub rows_at : ℕ → ℕ → SectionRows
-rows_at top height = record { top = top; end = top + height }
+-- what a section is, whatever its marks
+abbrev pub shape_of : Section → SectionShape
+shape_of (Unchanged lines) = shapes.Context (length lines)
+shape_of (Changed lines) = shapes.Changed
+shape_of (FileMode is_checked mode) = shapes.Mark
+shape_of (Binary is_checked old new) = shapes.Mark
+
+-- the rows of a section of shape `shape`, which has `height` rows from row `top` on
+abbrev pub rows_at : ℕ → ℕ → SectionShape → SectionRows
+rows_at top height shape = record { top = top; end = top + height; shape = shape }
 
 -- the rows of the sections of file k from section i on, which begins on row `top` of the file's; `before` says whether the section above is open
 unfoldable pub sections_rows : List SelectionKey → FileKey → ℕ → ℕ → ℕ → Bool → List Section → List SectionRows
 sections_rows set k total i top before [] = []
 sections_rows set k total i top before (section ∷ more) =
-    rows_at top (visible_height set k total i before section (is_first_open set k (suc i) more))
+    rows_at top (visible_height set k total i before section (is_first_open set k (suc i) more)) (shape_of section)
     ∷ sections_rows set k total (suc i) (top + visible_height set k total i before section (is_first_open set k (suc i) more)) (is_open set k i section) more
 
 -- how many rows the sections of file k from section i on have

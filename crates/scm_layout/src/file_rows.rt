@@ -3,7 +3,7 @@ ghost use Rattle.std.specs.Prelude.{◌≡◌, ◌+◌, ◌≤◌, ◌<◌, ◌^
 ghost use Rattle.scm_types.specs.Limits.{file_size, max_items};
 ghost use Rattle.scm_layout.specs.Rows.{file_rows};
 
-use crate::section_rows::{SectionRows, folded_count, refold_sections};
+use crate::section_rows::{SectionRows, SectionShape, folded_count, refold_sections};
 use scm_selection::key_set::KeySet;
 use scm_types::keys::FileKey;
 use scm_types::{File, Items, SelectionKey};
@@ -44,7 +44,12 @@ impl FileRows {
         requires { file_size file.now ≤ max_items }
         ensures { IfOk result (λ rows. rows ≡ file_rows set.now key file.now) }
     {
-        let sections = vec![in alloc; SectionRows { top: 0, end: 0 }; file.sections.len()]?;
+        let blank = SectionRows {
+            top: 0,
+            end: 0,
+            shape: SectionShape::Mark,
+        };
+        let sections = vec![in alloc; blank; file.sections.len()]?;
         let mut rows = FileRows {
             top: 0,
             end: 0,

@@ -2,11 +2,25 @@
 ghost use Rattle.std.specs.Prelude.{◌≡◌, ◌+◌, ◌≤◌, ◌<◌, ◌^◌, drop, false, length, sum_by, if◌then◌else◌};
 ghost use Rattle.scm_types.specs.Limits.{max_items, section_size};
 ghost use Rattle.scm_layout.specs.Lines.{is_changed};
-ghost use Rattle.scm_layout.specs.Rows.{are_all_shown, context_height, dots_height, fold_count, folded_count, height_of, is_expanded, is_first_open, is_open, lines_above, lines_below, sections_height, sections_rows, visible_height};
+ghost use Rattle.scm_layout.specs.Rows.{are_all_shown, context_height, dots_height, fold_count, folded_count, height_of, is_expanded, is_first_open, is_open, lines_above, lines_below, sections_height, sections_rows, shape_of, visible_height};
 
 use scm_selection::key_set::KeySet;
 use scm_types::keys::FileKey;
 use scm_types::{Section, SelectionKey};
+
+/// What a section is, whatever its marks.
+#[derive(Clone, Copy, Debug)]
+pub enum SectionShape {
+    /// Lines of context.
+    Context {
+        /// The number of lines.
+        lines: usize,
+    },
+    /// Changed lines.
+    Changed,
+    /// A mark: a mode or a binary.
+    Mark,
+}
 
 /// The rows of a section, counted from the row below the header of its file as if the file were
 /// unfolded.
@@ -16,6 +30,8 @@ pub struct SectionRows {
     pub top: usize,
     /// The end of the rows, exclusive; `top` if the section is not shown.
     pub end: usize,
+    /// What the section is, for the index of a frame.
+    pub shape: SectionShape,
 }
 
 /// Returns whether all of `count` lines of context are shown in section `index` of `total`.
@@ -151,6 +167,17 @@ fn visible_height(
     }
 }
 
+/// Returns what `section` is.
+fn shape_of(section: &Section<'_>) -> SectionShape
+    ensures { result ≡ shape_of section.now }
+{
+    match section {
+        Section::Unchanged { lines } => SectionShape::Context { lines: lines.len() },
+        Section::Changed { .. } => SectionShape::Changed,
+        Section::FileMode { .. } | Section::Binary { .. } => SectionShape::Mark,
+    }
+}
+
 /// Finds the rows of `sections`, all sections of file `key`, anew. Returns how many rows they have.
 #[tactic(auto, using(scm_types::proofs::LimitLemmas::items_room))]
 pub(crate) fn refold_sections(
@@ -173,7 +200,8 @@ pub(crate) fn refold_sections(
         let after = is_open_at(set, key, index + 1, sections);
         let height = visible_height(set, key, total, index, before, section, after);
         let end = top + height;
-        rows[index] = SectionRows { top, end };
+        let shape = shape_of(section);
+        rows[index] = SectionRows { top, end, shape };
         top = end;
         before = is_open(set, key, index, section);
     }

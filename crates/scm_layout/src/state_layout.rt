@@ -1,9 +1,10 @@
 //! The layout of a state, which each toggle and fold keeps.
-ghost use Rattle.std.specs.Prelude.{◌≡◌, ◌≤◌, List, IfErr, IfOk, OnErr, OnOk};
+ghost use Rattle.std.specs.Prelude.{◌≡◌, ◌≤◌, true, List, IfErr, IfOk, OnErr, OnOk};
 ghost use Rattle.scm_errors.specs.declared.error.RecordError.TheVariants.{OutOfMemory};
 ghost use Rattle.scm_selection.specs.KeySet.{with_key, with_key_flipped, without_key};
 ghost use Rattle.scm_types.specs.declared.keys.SelectionKey.{SelectionKey};
 ghost use Rattle.scm_types.specs.declared.state.Commit.{Commit};
+ghost use Rattle.scm_types.specs.Keys.{has_key};
 ghost use Rattle.scm_types.specs.Limits.{max_items, state_size};
 ghost use Rattle.scm_selection.specs.Toggle.{with_all_inverted, with_all_set, with_key_toggled};
 ghost use Rattle.scm_layout.specs.Layouts.{files_top, layout_of, message_height, IsLayoutBut, IsLayoutButCommits, IsLayoutOf};
@@ -133,6 +134,7 @@ impl Layout {
         requires size { state_size state.now ≤ max_items }
         ensures set { OnOk result (expanded.new ≡ with_key expanded.old key) }
         ensures layout { self.new ≡ layout_of state.now expanded.new }
+        ensures kept { has_key expanded.old key ≡ true → self.new ≡ self.old }
         ensures unchanged { OnErr result (expanded.new ≡ expanded.old) }
         ensures err { IfErr result (λ e. e ≡ OutOfMemory) }
     {
@@ -176,6 +178,7 @@ impl Layout {
             ≡ record state.old { files = with_key_toggled key state.old.files } }
         ensures layout { (expanded : List SelectionKey)
             → self.old ≡ layout_of state.old expanded → self.new ≡ layout_of state.new expanded }
+        ensures rows { self.new.rows ≡ self.old.rows }
         ensures size { state_size state.new ≡ state_size state.old }
     {
         self.counts.toggle_key(state.files.as_mut_slice(), key);
@@ -188,6 +191,7 @@ impl Layout {
         ensures state { state.new ≡ record state.old { files = with_all_inverted state.old.files } }
         ensures layout { (expanded : List SelectionKey)
             → self.old ≡ layout_of state.old expanded → self.new ≡ layout_of state.new expanded }
+        ensures rows { self.new.rows ≡ self.old.rows }
         ensures size { state_size state.new ≡ state_size state.old }
     {
         self.counts.invert_all(state.files.as_mut_slice());
@@ -201,6 +205,7 @@ impl Layout {
         ensures state { state.new ≡ record state.old { files = with_all_set state.old.files } }
         ensures layout { (expanded : List SelectionKey)
             → self.old ≡ layout_of state.old expanded → self.new ≡ layout_of state.new expanded }
+        ensures rows { self.new.rows ≡ self.old.rows }
         ensures size { state_size state.new ≡ state_size state.old }
     {
         self.counts.set_all(state.files.as_mut_slice());

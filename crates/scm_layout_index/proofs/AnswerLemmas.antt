@@ -1,9 +1,8 @@
 -- What an index by a layout answers is what the window has: its owners, the rows of its keys, and its extent.
-use Rattle.std.proofs.Common.{◌≡◌, ℕ, suc, ◌+◌, ◌-◌, ◌≤◌, Bool, true, false, List, [], ◌∷◌, ◌++◌, length, map, refl, ap, ap₂, sym, subst, ◌∙◌, arith}
+use Rattle.std.proofs.Common.{◌≡◌, ℕ, suc, ◌+◌, ◌-◌, ◌≤◌, Bool, true, false, List, [], ◌∷◌, ◌++◌, length, map, refl, ap, sym, subst, ◌∙◌, arith}
 use Rattle.std.specs.Prelude.{nat_eq, nat_lt, slice_get, if◌then◌else◌, is_some, Option, Some, None, option_map}
 use Rattle.std.specs.List.{flat_map}
 use Rattle.std.proofs.lemmas.Bool.Decides.{nat_tests}
-use Rattle.std.proofs.lemmas.List.{length-map}
 use Rattle.scm_types.specs.declared.file.File.{File}
 use Rattle.scm_types.specs.declared.keys.SelectionKey.{SelectionKey}
 use Rattle.scm_types.specs.declared.state.Commit.{Commit}
@@ -20,7 +19,6 @@ use Rattle.scm_overlay.specs.Tables.{help_dialog, menus_with, quit_dialog}
 use Rattle.scm_document.specs.declared.commit_view.CommitView.{CommitView}
 use Rattle.scm_document.specs.declared.file_view.FileView.{FileView}
 use Rattle.scm_document.specs.declared.section_view.SectionView.{SectionView}
-use Rattle.scm_document.specs.declared.index_pieces.FilePiece.{FilePiece}
 use Rattle.scm_document.specs.declared.index_pieces.SectionPiece.{SectionPiece}
 use Rattle.scm_document.specs.declared.index_pieces.Piece.{Piece}
 use Rattle.scm_document.specs.declared.index_pieces.Piece.TheVariants as pieces
@@ -32,14 +30,11 @@ use Rattle.scm_document.specs.Rows.{message_height, shown_file}
 use Rattle.scm_document.specs.SectionWalk.{visible_views}
 use Rattle.scm_document.specs.ViewPieces.{file_height, file_piece_list, file_piece_of, files_height, section_piece_list, sections_height, sections_in_file, sections_in_files}
 use Rattle.scm_document.proofs.FilesOf.{AreFilesOf as HaveIds}
-use Rattle.scm_document.proofs.PieceLemmas.{pieces-files, pieces-sections}
-use Rattle.scm_view.specs.declared.frame_index.FrameIndex.{FrameIndex}
 use Rattle.scm_view.specs.AppView.{app_view_of, has_help}
-use Rattle.scm_view.specs.Index.{HasParts, IsIndexOf}
 use Rattle.scm_view.specs.Runs.{document_run, joined, joined_with}
 use Rattle.scm_view.specs.ViewState.{ViewState, commit_at, commit_view_of, file_view_of, file_views_of}
 use Rattle.scm_view.specs.Window.{IsPlain, extent, owner, span}
-use Rattle.scm_view.proofs.FrameIndexLemmas.{answers-extent, answers-owner, index-span, of-parts}
+use Rattle.scm_view.proofs.FrameIndexLemmas.{answers-extent, answers-owner, index-span}
 use Rattle.scm_view.proofs.AlikeLemmas.{view-shows}
 use Rattle.scm_view.proofs.SessionLemmas.{session-ids}
 use Rattle.scm_layout.specs.declared.file_rows.FileRows.{FileRows}
@@ -49,11 +44,10 @@ use Rattle.scm_layout.specs.Rows.{file_key_of, rows_of}
 use Rattle.scm_layout.specs.Searches.{FilesFollow}
 use Rattle.scm_layout_laws.specs.ViewRows.{HaveRowsOf}
 use Rattle.scm_layout_laws.proofs.ViewLemmas.{rows-of-views}
-use Rattle.scm_layout_index.specs.declared.layout_index.LayoutIndex.{LayoutIndex}
 use Rattle.scm_layout_index.specs.declared.row_pieces.RowPieces.{RowPieces}
-use Rattle.scm_layout_index.specs.LayoutIndex.{AreFilesOf, AreRowsOf, AreShown, IsInline, IsLayoutIndexOf, KeepsScreen, owner_in, span_in}
-use Rattle.scm_layout_index.specs.RowPieces.{RowsFit, all_pieces, end_of_files, file_piece, found_list, piece_list, pieces_on, pinned_piece, section_pieces}
-use Rattle.scm_layout_index.proofs.BareLemmas.{bare, same-key, same-pieces}
+use Rattle.scm_layout_index.specs.LayoutIndex.{AreRowsOf, IsInline}
+use Rattle.scm_layout_index.specs.RowPieces.{end_of_files, file_piece, found_list, piece_list, piece_of_key, pieces_on, pinned_piece}
+use Rattle.scm_layout_index.proofs.PieceLists.{all_pieces, section_pieces}
 use Rattle.scm_layout_index.proofs.FileLemmas.{end-is, file-heights, owners-are, pinned-are, unfolded-pieces}
 use Rattle.scm_layout_index.proofs.FitLemmas.{rows-fit}
 use Rattle.scm_layout_index.proofs.SectionLemmas.{pieces-found, pinned-found}
@@ -66,20 +60,10 @@ pub size-of : (shown : ViewState) → is_accepted_state shown.state ≡ true →
 size-of shown e = grind (arith, nat_tests)
 
 -- they fit for a search
-pub shown-fit : (rows : StateRows) (files : List File) → AreShown rows files → RowsFit rows.files files
-shown-fit rows files a =
-    subst (λ (r : StateRows). RowsFit r.files files) (sym a.rows_are)
-    (rows-fit a.shown.expanded a.shown.state.commits a.shown.state.files files a.files_are (size-of a.shown a.accepted))
-
-own-lengths : (rows : StateRows) (shown : ViewState) → is_accepted_state shown.state ≡ true → AreRowsOf rows shown → length rows.files ≡ length shown.state.files
-own-lengths rows shown e r =
-    ap (λ (q : StateRows). length q.files) r
-    ∙ (rows-fit shown.expanded shown.state.commits shown.state.files shown.state.files refl (size-of shown e)).lengths
-
 pub own-follow : (rows : StateRows) (shown : ViewState) → is_accepted_state shown.state ≡ true → AreRowsOf rows shown → FilesFollow rows.files
 own-follow rows shown e r =
     subst (λ (q : StateRows). FilesFollow q.files) (sym r)
-    (rows-fit shown.expanded shown.state.commits shown.state.files shown.state.files refl (size-of shown e)).follow
+    (rows-fit shown.expanded shown.state.commits shown.state.files (size-of shown e)).follow
 
 -- the first commit
 pub commit-is : (commits : List Commit) (c : Commit) → Some c ≡ slice_get commits 0 → commit_at 0 commits ≡ c
@@ -121,7 +105,7 @@ no-height [] h e top = refl
 no-height (v ∷ vs) h e top = absurd (omega (arith, h.0, e))
 
 all-are : (s : ViewState) (m i n top : ℕ) (fs : List File) (rs : List FileRows) → HaveIds 0 n (map shown_file (file_views_of s 0 i fs)) → HaveRowsOf top rs (file_views_of s 0 i fs)
-    → files_pieces m top (file_views_of s 0 i fs) ≡ all_pieces s.selection m i rs fs
+    → files_pieces m top (file_views_of s 0 i fs) ≡ all_pieces s.selection m i rs
 unfolding file_views_of
 all-are s m i n top [] [] ids h = refl
 all-are s m i n top [] (r ∷ rs) ids h = absurd h
@@ -135,10 +119,10 @@ all-are s m i n top (f ∷ fs) (r ∷ rs) ids h =
     v = file_view_of s (file_key_of 0 i) f
 
     rest : List Piece
-    rest = all_pieces s.selection m (suc i) rs fs
+    rest = all_pieces s.selection m (suc i) rs
 
     own : List SectionPiece
-    own = if nat_lt (r.top + 1) r.end then section_pieces s.selection (length f.sections) (file_key_of 0 i) (r.top + 1) 0 r.sections f.sections else []
+    own = if nat_lt (r.top + 1) r.end then section_pieces s.selection (length r.sections) (file_key_of 0 i) (r.top + 1) 0 r.sections else []
 
     head : file_piece_of m top v ≡ file_piece m i r
     head = rw (h.0, h.1) refl
@@ -152,9 +136,9 @@ all-are s m i n top (f ∷ fs) (r ∷ rs) ids h =
         unfolded ∙ go (nat_lt (r.top + 1) r.end) refl heights end list
       where
         go : (d : Bool) → nat_lt (r.top + 1) r.end ≡ d → HaveHeights (visible_views false v.section_views) → r.end ≡ top + (1 + sections_height (visible_views false v.section_views))
-            → section_piece_list (top + 1) (visible_views false v.section_views) ≡ section_pieces s.selection (length f.sections) (file_key_of 0 i) (top + 1) 0 r.sections f.sections
-            → section_piece_list (top + 1) (visible_views false v.section_views) ≡ (if d then section_pieces s.selection (length f.sections) (file_key_of 0 i) (r.top + 1) 0 r.sections f.sections else [])
-        go true q heights end list = list ∙ ap (λ n. section_pieces s.selection (length f.sections) (file_key_of 0 i) (n + 1) 0 r.sections f.sections) (sym h.0)
+            → section_piece_list (top + 1) (visible_views false v.section_views) ≡ section_pieces s.selection (length r.sections) (file_key_of 0 i) (top + 1) 0 r.sections
+            → section_piece_list (top + 1) (visible_views false v.section_views) ≡ (if d then section_pieces s.selection (length r.sections) (file_key_of 0 i) (r.top + 1) 0 r.sections else [])
+        go true q heights end list = list ∙ ap (λ n. section_pieces s.selection (length r.sections) (file_key_of 0 i) (n + 1) 0 r.sections) (sym h.0)
         go false q heights end list =
             let none : sections_height (visible_views false v.section_views) ≡ 0 = grind (arith, nat_tests, q, end, h.0) in
             no-height (visible_views false v.section_views) heights none (top + 1)
@@ -180,28 +164,28 @@ module _ (w h s : ℕ) (shown : ViewState) (is : IsInline shown w h s) where
   abbrev view : CommitView
   view = commit_view_of shown 0
 
-  pub found-owner : (rows : StateRows) (files : List File) (y x : ℕ) → AreRowsOf rows shown → AreFilesOf files shown
+  pub found-owner : (rows : StateRows) (y x : ℕ) → AreRowsOf rows shown
       → rows_owner w (file_piece_list (s + 1) (top_of shown) (file_views_of shown 0 0 shown.state.files)) (sections_in_files (top_of shown) (file_views_of shown 0 0 shown.state.files)) y x
-      ≡ rows_owner w (files_of (found_list (pieces_on shown.selection (s + 1) y rows.files files))) (sections_of (found_list (pieces_on shown.selection (s + 1) y rows.files files))) y x
-  found-owner rows files y x r f =
+      ≡ rows_owner w (files_of (found_list (pieces_on shown.selection (s + 1) y rows.files))) (sections_of (found_list (pieces_on shown.selection (s + 1) y rows.files))) y x
+  found-owner rows y x r =
       owners-are shown (s + 1) w y x 0 0 (top_of shown) shown.state.files rows.files (views-ids shown) (views-rows rows shown r)
       ∙ ap (λ (o : Option RowPieces). rows_owner w (files_of (found_list o)) (sections_of (found_list o)) y x)
-      (sym (pieces-found shown.selection (s + 1) y rows.files shown.state.files (own-lengths rows shown is.accepted r)) ∙ same-pieces shown.selection (s + 1) y rows.files shown.state.files files (sym f))
+      (sym (pieces-found shown.selection (s + 1) y rows.files))
 
   pub new-owner : (rows : StateRows) (m0 m1 m2 m3 m4 : List OverlayRect) (k : SelectionKey) → AreRowsOf rows shown → k ≡ shown.selection
       → m0 ≡ message_rects 0 (is_some (commit_at 0 shown.state.commits).message) → m1 ≡ m0 ++ pinned_rects w (s + 1) (files_of (piece_list (pinned_piece (s + 1) rows.files)))
       → m2 ≡ m1 ++ menu_bar_rects (screen w h s) (menus_with shown.open_menu) → m3 ≡ m2 ++ quit_dialog_rects (screen w h s) shown.quit_dialog → m4 ≡ m3 ++ help_dialog_rects (screen w h s) shown.is_help_open
-      → (again : StateRows) (files : List File) → AreRowsOf again shown → AreFilesOf files shown → (y x : ℕ)
+      → (y x : ℕ)
       → (if nat_lt x w then first_of_two (overlay_owner m4 y x)
-      (rows_owner w (files_of (found_list (pieces_on k (s + 1) y again.files files))) (sections_of (found_list (pieces_on k (s + 1) y again.files files))) y x) else None)
+      (rows_owner w (files_of (found_list (pieces_on k (s + 1) y rows.files))) (sections_of (found_list (pieces_on k (s + 1) y rows.files))) y x) else None)
       ≡ (if nat_lt x w then owner w h s shown y x else None)
-  new-owner rows m0 m1 m2 m3 m4 k r ek e0 e1 e2 e3 e4 again files a f y x =
+  new-owner rows m0 m1 m2 m3 m4 k r ek e0 e1 e2 e3 e4 y x =
       let fs = file_piece_list (s + 1) (top_of shown) (file_views_of shown 0 0 shown.state.files) in
       let ss = sections_in_files (top_of shown) (file_views_of shown 0 0 shown.state.files) in
       let pinned : m1 ≡ m0 ++ pinned_rects w (s + 1) fs = e1 ∙ ap (λ (ps : List OverlayRect). m0 ++ ps) (ap (λ (ps : List Piece). pinned_rects w (s + 1) (files_of ps)) (pinned-found (s + 1) rows.files) ∙ sym (pinned-are shown w (s + 1) 0 (top_of shown) shown.state.files rows.files (views-rows rows shown r))) in
       ap (λ (q : SelectionKey). if nat_lt x w then first_of_two (overlay_owner m4 y x)
-      (rows_owner w (files_of (found_list (pieces_on q (s + 1) y again.files files))) (sections_of (found_list (pieces_on q (s + 1) y again.files files))) y x) else None) ek
-      ∙ ap (λ (o : Option ComponentId). if nat_lt x w then first_of_two (overlay_owner m4 y x) o else None) (sym (found-owner again files y x a f))
+      (rows_owner w (files_of (found_list (pieces_on q (s + 1) y rows.files))) (sections_of (found_list (pieces_on q (s + 1) y rows.files))) y x) else None) ek
+      ∙ ap (λ (o : Option ComponentId). if nat_lt x w then first_of_two (overlay_owner m4 y x) o else None) (sym (found-owner rows y x r))
       ∙ answers-owner w h s y x (app_view_of shown) shown view m0 m1 m2 m3 m4 fs ss (plain w h s shown is) refl e0 pinned e2 e3 (help-as m3 m4 e4) refl refl
     where
       help-as : (m3 m4 : List OverlayRect) → m4 ≡ m3 ++ help_dialog_rects (screen w h s) shown.is_help_open → m4 ≡ m3 ++ help_dialog_rects (screen w h s) (has_help (app_view_of shown).help_dialog)
@@ -229,48 +213,8 @@ module _ (w h s : ℕ) (shown : ViewState) (is : IsInline shown w h s) where
       views-count top (r ∷ rs) (v ∷ vs) h = ap suc (views-count (top + file_height v) rs vs h.3)
 
 -- which rows each key has
-pub span-is : (rows : StateRows) (files : List File) (shown : ViewState) (k : SelectionKey) → AreShown rows files → AreRowsOf rows shown → AreFilesOf files shown → span_in rows files k ≡ span shown k
-span-is rows files shown k some r f =
-    let fit = shown-fit rows files some in
-    ap (λ (o : Option Piece). rows_of_key k (flat_map piece_places (piece_list o))) (same-key rows.files files shown.state.files k f)
-    ∙ sym (rows-of-key k shown.selection 0 rows.files shown.state.files (fit.lengths ∙ same-count))
+pub new-span : (shown : ViewState) (rows : StateRows) (k : SelectionKey) → AreRowsOf rows shown → rows_of_key k (flat_map piece_places (piece_list (piece_of_key rows.files k))) ≡ span shown k
+new-span shown rows k r =
+    sym (rows-of-key k shown.selection 0 rows.files)
     ∙ ap (λ (ps : List Piece). rows_of_key k (flat_map piece_places ps)) (sym (all-are shown 0 0 0 (top_of shown) shown.state.files rows.files (views-ids shown) (views-rows rows shown r)))
     ∙ index-span 0 shown (commit_view_of shown 0) k refl
-  where
-    same-count : length files ≡ length shown.state.files
-    same-count = sym (length-map files bare) ∙ ap (λ (xs : List File). length xs) f ∙ length-map shown.state.files bare
-
--- ---- an index with all pieces
-
--- who owns each place among all pieces
-module _ (w h s : ℕ) (shown : ViewState) (is : IsInline shown w h s) (rows : StateRows) (r : AreRowsOf rows shown) where
-  abbrev all_of : List Piece
-  all_of = all_pieces shown.selection (s + 1) 0 rows.files shown.state.files
-
-  all-views : files_pieces (s + 1) (top_of shown) (file_views_of shown 0 0 shown.state.files) ≡ all_pieces shown.selection (s + 1) 0 rows.files shown.state.files
-  all-views = all-are shown (s + 1) 0 0 (top_of shown) shown.state.files rows.files (views-ids shown) (views-rows rows shown r)
-
-  all-owner : (y x : ℕ) → rows_owner w (files_of all_of) (sections_of all_of) y x
-      ≡ rows_owner w (files_of (found_list (pieces_on shown.selection (s + 1) y rows.files shown.state.files))) (sections_of (found_list (pieces_on shown.selection (s + 1) y rows.files shown.state.files))) y x
-  all-owner y x =
-      let views = file_views_of shown 0 0 shown.state.files in
-      let files : files_of all_of ≡ file_piece_list (s + 1) (top_of shown) views = ap files_of (sym all-views) ∙ pieces-files (s + 1) (top_of shown) views in
-      let sections : sections_of all_of ≡ sections_in_files (top_of shown) views = ap sections_of (sym all-views) ∙ pieces-sections (s + 1) (top_of shown) views in
-      ap₂ (λ (fs : List FilePiece) (ss : List SectionPiece). rows_owner w fs ss y x) files sections
-      ∙ found-owner w h s shown is rows shown.state.files y x r refl
-
-  -- the index with what lies over the document and all pieces is that of the frame
-  pub frame-is : (over : LayoutIndex) (i : FrameIndex) → IsLayoutIndexOf w h s shown over → KeepsScreen w s shown over
-      → HasParts w h s over.rects.items (all_pieces over.selection over.pinned 0 rows.files shown.state.files) over.extent i → IsIndexOf w h s shown i
-  frame-is over i answers keeps has =
-      let ps : all_pieces over.selection over.pinned 0 rows.files shown.state.files ≡ all_of = ap₂ (λ (q : SelectionKey) m. all_pieces q m 0 rows.files shown.state.files) keeps.selection keeps.pinned in
-      of-parts w h s shown over.rects.items all_of over.extent i (subst (λ (qs : List Piece). HasParts w h s over.rects.items qs over.extent i) ps has)
-      (λ y x. ap (λ (o : Option ComponentId). if nat_lt x w then first_of_two (overlay_owner over.rects.items y x) o else None) (all-owner y x)
-      ∙ sym (asked y x) ∙ answers.owner rows shown.state.files r refl y x)
-      (λ k. ap (λ (qs : List Piece). rows_of_key k (flat_map piece_places qs)) (sym all-views) ∙ index-span (s + 1) shown (commit_view_of shown 0) k refl)
-      answers.extent
-    where
-      asked : (y x : ℕ) → owner_in over rows shown.state.files y x
-          ≡ (if nat_lt x w then first_of_two (overlay_owner over.rects.items y x)
-          (rows_owner w (files_of (found_list (pieces_on shown.selection (s + 1) y rows.files shown.state.files))) (sections_of (found_list (pieces_on shown.selection (s + 1) y rows.files shown.state.files))) y x) else None)
-      asked y x = rw (keeps.width, keeps.selection, keeps.pinned) refl

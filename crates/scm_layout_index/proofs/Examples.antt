@@ -1,13 +1,7 @@
--- The pieces of a small file by its rows, computed from the definitions: two lines of context, a removed and an added line, a mode. The
--- file begins on row 4, below a message.
-use Rattle.std.proofs.Common.{◌≡◌, ℕ, Bool, true, false, List, [], ◌∷◌, Option, Some, None, refl}
-use Rattle.scm_types.specs.declared.file.File.{File}
-use Rattle.scm_types.specs.declared.file_mode.FileMode.TheVariants as modes
+-- The pieces of a small file by its rows, computed from the definitions: two lines of context, two changed lines, a mode. The file begins
+-- on row 4, below a message.
+use Rattle.std.proofs.Common.{◌≡◌, ℕ, Bool, true, false, [], ◌∷◌, Option, Some, None, refl}
 use Rattle.scm_types.specs.declared.keys.SelectionKey.TheVariants as keys
-use Rattle.scm_types.specs.declared.line.ChangeType.{ChangeType}
-use Rattle.scm_types.specs.declared.line.ChangeType.TheVariants.{Added, Removed}
-use Rattle.scm_types.specs.declared.line.SectionChangedLine.{SectionChangedLine}
-use Rattle.scm_types.specs.declared.section.Section.TheVariants.{Unchanged, Changed, FileMode}
 use Rattle.scm_types.specs.Keys.{section_key_of}
 use Rattle.scm_document.specs.declared.index_pieces.FilePiece.{FilePiece}
 use Rattle.scm_document.specs.declared.index_pieces.SectionPiece.{SectionPiece}
@@ -15,29 +9,14 @@ use Rattle.scm_document.specs.declared.index_pieces.RowKinds.{RowKinds}
 use Rattle.scm_document.specs.declared.index_pieces.RowKinds.TheVariants as kinds
 use Rattle.scm_document.specs.declared.index_pieces.Piece.TheVariants as pieces
 use Rattle.scm_layout.specs.declared.file_rows.FileRows.{FileRows}
+use Rattle.scm_layout.specs.declared.section_rows.SectionShape.TheVariants as shapes
 use Rattle.scm_layout.specs.Rows.{file_key_of, rows_at}
 use Rattle.scm_layout_index.specs.declared.row_pieces.RowPieces.{RowPieces}
 use Rattle.scm_layout_index.specs.RowPieces.{end_of_files, piece_of_key, pieces_on, pinned_piece}
 
--- an empty line
-abbrev empty : List ℕ
-empty = []
-
--- a changed line
-abbrev line : ChangeType → SectionChangedLine
-line change = record { is_checked = false; change_type = change; line = empty }
-
-abbrev sample : File
-sample = record {
-  old_path = None;
-  path = empty;
-  file_mode = modes.Unix 420;
-  sections = Unchanged (empty ∷ empty ∷ []) ∷ Changed (line Removed ∷ line Added ∷ []) ∷ FileMode true modes.Absent ∷ [];
-}
-
 -- unfolded, with unfolded changes: the header, 2 lines of context, 3 rows of changes and the mode
 abbrev open_rows : FileRows
-open_rows = record { top = 4; end = 11; folded = 0; sections = rows_at 0 2 ∷ rows_at 2 3 ∷ rows_at 5 1 ∷ [] }
+open_rows = record { top = 4; end = 11; folded = 0; sections = rows_at 0 2 (shapes.Context 2) ∷ rows_at 2 3 shapes.Changed ∷ rows_at 5 1 shapes.Mark ∷ [] }
 
 -- folded
 abbrev folded_rows : FileRows
@@ -54,23 +33,23 @@ found f s = Some (record { file = f; section = s })
 
 -- above the file there is nothing; on row 4 is its header, on row 6 the second line of context, on row 7 the header of the changes, on
 -- row 10 the mode
-on-row-3 : pieces_on keys.None 1 3 (open_rows ∷ []) (sample ∷ []) ≡ None
+on-row-3 : pieces_on keys.None 1 3 (open_rows ∷ []) ≡ None
 on-row-3 = refl
 
-on-row-4 : pieces_on keys.None 1 4 (open_rows ∷ []) (sample ∷ []) ≡ found (file false) None
+on-row-4 : pieces_on keys.None 1 4 (open_rows ∷ []) ≡ found (file false) None
 on-row-4 = refl
 
-on-row-6 : pieces_on keys.None 1 6 (open_rows ∷ []) (sample ∷ []) ≡ found (file false) (Some (section 0 5 7 true (kinds.Context 0 0 2)))
+on-row-6 : pieces_on keys.None 1 6 (open_rows ∷ []) ≡ found (file false) (Some (section 0 5 7 true (kinds.Context 0 0 2)))
 on-row-6 = refl
 
-on-row-7 : pieces_on keys.None 1 7 (open_rows ∷ []) (sample ∷ []) ≡ found (file false) (Some (section 1 7 10 true kinds.Changed))
+on-row-7 : pieces_on keys.None 1 7 (open_rows ∷ []) ≡ found (file false) (Some (section 1 7 10 true kinds.Changed))
 on-row-7 = refl
 
 -- a mode is wide if it is selected
-on-row-10 : pieces_on keys.None 1 10 (open_rows ∷ []) (sample ∷ []) ≡ found (file false) (Some (section 2 10 11 false kinds.Mark))
+on-row-10 : pieces_on keys.None 1 10 (open_rows ∷ []) ≡ found (file false) (Some (section 2 10 11 false kinds.Mark))
 on-row-10 = refl
 
-selected-row-10 : pieces_on (keys.Section (section_key_of (file_key_of 0 0) 2)) 1 10 (open_rows ∷ []) (sample ∷ []) ≡ found (file false) (Some (section 2 10 11 true kinds.Mark))
+selected-row-10 : pieces_on (keys.Section (section_key_of (file_key_of 0 0) 2)) 1 10 (open_rows ∷ []) ≡ found (file false) (Some (section 2 10 11 true kinds.Mark))
 selected-row-10 = refl
 
 -- the header is pinned to row 8, not to its own row
@@ -81,13 +60,13 @@ pinned-to-4 : pinned_piece 4 (open_rows ∷ []) ≡ Some (pieces.File (file fals
 pinned-to-4 = refl
 
 -- a section of a folded file has no piece, nor has one of another commit
-of-changes : piece_of_key (open_rows ∷ []) (sample ∷ []) (keys.Section (section_key_of (file_key_of 0 0) 1)) ≡ Some (pieces.Section (section 1 7 10 true kinds.Changed))
+of-changes : piece_of_key (open_rows ∷ []) (keys.Section (section_key_of (file_key_of 0 0) 1)) ≡ Some (pieces.Section (section 1 7 10 true kinds.Changed))
 of-changes = refl
 
-of-folded : piece_of_key (folded_rows ∷ []) (sample ∷ []) (keys.Section (section_key_of (file_key_of 0 0) 1)) ≡ None
+of-folded : piece_of_key (folded_rows ∷ []) (keys.Section (section_key_of (file_key_of 0 0) 1)) ≡ None
 of-folded = refl
 
-of-other : piece_of_key (open_rows ∷ []) (sample ∷ []) (keys.File (file_key_of 1 0)) ≡ None
+of-other : piece_of_key (open_rows ∷ []) (keys.File (file_key_of 1 0)) ≡ None
 of-other = refl
 
 below-them : end_of_files 4 (open_rows ∷ []) ≡ 11

@@ -27,7 +27,8 @@ use Rattle.scm_layout.specs.declared.section_rows.SectionRows.{SectionRows}
 use Rattle.scm_layout.specs.Rows.{file_key_of}
 use Rattle.scm_layout_laws.specs.ViewRows.{HaveRowsOf, section_views_rows}
 use Rattle.scm_layout_index.specs.declared.row_pieces.RowPieces.{RowPieces}
-use Rattle.scm_layout_index.specs.RowPieces.{end_of_files, file_piece, found_list, section_in, section_list, section_pieces}
+use Rattle.scm_layout_index.specs.RowPieces.{end_of_files, file_piece, found_list, section_in, section_list}
+use Rattle.scm_layout_index.proofs.PieceLists.{section_pieces}
 use Rattle.scm_layout_index.proofs.SectionLemmas.{owner-on, pieces_from, pinned_from, section-found, section_from}
 use Rattle.scm_layout_index.proofs.SectionViewLemmas.{HaveHeights, pieces-are}
 
@@ -98,23 +99,25 @@ rows-of-shown v h = h
 pub file-heights : (v : FileView) → is_fold_open v.expand_box ≡ true → HaveRows (shown_file v).sections → HaveHeights (visible_views false v.section_views)
 file-heights v e h = heights-of (is_fold_open v.expand_box) v.section_views e (rows-of-shown v h)
 
--- their pieces by their rows
-pub unfolded-pieces : (s : ViewState) (i top : ℕ) (f : File) (rs : List SectionRows) → HaveHeights (visible_views false (section_views_of s (totals_of f.sections) (file_key_of 0 i) 0 0 0 f.sections))
-    → rs ≡ section_views_rows 0 false (section_views_of s (totals_of f.sections) (file_key_of 0 i) 0 0 0 f.sections)
-    → section_piece_list (top + 1) (visible_views false (section_views_of s (totals_of f.sections) (file_key_of 0 i) 0 0 0 f.sections))
-    ≡ section_pieces s.selection (length f.sections) (file_key_of 0 i) (top + 1) 0 rs f.sections
-unfolded-pieces s i top f rs h e =
-    let k = file_key_of 0 i in
-    let vs = section_views_of s (totals_of f.sections) k 0 0 0 f.sections in
-    let same : top + 1 ≡ top + 1 + 0 = omega arith in
-    ap (λ n. section_piece_list n (visible_views false vs)) same
-    ∙ pieces-are s (totals_of f.sections) k (top + 1) 0 0 0 0 false f.sections h
-    ∙ ap (λ (q : List SectionRows). section_pieces s.selection (length f.sections) k (top + 1) 0 q f.sections) (sym e)
-
 rows-count : (s : ViewState) (t : Totals) (k : FileKey) (i editable line top : ℕ) (before : Bool) (xs : List Section) → length (section_views_rows top before (section_views_of s t k i editable line xs)) ≡ length xs
 unfolding section_views_of section_views_rows
 rows-count s t k i editable line top before [] = refl
 rows-count s t k i editable line top before (x ∷ xs) = ap suc (rows-count s t k (suc i) _ _ _ _ xs)
+
+-- their pieces by their rows
+pub unfolded-pieces : (s : ViewState) (i top : ℕ) (f : File) (rs : List SectionRows) → HaveHeights (visible_views false (section_views_of s (totals_of f.sections) (file_key_of 0 i) 0 0 0 f.sections))
+    → rs ≡ section_views_rows 0 false (section_views_of s (totals_of f.sections) (file_key_of 0 i) 0 0 0 f.sections)
+    → section_piece_list (top + 1) (visible_views false (section_views_of s (totals_of f.sections) (file_key_of 0 i) 0 0 0 f.sections))
+    ≡ section_pieces s.selection (length rs) (file_key_of 0 i) (top + 1) 0 rs
+unfolded-pieces s i top f rs h e =
+    let k = file_key_of 0 i in
+    let vs = section_views_of s (totals_of f.sections) k 0 0 0 f.sections in
+    let same : top + 1 ≡ top + 1 + 0 = omega arith in
+    let many : length rs ≡ length f.sections = ap (λ (q : List SectionRows). length q) e ∙ rows-count s (totals_of f.sections) k 0 0 0 0 false f.sections in
+    ap (λ n. section_piece_list n (visible_views false vs)) same
+    ∙ pieces-are s (totals_of f.sections) k (top + 1) 0 0 0 0 false f.sections h
+    ∙ ap (λ (q : List SectionRows). section_pieces s.selection (length f.sections) k (top + 1) 0 q) (sym e)
+    ∙ ap (λ n. section_pieces s.selection n k (top + 1) 0 rs) (sym many)
 
 -- ---- the file that has a row
 
@@ -134,7 +137,7 @@ module _ (s : ViewState) (m w y c : ℕ) where
   -- a row of an unfolded file below its header
   section-owner : (i top : ℕ) (f : File) (r : FileRows) → let v = file_view_of s (file_key_of 0 i) f in
       HaveRows (shown_file v).sections → r.top ≡ top → r.sections ≡ section_views_rows 0 false v.section_views → top ≤ y → y < top + file_height v → nat_eq y top ≡ false
-      → sections_owner w (sections_in_file top v) y c ≡ sections_owner w (sections_of (section_list (section_in s.selection i r f y))) y c
+      → sections_owner w (sections_in_file top v) y c ≡ sections_owner w (sections_of (section_list (section_in s.selection i r y))) y c
   section-owner i top f r some at is low high other =
       go (is_fold_open v.expand_box) refl high
     where
@@ -147,20 +150,19 @@ module _ (s : ViewState) (m w y c : ℕ) where
       below : top + 1 ≤ y
       below = grind (arith, differ, low)
 
-      search : sections_owner w (sections_of (section_list (section_from s.selection (length f.sections) (file_key_of 0 i) (r.top + 1) (y - (r.top + 1)) 0 r.sections f.sections))) y c
-          ≡ sections_owner w (sections_of (section_list (section_in s.selection i r f y))) y c
+      search : sections_owner w (sections_of (section_list (section_from s.selection (length r.sections) (file_key_of 0 i) (r.top + 1) (y - (r.top + 1)) 0 r.sections))) y c
+          ≡ sections_owner w (sections_of (section_list (section_in s.selection i r y))) y c
       search =
           let late : nat_le y r.top ≡ false = grind (arith, nat_tests, below, at) in
-          let many : length r.sections ≡ length f.sections = ap (λ (q : List SectionRows). length q) is ∙ rows-count s (totals_of f.sections) (file_key_of 0 i) 0 0 0 0 false f.sections in
-          rw late (ap (λ (o : Option SectionPiece). sections_owner w (sections_of (section_list o)) y c) (sym (section-found s.selection i r f (y - (r.top + 1)) many)))
+          rw late (ap (λ (o : Option SectionPiece). sections_owner w (sections_of (section_list o)) y c) (sym (section-found s.selection i r (y - (r.top + 1)))))
 
       go : (b : Bool) → is_fold_open v.expand_box ≡ b → y < top + (1 + (if b then sections_height (visible_views false v.section_views) else 0))
           → sections_owner w (if b then section_piece_list (top + 1) (visible_views false v.section_views) else []) y c
-          ≡ sections_owner w (sections_of (section_list (section_in s.selection i r f y))) y c
+          ≡ sections_owner w (sections_of (section_list (section_in s.selection i r y))) y c
       go true e h =
           ap (λ (ps : List SectionPiece). sections_owner w ps y c) (unfolded-pieces s i top f r.sections (file-heights v e some) is)
-          ∙ ap (λ (n : ℕ). sections_owner w (section_pieces s.selection (length f.sections) (file_key_of 0 i) (n + 1) 0 r.sections f.sections) y c) (sym at)
-          ∙ owner-on s.selection (length f.sections) (file_key_of 0 i) (r.top + 1) w y c 0 r.sections f.sections (omega (arith, below, at))
+          ∙ ap (λ (n : ℕ). sections_owner w (section_pieces s.selection (length r.sections) (file_key_of 0 i) (n + 1) 0 r.sections) y c) (sym at)
+          ∙ owner-on s.selection (length r.sections) (file_key_of 0 i) (r.top + 1) w y c 0 r.sections (omega (arith, below, at))
           ∙ search
       go false e h = absurd (differ (omega (arith, h, low)))
 
@@ -173,19 +175,19 @@ module _ (s : ViewState) (m w y c : ℕ) where
       HaveRows (shown_file v).sections → r.top ≡ top → r.end ≡ top + file_height v → r.sections ≡ section_views_rows 0 false v.section_views → sections_owner w rest y c ≡ None
       → is_from top (top + file_height v) y ≡ true
       → file_owner w (file_piece_of m top v) (sections_owner w (sections_in_file top v ++ rest) y c) y c
-      ≡ list_owner (Some (record { file = file_piece m i r; section = section_in s.selection i r f y }))
+      ≡ list_owner (Some (record { file = file_piece m i r; section = section_in s.selection i r y }))
   here i top f r rest some at to is none e =
       let v = file_view_of s (file_key_of 0 i) f in
       let within = from-true top (top + file_height v) y e in
       let same = piece-is i top f r at to in
       let found : is_from r.top r.end y ≡ true = rw (at, to) e in
-      file-alone (file_piece_of m top v) (sections_owner w (sections_in_file top v ++ rest) y c) (sections_owner w (sections_of (section_list (section_in s.selection i r f y))) y c)
+      file-alone (file_piece_of m top v) (sections_owner w (sections_in_file top v ++ rest) y c) (sections_owner w (sections_of (section_list (section_in s.selection i r y))) y c)
       (λ other. no-more w y c (sections_in_file top v) rest none ∙ section-owner i top f r some at is within.0 within.1 other)
-      ∙ ap (λ (p : FilePiece). file_owner w p (sections_owner w (sections_of (section_list (section_in s.selection i r f y))) y c) y c) same
+      ∙ ap (λ (p : FilePiece). file_owner w p (sections_owner w (sections_of (section_list (section_in s.selection i r y))) y c) y c) same
       ∙ rw found refl
 
   pub owners-on : (i n top : ℕ) (fs : List File) (rs : List FileRows) → AreFilesOf 0 n (map shown_file (file_views_of s 0 i fs)) → HaveRowsOf top rs (file_views_of s 0 i fs) → top ≤ y
-      → rows_owner w (file_piece_list m top (file_views_of s 0 i fs)) (sections_in_files top (file_views_of s 0 i fs)) y c ≡ list_owner (pieces_from s.selection m y i rs fs)
+      → rows_owner w (file_piece_list m top (file_views_of s 0 i fs)) (sections_in_files top (file_views_of s 0 i fs)) y c ≡ list_owner (pieces_from s.selection m y i rs)
   unfolding file_views_of
   owners-on i n top [] [] ids h low = refl
   owners-on i n top [] (r ∷ rs) ids h low = absurd h
@@ -206,10 +208,10 @@ module _ (s : ViewState) (m w y c : ℕ) where
       same = rw (h.0, h.1) refl
 
       go : (b : Bool) → is_from top (top + file_height v) y ≡ b
-          → (top + file_height v ≤ y → rows_owner w (file_piece_list m (top + file_height v) vs) rest y c ≡ list_owner (pieces_from s.selection m y (suc i) rs fs))
+          → (top + file_height v ≤ y → rows_owner w (file_piece_list m (top + file_height v) vs) rest y c ≡ list_owner (pieces_from s.selection m y (suc i) rs))
           → (if b then file_owner w (file_piece_of m top v) (sections_owner w (sections_in_file top v ++ rest) y c) y c
           else files_owner w (file_piece_list m (top + file_height v) vs) (sections_owner w (sections_in_file top v ++ rest) y c) y c)
-          ≡ list_owner (if nat_le r.top y && nat_lt y r.end then Some (record { file = file_piece m i r; section = section_in s.selection i r f y }) else pieces_from s.selection m y (suc i) rs fs)
+          ≡ list_owner (if nat_le r.top y && nat_lt y r.end then Some (record { file = file_piece m i r; section = section_in s.selection i r y }) else pieces_from s.selection m y (suc i) rs)
       go true e more =
           let within = from-true top (top + file_height v) y e in
           rw (same ∙ e) (here i top f r rest ids.0.rows h.0 h.1 h.2 (files-above w y c (top + file_height v) vs within.1) e)
@@ -220,7 +222,7 @@ module _ (s : ViewState) (m w y c : ℕ) where
           ∙ more past)
 
   -- no file has a row above the first
-  found-above : (i top : ℕ) (fs : List File) (rs : List FileRows) → HaveRowsOf top rs (file_views_of s 0 i fs) → y < top → pieces_from s.selection m y i rs fs ≡ None
+  found-above : (i top : ℕ) (fs : List File) (rs : List FileRows) → HaveRowsOf top rs (file_views_of s 0 i fs) → y < top → pieces_from s.selection m y i rs ≡ None
   unfolding file_views_of
   found-above i top [] [] h high = refl
   found-above i top [] (r ∷ rs) h high = absurd h
@@ -231,11 +233,11 @@ module _ (s : ViewState) (m w y c : ℕ) where
       rw out (found-above (suc i) (top + file_height v) fs rs h.3 (omega (arith, high)))
 
   pub owners-are : (i n top : ℕ) (fs : List File) (rs : List FileRows) → AreFilesOf 0 n (map shown_file (file_views_of s 0 i fs)) → HaveRowsOf top rs (file_views_of s 0 i fs)
-      → rows_owner w (file_piece_list m top (file_views_of s 0 i fs)) (sections_in_files top (file_views_of s 0 i fs)) y c ≡ list_owner (pieces_from s.selection m y i rs fs)
+      → rows_owner w (file_piece_list m top (file_views_of s 0 i fs)) (sections_in_files top (file_views_of s 0 i fs)) y c ≡ list_owner (pieces_from s.selection m y i rs)
   owners-are i n top fs rs ids h = go (nat_le top y) refl
     where
       go : (b : Bool) → nat_le top y ≡ b
-          → rows_owner w (file_piece_list m top (file_views_of s 0 i fs)) (sections_in_files top (file_views_of s 0 i fs)) y c ≡ list_owner (pieces_from s.selection m y i rs fs)
+          → rows_owner w (file_piece_list m top (file_views_of s 0 i fs)) (sections_in_files top (file_views_of s 0 i fs)) y c ≡ list_owner (pieces_from s.selection m y i rs)
       go true e = owners-on i n top fs rs ids h (grind (arith, nat_tests, e))
       go false e =
           let high : y < top = grind (arith, nat_tests, e) in

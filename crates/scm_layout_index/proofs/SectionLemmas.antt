@@ -3,10 +3,8 @@ use Rattle.std.proofs.Common.{◌≡◌, ℕ, suc, ◌+◌, ◌-◌, ◌<◌, �
 use Rattle.std.specs.Prelude.{nat_le, nat_lt, if◌then◌else◌, option_and_then, slice_get}
 use Rattle.std.proofs.lemmas.Option.{slice_get-get_or, slice_get_cases}
 use Rattle.std.proofs.lemmas.Bool.Decides.{nat_tests}
-use Rattle.scm_types.specs.declared.file.File.{File}
 use Rattle.scm_types.specs.declared.keys.FileKey.{FileKey}
 use Rattle.scm_types.specs.declared.keys.SelectionKey.{SelectionKey}
-use Rattle.scm_types.specs.declared.section.Section.{Section}
 use Rattle.scm_types.specs.Keys.{section_key_of}
 use Rattle.scm_widgets.specs.OverlayRects.{is_from}
 use Rattle.scm_document.specs.declared.index_pieces.SectionPiece.{SectionPiece}
@@ -19,26 +17,25 @@ use Rattle.scm_layout.specs.declared.section_rows.SectionRows.{SectionRows}
 use Rattle.scm_layout.specs.Rows.{file_key_of}
 use Rattle.scm_layout.specs.Searches.{file_on, index_on, section_on}
 use Rattle.scm_layout_index.specs.declared.row_pieces.RowPieces.{RowPieces}
-use Rattle.scm_layout_index.specs.RowPieces.{end_of_files, file_piece, piece_at, piece_list, pieces_at, pieces_on, pinned_piece, section_in, section_list, section_piece, section_pieces}
+use Rattle.scm_layout_index.specs.RowPieces.{end_of_files, file_piece, piece_at, piece_list, pieces_at, pieces_on, pinned_piece, section_in, section_list, section_piece}
+use Rattle.scm_layout_index.proofs.PieceLists.{section_pieces}
 
 -- ---- a search from the front
 
 -- the piece of the section that has row y, counted like their own rows from row `first`, if there is one; the first section has index i
-abbrev pub section_from : SelectionKey → ℕ → FileKey → ℕ → ℕ → ℕ → List SectionRows → List Section → Option SectionPiece
-section_from selection total k first y i [] sections = None
-section_from selection total k first y i (r ∷ rs) [] = None
-section_from selection total k first y i (r ∷ rs) (section ∷ more) =
-    if nat_le r.top y && nat_lt y r.end then Some (section_piece selection total (section_key_of k i) first r section)
-    else section_from selection total k first y (suc i) rs more
+abbrev pub section_from : SelectionKey → ℕ → FileKey → ℕ → ℕ → ℕ → List SectionRows → Option SectionPiece
+section_from selection total k first y i [] = None
+section_from selection total k first y i (r ∷ rs) =
+    if nat_le r.top y && nat_lt y r.end then Some (section_piece selection total (section_key_of k i) first r)
+    else section_from selection total k first y (suc i) rs
 
 -- the pieces that have row y, if any; the first file has index i
-abbrev pub pieces_from : SelectionKey → ℕ → ℕ → ℕ → List FileRows → List File → Option RowPieces
-pieces_from selection m y i [] fs = None
-pieces_from selection m y i (r ∷ rs) [] = None
-pieces_from selection m y i (r ∷ rs) (f ∷ fs) =
+abbrev pub pieces_from : SelectionKey → ℕ → ℕ → ℕ → List FileRows → Option RowPieces
+pieces_from selection m y i [] = None
+pieces_from selection m y i (r ∷ rs) =
     if nat_le r.top y && nat_lt y r.end
-    then Some (record { file = file_piece m i r; section = section_in selection i r f y })
-    else pieces_from selection m y (suc i) rs fs
+    then Some (record { file = file_piece m i r; section = section_in selection i r y })
+    else pieces_from selection m y (suc i) rs
 
 -- the file that has row m, in a list; the first file has index i
 abbrev pub pinned_from : ℕ → ℕ → List FileRows → List Piece
@@ -71,66 +68,60 @@ abbrev file_end : FileRows → ℕ
 file_end r = r.end
 
 module _ (selection : SelectionKey) (total : ℕ) (k : FileKey) (first row : ℕ) where
-  pub found-section : (i j : ℕ) (rs : List SectionRows) (xs : List Section) (r : SectionRows) (x : Section) → index_on section_top section_end row i rs ≡ Some j → length rs ≡ length xs
-      → r ≡ get_or rs (j - i) r → x ≡ get_or xs (j - i) x → section_from selection total k first row i rs xs ≡ Some (section_piece selection total (section_key_of k j) first r x)
-  found-section i j [] xs r x e n p q = absurd cc
-  found-section i j (a ∷ rs) [] r x e n p q = absurd (omega (arith, n))
-  found-section i j (a ∷ rs) (b ∷ xs) r x e n p q = go (nat_le a.top row && nat_lt row a.end) e (λ f. found-section (suc i) j rs xs r x f (omega (arith, n)))
+  pub found-section : (i j : ℕ) (rs : List SectionRows) (r : SectionRows) → index_on section_top section_end row i rs ≡ Some j → r ≡ get_or rs (j - i) r
+      → section_from selection total k first row i rs ≡ Some (section_piece selection total (section_key_of k j) first r)
+  found-section i j [] r e p = absurd cc
+  found-section i j (a ∷ rs) r e p = go (nat_le a.top row && nat_lt row a.end) e (λ f. found-section (suc i) j rs r f)
     where
       go : (t : Bool) → (if t then Some i else index_on section_top section_end row (suc i) rs) ≡ Some j
-          → (index_on section_top section_end row (suc i) rs ≡ Some j → r ≡ get_or rs (j - suc i) r → x ≡ get_or xs (j - suc i) x → section_from selection total k first row (suc i) rs xs ≡ Some (section_piece selection total (section_key_of k j) first r x))
-          → (if t then Some (section_piece selection total (section_key_of k i) first a b) else section_from selection total k first row (suc i) rs xs) ≡ Some (section_piece selection total (section_key_of k j) first r x)
+          → (index_on section_top section_end row (suc i) rs ≡ Some j → r ≡ get_or rs (j - suc i) r → section_from selection total k first row (suc i) rs ≡ Some (section_piece selection total (section_key_of k j) first r))
+          → (if t then Some (section_piece selection total (section_key_of k i) first a) else section_from selection total k first row (suc i) rs) ≡ Some (section_piece selection total (section_key_of k j) first r)
       go true e more =
           let same : i ≡ j = cc in
           let zero : j - i ≡ 0 = omega (arith, same) in
           let first_row : r ≡ a = p ∙ ap (λ m. get_or (a ∷ rs) m r) zero in
-          let first_one : x ≡ b = q ∙ ap (λ m. get_or (b ∷ xs) m x) zero in
-          rw (same, first_row, first_one) refl
+          rw (same, first_row) refl
       go false e more =
           let low = (bound section_top section_end row (suc i) j rs e).0 in
           let next : j - i ≡ suc (j - suc i) = omega (arith, low) in
-          more e (p ∙ ap (λ m. get_or (a ∷ rs) m r) next) (q ∙ ap (λ m. get_or (b ∷ xs) m x) next)
+          more e (p ∙ ap (λ m. get_or (a ∷ rs) m r) next)
 
-  pub found-none : (i : ℕ) (rs : List SectionRows) (xs : List Section) → index_on section_top section_end row i rs ≡ None → section_from selection total k first row i rs xs ≡ None
-  found-none i [] xs e = refl
-  found-none i (a ∷ rs) [] e = refl
-  found-none i (a ∷ rs) (b ∷ xs) e = go (nat_le a.top row && nat_lt row a.end) e (λ f. found-none (suc i) rs xs f)
+  pub found-none : (i : ℕ) (rs : List SectionRows) → index_on section_top section_end row i rs ≡ None → section_from selection total k first row i rs ≡ None
+  found-none i [] e = refl
+  found-none i (a ∷ rs) e = go (nat_le a.top row && nat_lt row a.end) e (λ f. found-none (suc i) rs f)
     where
       go : (t : Bool) → (if t then Some i else index_on section_top section_end row (suc i) rs) ≡ None
-          → (index_on section_top section_end row (suc i) rs ≡ None → section_from selection total k first row (suc i) rs xs ≡ None)
-          → (if t then Some (section_piece selection total (section_key_of k i) first a b) else section_from selection total k first row (suc i) rs xs) ≡ None
+          → (index_on section_top section_end row (suc i) rs ≡ None → section_from selection total k first row (suc i) rs ≡ None)
+          → (if t then Some (section_piece selection total (section_key_of k i) first a) else section_from selection total k first row (suc i) rs) ≡ None
       go true e more = absurd cc
       go false e more = more e
 
 module _ (selection : SelectionKey) (m row : ℕ) where
-  pub found-file : (i j : ℕ) (rs : List FileRows) (fs : List File) (r : FileRows) (f : File) → index_on file_top file_end row i rs ≡ Some j → length rs ≡ length fs
-      → r ≡ get_or rs (j - i) r → f ≡ get_or fs (j - i) f → pieces_from selection m row i rs fs ≡ Some (record { file = file_piece m j r; section = section_in selection j r f row })
-  found-file i j [] fs r f e n p q = absurd cc
-  found-file i j (a ∷ rs) [] r f e n p q = absurd (omega (arith, n))
-  found-file i j (a ∷ rs) (b ∷ fs) r f e n p q = go (nat_le a.top row && nat_lt row a.end) e (λ g. found-file (suc i) j rs fs r f g (omega (arith, n)))
+  pub found-file : (i j : ℕ) (rs : List FileRows) (r : FileRows) → index_on file_top file_end row i rs ≡ Some j → r ≡ get_or rs (j - i) r
+      → pieces_from selection m row i rs ≡ Some (record { file = file_piece m j r; section = section_in selection j r row })
+  found-file i j [] r e p = absurd cc
+  found-file i j (a ∷ rs) r e p = go (nat_le a.top row && nat_lt row a.end) e (λ g. found-file (suc i) j rs r g)
     where
       go : (t : Bool) → (if t then Some i else index_on file_top file_end row (suc i) rs) ≡ Some j
-          → (index_on file_top file_end row (suc i) rs ≡ Some j → r ≡ get_or rs (j - suc i) r → f ≡ get_or fs (j - suc i) f → pieces_from selection m row (suc i) rs fs ≡ Some (record { file = file_piece m j r; section = section_in selection j r f row }))
-          → (if t then Some (record { file = file_piece m i a; section = section_in selection i a b row }) else pieces_from selection m row (suc i) rs fs) ≡ Some (record { file = file_piece m j r; section = section_in selection j r f row })
+          → (index_on file_top file_end row (suc i) rs ≡ Some j → r ≡ get_or rs (j - suc i) r → pieces_from selection m row (suc i) rs ≡ Some (record { file = file_piece m j r; section = section_in selection j r row }))
+          → (if t then Some (record { file = file_piece m i a; section = section_in selection i a row }) else pieces_from selection m row (suc i) rs) ≡ Some (record { file = file_piece m j r; section = section_in selection j r row })
       go true e more =
           let same : i ≡ j = cc in
           let zero : j - i ≡ 0 = omega (arith, same) in
           let first_row : r ≡ a = p ∙ ap (λ m. get_or (a ∷ rs) m r) zero in
-          let first_one : f ≡ b = q ∙ ap (λ m. get_or (b ∷ fs) m f) zero in
-          rw (same, first_row, first_one) refl
+          rw (same, first_row) refl
       go false e more =
           let low = (bound file_top file_end row (suc i) j rs e).0 in
           let next : j - i ≡ suc (j - suc i) = omega (arith, low) in
-          more e (p ∙ ap (λ m. get_or (a ∷ rs) m r) next) (q ∙ ap (λ m. get_or (b ∷ fs) m f) next)
+          more e (p ∙ ap (λ m. get_or (a ∷ rs) m r) next)
 
-  pub found-nothing : (i : ℕ) (rs : List FileRows) (fs : List File) → index_on file_top file_end row i rs ≡ None → pieces_from selection m row i rs fs ≡ None
-  found-nothing i [] fs e = refl
-  found-nothing i (a ∷ rs) [] e = refl
-  found-nothing i (a ∷ rs) (b ∷ fs) e = go (nat_le a.top row && nat_lt row a.end) e (λ f. found-nothing (suc i) rs fs f)
+  pub found-nothing : (i : ℕ) (rs : List FileRows) → index_on file_top file_end row i rs ≡ None → pieces_from selection m row i rs ≡ None
+  found-nothing i [] e = refl
+  found-nothing i (a ∷ rs) e = go (nat_le a.top row && nat_lt row a.end) e (λ f. found-nothing (suc i) rs f)
     where
       go : (t : Bool) → (if t then Some i else index_on file_top file_end row (suc i) rs) ≡ None
-          → (index_on file_top file_end row (suc i) rs ≡ None → pieces_from selection m row (suc i) rs fs ≡ None)
-          → (if t then Some (record { file = file_piece m i a; section = section_in selection i a b row }) else pieces_from selection m row (suc i) rs fs) ≡ None
+          → (index_on file_top file_end row (suc i) rs ≡ None → pieces_from selection m row (suc i) rs ≡ None)
+          → (if t then Some (record { file = file_piece m i a; section = section_in selection i a row }) else pieces_from selection m row (suc i) rs) ≡ None
       go true e more = absurd cc
       go false e more = more e
 
@@ -175,30 +166,27 @@ read-at xs j h = elim ((slice_get_cases xs j).1) [
   | inr p ↦ absurd (omega (arith, h, p.0))
 ]
 
-pub section-found : (selection : SelectionKey) (i : ℕ) (r : FileRows) (f : File) (y : ℕ) → length r.sections ≡ length f.sections
-    → option_and_then (piece_at selection i r f) (section_on y r.sections) ≡ section_from selection (length f.sections) (file_key_of 0 i) (r.top + 1) y 0 r.sections f.sections
-section-found selection i r f y n = go (section_on y r.sections) refl
+pub section-found : (selection : SelectionKey) (i : ℕ) (r : FileRows) (y : ℕ)
+    → option_and_then (piece_at selection i r) (section_on y r.sections) ≡ section_from selection (length r.sections) (file_key_of 0 i) (r.top + 1) y 0 r.sections
+section-found selection i r y = go (section_on y r.sections) refl
   where
     go : (o : Option ℕ) → section_on y r.sections ≡ o
-        → option_and_then (piece_at selection i r f) o ≡ section_from selection (length f.sections) (file_key_of 0 i) (r.top + 1) y 0 r.sections f.sections
-    go None e = sym (found-none selection (length f.sections) (file_key_of 0 i) (r.top + 1) y 0 r.sections f.sections e)
+        → option_and_then (piece_at selection i r) o ≡ section_from selection (length r.sections) (file_key_of 0 i) (r.top + 1) y 0 r.sections
+    go None e = sym (found-none selection (length r.sections) (file_key_of 0 i) (r.top + 1) y 0 r.sections e)
     go (Some j) e =
         let within = (bound section_top section_end y 0 j r.sections e).1 in
         let s = read-at r.sections j (omega (arith, within)) in
-        let x = read-at f.sections j (omega (arith, within, n)) in
-        rw (s.1, x.1) (sym (found-section selection (length f.sections) (file_key_of 0 i) (r.top + 1) y 0 j r.sections f.sections s.0 x.0 e n s.2 x.2))
+        rw s.1 (sym (found-section selection (length r.sections) (file_key_of 0 i) (r.top + 1) y 0 j r.sections s.0 e s.2))
 
-pub pieces-found : (selection : SelectionKey) (m y : ℕ) (rs : List FileRows) (fs : List File) → length rs ≡ length fs
-    → pieces_on selection m y rs fs ≡ pieces_from selection m y 0 rs fs
-pieces-found selection m y rs fs n = go (file_on y rs) refl
+pub pieces-found : (selection : SelectionKey) (m y : ℕ) (rs : List FileRows) → pieces_on selection m y rs ≡ pieces_from selection m y 0 rs
+pieces-found selection m y rs = go (file_on y rs) refl
   where
-    go : (o : Option ℕ) → file_on y rs ≡ o → option_and_then (pieces_at selection m y rs fs) o ≡ pieces_from selection m y 0 rs fs
-    go None e = sym (found-nothing selection m y 0 rs fs e)
+    go : (o : Option ℕ) → file_on y rs ≡ o → option_and_then (pieces_at selection m y rs) o ≡ pieces_from selection m y 0 rs
+    go None e = sym (found-nothing selection m y 0 rs e)
     go (Some j) e =
         let within = (bound file_top file_end y 0 j rs e).1 in
         let r = read-at rs j (omega (arith, within)) in
-        let f = read-at fs j (omega (arith, within, n)) in
-        rw (r.1, f.1) (sym (found-file selection m y 0 j rs fs r.0 f.0 e n r.2 f.2))
+        rw r.1 (sym (found-file selection m y 0 j rs r.0 e r.2))
 
 pub pinned-found : (m : ℕ) (rs : List FileRows) → piece_list (pinned_piece m rs) ≡ pinned_from m 0 rs
 pinned-found m rs = go (file_on m rs) refl
@@ -227,20 +215,19 @@ end-last top (a ∷ b ∷ rs) r e =
 -- ---- all of them, and the owner among them
 
 module _ (selection : SelectionKey) (total : ℕ) (k : FileKey) (first : ℕ) where
-  pub owner-on : (w y c i : ℕ) (rs : List SectionRows) (xs : List Section) → first ≤ y
-      → sections_owner w (section_pieces selection total k first i rs xs) y c ≡ sections_owner w (sections_of (section_list (section_from selection total k first (y - first) i rs xs))) y c
-  owner-on w y c i [] xs h = refl
-  owner-on w y c i (r ∷ rs) [] h = refl
-  owner-on w y c i (r ∷ rs) (x ∷ xs) h =
-      go (nat_le r.top (y - first) && nat_lt (y - first) r.end) (nat_lt r.top r.end) refl refl (owner-on w y c (suc i) rs xs h)
+  pub owner-on : (w y c i : ℕ) (rs : List SectionRows) → first ≤ y
+      → sections_owner w (section_pieces selection total k first i rs) y c ≡ sections_owner w (sections_of (section_list (section_from selection total k first (y - first) i rs))) y c
+  owner-on w y c i [] h = refl
+  owner-on w y c i (r ∷ rs) h =
+      go (nat_le r.top (y - first) && nat_lt (y - first) r.end) (nat_lt r.top r.end) refl refl (owner-on w y c (suc i) rs h)
     where
       p : SectionPiece
-      p = section_piece selection total (section_key_of k i) first r x
+      p = section_piece selection total (section_key_of k i) first r
 
       go : (b d : Bool) → (nat_le r.top (y - first) && nat_lt (y - first) r.end) ≡ b → nat_lt r.top r.end ≡ d
-          → sections_owner w (section_pieces selection total k first (suc i) rs xs) y c ≡ sections_owner w (sections_of (section_list (section_from selection total k first (y - first) (suc i) rs xs))) y c
-          → sections_owner w (if d then p ∷ section_pieces selection total k first (suc i) rs xs else section_pieces selection total k first (suc i) rs xs) y c
-          ≡ sections_owner w (sections_of (section_list (if b then Some p else section_from selection total k first (y - first) (suc i) rs xs))) y c
+          → sections_owner w (section_pieces selection total k first (suc i) rs) y c ≡ sections_owner w (sections_of (section_list (section_from selection total k first (y - first) (suc i) rs))) y c
+          → sections_owner w (if d then p ∷ section_pieces selection total k first (suc i) rs else section_pieces selection total k first (suc i) rs) y c
+          ≡ sections_owner w (sections_of (section_list (if b then Some p else section_from selection total k first (y - first) (suc i) rs))) y c
       go true true e f more =
           let here : is_from (first + r.top) (first + r.end) y ≡ true = grind (arith, nat_tests, e, h) in
           rw here refl

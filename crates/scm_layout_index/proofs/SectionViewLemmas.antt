@@ -20,9 +20,10 @@ use Rattle.scm_document.specs.Rows as views
 use Rattle.scm_document.specs.SectionWalk.{visible_views}
 use Rattle.scm_document.specs.ViewPieces as pieces
 use Rattle.scm_view.specs.ViewState.{Totals, ViewState, old_lines, section_view_of, section_views_of, selected_in}
-use Rattle.scm_layout.specs.Rows.{rows_at}
+use Rattle.scm_layout.specs.Rows.{rows_at, shape_of}
 use Rattle.scm_layout_laws.specs.ViewRows.{section_views_rows}
-use Rattle.scm_layout_index.specs.RowPieces.{is_wide, kinds_of, section_piece, section_pieces}
+use Rattle.scm_layout_index.specs.RowPieces.{is_wide, kinds_of, section_piece}
+use Rattle.scm_layout_index.proofs.PieceLists.{section_pieces}
 
 -- ---- the piece of a section
 
@@ -66,7 +67,7 @@ module _ (s : ViewState) (t : Totals) (k : FileKey) where
   abbrev view : ℕ → ℕ → ℕ → Section → SectionView
   view i editable line x = section_view_of s t (section_key_of k i) editable line x
 
-  wide-is : (i editable line : ℕ) (x : Section) → pieces.is_wide_of (view i editable line x) x ≡ is_wide s.selection t.sections (section_key_of k i) (views.section_height (view i editable line x) x) x
+  wide-is : (i editable line : ℕ) (x : Section) → pieces.is_wide_of (view i editable line x) x ≡ is_wide s.selection t.sections (section_key_of k i) (views.section_height (view i editable line x) x) (shape_of x)
   wide-is i editable line (Unchanged lines) =
       let v = view i editable line (Unchanged lines) in
       let n = length lines in
@@ -78,7 +79,7 @@ module _ (s : ViewState) (t : Totals) (k : FileKey) where
   wide-is i editable line (FileMode is_checked mode) = selected-is (section_key_of k i) s.selection
   wide-is i editable line (Binary is_checked old new) = selected-is (section_key_of k i) s.selection
 
-  kinds-are : (i editable line : ℕ) (x : Section) → pieces.kinds_of (view i editable line x) x ≡ kinds_of t.sections i x
+  kinds-are : (i editable line : ℕ) (x : Section) → pieces.kinds_of (view i editable line x) x ≡ kinds_of t.sections i (shape_of x)
   kinds-are i editable line (Unchanged lines) = refl
   kinds-are i editable line (Changed lines) = refl
   kinds-are i editable line (FileMode is_checked mode) = refl
@@ -88,15 +89,15 @@ module _ (s : ViewState) (t : Totals) (k : FileKey) where
   piece-with i top end wide kinds = record { key = section_key_of k i; top = top; end = end; is_wide = wide; kinds = kinds }
 
   piece-is : (i editable line first top : ℕ) (x : Section)
-      → pieces.section_piece_of (view i editable line x) (first + top) ≡ section_piece s.selection t.sections (section_key_of k i) first (rows_at top (views.section_height (view i editable line x) x)) x
+      → pieces.section_piece_of (view i editable line x) (first + top) ≡ section_piece s.selection t.sections (section_key_of k i) first (rows_at top (views.section_height (view i editable line x) x) (shape_of x))
   piece-is i editable line first top x =
       let h = views.section_height (view i editable line x) x in
       let below : (first + top) + h ≡ first + (top + h) = omega arith in
       let size : (top + h) - top ≡ h = omega arith in
       ap (λ (e : ℕ). piece-with i (first + top) e (pieces.is_wide_of (view i editable line x) x) (pieces.kinds_of (view i editable line x) x)) below
       ∙ ap (λ (b : Bool). piece-with i (first + top) (first + (top + h)) b (pieces.kinds_of (view i editable line x) x)) (wide-is i editable line x)
-      ∙ ap (λ (n : ℕ). piece-with i (first + top) (first + (top + h)) (is_wide s.selection t.sections (section_key_of k i) n x) (pieces.kinds_of (view i editable line x) x)) (sym size)
-      ∙ ap (λ (r : RowKinds). piece-with i (first + top) (first + (top + h)) (is_wide s.selection t.sections (section_key_of k i) ((top + h) - top) x) r) (kinds-are i editable line x)
+      ∙ ap (λ (n : ℕ). piece-with i (first + top) (first + (top + h)) (is_wide s.selection t.sections (section_key_of k i) n (shape_of x)) (pieces.kinds_of (view i editable line x) x)) (sym size)
+      ∙ ap (λ (r : RowKinds). piece-with i (first + top) (first + (top + h)) (is_wide s.selection t.sections (section_key_of k i) ((top + h) - top) (shape_of x)) r) (kinds-are i editable line x)
 
 -- ---- the pieces of the sections of a file
 
@@ -108,7 +109,7 @@ HaveHeights (v ∷ vs) = (0 < views.section_height v v.section.now) × HaveHeigh
 module _ (s : ViewState) (totals : Totals) (k : FileKey) (first : ℕ) where
   pub pieces-are : (i editable line top : ℕ) (before : Bool) (xs : List Section) → HaveHeights (visible_views before (section_views_of s totals k i editable line xs))
       → pieces.section_piece_list (first + top) (visible_views before (section_views_of s totals k i editable line xs))
-      ≡ section_pieces s.selection totals.sections k first i (section_views_rows top before (section_views_of s totals k i editable line xs)) xs
+      ≡ section_pieces s.selection totals.sections k first i (section_views_rows top before (section_views_of s totals k i editable line xs))
   unfolding section_views_of section_views_rows
   pieces-are i editable line top before [] h = refl
   pieces-are i editable line top before (x ∷ xs) h =
@@ -131,16 +132,16 @@ module _ (s : ViewState) (totals : Totals) (k : FileKey) (first : ℕ) where
 
       go : (b : Bool) → HaveHeights (if b then v ∷ visible_views (views.is_open v) vs else visible_views (views.is_open v) vs)
           → ((t : ℕ) → HaveHeights (visible_views (views.is_open v) vs)
-          → pieces.section_piece_list (first + t) (visible_views (views.is_open v) vs) ≡ section_pieces s.selection totals.sections k first (suc i) (section_views_rows t (views.is_open v) vs) xs)
+          → pieces.section_piece_list (first + t) (visible_views (views.is_open v) vs) ≡ section_pieces s.selection totals.sections k first (suc i) (section_views_rows t (views.is_open v) vs))
           → pieces.section_piece_list (first + top) (if b then v ∷ visible_views (views.is_open v) vs else visible_views (views.is_open v) vs)
-          ≡ section_pieces s.selection totals.sections k first i (rows_at top (if b then n else 0) ∷ section_views_rows (top + (if b then n else 0)) (views.is_open v) vs) (x ∷ xs)
+          ≡ section_pieces s.selection totals.sections k first i (rows_at top (if b then n else 0) (shape_of x) ∷ section_views_rows (top + (if b then n else 0)) (views.is_open v) vs)
       go true h more =
           let some : nat_lt top (top + n) ≡ true = grind (arith, nat_tests, h.0) in
           let low : (first + top) + n ≡ first + (top + n) = omega arith in
           rw some
           (ap (λ (ps : List SectionPiece). pieces.section_piece_of v (first + top) ∷ ps)
           (ap (λ (m : ℕ). pieces.section_piece_list m (visible_views (views.is_open v) vs)) low ∙ more (top + n) h.1)
-          ∙ ap (λ (p : SectionPiece). p ∷ section_pieces s.selection totals.sections k first (suc i) (section_views_rows (top + n) (views.is_open v) vs) xs) (piece-is s totals k i editable line first top x))
+          ∙ ap (λ (p : SectionPiece). p ∷ section_pieces s.selection totals.sections k first (suc i) (section_views_rows (top + n) (views.is_open v) vs)) (piece-is s totals k i editable line first top x))
       go false h more =
           let none : nat_lt top (top + 0) ≡ false = grind (arith, nat_tests) in
           let same : top ≡ top + 0 = omega arith in

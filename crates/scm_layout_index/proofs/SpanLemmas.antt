@@ -4,13 +4,11 @@ use Rattle.std.specs.Prelude.{nat_eq, nat_lt, if◌then◌else◌, option_and_th
 use Rattle.std.specs.List.{flat_map, list_any}
 use Rattle.std.proofs.lemmas.Bool.Decides.{nat_tests}
 use Rattle.std.proofs.lemmas.List.Concat.{flat_map-cons}
-use Rattle.scm_types.specs.declared.file.File.{File}
 use Rattle.scm_types.specs.declared.keys.FileKey.{FileKey}
 use Rattle.scm_types.specs.declared.keys.SectionKey.{SectionKey}
 use Rattle.scm_types.specs.declared.keys.LineKey.{LineKey}
 use Rattle.scm_types.specs.declared.keys.SelectionKey.{SelectionKey}
 use Rattle.scm_types.specs.declared.keys.SelectionKey.TheVariants as keys
-use Rattle.scm_types.specs.declared.section.Section.{Section}
 use Rattle.scm_types.specs.Keys.{is_key, section_key_of, section_of_line}
 use Rattle.scm_document.specs.declared.index_pieces.SectionPiece.{SectionPiece}
 use Rattle.scm_document.specs.declared.index_pieces.Piece.{Piece}
@@ -22,7 +20,8 @@ use Rattle.scm_document.proofs.IndexLemmas.{lines-any}
 use Rattle.scm_layout.specs.declared.file_rows.FileRows.{FileRows}
 use Rattle.scm_layout.specs.declared.section_rows.SectionRows.{SectionRows}
 use Rattle.scm_layout.specs.Rows.{file_key_of}
-use Rattle.scm_layout_index.specs.RowPieces.{all_pieces, file_of_key, file_piece, file_sections, piece_list, piece_of_key, section_at, section_of_key, section_piece, section_pieces, shown_piece}
+use Rattle.scm_layout_index.specs.RowPieces.{file_of_key, file_piece, piece_list, piece_of_key, section_at, section_of_key, section_piece, shown_piece}
+use Rattle.scm_layout_index.proofs.PieceLists.{all_pieces, file_sections, section_pieces}
 
 -- ---- a key among places
 
@@ -71,44 +70,42 @@ no-rows key o e = no-place key ∙ ap (λ (x : Option Piece). rows_among key (pi
 -- ---- sections without the key
 
 module _ (key : SelectionKey) where
-  sections-skip : (selection : SelectionKey) (total : ℕ) (k : FileKey) (first j : ℕ) (rs : List SectionRows) (xs : List Section) (rest : List Piece)
+  sections-skip : (selection : SelectionKey) (total : ℕ) (k : FileKey) (first j : ℕ) (rs : List SectionRows) (rest : List Piece)
       → ((i : ℕ) (s : SectionPiece) → s.key ≡ section_key_of k i → has key (section_places s) ≡ false)
-      → rows_among key (map pieces.Section (section_pieces selection total k first j rs xs) ++ rest) ≡ rows_among key rest
-  sections-skip selection total k first j [] xs rest h = refl
-  sections-skip selection total k first j (r ∷ rs) [] rest h = refl
-  sections-skip selection total k first j (r ∷ rs) (x ∷ xs) rest h = go (nat_lt r.top r.end) (sections-skip selection total k first (suc j) rs xs rest h)
+      → rows_among key (map pieces.Section (section_pieces selection total k first j rs) ++ rest) ≡ rows_among key rest
+  sections-skip selection total k first j [] rest h = refl
+  sections-skip selection total k first j (r ∷ rs) rest h = go (nat_lt r.top r.end) (sections-skip selection total k first (suc j) rs rest h)
     where
       p : SectionPiece
-      p = section_piece selection total (section_key_of k j) first r x
+      p = section_piece selection total (section_key_of k j) first r
 
-      go : (b : Bool) → rows_among key (map pieces.Section (section_pieces selection total k first (suc j) rs xs) ++ rest) ≡ rows_among key rest
-          → rows_among key (map pieces.Section (if b then p ∷ section_pieces selection total k first (suc j) rs xs else section_pieces selection total k first (suc j) rs xs) ++ rest) ≡ rows_among key rest
-      go true more = skip-piece key (pieces.Section p) (map pieces.Section (section_pieces selection total k first (suc j) rs xs) ++ rest) (h j p refl) ∙ more
+      go : (b : Bool) → rows_among key (map pieces.Section (section_pieces selection total k first (suc j) rs) ++ rest) ≡ rows_among key rest
+          → rows_among key (map pieces.Section (if b then p ∷ section_pieces selection total k first (suc j) rs else section_pieces selection total k first (suc j) rs) ++ rest) ≡ rows_among key rest
+      go true more = skip-piece key (pieces.Section p) (map pieces.Section (section_pieces selection total k first (suc j) rs) ++ rest) (h j p refl) ∙ more
       go false more = more
 
-  file-skip : (selection : SelectionKey) (i : ℕ) (r : FileRows) (f : File) (rest : List Piece)
+  file-skip : (selection : SelectionKey) (i : ℕ) (r : FileRows) (rest : List Piece)
       → ((j : ℕ) (s : SectionPiece) → s.key ≡ section_key_of (file_key_of 0 i) j → has key (section_places s) ≡ false)
-      → rows_among key (map pieces.Section (file_sections selection i r f) ++ rest) ≡ rows_among key rest
-  file-skip selection i r f rest h = go (nat_lt (r.top + 1) r.end)
+      → rows_among key (map pieces.Section (file_sections selection i r) ++ rest) ≡ rows_among key rest
+  file-skip selection i r rest h = go (nat_lt (r.top + 1) r.end)
     where
-      go : (b : Bool) → rows_among key (map pieces.Section (if b then section_pieces selection (length f.sections) (file_key_of 0 i) (r.top + 1) 0 r.sections f.sections else []) ++ rest) ≡ rows_among key rest
-      go true = sections-skip selection (length f.sections) (file_key_of 0 i) (r.top + 1) 0 r.sections f.sections rest h
+      go : (b : Bool) → rows_among key (map pieces.Section (if b then section_pieces selection (length r.sections) (file_key_of 0 i) (r.top + 1) 0 r.sections else []) ++ rest) ≡ rows_among key rest
+      go true = sections-skip selection (length r.sections) (file_key_of 0 i) (r.top + 1) 0 r.sections rest h
       go false = refl
 
   -- no file has it
-  pub files-skip : (selection : SelectionKey) (m i : ℕ) (rs : List FileRows) (fs : List File)
+  pub files-skip : (selection : SelectionKey) (m i : ℕ) (rs : List FileRows)
       → ((n : ℕ) → i ≤ n → is_key key (keys.File (file_key_of 0 n)) ≡ false)
       → ((n j : ℕ) (s : SectionPiece) → i ≤ n → s.key ≡ section_key_of (file_key_of 0 n) j → has key (section_places s) ≡ false)
-      → rows_among key (all_pieces selection m i rs fs) ≡ None
+      → rows_among key (all_pieces selection m i rs) ≡ None
   unfolding rows_of_key
-  files-skip selection m i [] fs own parts = refl
-  files-skip selection m i (r ∷ rs) [] own parts = refl
-  files-skip selection m i (r ∷ rs) (f ∷ fs) own parts =
+  files-skip selection m i [] own parts = refl
+  files-skip selection m i (r ∷ rs) own parts =
       let low : i ≤ i = omega arith in
       let none : has key (piece_places (pieces.File (file_piece m i r))) ≡ false = rw (own i low) refl in
-      skip-piece key (pieces.File (file_piece m i r)) (map pieces.Section (file_sections selection i r f) ++ all_pieces selection m (suc i) rs fs) none
-      ∙ file-skip selection i r f (all_pieces selection m (suc i) rs fs) (λ j s e. parts i j s low e)
-      ∙ files-skip selection m (suc i) rs fs (λ n h. own n (omega (arith, h))) (λ n j s h e. parts n j s (omega (arith, h)) e)
+      skip-piece key (pieces.File (file_piece m i r)) (map pieces.Section (file_sections selection i r) ++ all_pieces selection m (suc i) rs) none
+      ∙ file-skip selection i r (all_pieces selection m (suc i) rs) (λ j s e. parts i j s low e)
+      ∙ files-skip selection m (suc i) rs (λ n h. own n (omega (arith, h))) (λ n j s h e. parts n j s (omega (arith, h)) e)
 
 -- ---- keys that differ
 
@@ -138,19 +135,18 @@ module _ (k : FileKey) where
   file-parts : (s : SectionPiece) → has (keys.File k) (section_places s) ≡ false
   file-parts s = section-other (keys.File k) s refl refl
 
-  file-find : (selection : SelectionKey) (m i : ℕ) (rs : List FileRows) (fs : List File) → length rs ≡ length fs → k.commit_idx ≡ 0 → i ≤ k.file_idx
-      → rows_among (keys.File k) (all_pieces selection m i rs fs)
+  file-find : (selection : SelectionKey) (m i : ℕ) (rs : List FileRows) → k.commit_idx ≡ 0 → i ≤ k.file_idx
+      → rows_among (keys.File k) (all_pieces selection m i rs)
       ≡ rows_among (keys.File k) (piece_list (option_and_then (λ r. Some (pieces.File (file_piece 0 k.file_idx r))) (slice_get rs (k.file_idx - i))))
   unfolding rows_of_key
-  file-find selection m i [] fs e c low = refl
-  file-find selection m i (r ∷ rs) [] e c low = absurd (omega (arith, e))
-  file-find selection m i (r ∷ rs) (f ∷ fs) e c low = go (nat_eq k.file_idx i) refl (λ g. file-find selection m (suc i) rs fs (omega (arith, e)) c g)
+  file-find selection m i [] c low = refl
+  file-find selection m i (r ∷ rs) c low = go (nat_eq k.file_idx i) refl (λ g. file-find selection m (suc i) rs c g)
     where
       rest : List Piece
-      rest = map pieces.Section (file_sections selection i r f) ++ all_pieces selection m (suc i) rs fs
+      rest = map pieces.Section (file_sections selection i r) ++ all_pieces selection m (suc i) rs
 
       go : (b : Bool) → nat_eq k.file_idx i ≡ b
-          → (suc i ≤ k.file_idx → rows_among (keys.File k) (all_pieces selection m (suc i) rs fs)
+          → (suc i ≤ k.file_idx → rows_among (keys.File k) (all_pieces selection m (suc i) rs)
           ≡ rows_among (keys.File k) (piece_list (option_and_then (λ r. Some (pieces.File (file_piece 0 k.file_idx r))) (slice_get rs (k.file_idx - suc i)))))
           → rows_among (keys.File k) (pieces.File (file_piece m i r) ∷ rest)
           ≡ rows_among (keys.File k) (piece_list (option_and_then (λ r. Some (pieces.File (file_piece 0 k.file_idx r))) (slice_get (r ∷ rs) (k.file_idx - i))))
@@ -158,8 +154,8 @@ module _ (k : FileKey) where
           let same : k.file_idx ≡ i = grind (arith, nat_tests, q) in
           let none : k.file_idx - i ≡ 0 = omega (arith, same) in
           let later : rows_among (keys.File k) rest ≡ None =
-          file-skip (keys.File k) selection i r f (all_pieces selection m (suc i) rs fs) (λ j s e. file-parts s)
-          ∙ files-skip (keys.File k) selection m (suc i) rs fs (λ n h. two-false k.commit_idx k.file_idx n (λ d g. omega (arith, same, h, g))) (λ n j s h d. file-parts s) in
+          file-skip (keys.File k) selection i r (all_pieces selection m (suc i) rs) (λ j s e. file-parts s)
+          ∙ files-skip (keys.File k) selection m (suc i) rs (λ n h. two-false k.commit_idx k.file_idx n (λ d g. omega (arith, same, h, g))) (λ n j s h d. file-parts s) in
           only-piece (keys.File k) (pieces.File (file_piece m i r)) rest later
           ∙ rw (none, same) refl
       go false q more =
@@ -167,7 +163,7 @@ module _ (k : FileKey) where
           let other : has (keys.File k) (piece_places (pieces.File (file_piece m i r))) ≡ false =
           rw (two-false k.commit_idx k.file_idx i (λ d g. grind (arith, nat_tests, q, g))) refl in
           skip-piece (keys.File k) (pieces.File (file_piece m i r)) rest other
-          ∙ file-skip (keys.File k) selection i r f (all_pieces selection m (suc i) rs fs) (λ j s e. file-parts s)
+          ∙ file-skip (keys.File k) selection i r (all_pieces selection m (suc i) rs) (λ j s e. file-parts s)
           ∙ more (grind (arith, nat_tests, q, low))
           ∙ rw next refl
 
@@ -200,46 +196,40 @@ module _ (key : SelectionKey) (q : SectionKey) (is : IsSectionOf key q) where
   no-file m n r = rw (is.file (file_key_of 0 n)) refl
 
   -- the sections from index j on, all below its own
-  later : (selection : SelectionKey) (total : ℕ) (n first j : ℕ) (rs : List SectionRows) (xs : List Section) (rest : List Piece) → q.section_idx < j → rows_among key rest ≡ None
-      → rows_among key (map pieces.Section (section_pieces selection total (file_key_of 0 n) first j rs xs) ++ rest) ≡ None
-  later selection total n first j [] xs rest h none = none
-  later selection total n first j (r ∷ rs) [] rest h none = none
-  later selection total n first j (r ∷ rs) (x ∷ xs) rest h none = go (nat_lt r.top r.end) (later selection total n first (suc j) rs xs rest (omega (arith, h)) none)
+  later : (selection : SelectionKey) (total : ℕ) (n first j : ℕ) (rs : List SectionRows) (rest : List Piece) → q.section_idx < j → rows_among key rest ≡ None
+      → rows_among key (map pieces.Section (section_pieces selection total (file_key_of 0 n) first j rs) ++ rest) ≡ None
+  later selection total n first j [] rest h none = none
+  later selection total n first j (r ∷ rs) rest h none = go (nat_lt r.top r.end) (later selection total n first (suc j) rs rest (omega (arith, h)) none)
     where
       p : SectionPiece
-      p = section_piece selection total (section_key_of (file_key_of 0 n) j) first r x
+      p = section_piece selection total (section_key_of (file_key_of 0 n) j) first r
 
-      go : (b : Bool) → rows_among key (map pieces.Section (section_pieces selection total (file_key_of 0 n) first (suc j) rs xs) ++ rest) ≡ None
-          → rows_among key (map pieces.Section (if b then p ∷ section_pieces selection total (file_key_of 0 n) first (suc j) rs xs else section_pieces selection total (file_key_of 0 n) first (suc j) rs xs) ++ rest) ≡ None
+      go : (b : Bool) → rows_among key (map pieces.Section (section_pieces selection total (file_key_of 0 n) first (suc j) rs) ++ rest) ≡ None
+          → rows_among key (map pieces.Section (if b then p ∷ section_pieces selection total (file_key_of 0 n) first (suc j) rs else section_pieces selection total (file_key_of 0 n) first (suc j) rs) ++ rest) ≡ None
       go true more = skip-piece key (pieces.Section p) _ (beside n j p (λ e. absurd (omega (arith, h, e))) refl) ∙ more
       go false more = more
 
-  section-find : (selection : SelectionKey) (total : ℕ) (first j : ℕ) (rs : List SectionRows) (xs : List Section) (rest : List Piece) → q.commit_idx ≡ 0 → j ≤ q.section_idx → rows_among key rest ≡ None
-      → rows_among key (map pieces.Section (section_pieces selection total (file_key_of 0 q.file_idx) first j rs xs) ++ rest)
-      ≡ rows_among key (piece_list (option_and_then (λ s. option_and_then (shown_piece total q first s) (slice_get xs (q.section_idx - j))) (slice_get rs (q.section_idx - j))))
-  section-find selection total first j [] xs rest c low none = none ∙ no-place key
-  section-find selection total first j (r ∷ rs) [] rest c low none = none ∙ no-place key ∙ go (slice_get (r ∷ rs) (q.section_idx - j))
-    where
-      go : (o : Option SectionRows) → rows_of_key key [] ≡ rows_among key (piece_list (option_and_then (λ s. option_and_then (shown_piece total q first s) (slice_get [] (q.section_idx - j))) o))
-      go None = refl
-      go (Some s) = refl
-  section-find selection total first j (r ∷ rs) (x ∷ xs) rest c low none =
-      split (nat_eq q.section_idx j) refl (λ g. section-find selection total first (suc j) rs xs rest c g none)
+  section-find : (selection : SelectionKey) (total : ℕ) (first j : ℕ) (rs : List SectionRows) (rest : List Piece) → q.commit_idx ≡ 0 → j ≤ q.section_idx → rows_among key rest ≡ None
+      → rows_among key (map pieces.Section (section_pieces selection total (file_key_of 0 q.file_idx) first j rs) ++ rest)
+      ≡ rows_among key (piece_list (option_and_then (shown_piece total q first) (slice_get rs (q.section_idx - j))))
+  section-find selection total first j [] rest c low none = none ∙ no-place key
+  section-find selection total first j (r ∷ rs) rest c low none =
+      split (nat_eq q.section_idx j) refl (λ g. section-find selection total first (suc j) rs rest c g none)
     where
       k : FileKey
       k = file_key_of 0 q.file_idx
 
       p : SectionPiece
-      p = section_piece selection total (section_key_of k j) first r x
+      p = section_piece selection total (section_key_of k j) first r
 
       more : List SectionPiece
-      more = section_pieces selection total k first (suc j) rs xs
+      more = section_pieces selection total k first (suc j) rs
 
       -- it is this one
       own : (b : Bool) → q.section_idx ≡ j → rows_among key (map pieces.Section (if b then p ∷ more else more) ++ rest)
-          ≡ rows_among key (piece_list (if b then Some (pieces.Section (section_piece keys.None total (section_key_of k j) first r x)) else None))
-      own true e = only-piece key (pieces.Section p) (map pieces.Section more ++ rest) (later selection total q.file_idx first (suc j) rs xs rest (omega (arith, e)) none)
-      own false e = later selection total q.file_idx first (suc j) rs xs rest (omega (arith, e)) none ∙ no-place key
+          ≡ rows_among key (piece_list (if b then Some (pieces.Section (section_piece keys.None total (section_key_of k j) first r)) else None))
+      own true e = only-piece key (pieces.Section p) (map pieces.Section more ++ rest) (later selection total q.file_idx first (suc j) rs rest (omega (arith, e)) none)
+      own false e = later selection total q.file_idx first (suc j) rs rest (omega (arith, e)) none ∙ no-place key
 
       named : q.section_idx ≡ j → section_key_of k j ≡ q
       named e = ap (λ n. section_key_of k n) (sym e) ∙ ap (λ n. record { commit_idx = n; file_idx = q.file_idx; section_idx = q.section_idx }) (sym c)
@@ -251,14 +241,14 @@ module _ (key : SelectionKey) (q : SectionKey) (is : IsSectionOf key q) where
 
       split : (b : Bool) → nat_eq q.section_idx j ≡ b
           → (suc j ≤ q.section_idx → rows_among key (map pieces.Section more ++ rest)
-          ≡ rows_among key (piece_list (option_and_then (λ s. option_and_then (shown_piece total q first s) (slice_get xs (q.section_idx - suc j))) (slice_get rs (q.section_idx - suc j)))))
-          → rows_among key (map pieces.Section (section_pieces selection total k first j (r ∷ rs) (x ∷ xs)) ++ rest)
-          ≡ rows_among key (piece_list (option_and_then (λ s. option_and_then (shown_piece total q first s) (slice_get (x ∷ xs) (q.section_idx - j))) (slice_get (r ∷ rs) (q.section_idx - j))))
+          ≡ rows_among key (piece_list (option_and_then (shown_piece total q first) (slice_get rs (q.section_idx - suc j)))))
+          → rows_among key (map pieces.Section (section_pieces selection total k first j (r ∷ rs)) ++ rest)
+          ≡ rows_among key (piece_list (option_and_then (shown_piece total q first) (slice_get (r ∷ rs) (q.section_idx - j))))
       split true e further =
           let same : q.section_idx ≡ j = grind (arith, nat_tests, e) in
           let zero : q.section_idx - j ≡ 0 = omega (arith, same) in
           own (nat_lt r.top r.end) same
-          ∙ ap (λ (z : SectionKey). rows_among key (piece_list (shown_piece total z first r x))) (named same)
+          ∙ ap (λ (z : SectionKey). rows_among key (piece_list (shown_piece total z first r))) (named same)
           ∙ rw zero refl
       split false e further =
           let differ : q.section_idx ≡ j → ⊥ = λ g. grind (arith, nat_tests, e, g) in
@@ -268,84 +258,79 @@ module _ (key : SelectionKey) (q : SectionKey) (is : IsSectionOf key q) where
           ∙ rw next refl
 
   -- its file
-  own-file : (selection : SelectionKey) (r : FileRows) (f : File) (rest : List Piece) → q.commit_idx ≡ 0 → rows_among key rest ≡ None
-      → rows_among key (map pieces.Section (file_sections selection q.file_idx r f) ++ rest) ≡ rows_among key (piece_list (section_at r f q))
-  own-file selection r f rest c none = go (nat_lt (r.top + 1) r.end)
+  own-file : (selection : SelectionKey) (r : FileRows) (rest : List Piece) → q.commit_idx ≡ 0 → rows_among key rest ≡ None
+      → rows_among key (map pieces.Section (file_sections selection q.file_idx r) ++ rest) ≡ rows_among key (piece_list (section_at r q))
+  own-file selection r rest c none = go (nat_lt (r.top + 1) r.end)
     where
-      go : (b : Bool) → rows_among key (map pieces.Section (if b then section_pieces selection (length f.sections) (file_key_of 0 q.file_idx) (r.top + 1) 0 r.sections f.sections else []) ++ rest)
-          ≡ rows_among key (piece_list (if b then option_and_then (λ s. option_and_then (shown_piece (length f.sections) q (r.top + 1) s) (slice_get f.sections q.section_idx)) (slice_get r.sections q.section_idx) else None))
+      go : (b : Bool) → rows_among key (map pieces.Section (if b then section_pieces selection (length r.sections) (file_key_of 0 q.file_idx) (r.top + 1) 0 r.sections else []) ++ rest)
+          ≡ rows_among key (piece_list (if b then option_and_then (shown_piece (length r.sections) q (r.top + 1)) (slice_get r.sections q.section_idx) else None))
       go true =
           let same : q.section_idx - 0 ≡ q.section_idx = omega arith in
-          section-find selection (length f.sections) (r.top + 1) 0 r.sections f.sections rest c (omega arith) none
+          section-find selection (length r.sections) (r.top + 1) 0 r.sections rest c (omega arith) none
           ∙ rw same refl
       go false = none ∙ no-place key
 
-  section-in : (selection : SelectionKey) (m i : ℕ) (rs : List FileRows) (fs : List File) → q.commit_idx ≡ 0 → i ≤ q.file_idx
-      → rows_among key (all_pieces selection m i rs fs)
-      ≡ rows_among key (piece_list (option_and_then (λ r. option_and_then (λ f. section_at r f q) (slice_get fs (q.file_idx - i))) (slice_get rs (q.file_idx - i))))
-  section-in selection m i [] fs c low = refl
-  section-in selection m i (r ∷ rs) [] c low = go (slice_get (r ∷ rs) (q.file_idx - i))
-    where
-      go : (o : Option FileRows) → rows_among key [] ≡ rows_among key (piece_list (option_and_then (λ r. option_and_then (λ f. section_at r f q) (slice_get [] (q.file_idx - i))) o))
-      go None = refl
-      go (Some s) = refl
-  section-in selection m i (r ∷ rs) (f ∷ fs) c low = split (nat_eq q.file_idx i) refl (λ g. section-in selection m (suc i) rs fs c g)
+  section-in : (selection : SelectionKey) (m i : ℕ) (rs : List FileRows) → q.commit_idx ≡ 0 → i ≤ q.file_idx
+      → rows_among key (all_pieces selection m i rs)
+      ≡ rows_among key (piece_list (option_and_then (λ r. section_at r q) (slice_get rs (q.file_idx - i))))
+  section-in selection m i [] c low = refl
+  section-in selection m i (r ∷ rs) c low = split (nat_eq q.file_idx i) refl (λ g. section-in selection m (suc i) rs c g)
     where
       rest : List Piece
-      rest = all_pieces selection m (suc i) rs fs
+      rest = all_pieces selection m (suc i) rs
 
       split : (b : Bool) → nat_eq q.file_idx i ≡ b
-          → (suc i ≤ q.file_idx → rows_among key rest ≡ rows_among key (piece_list (option_and_then (λ r. option_and_then (λ f. section_at r f q) (slice_get fs (q.file_idx - suc i))) (slice_get rs (q.file_idx - suc i)))))
-          → rows_among key (pieces.File (file_piece m i r) ∷ (map pieces.Section (file_sections selection i r f) ++ rest))
-          ≡ rows_among key (piece_list (option_and_then (λ r. option_and_then (λ f. section_at r f q) (slice_get (f ∷ fs) (q.file_idx - i))) (slice_get (r ∷ rs) (q.file_idx - i))))
+          → (suc i ≤ q.file_idx → rows_among key rest ≡ rows_among key (piece_list (option_and_then (λ r. section_at r q) (slice_get rs (q.file_idx - suc i)))))
+          → rows_among key (pieces.File (file_piece m i r) ∷ (map pieces.Section (file_sections selection i r) ++ rest))
+          ≡ rows_among key (piece_list (option_and_then (λ r. section_at r q) (slice_get (r ∷ rs) (q.file_idx - i))))
       split true e further =
           let same : q.file_idx ≡ i = grind (arith, nat_tests, e) in
           let zero : q.file_idx - i ≡ 0 = omega (arith, same) in
           let none : rows_among key rest ≡ None =
-          files-skip key selection m (suc i) rs fs (λ n h. is.file (file_key_of 0 n)) (λ n j s h d. far n j s (λ z g. omega (arith, same, h, g)) d) in
-          skip-piece key (pieces.File (file_piece m i r)) (map pieces.Section (file_sections selection i r f) ++ rest) (no-file m i r)
-          ∙ ap (λ n. rows_among key (map pieces.Section (file_sections selection n r f) ++ rest)) (sym same)
-          ∙ own-file selection r f rest c none
+          files-skip key selection m (suc i) rs (λ n h. is.file (file_key_of 0 n)) (λ n j s h d. far n j s (λ z g. omega (arith, same, h, g)) d) in
+          skip-piece key (pieces.File (file_piece m i r)) (map pieces.Section (file_sections selection i r) ++ rest) (no-file m i r)
+          ∙ ap (λ n. rows_among key (map pieces.Section (file_sections selection n r) ++ rest)) (sym same)
+          ∙ own-file selection r rest c none
           ∙ rw zero refl
       split false e further =
           let differ : q.file_idx ≡ i → ⊥ = λ g. grind (arith, nat_tests, e, g) in
           let next : q.file_idx - i ≡ suc (q.file_idx - suc i) = grind (arith, low, differ) in
-          skip-piece key (pieces.File (file_piece m i r)) (map pieces.Section (file_sections selection i r f) ++ rest) (no-file m i r)
-          ∙ file-skip key selection i r f rest (λ j s d. far i j s (λ z g. differ g) d)
+          skip-piece key (pieces.File (file_piece m i r)) (map pieces.Section (file_sections selection i r) ++ rest) (no-file m i r)
+          ∙ file-skip key selection i r rest (λ j s d. far i j s (λ z g. differ g) d)
           ∙ further (grind (arith, low, differ))
           ∙ rw next refl
 
-  section-rows : (selection : SelectionKey) (m : ℕ) (rs : List FileRows) (fs : List File) → rows_among key (all_pieces selection m 0 rs fs) ≡ rows_among key (piece_list (section_of_key rs fs q))
-  section-rows selection m rs fs = go (nat_eq q.commit_idx 0) refl
+  section-rows : (selection : SelectionKey) (m : ℕ) (rs : List FileRows) → rows_among key (all_pieces selection m 0 rs) ≡ rows_among key (piece_list (section_of_key rs q))
+  section-rows selection m rs = go (nat_eq q.commit_idx 0) refl
     where
-      go : (b : Bool) → nat_eq q.commit_idx 0 ≡ b → rows_among key (all_pieces selection m 0 rs fs)
-          ≡ rows_among key (piece_list (if b then option_and_then (λ r. option_and_then (λ f. section_at r f q) (slice_get fs q.file_idx)) (slice_get rs q.file_idx) else None))
+      go : (b : Bool) → nat_eq q.commit_idx 0 ≡ b → rows_among key (all_pieces selection m 0 rs)
+          ≡ rows_among key (piece_list (if b then option_and_then (λ r. section_at r q) (slice_get rs q.file_idx) else None))
       go true e =
           let same : q.file_idx - 0 ≡ q.file_idx = omega arith in
-          section-in selection m 0 rs fs (grind (arith, nat_tests, e)) (omega arith) ∙ rw same refl
+          section-in selection m 0 rs (grind (arith, nat_tests, e)) (omega arith) ∙ rw same refl
       go false e =
           let differ : q.commit_idx ≡ 0 → ⊥ = λ g. grind (arith, nat_tests, e, g) in
-          files-skip key selection m 0 rs fs (λ n h. is.file (file_key_of 0 n)) (λ n j s h d. far n j s (λ z g. differ z) d) ∙ no-place key
+          files-skip key selection m 0 rs (λ n h. is.file (file_key_of 0 n)) (λ n j s h d. far n j s (λ z g. differ z) d) ∙ no-place key
 
 -- ---- any key
 
-file-rows : (k : FileKey) (selection : SelectionKey) (m : ℕ) (rs : List FileRows) (fs : List File) → length rs ≡ length fs
-    → rows_among (keys.File k) (all_pieces selection m 0 rs fs) ≡ rows_among (keys.File k) (piece_list (file_of_key rs k))
-file-rows k selection m rs fs e = go (nat_eq k.commit_idx 0) refl
+file-rows : (k : FileKey) (selection : SelectionKey) (m : ℕ) (rs : List FileRows)
+    → rows_among (keys.File k) (all_pieces selection m 0 rs) ≡ rows_among (keys.File k) (piece_list (file_of_key rs k))
+file-rows k selection m rs = go (nat_eq k.commit_idx 0) refl
   where
-    go : (b : Bool) → nat_eq k.commit_idx 0 ≡ b → rows_among (keys.File k) (all_pieces selection m 0 rs fs)
+    go : (b : Bool) → nat_eq k.commit_idx 0 ≡ b → rows_among (keys.File k) (all_pieces selection m 0 rs)
         ≡ rows_among (keys.File k) (piece_list (if b then option_and_then (λ r. Some (pieces.File (file_piece 0 k.file_idx r))) (slice_get rs k.file_idx) else None))
     go true q =
         let same : k.file_idx - 0 ≡ k.file_idx = omega arith in
-        file-find k selection m 0 rs fs e (grind (arith, nat_tests, q)) (omega arith) ∙ rw same refl
+        file-find k selection m 0 rs (grind (arith, nat_tests, q)) (omega arith) ∙ rw same refl
     go false q =
         let differ : k.commit_idx ≡ 0 → ⊥ = λ g. grind (arith, nat_tests, q, g) in
-        files-skip (keys.File k) selection m 0 rs fs (λ n h. two-false k.commit_idx k.file_idx n (λ d g. differ d)) (λ n j s h d. file-parts k s) ∙ no-place (keys.File k)
+        files-skip (keys.File k) selection m 0 rs (λ n h. two-false k.commit_idx k.file_idx n (λ d g. differ d)) (λ n j s h d. file-parts k s) ∙ no-place (keys.File k)
 
-pub rows-of-key : (key : SelectionKey) (selection : SelectionKey) (m : ℕ) (rs : List FileRows) (fs : List File) → length rs ≡ length fs
-    → rows_among key (all_pieces selection m 0 rs fs) ≡ rows_among key (piece_list (piece_of_key rs fs key))
-rows-of-key keys.None selection m rs fs e =
-    files-skip keys.None selection m 0 rs fs (λ n h. refl) (λ n j s h d. section-other keys.None s refl refl) ∙ no-place keys.None
-rows-of-key (keys.File k) selection m rs fs e = file-rows k selection m rs fs e
-rows-of-key (keys.Section q) selection m rs fs e = section-rows (keys.Section q) q (of-section q) selection m rs fs
-rows-of-key (keys.Line l) selection m rs fs e = section-rows (keys.Line l) (section_of_line l) (of-line l) selection m rs fs
+pub rows-of-key : (key : SelectionKey) (selection : SelectionKey) (m : ℕ) (rs : List FileRows)
+    → rows_among key (all_pieces selection m 0 rs) ≡ rows_among key (piece_list (piece_of_key rs key))
+rows-of-key keys.None selection m rs =
+    files-skip keys.None selection m 0 rs (λ n h. refl) (λ n j s h d. section-other keys.None s refl refl) ∙ no-place keys.None
+rows-of-key (keys.File k) selection m rs = file-rows k selection m rs
+rows-of-key (keys.Section q) selection m rs = section-rows (keys.Section q) q (of-section q) selection m rs
+rows-of-key (keys.Line l) selection m rs = section-rows (keys.Line l) (section_of_line l) (of-line l) selection m rs

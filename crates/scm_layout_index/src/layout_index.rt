@@ -1,4 +1,5 @@
-//! The index of an inline frame by the rows of a layout: hit tests and the extent.
+//! The index of an inline frame by the rows of a layout: hit tests, the row ranges of keys, and the
+//! extent.
 ghost use Rattle.std.specs.Prelude.{◌≡◌, ℕ, ◌<◌, ◌≤◌, ◌^◌, ◌++◌, nat_lt, if◌then◌else◌, is_some, None, Some, option_map, IfOk, IfErr, OnOk, IsTrue};
 ghost use Rattle.scm_errors.specs.declared.error.RecordError.TheVariants.{OutOfMemory};
 ghost use Rattle.scm_types.specs.Limits.{is_accepted_state, max_scroll};
@@ -6,36 +7,38 @@ ghost use Rattle.scm_document.specs.HeaderRects.{message_rects};
 ghost use Rattle.scm_document.specs.Rows.{message_height};
 ghost use Rattle.scm_overlay.specs.Tables.{menus_with};
 ghost use Rattle.scm_view.specs.ViewState.{ViewState, commit_at};
-ghost use Rattle.scm_view.specs.Window.{extent, owner};
-ghost use Rattle.scm_layout_index.specs.LayoutIndex.{document_owner, owner_in, AreFilesOf, AreRowsOf, AreShown, IsInline, IsLayoutIndexOf, KeepsScreen};
-ghost use Rattle.scm_layout_index.specs.RowPieces.{RowsFit};
+ghost use Rattle.scm_view.specs.Window.{extent, owner, span};
+ghost use Rattle.scm_layout_index.specs.LayoutIndex.{document_owner, owner_in, span_in, AreRowsOf, IsInline, IsLayoutIndexOf};
 
-use crate::row_pieces::{end_of_files, owner_among, pieces_on, push_pinned_on};
+use crate::row_pieces::{end_of_files, owner_among, push_pinned_on};
+use crate::shared_rows::SharedRows;
 use scm_document::CommitMessageView;
-use scm_layout::StateRows;
+use scm_document::key_rows::find_in;
 use scm_overlay::menu_bar::MenuBar;
-use scm_types::{Commit, File, Items, RecordError, SelectionKey};
+use scm_types::{Commit, Items, RecordError, SelectionKey};
 use scm_view::frame_measures::{document_run, joined, joined_with, push_help, push_quit, screen};
 use scm_view_state::ViewState;
 use scm_widgets::ids::ComponentId;
 use scm_widgets::overlay_rects::{OverlayRect, overlay_owner};
 use std::alloc::{AllocError, Global};
 
-/// The index of an inline frame. It has what lies over the document, and is asked with the rows
-/// that the frame was drawn by.
+/// The index of an inline frame: the owner of each place, the rows of each key, and the extent. It
+/// has what lies over the document, and the rows that the frame was drawn by.
 #[derive(Drop)]
 pub struct LayoutIndex {
     /// The width of the screen, in columns.
     width: u16,
     /// The row of the document to which a header may be pinned: that below the menu bar.
-    pub(crate) pinned: usize,
+    pinned: usize,
     /// The key that was selected when the frame was drawn.
-    pub(crate) selection: SelectionKey,
+    selection: SelectionKey,
     /// The rectangles over the rows of files: the message's button, the pinned header, the menu bar
     /// with its open menu, and the dialogs. Where two overlap, the later one owns the place.
-    pub(crate) rects: Vec<OverlayRect>,
+    rects: Vec<OverlayRect>,
     /// The extent: the number of rows that the frame spans.
-    pub(crate) extent: usize,
+    extent: usize,
+    /// The rows of the files and sections.
+    rows: SharedRows,
 }
 
 /// Adds the rectangle of the button that edits the message of the first of `commits`, if it has
@@ -72,30 +75,29 @@ impl LayoutIndex {
         alloc: Global,
         view_state: &ViewState<'_>,
         menu_bar: &MenuBar<'_>,
-        rows: &StateRows,
+        rows: SharedRows,
         width: u16,
         height: u16,
         scroll: usize,
     ) -> Result<LayoutIndex, RecordError>
         requires shown { IsInline view_state.now width height scroll }
         requires bar { menu_bar.now ≡ menus_with view_state.now.open_menu }
-        requires rows { AreRowsOf rows.now view_state.now }
+        requires rows { AreRowsOf rows view_state.now }
         ensures ok { IfOk result
             (λ index. IsLayoutIndexOf width height scroll view_state.now index) }
-        ensures keeps { IfOk result (λ index. KeepsScreen width scroll view_state.now index) }
         ensures err { IfErr result (λ e. e ≡ OutOfMemory) }
     {
-        let files = rows.files.as_slice();
+        let files = &rows.layout_rows().files;
         let columns = usize::from(width);
         let screen = screen(width, height, scroll);
         let mut rects = Vec::new(alloc);
         let message = push_message(&mut rects, &view_state.state.commits)?;
-        push_pinned_on(&mut rects, columns, scroll + 1, files)?;
+        push_pinned_on(&mut rects, columns, scroll + 1, files.as_slice())?;
         let bar = menu_bar.push_rects(alloc, &mut rects, screen)?;
         let quit = push_quit(alloc, &mut rects, screen, view_state.quit_dialog)?;
         let help = push_help(alloc, &mut rects, screen, view_state.is_help_open)?;
         let below = usize::from(height).saturating_sub(1);
-        let end = end_of_files(1 + message, &rows.files);
+        let end = end_of_files(1 + message, files);
         let document = document_run(below, message, files.is_empty(), end);
         let run = joined_with(
             joined_with(joined((scroll, scroll + bar), document), quit),
@@ -107,25 +109,26 @@ impl LayoutIndex {
             selection: view_state.selection,
             rects,
             extent: run.1.saturating_sub(run.0),
+            rows,
         })
     }
 
     /// Returns the component that owns the place at `row` of the document and `column` of the
-    /// screen, if any. Columns off the screen have no owner. The frame was drawn by the rows
-    /// `rows`; `files` are the session's, whose marks do not count.
-    pub fn owner(
-        &self,
-        rows: &StateRows,
-        files: &[File<'_>],
-        row: usize,
-        column: usize,
-    ) -> Option<ComponentId>
-        requires { AreShown rows.now files.now }
-        ensures { (w h s : ℕ) (shown : ViewState) → IsLayoutIndexOf w h s shown self.now
-            → AreRowsOf rows.now shown → AreFilesOf files.now shown
-            → result ≡ (if nat_lt column w then owner w h s shown row column else None) }
+    /// screen, if any. Columns off the screen have no owner.
+    pub fn owner(&self, row: usize, column: usize) -> Option<ComponentId>
+        ensures { (w h s : ℕ) (shown : ViewState) → IsLayoutIndexOf w h s shown self.now →
+            result ≡ (if nat_lt column w then owner w h s shown row column else None) }
     {
-        self.owner_in(rows, files, row, column)
+        self.owner_in(row, column)
+    }
+
+    /// If the item of `key` is visible, returns its first row in the document and its number of
+    /// rows.
+    pub fn span(&self, key: SelectionKey) -> Option<(usize, usize)>
+        ensures { (w h s : ℕ) (shown : ViewState) → IsLayoutIndexOf w h s shown self.now →
+            result ≡ span shown key }
+    {
+        self.span_in(key)
     }
 
     /// Returns the number of rows that the document, the menu bar and the open dialogs span.
@@ -137,33 +140,18 @@ impl LayoutIndex {
     }
 
     /// Returns the owner of `row` and `column` among files and sections, if any.
-    fn document_owner(
-        &self,
-        rows: &StateRows,
-        files: &[File<'_>],
-        row: usize,
-        column: usize,
-    ) -> Option<ComponentId>
-        requires { RowsFit rows.now.files files.now }
-        ensures { result ≡ document_owner self.now rows.now files.now row column }
+    fn document_owner(&self, row: usize, column: usize) -> Option<ComponentId>
+        ensures { result ≡ document_owner self.now row column }
     {
-        let list = rows.files.as_slice();
-        match pieces_on(self.selection, self.pinned, list, files, row) {
+        match self.rows.pieces_on(self.selection, self.pinned, row) {
             None => None,
             Some(found) => owner_among(usize::from(self.width), &found, row, column),
         }
     }
 
     /// Returns the owner of the place at `row` and `column`, if any.
-    fn owner_in(
-        &self,
-        rows: &StateRows,
-        files: &[File<'_>],
-        row: usize,
-        column: usize,
-    ) -> Option<ComponentId>
-        requires { RowsFit rows.now.files files.now }
-        ensures { result ≡ owner_in self.now rows.now files.now row column }
+    fn owner_in(&self, row: usize, column: usize) -> Option<ComponentId>
+        ensures { result ≡ owner_in self.now row column }
     {
         if usize::from(self.width) <= column {
             return None;
@@ -171,7 +159,17 @@ impl LayoutIndex {
         let overlay = overlay_owner(&self.rects, row, column);
         match overlay {
             Some(_) => overlay,
-            None => self.document_owner(rows, files, row, column),
+            None => self.document_owner(row, column),
+        }
+    }
+
+    /// Returns the row range of `key` by its piece.
+    fn span_in(&self, key: SelectionKey) -> Option<(usize, usize)>
+        ensures { result ≡ span_in self.now key }
+    {
+        match self.rows.piece_of_key(key) {
+            None => None,
+            Some(piece) => find_in(&[piece], key),
         }
     }
 }

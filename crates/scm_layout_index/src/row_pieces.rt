@@ -11,9 +11,9 @@ use scm_document::index_pieces::{
 };
 use scm_layout::row_search::{file_on, section_on};
 use scm_layout::section_rows::{dots_height, lines_above};
-use scm_layout::{FileRows, SectionRows};
+use scm_layout::{FileRows, SectionRows, SectionShape};
 use scm_types::keys::is_key;
-use scm_types::{File, FileKey, Items, Section, SectionKey, SelectionKey};
+use scm_types::{FileKey, Items, SectionKey, SelectionKey};
 use scm_widgets::ids::ComponentId;
 use scm_widgets::overlay_rects::OverlayRect;
 use std::alloc::AllocError;
@@ -48,15 +48,15 @@ fn context_kinds(total: usize, index: usize, count: usize) -> RowKinds
     }
 }
 
-/// Returns the row kinds of `section`, which has index `index` of `total`.
-fn kinds_of(total: usize, index: usize, section: &Section<'_>) -> RowKinds
+/// Returns the row kinds of a section of shape `shape`, which has index `index` of `total`.
+fn kinds_of(total: usize, index: usize, shape: SectionShape) -> RowKinds
     requires { index + 1 < 2 ^ 64 }
-    ensures { result ≡ kinds_of total index section.now }
+    ensures { result ≡ kinds_of total index shape }
 {
-    match section {
-        Section::Unchanged { lines } => context_kinds(total, index, lines.len()),
-        Section::Changed { .. } => RowKinds::Changed,
-        Section::FileMode { .. } | Section::Binary { .. } => RowKinds::Mark,
+    match shape {
+        SectionShape::Context { lines } => context_kinds(total, index, lines),
+        SectionShape::Changed => RowKinds::Changed,
+        SectionShape::Mark => RowKinds::Mark,
     }
 }
 
@@ -72,24 +72,24 @@ fn has_lines(total: usize, index: usize, count: usize, rows: usize) -> bool
     is_some & (dots < rows)
 }
 
-/// Returns whether section `key` of `total`, which has `rows` rows, owns columns 0 and 1 of them if
-/// `selection` is selected.
+/// Returns whether section `key` of `total`, of shape `shape`, owns columns 0 and 1 of its `rows`
+/// rows if `selection` is selected.
 fn is_wide(
     selection: SelectionKey,
     total: usize,
     key: SectionKey,
     rows: usize,
-    section: &Section<'_>,
+    shape: SectionShape,
 ) -> bool
     requires { key.section_idx + 1 < 2 ^ 64 }
-    ensures { result ≡ is_wide selection total key rows section.now }
+    ensures { result ≡ is_wide selection total key rows shape }
 {
     let is_selected = is_key(SelectionKey::Section(key), selection);
-    match section {
-        Section::Unchanged { lines } => has_lines(total, key.section_idx, lines.len(), rows),
+    match shape {
+        SectionShape::Context { lines } => has_lines(total, key.section_idx, lines, rows),
         // `|`: one branch for the prover
-        Section::Changed { .. } => is_selected | (1 < rows),
-        Section::FileMode { .. } | Section::Binary { .. } => is_selected,
+        SectionShape::Changed => is_selected | (1 < rows),
+        SectionShape::Mark => is_selected,
     }
 }
 
@@ -101,25 +101,24 @@ pub(crate) fn section_piece(
     key: SectionKey,
     first: usize,
     rows: SectionRows,
-    section: &Section<'_>,
 ) -> SectionPiece
     requires index { key.section_idx + 1 < 2 ^ 64 }
     requires top { first + rows.top < 2 ^ 64 }
     requires end { first + rows.end < 2 ^ 64 }
-    ensures { result ≡ section_piece selection total key first rows section.now }
+    ensures { result ≡ section_piece selection total key first rows }
 {
     let count = rows.end.saturating_sub(rows.top);
     SectionPiece {
         key,
         top: first + rows.top,
         end: first + rows.end,
-        is_wide: is_wide(selection, total, key, count, section),
-        kinds: kinds_of(total, key.section_idx, section),
+        is_wide: is_wide(selection, total, key, count, rows.shape),
+        kinds: kinds_of(total, key.section_idx, rows.shape),
     }
 }
 
 /// Returns the key of file `index` of the first commit.
-pub(crate) fn file_key(index: usize) -> FileKey
+fn file_key(index: usize) -> FileKey
     ensures { result ≡ record { commit_idx = 0; file_idx = index } }
 {
     FileKey {
@@ -142,82 +141,76 @@ pub(crate) fn file_piece(pinned: usize, index: usize, rows: &FileRows) -> FilePi
     }
 }
 
-/// Returns the piece of section `section_idx` of `file`, if there is one. The file has index
-/// `index` and the rows `rows`; `selection` is selected.
+/// Returns the piece of section `section_idx` of file `index`, if there is one. The file has the rows
+/// `rows`, and `selection` is selected.
 fn piece_at(
     selection: SelectionKey,
     index: usize,
     rows: &FileRows,
-    file: &File<'_>,
     section_idx: usize,
 ) -> Option<SectionPiece>
-    requires { SectionsFit rows.now file.now }
-    ensures { result ≡ piece_at selection index rows.now file.now section_idx }
+    requires { SectionsFit rows.now }
+    ensures { result ≡ piece_at selection index rows.now section_idx }
 {
-    let sections = file.sections.as_slice();
-    let own = *rows.sections.as_slice().get(section_idx)?;
-    let section = sections.get(section_idx)?;
+    let sections = rows.sections.as_slice();
+    let own = *sections.get(section_idx)?;
     let key = file_key(index).section(section_idx);
     let total = sections.len();
-    Some(section_piece(selection, total, key, rows.top + 1, own, section))
+    Some(section_piece(selection, total, key, rows.top + 1, own))
 }
 
-/// Returns the piece of the section of `file` that has row `row` of the document, if any. The file
-/// has index `index` and the rows `rows`; `selection` is selected.
+/// Returns the piece of the section of file `index` that has row `row` of the document, if any. The
+/// file has the rows `rows`, and `selection` is selected.
 fn section_in(
     selection: SelectionKey,
     index: usize,
     rows: &FileRows,
-    file: &File<'_>,
     row: usize,
 ) -> Option<SectionPiece>
-    requires { SectionsFit rows.now file.now }
-    ensures { result ≡ section_in selection index rows.now file.now row }
+    requires { SectionsFit rows.now }
+    ensures { result ≡ section_in selection index rows.now row }
 {
     if row <= rows.top {
         return None;
     }
     let first = rows.top + 1;
     let found = section_on(rows.sections.as_slice(), row - first)?;
-    piece_at(selection, index, rows, file, found)
+    piece_at(selection, index, rows, found)
 }
 
-/// Returns the pieces of file `index` of `files` and of its section that has row `row`, if there is
-/// such a file. The files have the rows `rows`, a header may be pinned to row `pinned`, and
-/// `selection` is selected.
+/// Returns the pieces of file `index` and of its section that has row `row`, if there is such a
+/// file. The files have the rows `rows`, a header may be pinned to row `pinned`, and `selection` is
+/// selected.
 fn pieces_at(
     selection: SelectionKey,
     pinned: usize,
     rows: &[FileRows],
-    files: &[File<'_>],
     row: usize,
     index: usize,
 ) -> Option<RowPieces>
-    requires { RowsFit rows.now files.now }
-    ensures { result ≡ pieces_at selection pinned row rows.now files.now index }
+    requires { RowsFit rows.now }
+    ensures { result ≡ pieces_at selection pinned row rows.now index }
 {
     let file_rows = rows.get(index)?;
-    let file = files.get(index)?;
     Some(RowPieces {
         file: file_piece(pinned, index, file_rows),
-        section: section_in(selection, index, file_rows, file, row),
+        section: section_in(selection, index, file_rows, row),
     })
 }
 
-/// Returns the pieces that have row `row` of the document, if any. `files` have the rows `rows`, a
+/// Returns the pieces that have row `row` of the document, if any. The files have the rows `rows`, a
 /// header may be pinned to row `pinned`, and `selection` is selected.
 pub(crate) fn pieces_on(
     selection: SelectionKey,
     pinned: usize,
     rows: &[FileRows],
-    files: &[File<'_>],
     row: usize,
 ) -> Option<RowPieces>
-    requires { RowsFit rows.now files.now }
-    ensures { result ≡ pieces_on selection pinned row rows.now files.now }
+    requires { RowsFit rows.now }
+    ensures { result ≡ pieces_on selection pinned row rows.now }
 {
     let index = file_on(rows, row)?;
-    pieces_at(selection, pinned, rows, files, row, index)
+    pieces_at(selection, pinned, rows, row, index)
 }
 
 /// Returns the owner of `row` and `column` among the pieces `found`, if any. The screen has `width`

@@ -18,7 +18,7 @@ use Rattle.scm_document.specs.ViewPieces as pieces
 use Rattle.scm_view.specs.ViewState.{Totals, ViewState, are_all_expanded, expand_box_of, file_fold, file_view_of, file_views_of, is_changed, old_lines, section_fold, section_view_of, section_views_of, totals_of}
 use Rattle.scm_layout.specs.Counts.{editable_after, file_counts, sections_counts}
 use Rattle.scm_layout.specs.Lines.{is_changed as changed, old_lines as lines_of}
-use Rattle.scm_layout.specs.Rows.{each_file_rows, file_height, file_key_of, folded_count, height_of, is_expanded, is_first_open, is_open, rows_at, sections_height, sections_rows, stacked, visible_height}
+use Rattle.scm_layout.specs.Rows.{each_file_rows, file_height, file_key_of, folded_count, height_of, is_expanded, is_first_open, is_open, rows_at, sections_height, sections_rows, shape_of, stacked, visible_height}
 use Rattle.scm_layout_laws.specs.ViewCounts.{CountsAreOfViews, HaveCountsOf, HaveSectionCountsOf}
 use Rattle.scm_layout_laws.specs.ViewRows.{FoldsAreCounted, HaveRowsOf, RowsAreOfViews, height_where, section_views_rows}
 
@@ -83,8 +83,8 @@ module _ (s : ViewState) (t : Totals) (k : FileKey) where
       let h' = visible_height s.expanded k t.sections i before' x (is_first_open s.expanded k (suc i) xs) in
       let height : height_where (views.is_section_visible before (view i editable line x) (views.is_first_open vs)) (view i editable line x) ≡ h' =
       visible-is i editable line before x xs editable' line' ∙ ap (λ b. visible_height s.expanded k t.sections i b x (is_first_open s.expanded k (suc i) xs)) e in
-      ap (λ n. rows_at top n ∷ section_views_rows (top + n) (views.is_open (view i editable line x)) vs) height
-      ∙ ap (λ rs. rows_at top h' ∷ rs) (rows-are (suc i) editable' line' (top + h') (views.is_open (view i editable line x)) (is_open s.expanded k i x) xs (open-is i editable line x))
+      ap (λ n. rows_at top n (shape_of x) ∷ section_views_rows (top + n) (views.is_open (view i editable line x)) vs) height
+      ∙ ap (λ rs. rows_at top h' (shape_of x) ∷ rs) (rows-are (suc i) editable' line' (top + h') (views.is_open (view i editable line x)) (is_open s.expanded k i x) xs (open-is i editable line x))
 
   heights-are : (i editable line : ℕ) (before before' : Bool) (xs : List Section) → before ≡ before'
       → pieces.sections_height (visible_views before (section_views_of s t k i editable line xs)) ≡ sections_height s.expanded k t.sections i before' xs

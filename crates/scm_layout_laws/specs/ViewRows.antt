@@ -9,7 +9,7 @@ use Rattle.scm_document.specs.ViewPieces.{file_height}
 use Rattle.scm_view.specs.ViewState.{ViewState, are_all_expanded, file_views_of}
 use Rattle.scm_layout.specs.declared.file_rows.FileRows.{FileRows}
 use Rattle.scm_layout.specs.declared.section_rows.SectionRows.{SectionRows}
-use Rattle.scm_layout.specs.Rows.{folded_count, rows_at, rows_of}
+use Rattle.scm_layout.specs.Rows.{folded_count, rows_at, rows_of, shape_of}
 
 -- how many rows section v has: none if it is not shown
 abbrev pub height_where : Bool → SectionView → ℕ
@@ -19,7 +19,7 @@ height_where is_shown v = if is_shown then section_height v v.section.now else 0
 unfoldable pub section_views_rows : ℕ → Bool → List SectionView → List SectionRows
 section_views_rows top before [] = []
 section_views_rows top before (v ∷ vs) =
-    rows_at top (height_where (is_section_visible before v (is_first_open vs)) v)
+    rows_at top (height_where (is_section_visible before v (is_first_open vs)) v) (shape_of v.section.now)
     ∷ section_views_rows (top + height_where (is_section_visible before v (is_first_open vs)) v) (is_open v) vs
 
 -- the rows of the files of a layout are those of these views from row `top` on

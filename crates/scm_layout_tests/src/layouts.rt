@@ -3,7 +3,7 @@ ghost use Rattle.std.specs.Prelude.{◌≡◌};
 ghost use Rattle.scm_layout.specs.Layouts.{layout_of};
 
 use scm_layout::row_search::{file_on, section_on};
-use scm_layout::{FileRows, Layout, SectionCounts, SectionRows};
+use scm_layout::{FileRows, Layout, SectionCounts, SectionRows, SectionShape};
 use scm_samples::{ADDED, REMOVED, changed, commits_of, context, deletion, file_of};
 use scm_selection::key_lists::{all_keys, file_key, line_key, section_key};
 use scm_selection::key_set::{KeySet, key_set_of};
@@ -172,9 +172,21 @@ fn rows_are_found(rt: HostRuntime) -> Result<(), RecordError> {
     }
     // a section without rows lies between two others
     let sections = [
-        SectionRows { top: 0, end: 2 },
-        SectionRows { top: 2, end: 2 },
-        SectionRows { top: 2, end: 5 },
+        SectionRows {
+            top: 0,
+            end: 2,
+            shape: SectionShape::Mark,
+        },
+        SectionRows {
+            top: 2,
+            end: 2,
+            shape: SectionShape::Mark,
+        },
+        SectionRows {
+            top: 2,
+            end: 5,
+            shape: SectionShape::Mark,
+        },
     ];
     for (row, found) in [
         (0, Some(0)),

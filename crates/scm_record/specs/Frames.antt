@@ -15,8 +15,8 @@ use Rattle.scm_widgets.specs.declared.ids.ComponentId.{ComponentId}
 use Rattle.scm_widgets.specs.declared.ids.ComponentId.TheVariants as ids
 use Rattle.scm_input.specs.declared.inputs.TerminalKind.{TerminalKind}
 use Rattle.scm_input.specs.declared.inputs.TerminalKind.TheVariants.{Testing}
-use Rattle.scm_view.specs.declared.frame_index.FrameIndex.{FrameIndex}
-use Rattle.scm_view.specs.Index.{IsIndexOf}
+use Rattle.scm_layout_index.specs.declared.layout_index.LayoutIndex.{LayoutIndex}
+use Rattle.scm_layout_index.specs.LayoutIndex.{IsLayoutIndexOf}
 use Rattle.scm_record.specs.declared.frame.DrawnFrame.{DrawnFrame}
 use Rattle.scm_record.specs.declared.frame.Places.{Places}
 use Rattle.scm_record.specs.declared.frame.Places.TheVariants.{Plain, Free}
@@ -85,7 +85,7 @@ module _ {S : Type 0} where
     pub extent : height_of_box (rect_in boxes ids.App) ≡ frame.extent
 
 -- `index` is the index of a document that `frame` shows, on a screen of `w` columns
-pub record IsIndexFor (w : ℕ) (frame : Frame) (index : FrameIndex) : Type 0 where
+pub record IsIndexFor (w : ℕ) (frame : Frame) (index : LayoutIndex) : Type 0 where
   -- the screen's height, in rows
   pub height : ℕ
   -- the row of the document that the screen's first row shows
@@ -93,7 +93,7 @@ pub record IsIndexFor (w : ℕ) (frame : Frame) (index : FrameIndex) : Type 0 wh
   -- the view state that is drawn
   pub shown : ViewState
   -- `index` is its index
-  pub is_index : IsIndexOf w height scroll shown index
+  pub is_index : IsLayoutIndexOf w height scroll shown index
   -- `frame` is its frame
   pub is_frame : frame ≡ frame_of_document w height scroll shown
 

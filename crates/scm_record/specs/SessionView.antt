@@ -1,5 +1,5 @@
 -- The session that the fields of the code's `ActiveSession` represent, the layout that it keeps, and the session with other expanded keys.
-use Rattle.std.specs.Prelude.{◌≡◌, ◌≤◌, List}
+use Rattle.std.specs.Prelude.{◌≡◌, ◌≤◌, List, IfSome}
 use Rattle.scm_types.specs.declared.keys.SelectionKey.{SelectionKey}
 use Rattle.scm_types.specs.Limits.{max_items, state_size}
 use Rattle.scm_layout.specs.Layouts.{layout_of}
@@ -19,7 +19,9 @@ session_of r = record {
 abbrev pub with_expanded : Session → List SelectionKey → Session
 with_expanded s expanded = record s { shown = record s.shown { expanded = expanded } }
 
--- the layout is that of the state, with the expanded keys unfolded, and the state is within the limit of its size
+-- the layout is that of the state, with the expanded keys unfolded; rows that are shared with frames are those of the layout; the state
+-- is within the limit of its size
 pub record HasLayout (r : Inside) : Type 0 where
   pub layout : r.layout ≡ layout_of r.view_state.state r.view_state.expanded
+  pub shared : IfSome r.shared_rows (λ rows. rows ≡ r.layout.rows)
   pub size : state_size r.view_state.state ≤ max_items

@@ -8,7 +8,7 @@ ghost use Rattle.scm_view.specs.AppView.{app_view_of};
 ghost use Rattle.scm_view.specs.Window.{rows_of_box, window};
 ghost use Rattle.scm_view.specs.Frame.{frame_of_document, frame_of_view, is_plain, picture_of};
 ghost use Rattle.scm_layout.specs.Layouts.{layout_of};
-ghost use Rattle.scm_layout_index.specs.LayoutIndex.{IsInline};
+ghost use Rattle.scm_layout_index.specs.LayoutIndex.{AreRowsOf, IsInline};
 ghost use Rattle.scm_record.specs.Frames.{HasSize, IsMapOf, IsSceneOf, KnowsPlaces, Scene, is_indexed, scene_of};
 ghost use Rattle.scm_record.specs.Session.{Session};
 ghost use Rattle.scm_record.specs.FrameQueries.{scroll_to_show, limited_scroll, hit, free_rows_above, scroll_to_rows, shot_of, top_in};
@@ -16,10 +16,10 @@ ghost use Rattle.scm_record.specs.FrameQueries.{scroll_to_show, limited_scroll, 
 use scm_cells::{Grid, Rect};
 use scm_input::TerminalKind;
 use scm_layout::Layout;
-use scm_layout_index::frame_index;
+use scm_layout_index::{LayoutIndex, SharedRows};
 use scm_render::{DrawnRects, Viewport, find_target};
 use scm_types::{RecordError, RecordState};
-use scm_view::{AppView, CommitViewMode, ComponentId, FrameIndex, SelectionKey, laws};
+use scm_view::{AppView, CommitViewMode, ComponentId, SelectionKey, laws};
 use scm_view_state::ViewState;
 use scm_view_state::visible_views::visible_views_show_windows;
 use std::alloc::Global;
@@ -28,7 +28,7 @@ use std::alloc::Global;
 #[derive(Drop)]
 enum Places {
     /// The index of the document, if the frame is plain.
-    Plain(FrameIndex),
+    Plain(LayoutIndex),
     /// The box of each component, on any other frame.
     Free(DrawnRects<ComponentId>),
 }
@@ -140,18 +140,20 @@ impl DrawnFrame {
         })
     }
 
-    /// Draws the part of `view_state` that the screen shows inline, and indexes the document by the
-    /// rows of `layout`.
+    /// Draws the part of `view_state` that the screen shows inline, and indexes the document by
+    /// `rows`, those of `layout`.
     fn draw_plain(
         &mut self,
         alloc: Global,
         view_state: &ViewState<'_>,
         layout: &Layout,
+        rows: SharedRows,
         scroll: usize,
     ) -> Result<(), RecordError>
         requires shows { IsInline view_state.now
             self.old.grid.width (length self.old.grid.rows) scroll }
         requires layout { layout.now ≡ layout_of view_state.now.state view_state.now.expanded }
+        requires rows { AreRowsOf rows view_state.now }
         ensures rows { OnOk result (self.new.grid.rows
             ≡ window self.old.grid.width (length self.old.grid.rows) scroll view_state.now) }
         ensures places { OnOk result (KnowsPlaces self.old.grid.width
@@ -167,11 +169,11 @@ impl DrawnFrame {
         let part = view_state.visible_view(alloc, layout, scroll, height)?;
         visible_views_show_windows();
         part.view.paint_part(alloc, &mut self.grid, part.scroll)?;
-        let index = frame_index(
+        let index = LayoutIndex::new(
             alloc,
             view_state,
             &part.view.menu_bar,
-            &layout.rows,
+            rows,
             width as u16,
             height as u16,
             scroll,
@@ -208,17 +210,19 @@ impl DrawnFrame {
     }
 
     /// Draws the view state `view_state`, with row `scroll` of the document as the screen's first row.
-    /// `layout` is that of the state, with the expanded keys unfolded. If an allocation fails, the
-    /// frame keeps its size.
+    /// `layout` is that of the state, with the expanded keys unfolded, and `rows` are its rows. If an
+    /// allocation fails, the frame keeps its size.
     pub(crate) fn draw(
         &mut self,
         alloc: Global,
         view_state: &ViewState<'_>,
         layout: &Layout,
+        rows: SharedRows,
         scroll: usize,
     ) -> Result<(), RecordError>
         requires accepted { IsTrue (is_accepted_state view_state.now.state) }
         requires layout { layout.now ≡ layout_of view_state.now.state view_state.now.expanded }
+        requires rows { AreRowsOf rows view_state.now }
         requires scroll { scroll ≤ max_scroll }
         ensures ok { OnOk result ((kind : TerminalKind) (s : Session)
             → s.shown ≡ view_state.now → s.scroll ≡ scroll
@@ -231,7 +235,7 @@ impl DrawnFrame {
         let width = self.grid.width();
         let height = self.grid.height();
         if is_plain(width, height, view_state.view_mode) {
-            self.draw_plain(alloc, view_state, layout, scroll)?;
+            self.draw_plain(alloc, view_state, layout, rows, scroll)?;
         } else {
             self.draw_free(alloc, view_state, scroll)?;
         }

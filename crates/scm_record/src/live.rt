@@ -234,7 +234,7 @@ impl<'state> LiveSession<'state> {
         ensures err { IfErr result (λ e. e ≡ OutOfMemory) }
     {
         let mut frame = DrawnFrame::new(self.session.allocator(), kind)?;
-        draw_anew(&self.session, &mut frame, false)?;
+        draw_anew(&mut self.session, &mut frame, false)?;
         self.session.begin_frame();
         self.frame = frame;
         self.kind = kind;

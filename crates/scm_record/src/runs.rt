@@ -248,15 +248,16 @@ fn next_batch(
 /// Draws the session on `frame`, unless `is_current` says that `frame` shows it already. If an
 /// allocation fails, the frame keeps its size.
 pub(crate) fn draw_anew(
-    session: &ActiveSession<'_>,
+    session: &mut ActiveSession<'_>,
     frame: &mut DrawnFrame,
     is_current: bool,
 ) -> Result<(), RecordError>
-    requires drawable { IsDrawable session.now }
-    requires current { IsTrue is_current → IsCurrent session.now frame.old }
+    requires drawable { IsDrawable session.old }
+    requires current { IsTrue is_current → IsCurrent session.old frame.old }
     ensures shown { OnOk result ((kind : TerminalKind) (s : Session)
-        → s.shown ≡ session.now.shown → s.scroll ≡ session.now.scroll
+        → s.shown ≡ session.old.shown → s.scroll ≡ session.old.scroll
         → HasSize kind frame.old → IsSceneOf (scene_of kind s) frame.new) }
+    ensures unchanged { session.new ≡ session.old }
     ensures err { IfErr result (λ e. e ≡ OutOfMemory) }
     ensures size { (kind : TerminalKind) → HasSize kind frame.old → HasSize kind frame.new }
 {
@@ -264,8 +265,9 @@ pub(crate) fn draw_anew(
         return Ok(());
     }
     let alloc = session.allocator();
+    let rows = session.share_rows()?;
     let layout = session.layout();
-    frame.draw(alloc, session.view_state(), layout, session.scroll())?;
+    frame.draw(alloc, session.view_state(), layout, rows, session.scroll())?;
     Ok(())
 }
 

@@ -1,8 +1,10 @@
 //! A session in which a user selects changes, and how each event changes it.
-ghost use Rattle.std.specs.Prelude.{◌≡◌, ◌≤◌, IfErr, IfOk, OnOk};
+ghost use Rattle.std.specs.Prelude.{◌≡◌, ◌≤◌, IfErr, IfOk, IfSome, OnOk};
 ghost use Rattle.scm_errors.specs.declared.error.RecordError.TheVariants.{OutOfMemory};
 ghost use Rattle.scm_types.specs.Limits.{max_items, state_size};
 ghost use Rattle.scm_layout.specs.Layouts.{layout_of};
+ghost use Rattle.scm_layout_index.specs.SharedRows.{AreRowsOfState};
+ghost use Rattle.scm_selection.specs.KeySet.{with_key};
 ghost use Rattle.scm_record.specs.Session.{padded_commits, with_keys_above};
 
 mod clicks;
@@ -17,7 +19,8 @@ mod view_mode;
 use crate::frame::DrawnFrame;
 use crate::pages::Way;
 use scm_input::Event;
-use scm_layout::Layout;
+use scm_layout::{Layout, StateRows};
+use scm_layout_index::SharedRows;
 use scm_selection::key_lists::{first_key, section_keys};
 use scm_selection::key_set::{KeySet, key_set_of};
 use scm_types::{Commit, Items, RecordError, RecordState};
@@ -50,6 +53,9 @@ pub(crate) struct ActiveSession<'state> {
     view_state: ViewState<'state>,
     /// The layout of the state, with the expanded keys unfolded.
     layout: Layout,
+    /// A copy of the layout's rows that frames share, unless a fold or a message changed the rows
+    /// since it was made.
+    shared_rows: Option<SharedRows>,
     /// The row of the document that the screen's first row shows, counted from 0.
     scroll: usize,
     /// Whether the screen was cleared since the last frame.
@@ -75,6 +81,7 @@ impl<'state> ActiveSession<'state> {
     ghost use Rattle.scm_errors.specs.declared.error.RecordError.TheVariants.{OutOfMemory};
     ghost use Rattle.scm_types.specs.Limits.{is_accepted_state};
     ghost use Rattle.scm_layout.specs.Layouts.{layout_of};
+    ghost use Rattle.scm_layout_index.specs.LayoutIndex.{AreRowsOf};
     ghost use Rattle.scm_record.specs.Frames.{IsSceneOf, Scene};
     ghost use Rattle.scm_record.specs.Session.{after_frame, after_redraw, after_select, at_key, pending_of, start, with_ensure, with_keys_above, with_pushed, without_pending};
     ghost use Rattle.scm_record.specs.SessionView.{with_expanded};
@@ -114,6 +121,7 @@ impl<'state> ActiveSession<'state> {
         Ok(ActiveSession {
             view_state: ViewState::new(state, selection, expanded),
             layout,
+            shared_rows: None,
             scroll: 0,
             cleared: false,
             pending: Vec::new(alloc),
@@ -132,6 +140,16 @@ impl<'state> ActiveSession<'state> {
         ensures { result.now ≡ layout_of self.now.shown.state self.now.shown.expanded }
     {
         &self.layout
+    }
+
+    /// Returns the rows of the layout, for a frame to keep. Copies them if they changed since the last
+    /// copy.
+    pub(crate) fn share_rows(&mut self) -> Result<SharedRows, AllocError>
+        ensures rows { IfOk result (λ rows. AreRowsOf rows self.old.shown) }
+        ensures unchanged { self.new ≡ self.old }
+    {
+        let alloc = *self.pending.allocator();
+        share(alloc, &mut self.shared_rows, &self.layout.rows)
     }
 
     /// Returns the row of the document that the screen's first row shows, counted from 0.
@@ -190,7 +208,13 @@ impl<'state> ActiveSession<'state> {
         ensures err { IfErr result (λ e. e ≡ OutOfMemory) }
     {
         let shown = &mut self.view_state;
-        expand_above(&mut self.layout, &shown.state, &mut shown.expanded, key)
+        expand_above(
+            &mut self.layout,
+            &mut self.shared_rows,
+            &shown.state,
+            &mut shown.expanded,
+            key,
+        )
     }
 
     /// Selects `key`, and expands the file and the section that contain it.
@@ -312,6 +336,29 @@ impl<'state> ActiveSession<'state> {
     }
 }
 
+/// Returns the rows of `copy` for another owner. If there is no copy, makes one of `rows`, the rows of
+/// a layout.
+fn share(
+    alloc: Global,
+    copy: &mut Option<SharedRows>,
+    rows: &StateRows,
+) -> Result<SharedRows, AllocError>
+    requires rows { AreRowsOfState rows.now }
+    requires copy { IfSome copy.old (λ shared. shared ≡ rows.now) }
+    ensures ok { IfOk result (λ shared. shared ≡ rows.now) }
+    ensures copy { IfSome copy.new (λ shared. shared ≡ rows.now) }
+{
+    match copy {
+        Some(shared) => shared.share(),
+        None => {
+            let shared = SharedRows::new(alloc, rows)?;
+            let other = shared.share()?;
+            *copy = Some(shared);
+            Ok(other)
+        }
+    }
+}
+
 /// Adds commits without a message to `commits`, up to two.
 fn pad(commits: Vec<Commit>) -> Result<Vec<Commit>, AllocError>
     ensures { IfOk result (λ all. all.items ≡ padded_commits commits.items) }
@@ -323,27 +370,72 @@ fn pad(commits: Vec<Commit>) -> Result<Vec<Commit>, AllocError>
     Ok(commits)
 }
 
-/// Expands the file and the section that contain `key`, and keeps the layout of `state`.
-fn expand_above(
+/// Adds `key` to `expanded`, and keeps the layout of `state`. Drops `copy`, that of its rows, if they
+/// change.
+fn unfold(
     layout: &mut Layout,
+    copy: &mut Option<SharedRows>,
     state: &RecordState<'_>,
     expanded: &mut KeySet,
     key: SelectionKey,
 ) -> Result<(), RecordError>
     requires layout { layout.old ≡ layout_of state.now expanded.old }
     requires size { state_size state.now ≤ max_items }
+    requires copy { IfSome copy.old (λ shared. shared ≡ layout.old.rows) }
+    ensures ok { OnOk result (expanded.new ≡ with_key expanded.old key) }
+    ensures layout { layout.new ≡ layout_of state.now expanded.new }
+    ensures copy { IfSome copy.new (λ shared. shared ≡ layout.new.rows) }
+    ensures err { IfErr result (λ e. e ≡ OutOfMemory) }
+{
+    if !expanded.contains(key) {
+        *copy = None;
+    }
+    layout.unfold(state, expanded, key)
+}
+
+/// Expands the file and the section that contain `key`, and keeps the layout of `state`. Drops
+/// `copy`, that of its rows, if they change.
+fn expand_above(
+    layout: &mut Layout,
+    copy: &mut Option<SharedRows>,
+    state: &RecordState<'_>,
+    expanded: &mut KeySet,
+    key: SelectionKey,
+) -> Result<(), RecordError>
+    requires layout { layout.old ≡ layout_of state.now expanded.old }
+    requires size { state_size state.now ≤ max_items }
+    requires copy { IfSome copy.old (λ shared. shared ≡ layout.old.rows) }
     ensures ok { OnOk result (expanded.new ≡ with_keys_above expanded.old key) }
     ensures layout { layout.new ≡ layout_of state.now expanded.new }
+    ensures copy { IfSome copy.new (λ shared. shared ≡ layout.new.rows) }
     ensures err { IfErr result (λ e. e ≡ OutOfMemory) }
 {
     match key {
         SelectionKey::None | SelectionKey::File(_) => Ok(()),
         SelectionKey::Section(key) => {
-            layout.unfold(state, expanded, SelectionKey::File(key.file()))
+            unfold(
+                layout,
+                copy,
+                state,
+                expanded,
+                SelectionKey::File(key.file()),
+            )
         }
         SelectionKey::Line(key) => {
-            layout.unfold(state, expanded, SelectionKey::File(key.file()))?;
-            layout.unfold(state, expanded, SelectionKey::Section(key.section()))
+            unfold(
+                layout,
+                copy,
+                state,
+                expanded,
+                SelectionKey::File(key.file()),
+            )?;
+            unfold(
+                layout,
+                copy,
+                state,
+                expanded,
+                SelectionKey::Section(key.section()),
+            )
         }
     }
 }

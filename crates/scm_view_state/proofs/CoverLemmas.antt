@@ -22,6 +22,7 @@ use Rattle.scm_view.specs.ViewState.{Totals, ViewState, commit_at, file_view_of,
 use Rattle.scm_view.specs.Window.{inline_document}
 use Rattle.scm_layout.specs.declared.file_rows.FileRows.{FileRows}
 use Rattle.scm_layout.specs.declared.section_rows.SectionRows.{SectionRows}
+use Rattle.scm_layout.specs.declared.section_rows.SectionShape.TheVariants as shapes
 use Rattle.scm_layout.specs.Layouts.{files_top, message_height as rows_of_message}
 use Rattle.scm_layout.specs.Rows.{each_file_rows, file_key_of, file_rows, stacked, sections_rows}
 use Rattle.scm_layout.specs.Searches.{count_to}
@@ -207,7 +208,7 @@ module _ (s : ViewState) (k : FileKey) (f : File) where
 
   top-zero : (r : FileRows) → r.sections ≡ (file_rows s.expanded k f).sections → top_at 0 r.sections ≡ rows_before 0
   top-zero r same =
-      let d : SectionRows = record { top = 0; end = 0 } in
+      let d : SectionRows = record { top = 0; end = 0; shape = shapes.Changed } in
       let size = layout-length s k f in
       let own_size = ap length same in
       ⊎_elim (λ (p : 0 < length f.sections). top-there 0 d r.sections (omega (arith, p, size, own_size)) ∙ ap (λ (qs : List SectionRows). (get_or qs 0 d).top) same ∙ section-top s k f 0 d p)
@@ -217,7 +218,7 @@ module _ (s : ViewState) (k : FileKey) (f : File) where
   starts-at : (row : ℕ) (r : FileRows) → r.sections ≡ (file_rows s.expanded k f).sections → (a : ℕ) → a ≤ sections_begun unfolded row r - 1 → StartsWell a own → Starts row r a
   starts-at row r same zero h w = record { within = omega arith; begun = omega arith; well = w; top = top-zero r same; low = λ p. absurd (omega (arith, p)) }
   starts-at row r same (suc a) h w =
-      let d : SectionRows = record { top = 0; end = 0 } in
+      let d : SectionRows = record { top = 0; end = 0; shape = shapes.Changed } in
       let size = layout-length s k f in
       let own_size = ap length same in
       ⊎_elim (λ (none : sections_begun unfolded row r ≡ 0). absurd (omega (arith, none, h)))
@@ -302,7 +303,7 @@ module _ (s : ViewState) (k : FileKey) (f : File) where
   end-reach row r same e low within = go unfolded refl
     where
       d : SectionRows
-      d = record { top = 0; end = 0 }
+      d = record { top = 0; end = 0; shape = shapes.Changed }
 
       c : ℕ
       c = count_to (λ (q : SectionRows). q.top) (row - r.top - 1) r.sections

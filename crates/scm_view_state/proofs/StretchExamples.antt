@@ -4,11 +4,12 @@ use Rattle.scm_types.specs.declared.section.Section.{Section}
 use Rattle.scm_types.specs.declared.section.Section.TheVariants.{Unchanged, Changed}
 use Rattle.scm_layout.specs.declared.file_rows.FileRows.{FileRows}
 use Rattle.scm_layout.specs.declared.section_rows.SectionRows.{SectionRows}
+use Rattle.scm_layout.specs.declared.section_rows.SectionShape.TheVariants as shapes
 use Rattle.scm_view_state.specs.declared.stretches.Stretch.{Stretch}
 use Rattle.scm_view_state.specs.Stretches.{end_of, section_range, sections_begun, start_of, top_at}
 
 rows_from : ℕ → ℕ → SectionRows
-rows_from top end = record { top = top; end = end }
+rows_from top end = record { top = top; end = end; shape = shapes.Changed }
 
 -- a header on row 4; below it sections on rows 5 to 7, 8 to 9 and 10 to 13
 rows : FileRows

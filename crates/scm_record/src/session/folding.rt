@@ -18,6 +18,7 @@ impl<'state> ActiveSession<'state> {
     pub(super) fn fold(&mut self, key: SelectionKey) -> Result<(), AllocError>
         ensures { OnOk result (self.new ≡ after_fold self.old key) }
     {
+        self.shared_rows = None;
         let shown = &mut self.view_state;
         self.layout.fold(&shown.state, &mut shown.expanded, key);
         self.ensure_selection_in_viewport()
@@ -29,6 +30,7 @@ impl<'state> ActiveSession<'state> {
             ≡ with_expanded self.old (with_key_flipped self.old.shown.expanded key)) }
         ensures err { IfErr result (λ e. e ≡ OutOfMemory) }
     {
+        self.shared_rows = None;
         let shown = &mut self.view_state;
         self.layout.flip(&shown.state, &mut shown.expanded, key)
     }
@@ -37,6 +39,7 @@ impl<'state> ActiveSession<'state> {
     fn set_expanded(&mut self, expanded: KeySet)
         ensures { self.new ≡ with_expanded self.old expanded }
     {
+        self.shared_rows = None;
         let shown = &mut self.view_state;
         shown.expanded = expanded;
         self.layout.refold(&shown.state, &shown.expanded);

@@ -2,6 +2,7 @@ use Rattle.std.proofs.Common.{◌≡◌, ◌∙◌, ◌+◌, ◌-◌, suc, Some,
 use Rattle.std.specs.Prelude.{if◌then◌else◌}
 use Rattle.std.proofs.lemmas.Bool.{le-ltb, lt-ltb}
 use Rattle.scm_layout.specs.declared.section_rows.SectionRows.{SectionRows}
+use Rattle.scm_layout.specs.declared.section_rows.SectionShape.TheVariants as shapes
 use Rattle.scm_layout.proofs.SearchLemmas.{follow-rise, on-last, on-none}
 use Rattle.scm_layout.proofs.row_search.section_on.Goals as goal
 
@@ -14,7 +15,7 @@ returns-then-count-eq0 c =
 
 pub returns-then-row-sections : goal.returns-then-row-sections
 returns-then-row-sections c =
-    let d : SectionRows = (record { top = 0; end = 0 }) in
+    let d : SectionRows = (record { top = 0; end = 0; shape = shapes.Context 0 }) in
     let n = c.sections_begun-count.result - 1 in
     let next : c.sections_begun-count.result ≡ suc n = omega arith in
     let zero : 0 + n ≡ n = omega arith in
@@ -23,7 +24,7 @@ returns-then-row-sections c =
 
 pub returns-else-row-sections : goal.returns-else-row-sections
 returns-else-row-sections c =
-    let d : SectionRows = (record { top = 0; end = 0 }) in
+    let d : SectionRows = (record { top = 0; end = 0; shape = shapes.Context 0 }) in
     let n = c.sections_begun-count.result - 1 in
     let next : c.sections_begun-count.result ≡ suc n = omega arith in
     let zero : 0 + n ≡ n = omega arith in

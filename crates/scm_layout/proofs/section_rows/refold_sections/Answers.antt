@@ -43,12 +43,12 @@ loop-index-preserved c =
     let rows = c.loop-index.rows in
     let s = c.index-sections-index.result in
     let h = c.visible_height-height.result in
-    let y : SectionRows = record { top = top; end = top + h } in
+    let y : SectionRows = record { top = top; end = top + h; shape = c.shape_of-shape.result } in
     let left = sections_rows ks k n (i + 1) (top + h) c.is_open-before.result (drop (i + 1) ss) in
     let is : h ≡ visible_height ks k n i before s (is_first_open ks k (i + 1) (drop (i + 1) ss)) =
     c.visible_height-height.ensures ∙ ap (λ b. visible_height ks k n i before s b) c.is_open_at-after.ensures in
     let more : sections_rows ks k n i top before (drop i ss) ≡ y ∷ left =
-    rw (is, c.is_open-before.ensures) (sections_rows-more ks k n i top before ss s c.loop-index-test.true c.index-sections-index.is) in
+    rw (is, c.is_open-before.ensures, c.shape_of-shape.ensures) (sections_rows-more ks k n i top before ss s c.loop-index-test.true c.index-sections-index.is) in
     let tall : sections_height ks k n i before (drop i ss) ≡ h + sections_height ks k n (i + 1) c.is_open-before.result (drop (i + 1) ss) =
     rw (is, c.is_open-before.ensures) (sections_height-more ks k n i before ss s c.loop-index-test.true c.index-sections-index.is) in
     let within : i < length rows = omega arith in

@@ -6,25 +6,17 @@ use Rattle.scm_layout_index.proofs.row_pieces.pieces_at.Goals as goal
 pub section_in-requires : goal.section_in-requires
 section_in-requires c =
     let rs = c.args.rows.now in
-    let fs = c.args.files.now in
     let i = c.args.index in
     let r = c.in_ok-file_rows.file_rows.now in
-    let f = c.in_ok-file.file.now in
-    let in_rows : i < length rs = grind (arith, c.in_ok-file_rows.ensures.lookup.0) in
-    let in_files : i < length fs = grind (arith, c.in_ok-file.ensures.lookup.0) in
-    let rows : slice_get rs i ≡ Some r = slice_get-get_or rs i r in_rows ∙ ap Some (sym c.in_ok-file_rows.ensures.lookup.1) in
-    let file : slice_get fs i ≡ Some f = slice_get-get_or fs i f in_files ∙ ap Some (sym c.in_ok-file.ensures.lookup.1) in
-    c.requires.sections i r f rows file
+    let within : i < length rs = grind (arith, c.in_ok-file_rows.ensures.lookup.0) in
+    let rows : slice_get rs i ≡ Some r = slice_get-get_or rs i r within ∙ ap Some (sym c.in_ok-file_rows.ensures.lookup.1) in
+    c.requires.sections i r rows
 
 pub returns : goal.returns
 returns c =
     let rs = c.args.rows.now in
-    let fs = c.args.files.now in
     let i = c.args.index in
     let r = c.in_ok-file_rows.file_rows.now in
-    let f = c.in_ok-file.file.now in
-    let in_rows : i < length rs = grind (arith, c.in_ok-file_rows.ensures.lookup.0) in
-    let in_files : i < length fs = grind (arith, c.in_ok-file.ensures.lookup.0) in
-    let rows : slice_get rs i ≡ Some r = slice_get-get_or rs i r in_rows ∙ ap Some (sym c.in_ok-file_rows.ensures.lookup.1) in
-    let file : slice_get fs i ≡ Some f = slice_get-get_or fs i f in_files ∙ ap Some (sym c.in_ok-file.ensures.lookup.1) in
-    rw (rows, file, c.file_piece.ensures, c.section_in.ensures) refl
+    let within : i < length rs = grind (arith, c.in_ok-file_rows.ensures.lookup.0) in
+    let rows : slice_get rs i ≡ Some r = slice_get-get_or rs i r within ∙ ap Some (sym c.in_ok-file_rows.ensures.lookup.1) in
+    rw (rows, c.file_piece.ensures, c.section_in.ensures) refl

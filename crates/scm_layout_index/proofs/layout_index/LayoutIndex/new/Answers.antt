@@ -9,12 +9,12 @@ use Rattle.scm_overlay.specs.Tables.{help_dialog, quit_dialog}
 use Rattle.scm_view.specs.ViewState.{ViewState, commit_at}
 use Rattle.scm_view.proofs.AppRangeLemmas.{bar-in, screen-in}
 use Rattle.scm_view.proofs.FrameIndexLemmas.{bar-few}
-use Rattle.scm_layout_index.proofs.AnswerLemmas.{new-extent, new-owner, own-follow}
+use Rattle.scm_layout_index.proofs.AnswerLemmas.{new-extent, new-owner, new-span, own-follow}
 use Rattle.scm_layout_index.proofs.layout_index.LayoutIndex.new.Goals as goal
 
 pub push_pinned_on-requires-clause-follow : goal.push_pinned_on-requires-clause-follow
 push_pinned_on-requires-clause-follow c =
-    rw c.as_slice-files.ensures (own-follow c.args.rows.now c.args.view_state.now c.requires.shown.accepted c.requires.rows)
+    rw (c.as_slice.ensures, c.layout_rows.ensures) (own-follow c.args.rows c.args.view_state.now c.requires.shown.accepted c.requires.rows)
 
 pub push_rects-requires-clause-screen : goal.push_rects-requires-clause-screen
 push_rects-requires-clause-screen c =
@@ -47,11 +47,11 @@ returns-clause-ok c =
     let h = c.args.height in
     let s = c.args.scroll in
     let shown = c.args.view_state.now in
-    let rows = c.args.rows.now in
+    let rows = c.args.rows in
     let same = c.view_state.view_is in
     let m0 = rw c.new-rects.ensures.items at c.in_ok-message.ensures.ok in
     let e0 = m0 ∙ ap (λ (v : ViewState). message_rects 0 (is_some (commit_at 0 v.state.commits).message)) same in
-    let e1 = rw (c.from-columns.ensures, c.as_slice-files.ensures) at c.in_ok-push_pinned_on.ensures.ok in
+    let e1 = rw (c.from-columns.ensures, c.as_slice.ensures, c.layout_rows.ensures) at c.in_ok-push_pinned_on.ensures.ok in
     let e2 = rw (c.screen-screen.ensures, c.requires.bar) at c.in_ok-bar.ensures.ok in
     let m3 = rw c.screen-screen.ensures at c.in_ok-quit.ensures.ok in
     let e3 = m3 ∙ ap (λ (v : ViewState). c.push_rects.new.rects.items ++ quit_dialog_rects (screen w h s) v.quit_dialog) same in
@@ -60,12 +60,14 @@ returns-clause-ok c =
     let run = rw (c.joined_with.ensures, c.joined.ensures, c.document_run-document.ensures, c.saturating_sub-below.ensures, c.from.ensures) at c.joined_with-run.ensures in
     let bar = rw c.requires.bar at c.in_ok-bar.ensures.rows in
     let message = c.in_ok-message.ensures.rows ∙ ap (λ (v : ViewState). message_height (commit_at 0 v.state.commits).message) same in
-    let empty = rw c.as_slice-files.ensures at c.is_empty.ensures in
+    let empty = rw c.layout_rows.ensures at c.is_empty.ensures in
+    let end = rw c.layout_rows.ensures at c.end_of_files-end.ensures in
     let quit = (rw c.screen-screen.ensures at c.in_ok-quit.ensures.rows) ∙ ap (λ (v : ViewState). option_map (λ q. dialog_run (screen w h s) (quit_dialog q)) v.quit_dialog) same in
     let help = (rw c.screen-screen.ensures at c.in_ok-help.ensures.rows) ∙ ap (λ (v : ViewState). if v.is_help_open then Some (dialog_run (screen w h s) help_dialog) else None) same in
     record {
       owner = new-owner w h s shown c.requires.shown rows c.push_message.new.rects.items c.push_pinned_on.new.rects.items c.push_rects.new.rects.items c.push_quit.new.rects.items c.push_help.new.rects.items
           c.view_state.inside.selection c.requires.rows (ap (λ (v : ViewState). v.selection) same) e0 e1 e2 e3 e4;
+      span = λ k. new-span shown rows k c.requires.rows;
       extent = c.saturating_sub.ensures ∙ new-extent w h s shown c.requires.shown rows c.joined_with-run.result (s + c.in_ok-bar.bar) c.in_ok-message.message c.end_of_files-end.result c.is_empty.result c.in_ok-quit.quit c.in_ok-help.help c.requires.rows
-          run (ap (λ n. s + n) bar) message empty c.end_of_files-end.ensures quit help;
+          run (ap (λ n. s + n) bar) message empty end quit help;
     }

@@ -1,12 +1,17 @@
 use Rattle.std.proofs.Common.{◌≡◌, ◌∙◌, sym, ap, subst}
 use Rattle.scm_record.specs.Session.{Session, IsDrawable, after_frame}
+use Rattle.scm_record.specs.LiveView.{IsWaiting}
 use Rattle.scm_record.proofs.live.LiveSession.resize.Goals as goal
 
 pub invariant_of-self : goal.invariant_of-self
 invariant_of-self c =
+    subst (λ (s : Session). IsWaiting c.self.inside.kind s c.self.inside.frame) (sym c.draw_anew.ensures.unchanged) c.self.invariant
+
+pub invariant_of-self-2 : goal.invariant_of-self-2
+invariant_of-self-2 c =
     let t = c.self.inside.session in
     let u = c.begin_frame.new.self in
-    let e : u ≡ after_frame t = c.begin_frame.ensures in
+    let e : u ≡ after_frame t = c.begin_frame.ensures ∙ ap after_frame c.in_ok-draw_anew.ensures.unchanged in
     let calm = c.self.invariant.calm in
     let drawable : IsDrawable (after_frame t) = record { accepted = calm.drawable.accepted; scroll = calm.drawable.scroll } in
     record {

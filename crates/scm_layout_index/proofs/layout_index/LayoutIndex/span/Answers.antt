@@ -1,0 +1,5 @@
+use Rattle.std.proofs.Common.{◌∙◌}
+use Rattle.scm_layout_index.proofs.layout_index.LayoutIndex.span.Goals as goal
+
+pub returns : goal.returns
+returns c = λ w h s shown is. c.span_in.ensures ∙ is.span c.args.key

@@ -1,0 +1,122 @@
+//! Rows of a layout that a session and its frames share.
+ghost use Rattle.std.specs.Prelude.{◌≡◌, IfOk};
+ghost use Rattle.scm_layout_index.specs.RowPieces.{piece_of_key, pieces_on};
+ghost use Rattle.scm_layout_index.specs.SharedRows.{AreRowsOfState};
+
+use crate::key_pieces::piece_of_key;
+use crate::row_pieces::{RowPieces, pieces_on};
+use scm_document::index_pieces::Piece;
+use scm_layout::{FileRows, SectionRows, StateRows};
+use scm_types::{Items, SelectionKey};
+use std::alloc::{AllocError, Global};
+use std::marker::Model;
+use std::rc::Rc;
+
+/// A copy of the rows of a session's layout. The session and its frames share it, and nothing
+/// changes it.
+#[derive(Drop)]
+pub struct SharedRows {
+    /// The rows.
+    rows: Rc<StateRows>,
+}
+
+impl Model for SharedRows {
+    ghost use Rattle.scm_layout.specs.declared.state_rows.StateRows.{StateRows};
+    ghost use Rattle.scm_layout_index.specs.RowPieces.{RowsFit};
+
+    ghost Value = { StateRows };
+
+    ghost view = { λ s. s.rows.value };
+
+    ghost invariant = { λ s. RowsFit s.rows.value.files };
+}
+
+/// Returns a copy of `rows`.
+fn copy_sections(alloc: Global, rows: &[SectionRows]) -> Result<Items<SectionRows>, AllocError>
+    ensures { IfOk result (λ copy. copy ≡ rows.now) }
+{
+    let mut copy = Vec::with_capacity(alloc, rows.len())?;
+    for row in rows {
+        copy.push(*row)?;
+    }
+    Ok(Items::from(copy))
+}
+
+/// Returns a copy of `rows`.
+fn copy_file(alloc: Global, rows: &FileRows) -> Result<FileRows, AllocError>
+    ensures { IfOk result (λ copy. copy ≡ rows.now) }
+{
+    let sections = copy_sections(alloc, rows.sections.as_slice())?;
+    Ok(FileRows {
+        top: rows.top,
+        end: rows.end,
+        folded: rows.folded,
+        sections,
+    })
+}
+
+/// Returns a copy of `rows`.
+fn copy_files(alloc: Global, rows: &[FileRows]) -> Result<Items<FileRows>, AllocError>
+    ensures { IfOk result (λ copy. copy ≡ rows.now) }
+{
+    let mut copy = Vec::with_capacity(alloc, rows.len())?;
+    for row in rows {
+        copy.push(copy_file(alloc, row)?)?;
+    }
+    Ok(Items::from(copy))
+}
+
+impl SharedRows {
+    /// Returns a copy of `rows`, which are those of a session's layout.
+    ///
+    /// # Errors
+    /// `AllocError`: an allocation failed.
+    pub fn new(alloc: Global, rows: &StateRows) -> Result<SharedRows, AllocError>
+        requires { AreRowsOfState rows.now }
+        ensures { IfOk result (λ copy. copy ≡ rows.now) }
+    {
+        let files = copy_files(alloc, rows.files.as_slice())?;
+        let rows = Rc::new(alloc, StateRows { files })?;
+        Ok(SharedRows { rows })
+    }
+
+    /// Returns the same rows for another owner, without a copy.
+    ///
+    /// # Errors
+    /// `AllocError`: there are too many owners to count.
+    pub fn share(&self) -> Result<SharedRows, AllocError>
+        ensures { IfOk result (λ rows. rows ≡ self.now) }
+    {
+        let rows = self.rows.clone()?;
+        Ok(SharedRows { rows })
+    }
+
+    /// Returns the rows.
+    pub(crate) fn layout_rows(&self) -> &StateRows
+        ensures { result.now ≡ self.now }
+    {
+        self.rows.as_ref()
+    }
+
+    /// Returns the pieces that have row `row` of the document, if any. A header may be pinned to
+    /// row `pinned`, and `selection` is selected.
+    pub(crate) fn pieces_on(
+        &self,
+        selection: SelectionKey,
+        pinned: usize,
+        row: usize,
+    ) -> Option<RowPieces>
+        ensures { result ≡ pieces_on selection pinned row self.now.files }
+    {
+        let rows = self.rows.as_ref();
+        pieces_on(selection, pinned, rows.files.as_slice(), row)
+    }
+
+    /// Returns the piece that has the rows of `key`, if any.
+    pub(crate) fn piece_of_key(&self, key: SelectionKey) -> Option<Piece>
+        ensures { result ≡ piece_of_key self.now.files key }
+    {
+        let rows = self.rows.as_ref();
+        piece_of_key(rows.files.as_slice(), key)
+    }
+}

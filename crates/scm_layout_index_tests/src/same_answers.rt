@@ -1,0 +1,126 @@
+//! Frames of a small document, with random folds, selections, scrolls, menus and dialogs. Each
+//! place, each key and the extent is asked of the index of the view, and of that by the layout.
+ghost use Rattle.std.specs.Prelude.{◌≡◌, ◌≤◌, IsTrue};
+ghost use Rattle.scm_document.specs.declared.commit_view.CommitViewMode.TheVariants.{Inline};
+ghost use Rattle.scm_types.specs.Limits.{is_accepted_state, max_scroll};
+
+use scm_layout::Layout;
+use scm_layout_index::{LayoutIndex, SharedRows};
+use scm_samples::{ADDED, REMOVED, binary, changed, commits_of, context, deletion, file_of};
+use scm_selection::key_lists::all_keys;
+use scm_selection::key_set::key_set_of;
+use scm_types::{File, FileMode, Items, RecordError, RecordState, Section, SelectionKey};
+use scm_view::{CommitViewMode, FrameIndex, QuitDialog, QuitDialogButtonId};
+use scm_view_state::ViewState;
+use std::alloc::Global;
+use std::process::Abort;
+
+/// Returns a file with a section of each kind, with context first, between and last.
+fn mixed_file(alloc: Global) -> Result<File<'static>, RecordError> {
+    let mut sections: Vec<Section<'static>> = Vec::new(alloc);
+    sections.push(context(alloc, &["a\n", "b\n", "c\n", "d\n"])?)?;
+    sections.push(changed(alloc, &[(true, REMOVED, "e\n"), (false, ADDED, "f\n")])?)?;
+    sections.push(context(alloc, &["g\n"])?)?;
+    sections.push(changed(alloc, &[(true, ADDED, "h\n")])?)?;
+    sections.push(context(alloc, &["i\n", "j\n", "k\n", "l\n", "m\n", "n\n", "o\n"])?)?;
+    sections.push(deletion())?;
+    sections.push(context(alloc, &[])?)?;
+    sections.push(binary(true))?;
+    Ok(file_of(FileMode::FILE_DEFAULT, sections))
+}
+
+/// Returns a state of two files, with a message.
+fn sample_state(alloc: Global) -> Result<RecordState<'static>, RecordError> {
+    let mut files = Items::new(alloc);
+    files.push(mixed_file(alloc)?)?;
+    files.push(mixed_file(alloc)?)?;
+    Ok(RecordState {
+        is_read_only: false,
+        commits: commits_of(alloc, "message")?,
+        files,
+    })
+}
+
+/// Checks that both indexes answer alike of each place of the frame of `view_state`, of `keys`, and
+/// of the extent.
+fn check_frame(
+    rt: &impl Abort,
+    alloc: Global,
+    view_state: &ViewState<'_>,
+    keys: &[SelectionKey],
+    scroll: usize,
+) -> Result<(), RecordError>
+    requires accepted { IsTrue (is_accepted_state view_state.now.state) }
+    requires inline { view_state.now.view_mode ≡ Inline }
+    requires scroll { scroll ≤ max_scroll }
+{
+    let view = view_state.app_view(alloc)?;
+    let layout = Layout::new(alloc, &view_state.state, &view_state.expanded)?;
+    let rows = SharedRows::new(alloc, &layout.rows)?;
+    let whole = FrameIndex::new(alloc, &view, 30, 12, scroll)?;
+    let index = LayoutIndex::new(alloc, view_state, &view.menu_bar, rows, 30, 12, scroll)?;
+    assert_eq!(rt; index.extent(), whole.extent());
+    for key in keys {
+        assert!(rt; index.span(*key) == whole.span(*key), "{key:?}");
+    }
+    for row in 0..50 {
+        for column in 0..32 {
+            assert!(rt;
+                index.owner(row, column) == whole.owner(row, column),
+                "row {row}, column {column}"
+            );
+        }
+    }
+    Ok(())
+}
+
+/// Changes `view_state` by a random number: what is selected, folded or open.
+fn change(
+    view_state: &mut ViewState<'static>,
+    keys: &[SelectionKey],
+    seed: usize,
+) -> Result<(), RecordError> {
+    let key = keys
+        .get(seed / 16 % 32)
+        .copied()
+        .unwrap_or(SelectionKey::None);
+    match seed % 16 {
+        0 | 1 | 2 | 3 => view_state.selection = key,
+        4 => view_state.open_menu = Some(seed / 16 % 5),
+        5 => view_state.open_menu = None,
+        6 => view_state.is_help_open = !view_state.is_help_open,
+        7 => {
+            view_state.quit_dialog = match view_state.quit_dialog {
+                None => Some(QuitDialog {
+                    num_commit_messages: 1,
+                    num_changed_files: 2,
+                    focused_button: QuitDialogButtonId::Quit,
+                }),
+                Some(_) => None,
+            };
+        }
+        _ => view_state.expanded.flip(key)?,
+    }
+    Ok(())
+}
+
+#[test]
+fn both_indexes_answer_alike(rt: HostRuntime) -> Result<(), RecordError> {
+    let alloc = rt.alloc();
+    let state = sample_state(alloc)?;
+    let mut keys = all_keys(alloc, state.files.as_slice())?;
+    keys.push(SelectionKey::None)?;
+    let expanded = key_set_of(alloc, keys.as_slice())?;
+    let mut view_state = ViewState::new(state, SelectionKey::None, expanded);
+    let mut seed: usize = 1;
+    for _ in 0..40 {
+        let scroll = seed % 40;
+        assert!(rt; view_state.state.is_accepted());
+        assert!(rt; matches!(&view_state.view_mode, CommitViewMode::Inline));
+        assert!(rt; scroll <= RecordState::MAX_SCROLL);
+        check_frame(&rt, alloc, &view_state, keys.as_slice(), scroll)?;
+        seed = (seed * 75 + 74) % 65537;
+        change(&mut view_state, keys.as_slice(), seed)?;
+    }
+    Ok(())
+}
