@@ -32,6 +32,9 @@ fn is_short_with_end(line: &str) -> bool
 pub(crate) fn has_short_lines(text: &str) -> bool
     ensures { result ≡ list_all is_short_text (lines_of text.now) }
 {
+    if text.len() <= RecordState::MAX_TEXT {
+        return true;
+    }
     let mut rest = text;
     'cuts: while let Some((line, after)) = split_line(rest) {
         if !is_short_with_end(line) {
