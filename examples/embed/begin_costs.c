@@ -1,8 +1,8 @@
-/* begin_costs calls|lines|json LINES: begins a session over LINES changed lines, by one call for all of them (`calls`), by a call
- * for each (`lines`), or over the JSON form (`json`). It prints the bytes of the texts, the milliseconds from the first call until
- * the session waits, and the most bytes of memory that the library had taken at once meanwhile, with 8 bytes for each block. The
- * status is 1 if that is more than three times the bytes of the texts and 64 bytes for each line. Link it with
- * -Wl,--wrap=malloc,--wrap=realloc,--wrap=free. */
+/* begin_costs calls|lines|json LINES [BYTES]: begins a session over LINES changed lines, by one call for all of them (`calls`), by a
+ * call for each (`lines`), or over the JSON form (`json`). Each line has BYTES bytes, at most 100, or else is one of a program. It
+ * prints the bytes of the texts, the milliseconds from the first call until the session waits, and the most bytes of memory that
+ * the library had taken at once meanwhile, with 8 bytes for each block. The status is 1 if that is more than three times the bytes
+ * of the texts and 64 bytes for each line. Link it with -Wl,--wrap=malloc,--wrap=realloc,--wrap=free. */
 #define _XOPEN_SOURCE 700
 #include "scm.h"
 
@@ -12,7 +12,7 @@
 #include <string.h>
 #include <time.h>
 
-enum { LONGEST_LINE = 120 };
+enum { LONGEST_LINE = 100, JSON_OF_LINE = 60 };
 
 static size_t in_use, most_in_use;
 
@@ -46,20 +46,35 @@ static double now(void) {
     return (double)time.tv_sec * 1e3 + (double)time.tv_nsec / 1e6;
 }
 
-static char *add_line(char *end, size_t number, bool is_json) {
-    const char *form = is_json ? "%s{\"is_checked\":false,\"change_type\":\"Added\",\"line\":\"    let line_%zu = read(input)?;\\n\"}" : "%s    let line_%zu = read(input)?;\n";
-    return end + sprintf(end, form, is_json && number ? "," : "", number);
+/* One line without its end: of `bytes` bytes with it, or if that is 0 one of a program. */
+static char *add_line(char *end, size_t number, size_t bytes) {
+    if (bytes == 0) {
+        return end + sprintf(end, "    let line_%zu = read(input)?;", number);
+    }
+    memset(end, 'a' + (char)(number % 26), bytes - 1);
+    return end + bytes - 1;
+}
+
+static char *add_json_line(char *end, size_t number, size_t bytes) {
+    end += sprintf(end, "%s{\"is_checked\":false,\"change_type\":\"Added\",\"line\":\"", number ? "," : "");
+    end = add_line(end, number, bytes);
+    return end + sprintf(end, "\\n\"}");
 }
 
 /* The text of the lines, or the JSON form of the state. */
-static char *text_of(size_t lines, bool is_json) {
-    char *text = malloc(lines * LONGEST_LINE + 200), *end = text;
+static char *text_of(size_t lines, size_t bytes, bool is_json) {
+    char *text = malloc(lines * (LONGEST_LINE + JSON_OF_LINE) + 200), *end = text;
     if (is_json) {
         end += sprintf(end, "{\"is_read_only\":false,\"commits\":[],\"files\":[{\"old_path\":null,\"path\":\"f\",\"file_mode\":{\"Unix\":33188},"
                             "\"sections\":[{\"Changed\":{\"lines\":[");
     }
     for (size_t i = 0; i < lines; i++) {
-        end = add_line(end, i, is_json);
+        if (is_json) {
+            end = add_json_line(end, i, bytes);
+        } else {
+            end = add_line(end, i, bytes);
+            *end++ = '\n';
+        }
     }
     strcpy(end, is_json ? "]}}]}]}" : "");
     return text;
@@ -78,20 +93,22 @@ static bool add_lines(scm_session *session, const char *text, size_t length, boo
 
 int main(int argc, char **argv) {
     scm_session session = {0};
-    size_t lines = argc == 3 ? strtoul(argv[2], NULL, 10) : 0;
-    bool is_json = argc == 3 && strcmp(argv[1], "json") == 0;
-    char *text = text_of(lines, false), *given = is_json ? text_of(lines, true) : text;
+    const char *how = argc > 1 ? argv[1] : "calls";
+    size_t lines = argc > 2 ? strtoul(argv[2], NULL, 10) : 0, bytes = argc > 3 ? strtoul(argv[3], NULL, 10) : 0;
+    bool is_json = strcmp(how, "json") == 0;
+    if (bytes > LONGEST_LINE) {
+        return 2;
+    }
+    char *text = text_of(lines, bytes, false), *given = is_json ? text_of(lines, bytes, true) : text;
     size_t length = strlen(text), before = in_use;
     most_in_use = in_use;
     double begun = now();
     bool is_well = is_json ? scm_new(&session, given, strlen(given), 80, 24) == SCM_DONE
         : scm_state_new(&session, false) == SCM_DONE && scm_state_file(&session, "f", 1, "", 0, 0100644) == SCM_DONE
-            && add_lines(&session, text, length, argc == 3 && strcmp(argv[1], "lines") == 0)
-            && scm_begin(&session, 80, 24) == SCM_DONE;
+            && add_lines(&session, text, length, strcmp(how, "lines") == 0) && scm_begin(&session, 80, 24) == SCM_DONE;
     double ended = now();
     size_t most = most_in_use - before, limit = 3 * length + 64 * lines;
-    printf("%s: %zu lines, %zu bytes, %.1f ms, %zu bytes of memory, with a limit of %zu\n", argc == 3 ? argv[1] : "", lines, length,
-           ended - begun, most, limit);
+    printf("%s: %zu lines, %zu bytes, %.1f ms, %zu bytes of memory, with a limit of %zu\n", how, lines, length, ended - begun, most, limit);
     scm_free(&session);
     return is_well && (is_json || most <= limit) ? 0 : 1;
 }

@@ -86,6 +86,10 @@ with_changes more ss =
 abbrev pub changed_line : Bool → ChangeType → List ℕ → SectionChangedLine
 changed_line is_checked change_type line = record { is_checked = is_checked; change_type = change_type; line = line }
 
+-- the lines of a text, as changed lines with this mark and kind
+abbrev pub changed_lines : Bool → ChangeType → List ℕ → List SectionChangedLine
+changed_lines is_checked change_type text = map (changed_line is_checked change_type) (lines_of text)
+
 -- the section without lines
 abbrev pub section_without_lines : Bool → Section
 section_without_lines true = sections.Changed []
@@ -100,7 +104,7 @@ after_context text ss = if length text == 0 then ss else with_context (lines_of 
 -- the sections after the changed lines of a text are added; without a line they stay
 abbrev pub after_changes : Bool → ChangeType → List ℕ → List Section → List Section
 after_changes is_checked change_type text ss =
-    if length text == 0 then ss else with_changes (map (changed_line is_checked change_type) (lines_of text)) ss
+    if length text == 0 then ss else with_changes (changed_lines is_checked change_type text) ss
 
 -- the sections of a file after a part is added
 abbrev pub after_part : Part → List Section → List Section

@@ -1,5 +1,5 @@
 -- The lines of a text.
-use Rattle.std.specs.Prelude.{ℕ, ◌==◌, List, [], ◌∷◌, if◌then◌else◌}
+use Rattle.std.specs.Prelude.{◌≡◌, ℕ, ◌==◌, List, [], ◌∷◌, ◌++◌, if◌then◌else◌}
 
 -- the lines with the byte `b` before the first one
 abbrev pub with_first : ℕ → List (List ℕ) → List (List ℕ)
@@ -15,3 +15,10 @@ lines_of (b ∷ bs) = if b == 10 then (b ∷ []) ∷ lines_of bs else with_first
 abbrev pub last_line : List ℕ → List (List ℕ)
 last_line [] = []
 last_line (b ∷ bs) = (b ∷ bs) ∷ []
+
+-- A list begins with another one.
+pub record BeginsWith {A : Type 0} (begin all : List A) : Type 0 where
+  -- what follows
+  pub rest : List A
+  -- the list is both
+  pub joined : all ≡ begin ++ rest

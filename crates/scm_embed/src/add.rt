@@ -1,90 +1,86 @@
 //! Additions to a state, to its last file, and to that file's last section. A failed addition
 //! leaves all as it was.
-ghost use Rattle.std.specs.Prelude.{◌≡◌, ◌-◌, ◌∷◌, [], ◌++◌, IfOk, OnErr, OnOk, is_ok, if◌then◌else◌, length};
+ghost use Rattle.std.specs.Prelude.{◌≡◌, ◌-◌, ◌∷◌, [], ◌++◌, IfOk, OnErr, OnOk, length};
 ghost use Rattle.scm_types.specs.Edits.{modify};
-ghost use Rattle.scm_embed.specs.Additions.{after_addition, after_changes, after_context, after_part, commit_of, ends_in, file_after_part, file_of, is_changed, is_context, section_without_lines, with_changes, with_context, with_more_changes, with_more_context};
+ghost use Rattle.scm_embed.specs.Lines.{lines_of};
+ghost use Rattle.scm_embed.specs.Additions.{after_addition, after_changes, after_context, after_part, changed_lines, commit_of, ends_in, file_after_part, file_of, is_changed, is_context, section_without_lines, with_changes, with_context, with_more_changes, with_more_context};
 
 use crate::addition::{Addition, Part};
-use crate::lines::{changed_lines, context_lines, copy_of};
+use crate::lines::{append_changes, append_context, copy_of};
+use crate::lists::push_item;
 use scm_types::{
     ChangeType, Commit, File, FileMode, Items, OwnedText, RecordState, Section, SectionChangedLine,
     Text,
 };
 use std::alloc::{AllocError, Global};
-use std::mem;
 
-/// Adds `more` at the end of `list`.
-fn append<T: Drop>(alloc: Global, list: &mut Items<T>, more: Vec<T>) -> Result<(), AllocError>
-    ensures { list.new ≡ (if is_ok result then list.old ++ more.items else list.old) }
-{
-    let mut more = more;
-    let mut all = mem::replace(list, Items::new(alloc)).into_inner();
-    let done = all.append(&mut more);
-    *list = Items::from(all);
-    done
-}
-
-/// Adds context lines to `section`, if it has context lines.
+/// Adds the lines of `text` to `section`, if it has context lines.
 fn extend_context(
     alloc: Global,
     section: &mut Section<'static>,
-    more: Vec<Text<'static>>,
+    text: &str,
 ) -> Result<(), AllocError>
-    ensures ok { OnOk result (section.new ≡ with_more_context more.entry.items section.old) }
+    ensures ok { OnOk result (section.new ≡ with_more_context (lines_of text.now) section.old) }
     ensures unchanged { OnErr result (section.new ≡ section.old) }
 {
     match section {
-        Section::Unchanged { lines } => append(alloc, lines, more),
+        Section::Unchanged { lines } => append_context(alloc, lines, text),
         Section::Changed { .. } | Section::FileMode { .. } | Section::Binary { .. } => Ok(()),
     }
 }
 
-/// Adds changed lines to `section`, if it has changed lines.
+/// Adds the lines of `text` to `section`, if it has changed lines.
 fn extend_changes(
     alloc: Global,
     section: &mut Section<'static>,
-    more: Vec<SectionChangedLine<'static>>,
+    is_checked: bool,
+    change_type: ChangeType,
+    text: &str,
 ) -> Result<(), AllocError>
-    ensures ok { OnOk result (section.new ≡ with_more_changes more.entry.items section.old) }
+    ensures ok { OnOk result (section.new
+        ≡ with_more_changes (changed_lines is_checked change_type text.now) section.old) }
     ensures unchanged { OnErr result (section.new ≡ section.old) }
 {
     match section {
-        Section::Changed { lines } => append(alloc, lines, more),
+        Section::Changed { lines } => append_changes(alloc, lines, is_checked, change_type, text),
         Section::Unchanged { .. } | Section::FileMode { .. } | Section::Binary { .. } => Ok(()),
     }
 }
 
-/// Adds context lines to the last of `sections`, if it has context lines.
+/// Adds the lines of `text` to the last of `sections`, if it has context lines.
 fn extend_last_context(
     alloc: Global,
     sections: &mut [Section<'static>],
-    more: Vec<Text<'static>>,
+    text: &str,
 ) -> Result<(), AllocError>
     ensures ok { OnOk result (sections.new
-        ≡ modify (with_more_context more.entry.items) sections.old (length sections.old - 1)) }
+        ≡ modify (with_more_context (lines_of text.now)) sections.old (length sections.old - 1)) }
     ensures unchanged { OnErr result (sections.new ≡ sections.old) }
 {
     let last = sections.len().saturating_sub(1);
     if last < sections.len() {
-        extend_context(alloc, &mut sections[last], more)
+        extend_context(alloc, &mut sections[last], text)
     } else {
         Ok(())
     }
 }
 
-/// Adds changed lines to the last of `sections`, if it has changed lines.
+/// Adds the lines of `text` to the last of `sections`, if it has changed lines.
 fn extend_last_changes(
     alloc: Global,
     sections: &mut [Section<'static>],
-    more: Vec<SectionChangedLine<'static>>,
+    is_checked: bool,
+    change_type: ChangeType,
+    text: &str,
 ) -> Result<(), AllocError>
     ensures ok { OnOk result (sections.new
-        ≡ modify (with_more_changes more.entry.items) sections.old (length sections.old - 1)) }
+        ≡ modify (with_more_changes (changed_lines is_checked change_type text.now)) sections.old
+        (length sections.old - 1)) }
     ensures unchanged { OnErr result (sections.new ≡ sections.old) }
 {
     let last = sections.len().saturating_sub(1);
     if last < sections.len() {
-        extend_changes(alloc, &mut sections[last], more)
+        extend_changes(alloc, &mut sections[last], is_checked, change_type, text)
     } else {
         Ok(())
     }
@@ -114,57 +110,48 @@ fn ends_in_changes(sections: &[Section<'static>]) -> bool
     }
 }
 
-/// Adds `section` at the end.
-fn push_section(
-    sections: &mut Items<Section<'static>>,
-    section: Section<'static>,
-) -> Result<(), AllocError>
-    ensures ok { OnOk result (sections.new ≡ sections.old ++ section.entry ∷ []) }
-    ensures unchanged { OnErr result (sections.new ≡ sections.old) }
-{
-    sections.push(section)?;
-    Ok(())
-}
-
-/// Adds context lines at the end of `sections`.
+/// Adds the lines of `text` at the end of `sections`, as context lines.
 fn add_context_lines(
     alloc: Global,
     sections: &mut Items<Section<'static>>,
-    more: Vec<Text<'static>>,
+    text: &str,
 ) -> Result<(), AllocError>
-    ensures ok { OnOk result (sections.new ≡ with_context more.entry.items sections.old) }
+    ensures ok { OnOk result (sections.new ≡ with_context (lines_of text.now) sections.old) }
     ensures unchanged { OnErr result (sections.new ≡ sections.old) }
 {
     if ends_in_context(sections.as_slice()) {
-        extend_last_context(alloc, sections.as_mut_slice(), more)
+        extend_last_context(alloc, sections.as_mut_slice(), text)
     } else {
-        push_section(
-            sections,
-            Section::Unchanged {
-                lines: Items::from(more),
-            },
-        )
+        let mut lines: Items<Text<'static>> = Items::new(alloc);
+        append_context(alloc, &mut lines, text)?;
+        push_item(alloc, sections, Section::Unchanged { lines })
     }
 }
 
-/// Adds changed lines at the end of `sections`.
+/// Adds the lines of `text` at the end of `sections`, as changed lines.
 fn add_changed_lines(
     alloc: Global,
     sections: &mut Items<Section<'static>>,
-    more: Vec<SectionChangedLine<'static>>,
+    is_checked: bool,
+    change_type: ChangeType,
+    text: &str,
 ) -> Result<(), AllocError>
-    ensures ok { OnOk result (sections.new ≡ with_changes more.entry.items sections.old) }
+    ensures ok { OnOk result (sections.new
+        ≡ with_changes (changed_lines is_checked change_type text.now) sections.old) }
     ensures unchanged { OnErr result (sections.new ≡ sections.old) }
 {
     if ends_in_changes(sections.as_slice()) {
-        extend_last_changes(alloc, sections.as_mut_slice(), more)
-    } else {
-        push_section(
-            sections,
-            Section::Changed {
-                lines: Items::from(more),
-            },
+        extend_last_changes(
+            alloc,
+            sections.as_mut_slice(),
+            is_checked,
+            change_type,
+            text,
         )
+    } else {
+        let mut lines: Items<SectionChangedLine<'static>> = Items::new(alloc);
+        append_changes(alloc, &mut lines, is_checked, change_type, text)?;
+        push_item(alloc, sections, Section::Changed { lines })
     }
 }
 
@@ -180,8 +167,7 @@ fn add_context(
     if text.is_empty() {
         return Ok(());
     }
-    let more = context_lines(alloc, text)?;
-    add_context_lines(alloc, sections, more)
+    add_context_lines(alloc, sections, text)
 }
 
 /// Adds the changed lines of `text` at the end of `sections`. Without a line this is a no-op.
@@ -199,8 +185,7 @@ fn add_changes(
     if text.is_empty() {
         return Ok(());
     }
-    let more = changed_lines(alloc, is_checked, change_type, text)?;
-    add_changed_lines(alloc, sections, more)
+    add_changed_lines(alloc, sections, is_checked, change_type, text)
 }
 
 /// Returns a section without lines.
@@ -282,10 +267,10 @@ fn add_part(
             text,
         } => add_changes(alloc, sections, is_checked, change_type, text.as_str()),
         Part::Lines { is_changed } => {
-            push_section(sections, section_without_lines(alloc, is_changed))
+            push_item(alloc, sections, section_without_lines(alloc, is_changed))
         }
         Part::Mode { is_checked, mode } => {
-            push_section(sections, Section::FileMode { is_checked, mode })
+            push_item(alloc, sections, Section::FileMode { is_checked, mode })
         }
         Part::Binary {
             is_checked,
@@ -299,7 +284,7 @@ fn add_part(
                 old_description,
                 new_description,
             };
-            push_section(sections, section)
+            push_item(alloc, sections, section)
         }
     }
 }
@@ -340,8 +325,7 @@ pub(crate) fn add_to(
             file_mode,
         } => {
             let file = file_of(alloc, old_path, path, file_mode)?;
-            state.files.push(file)?;
-            Ok(())
+            push_item(alloc, &mut state.files, file)
         }
         Addition::Part { part } => add_to_last(alloc, state.files.as_mut_slice(), part),
     }

@@ -5,8 +5,10 @@ mod add;
 pub mod addition;
 pub mod builder;
 mod lines;
+mod lists;
 pub mod marks;
 mod refusals;
+mod short_lines;
 
 pub use addition::{Addition, BuildError, Part};
 pub use builder::StateBuilder;

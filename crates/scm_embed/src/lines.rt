@@ -1,11 +1,13 @@
 //! The lines of a text, as owned texts.
-ghost use Rattle.std.specs.Prelude.{◌≡◌, ◌<◌, [], ◌∷◌, ◌++◌, IfNone, IfOk, IfSome, length, map, string_bytes};
+ghost use Rattle.std.specs.Prelude.{◌≡◌, ◌<◌, [], ◌∷◌, ◌++◌, IfNone, IfOk, IfSome, OnErr, OnOk, length, string_bytes};
 ghost use Rattle.std.specs.List.{list_all};
 ghost use Rattle.scm_types.specs.Limits.{is_short_text};
-ghost use Rattle.scm_embed.specs.Lines.{last_line, lines_of};
-ghost use Rattle.scm_embed.specs.Additions.{changed_line};
+ghost use Rattle.scm_embed.specs.Lines.{BeginsWith, last_line, lines_of};
+ghost use Rattle.scm_embed.specs.Additions.{changed_line, changed_lines};
 
-use scm_types::{ChangeType, RecordState, SectionChangedLine, Text};
+use crate::lists::{make_room, put_list, take_list};
+use crate::short_lines::short_line;
+use scm_types::{ChangeType, Items, RecordState, SectionChangedLine, Text};
 use std::alloc::{AllocError, Global};
 
 /// Returns the first line of `text`, without its line end, and the text after it. Returns `None` if
@@ -30,6 +32,9 @@ fn is_short_with_end(line: &str) -> bool
 pub(crate) fn has_short_lines(text: &str) -> bool
     ensures { result ≡ list_all is_short_text (lines_of text.now) }
 {
+    if text.len() <= RecordState::MAX_TEXT {
+        return true;
+    }
     let mut rest = text;
     'cuts: while let Some((line, after)) = split_line(rest) {
         if !is_short_with_end(line) {
@@ -40,13 +45,15 @@ pub(crate) fn has_short_lines(text: &str) -> bool
     rest.len() <= RecordState::MAX_TEXT
 }
 
-/// Returns how many lines `text` has, or one more.
+/// Returns how many lines `text` has, if it is not empty.
 fn count_lines(text: &str) -> usize {
-    text.as_bytes()
-        .iter()
-        .filter(|byte| **byte == b'\n')
-        .count()
-        .saturating_add(1)
+    let bytes = text.as_bytes();
+    let ends = bytes.iter().filter(|byte| **byte == b'\n').count();
+    if text.ends_with('\n') {
+        ends
+    } else {
+        ends.saturating_add(1)
+    }
 }
 
 /// Returns a copy of `text`.
@@ -58,7 +65,7 @@ pub(crate) fn copy_of(alloc: Global, text: &str) -> Result<Text<'static>, AllocE
 }
 
 /// Returns a copy of `line` with a line end.
-fn with_line_end(alloc: Global, line: &str) -> Result<Text<'static>, AllocError>
+fn copy_with_line_end(alloc: Global, line: &str) -> Result<Text<'static>, AllocError>
     ensures { IfOk result (λ copy. copy ≡ line.now ++ 10 ∷ []) }
 {
     let mut copy = String::with_capacity(alloc, line.len().saturating_add(1))?;
@@ -67,20 +74,47 @@ fn with_line_end(alloc: Global, line: &str) -> Result<Text<'static>, AllocError>
     Ok(Text::from(copy))
 }
 
-/// Returns copies of the lines of `text`.
-pub(crate) fn context_lines(alloc: Global, text: &str) -> Result<Vec<Text<'static>>, AllocError>
-    ensures { IfOk result (λ lines. lines.items ≡ lines_of text.now) }
+/// Returns `line` with a line end. The shortest lines allocate nothing.
+fn with_line_end(alloc: Global, line: &str) -> Result<Text<'static>, AllocError>
+    ensures { IfOk result (λ text. text ≡ line.now ++ 10 ∷ []) }
 {
-    let mut lines = Vec::with_capacity(alloc, count_lines(text))?;
+    match short_line(line) {
+        Some(short) => Ok(Text::from(short)),
+        None => copy_with_line_end(alloc, line),
+    }
+}
+
+/// Adds the lines of `text` at the end of `list`. If an allocation fails, some of them are added.
+fn push_context(alloc: Global, list: &mut Vec<Text<'static>>, text: &str) -> Result<(), AllocError>
+    ensures ok { OnOk result (list.new.items ≡ list.old.items ++ lines_of text.now) }
+    ensures begins { BeginsWith list.old.items list.new.items }
+{
+    make_room(list, count_lines(text))?;
     let mut rest = text;
     'cuts: while let Some((line, after)) = split_line(rest) {
-        lines.push(with_line_end(alloc, line)?)?;
+        list.push(with_line_end(alloc, line)?)?;
         rest = after;
     }
     if !rest.is_empty() {
-        lines.push(copy_of(alloc, rest)?)?;
+        list.push(copy_of(alloc, rest)?)?;
     }
-    Ok(lines)
+    Ok(())
+}
+
+/// Adds the lines of `text` at the end of `list`.
+pub(crate) fn append_context(
+    alloc: Global,
+    list: &mut Items<Text<'static>>,
+    text: &str,
+) -> Result<(), AllocError>
+    ensures ok { OnOk result (list.new ≡ list.old ++ lines_of text.now) }
+    ensures unchanged { OnErr result (list.new ≡ list.old) }
+{
+    let mut all = take_list(alloc, list);
+    let before = all.len();
+    let done = push_context(alloc, &mut all, text);
+    put_list(list, all, before, done.is_ok());
+    done
 }
 
 /// Returns the changed line with `line` as its text.
@@ -98,26 +132,48 @@ fn changed_line(
     }
 }
 
-/// Returns copies of the lines of `text`, as changed lines with the same mark and kind.
-pub(crate) fn changed_lines(
+/// Adds the lines of `text` at the end of `list`, as changed lines with the same mark and kind. If an
+/// allocation fails, some of them are added.
+fn push_changes(
     alloc: Global,
+    list: &mut Vec<SectionChangedLine<'static>>,
     is_checked: bool,
     change_type: ChangeType,
     text: &str,
-) -> Result<Vec<SectionChangedLine<'static>>, AllocError>
-    ensures { IfOk result (λ lines.
-        lines.items ≡ map (changed_line is_checked change_type) (lines_of text.now)) }
+) -> Result<(), AllocError>
+    ensures ok { OnOk result (list.new.items
+        ≡ list.old.items ++ changed_lines is_checked change_type text.now) }
+    ensures begins { BeginsWith list.old.items list.new.items }
 {
-    let mut lines = Vec::with_capacity(alloc, count_lines(text))?;
+    make_room(list, count_lines(text))?;
     let mut rest = text;
     'cuts: while let Some((line, after)) = split_line(rest) {
         let line = with_line_end(alloc, line)?;
-        lines.push(changed_line(is_checked, change_type, line))?;
+        list.push(changed_line(is_checked, change_type, line))?;
         rest = after;
     }
     if !rest.is_empty() {
         let line = copy_of(alloc, rest)?;
-        lines.push(changed_line(is_checked, change_type, line))?;
+        list.push(changed_line(is_checked, change_type, line))?;
     }
-    Ok(lines)
+    Ok(())
+}
+
+/// Adds the lines of `text` at the end of `list`, as changed lines with the same mark and kind.
+pub(crate) fn append_changes(
+    alloc: Global,
+    list: &mut Items<SectionChangedLine<'static>>,
+    is_checked: bool,
+    change_type: ChangeType,
+    text: &str,
+) -> Result<(), AllocError>
+    ensures ok { OnOk result (list.new
+        ≡ list.old ++ changed_lines is_checked change_type text.now) }
+    ensures unchanged { OnErr result (list.new ≡ list.old) }
+{
+    let mut all = take_list(alloc, list);
+    let before = all.len();
+    let done = push_changes(alloc, &mut all, is_checked, change_type, text);
+    put_list(list, all, before, done.is_ok());
+    done
 }

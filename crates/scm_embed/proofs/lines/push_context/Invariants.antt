@@ -1,13 +1,14 @@
 use Rattle.std.proofs.Common.{◌≡◌, ◌++◌, length}
 use denote.Shadow.{shadow}
 use denote.Text.{Utf8}
-use Rattle.scm_embed.specs.Lines.{lines_of}
-use Rattle.scm_embed.proofs.lines.context_lines.Given as goal
+use Rattle.scm_embed.specs.Lines.{BeginsWith, lines_of}
+use Rattle.scm_embed.proofs.lines.push_context.Given as goal
 
 abbrev pub invariant-cuts : goal.invariant-cuts
 invariant-cuts l = record {
   utf8 : shadow (Utf8 l.rest);
-  lines : l.lines.items ++ lines_of l.rest ≡ lines_of l.fn.text;
+  lines : l.list.items ++ lines_of l.rest ≡ l.fn.list.items ++ lines_of l.fn.text;
+  begins : BeginsWith l.fn.list.items l.list.items;
 }
 
 abbrev pub decreases-cuts : goal.decreases-cuts
