@@ -281,16 +281,12 @@ impl OpenSession {
         ensures painter { self.new.painter ≡ self.old.painter }
         ensures kept { 0 < result → self.new ≡ self.old }
     {
-        match self.take_stage() {
-            Stage::Building(mut builder) => {
-                let code = add_to_builder(alloc, &mut builder, addition);
-                self.stage = Stage::Building(builder);
-                code
-            }
-            other => {
-                self.stage = other;
-                codes::NOT_NOW
-            }
+        match &mut self.stage {
+            Stage::Building(builder) => add_to_builder(alloc, builder, addition),
+            Stage::Waiting(_) => codes::NOT_NOW,
+            Stage::Editing(_) => codes::NOT_NOW,
+            Stage::Accepted(_) => codes::NOT_NOW,
+            Stage::Ended(_) => codes::NOT_NOW,
         }
     }
 
