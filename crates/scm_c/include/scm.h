@@ -25,10 +25,16 @@
  *         scm_begin(&session, 80, 24);
  *         scm_press(&session, "a", 1);
  *         scm_press(&session, "c", 1);
- *         if (scm_side(&session, 0, true, bytes, sizeof bytes, &side) == SCM_DONE && side.contents == SCM_SIDE_TEXT) {
+ *         if (scm_stage(&session) == SCM_ACCEPTED
+ *             && scm_side(&session, 0, true, bytes, sizeof bytes, &side) == SCM_DONE && side.contents == SCM_SIDE_TEXT) {
  *             fwrite(bytes, 1, side.length, stdout);
  *         }
  *         scm_free(&session);
+ *
+ *     scm_side also answers while the state is made and while it is shown: ask scm_stage first. The words "l" and "h" move
+ *     inwards (from a file to its sections, and on to their lines) and outwards, "j" and "k" to the next and the previous item
+ *     that is shown, from the first file on. "space" checks or unchecks the selected item, "a" inverts every mark, "c"
+ *     accepts, and "q" cancels. docs/RULES.md of the repository lists all words, under "Words", and all keys.
  *
  *     Rows and columns are places on the screen, counted from 0. A wide symbol has two columns. Texts are UTF-8 with a length,
  *     without a terminating zero. They are copied: the caller may free them after the call.
