@@ -105,6 +105,7 @@ fn change(
 }
 
 #[test]
+#[tactic(auto, unfolding(scm_types::specs::Limits::max_items, scm_types::specs::Limits::max_scroll))]
 fn both_indexes_answer_alike(rt: HostRuntime) -> Result<(), RecordError> {
     let alloc = rt.alloc();
     let state = sample_state(alloc)?;
@@ -119,7 +120,7 @@ fn both_indexes_answer_alike(rt: HostRuntime) -> Result<(), RecordError> {
         assert!(rt; matches!(&view_state.view_mode, CommitViewMode::Inline));
         assert!(rt; scroll <= RecordState::MAX_SCROLL);
         check_frame(&rt, alloc, &view_state, keys.as_slice(), scroll)?;
-        seed = (seed * 75 + 74) % 65537;
+        seed = seed.wrapping_mul(75).wrapping_add(74) % 65_537;
         change(&mut view_state, keys.as_slice(), seed)?;
     }
     Ok(())
