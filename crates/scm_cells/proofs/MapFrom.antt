@@ -1,5 +1,5 @@
 -- A loop that writes over each element of a list what a function makes of it at its place.
-use Rattle.std.proofs.Common.{◌≡◌, ℕ, zero, suc, ◌+◌, ◌<◌, ◌≤◌, List, [], ◌∷◌, ◌++◌, length, take, drop, get_or, set, map, refl, ap, ◌∙◌, arith, add-one}
+use Rattle.std.proofs.Common.{◌≡◌, ℕ, zero, suc, ◌+◌, ◌<◌, ◌≤◌, List, [], ◌∷◌, ◌++◌, length, take, drop, get_or, set, refl, ap, arith, add-one}
 
 abbrev pub map_from : {X : Type 0} → (ℕ → X → X) → ℕ → List X → List X
 map_from f i [] = []
@@ -32,7 +32,3 @@ more-from f k j (x ∷ xs) (suc i) d h e = ap (λ t. f k x ∷ t) (more-from f (
 pub so_far-more : {X : Type 0} (f : ℕ → X → X) (xs ys : List X) (i : ℕ) (d y : X) → i < length xs → ys ≡ so_far f xs i → y ≡ f i (get_or ys i d) → set ys i y ≡ so_far f xs (i + 1)
 so_far-more f xs ys i d y h e w =
     rw (w, e, read-from f 0 xs i d h, add-one) (more-from f 0 i xs i d h (omega arith))
-
-pub map-map_from : {X Y : Type 0} (g h : X → Y) (f : ℕ → X → X) (i : ℕ) (xs : List X) → ((n : ℕ) (x : X) → g (f n x) ≡ h x) → map g (map_from f i xs) ≡ map h xs
-map-map_from g h f i [] e = refl
-map-map_from g h f i (x ∷ xs) e = ap (λ y. y ∷ map g (map_from f (suc i) xs)) (e i x) ∙ ap (λ t. h x ∷ t) (map-map_from g h f (suc i) xs e)

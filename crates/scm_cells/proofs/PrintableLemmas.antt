@@ -33,7 +33,7 @@ printable-ascii c h = grind (arith, nat_tests)
 pub printable-encodes : (c : ℕ) → is_printable_char c ≡ true → encode_utf8 c ≡ c ∷ []
 printable-encodes c h = encode_ascii c (printable-ascii c h)
 
-IsAscii-printable : (cs : List ℕ) → is_printable cs ≡ true → IsAscii cs
+pub IsAscii-printable : (cs : List ℕ) → is_printable cs ≡ true → IsAscii cs
 IsAscii-printable [] h = IsAscii-nil
 IsAscii-printable (c ∷ cs) h = let parts = and_parts (is_printable_char c) (is_printable cs) h in IsAscii-cons c cs (printable-ascii c parts.0) (IsAscii-printable cs parts.1)
 

@@ -6,7 +6,7 @@ use Rattle.std.specs.Vec.{with_items}
 use Rattle.std.proofs.lemmas.List.{with_items_is, length-map, map-set, get_or-map, map_more}
 use Rattle.std.proofs.lemmas.List.Concat.{flat_map-append}
 use Rattle.std.proofs.lemmas.List.Elements.{All-head, All-tail, All-replicate, All-set}
-use Rattle.scm_cells.specs.Cell.{Cell, ColumnCells, blank, shown}
+use Rattle.scm_cells.specs.Cell.{Cell, blank}
 use Rattle.scm_cells.specs.Counts.{Counts, no_counts}
 use Rattle.scm_cells.specs.Row.{IsWhole, row_text}
 use Rattle.scm_cells.specs.Screen.{Screen, IsScreen, blank_screen}
@@ -19,14 +19,14 @@ use Rattle.scm_cells.proofs.MapFrom.{map_from, so_far, so_far-more, so_far-all}
 abbrev pub cleared_row : ℕ → List Cell → List Cell
 cleared_row i row = replicate (length row) blank
 
-pub rows-cleared : {Z : Type 0} (items init : List (Vec ColumnCells Z)) (i : ℕ) (d : Vec ColumnCells Z) (new cols : List ColumnCells) → i < length items → length items ≡ length init
-    → map row_of items ≡ so_far cleared_row (map row_of init) i → cols ≡ (get_or items i d).items → length new ≡ (get_or items i d).len → map shown new ≡ replicate (length cols) blank
+pub rows-cleared : {Z : Type 0} (items init : List (Vec Cell Z)) (i : ℕ) (d : Vec Cell Z) (new cols : List Cell) → i < length items → length items ≡ length init
+    → map row_of items ≡ so_far cleared_row (map row_of init) i → cols ≡ (get_or items i d).items → length new ≡ (get_or items i d).len → new ≡ replicate (length cols) blank
     → map row_of (set items i (with_items (get_or items i d) new)) ≡ so_far cleared_row (map row_of init) (i + 1)
 rows-cleared items init i d new cols h same inv from size shows =
     let v = get_or items i d in
     let inside : i < length (map row_of init) = omega (arith, length-map init row_of) in
     let row : row_of (with_items v new) ≡ cleared_row i (get_or (map row_of items) i (row_of d)) =
-    ap (map shown) (with_items_is v new size) ∙ shows ∙ ap (λ n. replicate n blank) (ap length from ∙ sym (length-map v.items shown))
+    with_items_is v new size ∙ shows ∙ ap (λ n. replicate n blank) (ap length from)
     ∙ ap (λ r. replicate (length r) blank) (sym (get_or-map row_of items i d (row_of d) h)) in
     map-set row_of items i (with_items v new) ∙ so_far-more cleared_row (map row_of init) (map row_of items) i (row_of d) (row_of (with_items v new)) inside inv row
 
@@ -37,7 +37,7 @@ all-cleared width i (row ∷ rows) h =
     ∙ ap (λ t. replicate width blank ∷ t) (all-cleared width (suc i) rows (All-tail (λ (r : List Cell). length r ≡ width) row rows h))
 
 -- after the loop the grid is one of spaces
-pub screen-cleared : {Z : Type 0} {k : Counts} (items init old final : List (Vec ColumnCells Z)) (i width : ℕ) → init ≡ old → final ≡ items → length init ≤ i → IsScreen (record { width = width; rows = map row_of old; counts = k })
+pub screen-cleared : {Z : Type 0} {k : Counts} (items init old final : List (Vec Cell Z)) (i width : ℕ) → init ≡ old → final ≡ items → length init ≤ i → IsScreen (record { width = width; rows = map row_of old; counts = k })
     → map row_of items ≡ so_far cleared_row (map row_of init) i → ◌≡◌ {A = Screen} (record { width = width; rows = map row_of final; counts = no_counts }) (blank_screen width (length (map row_of old)))
 screen-cleared items init old final i width was same le h inv =
     let past : length (map row_of init) ≤ i = omega (arith, length-map init row_of) in
@@ -65,25 +65,28 @@ IsScreen-same a b e h = subst IsScreen (sym e) h
 
 -- ---- one row is written
 
-pub rows-set : {Z : Type 0} (rows : List (Vec ColumnCells Z)) (i : ℕ) (v : Vec ColumnCells Z) (new : List ColumnCells) → length new ≡ v.len
-    → map row_of (set rows i (with_items v new)) ≡ set (map row_of rows) i (map shown new)
-rows-set rows i v new size = map-set row_of rows i (with_items v new) ∙ ap (λ row. set (map row_of rows) i (map shown row)) (with_items_is v new size)
+pub length-with_items : {Z : Type 0} (v : Vec Cell Z) (new : List Cell) (width : ℕ) → length new ≡ v.len → length new ≡ width → length (with_items v new).items ≡ width
+length-with_items v new width size e = ap length (with_items_is v new size) ∙ e
+
+pub rows-set : {Z : Type 0} (rows : List (Vec Cell Z)) (i : ℕ) (v : Vec Cell Z) (new : List Cell) → length new ≡ v.len
+    → map row_of (set rows i (with_items v new)) ≡ set (map row_of rows) i new
+rows-set rows i v new size = map-set row_of rows i (with_items v new) ∙ ap (set (map row_of rows) i) (with_items_is v new size)
 
 -- the row that was read
-pub row-read : {Z : Type 0} (rows : List (Vec ColumnCells Z)) (i : ℕ) (v : Vec ColumnCells Z) (cols : List ColumnCells) → i < length rows → v ≡ get_or rows i v → cols ≡ v.items
-    → map shown cols ≡ get_or (map row_of rows) i []
-row-read rows i v cols h e same = ap (map shown) same ∙ ap row_of e ∙ sym (get_or-map row_of rows i v [] h)
+pub row-read : {Z : Type 0} (rows : List (Vec Cell Z)) (i : ℕ) (v : Vec Cell Z) (cols : List Cell) → i < length rows → v ≡ get_or rows i v → cols ≡ v.items
+    → cols ≡ get_or (map row_of rows) i []
+row-read rows i v cols h e same = same ∙ ap row_of e ∙ sym (get_or-map row_of rows i v [] h)
 
 -- the row's columns are the grid's
-pub length-read : {Z : Type 0} {k : Counts} (rows : List (Vec ColumnCells Z)) (i width : ℕ) (v : Vec ColumnCells Z) (cols : List ColumnCells) → i < length rows → v ≡ get_or rows i v → cols ≡ v.items
+pub length-read : {Z : Type 0} {k : Counts} (rows : List (Vec Cell Z)) (i width : ℕ) (v : Vec Cell Z) (cols : List Cell) → i < length rows → v ≡ get_or rows i v → cols ≡ v.items
     → IsScreen (record { width = width; rows = map row_of rows; counts = k }) → length cols ≡ width
 length-read rows i width v cols h e same screen =
     let inside : i < length (map row_of rows) = omega (arith, length-map rows row_of) in
-    sym (length-map cols shown) ∙ ap length (row-read rows i v cols h e same) ∙ screen.columns i [] inside
+    ap length (row-read rows i v cols h e same) ∙ screen.columns i [] inside
 
 -- and of whole symbols
-pub whole-read : {Z : Type 0} {k : Counts} (rows : List (Vec ColumnCells Z)) (i width : ℕ) (v : Vec ColumnCells Z) (cols : List ColumnCells) → i < length rows → v ≡ get_or rows i v → cols ≡ v.items
-    → IsScreen (record { width = width; rows = map row_of rows; counts = k }) → IsWhole (map shown cols)
+pub whole-read : {Z : Type 0} {k : Counts} (rows : List (Vec Cell Z)) (i width : ℕ) (v : Vec Cell Z) (cols : List Cell) → i < length rows → v ≡ get_or rows i v → cols ≡ v.items
+    → IsScreen (record { width = width; rows = map row_of rows; counts = k }) → IsWhole cols
 whole-read rows i width v cols h e same screen =
     let inside : i < length (map row_of rows) = omega (arith, length-map rows row_of) in
     subst IsWhole (sym (row-read rows i v cols h e same)) (screen.symbols i [] inside)
@@ -106,10 +109,10 @@ rows-unchanged rows i row e = ap (set rows i) e ∙ set-same rows i
 
 -- ---- the rows as text
 
-pub view-more : {Z : Type 0} (rows : List (Vec ColumnCells Z)) (i : ℕ) (d : Vec ColumnCells Z) (text new : List ℕ) (cols : List ColumnCells) → i < length rows → text ≡ flat_map row_text (map row_of (take i rows))
-    → cols ≡ (get_or rows i d).items → new ≡ text ++ row_text (map shown cols) → new ≡ flat_map row_text (map row_of (take (i + 1) rows))
+pub view-more : {Z : Type 0} (rows : List (Vec Cell Z)) (i : ℕ) (d : Vec Cell Z) (text new : List ℕ) (cols : List Cell) → i < length rows → text ≡ flat_map row_text (map row_of (take i rows))
+    → cols ≡ (get_or rows i d).items → new ≡ text ++ row_text cols → new ≡ flat_map row_text (map row_of (take (i + 1) rows))
 view-more rows i d text new cols h inv same e =
     let more : flat_map row_text (map row_of (take (i + 1) rows)) ≡ flat_map row_text (map row_of (take i rows)) ++ row_text (row_of (get_or rows i d)) =
     ap (flat_map row_text) (map_more row_of rows i d h) ∙ flat_map-append row_text (map row_of (take i rows)) (row_of (get_or rows i d) ∷ [])
     ∙ ap (λ t. flat_map row_text (map row_of (take i rows)) ++ t) (append-nil (row_text (row_of (get_or rows i d)))) in
-    e ∙ ap (λ t. t ++ row_text (map shown cols)) inv ∙ ap (λ t. flat_map row_text (map row_of (take i rows)) ++ row_text (map shown t)) same ∙ sym more
+    e ∙ ap (λ t. t ++ row_text cols) inv ∙ ap (λ t. flat_map row_text (map row_of (take i rows)) ++ row_text t) same ∙ sym more

@@ -4,6 +4,7 @@ use Rattle.std.specs.Prelude.{is_some}
 use Rattle.std.specs.List.{All, flat_map}
 use Rattle.std.proofs.lemmas.Bool.{cases_lt}
 use Rattle.std.proofs.lemmas.Bool.Decides.{nat_tests}
+use Rattle.std.proofs.lemmas.List.{drop-drop}
 use Rattle.std.proofs.lemmas.List.Elements.{All-head, All-tail}
 use Rattle.scm_cells.specs.Cluster.{Cluster}
 use Rattle.scm_cells.specs.Cell.{Cell}
@@ -68,10 +69,19 @@ after-start (c ∷ cs) all (suc n) start =
     ap (whole_after 0) back ∙ others (sym (start-past (cells_of c) more (suc n) past) ∙ start) ∙ sym back)
     (cases_lt (suc n) c.1)
 
-pub whole_before-start : (row : List Cell) (n : ℕ) → IsWhole row → is_start row n ≡ true → whole_before (take n row) ≡ take n row
+whole_before-start : (row : List Cell) (n : ℕ) → IsWhole row → is_start row n ≡ true → whole_before (take n row) ≡ take n row
 whole_before-start row n h start =
     subst (λ (r : List Cell). whole_before (take n r) ≡ take n r) (sym h.cells) (before-start h.symbols h.wide n (ap (λ r. is_start r n) (sym h.cells) ∙ start))
 
-pub whole_after-start : (row : List Cell) (n : ℕ) → IsWhole row → is_start row n ≡ true → whole_after 0 (drop n row) ≡ drop n row
+whole_after-start : (row : List Cell) (n : ℕ) → IsWhole row → is_start row n ≡ true → whole_after 0 (drop n row) ≡ drop n row
 whole_after-start row n h start =
     subst (λ (r : List Cell). whole_after 0 (drop n r) ≡ drop n r) (sym h.cells) (after-start h.symbols h.wide n (ap (λ r. is_start r n) (sym h.cells) ∙ start))
+
+pub whole_back : (row back : List Cell) (from end : ℕ) → IsWhole row → from ≤ end → back ≡ drop (end - from) (drop from row) → is_start row end ≡ true → whole_after 0 back ≡ back
+whole_back row back from end h le e start =
+    let there : from + (end - from) ≡ end = omega arith in
+    let same : back ≡ drop end row = e ∙ drop-drop (end - from) from row ∙ ap (λ n. drop n row) there in
+    ap (whole_after 0) same ∙ whole_after-start row end h start ∙ sym same
+
+pub whole_front : (row front : List Cell) (n : ℕ) → IsWhole row → front ≡ take n row → is_start row n ≡ true → whole_before front ≡ front
+whole_front row front n h e start = ap whole_before e ∙ whole_before-start row n h start ∙ sym e

@@ -1,5 +1,5 @@
 -- What clusters laid on a row write, step by step.
-use Rattle.std.proofs.Common.{◌≡◌, ℕ, suc, ◌+◌, ◌-◌, ◌<◌, ◌≤◌, min, Bool, true, false, not, ◌&&◌, nat_le, List, [], ◌∷◌, ◌++◌, length, get_or, take, drop, map, slice_range, append-nil, append_assoc, length-append, length-take, length-drop, take-append-drop, replicate, refl, sym, ap, ap₂, subst, ◌∙◌, arith, ⊎_elim, Option, Some, None, Result, Ok, Err, length-take-le, take_at, drop_at}
+use Rattle.std.proofs.Common.{◌≡◌, ℕ, suc, ◌+◌, ◌-◌, ◌<◌, ◌≤◌, min, Bool, true, false, not, ◌&&◌, nat_le, List, [], ◌∷◌, ◌++◌, length, get_or, take, drop, slice_range, append-nil, append_assoc, length-append, length-take, length-drop, replicate, refl, sym, ap, ap₂, subst, ◌∙◌, arith, ⊎_elim, Option, Some, None, Result, Ok, Err, length-take-le, take_at, drop_at}
 use Rattle.std.specs.Prelude.{option_map, encode_utf8_all, if◌then◌else◌, ℤ, pos, ◌+ℤ◌, ◌-ℤ◌, ◌≤ℤ◌, ◌<ℤ◌, int_le, int_lt, take_while}
 use Rattle.std.specs.Int.{int_min, int_max}
 use Rattle.std.specs.List.{All, flat_map, filter_map, prefix_len}
@@ -7,7 +7,7 @@ use Rattle.std.specs.Result.{OnErr, IfOk}
 use Rattle.std.proofs.lemmas.Result.{IfOk-weaker}
 use Rattle.std.proofs.lemmas.Bool.{cases_lt}
 use Rattle.std.proofs.lemmas.Bool.Decides.{nat_tests}
-use Rattle.std.proofs.lemmas.List.{map-append, take-append-le}
+use Rattle.std.proofs.lemmas.List.{take-append-le}
 use Rattle.std.proofs.lemmas.List.Elements.{All-nil, All-cons, All-head, All-tail, All-map}
 use Rattle.std.proofs.lemmas.Bool.{and_parts}
 use Rattle.std.proofs.lemmas.Str.Ascii.{IsAscii-nil, IsAscii-cons}
@@ -27,7 +27,7 @@ use Rattle.scm_cells.specs.Clusters.{clusters, text_width, clusters_left, rest_l
 use Rattle.scm_cells.specs.declared.text.Clusters.{Clusters}
 use Rattle.scm_cells.specs.declared.text.Rest.{Rest}
 use Rattle.scm_cells.specs.declared.text.Rest.TheVariants.{Bytes, Graphemes}
-use Rattle.scm_cells.specs.Cell.{Cell, ColumnCells, blank, shown, laid}
+use Rattle.scm_cells.specs.Cell.{Cell, blank}
 use Rattle.scm_cells.specs.Row.{with_columns, passes, cells_past, cells_of, written, overlay, put}
 use Rattle.scm_cells.specs.Laying.{fit, columns_of, IsPassed, IsBegun}
 use Rattle.scm_cells.specs.FrameText.{chars_as_clusters, fast_clusters_left}
@@ -406,28 +406,19 @@ written-past column low high from blanks cs rest h kept lt le =
 
 -- ---- a symbol laid after other symbols
 
-pub laid-step : (columns sub : List ColumnCells) (e k : ℕ) (c : Cluster) (now rest : List Cluster) (total : List Cell) → k ≡ e + c.1 - e → e ≤ length columns → c.1 ≤ length columns - e
-    → now ≡ c ∷ rest → length sub ≡ k → map laid sub ≡ cells_of c → map laid (take e columns) ++ fit (length columns - e) now ≡ total
-    → map laid (take (e + c.1) (put_mid e k columns sub)) ++ fit (length columns - (e + c.1)) rest ≡ total
+pub laid-step : (columns sub : List Cell) (e k : ℕ) (c : Cluster) (now rest : List Cluster) (total : List Cell) → k ≡ e + c.1 - e → e ≤ length columns → c.1 ≤ length columns - e
+    → now ≡ c ∷ rest → length sub ≡ k → sub ≡ cells_of c → take e columns ++ fit (length columns - e) now ≡ total
+    → take (e + c.1) (put_mid e k columns sub) ++ fit (length columns - (e + c.1)) rest ≡ total
 laid-step columns sub e k c now rest total f within room g size l h =
     let left : length columns - (e + c.1) ≡ length columns - e - c.1 = omega arith in
     let front : take (e + c.1) (put_mid e k columns sub) ≡ take e columns ++ sub = take-put_mid e k columns sub (e + c.1) (omega arith) within in
-    ap₂ (λ xs n. map laid xs ++ fit n rest) front left ∙ ap (λ t. t ++ fit (length columns - e - c.1) rest) (map-append laid (take e columns) sub)
-    ∙ append_assoc (map laid (take e columns)) (map laid sub) (fit (length columns - e - c.1) rest)
-    ∙ ap (λ t. map laid (take e columns) ++ (t ++ fit (length columns - e - c.1) rest)) l
-    ∙ ap (λ t. map laid (take e columns) ++ t) (sym (fit-cons (length columns - e) c rest room) ∙ ap (fit (length columns - e)) (sym g))
+    ap₂ (λ xs n. xs ++ fit n rest) front left ∙ append_assoc (take e columns) sub (fit (length columns - e - c.1) rest)
+    ∙ ap (λ t. take e columns ++ (t ++ fit (length columns - e - c.1) rest)) l
+    ∙ ap (λ t. take e columns ++ t) (sym (fit-cons (length columns - e) c rest room) ∙ ap (fit (length columns - e)) (sym g))
     ∙ h
 
-pub length-put_mid : (columns sub : List ColumnCells) (e k : ℕ) → length sub ≡ k → e + k ≤ length columns → length (put_mid e k columns sub) ≡ length columns
+pub length-put_mid : (columns sub : List Cell) (e k : ℕ) → length sub ≡ k → e + k ≤ length columns → length (put_mid e k columns sub) ≡ length columns
 length-put_mid columns sub e k size le = simp (length-append, length-take, length-drop) (omega arith)
-
--- what is shown stays where a part of the row shows what it did
-pub shown-put_mid : (columns sub : List ColumnCells) (e k : ℕ) → map shown sub ≡ map shown (take k (drop e columns)) → map shown (put_mid e k columns sub) ≡ map shown columns
-shown-put_mid columns sub e k h =
-    map-append shown (take e columns) (sub ++ drop k (drop e columns))
-    ∙ ap (λ t. map shown (take e columns) ++ t) (map-append shown sub (drop k (drop e columns)) ∙ ap (λ t. t ++ map shown (drop k (drop e columns))) h
-    ∙ sym (map-append shown (take k (drop e columns)) (drop k (drop e columns))) ∙ ap (map shown) (take-append-drop k (drop e columns)))
-    ∙ sym (map-append shown (take e columns) (drop e columns)) ∙ ap (map shown) (take-append-drop e columns)
 
 -- no cluster is left, or the next has no room
 pub laid-end : (front total : List Cell) (room : ℕ) (now : List Cluster) → front ++ fit room now ≡ total → fit room now ≡ [] → front ≡ total
@@ -439,7 +430,7 @@ pub put-none : (row : List Cell) (column : ℤ) (text : List ℕ) (low high : �
 unfolding put overlay
 put-none row column text low high e = rw e refl
 
-part-put_mid : (columns sub : List ColumnCells) (from k width : ℕ) → from ≤ length columns → width ≤ length sub
+part-put_mid : (columns sub : List Cell) (from k width : ℕ) → from ≤ length columns → width ≤ length sub
     → slice_range (put_mid from k columns sub) from (from + width) ≡ take width sub
 part-put_mid columns sub from k width le within =
     let n : from + width - from ≡ width = omega arith in
@@ -449,34 +440,25 @@ pub on_err : {T E P : Type 0} (r : Result T E) → P → OnErr r P
 on_err (Ok x) p = tt
 on_err (Err e) p = p
 
-pub put-some : (columns now new : List ColumnCells) (column : ℤ) (text : List ℕ) (low high from blanks width : ℕ) (sub : List ColumnCells) (cs rest : List Cluster)
-    → from ≡ or_zero (int_max column (pos low)) → cs ≡ clusters text → IsBegun column low cs from blanks rest → low < high → from < high → high ≤ length columns
-    → now ≡ put_mid from (high - from) columns sub → length sub ≡ high - from → width ≤ high - from
-    → map shown sub ≡ map shown (take (high - from) (drop from columns))
-    → map laid (take width sub) ≡ replicate (min blanks (high - from)) blank ++ fit (high - from - blanks) rest
-    → map shown new ≡ overlay (map shown now) from (map laid (slice_range now from (from + width)))
-    → map shown new ≡ put (map shown columns) column text low high
+pub put-some : (row new buffer now sub : List Cell) (column : ℤ) (text : List ℕ) (low high from blanks width : ℕ) (cs rest : List Cluster)
+    → from ≡ or_zero (int_max column (pos low)) → cs ≡ clusters text → IsBegun column low cs from blanks rest → low < high → from < high → high ≤ length buffer
+    → now ≡ put_mid from (high - from) buffer sub → length sub ≡ high - from → width ≤ high - from
+    → take width sub ≡ replicate (min blanks (high - from)) blank ++ fit (high - from - blanks) rest
+    → new ≡ overlay row from (slice_range now from (from + width)) → new ≡ put row column text low high
 unfolding put
-put-some columns now new column text low high from blanks width sub cs rest at cut begun lt inside le made size within same laid_is shows =
+put-some row new buffer now sub column text low high from blanks width cs rest at cut begun lt inside le made size within laid_is shows =
     let part : slice_range now from (from + width) ≡ take width sub =
-    ap (λ xs. slice_range xs from (from + width)) made ∙ part-put_mid columns sub from (high - from) width (omega arith) (omega arith) in
-    let cells : map laid (slice_range now from (from + width)) ≡ written column (clusters text) low high =
-    ap (map laid) part ∙ laid_is ∙ sym (begun high lt) ∙ ap (λ t. written column t low high) cut in
-    shows ∙ ap₂ (λ row t. overlay row from t) (ap (map shown) made ∙ shown-put_mid columns sub from (high - from) same) cells
-    ∙ ap (λ n. overlay (map shown columns) n (written column (clusters text) low high)) at
-
--- what is shown stays where the beginning of the row shows what it did
-pub shown-put_front : (columns sub : List ColumnCells) (k : ℕ) → map shown sub ≡ map shown (take k columns) → map shown (sub ++ drop k columns) ≡ map shown columns
-shown-put_front columns sub k h =
-    map-append shown sub (drop k columns) ∙ ap (λ t. t ++ map shown (drop k columns)) h ∙ sym (map-append shown (take k columns) (drop k columns))
-    ∙ ap (map shown) (take-append-drop k columns)
+    ap (λ xs. slice_range xs from (from + width)) made ∙ part-put_mid buffer sub from (high - from) width (omega arith) (omega arith) in
+    let cells : slice_range now from (from + width) ≡ written column (clusters text) low high =
+    part ∙ laid_is ∙ sym (begun high lt) ∙ ap (λ t. written column t low high) cut in
+    shows ∙ ap₂ (overlay row) at cells
 
 -- spaces, and then the clusters that have room
-pub laid-after_blanks : {E : Type 0} (columns sub new : List ColumnCells) (blanks k : ℕ) (result : Result Laid E) (cs : List Cluster) → k ≡ min blanks (length columns) → length sub ≡ k → map laid sub ≡ replicate k blank
-    → IfOk result (λ r. map laid (take r.end new) ≡ map laid (take k (sub ++ drop k columns)) ++ fit (length (sub ++ drop k columns) - k) cs)
-    → IfOk result (λ r. map laid (take r.end new) ≡ replicate (min blanks (length columns)) blank ++ fit (length columns - blanks) cs)
+pub laid-after_blanks : {E : Type 0} (columns sub new : List Cell) (blanks k : ℕ) (result : Result Laid E) (cs : List Cluster) → k ≡ min blanks (length columns) → length sub ≡ k → sub ≡ replicate k blank
+    → IfOk result (λ r. take r.end new ≡ take k (sub ++ drop k columns) ++ fit (length (sub ++ drop k columns) - k) cs)
+    → IfOk result (λ r. take r.end new ≡ replicate (min blanks (length columns)) blank ++ fit (length columns - blanks) cs)
 laid-after_blanks columns sub new blanks k result cs e size l h =
-    let front : map laid (take k (sub ++ drop k columns)) ≡ replicate (min blanks (length columns)) blank =
-    ap (map laid) (take_at sub (drop k columns) k size) ∙ l ∙ ap (λ n. replicate n blank) e in
+    let front : take k (sub ++ drop k columns) ≡ replicate (min blanks (length columns)) blank =
+    take_at sub (drop k columns) k size ∙ l ∙ ap (λ n. replicate n blank) e in
     let room : length (sub ++ drop k columns) - k ≡ length columns - blanks = simp (length-append, length-drop) (omega arith) in
     IfOk-weaker result _ _ (λ r p. p ∙ ap₂ (λ xs n. xs ++ fit n cs) front room) h

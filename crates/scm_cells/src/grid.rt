@@ -1,5 +1,5 @@
 //! A grid of cells, the content of a screen.
-ghost use Rattle.std.specs.Prelude.{◌≡◌, ◌+◌, ◌<◌, ◌≤◌, IfOk, IfErr, OnOk, OnErr, length, option_map, string_bytes};
+ghost use Rattle.std.specs.Prelude.{◌≡◌, ◌+◌, ◌<◌, ◌≤◌, IfOk, IfErr, OnOk, OnErr, length, option_map, replicate, string_bytes};
 ghost use Rattle.scm_cells.specs.Clusters.{text_width};
 ghost use Rattle.scm_cells.specs.FrameText.{fast_clusters_left};
 ghost use Rattle.scm_cells.specs.Laying.{columns_of};
@@ -27,6 +27,9 @@ pub struct Grid {
 
     /// The columns of each row, from the top.
     rows: Vec<Vec<Column>>,
+
+    /// The columns on which a text is laid before a row takes them, as many as a row has.
+    laid: Vec<Column>,
 
     /// The number of rows of a document that were drawn.
     rows_drawn: usize,
@@ -57,6 +60,7 @@ impl Grid {
     {
         let width = width as usize;
         let height = height as usize;
+        let laid = row::blank_row(alloc, width)?;
         let mut rows = Vec::with_capacity(alloc, height)?;
         'rows: for _ in 0..height {
             rows.push(row::blank_row(alloc, width)?)?;
@@ -65,6 +69,7 @@ impl Grid {
             alloc,
             width,
             rows,
+            laid,
             rows_drawn: 0,
             calls: 0,
         })
@@ -177,6 +182,17 @@ impl Grid {
         Ok(before + rest.columns_left())
     }
 
+    /// Puts `width` spaces on row `row` from `column` on, clipped to the columns `low..high`, as
+    /// [`Grid::put`] of that many spaces does. It does not allocate.
+    pub fn put_blank(&mut self, row: usize, column: isize, width: usize, low: usize, high: usize)
+        requires row { row < length self.old.rows }
+        requires high { high ≤ self.old.width }
+        ensures { self.new ≡ put_on self.old row column (replicate width 32) low high }
+    {
+        let cells = &mut self.rows[row];
+        row::put_spaces(cells.as_mut_slice(), column, width, low, high);
+    }
+
     /// Puts a text like `put`. Returns its remaining clusters, and the width of the clusters before
     /// them.
     fn put_text<'a>(
@@ -195,7 +211,8 @@ impl Grid {
         ensures unchanged { OnErr result (self.new ≡ self.old) }
     {
         let columns = &mut self.rows[row];
-        let rest = row::put_row(columns.as_mut_slice(), column, text, low, high)?;
+        let laid = self.laid.as_mut_slice();
+        let rest = row::put_row(columns.as_mut_slice(), laid, column, text, low, high)?;
         Ok(rest)
     }
 

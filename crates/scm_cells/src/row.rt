@@ -1,8 +1,8 @@
 //! A row of the grid as columns, and how a text is put on it.
-ghost use Rattle.std.specs.Prelude.{◌≡◌, IsTrue, is_some, ◌+◌, ◌-◌, ◌^◌, ◌<◌, ◌≤◌, ◌++◌, pos, IfOk, OnOk, OnErr, length, map, take, slice_range, replicate, min, option_map, string_bytes};
+ghost use Rattle.std.specs.Prelude.{◌≡◌, IsTrue, is_some, ◌+◌, ◌-◌, ◌^◌, ◌<◌, ◌≤◌, ◌++◌, pos, IfOk, OnOk, OnErr, length, take, drop, slice_range, replicate, min, option_map, string_bytes};
 ghost use Rattle.std.specs.Int.{int_max};
 ghost use Rattle.scm_cells.specs.Rect.{or_zero};
-ghost use Rattle.scm_cells.specs.Cell.{blank, shown, laid};
+ghost use Rattle.scm_cells.specs.Cell.{blank};
 ghost use Rattle.scm_cells.specs.Clusters.{text_width};
 ghost use Rattle.scm_cells.specs.Row.{IsWhole, cells_of, later_cells, whole_before, whole_after, overlay, put, row_text};
 ghost use Rattle.scm_cells.specs.FrameText.{fast_clusters_left};
@@ -11,12 +11,13 @@ ghost use Rattle.scm_cells.specs.Laying.{fit, columns_of, IsPassed, IsBegun};
 
 use crate::column::Column;
 use crate::fast_clusters::FastClusters;
+use crate::rect::gap;
 use crate::text::{NextCluster, Rest};
 use std::alloc::{AllocError, Global};
 
 /// Returns a row of `width` spaces.
 pub(crate) fn blank_row(alloc: Global, width: usize) -> Result<Vec<Column>, AllocError>
-    ensures { IfOk result (λ row. map shown row.items ≡ replicate width blank) }
+    ensures { IfOk result (λ row. row.items ≡ replicate width blank) }
 {
     let mut row = Vec::with_capacity(alloc, width)?;
     'columns: for _ in 0..width {
@@ -25,9 +26,9 @@ pub(crate) fn blank_row(alloc: Global, width: usize) -> Result<Vec<Column>, Allo
     Ok(row)
 }
 
-/// Makes each visible cell a space.
+/// Makes each column a space.
 pub(crate) fn clear_row(columns: &mut [Column])
-    ensures { map shown columns.new ≡ replicate (length columns.old) blank }
+    ensures { columns.new ≡ replicate (length columns.old) blank }
 {
     for column in columns.iter_mut() {
         column.clear();
@@ -36,8 +37,8 @@ pub(crate) fn clear_row(columns: &mut [Column])
 
 /// Replaces a symbol that is cut by the end of `columns` by spaces. Does nothing if `is_whole`.
 fn mend_before(columns: &mut [Column], is_whole: bool)
-    requires { IsTrue is_whole → whole_before (map shown columns.old) ≡ map shown columns.old }
-    ensures { map shown columns.new ≡ whole_before (map shown columns.old) }
+    requires { IsTrue is_whole → whole_before columns.old ≡ columns.old }
+    ensures { columns.new ≡ whole_before columns.old }
 {
     if is_whole {
         return;
@@ -53,8 +54,8 @@ fn mend_before(columns: &mut [Column], is_whole: bool)
 
 /// Replaces a symbol that begins before `columns` by spaces. Does nothing if `is_whole`.
 fn mend_after(columns: &mut [Column], is_whole: bool)
-    requires { IsTrue is_whole → whole_after 0 (map shown columns.old) ≡ map shown columns.old }
-    ensures { map shown columns.new ≡ whole_after 0 (map shown columns.old) }
+    requires { IsTrue is_whole → whole_after 0 columns.old ≡ columns.old }
+    ensures { columns.new ≡ whole_after 0 columns.old }
 {
     if is_whole {
         return;
@@ -68,34 +69,14 @@ fn mend_after(columns: &mut [Column], is_whole: bool)
     }
 }
 
-/// Makes the laid cell of each column visible.
-fn show_all(columns: &mut [Column])
-    ensures { map shown columns.new ≡ map laid columns.old }
-{
-    for column in columns.iter_mut() {
-        column.show();
-    }
-}
-
-/// Lays a space on each column.
-fn lay_blanks(columns: &mut [Column])
-    ensures shown { map shown columns.new ≡ map shown columns.old }
-    ensures laid { map laid columns.new ≡ replicate (length columns.old) blank }
-{
-    for column in columns.iter_mut() {
-        column.lay_blank();
-    }
-}
-
 /// Lays the columns of a symbol of `width` columns after its first.
 fn lay_rest(columns: &mut [Column], width: usize)
     requires { length columns.old + 1 ≡ width }
-    ensures shown { map shown columns.new ≡ map shown columns.old }
-    ensures laid { map laid columns.new ≡ later_cells width 1 (length columns.old) }
+    ensures { columns.new ≡ later_cells width 1 (length columns.old) }
 {
     let mut offset = 1;
     for column in columns.iter_mut() {
-        column.lay_later(width, offset);
+        column.set_later(width, offset);
         offset += 1;
     }
 }
@@ -104,11 +85,13 @@ fn lay_rest(columns: &mut [Column], width: usize)
 fn lay_symbol(columns: &mut [Column], symbol: &str) -> Result<(), AllocError>
     requires symbol { 0 < length symbol.now }
     requires width { 0 < length columns.old }
-    ensures shown { map shown columns.new ≡ map shown columns.old }
-    ensures ok { OnOk result (map laid columns.new ≡ cells_of (symbol.now, length columns.old)) }
+    ensures { OnOk result (columns.new ≡ cells_of (symbol.now, length columns.old)) }
 {
     let width = columns.len();
-    columns[0].lay_first(symbol, width)?;
+    columns[0].set_first(symbol, width)?;
+    if width == 1 {
+        return Ok(());
+    }
     lay_rest(&mut columns[1..], width);
     Ok(())
 }
@@ -131,10 +114,8 @@ fn lay_each<'a, C: NextCluster<'a>>(
 ) -> Result<Laid, AllocError>
     requires start { start ≤ length columns.old }
     requires few { columns_of (C.left clusters.old) < 2 ^ 64 }
-    ensures shown { map shown columns.new ≡ map shown columns.old }
     ensures within { IfOk result (λ r. r.end ≤ length columns.old) }
-    ensures laid { IfOk result (λ r. map laid (take r.end columns.new)
-        ≡ map laid (take start columns.old)
+    ensures laid { IfOk result (λ r. take r.end columns.new ≡ take start columns.old
         ++ fit (length columns.old - start) (C.left clusters.old)) }
     ensures taken { IfOk result (λ r.
         columns_of (C.left clusters.old) ≡ r.taken + columns_of (C.left clusters.new)) }
@@ -162,10 +143,8 @@ fn lay_clusters(
 ) -> Result<Laid, AllocError>
     requires start { start ≤ length columns.old }
     requires few { columns_of (fast_clusters_left clusters.old) < 2 ^ 64 }
-    ensures shown { map shown columns.new ≡ map shown columns.old }
     ensures within { IfOk result (λ r. r.end ≤ length columns.old) }
-    ensures laid { IfOk result (λ r. map laid (take r.end columns.new)
-        ≡ map laid (take start columns.old)
+    ensures laid { IfOk result (λ r. take r.end columns.new ≡ take start columns.old
         ++ fit (length columns.old - start) (fast_clusters_left clusters.old)) }
     ensures taken { IfOk result (λ r. columns_of (fast_clusters_left clusters.old)
         ≡ r.taken + columns_of (fast_clusters_left clusters.new)) }
@@ -240,28 +219,52 @@ fn begin(clusters: &mut FastClusters<'_>, column: isize, low: usize) -> Start
 
 /// Returns whether a symbol begins at `column`.
 fn is_start(columns: &[Column], column: usize) -> bool
-    ensures { result ≡ is_some (symbol_in (map shown columns.now) column) }
+    ensures { result ≡ is_some (symbol_in columns.now column) }
 {
     symbol_in(columns, column).is_some()
 }
 
-/// Makes the laid cells of `from..end` visible. The other columns of a symbol that they cover in
-/// part become spaces. Reads the columns beside only if `from` or `end` is inside a symbol.
-fn show_between(columns: &mut [Column], from: usize, end: usize)
+/// If the columns `from..end` cover a symbol in part, makes its other columns spaces. Reads the
+/// columns beside only if `from` or `end` is inside a symbol.
+fn mend_around(columns: &mut [Column], from: usize, end: usize)
     requires from { from ≤ end }
     requires end { end ≤ length columns.old }
-    requires whole { IsWhole (map shown columns.old) }
-    ensures { map shown columns.new
-        ≡ overlay (map shown columns.old) from (map laid (slice_range columns.old from end)) }
+    requires whole { IsWhole columns.old }
+    ensures front { take from columns.new ≡ whole_before (take from columns.old) }
+    ensures middle { slice_range columns.new from end ≡ slice_range columns.old from end }
+    ensures back { drop end columns.new ≡ whole_after 0 (drop end columns.old) }
+{
+    let is_from_start = is_start(columns, from);
+    let is_end_start = is_start(columns, end);
+    let (front, rest) = columns.split_at_mut(from);
+    let (_, back) = rest.split_at_mut(end - from);
+    mend_before(front, is_from_start);
+    mend_after(back, is_end_start);
+}
+
+/// Swaps the columns from `from` on with the columns `laid`. The other columns of a symbol that is
+/// covered in part become spaces.
+fn show(columns: &mut [Column], from: usize, laid: &mut [Column])
+    requires end { from + length laid.old ≤ length columns.old }
+    requires whole { IsWhole columns.old }
+    ensures { columns.new ≡ overlay columns.old from laid.old }
+{
+    let width = laid.len();
+    if width > 0 {
+        mend_around(columns, from, from + width);
+        columns[from..from + width].swap_with_slice(laid);
+    }
+}
+
+/// Makes the columns `from..end` spaces, and the other columns of a symbol that they cover in part.
+fn clear_between(columns: &mut [Column], from: usize, end: usize)
+    requires end { end ≤ length columns.old }
+    requires whole { IsWhole columns.old }
+    ensures { columns.new ≡ overlay columns.old from (replicate (end - from) blank) }
 {
     if from < end {
-        let is_from_start = is_start(columns, from);
-        let is_end_start = is_start(columns, end);
-        let (front, rest) = columns.split_at_mut(from);
-        let (middle, back) = rest.split_at_mut(end - from);
-        mend_before(front, is_from_start);
-        show_all(middle);
-        mend_after(back, is_end_start);
+        mend_around(columns, from, end);
+        clear_row(&mut columns[from..end]);
     }
 }
 
@@ -272,33 +275,33 @@ fn lay(
     clusters: &mut FastClusters<'_>,
 ) -> Result<Laid, AllocError>
     requires few { columns_of (fast_clusters_left clusters.old) < 2 ^ 64 }
-    ensures shown { map shown columns.new ≡ map shown columns.old }
     ensures within { IfOk result (λ r. r.end ≤ length columns.old) }
-    ensures laid { IfOk result (λ r. map laid (take r.end columns.new)
+    ensures laid { IfOk result (λ r. take r.end columns.new
         ≡ replicate (min blanks (length columns.old)) blank
         ++ fit (length columns.old - blanks) (fast_clusters_left clusters.old)) }
     ensures taken { IfOk result (λ r. columns_of (fast_clusters_left clusters.old)
         ≡ r.taken + columns_of (fast_clusters_left clusters.new)) }
 {
     let blanks = blanks.min(columns.len());
-    lay_blanks(&mut columns[..blanks]);
+    clear_row(&mut columns[..blanks]);
     lay_clusters(columns, clusters, blanks)
 }
 
 /// Puts a text on the row. Returns its remaining clusters, and the width of the clusters before
-/// them.
+/// them. Lays the text on the columns `laid` first, so that the row stays if memory is refused.
 pub(crate) fn put_row<'a>(
     columns: &mut [Column],
+    laid: &mut [Column],
     column: isize,
     text: &'a str,
     low: usize,
     high: usize,
 ) -> Result<(FastClusters<'a>, usize), AllocError>
     requires high { high ≤ length columns.old }
-    requires whole { IsWhole (map shown columns.old) }
-    ensures ok { OnOk result (
-        map shown columns.new ≡ put (map shown columns.old) column text.now low high) }
-    ensures err { OnErr result (map shown columns.new ≡ map shown columns.old) }
+    requires laid { length laid.old ≡ length columns.old }
+    requires whole { IsWhole columns.old }
+    ensures ok { OnOk result (columns.new ≡ put columns.old column text.now low high) }
+    ensures err { OnErr result (columns.new ≡ columns.old) }
     ensures taken { IfOk result (λ r.
         text_width text.now ≡ r.1 + columns_of (fast_clusters_left r.0)) }
 {
@@ -310,14 +313,36 @@ pub(crate) fn put_row<'a>(
     if start.from >= high {
         return Ok((clusters, start.passed));
     }
-    let laid = lay(&mut columns[start.from..high], start.blanks, &mut clusters)?;
-    show_between(columns, start.from, start.from + laid.end);
-    Ok((clusters, start.passed + laid.taken))
+    let outcome = lay(&mut laid[start.from..high], start.blanks, &mut clusters)?;
+    show(
+        columns,
+        start.from,
+        &mut laid[start.from..start.from + outcome.end],
+    );
+    Ok((clusters, start.passed + outcome.taken))
+}
+
+/// Puts `width` spaces on the row from `column` on, clipped to the columns `low..high`.
+pub(crate) fn put_spaces(
+    columns: &mut [Column],
+    column: isize,
+    width: usize,
+    low: usize,
+    high: usize,
+)
+    requires high { high ≤ length columns.old }
+    requires whole { IsWhole columns.old }
+    ensures { columns.new ≡ put columns.old column (replicate width 32) low high }
+{
+    let start = gap(0, column);
+    let visible = width.saturating_sub(gap(column, 0));
+    let end = start.saturating_add(visible);
+    clear_between(columns, low.max(start), high.min(end));
 }
 
 /// Returns the symbol that begins at `column`, if one does.
 pub(crate) fn symbol_in(columns: &[Column], column: usize) -> Option<&str>
-    ensures { option_map (λ s. s.now) result ≡ symbol_in (map shown columns.now) column }
+    ensures { option_map (λ s. s.now) result ≡ symbol_in columns.now column }
 {
     columns.get(column)?.first_symbol()
 }
@@ -326,7 +351,7 @@ pub(crate) fn symbol_in(columns: &[Column], column: usize) -> Option<&str>
 /// columns.
 pub(crate) fn push_row(text: &mut String, columns: &[Column]) -> Result<(), AllocError>
     ensures { OnOk result (
-        string_bytes text.new ≡ string_bytes text.old ++ row_text (map shown columns.now)) }
+        string_bytes text.new ≡ string_bytes text.old ++ row_text columns.now) }
 {
     if columns.is_empty() {
         return Ok(());

@@ -366,6 +366,47 @@ fn wide_symbols_under_others(rt: HostRuntime) -> Result<(), RecordError> {
     Ok(())
 }
 
+/// Puts `width` spaces over three wide symbols of `grid`, and checks that it then shows `view`.
+fn check_spaces(
+    rt: &impl Abort,
+    grid: &mut Grid,
+    column: isize,
+    width: usize,
+    low: usize,
+    high: usize,
+    view: &str,
+) -> Result<(), RecordError> {
+    put(rt, grid, 0, 0, "日本語", 0, 6)?;
+    assert!(rt; 0 < grid.height());
+    assert!(rt; high <= grid.width());
+    grid.put_blank(0, column, width, low, high);
+    check_view(rt, grid, view)
+}
+
+#[test]
+fn spaces_over_symbols(rt: HostRuntime) -> Result<(), RecordError> {
+    let mut grid = Grid::new(rt.alloc(), 6, 1)?;
+    for (column, width, low, high, view) in [
+        (2, 2, 0, 6, "\"日  語\"\n"),
+        (1, 2, 0, 6, "\"    語\"\n"),
+        (3, 1, 0, 6, "\"日  語\"\n"),
+        (-3, 4, 0, 6, "\"  本語\"\n"),
+        (-3, 3, 0, 6, "\"日本語\"\n"),
+        (5, usize::MAX, 0, 6, "\"日本  \"\n"),
+        (-1, usize::MAX, 0, 6, "\"      \"\n"),
+        (0, 6, 2, 4, "\"日  語\"\n"),
+        (0, 6, 1, 3, "\"    語\"\n"),
+        (0, 6, 4, 2, "\"日本語\"\n"),
+        (0, 0, 0, 6, "\"日本語\"\n"),
+        (6, 1, 0, 6, "\"日本語\"\n"),
+        (isize::MAX, usize::MAX, 0, 6, "\"日本語\"\n"),
+        (isize::MIN, 9, 0, 6, "\"日本語\"\n"),
+    ] {
+        check_spaces(&rt, &mut grid, column, width, low, high, view)?;
+    }
+    Ok(())
+}
+
 #[test]
 fn symbols_with_their_columns(rt: HostRuntime) -> Result<(), RecordError> {
     let mut grid = Grid::new(rt.alloc(), 4, 2)?;

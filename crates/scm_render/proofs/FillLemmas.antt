@@ -47,7 +47,7 @@ lines_paint v seen r y (t ∷ ts) h k =
 
 -- ---- blanks
 
-spaces_of : (x y : ℤ) (n : ℕ) → row_text Blank x y n ≡ replicate n 32
+pub spaces_of : (x y : ℤ) (n : ℕ) → row_text Blank x y n ≡ replicate n 32
 unfolding row_text symbol_at
 spaces_of x y zero = refl
 spaces_of x y (suc n) =

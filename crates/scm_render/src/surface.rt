@@ -1,12 +1,12 @@
 //! A grid that shows a part of a document.
-ghost use Rattle.std.specs.Prelude.{◌≡◌, ◌<◌, ◌≤◌, ◌^◌, ◌+ℤ◌, pos, ◌∷◌, [], length, OnOk, IfOk, IfErr, IsTrue, ◌≤ℤ◌, ◌<ℤ◌, ◌↔◌};
+ghost use Rattle.std.specs.Prelude.{◌≡◌, ◌<◌, ◌≤◌, ◌^◌, ◌+ℤ◌, pos, ◌∷◌, [], length, replicate, OnOk, IfOk, IfErr, IsTrue, ◌≤ℤ◌, ◌<ℤ◌, ◌↔◌};
 ghost use Rattle.scm_cells.specs.Rect.{RectInRange, InRange, end_y_of};
 ghost use Rattle.scm_cells.specs.Clusters.{text_width};
 ghost use Rattle.scm_cells.specs.Counts.{added, one_row, one_call};
 ghost use Rattle.scm_cells.specs.Spans.{span_texts};
 ghost use Rattle.scm_render.specs.Canvas.{with_puts};
 ghost use Rattle.scm_render.specs.Rows.{limit};
-ghost use Rattle.scm_render.specs.Drawing.{has_row, whole_put, title_room, body_room, text_puts, texts_puts, texts_width, fill_puts, FillingIsInRange, lines_puts, body_texts, frame_puts};
+ghost use Rattle.scm_render.specs.Drawing.{has_row, whole_put, title_room, body_room, text_puts, texts_puts, texts_width, row_text, fill_puts, FillingIsInRange, lines_puts, body_texts, frame_puts};
 ghost use Rattle.scm_errors.specs.declared.error.RecordError.TheVariants.{OutOfMemory};
 
 use crate::filling::Filling;
@@ -237,7 +237,62 @@ impl Surface {
         Ok(())
     }
 
-    /// Fills a rectangle row by row. Overwrites the buffer `scratch`.
+    /// Puts spaces on row `y` of a rectangle. The grid shows the row.
+    fn blank_row(&mut self, rect: Rect, y: isize)
+        requires rect { RectInRange rect }
+        requires top { self.old.rect.y ≤ℤ y }
+        requires bottom { y <ℤ end_y_of self.old.rect }
+        ensures { self.new
+            ≡ with_puts (whole_put rect rect.x y (replicate rect.width 32) ∷ []) self.old }
+    {
+        let low = self.column(rect.x);
+        let high = self.column(rect.end_x());
+        let row = self.rect.y.abs_diff(y);
+        self.grid
+            .put_blank(row, rect.x - self.rect.x, rect.width, low, high);
+    }
+
+    /// Puts spaces on row `y` of a rectangle, if the rectangle and the grid have it.
+    fn put_blank(&mut self, rect: Rect, y: isize)
+        requires { RectInRange rect }
+        ensures { self.new
+            ≡ with_puts (text_puts rect rect.x y (replicate rect.width 32)) self.old }
+    {
+        if has_row(rect, y) && has_row(self.rect, y) {
+            self.blank_row(rect, y);
+        }
+    }
+
+    /// Fills row `y` of a rectangle, if the rectangle and the grid have it. May overwrite the
+    /// buffer `scratch`.
+    fn fill_row(
+        &mut self,
+        scratch: &mut String,
+        rect: Rect,
+        y: isize,
+        filling: Filling,
+    ) -> Result<(), RecordError>
+        requires rect { RectInRange rect }
+        requires filling { FillingIsInRange filling }
+        ensures ok { OnOk result (self.new
+            ≡ with_puts (text_puts rect rect.x y (row_text filling rect.x y rect.width)) self.old) }
+        ensures rect { self.new.rect ≡ self.old.rect }
+        ensures err { IfErr result (λ e. e ≡ OutOfMemory) }
+    {
+        match filling {
+            Filling::Blank => {
+                self.put_blank(rect, y);
+                Ok(())
+            }
+            Filling::Border(_) => {
+                filling.write_row(scratch, rect.x, y, rect.width)?;
+                self.put_text(rect, rect.x, y, scratch.as_str())?;
+                Ok(())
+            }
+        }
+    }
+
+    /// Fills a rectangle row by row. May overwrite the buffer `scratch`.
     pub(crate) fn fill(
         &mut self,
         scratch: &mut String,
@@ -252,8 +307,7 @@ impl Surface {
     {
         for offset in 0..rect.height {
             let y = rect.y.strict_add_unsigned(offset);
-            filling.write_row(scratch, rect.x, y, rect.width)?;
-            self.put_text(rect, rect.x, y, scratch.as_str())?;
+            self.fill_row(scratch, rect, y, filling)?;
         }
         Ok(())
     }

@@ -1,20 +1,15 @@
-use Rattle.std.proofs.Common.{arith, ◌∙◌, ap, map, get_or}
-use Rattle.scm_cells.specs.Cell.{shown, laid}
+use Rattle.std.proofs.Common.{arith, ◌∙◌, get_or}
 use Rattle.scm_cells.proofs.MapFrom.{so_far-more, so_far-all}
-use Rattle.scm_cells.proofs.RowLemmas.{continued, shown-continued, laid-continued, continued-at}
+use Rattle.scm_cells.proofs.RowLemmas.{continued, all-continued, continued-at}
 use Rattle.scm_cells.proofs.row.lay_rest.Goals as goal
 
 pub loop-column-preserved : goal.loop-column-preserved
 loop-column-preserved c = record {
   offset = omega arith;
   columns = so_far-more (continued c.args.width) _ _ _ c.column-item.result _ (omega arith) c.loop-column.invariant.columns
-      (c.lay_later.ensures ∙ continued-at c.args.width c.loop-column.column-index _ (get_or c.loop-column.columns c.loop-column.column-index c.column-item.result) c.loop-column.invariant.offset);
+      (c.set_later.ensures ∙ continued-at c.args.width c.loop-column.column-index _ (get_or c.loop-column.columns c.loop-column.column-index c.column-item.result) c.loop-column.invariant.offset);
 }
 
-pub returns-clause-shown : goal.returns-clause-shown
-returns-clause-shown c =
-    ap (map shown) (c.loop-column.invariant.columns ∙ so_far-all (continued c.args.width) c.args.columns.now c.loop-column.column-index (omega arith)) ∙ shown-continued c.args.width _
-
-pub returns-clause-laid : goal.returns-clause-laid
-returns-clause-laid c =
-    ap (map laid) (c.loop-column.invariant.columns ∙ so_far-all (continued c.args.width) c.args.columns.now c.loop-column.column-index (omega arith)) ∙ laid-continued c.args.width _
+pub returns : goal.returns
+returns c =
+    c.loop-column.invariant.columns ∙ so_far-all (continued c.args.width) c.args.columns.now c.loop-column.column-index (omega arith) ∙ all-continued c.args.width _

@@ -1,7 +1,6 @@
-use Rattle.std.proofs.Common.{arith, sym, ◌∙◌, ap, map, get_or}
-use Rattle.scm_cells.specs.Cell.{shown}
+use Rattle.std.proofs.Common.{arith, sym, ◌∙◌, get_or}
 use Rattle.scm_cells.proofs.MapFrom.{so_far-more, so_far-all}
-use Rattle.scm_cells.proofs.RowLemmas.{kept_after, shown-kept_after, after-cut, after-whole}
+use Rattle.scm_cells.proofs.RowLemmas.{kept_after, all-kept_after, after-cut, after-whole}
 use Rattle.scm_cells.proofs.row.mend_after.Goals as goal
 use Rattle.scm_cells.proofs.row.mend_after.Goals.{then-offset-index, else-offset-index}
 
@@ -19,7 +18,7 @@ loop-column-preserved c =
     }
 
 pub returns : goal.returns
-returns c = ap (map shown) (c.loop-column.invariant.columns ∙ so_far-all kept_after c.args.columns.now c.loop-column.column-index (omega arith)) ∙ shown-kept_after 0 _
+returns c = c.loop-column.invariant.columns ∙ so_far-all kept_after c.args.columns.now c.loop-column.column-index (omega arith) ∙ all-kept_after 0 _
 
 pub returns-then-is_whole : goal.returns-then-is_whole
 returns-then-is_whole c = sym (c.requires c.if-is_whole.true)

@@ -1,7 +1,6 @@
-use Rattle.std.proofs.Common.{arith, sym, ◌∙◌, ap, ◌-◌, ◌≡◌, length, map, get_or}
-use Rattle.scm_cells.specs.Cell.{shown}
+use Rattle.std.proofs.Common.{arith, sym, ◌∙◌, ◌-◌, ◌≡◌, length, get_or}
 use Rattle.scm_cells.proofs.MapFrom.{so_far-more, so_far-all}
-use Rattle.scm_cells.proofs.RowLemmas.{kept_before, shown-kept_before, before-cut, before-whole}
+use Rattle.scm_cells.proofs.RowLemmas.{kept_before, all-kept_before, before-cut, before-whole}
 use Rattle.scm_cells.proofs.row.mend_before.Goals as goal
 use Rattle.scm_cells.proofs.row.mend_before.Goals.{then-columns_left-left, else-columns_left-left}
 
@@ -22,8 +21,8 @@ loop-column-preserved c =
 
 pub returns : goal.returns
 returns c =
-    ap (map shown) (c.loop-column.invariant.columns ∙ so_far-all (kept_before (length c.args.columns.now)) c.args.columns.now c.loop-column.column-index (omega arith))
-    ∙ shown-kept_before _ _ (omega arith)
+    c.loop-column.invariant.columns ∙ so_far-all (kept_before (length c.args.columns.now)) c.args.columns.now c.loop-column.column-index (omega arith)
+    ∙ all-kept_before _ _ (omega arith)
 
 pub returns-then-is_whole : goal.returns-then-is_whole
 returns-then-is_whole c = sym (c.requires c.if-is_whole.true)

@@ -1,6 +1,6 @@
 use Rattle.std.proofs.Common.{◌≡◌, ◌∙◌, ◌<◌, ◌++◌, length, string_bytes, arith, ap, sym, append-nil}
 use Rattle.std.proofs.lemmas.Bool.Decides.{nat_tests}
-use Rattle.scm_cells.specs.Cell.{ColumnCells}
+use Rattle.scm_cells.specs.Cell.{Cell}
 use Rattle.scm_cells.proofs.RowLemmas.{row_text-none, row_text-made, symbols-more}
 use Rattle.scm_cells.proofs.row.push_row.Goals as goal
 
@@ -14,7 +14,7 @@ loop-column-init c = c.in_ok-push.ensures.bytes ∙ ap (λ t. string_bytes c.arg
 
 pub loop-column-preserved : goal.loop-column-preserved
 loop-column-preserved c =
-    symbols-more _ _ c.args.columns.now c.loop-column.column-index c.column-item.result _ c.symbol.result.now (omega arith) c.loop-column.invariant (c.symbol.ensures ∙ ap (λ (p : ColumnCells). p.shown.symbol) c.column-item.is) c.in_ok-push_str.ensures.bytes
+    symbols-more _ _ c.args.columns.now c.loop-column.column-index c.column-item.result _ c.symbol.result.now (omega arith) c.loop-column.invariant (c.symbol.ensures ∙ ap (λ (p : Cell). p.symbol) c.column-item.is) c.in_ok-push_str.ensures.bytes
 
 pub returns : goal.returns
 returns c =

@@ -1,8 +1,8 @@
-use Rattle.std.proofs.Common.{◌≡◌, ◌∙◌, ◌-◌, length, take, drop, length-take, length-drop, arith, ap, sym, subst, refl, rules, FitsSigned, w64}
+use Rattle.std.proofs.Common.{◌≡◌, ◌∙◌, ◌-◌, length, take, drop, length-take, length-drop, arith, ap, sym, refl, rules, FitsSigned, w64}
 use Rattle.std.proofs.lemmas.Int.{to_z-of_z}
-use Rattle.scm_cells.specs.Row.{IsWhole, written}
+use Rattle.scm_cells.specs.Row.{written}
 use Rattle.scm_cells.proofs.BoundLemmas.{text_width-utf8}
-use Rattle.scm_cells.proofs.WrittenLemmas.{AllKept-cut, columns_of-text, on_err, put-none, put-some, shown-put_mid, written-closed, written-past}
+use Rattle.scm_cells.proofs.WrittenLemmas.{AllKept-cut, columns_of-text, put-none, put-some, written-closed, written-past}
 use Rattle.scm_cells.proofs.row.put_row.Goals as goal
 
 pub begin-start-requires-clause-few : goal.begin-start-requires-clause-few
@@ -11,11 +11,8 @@ begin-start-requires-clause-few c = omega (arith, columns_of-text _ _ c.new-clus
 pub lay-requires : goal.lay-requires
 lay-requires c = omega (arith, columns_of-text _ _ c.new-clusters.ensures, text_width-utf8 _ c.utf8.text, c.begin-start.ensures.taken)
 
-pub show_between-requires-clause-whole : goal.show_between-requires-clause-whole
-show_between-requires-clause-whole c = subst IsWhole (sym (shown-put_mid _ _ _ _ c.lay.ensures.shown)) c.requires.whole
-
 pub overflow_add-result : goal.overflow_add-result
-overflow_add-result c = omega (arith, columns_of-text _ _ c.new-clusters.ensures, text_width-utf8 _ c.utf8.text, c.begin-start.ensures.taken, c.in_ok-laid.ensures.taken)
+overflow_add-result c = omega (arith, columns_of-text _ _ c.new-clusters.ensures, text_width-utf8 _ c.utf8.text, c.begin-start.ensures.taken, c.in_ok-outcome.ensures.taken)
 
 pub returns-then-low-high-clause-taken : goal.returns-then-low-high-clause-taken
 returns-then-low-high-clause-taken c = omega (arith, columns_of-text _ _ c.new-clusters.ensures)
@@ -24,7 +21,7 @@ pub returns-then-start-high-clause-taken : goal.returns-then-start-high-clause-t
 returns-then-start-high-clause-taken c = omega (arith, columns_of-text _ _ c.new-clusters.ensures, c.begin-start.ensures.taken)
 
 pub returns-clause-taken : goal.returns-clause-taken
-returns-clause-taken c = omega (arith, columns_of-text _ _ c.new-clusters.ensures, c.begin-start.ensures.taken, c.in_ok-laid.ensures.taken)
+returns-clause-taken c = omega (arith, columns_of-text _ _ c.new-clusters.ensures, c.begin-start.ensures.taken, c.in_ok-outcome.ensures.taken)
 
 pub returns-then-low-high-clause-ok : goal.returns-then-low-high-clause-ok
 returns-then-low-high-clause-ok c = put-none _ _ _ _ _ (written-closed _ _ _ _ (omega arith))
@@ -36,16 +33,13 @@ returns-then-start-high-clause-ok c =
     put-none _ c.args.column _ c.args.low c.args.high (ap (λ t. written c.args.column t c.args.low c.args.high) (sym c.new-clusters.ensures)
     ∙ written-past c.args.column c.args.low c.args.high _ _ _ _ begun (AllKept-cut c.begin-start.new.clusters) (omega arith) (omega arith))
 
-pub returns-in_err-laid-clause-err : goal.returns-in_err-laid-clause-err
-returns-in_err-laid-clause-err c = on_err c.from_residual.result (shown-put_mid _ _ _ _ c.lay.ensures.shown)
-
 pub returns-clause-ok : goal.returns-clause-ok
 returns-clause-ok c =
     let fits : FitsSigned w64 c.args.column = search rules in
     let begun = simp to_z-of_z at c.begin-start.ensures.begun in
     let from = simp to_z-of_z at c.begin-start.ensures.from in
     let start = c.begin-start.result.from in
-    let size : length (take (c.args.high - start) (drop start c.args.columns.now)) ≡ c.args.high - start = simp (length-take, length-drop) (omega arith) in
-    put-some c.args.columns.now _ c.show_between.new.columns c.args.column c.args.text.now c.args.low c.args.high c.begin-start.result.from c.begin-start.result.blanks c.in_ok-laid.laid.end c.lay.new.columns
-    _ _ from c.new-clusters.ensures begun (omega arith) (omega arith) c.requires.high refl
-    (c.lay.auto.columns ∙ size) (rw size at c.in_ok-laid.ensures.within) c.lay.ensures.shown (rw size at c.in_ok-laid.ensures.laid) c.show_between.ensures
+    let size : length (take (c.args.high - start) (drop start c.args.laid.now)) ≡ c.args.high - start = simp (length-take, length-drop) (omega arith) in
+    put-some c.args.columns.now c.show.new.columns c.args.laid.now _ c.lay.new.columns c.args.column c.args.text.now c.args.low c.args.high start c.begin-start.result.blanks c.in_ok-outcome.outcome.end
+    _ _ from c.new-clusters.ensures begun (omega arith) (omega arith) (omega arith) refl
+    (c.lay.auto.columns ∙ size) (rw size at c.in_ok-outcome.ensures.within) (rw size at c.in_ok-outcome.ensures.laid) c.show.ensures

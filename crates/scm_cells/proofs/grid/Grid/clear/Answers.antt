@@ -15,13 +15,16 @@ pub invariant_of-self : goal.invariant_of-self
 invariant_of-self c =
     let items = c.rows.columns-items in
     let final : (with_items c.self.inside.rows items).items ≡ items = with_items_is c.self.inside.rows items (c.rows.auto.columns-items ∙ c.deref_mut-columns-items.ensures.len) in
-    IsScreen-same _ _
-    (screen-cleared items c.deref_mut-columns-items.result.now c.self.inside.rows.items _ c.rows.columns-index c.self.inside.width c.deref_mut-columns-items.ensures.value final (omega arith) c.self.invariant c.rows.invariant)
-    (IsScreen-blank c.self.inside.width (length (map row_of c.self.inside.rows.items)) c.self.invariant.width c.self.invariant.height)
+    record {
+      screen = IsScreen-same _ _
+          (screen-cleared items c.deref_mut-columns-items.result.now c.self.inside.rows.items _ c.rows.columns-index c.self.inside.width c.deref_mut-columns-items.ensures.value final (omega arith) c.self.invariant.screen c.rows.invariant)
+          (IsScreen-blank c.self.inside.width (length (map row_of c.self.inside.rows.items)) c.self.invariant.screen.width c.self.invariant.screen.height);
+      laid = c.self.invariant.laid;
+    }
 
 pub returns : goal.returns
 returns c =
     let items = c.rows.columns-items in
     let final : (with_items c.self.inside.rows items).items ≡ items = with_items_is c.self.inside.rows items (c.rows.auto.columns-items ∙ c.deref_mut-columns-items.ensures.len) in
-    screen-cleared items c.deref_mut-columns-items.result.now c.self.inside.rows.items _ c.rows.columns-index c.self.inside.width c.deref_mut-columns-items.ensures.value final (omega arith) c.self.invariant c.rows.invariant
+    screen-cleared items c.deref_mut-columns-items.result.now c.self.inside.rows.items _ c.rows.columns-index c.self.inside.width c.deref_mut-columns-items.ensures.value final (omega arith) c.self.invariant.screen c.rows.invariant
     ∙ ap (λ (s : Screen). blank_screen s.width (length s.rows)) c.self.view_is

@@ -1,5 +1,5 @@
 use Rattle.std.proofs.Common.{◌∙◌, ap, arith, map, take_all, Vec, Global}
-use Rattle.scm_cells.specs.Cell.{ColumnCells}
+use Rattle.scm_cells.specs.Cell.{Cell}
 use Rattle.std.specs.List.{flat_map}
 use Rattle.scm_cells.specs.Row.{row_text}
 use Rattle.scm_cells.specs.GridView.{row_of}
@@ -9,7 +9,7 @@ use Rattle.scm_cells.proofs.grid.Grid.view.Goals as goal
 
 pub rows-preserved : goal.rows-preserved
 rows-preserved c = view-more c.deref-columns-items.result.now c.rows.columns-index c.columns-item.result _ _ c.as_slice.result.now (omega arith) c.rows.invariant
-    (c.as_slice.ensures.value ∙ ap (λ (v : Vec ColumnCells Global). v.items) c.columns-item.is) c.in_ok-push_row.ensures
+    (c.as_slice.ensures.value ∙ ap (λ (v : Vec Cell Global). v.items) c.columns-item.is) c.in_ok-push_row.ensures
 
 pub returns-clause-ok : goal.returns-clause-ok
 returns-clause-ok c =
