@@ -6,6 +6,7 @@ ghost use Rattle.scm_embed.specs.Additions.{Refuses, after_addition, empty_state
 use crate::add::add_to;
 use crate::addition::{Addition, BuildError};
 use crate::refusals::refusal_of;
+use crate::trim::trimmed_state;
 use scm_types::{Items, RecordState};
 use std::alloc::Global;
 use std::marker::Model;
@@ -78,11 +79,11 @@ impl StateBuilder {
         self.state.is_accepted()
     }
 
-    /// Returns the state.
+    /// Returns the state. Its lists keep no room for more, as far as memory can be had.
     pub fn into_state(self) -> RecordState<'static>
         ensures { result ≡ self }
     {
         let StateBuilder { state } = self;
-        state
+        trimmed_state(state)
     }
 }

@@ -9,6 +9,7 @@ mod lists;
 pub mod marks;
 mod refusals;
 mod short_lines;
+mod trim;
 
 pub use addition::{Addition, BuildError, Part};
 pub use builder::StateBuilder;
