@@ -17,7 +17,7 @@ use Rattle.std.proofs.lemmas.List.{length-map}
 use Rattle.std.proofs.lemmas.List.Sums.{sum_by-cons}
 use Rattle.scm_selection.specs.Toggle.{mark_after, with_changed_set, after_lines, after_mode, after_section, with_file_toggled, with_section_set, with_this_section_toggled, with_section_toggled, with_line_inverted, line_mark, with_this_line_toggled, with_line_toggled, with_key_toggled, with_all_inverted, with_all_set}
 use Rattle.scm_layout.specs.Lines.{is_removed, old_lines}
-use Rattle.scm_layout.specs.Counts.{items_in}
+use Rattle.scm_layout.specs.Counts.{is_mode, items_in}
 
 -- what a change leaves as it was under a view
 
@@ -182,6 +182,22 @@ editable-bare (sections.Unchanged lines) = refl
 editable-bare (sections.Changed lines) = refl
 editable-bare (sections.FileMode is_checked mode) = refl
 editable-bare (sections.Binary is_checked old new) = refl
+
+mode-bare : (s : Section) → is_mode (bare_section s) ≡ is_mode s
+mode-bare (sections.Unchanged lines) = refl
+mode-bare (sections.Changed lines) = refl
+mode-bare (sections.FileMode is_checked mode) = refl
+mode-bare (sections.Binary is_checked old new) = refl
+
+module _ (ss ts : List Section) (e : bare ss ≡ bare ts) where
+  count-same : (p : Section → Bool) → ((s : Section) → p (bare_section s) ≡ p s) → count_by p ss ≡ count_by p ts
+  count-same p same = sym (count-mapped p bare_section same ss) ∙ ap (λ us. count_by p us) e ∙ count-mapped p bare_section same ts
+
+  pub editables-same : count_by is_editable_section ss ≡ count_by is_editable_section ts
+  editables-same = count-same is_editable_section editable-bare
+
+  pub modes-same : count_by is_mode ss ≡ count_by is_mode ts
+  modes-same = count-same is_mode mode-bare
 
 module _ (s t : Section) (e : bare_section s ≡ bare_section t) where
   pub items-same : items_in s ≡ items_in t

@@ -1,5 +1,5 @@
 -- The counts of sections and files, and what a toggle changes of them.
-use Rattle.std.proofs.Common.{◌≡◌, ℕ, zero, suc, ◌+◌, ◌<◌, ◌≤◌, ◌||◌, Bool, true, false, not, List, [], ◌∷◌, ◌++◌, length, map, drop, get_or, slice_get, Option, Some, None, cond, refl, ap, sym, ◌∙◌, add-one, drop-cons, arith}
+use Rattle.std.proofs.Common.{◌≡◌, ℕ, zero, suc, ◌+◌, ◌<◌, ◌≤◌, Bool, true, false, not, List, [], ◌∷◌, ◌++◌, length, map, drop, get_or, slice_get, Option, Some, None, cond, refl, ap, sym, ◌∙◌, add-one, drop-cons, arith}
 use Rattle.std.specs.Prelude.{count_by, sum_by, option_map, option_and_then, if◌then◌else◌}
 use Rattle.std.specs.List.{flat_map}
 use Rattle.std.proofs.lemmas.List.{drop_all, length-map, length-append}
@@ -19,9 +19,10 @@ use Rattle.scm_selection.specs.Toggle.{after_lines, line_mark, with_line_inverte
 use Rattle.scm_layout.specs.Lines.{is_removed, old_lines}
 use Rattle.scm_layout.specs.declared.section_counts.SectionCounts.{SectionCounts}
 use Rattle.scm_layout.specs.declared.file_counts.FileCounts.{FileCounts}
-use Rattle.scm_layout.specs.Counts.{checked_in, editable_after, file_counts, items_in, section_counts, sections_counts}
+use Rattle.scm_layout.specs.Counts.{checked_in, editable_after, file_counts, items_in, modes_in, section_counts, sections_counts}
 use Rattle.scm_layout.specs.Recounts.{AreCountsButLine, AreCountsButMarks, checked_after_mark, may_follow, recounted, remarked, stepped, total_checked, total_items, with_file_line_counted, with_line_counted, with_sections, zipped}
-use Rattle.scm_layout.proofs.BareLemmas.{after_lines-hidden, bare, bare_file, bare_section, editable-same, items-same, line-hidden, old_lines-same, size-same}
+use Rattle.scm_layout.proofs.BareLemmas.{after_lines-hidden, bare, bare_file, bare_section, editable-same, editables-same, items-same, line-hidden, modes-same, old_lines-same, size-same}
+use Rattle.scm_layout.proofs.ModeLemmas.{after_lines-kept}
 
 -- ---- the items of a section
 
@@ -135,16 +136,6 @@ tail-same f x y xs ys e = cc
 pub none-same : {A B : Type 0} {C : Type 0} (f : A → B) (x : A) (xs : List A) → map f [] ≡ map f (x ∷ xs) → C
 none-same f x xs e = absurd cc
 
-editables-same : (ss ts : List Section) → bare ss ≡ bare ts → count_by is_editable_section ss ≡ count_by is_editable_section ts
-editables-same [] [] e = refl
-editables-same [] (t ∷ ts) e = none-same bare_section t ts e
-editables-same (s ∷ ss) [] e = none-same bare_section s ss (sym e)
-editables-same (s ∷ ss) (t ∷ ts) e =
-    sum_by-cons (λ u. cond (is_editable_section u) 1 0) s ss
-    ∙ ap (λ b. cond b 1 0 + count_by is_editable_section ss) (editable-same s t (head-same bare_section s t ss ts e))
-    ∙ ap (λ n. cond (is_editable_section t) 1 0 + n) (editables-same ss ts (tail-same bare_section s t ss ts e))
-    ∙ sym (sum_by-cons (λ u. cond (is_editable_section u) 1 0) t ts)
-
 lengths-same : (ss ts : List Section) → bare ss ≡ bare ts → length (marks ss) ≡ length (marks ts)
 lengths-same [] [] e = refl
 lengths-same [] (t ∷ ts) e = none-same bare_section t ts e
@@ -208,17 +199,18 @@ zipped-recounted editable lines (s ∷ ss) (t ∷ ts) e =
     ∙ ap (λ cs. section_counts editable lines t ∷ cs) (zipped-recounted (editable_after editable t) (lines + old_lines t) ss ts tail)
 
 -- the counts of a file by their numbers
-abbrev file_with : ℕ → ℕ → ℕ → List SectionCounts → FileCounts
-file_with editable items checked sections = record { editable = editable; items = items; checked = checked; sections = sections }
+abbrev file_with : ℕ → ℕ → ℕ → ℕ → List SectionCounts → FileCounts
+file_with editable modes items checked sections = record { editable = editable; modes = modes; items = items; checked = checked; sections = sections }
 
 -- the counts of a file whose sections were counted to `cs` after its marks changed
 counted-same : (f g : File) (cs : List SectionCounts) → bare_file f ≡ bare_file g → cs ≡ sections_counts 0 0 g.sections → with_sections cs (file_counts f) ≡ file_counts g
 counted-same f g cs e counted =
     let same = sections-same f g e in
-    ap (λ ds. file_with (count_by is_editable_section f.sections) (length (marks f.sections)) (total_checked ds) ds) counted
-    ∙ ap (λ n. file_with n (length (marks f.sections)) (total_checked (sections_counts 0 0 g.sections)) (sections_counts 0 0 g.sections)) (editables-same f.sections g.sections same)
-    ∙ ap (λ n. file_with (count_by is_editable_section g.sections) n (total_checked (sections_counts 0 0 g.sections)) (sections_counts 0 0 g.sections)) (lengths-same f.sections g.sections same)
-    ∙ ap (λ n. file_with (count_by is_editable_section g.sections) (length (marks g.sections)) n (sections_counts 0 0 g.sections)) (total_checked-marks 0 0 g.sections)
+    ap (λ ds. file_with (count_by is_editable_section f.sections) (modes_in f.sections) (length (marks f.sections)) (total_checked ds) ds) counted
+    ∙ ap (λ n. file_with n (modes_in f.sections) (length (marks f.sections)) (total_checked (sections_counts 0 0 g.sections)) (sections_counts 0 0 g.sections)) (editables-same f.sections g.sections same)
+    ∙ ap (λ n. file_with (count_by is_editable_section g.sections) n (length (marks f.sections)) (total_checked (sections_counts 0 0 g.sections)) (sections_counts 0 0 g.sections)) (modes-same f.sections g.sections same)
+    ∙ ap (λ n. file_with (count_by is_editable_section g.sections) (modes_in g.sections) n (total_checked (sections_counts 0 0 g.sections)) (sections_counts 0 0 g.sections)) (lengths-same f.sections g.sections same)
+    ∙ ap (λ n. file_with (count_by is_editable_section g.sections) (modes_in g.sections) (length (marks g.sections)) n (sections_counts 0 0 g.sections)) (total_checked-marks 0 0 g.sections)
 
 -- sections counted to those of a file have no more checked items than the file may have
 total-fits : (g : File) (cs : List SectionCounts) → cs ≡ sections_counts 0 0 g.sections → file_size g ≤ max_items → total_checked cs ≤ max_items
@@ -351,10 +343,11 @@ line-counted checked section line f h =
     let ts = modify (with_line_inverted line) ss section in
     let same : bare ss ≡ bare ts = sym (this_line-hidden section line ss) in
     let made = modify (with_line_counted checked) (sections_counts 0 0 ss) section in
-    ap (λ n. file_with n (length (marks ss)) (stepped checked (checked_count (marks ss))) made) (editables-same ss ts same)
-    ∙ ap (λ n. file_with (count_by is_editable_section ts) n (stepped checked (checked_count (marks ss))) made) (lengths-same ss ts same)
-    ∙ ap (λ n. file_with (count_by is_editable_section ts) (length (marks ts)) n made) (sym (stepped-is checked (checked_count (marks ss)) (checked_count (marks ts)) (sections-step checked ss section line h)))
-    ∙ ap (λ cs. file_with (count_by is_editable_section ts) (length (marks ts)) (checked_count (marks ts)) cs) (sym (sections-line checked 0 0 ss section line h))
+    ap (λ n. file_with n (modes_in ss) (length (marks ss)) (stepped checked (checked_count (marks ss))) made) (editables-same ss ts same)
+    ∙ ap (λ n. file_with (count_by is_editable_section ts) n (length (marks ss)) (stepped checked (checked_count (marks ss))) made) (modes-same ss ts same)
+    ∙ ap (λ n. file_with (count_by is_editable_section ts) (modes_in ts) n (stepped checked (checked_count (marks ss))) made) (lengths-same ss ts same)
+    ∙ ap (λ n. file_with (count_by is_editable_section ts) (modes_in ts) (length (marks ts)) n made) (sym (stepped-is checked (checked_count (marks ss)) (checked_count (marks ts)) (sections-step checked ss section line h)))
+    ∙ ap (λ cs. file_with (count_by is_editable_section ts) (modes_in ts) (length (marks ts)) (checked_count (marks ts)) cs) (sym (sections-line checked 0 0 ss section line h))
 
 -- ---- the marks that follow
 
@@ -415,15 +408,6 @@ after_lines-remarked : (mode : Mode) (checked : Bool) (ss : List Section) → zi
 after_lines-remarked mode false ss = zipped-remarked with_deletion_unchecked deletion-hidden deletion-marked 0 0 ss
 after_lines-remarked mode true ss = creation-remarked (is_absent mode) ss
 
--- where nothing may follow, nothing does
-creation-none : (is_new : Bool) (ss : List Section) → is_new ≡ false → (if is_new then map with_mode_checked ss else ss) ≡ ss
-creation-none true ss h = absurd cc
-creation-none false ss h = refl
-
-after_lines-none : (mode : Mode) (checked : Bool) (ss : List Section) → (not checked || is_absent mode) ≡ false → after_lines mode checked ss ≡ ss
-after_lines-none mode false ss h = absurd cc
-after_lines-none mode true ss h = creation-none (is_absent mode) ss h
-
 -- the file after the marks that follow from a line
 abbrev followed : Bool → File → File
 followed checked f = record f { sections = after_lines f.file_mode checked f.sections }
@@ -431,11 +415,11 @@ followed checked f = record f { sections = after_lines f.file_mode checked f.sec
 followed-hidden : (checked : Bool) (f : File) → bare_file f ≡ bare_file (followed checked f)
 followed-hidden checked f = ap (λ (ss : List Section). record f { sections = ss }) (sym (after_lines-hidden f.file_mode checked f.sections))
 
-follow-is : (checked : Bool) (f : File) (may : Bool) → may_follow f checked ≡ may
+follow-is : (checked : Bool) (f : File) (may : Bool) → may_follow (file_counts f) f checked ≡ may
     → (if may then with_sections (zipped remarked (sections_counts 0 0 f.sections) (followed checked f).sections) (file_counts f) else file_counts f) ≡ file_counts (followed checked f)
 follow-is checked f true e =
     counted-same f (followed checked f) (zipped remarked (sections_counts 0 0 f.sections) (followed checked f).sections) (followed-hidden checked f) (after_lines-remarked f.file_mode checked f.sections)
-follow-is checked f false e = ap (λ (ss : List Section). file_counts (record f { sections = ss })) (sym (after_lines-none f.file_mode checked f.sections e))
+follow-is checked f false e = ap (λ (ss : List Section). file_counts (record f { sections = ss })) (sym (after_lines-kept f.file_mode checked f.sections e))
 
 -- ---- a file counted after a line was toggled
 
@@ -494,9 +478,9 @@ module _ (c : FileCounts) (g : File) (section : ℕ) (checked : Bool) (h : AreCo
         let third : file_size g ≡ file_size (followed checked between) = ap (λ (b : File). file_size b) after-is in
         total-fits g (zipped remarked d.sections g.sections) follow-sections (omega arith)
 
-    pub follow-counts : (if may_follow g checked then with_sections (zipped remarked d.sections g.sections) d else d) ≡ file_counts g
+    pub follow-counts : (if may_follow d g checked then with_sections (zipped remarked d.sections g.sections) d else d) ≡ file_counts g
     follow-counts =
-        ap (λ (b : FileCounts). if may_follow g checked then with_sections (zipped remarked b.sections g.sections) b else b) counts-between
-        ∙ ap (λ (b : File). if may_follow b checked then with_sections (zipped remarked (sections_counts 0 0 between.sections) b.sections) (file_counts between) else file_counts between) after-is
-        ∙ follow-is checked between (may_follow between checked) refl
+        ap (λ (b : FileCounts). if may_follow b g checked then with_sections (zipped remarked b.sections g.sections) b else b) counts-between
+        ∙ ap (λ (b : File). if may_follow (file_counts between) b checked then with_sections (zipped remarked (sections_counts 0 0 between.sections) b.sections) (file_counts between) else file_counts between) after-is
+        ∙ follow-is checked between (may_follow (file_counts between) between checked) refl
         ∙ ap (λ (b : File). file_counts b) (sym after-is)

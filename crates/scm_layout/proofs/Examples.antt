@@ -43,8 +43,9 @@ sample = record { old_path = None; path = empty; file_mode = modes.Unix 420; sec
 abbrev counts : ℕ → ℕ → ℕ → ℕ → SectionCounts
 counts items checked editable lines = record { items = items; checked = checked; editable_before = editable; lines_before = lines }
 
+-- the counts of a file with one mode
 abbrev counts_in_file : ℕ → ℕ → ℕ → List SectionCounts → FileCounts
-counts_in_file editable items checked sections = record { editable = editable; items = items; checked = checked; sections = sections }
+counts_in_file editable items checked sections = record { editable = editable; modes = 1; items = items; checked = checked; sections = sections }
 
 sample-counts : file_counts sample ≡ counts_in_file 2 3 2 (counts 0 0 0 0 ∷ counts 2 1 0 2 ∷ counts 1 1 1 3 ∷ counts 0 0 2 3 ∷ [])
 unfolding sections_counts

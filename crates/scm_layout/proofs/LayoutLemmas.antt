@@ -1,5 +1,5 @@
 -- A layout of a state: what its parts are ready for, and what it is after one of them changed.
-use Rattle.std.proofs.Common.{◌≡◌, ℕ, ◌+◌, ◌<◌, ◌≤◌, ◌^◌, List, [], ◌∷◌, true, Option, Some, None, length, map, refl, ap, sym, ◌∙◌, arith}
+use Rattle.std.proofs.Common.{◌≡◌, ℕ, ◌+◌, ◌<◌, ◌≤◌, ◌^◌, List, [], ◌∷◌, Bool, true, not, Option, Some, None, length, map, refl, ap, sym, ◌∙◌, arith}
 use Rattle.std.specs.Prelude.{slice_get}
 use Rattle.scm_types.specs.declared.keys.SelectionKey.{SelectionKey}
 use Rattle.scm_types.specs.declared.state.Commit.{Commit}
@@ -13,9 +13,9 @@ use Rattle.scm_layout.specs.declared.state_rows.StateRows.{StateRows}
 use Rattle.scm_layout.specs.declared.state_layout.Layout.{Layout}
 use Rattle.scm_layout.specs.Counts.{counts_of}
 use Rattle.scm_layout.specs.Layouts.{files_top, layout_of, message_height, IsLayoutBut, IsLayoutButCommits}
-use Rattle.scm_layout.specs.Refolds.{AreRowsButFile, AreRowsOfFiles, file_index, total_height}
+use Rattle.scm_layout.specs.Refolds.{AreFilesButKey, AreRowsOfFiles, total_height}
 use Rattle.scm_layout.specs.Rows.{each_file_rows, restacked, rows_of, stacked}
-use Rattle.scm_layout.proofs.FoldLemmas.{added-agrees, again-agrees, each-agree, flipped-agrees, removed-agrees, stacked-again, total-stacked}
+use Rattle.scm_layout.proofs.FoldLemmas.{again-agrees, each-agree, other-added, other-flipped, other-removed, same-agree, stacked-again, total-stacked}
 use Rattle.scm_layout.proofs.StackLemmas.{each-fit, rows-of-files}
 
 message-le : (message : Option (List ℕ)) → message_height message ≤ 3
@@ -48,13 +48,13 @@ ready-rows layout state set is fits = record {
 pub ready-counts : (layout : Layout) (state : RecordState) (set : List SelectionKey) → layout ≡ layout_of state set → layout.counts ≡ counts_of state.files
 ready-counts layout state set is = ap (λ (l : Layout). l.counts) is
 
-pub ready-file : (layout : Layout) (state : RecordState) (expanded : List SelectionKey) (key : SelectionKey) (index : ℕ) → IsLayoutBut layout state expanded key → file_index key ≡ Some index → state_size state ≤ max_items
-    → AreRowsButFile layout.rows.files expanded 0 state.files index
-ready-file layout state expanded key index h at fits = record {
+pub ready-key : (layout : Layout) (state : RecordState) (expanded : List SelectionKey) (key : SelectionKey) (was : Bool) → IsLayoutBut layout state expanded key was → has_key expanded key ≡ not was → state_size state ≤ max_items
+    → AreFilesButKey layout.rows.files expanded 0 state.files key
+ready-key layout state expanded key was h new fits = record {
   before = h.before;
   top = files_top state.commits;
   is_it = ap (λ (l : Layout). l.rows.files) h.is_it;
-  agree = h.agree index at;
+  differ = record { at = new ∙ ap not (sym h.was); others = h.others };
   fits = fits;
 }
 
@@ -71,26 +71,39 @@ pub refolded : (layout : Layout) (state : RecordState) (set expanded : List Sele
     → layout_with layout.counts rows ≡ layout_of state expanded
 refolded layout state set expanded rows is found = ap (λ (l : Layout). layout_with l.counts rows) is ∙ ap (λ rs. layout_with (counts_of state.files) rs) found
 
+-- the layout while the set of unfolded keys stays
+pub unchanged : (layout : Layout) (state : RecordState) (expanded : List SelectionKey) (key : SelectionKey) (was : Bool) → IsLayoutBut layout state expanded key was → has_key expanded key ≡ was → layout ≡ layout_of state expanded
+unchanged layout state expanded key was h same =
+    let each : each_file_rows expanded 0 0 state.files ≡ each_file_rows h.before 0 0 state.files =
+    each-agree expanded h.before 0 0 state.files (λ k. same-agree expanded h.before key k (same ∙ sym h.was) h.others) in
+    h.is_it ∙ ap (λ (rs : List FileRows). layout_with (counts_of state.files) (rows_with (stacked (files_top state.commits) rs))) (sym each)
+
 -- a set of unfolded keys after one was flipped, added or removed
-pub flipped-but : (layout : Layout) (state : RecordState) (set expanded : List SelectionKey) (key : SelectionKey) → layout ≡ layout_of state set → expanded ≡ with_key_flipped set key → IsLayoutBut layout state expanded key
-flipped-but layout state set expanded key is e = record {
+pub flipped-but : (layout : Layout) (state : RecordState) (set expanded : List SelectionKey) (key : SelectionKey) (was : Bool) → layout ≡ layout_of state set → was ≡ has_key set key → expanded ≡ with_key_flipped set key
+    → IsLayoutBut layout state expanded key was
+flipped-but layout state set expanded key was is had e = record {
   before = set;
   is_it = is;
-  agree = λ index at. rw e (flipped-agrees set key 0 index at);
+  was = sym had;
+  others = λ x other. rw e (other-flipped set key x other);
 }
 
-pub added-but : (layout : Layout) (state : RecordState) (set expanded : List SelectionKey) (key : SelectionKey) → layout ≡ layout_of state set → expanded ≡ with_key set key → IsLayoutBut layout state expanded key
-added-but layout state set expanded key is e = record {
+pub added-but : (layout : Layout) (state : RecordState) (set expanded : List SelectionKey) (key : SelectionKey) (was : Bool) → layout ≡ layout_of state set → was ≡ has_key set key → expanded ≡ with_key set key
+    → IsLayoutBut layout state expanded key was
+added-but layout state set expanded key was is had e = record {
   before = set;
   is_it = is;
-  agree = λ index at. rw e (added-agrees set key 0 index at);
+  was = sym had;
+  others = λ x other. rw e (other-added set key x other);
 }
 
-pub removed-but : (layout : Layout) (state : RecordState) (set expanded : List SelectionKey) (key : SelectionKey) → layout ≡ layout_of state set → expanded ≡ without_key set key → IsLayoutBut layout state expanded key
-removed-but layout state set expanded key is e = record {
+pub removed-but : (layout : Layout) (state : RecordState) (set expanded : List SelectionKey) (key : SelectionKey) (was : Bool) → layout ≡ layout_of state set → was ≡ has_key set key → expanded ≡ without_key set key
+    → IsLayoutBut layout state expanded key was
+removed-but layout state set expanded key was is had e = record {
   before = set;
   is_it = is;
-  agree = λ index at. rw e (removed-agrees set key 0 index at);
+  was = sym had;
+  others = λ x other. rw e (other-removed set key x other);
 }
 
 -- a key that was unfolded before changes no row

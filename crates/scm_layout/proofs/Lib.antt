@@ -2,6 +2,8 @@
 pub mod ZipLemmas
 -- a toggle changes marks alone
 pub mod BareLemmas
+-- a file without a change of the mode
+pub mod ModeLemmas
 -- the counts of sections and files after a toggle
 pub mod CountLemmas
 -- the counts of the files of a state
@@ -10,6 +12,10 @@ pub mod FilesLemmas
 pub mod RowLemmas
 -- files one below the other
 pub mod StackLemmas
+-- sets of unfolded keys that agree on sections
+pub mod AgreeLemmas
+-- a fold of one section
+pub mod MendLemmas
 -- a fold of one file
 pub mod FoldLemmas
 -- toggles change no row

@@ -1,7 +1,8 @@
 -- The counts of the sections and files of a state. All of them but the numbers of checked items stay as they are in a session.
-use Rattle.std.specs.Prelude.{ℕ, ◌+◌, List, [], ◌∷◌, map, length, count_by, if◌then◌else◌}
+use Rattle.std.specs.Prelude.{ℕ, ◌+◌, Bool, true, false, List, [], ◌∷◌, map, length, count_by, if◌then◌else◌}
 use Rattle.scm_types.specs.declared.file.File.{File}
 use Rattle.scm_types.specs.declared.section.Section.{Section}
+use Rattle.scm_types.specs.declared.section.Section.TheVariants.{Unchanged, Changed, FileMode, Binary}
 use Rattle.scm_types.specs.Marks.{checked_count, file_marks, is_editable_section, section_marks}
 use Rattle.scm_layout.specs.Lines.{old_lines}
 use Rattle.scm_layout.specs.declared.section_counts.SectionCounts.{SectionCounts}
@@ -15,6 +16,17 @@ items_in section = length (section_marks section)
 -- the number of checked items of a section
 abbrev pub checked_in : Section → ℕ
 checked_in section = checked_count (section_marks section)
+
+-- whether a section changes the mode, checked or not
+abbrev pub is_mode : Section → Bool
+is_mode (Unchanged lines) = false
+is_mode (Changed lines) = false
+is_mode (FileMode is_checked mode) = true
+is_mode (Binary is_checked old new) = false
+
+-- the number of sections that change the mode
+abbrev pub modes_in : List Section → ℕ
+modes_in sections = count_by is_mode sections
 
 -- the number of editable sections up to the end of a section, if `editable` are before it
 abbrev pub editable_after : ℕ → Section → ℕ
@@ -40,6 +52,7 @@ sections_counts editable lines (section ∷ more) =
 abbrev pub file_counts : File → FileCounts
 file_counts file = record {
   editable = count_by is_editable_section file.sections;
+  modes = modes_in file.sections;
   items = length (file_marks file);
   checked = checked_count (file_marks file);
   sections = sections_counts 0 0 file.sections;

@@ -1,11 +1,11 @@
 -- The layout of a state: its counts, and its rows where some files and sections are unfolded.
-use Rattle.std.specs.Prelude.{◌≡◌, ℕ, ◌+◌, List, [], ◌∷◌, Option, Some, None}
+use Rattle.std.specs.Prelude.{◌≡◌, ℕ, ◌+◌, List, [], ◌∷◌, Bool, false, Option, Some, None}
 use Rattle.scm_types.specs.declared.keys.SelectionKey.{SelectionKey}
 use Rattle.scm_types.specs.declared.state.Commit.{Commit}
 use Rattle.scm_types.specs.declared.state.RecordState.{RecordState}
+use Rattle.scm_types.specs.Keys.{has_key, is_key}
 use Rattle.scm_layout.specs.declared.state_layout.Layout.{Layout}
 use Rattle.scm_layout.specs.Counts.{counts_of}
-use Rattle.scm_layout.specs.Refolds.{AgreeBut, file_index}
 use Rattle.scm_layout.specs.Rows.{rows_of}
 
 -- how many rows a message has: 3, or 0 if there is none
@@ -30,11 +30,12 @@ pub record IsLayoutOf (layout : Layout) (state : RecordState) : Type 0 where
   pub expanded : List SelectionKey
   pub is_it : layout ≡ layout_of state expanded
 
--- the layout is that of the state before the set of unfolded keys became `expanded`, by a change of one key
-pub record IsLayoutBut (layout : Layout) (state : RecordState) (expanded : List SelectionKey) (key : SelectionKey) : Type 0 where
+-- the layout is that of the state before the set of unfolded keys became `expanded`, which differs at most in `key`; the set before had `key` if `was_unfolded`
+pub record IsLayoutBut (layout : Layout) (state : RecordState) (expanded : List SelectionKey) (key : SelectionKey) (was_unfolded : Bool) : Type 0 where
   pub before : List SelectionKey
   pub is_it : layout ≡ layout_of state before
-  pub agree : (index : ℕ) → file_index key ≡ Some index → AgreeBut expanded before 0 index
+  pub was : has_key before key ≡ was_unfolded
+  pub others : (x : SelectionKey) → is_key x key ≡ false → has_key expanded x ≡ has_key before x
 
 -- the layout is that of the state before its commits changed
 pub record IsLayoutButCommits (layout : Layout) (state : RecordState) : Type 0 where

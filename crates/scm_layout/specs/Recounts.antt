@@ -1,5 +1,5 @@
 -- What a toggle changes of the counts. Only contracts within this crate cite these definitions.
-use Rattle.std.specs.Prelude.{◌≡◌, ℕ, ◌+◌, ◌-◌, ◌≤◌, List, [], ◌∷◌, map, sum_by, Bool, true, false, not, ◌||◌, if◌then◌else◌, Option, Some, slice_get, option_and_then}
+use Rattle.std.specs.Prelude.{◌≡◌, ℕ, ◌+◌, ◌-◌, ◌≤◌, ◌==◌, List, [], ◌∷◌, map, sum_by, Bool, true, false, not, ◌&&◌, ◌||◌, if◌then◌else◌, Option, Some, None, slice_get, option_and_then}
 use Rattle.scm_types.specs.declared.file.File.{File}
 use Rattle.scm_types.specs.declared.keys.LineKey.{LineKey}
 use Rattle.scm_types.specs.declared.section.Section.{Section}
@@ -70,9 +70,13 @@ with_file_line_counted checked section c = record c {
   sections = modify (with_line_counted checked) c.sections section;
 }
 
--- whether other marks may follow when a line of a file was checked or unchecked
-abbrev pub may_follow : File → Bool → Bool
-may_follow file checked = not checked || is_absent file.file_mode
+-- whether a file with these counts has a section that changes the mode
+abbrev pub has_modes : FileCounts → Bool
+has_modes c = not (c.modes == 0)
+
+-- whether other marks may follow when a line of a file with these counts was checked or unchecked
+abbrev pub may_follow : FileCounts → File → Bool → Bool
+may_follow c file checked = has_modes c && (not checked || is_absent file.file_mode)
 
 -- the counts are those of a file that differs from `file` in marks alone
 pub record AreCountsButMarks (c : FileCounts) (file : File) : Type 0 where
@@ -95,6 +99,15 @@ pub record AreCountsButLine (c : FileCounts) (file : File) (section : ℕ) (chec
 -- the counts of `files`
 abbrev pub files_counts : List File → List FileCounts
 files_counts files = map file_counts files
+
+-- whether there are counts, of a file that has a section that changes the mode
+abbrev pub has_modes_in : Option FileCounts → Bool
+has_modes_in None = false
+has_modes_in (Some c) = has_modes c
+
+-- whether file `index` has a section that changes the mode, by the counts of the files
+abbrev pub has_modes_at : List FileCounts → ℕ → Bool
+has_modes_at counts index = has_modes_in (slice_get counts index)
 
 -- the mark of the line of a file that a key names, if there is such a changed line
 abbrev pub line_mark_in : LineKey → File → Option Bool

@@ -3,8 +3,8 @@ ghost use Rattle.std.specs.Prelude.{◌≡◌, ◌+◌, ◌≤◌, ◌<◌, ◌^
 ghost use Rattle.scm_types.specs.Edits.{modify};
 ghost use Rattle.scm_types.specs.Limits.{file_size, max_items};
 ghost use Rattle.scm_types.specs.Marks.{is_editable_section};
-ghost use Rattle.scm_layout.specs.Counts.{file_counts};
-ghost use Rattle.scm_layout.specs.Recounts.{AreCountsButLine, AreCountsButMarks, may_follow, recounted, remarked, stepped, total_checked, total_items, with_file_line_counted, with_line_counted, with_sections, zipped};
+ghost use Rattle.scm_layout.specs.Counts.{file_counts, is_mode, modes_in};
+ghost use Rattle.scm_layout.specs.Recounts.{AreCountsButLine, AreCountsButMarks, has_modes, may_follow, recounted, remarked, stepped, total_checked, total_items, with_file_line_counted, with_line_counted, with_sections, zipped};
 
 use crate::section_counts::{SectionCounts, recount, remark, sections_counts};
 use scm_types::{File, Items, Section};
@@ -15,6 +15,8 @@ use std::alloc::{AllocError, Global};
 pub struct FileCounts {
     /// The number of editable sections.
     pub editable: usize,
+    /// The number of sections that change the mode, which never changes in a session.
+    pub modes: usize,
     /// The number of items.
     pub items: usize,
     /// The number of checked items.
@@ -31,6 +33,23 @@ fn editable_in(sections: &[Section<'_>]) -> usize
         .iter()
         .filter(|section| section.is_editable())
         .count()
+}
+
+/// Returns whether `section` changes the mode, checked or not.
+fn is_mode(section: &Section<'_>) -> bool
+    ensures { result ≡ is_mode section.now }
+{
+    match section {
+        Section::FileMode { .. } => true,
+        Section::Unchanged { .. } | Section::Changed { .. } | Section::Binary { .. } => false,
+    }
+}
+
+/// Returns how many of `sections` change the mode.
+fn modes_in(sections: &[Section<'_>]) -> usize
+    ensures { result ≡ modes_in sections.now }
+{
+    sections.iter().filter(|section| is_mode(section)).count()
 }
 
 /// Returns how many items sections with `counts` have.
@@ -93,14 +112,23 @@ impl FileCounts {
         let sections = sections_counts(alloc, given)?;
         let counts = sections.as_slice();
         let editable = editable_in(given);
+        let modes = modes_in(given);
         let items = total_items(counts);
         let checked = total_checked(counts);
         Ok(FileCounts {
             editable,
+            modes,
             items,
             checked,
             sections,
         })
+    }
+
+    /// Returns whether the file has a section that changes the mode.
+    pub(crate) fn has_modes(&self) -> bool
+        ensures { result ≡ has_modes self.now }
+    {
+        self.modes != 0
     }
 
     /// Counts the checked items of each section of `file` and of the whole file anew.
@@ -137,17 +165,18 @@ impl FileCounts {
         count_line_at(self.sections.as_mut_slice(), section, checked);
     }
 
-    /// Counts what follows in `file` after a line of it was set to `checked`.
+    /// Counts what follows in `file` after a line of it was set to `checked`. Reads no section if no
+    /// mark may follow, as in a file without a section that changes the mode.
     fn follow_line(&mut self, file: &File<'_>, checked: bool)
         requires lengths { length self.old.sections ≡ length file.now.sections }
         requires fits { total_checked (zipped remarked self.old.sections file.now.sections)
             ≤ max_items }
-        ensures { self.new ≡ (if may_follow file.now checked
+        ensures { self.new ≡ (if may_follow self.old file.now checked
             then with_sections (zipped remarked self.old.sections file.now.sections) self.old
             else self.old) }
     {
-        // `|`: one branch for the prover
-        let may_follow = !checked | file.file_mode.is_absent();
+        // `&`, `|`: one branch for the prover
+        let may_follow = self.has_modes() & (!checked | file.file_mode.is_absent());
         if may_follow {
             self.remark_all(file);
         }

@@ -1,9 +1,13 @@
 //! The rows of a file and of its sections.
-ghost use Rattle.std.specs.Prelude.{◌≡◌, ◌+◌, ◌≤◌, ◌<◌, ◌^◌, length, IfOk, if◌then◌else◌};
+ghost use Rattle.std.specs.Prelude.{◌≡◌, ◌+◌, ◌≤◌, ◌<◌, ◌^◌, false, length, IfOk, if◌then◌else◌};
+ghost use Rattle.scm_types.specs.declared.keys.SelectionKey.TheVariants as keys;
+ghost use Rattle.scm_types.specs.Keys.{section_key_of};
 ghost use Rattle.scm_types.specs.Limits.{file_size, max_items};
-ghost use Rattle.scm_layout.specs.Rows.{file_rows};
+ghost use Rattle.scm_layout.specs.Refolds.{AreRowsButKey};
+ghost use Rattle.scm_layout.specs.Rows.{file_rows, folded_count, sections_rows};
 
-use crate::section_rows::{SectionRows, SectionShape, folded_count, refold_sections};
+use crate::section_folds::{folded_after, last_end, refold_section};
+use crate::section_rows::{SectionRows, SectionShape, folded_count, is_expanded, refold_sections};
 use scm_selection::key_set::KeySet;
 use scm_types::keys::FileKey;
 use scm_types::{File, Items, SelectionKey};
@@ -71,5 +75,60 @@ impl FileRows {
         self.top = 0;
         self.end = height_with(set.contains(SelectionKey::File(key)), height);
         self.folded = folded_count(set, key, sections);
+    }
+
+    /// Mends the rows of the sections of `file`, which has key `key`, after section `index`, if there
+    /// is one, was folded or unfolded.
+    fn refold_section(&mut self, set: &KeySet, key: FileKey, file: &File<'_>, index: usize)
+        requires rows { AreRowsButKey self.old set.now key file.now
+            (keys.Section (section_key_of key index)) }
+        ensures folded { self.new.folded ≡ folded_count set.now key 0 file.now.sections }
+        ensures sections { self.new.sections
+            ≡ sections_rows set.now key (length file.now.sections) 0 0 false file.now.sections }
+    {
+        let sections = file.sections.as_slice();
+        if index < sections.len() {
+            refold_section(self.sections.as_mut_slice(), set, key, sections, index);
+            let is_unfolded = is_expanded(set, key, index);
+            self.folded = folded_after(self.folded, &sections[index], is_unfolded);
+        }
+    }
+
+    /// Mends the rows of the sections of `file`, which has key `file_key`, after `key` was folded or
+    /// unfolded. They change if it names a section.
+    fn refold_sections(
+        &mut self,
+        set: &KeySet,
+        file_key: FileKey,
+        file: &File<'_>,
+        key: SelectionKey,
+    )
+        requires rows { AreRowsButKey self.old set.now file_key file.now key }
+        ensures folded { self.new.folded ≡ folded_count set.now file_key 0 file.now.sections }
+        ensures sections { self.new.sections
+            ≡ sections_rows set.now file_key (length file.now.sections) 0 0 false file.now.sections }
+    {
+        match key {
+            SelectionKey::Section(key) => self.refold_section(set, file_key, file, key.section_idx),
+            SelectionKey::None | SelectionKey::File(_) | SelectionKey::Line(_) => {}
+        }
+    }
+
+    /// Mends the rows of `file`, which has key `file_key`, after `key`, which names or lies in it, was
+    /// folded or unfolded. Then they are from row 0 on.
+    pub(crate) fn refold_key(
+        &mut self,
+        set: &KeySet,
+        file_key: FileKey,
+        file: &File<'_>,
+        key: SelectionKey,
+    )
+        requires rows { AreRowsButKey self.old set.now file_key file.now key }
+        ensures { self.new ≡ file_rows set.now file_key file.now }
+    {
+        self.refold_sections(set, file_key, file, key);
+        let height = last_end(self.sections.as_slice());
+        self.top = 0;
+        self.end = height_with(set.contains(SelectionKey::File(file_key)), height);
     }
 }

@@ -9,6 +9,7 @@ pub mod file_counts;
 pub mod file_rows;
 pub mod row_search;
 pub mod section_counts;
+mod section_folds;
 pub mod section_rows;
 pub mod state_counts;
 pub mod state_layout;

@@ -1,8 +1,9 @@
 //! The rows of the sections of a file.
-ghost use Rattle.std.specs.Prelude.{◌≡◌, ◌+◌, ◌≤◌, ◌<◌, ◌^◌, drop, false, length, sum_by, if◌then◌else◌};
+ghost use Rattle.std.specs.Prelude.{◌≡◌, ◌+◌, ◌*◌, ◌≤◌, ◌<◌, ◌^◌, ◌++◌, take, drop, false, length, sum_by, if◌then◌else◌};
 ghost use Rattle.scm_types.specs.Limits.{max_items, section_size};
 ghost use Rattle.scm_layout.specs.Lines.{is_changed};
 ghost use Rattle.scm_layout.specs.Rows.{are_all_shown, context_height, dots_height, fold_count, folded_count, height_of, is_expanded, is_first_open, is_open, lines_above, lines_below, sections_height, sections_rows, shape_of, visible_height};
+ghost use Rattle.scm_layout.specs.Refolds.{height_from, is_open_above, rows_from};
 
 use scm_selection::key_set::KeySet;
 use scm_types::keys::FileKey;
@@ -116,7 +117,7 @@ fn height_of(total: usize, index: usize, is_expanded: bool, section: &Section<'_
 }
 
 /// Returns whether section `index` of file `key` is unfolded.
-fn is_expanded(set: &KeySet, key: FileKey, index: usize) -> bool
+pub(crate) fn is_expanded(set: &KeySet, key: FileKey, index: usize) -> bool
     ensures { result ≡ is_expanded set.now key index }
 {
     set.contains(SelectionKey::Section(key.section(index)))
@@ -178,8 +179,58 @@ fn shape_of(section: &Section<'_>) -> SectionShape
     }
 }
 
-/// Finds the rows of `sections`, all sections of file `key`, anew. Returns how many rows they have.
+/// Returns whether there is a section above section `index` of `sections`, all sections of file `key`,
+/// and it is open.
+fn is_open_above(set: &KeySet, key: FileKey, index: usize, sections: &[Section<'_>]) -> bool
+    ensures { result ≡ is_open_above set.now key index sections.now }
+{
+    if index == 0 {
+        false
+    } else {
+        is_open_at(set, key, index - 1, sections)
+    }
+}
+
+/// Finds the rows of sections `first..end` (exclusive) of `sections`, all sections of file `key`,
+/// anew. The first of them begins on row `top`. Returns the end of their rows, exclusive.
 #[tactic(auto, using(scm_types::proofs::LimitLemmas::items_room))]
+pub(crate) fn refold_range(
+    rows: &mut [SectionRows],
+    set: &KeySet,
+    key: FileKey,
+    sections: &[Section<'_>],
+    first: usize,
+    end: usize,
+    top: usize,
+) -> usize
+    requires lengths { length rows.old ≡ length sections.now }
+    requires range { (first ≤ end) × (end ≤ length sections.now) }
+    requires fits { length sections.now + sum_by section_size sections.now ≤ max_items }
+    requires room { top + height_from set.now key first sections.now ≤ 2 * max_items }
+    ensures rows { take end rows.new ++ rows_from set.now key end result sections.now
+        ≡ take first rows.old ++ rows_from set.now key first top sections.now }
+    ensures others { drop end rows.new ≡ drop end rows.old }
+    ensures height { result + height_from set.now key end sections.now
+        ≡ top + height_from set.now key first sections.now }
+{
+    let total = sections.len();
+    let mut next = top;
+    let mut before = is_open_above(set, key, first, sections);
+    for index in first..end {
+        let section = &sections[index];
+        let after = is_open_at(set, key, index + 1, sections);
+        let height = visible_height(set, key, total, index, before, section, after);
+        let top = next;
+        let end = top + height;
+        let shape = shape_of(section);
+        rows[index] = SectionRows { top, end, shape };
+        next = end;
+        before = is_open(set, key, index, section);
+    }
+    next
+}
+
+/// Finds the rows of `sections`, all sections of file `key`, anew. Returns how many rows they have.
 pub(crate) fn refold_sections(
     rows: &mut [SectionRows],
     set: &KeySet,
@@ -193,23 +244,11 @@ pub(crate) fn refold_sections(
     ensures height { result
         ≡ sections_height set.now key (length sections.now) 0 false sections.now }
 {
-    let total = sections.len();
-    let mut top = 0;
-    let mut before = false;
-    for (index, section) in sections.iter().enumerate() {
-        let after = is_open_at(set, key, index + 1, sections);
-        let height = visible_height(set, key, total, index, before, section, after);
-        let end = top + height;
-        let shape = shape_of(section);
-        rows[index] = SectionRows { top, end, shape };
-        top = end;
-        before = is_open(set, key, index, section);
-    }
-    top
+    refold_range(rows, set, key, sections, 0, sections.len(), 0)
 }
 
 /// Returns whether `section` has changed lines.
-fn is_changed(section: &Section<'_>) -> bool
+pub(crate) fn is_changed(section: &Section<'_>) -> bool
     ensures { result ≡ is_changed section.now }
 {
     match section {

@@ -4,7 +4,7 @@ ghost use Rattle.scm_types.specs.declared.keys.SelectionKey.TheVariants as keys;
 ghost use Rattle.scm_types.specs.Limits.{file_size, max_items};
 ghost use Rattle.scm_selection.specs.Toggle.{line_mark, with_all_inverted, with_all_set, with_key_toggled};
 ghost use Rattle.scm_layout.specs.Counts.{counts_of};
-ghost use Rattle.scm_layout.specs.Recounts.{AreCountsButAllMarks, AreCountsButFile, AreCountsButLineAt, files_counts, line_mark_at, line_mark_in};
+ghost use Rattle.scm_layout.specs.Recounts.{AreCountsButAllMarks, AreCountsButFile, AreCountsButLineAt, files_counts, has_modes_at, line_mark_at, line_mark_in};
 
 use crate::file_counts::FileCounts;
 use scm_selection::toggles;
@@ -48,6 +48,29 @@ fn line_mark_at(files: &[File<'_>], key: LineKey) -> Option<bool>
     files
         .get(key.file_idx)
         .and_then(|file| line_mark_in(file, key))
+}
+
+/// Returns whether file `index` of the files with `counts` has a section that changes the mode.
+fn has_modes_at(counts: &[FileCounts], index: usize) -> bool
+    ensures { result ≡ has_modes_at counts.now index }
+{
+    match counts.get(index) {
+        Some(count) => count.has_modes(),
+        None => false,
+    }
+}
+
+/// Toggles the line that `key` names in `files`, which have `counts`. If its file has no section that
+/// changes the mode, inverts the line alone: no mark follows.
+fn toggle_line_in(counts: &[FileCounts], files: &mut [File<'_>], key: LineKey)
+    requires { counts.now ≡ files_counts files.old }
+    ensures { files.new ≡ with_key_toggled (keys.Line key) files.old }
+{
+    if has_modes_at(counts, key.file_idx) {
+        toggles::toggle_key(files, SelectionKey::Line(key));
+    } else {
+        toggles::invert_line_alone(files, key);
+    }
 }
 
 /// Counts file `index` of `files` anew, if there is one. `counts` are those before its marks
@@ -121,7 +144,8 @@ impl StateCounts {
         recount_file(self.files.as_mut_slice(), files, key.file_idx);
     }
 
-    /// Toggles the line that `key` names, and counts it and the marks that follow.
+    /// Toggles the line that `key` names, and counts it and the marks that follow. Reads other
+    /// sections only if one of them changes the mode.
     fn toggle_line(&mut self, files: &mut [File<'_>], key: LineKey)
         requires counted { self.old ≡ counts_of files.old }
         requires fits { sum_by file_size files.old ≤ max_items }
@@ -129,7 +153,7 @@ impl StateCounts {
         ensures counts { self.new ≡ counts_of files.new }
     {
         let mark = line_mark_at(files, key);
-        toggles::toggle_key(files, SelectionKey::Line(key));
+        toggle_line_in(self.files.as_slice(), files, key);
         match mark {
             Some(was_checked) => {
                 count_line(self.files.as_mut_slice(), files, key, !was_checked);

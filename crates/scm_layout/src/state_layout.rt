@@ -76,25 +76,23 @@ impl Layout {
         self.rows.refold(expanded, 0, top, state.files.as_slice());
     }
 
-    /// Finds the rows of `state` anew after `expanded` changed by `key`: those of its file alone, and
-    /// the files below it move. It does not allocate.
-    fn refold_key(&mut self, state: &RecordState<'_>, expanded: &KeySet, key: SelectionKey)
-        requires layout { IsLayoutBut self.old state.now expanded.now key }
+    /// Mends the rows of `state` after `expanded`, which had `key` if `was_unfolded`, changed at most by
+    /// `key`: those of its file, and the files below it move. It does not allocate.
+    fn refold_key(
+        &mut self,
+        state: &RecordState<'_>,
+        expanded: &KeySet,
+        key: SelectionKey,
+        was_unfolded: bool,
+    )
+        requires layout { IsLayoutBut self.old state.now expanded.now key was_unfolded }
         requires size { state_size state.now ≤ max_items }
         ensures { self.new ≡ layout_of state.now expanded.now }
     {
-        let files = state.files.as_slice();
-        let top = files_top(state.commits.as_slice());
-        match key {
-            SelectionKey::File(key) => {
-                self.rows.refold_file(expanded, 0, top, files, key.file_idx);
-            }
-            SelectionKey::Section(key) => {
-                self.rows.refold_file(expanded, 0, top, files, key.file_idx);
-            }
-            SelectionKey::None | SelectionKey::Line(_) => {
-                self.rows.refold(expanded, 0, top, files);
-            }
+        if expanded.contains(key) != was_unfolded {
+            let files = state.files.as_slice();
+            let top = files_top(state.commits.as_slice());
+            self.rows.refold_key(expanded, 0, top, files, key);
         }
     }
 
@@ -115,8 +113,9 @@ impl Layout {
         ensures unchanged { OnErr result (expanded.new ≡ expanded.old) }
         ensures err { IfErr result (λ e. e ≡ OutOfMemory) }
     {
+        let was_unfolded = expanded.contains(key);
         expanded.flip(key)?;
-        self.refold_key(state, expanded, key);
+        self.refold_key(state, expanded, key, was_unfolded);
         Ok(())
     }
 
@@ -141,7 +140,7 @@ impl Layout {
         let was_folded = !expanded.contains(key);
         expanded.insert(key)?;
         if was_folded {
-            self.refold_key(state, expanded, key);
+            self.refold_key(state, expanded, key, false);
         }
         Ok(())
     }
@@ -153,8 +152,9 @@ impl Layout {
         ensures set { expanded.new ≡ without_key expanded.old key }
         ensures layout { self.new ≡ layout_of state.now expanded.new }
     {
+        let was_unfolded = expanded.contains(key);
         expanded.remove(key);
-        self.refold_key(state, expanded, key);
+        self.refold_key(state, expanded, key, was_unfolded);
     }
 
     /// Moves the files of `state` below the message of its first commit, after commits changed. It

@@ -2,12 +2,12 @@
 ghost use Rattle.std.specs.Prelude.{◌≡◌, ℕ, ◌+◌, ◌-◌, ◌≤◌, ◌<◌, ◌^◌, length, sum_by, IfOk};
 ghost use Rattle.scm_types.specs.Limits.{file_size, max_items};
 ghost use Rattle.scm_layout.specs.Rows.{each_file_rows, restacked, rows_of, stacked};
-ghost use Rattle.scm_layout.specs.Refolds.{AreRowsButFile, AreRowsOfFiles, total_height};
+ghost use Rattle.scm_layout.specs.Refolds.{AreFilesButKey, AreRowsOfFiles, file_index, total_height};
 
 use crate::file_rows::FileRows;
 use scm_selection::key_set::KeySet;
 use scm_types::keys::FileKey;
-use scm_types::{File, Items};
+use scm_types::{File, Items, SelectionKey};
 use std::alloc::{AllocError, Global};
 
 /// The rows of the files of a state.
@@ -47,26 +47,52 @@ fn refold_files(rows: &mut [FileRows], set: &KeySet, commit_idx: usize, files: &
     }
 }
 
-/// Finds the rows of file `file_idx` of `files` anew, from row 0 on, if there is one.
+/// Returns the index of the file of commit `commit_idx` whose rows the fold of `key` changes, if any.
+fn file_index(commit_idx: usize, key: SelectionKey) -> Option<usize>
+    ensures { result ≡ file_index commit_idx key }
+{
+    match key {
+        SelectionKey::File(key) => {
+            if key.commit_idx == commit_idx {
+                Some(key.file_idx)
+            } else {
+                None
+            }
+        }
+        SelectionKey::Section(key) => {
+            if key.commit_idx == commit_idx {
+                Some(key.file_idx)
+            } else {
+                None
+            }
+        }
+        SelectionKey::None | SelectionKey::Line(_) => None,
+    }
+}
+
+/// Mends the rows of the file of `files` that `key` names or lies in, if there is one, after `key` was
+/// folded or unfolded. Then they are from row 0 on.
 fn refold_at(
     rows: &mut [FileRows],
     set: &KeySet,
     commit_idx: usize,
     files: &[File<'_>],
-    file_idx: usize,
+    key: SelectionKey,
 )
-    requires { AreRowsButFile rows.old set.now commit_idx files.now file_idx }
+    requires { AreFilesButKey rows.old set.now commit_idx files.now key }
     ensures stacked { (top : ℕ) → stacked top rows.new
         ≡ stacked top (each_file_rows set.now commit_idx 0 files.now) }
     ensures height { total_height rows.new
         ≡ total_height (each_file_rows set.now commit_idx 0 files.now) }
 {
-    if file_idx < files.len() {
-        let key = FileKey {
-            commit_idx,
-            file_idx,
-        };
-        rows[file_idx].refold(set, key, &files[file_idx]);
+    if let Some(file_idx) = file_index(commit_idx, key) {
+        if file_idx < files.len() {
+            let file_key = FileKey {
+                commit_idx,
+                file_idx,
+            };
+            rows[file_idx].refold_key(set, file_key, &files[file_idx], key);
+        }
     }
 }
 
@@ -120,21 +146,21 @@ impl StateRows {
         restack(self.files.as_mut_slice(), top);
     }
 
-    /// Finds the rows of file `file_idx` anew after `set` changed for it and its sections, and moves
-    /// the files below it. It does not allocate.
-    pub fn refold_file(
+    /// Mends the rows of `files` after `key` was folded or unfolded, and `set` changed by it alone:
+    /// those of its file, and the files below it move. It does not allocate.
+    pub fn refold_key(
         &mut self,
         set: &KeySet,
         commit_idx: usize,
         top: usize,
         files: &[File<'_>],
-        file_idx: usize,
+        key: SelectionKey,
     )
         requires top { top ≤ max_items }
-        requires rows { AreRowsButFile self.old.files set.now commit_idx files.now file_idx }
+        requires rows { AreFilesButKey self.old.files set.now commit_idx files.now key }
         ensures { self.new ≡ rows_of set.now commit_idx top files.now }
     {
-        refold_at(self.files.as_mut_slice(), set, commit_idx, files, file_idx);
+        refold_at(self.files.as_mut_slice(), set, commit_idx, files, key);
         restack(self.files.as_mut_slice(), top);
     }
 }

@@ -56,7 +56,8 @@ fn check_counts(rt: &impl Abort, layout: &Layout) {
     let files = layout.counts.files.as_slice();
     assert_eq!(rt; files.len(), 1);
     let counts = &files[0];
-    assert_eq!(rt; (counts.editable, counts.items, counts.checked), (2, 3, 2));
+    assert_eq!(rt; (counts.editable, counts.modes), (2, 1));
+    assert_eq!(rt; (counts.items, counts.checked), (3, 2));
     let sections = counts.sections.as_slice();
     assert_eq!(rt; sections.len(), 4);
     check_section(rt, &sections[0], [0, 0, 0, 0]);

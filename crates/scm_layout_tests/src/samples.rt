@@ -83,6 +83,9 @@ const EMPTY: Given = (
     ],
 );
 
+/// A file that is new, without its creation.
+const UNMARKED: Given = (FileMode::Absent, &[ONE, BOTH]);
+
 /// A new file that is deleted too, with a binary change.
 const BOTH_WAYS: Given = (
     FileMode::Absent,
@@ -148,7 +151,7 @@ pub(crate) const SAMPLES: [Sample; 10] = [
         is_read_only: false,
         commits: &[None],
         is_unfolded: false,
-        files: &[(DEFAULT, &[]), BOTH_WAYS, (FileMode::Absent, &[ONE])],
+        files: &[(DEFAULT, &[]), BOTH_WAYS, UNMARKED],
     },
     Sample {
         is_read_only: false,

@@ -27,10 +27,6 @@ pub pushed : {A B : Type 0} (f : A → B) (made : List A) (next : A) (left : Lis
 pushed f [] next left = refl
 pushed f (x ∷ xs) next left = ap (λ ys. f x ∷ ys) (pushed f xs next left)
 
-pub at_most_one_more : (b : Bool) (n m : ℕ) → n ≤ m → (if b then n + 1 else n) ≤ m + 1
-at_most_one_more true n m h = omega arith
-at_most_one_more false n m h = omega arith
-
 -- ---- folds
 
 section-fold : (s : ViewState) (t : Totals) (k : SectionKey) (editable line : ℕ) (section : Section)
@@ -59,25 +55,6 @@ pub folds-are : (s : ViewState) (t : Totals) (k : FileKey) (sections : List Sect
 folds-are s t k sections vs e = sym (folds-lent vs) ∙ ap (list_all has_no_fold) e ∙ folds-of s t k 0 0 0 sections
 
 -- ---- sections
-
-pub section_views-more : (s : ViewState) (t : Totals) (k : FileKey) (i editable line : ℕ) (sections : List Section) (d : Section) → i < length sections
-    → section_views_of s t k i editable line (drop i sections)
-    ≡ section_view_of s t (section_key_of k i) editable line (get_or sections i d)
-    ∷ section_views_of s t k (i + 1) (if is_editable_section (get_or sections i d) then editable + 1 else editable) (line + old_lines (get_or sections i d)) (drop (i + 1) sections)
-unfolding section_views_of
-section_views-more s t k i editable line sections d h =
-    let more : drop i sections ≡ get_or sections i d ∷ drop (i + 1) sections = rw add-one (drop-cons sections i d h) in
-    let next : i + 1 ≡ suc i = omega arith in
-    rw (more, next) refl
-
-pub section_views-end : (s : ViewState) (t : Totals) (k : FileKey) (i editable line : ℕ) (sections : List Section) → length sections ≤ i → section_views_of s t k i editable line (drop i sections) ≡ []
-unfolding section_views_of
-section_views-end s t k i editable line sections h = rw (drop_all i sections h) refl
-
-pub old_lines-more : (i : ℕ) (sections : List Section) (d : Section) → i < length sections → sum_by old_lines (drop i sections) ≡ old_lines (get_or sections i d) + sum_by old_lines (drop (i + 1) sections)
-old_lines-more i sections d h =
-    let more : drop i sections ≡ get_or sections i d ∷ drop (i + 1) sections = rw add-one (drop-cons sections i d h) in
-    rw more (sum_by-cons old_lines (get_or sections i d) (drop (i + 1) sections))
 
 old_lines-le : (section : Section) → old_lines section ≤ section_size section
 old_lines-le (Unchanged lines) = omega arith

@@ -9,7 +9,7 @@ ghost use Rattle.scm_types.specs.declared.keys.SelectionKey.TheVariants as keys;
 ghost use Rattle.scm_view_state.specs.Stretches.{file_part_of};
 ghost use Rattle.scm_view_state.specs.Views.{lent_file, lent_files, lent_path, lent_sections};
 
-use crate::section_views::{SectionRange, counted_views, section_views, tristate_by};
+use crate::section_views::{SectionRange, counted_views, tristate_by};
 use crate::view_state::ViewState;
 use scm_layout::{FileCounts, FileRows};
 use scm_types::{File, Items, Tristate};
@@ -60,7 +60,12 @@ fn file_view<'a>(
     requires { file_size file.now ≤ max_items }
     ensures { IfOk result (λ view. lent_file view ≡ file_view_of view_state.now key file.now) }
 {
-    let section_views = section_views(view_state, alloc, key, file.sections.as_slice())?;
+    let counts = FileCounts::new(alloc, file)?;
+    let all = SectionRange {
+        start: 0,
+        end: file.sections.len(),
+    };
+    let section_views = counted_views(view_state, alloc, key, &counts, all, file)?;
     let fold = view_state.file_fold(key, section_views.as_slice());
     Ok(view_with(view_state, key, file.tristate(), fold, file, section_views))
 }

@@ -1,16 +1,16 @@
 //! The views of the sections of a file.
-ghost use Rattle.std.specs.Prelude.{◌≡◌, ◌+◌, ◌<◌, ◌≤◌, ◌^◌, length, sum_by, take, drop, IfOk, if◌then◌else◌};
+ghost use Rattle.std.specs.Prelude.{◌≡◌, ◌+◌, ◌<◌, ◌≤◌, ◌^◌, length, take, drop, IfOk};
 ghost use Rattle.scm_types.specs.Limits.{file_size, max_items};
-ghost use Rattle.scm_types.specs.Marks.{is_editable_section, section_marks, tristate_of};
+ghost use Rattle.scm_types.specs.Marks.{section_marks, tristate_of};
 ghost use Rattle.scm_layout.specs.Counts.{file_counts, section_counts};
-ghost use Rattle.scm_view.specs.ViewState.{is_removed, old_lines, section_view_of, section_views_of, selected_in, totals_of};
+ghost use Rattle.scm_view.specs.ViewState.{section_view_of, section_views_of, selected_in, totals_of};
 ghost use Rattle.scm_view_state.specs.Marks.{tristate_by};
 ghost use Rattle.scm_view_state.specs.Views.{lent_section, lent_sections, totals_in};
 
 use crate::view_state::ViewState;
 use scm_layout::{FileCounts, SectionCounts};
 use scm_types::keys::is_key;
-use scm_types::{ChangeType, File, Items, Section, SectionChangedLine, Tristate};
+use scm_types::{File, Items, Section, Tristate};
 use scm_view::{FileKey, SectionKey, SectionSelection, SectionView, SelectionKey};
 use std::alloc::{AllocError, Global};
 
@@ -41,44 +41,6 @@ pub(crate) struct SectionRange {
     pub(crate) end: usize,
 }
 
-/// Returns the totals of a file with the sections `sections`.
-fn totals_of(sections: &[Section<'_>]) -> FileTotals
-    ensures { totals_in result ≡ totals_of sections.now }
-{
-    FileTotals {
-        sections: sections.len(),
-        editable: sections
-            .iter()
-            .filter(|section| section.is_editable())
-            .count(),
-    }
-}
-
-/// Returns whether `line` is a line of the old file.
-fn is_removed(line: &SectionChangedLine<'_>) -> bool
-    ensures { result ≡ is_removed line.now }
-{
-    match line.change_type {
-        ChangeType::Added => false,
-        ChangeType::Removed => true,
-    }
-}
-
-/// Returns the number of lines of the old file in `section`.
-fn old_lines(section: &Section<'_>) -> usize
-    ensures { result ≡ old_lines section.now }
-{
-    match section {
-        Section::Unchanged { lines } => lines.len(),
-        Section::Changed { lines } => lines
-            .as_slice()
-            .iter()
-            .filter(|line| is_removed(line))
-            .count(),
-        Section::FileMode { .. } | Section::Binary { .. } => 0,
-    }
-}
-
 /// Returns what is selected in section `key`, if anything.
 fn selected_in(key: SectionKey, selection: SelectionKey) -> Option<SectionSelection>
     ensures { result ≡ selected_in key selection }
@@ -95,27 +57,6 @@ fn selected_in(key: SectionKey, selection: SelectionKey) -> Option<SectionSelect
                 SelectionKey::Section(line.section()),
             );
             is_inside.then_some(SectionSelection::ChangedLine(line.line_idx))
-        }
-    }
-}
-
-impl Before {
-    /// Returns what precedes the section after `section`, if `self` precedes `section`.
-    fn with(self, section: &Section<'_>) -> Before
-        requires editable { self.editable + 1 < 2 ^ 64 }
-        requires lines { self.lines + old_lines section.now < 2 ^ 64 }
-        ensures editable { result.editable
-            ≡ (if is_editable_section section.now then self.editable + 1 else self.editable) }
-        ensures lines { result.lines ≡ self.lines + old_lines section.now }
-    {
-        let editable = if section.is_editable() {
-            self.editable + 1
-        } else {
-            self.editable
-        };
-        Before {
-            editable,
-            lines: self.lines + old_lines(section),
         }
     }
 }
@@ -163,32 +104,6 @@ fn section_view<'a>(
         section,
         line_start_num: before.lines + 1,
     }
-}
-
-/// Returns the views of `sections`. Their lines of the old file must be within the limit for a state.
-#[tactic(auto, using(scm_types::proofs::LimitLemmas::items_room))]
-pub(crate) fn section_views<'a>(
-    view_state: &ViewState<'_>,
-    alloc: Global,
-    key: FileKey,
-    sections: &'a [Section<'a>],
-) -> Result<Items<SectionView<'a>>, AllocError>
-    requires { sum_by old_lines sections.now ≤ max_items }
-    ensures { IfOk result (λ views. lent_sections views
-        ≡ section_views_of view_state.now (totals_of sections.now) key 0 0 0 sections.now) }
-{
-    let totals = totals_of(sections);
-    let mut views = Vec::with_capacity(alloc, sections.len())?;
-    let mut before = Before {
-        editable: 0,
-        lines: 0,
-    };
-    for (index, section) in sections.iter().enumerate() {
-        let key = key.section(index);
-        views.push(section_view(view_state, totals, key, before, section.tristate(), section))?;
-        before = before.with(section);
-    }
-    Ok(Items::from(views))
 }
 
 /// Returns the view of `section` with the counts `counts`, in a file with the totals `totals`.

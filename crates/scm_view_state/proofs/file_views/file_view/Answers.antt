@@ -1,26 +1,34 @@
-use Rattle.std.proofs.Common.{rules, ◌≡◌, ◌≤◌, ap, ◌∙◌, arith}
-use Rattle.std.specs.Prelude.{sum_by}
+use Rattle.std.proofs.Common.{◌≡◌, ◌≤◌, ap, ◌∙◌, arith, length}
+use Rattle.std.proofs.lemmas.List.{take_all}
 use Rattle.std.specs.List.{list_all}
 use Rattle.scm_types.specs.Keys.{has_key}
-use Rattle.scm_types.specs.Limits.{max_items}
 use Rattle.scm_types.specs.declared.keys.SelectionKey.TheVariants as keys
-use Rattle.scm_view.specs.ViewState.{file_fold, old_lines, section_views_of, totals_of}
+use Rattle.scm_types.specs.Marks.{file_marks, tristate_of}
+use Rattle.scm_document.specs.declared.file_view.FileView.{FileView}
+use Rattle.scm_view.specs.ViewState.{expand_box_of, file_fold, file_view_of, section_views_of, toggle_box_of, totals_of}
 use Rattle.scm_view_state.specs.Folds.{fold_of, has_no_fold}
 use Rattle.scm_view_state.specs.Views.{lent_sections}
-use Rattle.scm_view_state.proofs.ViewLemmas.{folds-are, old_lines-fit}
+use Rattle.scm_view_state.proofs.CoverLemmas.{sections-length}
+use Rattle.scm_view_state.proofs.ViewLemmas.{folds-are}
 use Rattle.scm_view_state.proofs.file_views.file_view.Goals as goal
-
-pub section_views-requires : goal.section_views-requires
-section_views-requires c =
-    let fit : sum_by old_lines c.args.file.now.sections ≤ max_items = omega (arith, old_lines-fit c.args.file.now.sections, c.requires) in
-    rw c.as_slice.ensures fit
 
 pub returns : goal.returns
 returns c =
     let s = c.args.view_state.now in
     let k = c.args.key in
     let sections = c.args.file.now.sections in
-    let views : lent_sections c.in_ok-section_views.section_views ≡ section_views_of s (totals_of sections) k 0 0 0 sections = rw c.as_slice.ensures at c.in_ok-section_views.ensures in
+    let all = section_views_of s (totals_of sections) k 0 0 0 sections in
+    let whole : length all ≤ c.len.result = omega (arith, c.len.ensures, sections-length s (totals_of sections) k 0 0 0 sections) in
+    let views : lent_sections c.in_ok-section_views.section_views ≡ all = c.in_ok-section_views.ensures ∙ take_all c.len.result all whole in
     let fold : c.file_fold-fold.result ≡ file_fold s k c.args.file.now =
-    c.file_fold-fold.ensures ∙ ap (fold_of (has_key s.expanded (keys.File k))) (ap (list_all has_no_fold) c.as_slice-2.ensures ∙ folds-are s (totals_of sections) k sections c.in_ok-section_views.section_views views) in
-    search (rules, views, fold)
+    c.file_fold-fold.ensures ∙ ap (fold_of (has_key s.expanded (keys.File k))) (ap (list_all has_no_fold) c.as_slice.ensures ∙ folds-are s (totals_of sections) k sections c.in_ok-section_views.section_views views) in
+    let mark : c.tristate.result ≡ tristate_of (file_marks c.args.file.now) = c.tristate.ensures in
+    let same : ◌≡◌ {A = FileView}
+    (record (file_view_of s k c.args.file.now) {
+      toggle_box = toggle_box_of s (keys.File k) c.tristate.result;
+      expand_box = expand_box_of s (keys.File k) c.file_fold-fold.result;
+      section_views = lent_sections c.in_ok-section_views.section_views;
+    })
+    (file_view_of s k c.args.file.now) =
+    λ i. record (file_view_of s k c.args.file.now) { toggle_box = toggle_box_of s (keys.File k) (mark i); expand_box = expand_box_of s (keys.File k) (fold i); section_views = views i } in
+    c.view_with.ensures ∙ same

@@ -4,7 +4,7 @@ use Rattle.scm_types.specs.declared.section.Section.{Section}
 use Rattle.scm_types.specs.Limits.{max_items}
 use Rattle.scm_types.specs.Marks.{checked_count, file_marks, is_editable_section}
 use Rattle.scm_layout.specs.declared.section_counts.SectionCounts.{SectionCounts}
-use Rattle.scm_layout.specs.Counts.{sections_counts}
+use Rattle.scm_layout.specs.Counts.{modes_in, sections_counts}
 use Rattle.scm_layout.specs.Lines.{old_lines}
 use Rattle.scm_layout.specs.Recounts.{total_checked, total_items}
 use Rattle.scm_layout.proofs.CountLemmas.{checked-fit, items-fit, old_lines-fit_file, total_checked-marks, total_items-marks}
@@ -36,8 +36,10 @@ returns c =
     let now : c.as_slice-counts.result.now ≡ sections_counts 0 0 file.sections = c.as_slice-counts.ensures ∙ counted in
     let editable : c.editable_in-editable.result ≡ count_by is_editable_section file.sections =
     c.editable_in-editable.ensures ∙ ap (λ (ss : List Section). count_by is_editable_section ss) c.as_slice-given.ensures in
+    let modes : c.modes_in-modes.result ≡ modes_in file.sections =
+    c.modes_in-modes.ensures ∙ ap (λ (ss : List Section). modes_in ss) c.as_slice-given.ensures in
     let items : c.total_items-items.result ≡ length (file_marks file) =
     c.total_items-items.ensures ∙ ap (λ (cs : List SectionCounts). total_items cs) now ∙ total_items-marks 0 0 file.sections in
     let checked : c.total_checked-checked.result ≡ checked_count (file_marks file) =
     c.total_checked-checked.ensures ∙ ap (λ (cs : List SectionCounts). total_checked cs) now ∙ total_checked-marks 0 0 file.sections in
-    rw (editable, items, checked, counted) refl
+    rw (editable, modes, items, checked, counted) refl

@@ -5,7 +5,7 @@ use Rattle.scm_layout.specs.declared.file_rows.FileRows.{FileRows}
 use Rattle.scm_layout.specs.Refolds.{total_height}
 use Rattle.scm_layout.specs.Rows.{each_file_rows, stacked}
 use Rattle.scm_layout.proofs.StackLemmas.{each-fit}
-use Rattle.scm_layout.proofs.state_rows.StateRows.refold_file.Goals as goal
+use Rattle.scm_layout.proofs.state_rows.StateRows.refold_key.Goals as goal
 
 pub restack-requires : goal.restack-requires
 restack-requires c =
