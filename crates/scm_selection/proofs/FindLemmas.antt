@@ -1,19 +1,21 @@
 -- The first and the last key that passes a test, by files, sections and lines.
-use Rattle.std.proofs.Common.{◌≡◌, ℕ, zero, suc, ◌+◌, ◌<◌, Bool, true, false, cond, List, [], ◌∷◌, ◌++◌, length, drop, take, refl, ap, sym, ◌∙◌, append_assoc, append-nil, arith, Option, Some, None}
+use Rattle.std.proofs.Common.{◌≡◌, ℕ, zero, suc, ◌+◌, ◌<◌, ◌&&◌, ◌||◌, Bool, true, false, cond, List, [], ◌∷◌, ◌++◌, length, drop, take, refl, ap, sym, ◌∙◌, append_assoc, append-nil, arith, Option, Some, None}
 use Rattle.std.specs.Prelude.{find, get_or, min, slice_get, is_some, if◌then◌else◌}
+use Rattle.std.specs.List.{list_any}
 use Rattle.std.specs.Option.{option_or}
 use Rattle.std.proofs.lemmas.Option.{slice_get-get_or}
 use Rattle.std.proofs.lemmas.List.{take_all}
-use Rattle.std.proofs.lemmas.List.Folds.{find-append}
+use Rattle.std.proofs.lemmas.List.Folds.{find-append, list_any-append}
 use Rattle.scm_types.specs.declared.line.SectionChangedLine.{SectionChangedLine}
 use Rattle.scm_types.specs.declared.section.Section.{Section}
+use Rattle.scm_types.specs.declared.section.Section.TheVariants as sections
 use Rattle.scm_types.specs.declared.file.File.{File}
 use Rattle.scm_types.specs.declared.keys.SelectionKey.{SelectionKey}
 use Rattle.scm_types.specs.declared.keys.SelectionKey.TheVariants as keys
 use Rattle.scm_selection.specs.declared.moves.Reach.{Reach}
 use Rattle.scm_selection.specs.declared.moves.Reach.TheVariants as reaches
-use Rattle.scm_selection.specs.KeyLists.{file_key, line_key, line_keys, section_keys, sections_keys, files_keys}
-use Rattle.scm_selection.specs.KeysAround.{is_stop, find_last}
+use Rattle.scm_selection.specs.KeyLists.{file_key, line_key, line_keys, section_key, section_keys, sections_keys, files_keys}
+use Rattle.scm_selection.specs.KeysAround.{is_stop, find_last, may_stop_inside}
 use Rattle.scm_selection.proofs.KeyListLemmas.{line_keys-drop}
 
 -- ---- lists cut at an index
@@ -196,3 +198,78 @@ module _ (p : SelectionKey → Bool) (f s : ℕ) (alike : (i j : ℕ) → p (lin
       ap (find_last p) (lines-take f s 0 i i lines (omega arith) h)
       ∙ find_last-append p (line_keys f s 0 (take i lines)) (line_key f s i ∷ [])
       ∙ by_last (p (line_key f s i)) (line_key f s i) _ (λ e. last_none 0 (take i lines) (alike 0 i ∙ e))
+
+-- ---- files in which no key is a stop
+
+and-false : (b : Bool) → (b && false) ≡ false
+and-false true = refl
+and-false false = refl
+
+or-left : (a b : Bool) → (a || b) ≡ false → a ≡ false
+or-left true b e = e
+or-left false b e = refl
+
+or-right : (a b : Bool) → (a || b) ≡ false → b ≡ false
+or-right true b e = absurd (cc e)
+or-right false b e = e
+
+section-passed : (reach : Reach) (is_expanded : SelectionKey → Bool) (file section : ℕ) → may_stop_inside reach is_expanded file ≡ false → is_stop reach is_expanded (section_key file section) ≡ false
+section-passed reaches.Visible is_expanded file section h = h
+section-passed (reaches.SameKind keys.None) is_expanded file section h = and-false (is_expanded (file_key file))
+section-passed (reaches.SameKind (keys.File key)) is_expanded file section h = and-false (is_expanded (file_key file))
+section-passed (reaches.SameKind (keys.Section key)) is_expanded file section h = rw h refl
+section-passed (reaches.SameKind (keys.Line key)) is_expanded file section h = and-false (is_expanded (file_key file))
+section-passed (reaches.Inside keys.None) is_expanded file section h = refl
+section-passed (reaches.Inside (keys.File key)) is_expanded file section h = absurd (cc h)
+section-passed (reaches.Inside (keys.Section key)) is_expanded file section h = refl
+section-passed (reaches.Inside (keys.Line key)) is_expanded file section h = refl
+
+line-passed : (reach : Reach) (is_expanded : SelectionKey → Bool) (file section line : ℕ) → may_stop_inside reach is_expanded file ≡ false → is_stop reach is_expanded (line_key file section line) ≡ false
+line-passed reaches.Visible is_expanded file section line h = rw h refl
+line-passed (reaches.SameKind keys.None) is_expanded file section line h = and-false (is_expanded (file_key file) && is_expanded (section_key file section))
+line-passed (reaches.SameKind (keys.File key)) is_expanded file section line h = and-false (is_expanded (file_key file) && is_expanded (section_key file section))
+line-passed (reaches.SameKind (keys.Section key)) is_expanded file section line h = and-false (is_expanded (file_key file) && is_expanded (section_key file section))
+line-passed (reaches.SameKind (keys.Line key)) is_expanded file section line h = rw h refl
+line-passed (reaches.Inside keys.None) is_expanded file section line h = refl
+line-passed (reaches.Inside (keys.File key)) is_expanded file section line h = refl
+line-passed (reaches.Inside (keys.Section key)) is_expanded file section line h = absurd (cc h)
+line-passed (reaches.Inside (keys.Line key)) is_expanded file section line h = refl
+
+-- where no key passes, none is found
+module _ (p : SelectionKey → Bool) where
+  first-none : (ks : List SelectionKey) → list_any p ks ≡ false → find p ks ≡ None
+  first-none [] e = refl
+  first-none (k ∷ ks) e = rw (or-left (p k) (list_any p ks) e) (first-none ks (or-right (p k) (list_any p ks) e))
+
+  last-none : (ks : List SelectionKey) → list_any p ks ≡ false → find_last p ks ≡ None
+  last-none [] e = refl
+  last-none (k ∷ ks) e = rw (or-left (p k) (list_any p ks) e, last-none ks (or-right (p k) (list_any p ks) e)) refl
+
+module _ (p : SelectionKey → Bool) (file : ℕ) (section : (s : ℕ) → p (section_key file s) ≡ false) (line : (s l : ℕ) → p (line_key file s l) ≡ false) where
+  no-line : (s first : ℕ) (lines : List SectionChangedLine) → list_any p (line_keys file s first lines) ≡ false
+  no-line s first [] = refl
+  no-line s first (l ∷ ls) = rw (line s first) (no-line s (first + 1) ls)
+
+  no-key : (i : ℕ) (s : Section) → list_any p (section_keys file i s) ≡ false
+  no-key i (sections.Unchanged lines) = refl
+  no-key i (sections.Changed lines) = rw (section i) (no-line i 0 lines)
+  no-key i (sections.FileMode is_checked mode) = rw (section i) refl
+  no-key i (sections.Binary is_checked old new) = rw (section i) refl
+
+  no-keys : (i : ℕ) (ss : List Section) → list_any p (sections_keys file i ss) ≡ false
+  no-keys i [] = refl
+  no-keys i (s ∷ ss) =
+      list_any-append p (section_keys file i s) (sections_keys file (i + 1) ss)
+      ∙ ap (λ b. b || list_any p (sections_keys file (i + 1) ss)) (no-key i s)
+      ∙ no-keys (i + 1) ss
+
+module _ (reach : Reach) (is_expanded : SelectionKey → Bool) (file i : ℕ) (ss : List Section) (h : may_stop_inside reach is_expanded file ≡ false) where
+  no-stop : list_any (is_stop reach is_expanded) (sections_keys file i ss) ≡ false
+  no-stop =
+      no-keys (is_stop reach is_expanded) file (λ s. section-passed reach is_expanded file s h) (λ s l. line-passed reach is_expanded file s l h) i ss
+
+  pub no-first-stop : find (is_stop reach is_expanded) (sections_keys file i ss) ≡ None
+  no-first-stop = first-none (is_stop reach is_expanded) (sections_keys file i ss) no-stop
+
+  pub no-last-stop : find_last (is_stop reach is_expanded) (sections_keys file i ss) ≡ None
+  no-last-stop = last-none (is_stop reach is_expanded) (sections_keys file i ss) no-stop

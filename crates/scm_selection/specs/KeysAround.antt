@@ -11,7 +11,7 @@ use Rattle.scm_types.specs.declared.keys.SelectionKey.TheVariants as keys
 use Rattle.scm_selection.specs.declared.moves.Reach.{Reach}
 use Rattle.scm_selection.specs.declared.moves.Reach.TheVariants as reaches
 use Rattle.scm_selection.specs.KeyLists.{file_key, section_key, line_keys, sections_keys, files_keys, is_visible}
-use Rattle.scm_selection.specs.Moves.{is_inside, is_same_kind}
+use Rattle.scm_selection.specs.Moves.{has_inside, is_in_file, is_inside, is_same_kind}
 
 -- the sections of a file, or none if there is no file
 abbrev pub sections_in : Option File → List Section
@@ -97,6 +97,13 @@ abbrev pub is_stop : Reach → (SelectionKey → Bool) → SelectionKey → Bool
 is_stop reaches.Visible is_expanded key = is_visible is_expanded key
 is_stop (reaches.SameKind selection) is_expanded key = is_visible is_expanded key && is_same_kind selection key
 is_stop (reaches.Inside selection) is_expanded key = is_inside selection key
+
+-- whether a move may stop at a section or a line of file `file`: not if the file is folded and the move needs a visible key,
+-- nor if the move stops at files alone or nowhere
+abbrev pub may_stop_inside : Reach → (SelectionKey → Bool) → ℕ → Bool
+may_stop_inside reaches.Visible is_expanded file = is_expanded (file_key file)
+may_stop_inside (reaches.SameKind selection) is_expanded file = is_in_file selection && is_expanded (file_key file)
+may_stop_inside (reaches.Inside selection) is_expanded file = has_inside selection
 
 -- the last key of the list that passes the test
 abbrev pub find_last : (SelectionKey → Bool) → List SelectionKey → Option SelectionKey

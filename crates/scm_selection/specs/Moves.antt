@@ -1,5 +1,5 @@
 -- Where the selection moves to, on lists of keys.
-use Rattle.std.specs.Prelude.{ℕ, zero, suc, ◌+◌, Bool, false, List, Option, Some, None, position, find, filter, slice_get, unwrap_or}
+use Rattle.std.specs.Prelude.{ℕ, zero, suc, ◌+◌, Bool, false, true, List, Option, Some, None, position, find, filter, slice_get, unwrap_or}
 use Rattle.std.specs.List.{after_first}
 use Rattle.scm_types.specs.declared.keys.SelectionKey.{SelectionKey}
 use Rattle.scm_types.specs.declared.keys.SelectionKey.TheVariants as keys
@@ -28,6 +28,20 @@ previous_key list selection otherwise = previous_at list selection otherwise (po
 -- the keys of the list after a key
 abbrev pub keys_behind : List SelectionKey → SelectionKey → List SelectionKey
 keys_behind list key = after_first (is_key key) list
+
+-- whether a key is that of a section or a line
+abbrev pub is_in_file : SelectionKey → Bool
+is_in_file keys.None = false
+is_in_file (keys.File key) = false
+is_in_file (keys.Section key) = true
+is_in_file (keys.Line key) = true
+
+-- whether a key is that of a file or a section
+abbrev pub has_inside : SelectionKey → Bool
+has_inside keys.None = false
+has_inside (keys.File key) = true
+has_inside (keys.Section key) = true
+has_inside (keys.Line key) = false
 
 -- whether a key is of the kind inside the selection: a section if that is a file, a line if it is a section
 abbrev pub is_inside : SelectionKey → SelectionKey → Bool

@@ -75,6 +75,11 @@ with_line_inverted line (sections.Changed lines) = sections.Changed (modify (lin
 with_line_inverted line (sections.FileMode is_checked mode) = sections.FileMode is_checked mode
 with_line_inverted line (sections.Binary is_checked old new) = sections.Binary is_checked old new
 
+-- the file with line `line` of section `section` inverted, if it has such a line; all other marks are as before
+abbrev pub with_line_alone_inverted : ℕ → ℕ → File → File
+with_line_alone_inverted section line file =
+    record file { sections = modify (with_line_inverted line) file.sections section }
+
 -- the mark of line `line` of a section, if it has such a changed line
 abbrev pub line_mark : ℕ → Section → Option Bool
 line_mark line (sections.Unchanged lines) = None

@@ -1,7 +1,7 @@
 //! Tests of keys by their kind: file, section or line.
 ghost use Rattle.std.specs.Prelude.{◌≡◌};
 ghost use Rattle.scm_selection.specs.KeyLists.{is_file, is_line, is_section};
-ghost use Rattle.scm_selection.specs.Moves.{is_inside, is_same_kind};
+ghost use Rattle.scm_selection.specs.Moves.{has_inside, is_in_file, is_inside, is_same_kind};
 
 use scm_types::SelectionKey;
 
@@ -32,6 +32,26 @@ fn is_line(key: SelectionKey) -> bool
     match key {
         SelectionKey::Line(_) => true,
         SelectionKey::None | SelectionKey::File(_) | SelectionKey::Section(_) => false,
+    }
+}
+
+/// Returns whether `key` is that of a section or a line.
+pub(crate) fn is_in_file(key: SelectionKey) -> bool
+    ensures { result ≡ is_in_file key }
+{
+    match key {
+        SelectionKey::Section(_) | SelectionKey::Line(_) => true,
+        SelectionKey::None | SelectionKey::File(_) => false,
+    }
+}
+
+/// Returns whether `key` is that of a file or a section.
+pub(crate) fn has_inside(key: SelectionKey) -> bool
+    ensures { result ≡ has_inside key }
+{
+    match key {
+        SelectionKey::File(_) | SelectionKey::Section(_) => true,
+        SelectionKey::None | SelectionKey::Line(_) => false,
     }
 }
 

@@ -5,9 +5,9 @@ ghost use Rattle.scm_types.specs.declared.line.SectionChangedLine.{SectionChange
 ghost use Rattle.scm_selection.specs.KeySet.{has_key, is_key};
 ghost use Rattle.scm_selection.specs.KeyLists.{all_keys, file_key, files_keys, is_visible, line_keys, section_key, section_keys, sections_keys, visible_keys};
 ghost use Rattle.scm_selection.specs.Moves.{inner_key, is_inside, is_same_kind, next_key, of_kind, previous_key};
-ghost use Rattle.scm_selection.specs.KeysAround.{first_stop, is_editable_in, is_key_of, is_stop, keys_after, keys_after_file, keys_after_section, keys_before, keys_before_file, keys_before_section, last_stop, lines_at, lines_of, sections_at};
+ghost use Rattle.scm_selection.specs.KeysAround.{first_stop, is_editable_in, is_key_of, is_stop, keys_after, keys_after_file, keys_after_section, keys_before, keys_before_file, keys_before_section, last_stop, lines_at, lines_of, may_stop_inside, sections_at};
 
-use crate::key_kinds::{is_inside, is_same_kind};
+use crate::key_kinds::{has_inside, is_in_file, is_inside, is_same_kind};
 use crate::key_lists::{file_key, line_key, section_key};
 use crate::key_set::KeySet;
 use scm_types::{File, Section, SelectionKey};
@@ -46,6 +46,17 @@ fn is_stop(reach: Reach, expanded: &KeySet, key: SelectionKey) -> bool
         Reach::Visible => is_visible(expanded, key),
         Reach::SameKind(selection) => { is_same_kind(selection, key) && is_visible(expanded, key) }
         Reach::Inside(selection) => is_inside(selection, key),
+    }
+}
+
+/// Returns whether a move may stop at a section or a line of file `file`.
+fn may_stop_inside(reach: Reach, expanded: &KeySet, file: usize) -> bool
+    ensures { result ≡ may_stop_inside reach (has_key expanded.now) file }
+{
+    match reach {
+        Reach::Visible => expanded.contains(file_key(file)),
+        Reach::SameKind(selection) => is_in_file(selection) && expanded.contains(file_key(file)),
+        Reach::Inside(selection) => has_inside(selection),
     }
 }
 
@@ -165,7 +176,8 @@ fn first_of_section(
     first_of_lines(reach, expanded, file, index, 0, line_count(section))
 }
 
-/// Returns the first stop among the keys of sections `from..`.
+/// Returns the first stop among the keys of sections `from..`. Reads no section where none can be a
+/// stop.
 fn first_of_sections(
     reach: Reach,
     expanded: &KeySet,
@@ -176,6 +188,9 @@ fn first_of_sections(
     ensures { result ≡ first_stop reach (has_key expanded.now)
         (sections_keys file from (drop from sections.now)) }
 {
+    if !may_stop_inside(reach, expanded, file) {
+        return None;
+    }
     for index in from..sections.len() {
         let found = first_of_section(reach, expanded, file, index, &sections[index]);
         if found.is_some() {
@@ -379,7 +394,8 @@ fn last_of_section(
     stop_at(reach, expanded, section_key(file, index))
 }
 
-/// Returns the last stop among the keys of sections `0..upto`.
+/// Returns the last stop among the keys of sections `0..upto`. Reads no section where none can be a
+/// stop.
 fn last_of_sections(
     reach: Reach,
     expanded: &KeySet,
@@ -390,6 +406,9 @@ fn last_of_sections(
     ensures { result ≡ last_stop reach (has_key expanded.now)
         (sections_keys file 0 (take upto sections.now)) }
 {
+    if !may_stop_inside(reach, expanded, file) {
+        return None;
+    }
     let end = upto.min(sections.len());
     for step in 0..end {
         let index = end - 1 - step;

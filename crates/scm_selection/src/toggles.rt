@@ -5,10 +5,10 @@ ghost use Rattle.std.specs.List.{list_all};
 ghost use Rattle.scm_types.specs.Marks.{file_with_marks, line_with_mark, section_with_marks};
 ghost use Rattle.scm_selection.specs.Coherence.{KeepsCoherent};
 ghost use Rattle.scm_types.specs.Edits.{modify};
-ghost use Rattle.scm_selection.specs.Toggle.{after_lines, after_mode, after_section, is_all_checked, is_checked_by, is_checked_file, line_mark, mark_after, with_all_inverted, with_all_set, with_changed_set, with_file_inverted, with_file_toggled, with_key_toggled, with_line_inverted, with_line_toggled, with_section_toggled};
+ghost use Rattle.scm_selection.specs.Toggle.{after_lines, after_mode, after_section, is_all_checked, is_checked_by, is_checked_file, line_mark, mark_after, with_all_inverted, with_all_set, with_changed_set, with_file_inverted, with_file_toggled, with_key_toggled, with_line_alone_inverted, with_line_inverted, with_line_toggled, with_section_toggled};
 
 use scm_types::repair::{check_modes, uncheck_deletions};
-use scm_types::{File, FileMode, Section, SectionChangedLine, SelectionKey, Tristate};
+use scm_types::{File, FileMode, LineKey, Section, SectionChangedLine, SelectionKey, Tristate};
 
 /// Returns the mark after a toggle: checked if nothing was checked, else unchecked.
 fn mark_after(tristate: Tristate) -> bool
@@ -227,6 +227,24 @@ pub fn toggle_key(files: &mut [File<'_>], key: SelectionKey)
                 toggle_line(&mut files[key.file_idx], key.section_idx, key.line_idx);
             }
         }
+    }
+}
+
+/// Inverts line `line` of section `section` of `file`, if there is such a changed line.
+fn invert_line_in(file: &mut File<'_>, section: usize, line: usize)
+    ensures { file.new ≡ with_line_alone_inverted section line file.old }
+{
+    invert_line_at(file.sections.as_mut_slice(), section, line);
+}
+
+/// Inverts the changed line that `key` names in `files`, if it is there. Unlike [`toggle_key`], it
+/// leaves all other marks as they are, and reads no other section.
+pub fn invert_line_alone(files: &mut [File<'_>], key: LineKey)
+    ensures { files.new ≡ modify (with_line_alone_inverted key.section_idx key.line_idx)
+        files.old key.file_idx }
+{
+    if key.file_idx < files.len() {
+        invert_line_in(&mut files[key.file_idx], key.section_idx, key.line_idx);
     }
 }
 

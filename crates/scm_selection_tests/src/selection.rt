@@ -195,8 +195,11 @@ fn moves_among_folded_keys(rt: HostRuntime) -> Result<(), RecordError> {
     let moves = [
         (Move::Next, section_key(0, 1), file_key(1)),
         (Move::Previous, file_key(1), section_key(0, 1)),
+        (Move::NextOfKind, section_key(0, 1), section_key(3, 1)),
+        (Move::PreviousOfKind, section_key(3, 1), section_key(0, 1)),
     ];
-    check_moves(&rt, alloc, files.as_slice(), &[file_key(0)], &moves)?;
+    let unfolded = [file_key(0), file_key(3)];
+    check_moves(&rt, alloc, files.as_slice(), &unfolded, &moves)?;
     let moves = [
         (Move::Next, file_key(0), SelectionKey::None),
         (Move::Inside, file_key(0), file_key(0)),
@@ -234,6 +237,14 @@ fn toggles_of_keys(rt: HostRuntime) -> Result<(), RecordError> {
     assert_eq!(rt; first_mark(files.as_slice()), Some(Tristate::True));
     toggles::set_all(files.as_mut_slice());
     assert_eq!(rt; first_mark(files.as_slice()), Some(Tristate::False));
+    let line = LineKey {
+        commit_idx: 0,
+        file_idx: 0,
+        section_idx: 1,
+        line_idx: 0,
+    };
+    toggles::invert_line_alone(files.as_mut_slice(), line);
+    assert_eq!(rt; first_mark(files.as_slice()), Some(Tristate::Partial));
     Ok(())
 }
 

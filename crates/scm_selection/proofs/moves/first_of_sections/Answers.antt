@@ -1,10 +1,15 @@
-use Rattle.std.proofs.Common.{◌≡◌, true, false, ◌∙◌}
+use Rattle.std.proofs.Common.{◌≡◌, true, false, drop, sym, ◌∙◌}
 use Rattle.std.specs.Prelude.{find, is_some}
 use Rattle.scm_selection.specs.KeySet.{has_key}
 use Rattle.scm_selection.specs.KeyLists.{section_keys}
-use Rattle.scm_selection.specs.KeysAround.{is_stop}
-use Rattle.scm_selection.proofs.FindLemmas.{item-at, section-found, section-missed}
+use Rattle.scm_selection.specs.KeysAround.{is_stop, may_stop_inside}
+use Rattle.scm_selection.proofs.FindLemmas.{item-at, no-first-stop, section-found, section-missed}
 use Rattle.scm_selection.proofs.moves.first_of_sections.Goals as goal
+
+pub returns-then-not-may_stop_inside : goal.returns-then-not-may_stop_inside
+returns-then-not-may_stop_inside c =
+    let passed : may_stop_inside c.args.reach (has_key c.args.expanded.now) c.args.file ≡ false = cc in
+    sym (no-first-stop c.args.reach (has_key c.args.expanded.now) c.args.file c.args.from (drop c.args.from c.args.sections.now) passed)
 
 pub returns-then-is_some : goal.returns-then-is_some
 returns-then-is_some c =

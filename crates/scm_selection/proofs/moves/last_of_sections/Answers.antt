@@ -1,10 +1,15 @@
-use Rattle.std.proofs.Common.{◌≡◌, ◌+◌, ◌-◌, ◌<◌, true, false, length, take, ap, ◌∙◌, arith}
+use Rattle.std.proofs.Common.{◌≡◌, ◌+◌, ◌-◌, ◌<◌, true, false, length, take, ap, sym, ◌∙◌, arith}
 use Rattle.std.specs.Prelude.{is_some}
 use Rattle.scm_selection.specs.KeySet.{has_key}
 use Rattle.scm_selection.specs.KeyLists.{section_keys, sections_keys}
-use Rattle.scm_selection.specs.KeysAround.{is_stop, find_last}
-use Rattle.scm_selection.proofs.FindLemmas.{item-at, section-last-found, section-last-missed}
+use Rattle.scm_selection.specs.KeysAround.{is_stop, find_last, may_stop_inside}
+use Rattle.scm_selection.proofs.FindLemmas.{item-at, no-last-stop, section-last-found, section-last-missed}
 use Rattle.scm_selection.proofs.moves.last_of_sections.Goals as goal
+
+pub returns-then-not-may_stop_inside : goal.returns-then-not-may_stop_inside
+returns-then-not-may_stop_inside c =
+    let passed : may_stop_inside c.args.reach (has_key c.args.expanded.now) c.args.file ≡ false = cc in
+    sym (no-last-stop c.args.reach (has_key c.args.expanded.now) c.args.file 0 (take c.args.upto c.args.sections.now) passed)
 
 pub returns-then-is_some : goal.returns-then-is_some
 returns-then-is_some c =
