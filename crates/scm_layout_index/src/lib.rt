@@ -2,13 +2,15 @@
 //! row range of each key, and the extent, each without a walk over the document.
 //!
 //! A [`LayoutIndex`] has what lies over the document, and [`SharedRows`], a copy of the layout's
-//! rows that a session shares with its frames.
+//! rows that a session shares with its frames. [`span_of_key`] needs no index.
 #![tactic(auto)]
 
 mod key_pieces;
+pub mod key_spans;
 pub mod layout_index;
 mod row_pieces;
 pub mod shared_rows;
 
+pub use key_spans::span_of_key;
 pub use layout_index::LayoutIndex;
 pub use shared_rows::SharedRows;

@@ -35,10 +35,7 @@ impl Model for SharedRows {
 fn copy_sections(alloc: Global, rows: &[SectionRows]) -> Result<Items<SectionRows>, AllocError>
     ensures { IfOk result (λ copy. copy ≡ rows.now) }
 {
-    let mut copy = Vec::with_capacity(alloc, rows.len())?;
-    for row in rows {
-        copy.push(*row)?;
-    }
+    let copy = Vec::from_slice(alloc, rows)?;
     Ok(Items::from(copy))
 }
 

@@ -5,7 +5,7 @@ ghost use Rattle.scm_document.specs.declared.commit_view.CommitViewMode.TheVaria
 ghost use Rattle.scm_types.specs.Limits.{is_accepted_state, max_scroll};
 
 use scm_layout::Layout;
-use scm_layout_index::{LayoutIndex, SharedRows};
+use scm_layout_index::{LayoutIndex, SharedRows, span_of_key};
 use scm_samples::{ADDED, REMOVED, binary, changed, commits_of, context, deletion, file_of};
 use scm_selection::key_lists::all_keys;
 use scm_selection::key_set::key_set_of;
@@ -42,7 +42,7 @@ fn sample_state(alloc: Global) -> Result<RecordState<'static>, RecordError> {
 }
 
 /// Checks that both indexes answer alike of each place of the frame of `view_state`, of `keys`, and
-/// of the extent.
+/// of the extent. Also asks for the rows of `keys` by the layout alone.
 fn check_frame(
     rt: &impl Abort,
     alloc: Global,
@@ -62,6 +62,7 @@ fn check_frame(
     assert_eq!(rt; index.extent(), whole.extent());
     for key in keys {
         assert!(rt; index.span(*key) == whole.span(*key), "{key:?}");
+        assert!(rt; span_of_key(&layout.rows, *key) == whole.span(*key), "{key:?}");
     }
     for row in 0..50 {
         for column in 0..32 {

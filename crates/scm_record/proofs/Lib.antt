@@ -25,6 +25,8 @@ pub mod ShotLemmas
 pub mod HeadlineLemmas
 -- what stays within the limits
 pub mod AcceptedLemmas
+-- turns whose frame nobody sees
+pub mod QuietLemmas
 -- a session that a program drives
 pub mod LiveLemmas
 -- a session that is driven by bytes

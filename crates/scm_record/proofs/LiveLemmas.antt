@@ -121,9 +121,13 @@ module _ (a : Setting) (drawn s t : Session) (frames : ℕ) (event : Event) (flo
   follows known e =
       subst (λ (o : Outcome). Reaches P (resume drawn [] o)) (step-of (scene_of a.kind drawn) a s t frames event flow known is e) (on here)
 
+  -- the point before the next frame
+  pub frames-next : flow ≡ flows.GoOn → Reaches P (Before (world_in a t frames))
+  frames-next e = on (follows flows.GoOn e)
+
   -- the next frame
   pub goes : flow ≡ flows.GoOn → Reaches P (Drawn (world_in a (after_frame t) (frames + 1)))
-  goes e = on (on (follows flows.GoOn e))
+  goes e = on (frames-next e)
 
   -- the end
   pub ends : flow ≡ flows.Accept → Reaches P (Accepted (world_in a t frames))

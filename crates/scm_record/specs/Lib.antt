@@ -38,6 +38,8 @@ pub mod Painted
 pub mod Typed
 -- what contracts of the parts of a run say
 pub mod RunContracts
+-- turns whose frame nobody sees
+pub mod Quiet
 -- the session that the fields of the code's `ActiveSession` represent
 pub mod SessionView
 -- of the crate of what is selected, so that a caller lists this crate alone

@@ -1,5 +1,5 @@
 //! The frame last drawn: the screen, and where each component was drawn on it.
-ghost use Rattle.std.specs.Prelude.{◌≡◌, ℕ, ◌<◌, ◌≤◌, ◌+◌, ◌^◌, true, false, IfErr, IfOk, IsTrue, OnOk, length, string_bytes};
+ghost use Rattle.std.specs.Prelude.{◌≡◌, ℕ, ◌<◌, ◌≤◌, ◌+◌, ◌^◌, true, false, IfErr, IfOk, IsTrue, OnOk, length, min, string_bytes};
 ghost use Rattle.scm_render.specs.Picture.{PictureInRange, part};
 ghost use Rattle.scm_errors.specs.declared.error.RecordError.TheVariants.{OutOfMemory};
 ghost use Rattle.scm_types.specs.Limits.{is_accepted_state, max_scroll};
@@ -9,14 +9,15 @@ ghost use Rattle.scm_view.specs.Window.{rows_of_box, window};
 ghost use Rattle.scm_view.specs.Frame.{frame_of_document, frame_of_view, is_plain, picture_of};
 ghost use Rattle.scm_layout.specs.Layouts.{layout_of};
 ghost use Rattle.scm_layout_index.specs.LayoutIndex.{AreRowsOf, IsInline};
+ghost use Rattle.scm_layout_index.specs.SharedRows.{AreRowsOfState};
 ghost use Rattle.scm_record.specs.Frames.{HasSize, IsMapOf, IsSceneOf, KnowsPlaces, Scene, is_indexed, scene_of};
 ghost use Rattle.scm_record.specs.Session.{Session};
-ghost use Rattle.scm_record.specs.FrameQueries.{scroll_to_show, limited_scroll, hit, free_rows_above, scroll_to_rows, shot_of, top_in};
+ghost use Rattle.scm_record.specs.FrameQueries.{scroll_to_show, limited_scroll, hit, free_rows_above, scroll_to_rows, scroll_to_span, shot_of, top_in};
 
 use scm_cells::{Grid, Rect};
 use scm_input::TerminalKind;
-use scm_layout::Layout;
-use scm_layout_index::{LayoutIndex, SharedRows};
+use scm_layout::{Layout, StateRows};
+use scm_layout_index::{LayoutIndex, SharedRows, span_of_key};
 use scm_render::{DrawnRects, Viewport, find_target};
 use scm_types::{RecordError, RecordState};
 use scm_view::{AppView, CommitViewMode, ComponentId, SelectionKey, laws};
@@ -111,6 +112,27 @@ fn scroll_to_rows(height: usize, scroll: usize, above: usize, top: usize, rows: 
         top.saturating_sub(above)
     } else {
         top.saturating_sub(height.saturating_sub(rows))
+    }
+}
+
+/// Returns the scroll that shows `key`, starting from `scroll`, on a screen of `height` rows. `span` is
+/// the first row of `key` in the document and its height in rows; if it is `None`, keeps `scroll`.
+#[tactic(auto, unfolding(scm_types::specs::Limits::max_items, scm_types::specs::Limits::max_scroll))]
+fn scroll_to_span(
+    height: usize,
+    scroll: usize,
+    key: SelectionKey,
+    span: Option<(usize, usize)>,
+) -> usize
+    ensures { result ≡ min max_scroll (scroll_to_span height scroll (free_rows_above key) span) }
+{
+    match span {
+        Some((top, rows)) => {
+            scroll_to_rows(height, scroll, free_rows_above(key), top, rows).min(
+                RecordState::MAX_SCROLL,
+            )
+        }
+        None => scroll.min(RecordState::MAX_SCROLL),
     }
 }
 
@@ -308,19 +330,29 @@ impl DrawnFrame {
 
     /// Returns the scroll that shows `key`, starting from `scroll`. If `key` wasn't drawn, keeps
     /// `scroll`.
-    #[tactic(auto, unfolding(scm_types::specs::Limits::max_items, scm_types::specs::Limits::max_scroll))]
     pub(crate) fn scroll_to_show(&self, scroll: usize, key: SelectionKey) -> usize
         ensures { (scene : Scene) → IsSceneOf scene self.now
             → result ≡ scroll_to_show scene scroll key }
     {
-        match self.span(key) {
-            Some((top, rows)) => {
-                scroll_to_rows(self.grid.height(), scroll, free_rows_above(key), top, rows).min(
-                    RecordState::MAX_SCROLL,
-                )
-            }
-            None => scroll.min(RecordState::MAX_SCROLL),
-        }
+        scroll_to_span(self.grid.height(), scroll, key, self.span(key))
+    }
+
+    /// Returns what `scroll_to_show` returns once a plain frame of this size shows a session whose
+    /// layout has the rows `rows`. No frame needs to be drawn for it.
+    pub(crate) fn scroll_by_rows(&self, rows: &StateRows, scroll: usize, key: SelectionKey) -> usize
+        requires rows { AreRowsOfState rows.now }
+        ensures { (kind : TerminalKind) (s : Session) → HasSize kind self.now
+            → is_plain self.now.grid.width (length self.now.grid.rows) s.shown.view_mode ≡ true
+            → AreRowsOf rows.now s.shown → result ≡ scroll_to_show (scene_of kind s) scroll key }
+    {
+        scroll_to_span(self.grid.height(), scroll, key, span_of_key(rows, key))
+    }
+
+    /// Returns whether a frame of this size is plain in view mode `mode`.
+    pub(crate) fn is_plain(&self, mode: CommitViewMode) -> bool
+        ensures { result ≡ is_plain self.now.grid.width (length self.now.grid.rows) mode }
+    {
+        is_plain(self.grid.width(), self.grid.height(), mode)
     }
 
     /// Returns the first row of `key` in the document, if it was drawn.

@@ -11,7 +11,8 @@ ghost use Rattle.scm_record.specs.RunContracts.{IsCurrent};
 ghost use Rattle.scm_record.specs.Frames.{HasSize, IsSceneOf, columns_of, rows_of, scene_of};
 ghost use Rattle.scm_record.specs.Step.{change};
 ghost use Rattle.scm_record.specs.Clicks.{after_click};
-ghost use Rattle.scm_record.specs.Run.{Within, world_in};
+ghost use Rattle.scm_record.specs.Run.{Before, Within, world_in};
+ghost use Rattle.scm_record.specs.Quiet.{IsQuiet};
 ghost use Rattle.scm_record.specs.LiveCalls.{AreRuns, Call, EndsIn, EventFails, EventLeads, Fails, IsFailedRun, IsRun, Leads, MessageFails, MessageLeads, Path, is_on_one_screen, live_setting};
 ghost use Rattle.scm_record.specs.declared.live.Turn.{Turn};
 ghost use Rattle.scm_record.specs.declared.live.Turn.TheVariants.{Accepted, Waiting};
@@ -116,7 +117,35 @@ fn advance(
     Ok(next)
 }
 
-/// Handles `event`, and then each event that it leaves pending after a frame of its own.
+/// Handles the pending `EnsureSelectionInViewport` without its frame, which nobody sees, and draws the
+/// session.
+fn settle_unseen<'state>(
+    session: ActiveSession<'state>,
+    frame: DrawnFrame,
+    kind: TerminalKind,
+) -> Result<Turn<'state>, RecordError>
+    requires drawable { IsDrawable session }
+    requires quiet { IsQuiet session frame }
+    requires sized { HasSize kind frame }
+    ensures ok { IfOk result (λ turn. (reads : List Read) (edits : List Reply) (frames : ℕ)
+        → Leads (Before (world_in (live_setting kind reads edits) session.entry frames))
+        kind reads edits turn) }
+    ensures err { IfErr result (λ e. e ≡ OutOfMemory) }
+{
+    let mut session = session;
+    let mut frame = frame;
+    session.begin_frame();
+    session.show_unseen(&frame);
+    advance(&mut session, &mut frame, false)?;
+    Ok(Turn::Waiting(LiveSession {
+        session,
+        frame,
+        kind,
+    }))
+}
+
+/// Handles `event`, and then each event that it leaves pending after a frame of its own. A frame that
+/// nobody sees is not painted.
 fn settle<'state>(
     session: ActiveSession<'state>,
     frame: DrawnFrame,
@@ -143,14 +172,19 @@ fn settle<'state>(
     let mut frame = frame;
     let is_current = session.is_kept_by(&frame, event);
     match session.change(&frame, event)? {
-        Flow::GoOn => match advance(&mut session, &mut frame, is_current)? {
-            None => Ok(Turn::Waiting(LiveSession {
-                session,
-                frame,
-                kind,
-            })),
-            Some(next) => settle(session, frame, kind, next),
-        },
+        Flow::GoOn => {
+            if session.is_quiet(&frame) {
+                return settle_unseen(session, frame, kind);
+            }
+            match advance(&mut session, &mut frame, is_current)? {
+                None => Ok(Turn::Waiting(LiveSession {
+                    session,
+                    frame,
+                    kind,
+                })),
+                Some(next) => settle(session, frame, kind, next),
+            }
+        }
         Flow::Accept => Ok(Turn::Accepted(session.into_state())),
         Flow::Cancel => Err(RecordError::Cancelled),
         Flow::Edit(commit) => Ok(Turn::Editing(Editing {

@@ -12,6 +12,7 @@ ghost use Rattle.scm_record.specs.FrameQueries.{shot_of};
 ghost use Rattle.scm_record.specs.Run.{Before, Within, Goes, Setting, World, batch, after_edit, after_screenshot, no_such_place, setting, too_long, world_in, Reaches, Stops};
 ghost use Rattle.scm_record.specs.RunContracts.{BatchStops, Ceases, Follows, Handles, IsCurrent, IsFault, RefusesEvent, Refuses, TurnStops, point_of};
 ghost use Rattle.scm_record.specs.declared.runs.Next.TheVariants.{GoOn};
+ghost use Rattle.scm_record.specs.Quiet.{IsQuiet, after_ensure};
 ghost use Rattle.scm_record.specs.Ending.{EndsWith, FailsWith};
 
 use crate::frame::DrawnFrame;
@@ -294,7 +295,20 @@ fn draw(
     Ok(())
 }
 
-/// Runs one turn: draws a frame, and handles a batch of events.
+/// Runs a quiet turn: counts its frame in `store`, paints nothing, and handles the pending
+/// `EnsureSelectionInViewport`.
+fn turn_unseen(session: &mut ActiveSession<'_>, frame: &DrawnFrame, store: &mut Screens)
+    requires quiet { IsQuiet session.old frame.now }
+    ensures shown { (kind : TerminalKind) → HasSize kind frame.now
+        → session.new ≡ after_ensure kind (after_frame session.old) }
+    ensures counted { store.new ≡ with_frame store.old }
+{
+    session.begin_frame();
+    session.show_unseen(frame);
+    store.add_frame();
+}
+
+/// Runs one turn: draws a frame, and handles a batch of events. A quiet turn paints nothing.
 fn turn(
     session: &mut ActiveSession<'_>,
     frame: &mut DrawnFrame,
@@ -321,6 +335,13 @@ fn turn(
     ensures size { (kind : TerminalKind) → HasSize kind frame.old → HasSize kind frame.new }
     ensures kind { kind input.new ≡ kind input.old }
 {
+    if session.is_quiet(frame) {
+        turn_unseen(session, frame, screens);
+        return Ok(TurnEnd {
+            next: Next::GoOn,
+            is_current: false,
+        });
+    }
     draw(session, frame, screens, is_current)?;
     let batch = next_batch(session, input)?;
     if are_idle(session, frame, &batch) {

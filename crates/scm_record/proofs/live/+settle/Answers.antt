@@ -6,7 +6,7 @@ use Rattle.scm_record.specs.Run.{world_in, Within, Reaches}
 use Rattle.scm_input.specs.Script.{Read, Reply}
 use Rattle.scm_record.specs.LiveCalls.{live_setting}
 use Rattle.scm_record.proofs.Budget.{rank}
-use Rattle.scm_record.proofs.LiveLemmas.{changed-few, changed-said, changed-drawable, changed-falls, drawn-drawable, leads-after, fails-after, fails-memory, goes, ends, edits, gives-up, lacks-place, calm-session, comes-to-wait, comes-to-handle, shown-sized}
+use Rattle.scm_record.proofs.LiveLemmas.{changed-few, changed-said, changed-drawable, changed-falls, drawn-drawable, leads-after, fails-after, fails-memory, goes, ends, edits, gives-up, lacks-place, frames-next, calm-session, comes-to-wait, comes-to-handle, shown-sized}
 use Rattle.scm_record.proofs.CurrentLemmas.{current-after, current-kept}
 use Rattle.scm_record.proofs.live.+settle.Goals as goal
 
@@ -14,6 +14,22 @@ pub returns-in_err-change-clause-err : goal.returns-in_err-change-clause-err
 returns-in_err-change-clause-err t c =
     let p = err_from_is_err_and c.from_residual.result c.from_residual.ensures.1 in
     rw (p.1, p.2) (λ drawn reads edits frames h. fails-memory _ c.in_err-change.field-0.0 c.in_err-change.ensures.err)
+
+pub settle_unseen-requires-clause-drawable : goal.settle_unseen-requires-clause-drawable
+settle_unseen-requires-clause-drawable t c =
+    changed-drawable (scene_of c.args.kind c.requires.shown.0) c.args.session c.change.new.self c.args.event c.in_ok-change.field-0 (c.in_ok-change.ensures.ok (scene_of c.args.kind c.requires.shown.0) c.requires.shown.1) c.requires.drawable
+
+pub returns-then-is_quiet-clause-ok : goal.returns-then-is_quiet-clause-ok
+returns-then-is_quiet-clause-ok t c =
+    IfOk-weaker c.settle_unseen.result _ _ (λ turn leads drawn reads edits frames h.
+    leads-after _ _ c.args.kind reads edits turn
+    (frames-next (live_setting c.args.kind reads edits) drawn c.args.session c.change.new.self frames c.args.event c.in_ok-change.field-0 (c.in_ok-change.ensures.ok (scene_of c.args.kind drawn) h) c.in-GoOn.is)
+    (leads reads edits frames))
+    c.settle_unseen.ensures.ok
+
+pub returns-then-is_quiet-clause-err : goal.returns-then-is_quiet-clause-err
+returns-then-is_quiet-clause-err t c =
+    IfErr-weaker c.settle_unseen.result _ _ (λ e memory drawn reads edits frames h. fails-memory _ e memory) c.settle_unseen.ensures.err
 
 pub advance-requires-clause-drawable : goal.advance-requires-clause-drawable
 advance-requires-clause-drawable t c =

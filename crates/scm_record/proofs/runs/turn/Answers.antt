@@ -4,9 +4,17 @@ use Rattle.scm_record.specs.Frames.{Scene, IsSceneOf}
 use Rattle.scm_input.specs.Store.{Store}
 use Rattle.scm_record.specs.Run.{setting}
 use Rattle.scm_record.proofs.RunLemmas.{undrawn-turn, drawn-turn, no_batch-stops, turn-goes, turn-ceases}
+use Rattle.scm_record.proofs.QuietLemmas.{quiet-counted}
 use Rattle.scm_record.proofs.CurrentLemmas.{shown-current, current-still}
 use Rattle.scm_record.specs.declared.runs.Next.TheVariants.{GoOn}
 use Rattle.scm_record.proofs.runs.turn.Goals as goal
+
+pub returns-then-is_quiet-clause-ok : goal.returns-then-is_quiet-clause-ok
+returns-then-is_quiet-clause-ok g c =
+    let before = (goal.RecordInput-dyn g c.args.input.now) in
+    let a = setting (before.kind c.args.input.now.1) (before.reads c.args.input.now.1) (before.edits c.args.input.now.1) c.args.screens.now in
+    λ frames.
+    quiet-counted a c.args.session.now c.turn_unseen.new.session c.turn_unseen.new.store frames (c.is_quiet.ensures c.if-is_quiet.true).pending (c.turn_unseen.ensures.shown a.kind c.requires.sized) c.turn_unseen.ensures.counted
 
 pub returns-in_err-draw-clause-err : goal.returns-in_err-draw-clause-err
 returns-in_err-draw-clause-err g c =

@@ -5,6 +5,9 @@ use Rattle.scm_record.proofs.AcceptedLemmas.{start-drawable}
 use Rattle.scm_record.proofs.LiveLemmas.{calm-session, drawn-drawable}
 use Rattle.scm_record.proofs.live.LiveSession.new.Goals as goal
 
+pub advance-requires-clause-drawable : goal.advance-requires-clause-drawable
+advance-requires-clause-drawable c = subst IsDrawable (sym c.in_ok-session.ensures.ok) (start-drawable c.args.state c.requires)
+
 pub invariant_of-result : goal.invariant_of-result
 invariant_of-result c =
     let s = c.in_ok-session.session in
