@@ -1,8 +1,9 @@
-/* begin_costs calls|lines|json LINES [BYTES]: begins a session over LINES changed lines, by one call for all of them (`calls`), by a
- * call for each (`lines`), or over the JSON form (`json`). Each line has BYTES bytes, at most 100, or else is one of a program. It
- * prints the bytes of the texts, the milliseconds from the first call until the session waits, and the most bytes of memory that
- * the library had taken at once meanwhile, with 8 bytes for each block. The status is 1 if that is more than three times the bytes
- * of the texts and 64 bytes for each line. Link it with -Wl,--wrap=malloc,--wrap=realloc,--wrap=free. */
+/* begin_costs calls|lines|json LINES [BYTES [COUNT]]: begins a session over LINES changed lines, by one call for all of them (`calls`),
+ * by a call for each (`lines`), or over the JSON form (`json`). Each line has BYTES bytes, at most 100, or else (0) is one of a
+ * program. By calls there is a section for each COUNT lines, or else one for all. It prints the bytes of the texts, the
+ * milliseconds from the first call until the session waits, and the most bytes of memory that the library had taken at once
+ * meanwhile, with 8 bytes for each block. The status is 1 if that is more than three times the bytes of the texts and 64 bytes for
+ * each line. Link it with -Wl,--wrap=malloc,--wrap=realloc,--wrap=free. */
 #define _XOPEN_SOURCE 700
 #include "scm.h"
 
@@ -91,10 +92,31 @@ static bool add_lines(scm_session *session, const char *text, size_t length, boo
     return scm_state_changes(session, true, false, text, length) == SCM_DONE;
 }
 
+/* How many bytes the first `count` lines have. */
+static size_t first_lines(const char *text, size_t length, size_t count) {
+    const char *end = text;
+    for (size_t i = 0; i < count && end < text + length; i++) {
+        end = (const char *)memchr(end, '\n', (size_t)(text + length - end)) + 1;
+    }
+    return (size_t)(end - text);
+}
+
+/* Adds the lines in sections of `count` lines, or in one section if that is 0. */
+static bool add_sections(scm_session *session, const char *text, size_t length, bool is_each, size_t count) {
+    bool is_well = true;
+    while (length > 0 && is_well) {
+        size_t section = count ? first_lines(text, length, count) : length;
+        is_well = scm_state_section(session, true) == SCM_DONE && add_lines(session, text, section, is_each);
+        text += section, length -= section;
+    }
+    return is_well;
+}
+
 int main(int argc, char **argv) {
     scm_session session = {0};
     const char *how = argc > 1 ? argv[1] : "calls";
     size_t lines = argc > 2 ? strtoul(argv[2], NULL, 10) : 0, bytes = argc > 3 ? strtoul(argv[3], NULL, 10) : 0;
+    size_t count = argc > 4 ? strtoul(argv[4], NULL, 10) : 0;
     bool is_json = strcmp(how, "json") == 0;
     if (bytes > LONGEST_LINE) {
         return 2;
@@ -105,7 +127,7 @@ int main(int argc, char **argv) {
     double begun = now();
     bool is_well = is_json ? scm_new(&session, given, strlen(given), 80, 24) == SCM_DONE
         : scm_state_new(&session, false) == SCM_DONE && scm_state_file(&session, "f", 1, "", 0, 0100644) == SCM_DONE
-            && add_lines(&session, text, length, strcmp(how, "lines") == 0) && scm_begin(&session, 80, 24) == SCM_DONE;
+            && add_sections(&session, text, length, strcmp(how, "lines") == 0, count) && scm_begin(&session, 80, 24) == SCM_DONE;
     double ended = now();
     size_t most = most_in_use - before, limit = 3 * length + 64 * lines;
     printf("%s: %zu lines, %zu bytes, %.1f ms, %zu bytes of memory, with a limit of %zu\n", how, lines, length, ended - begun, most, limit);

@@ -67,7 +67,8 @@ def sized(text):
 
 
 class Session:
-    """A session, first over an empty state. It is closed at the end of a `with` block."""
+    """A session, first over an empty state. It is closed by `close`, and at the end of a `with` block; else its memory leaks.
+    Texts are `str` or the bytes of UTF-8. One thread at a time uses a session."""
 
     def __init__(self, is_read_only=False):
         self.handle = Handle()
@@ -83,6 +84,10 @@ class Session:
         return self
 
     def __exit__(self, *_):
+        self.close()
+
+    def close(self):
+        """Frees the session's memory. A closed session refuses each call."""
         library.scm_free(ctypes.byref(self.handle))
 
     def call(self, name, *arguments):
@@ -92,12 +97,12 @@ class Session:
 
     def read(self, name, *arguments):
         """Returns the bytes that a call writes, which also writes their number."""
-        out, length = ctypes.create_string_buffer(1 << 16), ctypes.c_size_t()
-        self.call(name, *arguments, out, ctypes.c_size_t(len(out)), ctypes.byref(length))
-        if length.value > len(out):
+        length = ctypes.c_size_t(1 << 16)
+        while True:  # a paint that had no room is followed by one of every row, which may be longer
             out = ctypes.create_string_buffer(length.value)
             self.call(name, *arguments, out, ctypes.c_size_t(len(out)), ctypes.byref(length))
-        return out.raw[: length.value]
+            if length.value <= len(out):
+                return out.raw[: length.value]
 
     # ---- the state
 
@@ -144,6 +149,9 @@ class Session:
     def idle(self):
         self.call("idle")
 
+    def click(self, row, column):
+        self.call("click", ctypes.c_uint16(row), ctypes.c_uint16(column))
+
     def answer(self, message):
         self.call("answer", *sized(message))
 
@@ -152,6 +160,9 @@ class Session:
 
     def paint(self):
         return self.read("paint")
+
+    def repaint(self):
+        self.call("repaint")
 
     def text(self):
         return self.read("text").decode()

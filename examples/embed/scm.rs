@@ -48,9 +48,11 @@ unsafe extern "C" {
     fn scm_type(session: *mut Handle, bytes: *const c_char, length: usize) -> u32;
     fn scm_idle(session: *mut Handle) -> u32;
     fn scm_press(session: *mut Handle, word: *const c_char, length: usize) -> u32;
+    fn scm_click(session: *mut Handle, row: u16, column: u16) -> u32;
     fn scm_answer(session: *mut Handle, text: *const c_char, length: usize) -> u32;
     fn scm_resize(session: *mut Handle, width: u16, height: u16) -> u32;
     fn scm_paint(session: *mut Handle, out: *mut c_char, length: usize, written: *mut usize) -> u32;
+    fn scm_repaint(session: *mut Handle) -> u32;
     fn scm_text(session: *mut Handle, out: *mut c_char, length: usize, written: *mut usize) -> u32;
     fn scm_files(session: *mut Handle, count: *mut usize) -> u32;
     fn scm_side(session: *mut Handle, file: usize, selected: bool, out: *mut c_char, length: usize, side: *mut SideInfo) -> u32;
@@ -125,10 +127,13 @@ fn text_of(bytes: Vec<u8>) -> String {
     String::from_utf8(bytes).expect("the library writes UTF-8")
 }
 
-/// A session. It is not `Send`, though a program may move one to another thread.
+/// A session.
 pub struct Session {
     handle: Handle,
 }
+
+// The library has no state of its own, and a session none of its thread's.
+unsafe impl Send for Session {}
 
 impl Drop for Session {
     fn drop(&mut self) {
@@ -199,6 +204,10 @@ impl Session {
         done(unsafe { scm_idle(&mut self.handle) })
     }
 
+    pub fn click(&mut self, row: u16, column: u16) -> Result<(), Error> {
+        done(unsafe { scm_click(&mut self.handle, row, column) })
+    }
+
     pub fn answer(&mut self, message: &str) -> Result<(), Error> {
         done(unsafe { scm_answer(&mut self.handle, start(message), message.len()) })
     }
@@ -210,6 +219,11 @@ impl Session {
     /// Returns the bytes that make a terminal of the session's size show it.
     pub fn paint(&mut self) -> Result<Vec<u8>, Error> {
         bytes_of(|out, room, length| unsafe { scm_paint(&mut self.handle, out, room, length) })
+    }
+
+    /// Makes the next `paint` return every row.
+    pub fn repaint(&mut self) -> Result<(), Error> {
+        done(unsafe { scm_repaint(&mut self.handle) })
     }
 
     pub fn stage(&mut self) -> Stage {
@@ -310,6 +324,8 @@ mod tests {
         session.type_bytes(b"a").unwrap();
         session.idle().unwrap();
         session.resize(60, 20).unwrap();
+        session.click(19, 59).unwrap();
+        session.repaint().unwrap();
         session.press("e").unwrap();
         assert_eq!(session.stage(), Stage::Editing);
         assert_eq!(session.text().unwrap(), "before");

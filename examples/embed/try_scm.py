@@ -84,14 +84,21 @@ def main():
         read_answers(session)
         session.begin(80, 24)
         assert refused(session.add_context, "a") == refused(session.begin, 1, 1) == "not_now"
-        assert session.stage == scm.WAITING and session.text().count("\n") == 24 and session.paint()
+        assert session.stage == scm.WAITING and session.text().count("\n") == 24
+        every_row = session.paint()
+        session.click(23, 79)
+        assert len(session.paint()) < len(every_row)
+        session.repaint()
+        assert session.paint() == every_row
         read_answers(session)
         session.press("c")
         assert session.stage == scm.ACCEPTED and refused(session.paint) == "not_now"
         read_answers(session)
         assert json.loads(session.text().split("\n")[1]) == WANTED
-    with scm.Session.of_json(json.dumps(WANTED), 80, 24) as session:
-        read_answers(session)
+    session = scm.Session.of_json(json.dumps(WANTED), 80, 24)
+    read_answers(session)
+    session.close()
+    assert session.stage == scm.NONE and refused(session.paint) == "closed"
 
 
 main()

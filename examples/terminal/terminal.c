@@ -21,7 +21,7 @@ static const char HELP[] =
     "`?` shows the keys. The status is 0 for accepted changes, 1 if you gave up, and 2 for an error.\n";
 
 /* Takes the second screen, a title, the mouse, and marks around what is pasted; and gives the terminal back. */
-static const char TAKE[] = "\x1b[22;2t\x1b]2;Select changes (? for help)\x1b\\\x1b[?1049h\x1b[?25l\x1b[?1000;1006h\x1b[?2004h";
+static const char TAKE[] = "\x1b[22;2t\x1b]2;%s (? for help)\x1b\\\x1b[?1049h\x1b[?25l\x1b[?1000;1006h\x1b[?2004h";
 static const char GIVE_BACK[] = "\x1b[0m\x1b[?2004l\x1b[?1000;1006l\x1b[?25h\x1b[?1049l\x1b[23;2t";
 
 enum { GIVEN_UP = 1, FAILED = 2, TAB = 9, CONTROL_Z = 26, ESC = 27, SILENCE = 50 /* milliseconds */ };
@@ -38,12 +38,24 @@ static void on_signal(int number) {
     *(number == SIGTSTP ? &is_stopped : number == SIGCONT ? &is_continued : &ended_by) = number;
 }
 
+/* Returns the window's title: SELECT_TITLE, or another if the terminal could take a byte of it for a command. */
+static const char *title(void) {
+    const char *asked = getenv("SELECT_TITLE");
+    for (const char *byte = asked; byte && *byte; byte++) {
+        if (*byte < ' ' || *byte > '~') {
+            asked = NULL;
+            break;
+        }
+    }
+    return asked ? asked : "Select changes";
+}
+
 /* Takes the terminal: each key and click comes as it is typed, and the next frame has every row. */
 static void take(void) {
     struct termios settings = settings_before;
     cfmakeraw(&settings);
     tcsetattr(terminal, TCSAFLUSH, &settings);
-    fputs(TAKE, screen);
+    fprintf(screen, TAKE, title());
     is_taken = true;
     scm_repaint(&session);
 }

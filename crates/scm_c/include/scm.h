@@ -4,15 +4,18 @@
  * SYNOPSIS
  *     #include "scm.h"
  *
- *     cc -I include tool.c libscm_c.a liblibc_c.a          the static library
- *     cc tool.c $(pkg-config --cflags --libs scm)          the shared one, libscm.so, where scm.pc is installed
+ *     cc tool.c $(pkg-config --cflags --libs scm)                                 the shared library, libscm.so
+ *     cc tool.c -I PREFIX/include PREFIX/lib/libscm_c.a PREFIX/lib/liblibc_c.a    the static one
+ *
+ *     `tools/install PREFIX` of the repository installs these files, and PREFIX/lib/pkgconfig/scm.pc.
  *
  * DESCRIPTION
  *     A program makes a state by calls (scm_state_new, scm_state_file, scm_state_context, scm_state_changes), and begins a
  *     session with it (scm_begin). Or it opens a session over a state in its JSON form (scm_new). Then it passes the bytes that
  *     a terminal sent to scm_type, and writes the bytes of scm_paint to that terminal. It can also pass words of scripts to
  *     scm_press ("j", "space", "ctrl-d", "click:3:7") and draw the screen itself. Once scm_stage returns SCM_ACCEPTED, scm_side
- *     writes the two sides of each file.
+ *     writes the two sides of each file. While it returns SCM_EDITING, the user edits the message of a commit: scm_text writes
+ *     the message, and scm_answer hands in the new one.
  *
  *         scm_session session = {0};
  *         scm_side_info side;
@@ -36,6 +39,9 @@
  *     that is shown, from the first file on. "space" checks or unchecks the selected item, "a" inverts every mark, "c"
  *     accepts, and "q" cancels. docs/RULES.md of the repository lists all words, under "Words", and all keys.
  *
+ *     The library neither reads nor writes a terminal. The caller sets it to raw mode, and turns on its reports of clicks and
+ *     its marks around pasted text (ESC [ ? 1000 ; 1006 h and ESC [ ? 2004 h), as examples/terminal/terminal.c does.
+ *
  *     Rows and columns are places on the screen, counted from 0. A wide symbol has two columns. Texts are UTF-8 with a length,
  *     without a terminating zero. They are copied: the caller may free them after the call.
  *
@@ -46,7 +52,8 @@
  *     - It is not copied: a call on a copy of an open session may use freed memory.
  *     - A pointer with a length points to `length` bytes, and to at least one byte. No pointer is null: no text is "" with the
  *       length 0, and to ask for a length alone is to pass a byte and the length 0.
- *     - A buffer that a call writes to overlaps neither the session nor the call's input.
+ *     - What a call writes to (`out`, `written`, `side`, `key` and so on) overlaps neither the session, nor what the call reads,
+ *       nor each other.
  *     - A bool is 0 or 1.
  *     - Each open session is closed in the end (scm_free), or its memory leaks. To close a closed session is a no-op.
  *
@@ -168,7 +175,11 @@ typedef struct scm_side_info {
 /* ---- A state by calls ----
  *
  * After `scm_state_new` the stage is SCM_BUILDING. Each of the calls below adds at the end of the state: commits, files, and
- * the sections of the last file. They return SCM_DONE, or the first of these that applies, and then the state is as it was:
+ * the sections of the last file. Give all lines of a file, also those far from its changes: the sides are made of these lines.
+ * If its contents are not UTF-8, add them as binary (`scm_state_binary`). A file that is created or deleted also needs a
+ * change of its mode (`scm_state_mode`).
+ *
+ * The calls return SCM_DONE, or the first of these that applies, and then the state is as it was:
  *
  *   SCM_NOT_TEXT      a text is not UTF-8
  *   SCM_CLOSED        the session is closed
@@ -210,7 +221,9 @@ uint32_t scm_state_changes(scm_session *session, bool is_added, bool is_checked,
  * only between lines of one kind that are to be in two sections. */
 uint32_t scm_state_section(scm_session *session, bool is_changed);
 
-/* Adds a section that changes the mode of the last file to `mode`, or SCM_ABSENT. */
+/* Adds a section that changes the mode of the last file to `mode`, or to SCM_ABSENT if it is deleted. Only the first such
+ * section of a file counts: if it is checked, the selected side has `mode` and the other side the mode of the file, and else
+ * the reverse. */
 uint32_t scm_state_mode(scm_session *session, bool is_checked, size_t mode);
 
 /* Adds a section that changes the binary contents of the last file. The texts describe the old and the new contents to the

@@ -1,12 +1,11 @@
 -- What `scm_paint` writes.
-use Rattle.std.proofs.Common.{◌≡◌, ℕ, ◌≤◌, ◌<◌, List, [], length, Bool, false, Option, Some, None, Result, Ok, Err, ok_or, IfSome, IfNone, OnSome, sym, subst}
+use Rattle.std.proofs.Common.{◌≡◌, ℕ, ◌≤◌, ◌<◌, List, [], length, Option, Some, None, Result, Ok, Err, ok_or, IfSome, IfNone, OnSome, sym, subst}
 use Rattle.std.specs.Result.{result_map_both}
 use Rattle.scm_terminal.specs.StyledCell.{StyledCell}
 use Rattle.scm_record.specs.Live.{Live}
 use Rattle.scm_record.specs.Painted.{picture_of}
 use Rattle.scm_c.specs.declared.open_session.OpenSession.{OpenSession}
 use Rattle.scm_c.specs.declared.open_session.Stage.TheVariants.{Waiting}
-use Rattle.scm_c.specs.Stages.{is_waiting}
 use Rattle.scm_c.specs.Results.{over}
 use Rattle.scm_c.specs.Paint.{Fills, PaintsOpenSession, PaintsSession, Shows, Updates, with_painter}
 

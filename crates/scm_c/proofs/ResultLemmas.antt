@@ -1,5 +1,5 @@
 -- Return codes, and the texts that calls write.
-use Rattle.std.proofs.Common.{◌≡◌, ℕ, min, List, [], ◌++◌, ◌<◌, ◌≤◌, length, take, drop, Bool, true, false, ◌&&◌, IsTrue, if◌then◌else◌, Option, Some, None, option_and_then, is_some, IsUtf8, refl, sym, ap, ◌∙◌, subst, arith}
+use Rattle.std.proofs.Common.{◌≡◌, ℕ, List, ◌<◌, ◌≤◌, length, Bool, true, false, ◌&&◌, IsTrue, if◌then◌else◌, Option, Some, None, option_and_then, is_some, IsUtf8, refl, sym, ap, ◌∙◌, subst}
 use Rattle.std.specs.Str.{is_utf8}
 use Rattle.std.proofs.lemmas.Str.{IsUtf8-from_is_utf8, is_utf8-from_IsUtf8}
 use Rattle.std.proofs.lemmas.Bool.{false≢true, lt-leb, le-leb}

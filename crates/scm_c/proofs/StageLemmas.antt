@@ -1,7 +1,6 @@
 -- How calls change a session.
 use Rattle.std.proofs.Common.{◌≡◌, ℕ, List, Option, Some, Result, Ok, Err, IfOk, IfErr, sym, ap, ◌∙◌, subst}
 use Rattle.scm_errors.specs.declared.error.RecordError.{RecordError}
-use Rattle.scm_errors.specs.declared.error.RecordError.TheVariants.{OutOfMemory}
 use Rattle.scm_input.specs.declared.events.Event.{Event}
 use Rattle.scm_input.specs.declared.inputs.TerminalKind.{TerminalKind}
 use Rattle.scm_record.specs.Live.{Live, LiveEdit, on_screen}
@@ -11,7 +10,7 @@ use Rattle.scm_record.specs.Typed.{BytesLead, BytesFail, SilenceLeads, SilenceFa
 use Rattle.scm_record.specs.declared.live.Turn.{Turn}
 use Rattle.scm_c.specs.declared.open_session.OpenSession.{OpenSession}
 use Rattle.scm_c.specs.declared.open_session.Stage.{Stage}
-use Rattle.scm_c.specs.declared.open_session.Stage.TheVariants.{Waiting, Editing, Ended}
+use Rattle.scm_c.specs.declared.open_session.Stage.TheVariants.{Waiting, Editing}
 use Rattle.scm_c.specs.Stages.{Presses, Says, Resizes, Types, Idles, ChangesStage, HandsIn, IsOpenAt, ChangesDecoder, changes_stage, changes_decoder, open_at, stage_after}
 
 presses-by : (event : Event) (l : Live) (r : Result Turn RecordError) → IfOk r (λ turn. EventLeads l event turn) → IfErr r (λ e. EventFails l event e) → Presses event (Waiting l) (stage_after r)

@@ -13,7 +13,6 @@ use Rattle.scm_terminal.specs.Decoders.{HasHeard}
 use Rattle.scm_record.specs.Session.{start}
 use Rattle.scm_embed.specs.declared.addition.Addition.{Addition}
 use Rattle.scm_embed.specs.declared.addition.Addition.TheVariants as additions
-use Rattle.scm_embed.specs.declared.addition.Part.{Part}
 use Rattle.scm_embed.specs.declared.addition.Part.TheVariants as parts
 use Rattle.scm_embed.specs.declared.addition.BuildError.{BuildError}
 use Rattle.scm_embed.specs.declared.addition.BuildError.TheVariants as errors
