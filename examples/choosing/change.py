@@ -24,6 +24,12 @@ class Change:
         self.marker = marker_for(*texts) if is_text else None
         self.lines = [lines_of(text, self.marker) for text in texts] if is_text else ([], [])
 
+    def texts(self):
+        """Returns the lines of each side, with the name of git's object that has just these, or None if `marker` is one."""
+        return [
+            (lines, None if lines[-1:] == [self.marker] else side.name) for lines, side in zip(self.lines, (self.old, self.new))
+        ]
+
     def has_changed_lines(self):
         return self.lines[0] != self.lines[1]
 
@@ -67,8 +73,13 @@ class Change:
         return mode, b"" if self.has_changed_lines() else self.old_data
 
 
-# What is to be of a change: a mode, and the bytes of the file.
-Choice = collections.namedtuple("Choice", "change mode data")
+class Choice(collections.namedtuple("Choice", "change mode data")):
+    """What is to be of a change: a mode, and the bytes of the file."""
+
+    def name(self):
+        """Returns the name of git's object that has these bytes, if a side of the change has them, or else None."""
+        sides = (self.change.old, self.change.old_data), (self.change.new, self.change.new_data)
+        return next((side.name for side, data in sides if data == self.data and side.name), None)
 
 
 def described(side, data):
@@ -79,9 +90,9 @@ def mode_of(mode):
     return "Absent" if mode == ABSENT else {"Unix": int(mode, 8)}
 
 
-def files_of(git, changes, folder):
+def files_of(git, changes):
     """Returns the files of a state."""
-    hunks = hunks_of(git, [change.lines for change in changes], folder)
+    hunks = hunks_of(git, [change.texts() for change in changes])
     return [change.file(found) for change, found in zip(changes, hunks)]
 
 

@@ -1,19 +1,22 @@
 """Files below a folder, read and put in place. Nothing outside the folder is read or written, whatever links lie in it."""
+import concurrent.futures
 import contextlib
 import errno
 import functools
 import os
 import signal
 import stat
+import sys
 
 from .change import ABSENT, LINK
-from .words import Stop, shown
+from .words import HalfDone, Stop, shown, words_of
 
 IS_FOLDER = os.O_RDONLY | os.O_DIRECTORY | os.O_NOFOLLOW | os.O_CLOEXEC
 # what is said of a path of which a part is not there, or is no folder
 NO_FOLDER = errno.ENOENT, errno.ENOTDIR, errno.ELOOP
 ABSENT_SIDE = ABSENT, b""
 SPARE = ".choosing-%d"
+THREADS = 16
 
 
 @contextlib.contextmanager
@@ -46,6 +49,17 @@ def named(path, done):
 def read_all(folder, name, flags):
     with open(os.open(name, os.O_RDONLY | os.O_CLOEXEC | flags, dir_fd=folder), "rb") as file:
         return file.read()
+
+
+def flush(folder, names):
+    """Waits until files are on the disk, many at once, since each of them may have to wait for the next turn of the disk."""
+    def flush_one(name):
+        with closing(os.open(name, os.O_RDONLY | os.O_CLOEXEC, dir_fd=folder)) as file:
+            os.fsync(file)
+
+    with concurrent.futures.ThreadPoolExecutor(THREADS) as pool:
+        for _ in pool.map(flush_one, names):
+            pass
 
 
 def permissions_for(mode, before):
@@ -151,32 +165,41 @@ class Files:
             try:
                 yield spare
             finally:
-                for left in os.listdir(spare):
-                    if left.startswith("new-"):
-                        os.unlink(left, dir_fd=spare)
-                if os.listdir(spare):
-                    raise Stop("what could not be put back is in " + name)
-                os.rmdir(name, dir_fd=self.at)
+                self.remove_spare(spare, name)
+
+    def remove_spare(self, spare, name):
+        """Removes the folder `spare` with the new files in it. If old ones are in it, it stays, and that is said."""
+        for left in os.listdir(spare):
+            if left.startswith("new-"):
+                os.unlink(left, dir_fd=spare)
+        if os.listdir(spare):
+            reason = sys.exc_info()[1]
+            why = words_of(reason) + ", and " if reason else ""
+            raise HalfDone("%swhat could not be put back is in %s" % (why, shown(os.path.join(self.top, name))))
+        os.rmdir(name, dir_fd=self.at)
 
     def make_all(self, spare, entries):
+        """Makes in `spare` what is to come. Stops if something else than `entries` say is there."""
+        permissions = {}
         for number, (path, old, (mode, data)) in enumerate(entries):
-            now, permissions = self.read(path)
+            name, (now, before) = "new-%d" % number, self.read(path)
             self.check_same(path, old, now)
             with named(path, "written"):
-                if mode != ABSENT:
-                    self.make(spare, "new-%d" % number, mode, data, permissions_for(mode, permissions))
+                if mode == LINK:
+                    os.symlink(os.fsdecode(data), name, dir_fd=spare)
+                elif mode != ABSENT:
+                    self.make(spare, name, mode, data)
+                    permissions[name] = permissions_for(mode, before)
+        with named(self.top, "written"):
+            flush(spare, permissions)
+            for name, bits in permissions.items():
+                if bits is not None:
+                    os.chmod(name, bits, dir_fd=spare)
 
-    def make(self, spare, name, mode, data, permissions):
-        if mode == LINK:
-            os.symlink(os.fsdecode(data), name, dir_fd=spare)
-            return
+    def make(self, spare, name, mode, data):
         flags = os.O_WRONLY | os.O_CREAT | os.O_EXCL | os.O_CLOEXEC
         with open(os.open(name, flags, 0o777 if mode == "100755" else 0o666, dir_fd=spare), "wb") as file:
             file.write(data)
-            file.flush()
-            if permissions is not None:
-                os.fchmod(file.fileno(), permissions)
-            os.fsync(file.fileno())
 
     def check_same(self, path, old, now):
         if old != now:

@@ -9,14 +9,16 @@ import tempfile
 
 from .accepted import sides_in
 from .change import ABSENT, Choice
-from .git import run_to_end
+from .git import run_in_terminal
+from .waiting import erase
 from .words import Stop, shown, words_of
 
 HERE = os.path.dirname(os.path.realpath(__file__))
 # where it lies beside an installed program, and else what builds it
 INSTALLED, BUILDS = os.path.join(HERE, "../../../bin/scm-select"), os.path.join(HERE, "../../tools/select")
-ENVIRONMENT = """SELECT names another front end: a command that takes the file of a state, and a file to write to what was
-accepted."""
+KEYS = """Keys: l moves in, j and k down and up, space marks, c accepts, q gives up, and ? shows the others.
+
+SELECT names another front end: a command that takes the file of a state, and a file to write to what was accepted."""
 SIGNALS = signal.SIGHUP, signal.SIGINT, signal.SIGTERM
 
 
@@ -25,6 +27,7 @@ class Stopped(BaseException):
 
 
 def say(text):
+    erase()
     print("%s: %s" % (os.path.basename(sys.argv[0]), text), file=sys.stderr)
 
 
@@ -35,20 +38,19 @@ def front_end():
         raise Stop("SELECT has no such form: %s" % error) from None
 
 
-def choose(files, folder, given_up, commits=(), environment=None):
-    """Has the user choose in the front end. Returns the path of what the front end wrote. Stops with the words `given_up`
-    if the user gives up."""
+def choose(files, folder, given_up, task, commits=(), environment=None):
+    """Has the user choose in the front end, whose title says the `task`. Returns the path of what the front end wrote. Stops
+    with the words `given_up` if the user gives up."""
     state, accepted = os.path.join(folder, "state.json"), os.path.join(folder, "accepted")
     with open(state, "w", encoding="utf-8") as file:
-        json.dump({"is_read_only": False, "commits": list(commits), "files": files}, file)
+        # json.dump would go through the state in Python, and takes ten times as long
+        file.write(json.dumps({"is_read_only": False, "commits": list(commits), "files": files}))
     open(accepted, "w").close()
-    # what Ctrl-C does now is the front end's matter
-    before = signal.signal(signal.SIGINT, lambda *_: None)
     try:
-        status, *_ = run_to_end([*front_end(), state, accepted], env={**os.environ, **(environment or {})})
+        more = {"SELECT_TITLE": "%s: %s" % (os.path.basename(sys.argv[0]), task), **(environment or {})}
+        status = run_in_terminal([*front_end(), state, accepted], {**os.environ, **more})
     except OSError as error:
         raise Stop("the front end cannot be run: " + words_of(error)) from None
-    signal.signal(signal.SIGINT, before)
     if status:
         raise Stop(given_up)
     return accepted
@@ -76,6 +78,7 @@ def keep(accepted, words):
 
 def tell(lines, done):
     """Prints `lines`. Stops with the words `done` if they cannot be written."""
+    erase()
     try:
         print("".join(line + "\n" for line in lines), end="", flush=True)
     except OSError as error:
@@ -84,12 +87,12 @@ def tell(lines, done):
         raise Stop("%s: %s" % (done, error.strerror)) from None
 
 
-def keep_lost(git, entries, folder, nothing):
-    """Stores in git what files lose by `entries` (see Files.change), by way of files in `folder`, and prints the names of it.
-    Returns these names. Stops with the words `nothing` if they cannot be printed."""
+def keep_lost(git, entries):
+    """Stores in git what files lose by `entries` (see Files.change), and prints the names of it. Returns these names. Stops if
+    they cannot be printed."""
     lost = [(path, old[1]) for path, old, new in entries if old[0] != ABSENT and old[1] != new[1]]
-    names = git.store([data for _, data in lost], folder) if lost else []
-    tell(["kept: %s %s" % (name, shown(path)) for name, (path, _) in zip(names, lost)], nothing)
+    names = git.store([data for _, data in lost])
+    tell(["kept: %s %s" % (name, shown(path)) for name, (path, _) in zip(names, lost)], "what git kept cannot be named")
     return names
 
 

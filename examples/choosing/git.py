@@ -1,9 +1,12 @@
 """Git, as the programs call it."""
+import functools
 import os
 import re
+import signal
 import subprocess
 
-from .words import Stop, shown
+from .packs import name_of, pack_of
+from .words import Stop, printable
 
 
 def run_to_end(command, given=None, **settings):
@@ -20,17 +23,32 @@ def run_to_end(command, given=None, **settings):
 def reason_in(said):
     """Returns why git failed: the first line of what it said that is no warning, without the word before it."""
     lines = [line for line in os.fsdecode(said).splitlines() if not line.startswith(("warning: ", "hint: "))]
-    return shown(re.sub("^(error|fatal): ", "", lines[0])) if lines else "git failed"
+    return printable(re.sub("^(error|fatal): ", "", lines[0])) if lines else "git failed"
 
 
 def split_by_zeros(output):
     return os.fsdecode(output).split("\0")[:-1]
 
 
+# the words by which git stores quickly what need not last, and takes many objects as one file
+FOR_NOW = "-c", "core.fsync=none", "-c", "core.compression=0"
+AS_ONE_FILE = "index-pack", "--stdin"
+
+
+def run_in_terminal(command, environment, **settings):
+    """Runs a command that has the terminal meanwhile, so what Ctrl-C does then is its matter. Returns its status."""
+    before = signal.signal(signal.SIGINT, lambda *_: None)
+    try:
+        return run_to_end(command, env=environment, **settings)[0]
+    finally:
+        signal.signal(signal.SIGINT, before)
+
+
 class Git:
     """Runs git in the folder `top`, with an environment of its own."""
 
     options = ()
+    taking = "unpack-objects", "-q"
 
     def __init__(self, top, environment):
         self.top, self.environment = top, environment
@@ -44,6 +62,10 @@ class Git:
         except FileNotFoundError:
             raise Stop("it needs git, and there is no such program") from None
 
+    def in_terminal(self, *words, **more):
+        """Runs git where the user sees it, and may answer. Returns its status."""
+        return run_in_terminal(["git", *self.options, *words], {**self.environment, **more}, cwd=self.top)
+
     def git(self, *words, **settings):
         """Returns git's output. Stops with git's reason if it fails."""
         status, output, said = self.run(*words, **settings)
@@ -51,24 +73,36 @@ class Git:
             raise Stop(reason_in(said))
         return output
 
-    def store(self, contents, folder):
-        """Stores each of `contents` as an object, by way of files in `folder`. Returns the names of the objects."""
-        paths = [os.path.join(folder, "content-%d" % number) for number in range(len(contents))]
-        for path, data in zip(paths, contents):
-            with open(path, "wb") as file:
-                file.write(data)
-        given = b"".join(os.fsencode(path) + b"\n" for path in paths)
-        return self.git("hash-object", "-w", "--no-filters", "--stdin-paths", given=given).decode().split()
+    @functools.cached_property
+    def algorithm(self):
+        """The name of the algorithm that names objects."""
+        return self.git("rev-parse", "--show-object-format").decode().strip()
 
-    def tree(self, names):
-        """Stores a folder whose files are these objects, called 0, 1 and so on. Returns its name."""
-        lines = ["100644 blob %s\t%d\n" % (name, number) for number, name in enumerate(names)]
-        return self.git("mktree", given="".join(lines).encode()).decode().strip()
+    def store(self, contents):
+        """Stores each of `contents` as an object. Returns the names of the objects."""
+        if not contents:
+            return []
+        names = [name_of(data, self.algorithm) for data in contents]
+        different = dict(zip(names, contents))
+        self.git(*self.taking, given=pack_of(different.values(), self.algorithm))
+        return names
+
+    def named(self, contents):
+        """Returns the name of an object for each of `contents`: bytes, with the name of an object that has them, or None."""
+        stored = iter(self.store([data for data, name in contents if not name]))
+        return [name or next(stored) for _, name in contents]
+
+    def trees(self, lists):
+        """Stores for each list of names a folder whose files are these objects, called 0, 1 and so on. Returns their names."""
+        lines = [["100644 blob %s\t%d\n" % (name, number) for number, name in enumerate(names)] for names in lists]
+        given = "\n".join("".join(each) for each in lines)
+        return self.git("mktree", "--batch", given=given.encode()).decode().split()
 
 
 def temporary_store(folder):
     """Returns git on a store of objects of its own, in `folder`, for what lies in no repository."""
     environment = {name: value for name, value in os.environ.items() if not name.startswith("GIT_")}
     git = Git(folder, {**environment, "GIT_DIR": os.path.join(folder, "git")})
+    git.options, git.taking = FOR_NOW, AS_ONE_FILE
     git.git("init", "--quiet", "--bare", "--template=", git.environment["GIT_DIR"])
     return git

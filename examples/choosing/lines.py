@@ -1,4 +1,5 @@
 """The text of a file as the lines of a state, and back."""
+import os
 import re
 
 NO_LINE_END = "\\ No newline at end of file\n"
@@ -7,13 +8,13 @@ PLACE = re.compile(rb"^(?:diff --git a/(\d+) |@@ -(\d+)(?:,(\d+))? \+(\d+)(?:,(\
 # what the user has set may change how lines are compared, but not how the differences are written
 PLAIN = (
     "--unified=0", "--inter-hunk-context=0", "--text", "--no-ext-diff", "--no-textconv", "--no-renames", "--no-color",
-    "--src-prefix=a/", "--dst-prefix=b/",
+    "--src-prefix=a/", "--dst-prefix=b/", "-O" + os.devnull,
 )
 
 
 def text_of(data):
     """Returns the text of a file, or None if it is no text or has a line that is too long to be shown."""
-    if b"\0" in data or any(len(line) >= LONGEST_LINE for line in data.split(b"\n")):
+    if b"\0" in data or len(data) >= LONGEST_LINE and any(len(line) >= LONGEST_LINE for line in data.split(b"\n")):
         return None
     try:
         return data.decode()
@@ -28,9 +29,10 @@ def lines_in(text):
 
 def marker_for(old, new):
     """Returns the line that says that a text has no last line end: as git writes it, but no line of `old` or `new`."""
-    # the last line counts as if it had a line end, since it is shown with one
-    taken = {*lines_in(old + "\n"), *lines_in(new + "\n")}
     marker = NO_LINE_END
+    # the last line counts as if it had a line end, since it is shown with one
+    texts = [text + "\n" for text in (old, new) if marker in text + "\n"]
+    taken = {line for text in texts for line in lines_in(text)}
     while marker in taken:
         marker = "\\" + marker
     return marker
@@ -54,15 +56,17 @@ def changed(old, new):
     return {"Changed": {"lines": removed + added}}
 
 
-def hunks_of(git, pairs, folder):
-    """For each pair of old and new lines, returns where they differ, as git finds it: the first line and the one past the
-    last, of both sides, counted from 0."""
-    hunks = [[] if old and new else [(0, len(old), 0, len(new))] for old, new in pairs]
-    compared = [number for number, (old, new) in enumerate(pairs) if old and new]
+def hunks_of(git, pairs):
+    """For each pair of an old and a new text, returns where their lines differ, as git finds it: the first line and the one
+    past the last, of both sides, counted from 0. A text is its lines, with the name of git's object that has them, or None."""
+    counts = [(len(old), len(new)) for (old, _), (new, _) in pairs]
+    hunks = [[] if old and new else [(0, old, 0, new)] for old, new in counts]
+    compared = [number for number, (old, new) in enumerate(counts) if old and new]
     if not compared:
         return hunks
-    names = git.store(["".join(side).encode() for number in compared for side in pairs[number]], folder)
-    trees = git.tree(names[0::2]), git.tree(names[1::2])
+    texts = [("".join(lines).encode(), name) for number in compared for lines, name in pairs[number]]
+    names = git.named(texts)
+    trees = git.trees([names[0::2], names[1::2]])
     for place in PLACE.finditer(git.git("diff", *PLAIN, *trees, "--")):
         if place[1]:
             current = hunks[compared[int(place[1])]]

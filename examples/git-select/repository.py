@@ -4,7 +4,7 @@ import stat
 
 from choosing.change import ABSENT, Side
 from choosing.git import Git, reason_in, split_by_zeros
-from choosing.words import Stop, shown
+from choosing.words import Stop, printable, shown
 
 
 def index_lines(entries):
@@ -19,16 +19,30 @@ class Repository(Git):
     def __init__(self, start):
         # this variable would change how many lines of context git writes around a difference
         environment = {name: value for name, value in os.environ.items() if name != "GIT_DIFF_OPTS"}
+        self.is_named = not {"GIT_DIR", "GIT_WORK_TREE"}.isdisjoint(environment)
         super().__init__(start, environment)
-        top = self.place("--show-toplevel")
-        folder, self.index, self.objects = (
-            self.place(*words) for words in (["--absolute-git-dir"], ["--git-path", "index"], ["--git-path", "objects"])
+        top, folder, self.index, self.objects = self.places(
+            ["--show-toplevel"], ["--absolute-git-dir"], ["--git-path", "index"], ["--git-path", "objects"]
         )
         environment.update(GIT_DIR=folder, GIT_WORK_TREE=top)
         self.top = top
 
-    def place(self, *words):
-        return os.path.join(self.top, os.fsdecode(self.git("rev-parse", *words)).removesuffix("\n"))
+    def places(self, *questions):
+        """Returns the path that `git rev-parse` answers to each question."""
+        lines = os.fsdecode(self.git("rev-parse", *(word for words in questions for word in words))).split("\n")[:-1]
+        if len(lines) != len(questions):
+            # a path has a line end, so each is asked for alone
+            lines = [os.fsdecode(self.git("rev-parse", *words)).removesuffix("\n") for words in questions]
+        return [os.path.join(self.top, line) for line in lines]
+
+    def for_hooks(self):
+        """Returns git as the user would call it in the top folder, if it finds the repository there. What hooks call does not
+        keep to this repository then."""
+        names = "GIT_DIR", "GIT_WORK_TREE"
+        git = Git(self.top, {name: value for name, value in self.environment.items() if name not in names})
+        _, found, _ = git.run("rev-parse", "--absolute-git-dir")
+        is_found = os.fsdecode(found).removesuffix("\n") == self.environment["GIT_DIR"]
+        return git if is_found and not self.is_named else self
 
     def check_writable(self):
         """Stops if it can be seen already that nothing could be written."""
@@ -62,10 +76,13 @@ class Repository(Git):
             old, new = (Side(mode, None if mode == ABSENT else name) for mode, name in zip((old_mode, new_mode), names))
             yield path, old, new, letter
 
+    def last_commit(self):
+        """Returns the name of the last commit, or an empty text if there is none."""
+        return self.run("rev-parse", "--verify", "--quiet", "HEAD^{commit}")[1].decode().strip()
+
     def last_tree(self):
         """Returns the name of the last commit, or of an empty folder if there is none."""
-        status, name, _ = self.run("rev-parse", "--verify", "--quiet", "HEAD^{commit}")
-        return (self.git("hash-object", "-t", "tree", "--stdin", given=b"") if status else name).decode().strip()
+        return self.last_commit() or self.git("hash-object", "-t", "tree", "--stdin", given=b"").decode().strip()
 
     def untracked(self, paths, start):
         """Returns the paths that only the working tree has, and what git said of folders that it cannot read."""
@@ -73,7 +90,7 @@ class Repository(Git):
         status, output, said = self.run(*words, *paths, folder=start)
         if status:
             raise Stop(reason_in(said))
-        return split_by_zeros(output), [shown(line) for line in os.fsdecode(said).splitlines()]
+        return split_by_zeros(output), [printable(line) for line in os.fsdecode(said).splitlines()]
 
     def reason_against(self, path):
         """Returns why what is at `path` now cannot be staged, or None if it can."""

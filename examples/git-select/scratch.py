@@ -1,10 +1,12 @@
 """Where git finds out what it would store, before anything of the repository is written."""
+import functools
 import os
+import re
 import shutil
 import tempfile
 
 from choosing.change import Side
-from choosing.git import Git, reason_in, split_by_zeros
+from choosing.git import AS_ONE_FILE, FOR_NOW, Git, reason_in, split_by_zeros
 from choosing.words import Stop
 from repository import index_lines
 
@@ -14,7 +16,8 @@ class Scratch(Git):
     read, and the repository is not written to."""
 
     # an index in two parts would leave one of them beside the repository's index
-    options = "-c", "core.splitIndex=false"
+    options = "-c", "core.splitIndex=false", *FOR_NOW
+    taking = AS_ONE_FILE
 
     def __init__(self, repository, folder):
         index, objects = os.path.join(folder, "index"), os.path.join(folder, "objects")
@@ -29,12 +32,19 @@ class Scratch(Git):
             "GIT_ALTERNATE_OBJECT_DIRECTORIES": others + os.pathsep + more if more else others,
         })
 
+    @functools.cached_property
+    def one_file(self):
+        """The words by which git stores all that it adds in one file: quicker than in many. Before 2.38 there were none."""
+        version = [int(number) for number in re.findall(rb"\d+", self.git("version"))[:2]]
+        return ("-c", "core.bigFileThreshold=1") if version >= [2, 38] else ()
+
     def add(self, paths):
         """Adds files to the index as `git add` does. Returns, by path, what git said of those that it cannot add."""
         if not paths:
             return {}
         given = b"".join(os.fsencode(path) + b"\0" for path in paths)
-        status, _, said = self.run("update-index", "-z", "--add", "--replace", "--stdin", given=given)
+        words = *self.one_file, "update-index", "-z", "--add", "--replace", "--stdin"
+        status, _, said = self.run(*words, given=given)
         if status == 0:
             return {}
         if len(paths) == 1:
@@ -42,13 +52,11 @@ class Scratch(Git):
         half = len(paths) // 2
         return {**self.add(paths[:half]), **self.add(paths[half:])}
 
-    def sides(self):
-        """Returns the sides in this index, by path."""
-        found = {}
-        for line in split_by_zeros(self.git("ls-files", "-z", "--stage")):
-            head, path = line.split("\t", 1)
-            found[path] = Side(*head.split()[:2])
-        return found
+    def sides(self, paths):
+        """Returns the sides in this index of those of `paths` that it has, by path."""
+        wanted = set(paths)
+        lines = (line.partition("\t") for line in split_by_zeros(self.git("ls-files", "-z", "--stage")))
+        return {path: Side(*head.split()[:2]) for head, _, path in lines if path in wanted}
 
     def contents(self, names):
         """Returns the bytes of objects, by name."""

@@ -39,7 +39,7 @@ def changed_in_tree(repository, scratch, paths, start, has_untracked=True):
     reasons = {path: repository.reason_against(path) for path in there}
     left_out.update((path, reason) for path, reason in reasons.items() if reason)
     left_out.update(scratch.add([path for path in there if path not in left_out]))
-    now = scratch.sides()
+    now = scratch.sides(there)
     sides = {}
     for path in sorted(found.keys() - left_out.keys()):
         old, is_gone = found[path]

@@ -1,16 +1,13 @@
-"""What git-select does with a choice: stages it, takes it out of the index, takes it back, or commits it."""
-import contextlib
+"""What git-select does with a choice in the index: stages it, takes it out, or commits it."""
 import os
-import shutil
 
 from choosing.accepted import message_in, state_in
-from choosing.change import ABSENT, LINK, Side, in_the_way
-from choosing.files import Files
-from choosing.front_end import keep_lost, say
-from choosing.words import Stop, shown
+from choosing.change import ABSENT, Side, in_the_way
+from choosing.front_end import say
+from choosing.waiting import counted, waits
+from choosing.words import HalfDone, Stop, printable, shown, words_of
+from lock import Lock
 from sides import changed_in_index, changed_in_tree
-
-NOT_REGULAR = ABSENT, LINK
 
 
 def paths_in_the_way(repository, choices, now):
@@ -30,8 +27,13 @@ class Way:
     def __init__(self, repository, paths, start, folder):
         self.repository, self.paths, self.start, self.folder = repository, paths, start, folder
 
-    def commits(self, _):
-        """Returns the commits of the state that is shown. `_` is the message of kept marks."""
+    def empty(self):
+        """Returns what is said where nothing differs."""
+        return self.no_change
+
+    def commits(self, given, kept):
+        """Returns the commits of the state that is shown. `given` is the message that the user gave as an option, and `kept`
+        that of kept marks."""
         return []
 
     def environment(self):
@@ -41,19 +43,14 @@ class Way:
     def prepare(self, choices, accepted):
         """Reads what `write` needs as it was before all is looked at again. Stops if what was accepted cannot be used."""
 
-    @contextlib.contextmanager
     def locked_index(self):
         """Keeps others from the index, as git does, and gives a copy of it that can take its place."""
-        lock = Lock(self.repository.index, os.path.join(self.folder, "index"))
-        try:
-            yield lock
-        finally:
-            lock.release()
+        return Lock(self.repository.index, os.path.join(self.folder, "index"))
 
 
 class Stage(Way):
-    done, nothing, empty = "staged", "nothing is staged", "there is nothing to stage"
-    words = "git-select",
+    done, nothing, no_change = "staged", "nothing was staged", "there is nothing to stage"
+    words, task = ("git-select",), "mark what is to be staged"
 
     def read(self, scratch):
         return changed_in_tree(self.repository, scratch, self.paths, self.start)
@@ -67,7 +64,8 @@ class Stage(Way):
 
     def entries(self, choices):
         """Stores the contents of `choices`. Returns what the index is to have of them."""
-        names = iter(self.repository.store([choice.data for choice in choices if choice.mode != ABSENT], self.folder))
+        with waits("storing %s .." % counted(len(choices), "file")):
+            names = iter(self.repository.store([choice.data for choice in choices if choice.mode != ABSENT]))
         sides = [getattr(choice.change, self.now).name if choice.mode == ABSENT else next(names) for choice in choices]
         return [(choice.change.path, Side(choice.mode, name)) for choice, name in zip(choices, sides)]
 
@@ -88,8 +86,8 @@ class Stage(Way):
 
 
 class Unstage(Stage):
-    done, nothing, empty = "unstaged", "nothing is unstaged", "there is nothing to unstage"
-    words = "git-select", "--unstage"
+    done, nothing, no_change = "unstaged", "nothing was unstaged", "there is nothing to unstage"
+    words, task = ("git-select", "--unstage"), "mark what is to leave the index"
     side, now, goal = "unselected", "new", "old"
 
     def read(self, scratch):
@@ -97,13 +95,18 @@ class Unstage(Stage):
 
 
 class Commit(Stage):
-    done, nothing, empty = "committed", "nothing is committed", "there is nothing to commit beside what is staged"
-    words = "git-select", "--commit"
+    done, nothing, no_change = "committed", "nothing was committed", "there is nothing to commit"
+    words, task = ("git-select", "--commit"), "mark what is to be committed"
 
-    def commits(self, message):
-        return [{"message": message or self.template()}]
+    def empty(self):
+        is_staged = any(self.repository.staged([], self.repository.top))
+        return self.no_change + " beside what is staged: git commit commits that" if is_staged else self.no_change
 
-    def template(self):
+    def commits(self, given, kept):
+        self.template = "" if given else self.read_template()
+        return [{"message": given or kept or self.template}]
+
+    def read_template(self):
         status, path, _ = self.repository.run("config", "--type=path", "--get", "commit.template")
         if status:
             return ""
@@ -115,110 +118,38 @@ class Commit(Stage):
         status, editor, _ = self.repository.run("var", "GIT_EDITOR")
         return {} if status else {"VISUAL": os.fsdecode(editor).strip()}
 
-    def prepare(self, choices, accepted):
-        message = message_in(state_in(accepted))
-        if not message.strip():
-            raise Stop("the message is empty")
-        if message == self.template():
-            raise Stop("the message is the template, without an edit")
-
     def write(self, choices, scratch, accepted):
         """Commits the index with `choices`, which the index then has."""
         if len(self.without_blocked(choices)) < len(choices):
             raise Stop("what is left out is named above")
         with self.locked_index() as lock:
             self.repository.update(self.entries(choices), GIT_INDEX_FILE=lock.copy)
-            self.commit(message_in(state_in(accepted)), lock.copy)
-            lock.keep()
+            before = self.repository.last_commit()
+            try:
+                self.commit(message_in(state_in(accepted)), lock.copy)
+            finally:
+                # a hook that runs after the commit may have been cut off
+                if self.repository.last_commit() != before:
+                    self.keep(lock)
+        if not lock.is_kept:
+            raise Stop("git did not commit")
         return self.reports(choices), False
 
+    def keep(self, lock):
+        try:
+            lock.keep()
+        except OSError as error:
+            words = "it is committed, but the index stays as it was (git reset mends that): "
+            raise HalfDone(words + words_of(error)) from None
+
     def commit(self, message, index):
-        """Commits what `index` has. What git and the hooks say is shown."""
+        """Commits what `index` has. What git and the hooks say is shown. Without a message of the user git opens its editor."""
+        git = self.repository.for_hooks()
+        if not message.strip() or message == self.template:
+            git.in_terminal("commit", GIT_INDEX_FILE=index)
+            return
         # as in git's editor, the comments of a template are no part of the message
-        words = ["--cleanup=strip"] if self.template() else []
-        given = {"given": message.encode(), "GIT_INDEX_FILE": index}
-        status, output, said = self.repository.run("commit", "--file=-", *words, **given)
+        words = ["--cleanup=strip"] if self.template else []
+        _, output, said = git.run("commit", "--file=-", *words, given=message.encode(), GIT_INDEX_FILE=index)
         for line in os.fsdecode(output + said).splitlines():
-            say("git: " + shown(line))
-        if status:
-            raise Stop("git did not commit")
-
-
-class Lock:
-    """The lock of an index, by git's own file for it, and a copy of the index in the file `copy`."""
-
-    def __init__(self, index, copy):
-        self.index, self.copy, self.lock = index, copy, index + ".lock"
-        try:
-            self.file = open(self.lock, "xb")
-        except FileExistsError:
-            raise Stop("%s is there: another git command is at work, or one was cut off" % shown(self.lock)) from None
-        try:
-            if os.path.exists(index):
-                shutil.copyfile(index, copy)
-        except BaseException:
-            self.release()
-            raise
-
-    def keep(self):
-        """Has the copy take the place of the index."""
-        with open(self.copy, "rb") as new:
-            self.file.write(new.read())
-        self.file.close()
-        os.rename(self.lock, self.index)
-
-    def release(self):
-        if not self.file.closed:
-            self.file.close()
-            os.unlink(self.lock)
-
-
-class Restore(Way):
-    done, nothing, empty = "restored", "nothing is restored", "there is nothing to restore"
-    words = "git-select", "--restore"
-    side, now, goal = "unselected", "new", "old"
-
-    def read(self, scratch):
-        return changed_in_tree(self.repository, scratch, self.paths, self.start, has_untracked=False)
-
-    def prepare(self, choices, accepted):
-        self.files = Files(self.repository.top)
-        self.files_now = {choice.change.path: self.files.read(choice.change.path)[0] for choice in choices}
-
-    def write(self, choices, scratch, accepted):
-        """Writes files of the working tree. What they have now is stored in git first, and named."""
-        now = self.files_now
-        wanted = self.wanted(choices, now, scratch)
-        entries = [(path, now[path], wanted[path]) for path in now]
-        with self.locked_index():
-            names = keep_lost(self.repository, entries, self.folder, self.nothing)
-            self.files.change(entries)
-        reports = ["%s: %s" % (self.done, shown(path)) for path in now]
-        if names:
-            reports.append("to have back what was kept: git cat-file blob %s > FILE" % names[0])
-        return reports, False
-
-    def wanted(self, choices, now, scratch):
-        """Returns by path the mode and the bytes that the working tree is to have."""
-        self.check_written_alike(choices, now, scratch)
-        names = scratch.store([choice.data for choice in choices], self.folder)
-        entries = [(choice.change.path, Side(choice.mode, name)) for choice, name in zip(choices, names)]
-        made = Files(scratch.checked_out(entries, self.folder))
-        wanted = {}
-        for change, mode, data in choices:
-            is_only_mode = data == change.new_data and not {mode, change.new.mode} & {*NOT_REGULAR}
-            wanted[change.path] = mode, (now[change.path] if is_only_mode else made.read(change.path)[0])[1]
-        return wanted
-
-    def check_written_alike(self, choices, now, scratch):
-        """Stops if git would not write the lines that stay of a file as they are."""
-        parts = [it.change for it in choices if (it.mode, it.data) != (it.change.old.mode, it.change.old_data)]
-        parts = [change for change in parts if change.new.mode not in NOT_REGULAR]
-        made = Files(scratch.checked_out([(change.path, change.new) for change in parts], self.folder))
-        for path in (change.path for change in parts):
-            if made.read(path)[0][1] != now[path][1]:
-                reason = "a filter or line ends would change its other lines: take back all of it, or nothing"
-                raise Stop("%s is not restored: %s" % (shown(path), reason))
-
-
-WAYS = {"restore": Restore, "unstage": Unstage, "commit": Commit}
+            say("git: " + printable(line))

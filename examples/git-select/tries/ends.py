@@ -11,7 +11,7 @@ from made import (
     ENVIRONMENT, PROGRAM, Typed, called, commit, git, is_as_added, kept_marks, objects, staged, typed_into, write,
 )
 
-WITHOUT_RIGHTS = "setpriv", "--bounding-set", "-dac_override,-dac_read_search"
+from apart import without_rights
 
 
 def takes_up(marks, words):
@@ -29,7 +29,7 @@ def changed_meanwhile():
     for path in ("a.txt", "b.txt"):
         write(path, b"one\ntwo\n")
     status, said = typed_into(["a", "c"], (), lambda: write("b.txt", b"one\ntwo\nthree\n"))
-    is_refused = status == 1 and "git-select: b.txt changed meanwhile: nothing is staged\n" in said and not staged()
+    is_refused = status == 1 and "git-select: b.txt changed meanwhile: nothing was staged\n" in said and not staged()
     marks = kept_marks()
     is_told = len(marks) == 1 and "git-select --marks %s\n" % shlex.quote(marks[0]) in said
     is_taken_up = is_told and takes_up(marks[0], ["b.txt has changed: its marks are not taken up\n", "staged: a.txt\n"])
@@ -42,7 +42,7 @@ def an_index_that_changed():
     commit()
     write("a.txt", b"one\ntwo\n")
     status, said = typed_into(["a", "c"], (), lambda: git("add", "a.txt"))
-    return status == 1 and "git-select: a.txt changed meanwhile: nothing is staged\n" in said and len(kept_marks()) == 1
+    return status == 1 and "git-select: a.txt changed meanwhile: nothing was staged\n" in said and len(kept_marks()) == 1
 
 
 def an_index_that_is_locked():
@@ -106,14 +106,6 @@ def what_is_no_file():
     return status == 0 and is_left_out and git("show", ":a.txt") + git("show", ":b.txt") == "one\ntwo\n"
 
 
-def without_rights():
-    """Returns the words before a command that keep it from reading what it has no right to, or None if nothing does."""
-    if os.geteuid():
-        return []
-    is_there = shutil.which(WITHOUT_RIGHTS[0])
-    return WITHOUT_RIGHTS if is_there and subprocess.run([*WITHOUT_RIGHTS, "true"]).returncode == 0 else None
-
-
 def what_cannot_be_read():
     """A file and a folder that nobody may read are named, and others are staged. Skipped where all may be read."""
     for path in ("a", "b", "c/d", "e"):
@@ -146,14 +138,58 @@ def given_up():
     write("a.txt", b"one\n")
     before = objects()
     status, said = typed_into(["q"])
-    return status == 1 and "git-select: nothing is staged\n" in said and not git("ls-files") and objects() == before
+    return status == 1 and "git-select: nothing was staged\n" in said and not git("ls-files") and objects() == before
 
 
 def nothing_is_marked():
     write("a.txt", b"one\n")
     before = objects()
     status, said = typed_into(["c"])
-    return status == 0 and "nothing is marked: nothing is staged\n" in said and not git("ls-files") and objects() == before
+    return status == 0 and "nothing was marked, and nothing was staged\n" in said and not git("ls-files") and objects() == before
+
+
+def something_is_staged_already():
+    """The ending of each option says what this call did not do, and no more."""
+    write("a.txt", b"one\n")
+    commit()
+    write("a.txt", b"two\n")
+    git("add", "a.txt")
+    write("a.txt", b"three\n")
+    ends = []
+    for option, done in (None, "staged"), ("--unstage", "unstaged"), ("--restore", "restored"), ("--commit", "committed"):
+        given_up, unmarked = (typed_into([key], [option] if option else []) for key in ("q", "c"))
+        ends.append(given_up[0] == 1 and given_up[1].endswith("git-select: nothing was %s\n" % done))
+        ends.append(unmarked[0] == 0 and unmarked[1].endswith("nothing was marked, and nothing was %s\n" % done))
+    write("a.txt", b"two\n")
+    only_staged = called("--commit")
+    is_told = only_staged[0] == 0 and only_staged[1].endswith("beside what is staged: git commit commits that\n")
+    return all(ends) and is_told and git("show", ":a.txt") == "two\n"
+
+
+def a_title_that_says_what_is_done():
+    """The screen is the same for each option, so the window's title says what becomes of what is marked."""
+    write("a.txt", b"one\n")
+    commit()
+    write("a.txt", b"two\n")
+    ends = []
+    for option, words in ("--restore", b"taken back"), ("--commit", b"committed"):
+        typed = Typed([PROGRAM, option], 60, 24, ENVIRONMENT)
+        typed.press("q")
+        ends.append(b"\x1b]2;git-select: mark what is to be " + words + b" (? for help)\x1b\\" in typed.seen)
+        typed.end()
+    return all(ends)
+
+
+def a_line_while_it_reads():
+    """A filter is slow: a line says what the user waits for, and is gone when the screen comes."""
+    write(".gitattributes", b"* filter=slow\n")
+    git("config", "filter.slow.clean", "sleep 1; cat")
+    write("a.txt", b"one\n")
+    typed = Typed([PROGRAM], 60, 24, ENVIRONMENT)
+    before = typed.seen.split(b"\x1b[?1049h")[0]
+    typed.press("q")
+    is_ended = typed.end() == 1
+    return is_ended and b"looking for changes .." in before and b"reading 2 files ..\r\x1b[K" in before
 
 
 @contextlib.contextmanager
@@ -253,6 +289,7 @@ def as_few_calls_for_many_files():
 TRIES = (
     changed_meanwhile, an_index_that_changed, an_index_that_is_locked, an_output_that_is_full, an_output_in_ascii,
     in_conflict, what_is_no_file, what_cannot_be_read, what_git_cannot_convert, given_up, nothing_is_marked,
-    a_signal_to_end, a_terminal_that_is_gone, ctrl_c_while_it_reads, a_front_end_that_is_not_there, what_is_asked_for,
+    something_is_staged_already, a_title_that_says_what_is_done, a_line_while_it_reads, a_signal_to_end,
+    a_terminal_that_is_gone, ctrl_c_while_it_reads, a_front_end_that_is_not_there, what_is_asked_for,
     as_few_calls_for_many_files,
 )

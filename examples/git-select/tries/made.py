@@ -6,16 +6,14 @@ import sys
 
 HERE = os.path.dirname(os.path.abspath(__file__))
 sys.path.insert(0, os.path.join(HERE, "..", "..", "terminal"))
+from apart import SETTINGS  # noqa: E402
 from typed import Typed  # noqa: E402
 
 PROGRAM = os.path.join(HERE, "..", "git-select")
 for name in list(os.environ):
     if name.startswith("GIT_"):
         del os.environ[name]
-ENVIRONMENT = {
-    "GIT_CONFIG_NOSYSTEM": "1", "GIT_CONFIG_GLOBAL": "/dev/null", "GIT_AUTHOR_NAME": "n", "GIT_AUTHOR_EMAIL": "e",
-    "GIT_COMMITTER_NAME": "n", "GIT_COMMITTER_EMAIL": "e", "LC_ALL": "C.UTF-8", "SELECT": os.path.abspath(sys.argv[1]),
-}
+ENVIRONMENT = {**SETTINGS, "SELECT": os.path.abspath(sys.argv[1])}
 
 
 def git(*words, given=b"", environment=None):

@@ -31,6 +31,7 @@ new mode 100755
 SETTINGS = {
     "diff.noprefix": "true", "diff.mnemonicPrefix": "true", "diff.context": "5", "diff.interHunkContext": "9",
     "diff.renames": "copies", "diff.relative": "true", "diff.external": "false", "color.ui": "always", "core.pager": "false",
+    "diff.orderFile": "nowhere",
 }
 ALL = ["M", "bytes", "D", "gone.txt", "M", "link", "A", "sub folder/a\tb"]
 

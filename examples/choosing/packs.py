@@ -1,0 +1,32 @@
+"""Objects in the form in which git hands them on, all in one: so no file is needed for each."""
+import hashlib
+import struct
+import zlib
+
+BLOB = 3
+
+
+def digest(algorithm, data):
+    return hashlib.new(algorithm, data, usedforsecurity=False)
+
+
+def name_of(data, algorithm):
+    """Returns git's name of the object that has these bytes. `algorithm` is `sha1` or `sha256`."""
+    return digest(algorithm, b"blob %d\0" % len(data) + data).hexdigest()
+
+
+def head_of(size):
+    """Returns what is before an object of `size` bytes: its kind, and its size by four bits and then by seven to a byte."""
+    head, rest = [BLOB << 4 | size & 15], size >> 4
+    while rest:
+        head[-1] |= 128
+        head.append(rest & 127)
+        rest >>= 7
+    return bytes(head)
+
+
+def pack_of(contents, algorithm):
+    """Returns a pack with an object for each of `contents`."""
+    objects = [head_of(len(data)) + zlib.compress(data, 1) for data in contents]
+    pack = b"".join([b"PACK", struct.pack(">LL", 2, len(objects)), *objects])
+    return pack + digest(algorithm, pack).digest()

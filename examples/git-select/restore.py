@@ -1,0 +1,64 @@
+"""What git-select does with a choice in the working tree: takes it back."""
+from choosing.change import ABSENT, LINK, Side
+from choosing.files import Files
+from choosing.front_end import keep_lost
+from choosing.waiting import counted, waits
+from choosing.words import Stop, shown
+from sides import changed_in_tree
+from ways import Way
+
+NOT_REGULAR = ABSENT, LINK
+
+
+def wanted_of(choice, now, made):
+    """Returns the mode and the bytes that a file is to have. `now` is what it has, and `made` has what git writes for it."""
+    change, (mode, data) = choice.change, made.read(choice.change.path)[0]
+    if {choice.mode, change.new.mode, mode, now[0]} & {*NOT_REGULAR}:
+        return mode, data
+    # what git does not see as changed stays as it is, also where git does not look at it
+    return now[0] if choice.mode == change.new.mode else mode, now[1] if choice.data == change.new_data else data
+
+
+class Restore(Way):
+    done, nothing, no_change = "restored", "nothing was restored", "there is nothing to restore"
+    words, task = ("git-select", "--restore"), "mark what is to be taken back"
+    side, now, goal = "unselected", "new", "old"
+
+    def read(self, scratch):
+        return changed_in_tree(self.repository, scratch, self.paths, self.start, has_untracked=False)
+
+    def prepare(self, choices, accepted):
+        self.files = Files(self.repository.top)
+        self.files_now = {choice.change.path: self.files.read(choice.change.path)[0] for choice in choices}
+
+    def write(self, choices, scratch, accepted):
+        """Writes files of the working tree. What they have now is stored in git first, and named."""
+        now = self.files_now
+        with waits("preparing %s .." % counted(len(choices), "file")):
+            wanted = self.wanted(choices, now, scratch)
+        entries = [(path, now[path], wanted[path]) for path in now]
+        with self.locked_index():
+            names = keep_lost(self.repository, entries)
+            self.files.change(entries)
+        reports = ["%s: %s" % (self.done, shown(path)) for path in now]
+        if names:
+            reports.append("to have a file as it was before: git cat-file blob %s > FILE" % names[0])
+        return reports, False
+
+    def wanted(self, choices, now, scratch):
+        """Returns by path the mode and the bytes that the working tree is to have."""
+        self.check_written_alike(choices, now, scratch)
+        names = scratch.named([(choice.data, choice.name()) for choice in choices])
+        entries = [(choice.change.path, Side(choice.mode, name)) for choice, name in zip(choices, names)]
+        made = Files(scratch.checked_out(entries, self.folder))
+        return {choice.change.path: wanted_of(choice, now[choice.change.path], made) for choice in choices}
+
+    def check_written_alike(self, choices, now, scratch):
+        """Stops if git would not write the lines that stay of a file as they are."""
+        parts = [it.change for it in choices if (it.mode, it.data) != (it.change.old.mode, it.change.old_data)]
+        parts = [change for change in parts if change.new.mode not in NOT_REGULAR]
+        made = Files(scratch.checked_out([(change.path, change.new) for change in parts], self.folder))
+        for path in (change.path for change in parts):
+            if made.read(path)[0][1] != now[path][1]:
+                reason = "a filter or line ends would change its other lines: take back all of it, or nothing"
+                raise Stop("%s is not restored: %s" % (shown(path), reason))
