@@ -3,7 +3,9 @@ import os
 
 import changed
 from options import is_refused_restore
-from places import Repository, without_rights
+from places import Repository
+
+from apart import without_rights
 
 
 def links_out_of_the_folder(place):
@@ -63,7 +65,7 @@ def a_folder_that_becomes_a_link(place):
         # restored is what is marked, and written what is not
         keys = ["c"] if folder == right else ["a", "c"]
         status, said = place.type(command, keys, folder, before_last=change)
-        is_named = status == 1 and "a/b changed meanwhile: nothing is " in said
+        is_named = status == 1 and "a/b changed meanwhile: nothing was " in said
         ends.append(is_named and changed.read(folder) == {"a": ("link", outside)})
     place.forget_marks()
     return all(ends) and changed.read(outside) == {"b": b"2\n"} and repository.is_sound()
@@ -110,7 +112,7 @@ def what_cannot_be_written(place):
     os.chmod(os.path.join(right, "b"), 0o555)
     status, said = place.type([*before, "scm-diff-editor", left, right], ["c"])
     os.chmod(os.path.join(right, "b"), 0o755)
-    is_named = status == 1 and "b/c cannot be written: " in said and ": nothing is written" in said
+    is_named = status == 1 and "b/c cannot be written: " in said and ": nothing was written" in said
     return is_named and changed.read(right) == new and sorted(os.listdir(right)) == ["a", "b", "d"]
 
 

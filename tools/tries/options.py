@@ -57,7 +57,7 @@ def is_refused_restore(repository, new):
     """Whether a file that would have to replace a folder, or to lie in a file, is named, and all stays."""
     status, said = repository.select("--restore", keys=["a", "c"])
     repository.place.forget_marks()
-    is_named = "git-select: a" in said and ": nothing is restored" in said and "marks are kept" in said
+    is_named = "git-select: a" in said and ": nothing was restored" in said and "marks are kept" in said
     return status == 1 and is_named and repository.files() == new and repository.is_sound()
 
 

@@ -9,23 +9,8 @@ import changed
 import trying
 
 sys.path.insert(0, str(trying.EXAMPLES / "terminal"))
+from apart import SETTINGS  # noqa: E402
 from typed import Typed  # noqa: E402
-
-SETTINGS = {
-    "GIT_CONFIG_NOSYSTEM": "1", "GIT_CONFIG_GLOBAL": os.devnull, "GIT_AUTHOR_NAME": "n", "GIT_AUTHOR_EMAIL": "e",
-    "GIT_COMMITTER_NAME": "n", "GIT_COMMITTER_EMAIL": "e", "LC_ALL": "C.UTF-8", "PYTHONDONTWRITEBYTECODE": "1",
-}
-
-
-WITHOUT_RIGHTS = "setpriv", "--bounding-set", "-dac_override,-dac_read_search"
-
-
-def without_rights():
-    """Returns the words before a command that keep it from what it has no right to, or None if nothing does."""
-    if os.geteuid():
-        return ()
-    is_there = shutil.which(WITHOUT_RIGHTS[0])
-    return WITHOUT_RIGHTS if is_there and subprocess.run([*WITHOUT_RIGHTS, "true"]).returncode == 0 else None
 
 
 class Place:
@@ -36,7 +21,7 @@ class Place:
         self.top = tempfile.mkdtemp(prefix="try-tools-")
         self.temporary = self.folder("temporary")
         folders = os.path.join(prefix, "bin") + os.pathsep + (path or os.environ["PATH"])
-        self.environment = {**SETTINGS, "PATH": folders, "TMPDIR": self.temporary}
+        self.environment = {**SETTINGS, "PYTHONDONTWRITEBYTECODE": "1", "PATH": folders, "TMPDIR": self.temporary}
         self.head = ["env", "-i", *("%s=%s" % it for it in self.environment.items())] if path else []
 
     def folder(self, name, files=()):

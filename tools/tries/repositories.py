@@ -4,6 +4,8 @@ import os
 import changed
 from places import Repository
 
+from apart import without_rights
+
 
 def some_lines(place):
     """Chosen lines of a text: staged, and then the others taken back, taken out of the index, committed, and written."""
@@ -156,7 +158,7 @@ def in_conflict(place):
             continue
         status, said = repository.select("--commit", "-m", "x", keys=["a", "c"])
         is_out = not repository.git("diff", "--cached", "--name-only", "--diff-filter=M")
-        ends.append(status == 1 and "nothing is committed" in said and is_out)
+        ends.append(status == 1 and "nothing was committed" in said and is_out)
     place.forget_marks()
     is_left = len(repository.git("ls-files", "--unmerged").splitlines()) == 3
     return all(ends) and is_left and repository.files() == {"a": conflict, "b": b"1\n"} and repository.is_sound()
@@ -201,22 +203,20 @@ def settings_for_line_ends(place):
 
 
 def a_hook_that_refuses(place):
-    """The commit is refused, what the hook said is shown, and the index stays. So it does with an empty message."""
+    """The commit is refused, what the hook said is shown, and the index stays."""
     repository = Repository(place, {"a": b"1\n"}, {"a": b"2\n"})
     before = repository.index(), repository.git("rev-parse", "HEAD")
-    status, said = repository.select("--commit", keys=["a", "c"])
-    is_empty = status == 1 and "the message is empty: nothing is committed" in said
     hook = os.path.join(repository.folder, ".git", "hooks", "pre-commit")
     os.makedirs(os.path.dirname(hook), exist_ok=True)
     with open(hook, "w") as file:
         file.write("#!/bin/sh\necho not today\nexit 1\n")
     os.chmod(hook, 0o755)
     status, said = repository.select("--commit", "-m", "x", keys=["a", "c"])
-    is_refused = status == 1 and "not today" in said and "nothing is committed" in said
+    is_refused = status == 1 and "not today" in said and "nothing was committed" in said
     place.forget_marks()
     after = repository.index(), repository.git("rev-parse", "HEAD")
     is_free = not os.path.exists(os.path.join(repository.folder, ".git", "index.lock"))
-    return is_empty and is_refused and before == after and is_free and repository.is_sound()
+    return is_refused and before == after and is_free and repository.is_sound()
 
 
 def without_a_commit(place):
@@ -230,20 +230,48 @@ def without_a_commit(place):
 
 
 def a_template(place):
-    """The message begins as git's template, and without an edit nothing is committed. Its comments are left out."""
+    """The message begins as git's template. Its comments are left out."""
     repository = Repository(place, {"a": b"1\n"}, {"a": b"2\n"})
     template = os.path.join(place.folder("outside"), "template")
     with open(template, "w") as file:
         file.write("Subject\n# a comment\n")
     repository.git("config", "commit.template", template)
-    status, said = repository.select("--commit", keys=["a", "c"])
-    is_refused = status == 1 and "the message is the template" in said
-    is_refused = is_refused and repository.git("log", "-1", "--format=%s") == "base\n"
-    place.forget_marks()
     repository.git("config", "core.editor", "sed -i s/Subject/Edited/")
-    status, said = repository.select("--commit", keys=["a", "e", "c"])
-    is_edited = repository.git("log", "-1", "--format=%B").strip() == "Edited"
-    return is_refused and status == 0 and is_edited and repository.is_sound()
+    status, _ = repository.select("--commit", keys=["a", "e", "c"])
+    return status == 0 and repository.git("log", "-1", "--format=%B").strip() == "Edited" and repository.is_sound()
+
+
+def a_message_that_git_asks_for(place):
+    """Without a message, or with the template as it is, git opens its editor. If it stays so, nothing is committed."""
+    repository = Repository(place, {"a": b"1\n"}, {"a": b"2\n"})
+    template = os.path.join(place.folder("outside"), "template")
+    changed.write_file(template, b"Subject\n# a comment\n")
+    before = repository.index(), repository.git("rev-parse", "HEAD")
+    for setting in "core.editor", "commit.template":
+        repository.git("config", setting, {"core.editor": "true", "commit.template": template}[setting])
+        status, said = repository.select("--commit", keys=["a", "c"])
+        place.forget_marks()
+        if status != 1 or "git did not commit: nothing was committed" not in said:
+            return False
+    is_left = before == (repository.index(), repository.git("rev-parse", "HEAD"))
+    repository.git("config", "core.editor", "sed -i 's/Subject/Edited in the end/'")
+    status, said = repository.select("--commit", keys=["a", "c"])
+    is_committed = status == 0 and repository.git("log", "-1", "--format=%B").strip() == "Edited in the end"
+    return is_left and is_committed and repository.git("show", ":a") == "2\n" and repository.is_sound()
+
+
+def a_file_as_old_as_the_index(place):
+    """A file that was written just when the index was, with as many bytes as before, is seen as changed after a commit."""
+    repository = Repository(place, {"a": b"1\n", "b": b"1\n"}, {"a": b"1\n", "b": b"1\n"})
+    repository.git("config", "core.trustctime", "false")
+    path, index = (os.path.join(repository.folder, it) for it in ("b", ".git/index"))
+    time = os.stat(path).st_mtime_ns
+    for name in ("a", "b"):
+        changed.write_file(os.path.join(repository.folder, name), b"2\n")
+    for it in (path, index):
+        os.utime(it, ns=(time, time))
+    status, _ = repository.select("--commit", "-m", "x", "a", keys=["a", "c"])
+    return status == 0 and repository.git("status", "--porcelain") == " M b\n" and repository.is_sound()
 
 
 def marks_that_are_taken_up(place):
@@ -267,9 +295,9 @@ def a_file_that_changed(place):
     wanted = {"a": b"2\n", "b": b"3\n"}
     change = {"before_last": lambda: changed.write(repository.folder, wanted)}
     status, said = repository.select("--restore", keys=["a", "c"], **change)
-    is_left = status == 1 and "b changed meanwhile: nothing is restored" in said and repository.files() == wanted
+    is_left = status == 1 and "b changed meanwhile: nothing was restored" in said and repository.files() == wanted
     status, said = place.type(["scm-diff-editor", left, right], ["c"], before_last=lambda: changed.write(right, wanted))
-    is_stopped = status == 1 and "b changed meanwhile: nothing is written" in said and changed.read(right) == wanted
+    is_stopped = status == 1 and "b changed meanwhile: nothing was written" in said and changed.read(right) == wanted
     place.forget_marks()
     return is_left and is_stopped and repository.is_sound()
 
@@ -289,6 +317,23 @@ def all_or_nothing(place):
     return is_left and is_stopped and repository.is_sound()
 
 
+def what_cannot_be_written(place):
+    """A file in a folder that may not be written is named, and those that were restored before it are as they were. Skipped where
+    all may be written."""
+    before = without_rights()
+    if before is None:
+        return None
+    new = {"a": b"2\n", "b/c": b"2\n", "d": b"2\n"}
+    repository = Repository(place, {"a": b"1\n", "b/c": b"1\n", "d": b"1\n"}, new)
+    os.chmod(os.path.join(repository.folder, "b"), 0o555)
+    status, said = place.type([*before, "git", "select", "--restore"], ["a", "c"], repository.folder)
+    os.chmod(os.path.join(repository.folder, "b"), 0o755)
+    place.forget_marks()
+    is_named = status == 1 and "b/c cannot be written: Permission denied: nothing was restored\n" in said
+    is_left = repository.files() == new and sorted(os.listdir(repository.folder)) == [".git", "a", "b", "d"]
+    return is_named and is_left and repository.is_sound()
+
+
 def a_message_that_is_no_text(place):
     """It is refused before anything is shown."""
     repository = Repository(place, {"a": b"1\n"}, {"a": b"2\n"})
@@ -300,5 +345,6 @@ def a_message_that_is_no_text(place):
 ALL = (
     some_lines, partly_staged, partly_unstaged, lines_of_new_and_gone_files, intent_to_add, in_a_subdirectory,
     in_a_linked_worktree, a_locked_index, in_conflict, a_submodule, settings_for_line_ends, a_hook_that_refuses,
-    without_a_commit, a_template, a_message_that_is_no_text, marks_that_are_taken_up, a_file_that_changed, all_or_nothing,
+    without_a_commit, a_template, a_message_that_git_asks_for, a_message_that_is_no_text, a_file_as_old_as_the_index,
+    marks_that_are_taken_up, a_file_that_changed, all_or_nothing, what_cannot_be_written,
 )
