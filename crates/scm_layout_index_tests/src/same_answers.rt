@@ -2,9 +2,10 @@
 //! place, each key and the extent is asked of the index of the view, and of that by the layout.
 ghost use Rattle.std.specs.Prelude.{◌≡◌, ◌≤◌, IsTrue};
 ghost use Rattle.scm_document.specs.declared.commit_view.CommitViewMode.TheVariants.{Inline};
+ghost use Rattle.scm_layout_index.specs.SharedRows.{AreRowsOfState};
 ghost use Rattle.scm_types.specs.Limits.{is_accepted_state, max_scroll};
 
-use scm_layout::Layout;
+use scm_layout::{Layout, StateRows};
 use scm_layout_index::{LayoutIndex, SharedRows, span_of_key};
 use scm_samples::{ADDED, REMOVED, binary, changed, commits_of, context, deletion, file_of};
 use scm_selection::key_lists::all_keys;
@@ -41,8 +42,18 @@ fn sample_state(alloc: Global) -> Result<RecordState<'static>, RecordError> {
     })
 }
 
+/// Checks that `rows`, those of a layout, give each of `keys` the rows that it has in `whole`, the
+/// index of the view.
+fn check_spans(rt: &impl Abort, rows: &StateRows, whole: &FrameIndex, keys: &[SelectionKey])
+    requires { AreRowsOfState rows.now }
+{
+    for key in keys {
+        assert!(rt; span_of_key(rows, *key) == whole.span(*key), "{key:?}");
+    }
+}
+
 /// Checks that both indexes answer alike of each place of the frame of `view_state`, of `keys`, and
-/// of the extent. Also asks for the rows of `keys` by the layout alone.
+/// of the extent.
 fn check_frame(
     rt: &impl Abort,
     alloc: Global,
@@ -58,11 +69,11 @@ fn check_frame(
     let layout = Layout::new(alloc, &view_state.state, &view_state.expanded)?;
     let rows = SharedRows::new(alloc, &layout.rows)?;
     let whole = FrameIndex::new(alloc, &view, 30, 12, scroll)?;
+    check_spans(rt, &layout.rows, &whole, keys);
     let index = LayoutIndex::new(alloc, view_state, &view.menu_bar, rows, 30, 12, scroll)?;
     assert_eq!(rt; index.extent(), whole.extent());
     for key in keys {
         assert!(rt; index.span(*key) == whole.span(*key), "{key:?}");
-        assert!(rt; span_of_key(&layout.rows, *key) == whole.span(*key), "{key:?}");
     }
     for row in 0..50 {
         for column in 0..32 {
