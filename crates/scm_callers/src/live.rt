@@ -23,7 +23,8 @@ pub(crate) fn without_editor<'a>(turn: Turn<'a>) -> Result<Turn<'a>, RecordError
 ///
 /// Here a tool would show the session's grid before each event, and wait for its user.
 pub fn hand_in<'a>(session: LiveSession<'a>, events: &[Event]) -> Result<Turn<'a>, RecordError>
-    ensures path { IfOk result (λ turn. (calls : List Call) × Path (Waiting session.entry) calls turn) }
+    ensures path { IfOk result (λ turn.
+        (calls : List Call) × Path (Waiting session.entry) calls turn) }
 {
     let mut session = session;
     for event in events {

@@ -19,7 +19,8 @@ fn show_and_type<'a>(
     came: &[u8],
     shown: &mut String,
 ) -> Result<Turn<'a>, RecordError>
-    ensures path { IfOk result (λ turn. (calls : List Call) × Path (Waiting session.entry) calls turn) }
+    ensures path { IfOk result (λ turn.
+        (calls : List Call) × Path (Waiting session.entry) calls turn) }
 {
     let frame = session.paint(painter)?;
     shown.push_str(frame.as_str())?;
@@ -36,7 +37,8 @@ pub fn type_in<'a>(
     chunks: &[&[u8]],
     shown: &mut String,
 ) -> Result<Turn<'a>, RecordError>
-    ensures path { IfOk result (λ turn. (calls : List Call) × Path (Waiting session.entry) calls turn) }
+    ensures path { IfOk result (λ turn.
+        (calls : List Call) × Path (Waiting session.entry) calls turn) }
 {
     let mut decoder = Decoder::new();
     let mut painter = Painter::new(alloc);
