@@ -244,7 +244,7 @@ static void paint_rows(void) {
     done(begin(STATE), SCM_WAITING);
     size_t length = paint(all, sizeof all);
     assert(length > WIDTH * HEIGHT && length < sizeof all);
-    assert(memcmp(all, "\x1b[?2026h\x1b[1;1H", 14) == 0 && memcmp(all + length - 12, "\x1b[0m\x1b[?2026l", 12) == 0);
+    assert(memcmp(all, "\x1b[?2026h\x1b[?7l", 13) == 0 && memcmp(all + length - 17, "\x1b[?7h\x1b[0m\x1b[?2026l", 17) == 0);
     assert(paint(again, sizeof again) == EMPTY_UPDATE);
     assert(scm_repaint(&session) == SCM_DONE);
     assert(paint(again, length - 1) == length && again[EMPTY_UPDATE] == 0);

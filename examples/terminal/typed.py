@@ -8,7 +8,7 @@ FRAME = re.compile(rb"\x1b\[\?2026h(.*?)\x1b\[\?2026l", re.S)
 # what the program sends where it takes the terminal, and where it gives it back
 TAKE, GIVE_BACK = rb"\x1b\[22;2t.*?\x1b\[\?2004h", rb"\x1b\[0m\x1b\[\?2004l.*?\x1b\[23;2t"
 # what a frame is made of: the cursor goes to a place, a style is set, and symbols without a control character
-COMMAND = re.compile(rb"\x1b\[([0-9]+);([0-9]+)H|\x1b\[([0-9;]*)m|((?:[^\x00-\x1f\x7f\xc2]|\xc2[^\x80-\x9f])+)")
+COMMAND = re.compile(rb"\x1b\[([0-9]+);([0-9]+)H|\x1b\[([0-9;]*)m|((?:[^\x00-\x1f\x7f\xc2]|\xc2[^\x80-\x9f])+)|\x1b\[\?7[hl]")
 SECONDS = 60
 # after how long the program has drawn all, in seconds
 QUIET = 0.3
@@ -32,12 +32,15 @@ def bytes_of(word):
         return re.sub(r"\x1b\[(\d*)", lambda m: "\x1b[%s;%d" % (m[1] or "1", held + 1), plain)
     if held & 4:
         plain = chr(ord(plain.lower()) - 96)
+    elif held & 1:
+        plain = plain.upper()
     return "\x1b" + plain if held & 2 else plain
 
 
 class Screen:
     """What frames leave on a terminal: for each row the symbols, each with its style, by the columns at which they begin. A row
-    that changes is drawn from its first column on. The cursor is moved to each symbol that may have two columns, and away from it."""
+    that changes is drawn whole: first blanks at the later columns of symbols, then the symbols of several bytes, then the others.
+    The cursor is moved to each symbol that may have two columns, and away from it."""
 
     def __init__(self):
         self.rows = {}
@@ -45,19 +48,26 @@ class Screen:
     def draw(self, frame):
         row = column = end = 0
         style = None
+        drawn = set()
         for command in COMMAND.finditer(frame):
             if command.start() != end:
                 break
             end = command.end()
             if command[1]:
                 row, column = int(command[1]) - 1, int(command[2]) - 1
-                if column == 0:
+                if row not in drawn:
+                    drawn.add(row)
                     self.rows[row] = {}
             elif command[4]:
                 for symbol in [bytes([byte]) for byte in command[4]] if command[4].isascii() else [command[4]]:
                     self.rows[row][column] = symbol, style
                     column += 1
-            else:
+                    if not symbol.isascii():
+                        # the blanks of its later columns
+                        later = column
+                        while self.rows[row].pop(later, None):
+                            later += 1
+            elif command[3] is not None:
                 style = command[3]
         if end != len(frame):
             raise ValueError("a frame has %r" % frame[end:end + 20])

@@ -292,7 +292,8 @@ uint32_t scm_resize(scm_session *session, uint16_t width, uint16_t height);
 /* Writes the bytes that make the terminal show the session, in colours, to `out`, if they fit into its `length` bytes, and
  * their number to `written`. The terminal has the session's size. The first call writes every row. A later call writes the
  * rows that changed since the last call, and expects that nobody else wrote to the terminal. The bytes are one synchronized
- * update (`ESC [ ? 2026 h` to `ESC [ ? 2026 l`). After it no colour is set.
+ * update (`ESC [ ? 2026 h` to `ESC [ ? 2026 l`). After it no colour is set. While rows are written no symbol wraps
+ * (`ESC [ ? 7 l`), and after them symbols wrap (`ESC [ ? 7 h`).
  *
  * Returns SCM_DONE, SCM_CLOSED, or SCM_NOT_NOW if the session waits for no event. If `written` is more than `length` after
  * SCM_DONE, no byte was written, and the next call writes every row: call again with a larger buffer. Or returns SCM_NO_MEMORY;

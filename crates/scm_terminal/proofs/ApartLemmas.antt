@@ -2,15 +2,17 @@
 use Rattle.std.proofs.Common.{◌≡◌, ℕ, ◌+◌, ◌<◌, ◌^◌, ◌==◌, nat_lt, nat_le, Bool, true, false, ◌&&◌, List, [], ◌∷◌, ◌++◌, length, get_or, refl, sym, ap, subst, ◌∙◌, arith, Option, Some, None, append_assoc, length-set}
 use Rattle.std.specs.Prelude.{if◌then◌else◌}
 use Rattle.std.specs.Option.{option_and_then}
-use Rattle.std.specs.List.{All}
+use Rattle.std.specs.List.{All, list_any}
 use Rattle.std.proofs.lemmas.Bool.{and_parts}
 use Rattle.std.proofs.lemmas.Bool.Decides.{nat_tests}
 use Rattle.std.proofs.lemmas.List.Elements.{All-nil, All-cons}
 use Rattle.scm_terminal.specs.declared.style.Style.{Style}
 use Rattle.scm_terminal.specs.declared.pen.Pen.{Pen}
+use Rattle.scm_terminal.specs.declared.pen.Pass.{Pass}
+use Rattle.scm_terminal.specs.declared.pen.Pass.TheVariants.{Blanks, Symbols, Letters}
 use Rattle.scm_terminal.specs.StyledCell.{StyledCell, First, Later, laters}
-use Rattle.scm_terminal.specs.Terminal.{Terminal, Command, MoveTo, SetStyle, Put, IsNear, Before, Moved, Byte, behind, MayFollow, AreApart, spots_of, over, put, after, after_all}
-use Rattle.scm_terminal.specs.Painting.{Line, is_style_set, move_commands, style_commands, cell_commands, pen_after, new_pen, row_commands, painting}
+use Rattle.scm_terminal.specs.Terminal.{Terminal, Command, MoveTo, SetStyle, Put, SetWrap, IsNear, Before, Moved, Byte, behind, MayFollow, AreApart, spots_of, over, put, after, after_all}
+use Rattle.scm_terminal.specs.Painting.{Line, is_style_set, move_commands, style_commands, cell_commands, pen_after, new_pen, passed, columns_in, pass_commands, row_commands, painting, paint_commands}
 
 -- ---- what runs stays on the screen
 
@@ -49,6 +51,9 @@ after-stays (SetStyle style) t u wide high e =
     let is : ◌≡◌ {A = Terminal} (record t { style = Some style }) u = cc in
     record { near = tt; wide = sym (ap (λ (x : Terminal). x.width) is); high = sym (ap (λ (x : Terminal). length x.rows) is) }
 after-stays (Put symbol columns) t u wide high e = put-stays symbol columns t.cursor t.style t u e
+after-stays (SetWrap wraps) t u wide high e =
+    let is : ◌≡◌ {A = Terminal} t u = cc in
+    record { near = tt; wide = sym (ap (λ (x : Terminal). x.width) is); high = sym (ap (λ (x : Terminal). length x.rows) is) }
 
 pub runs-near : (cs : List Command) (t u : Terminal) → t.width < 2 ^ 16 → length t.rows < 2 ^ 16 → after_all cs t ≡ Some u → All IsNear cs
 unfolding after_all
@@ -86,24 +91,50 @@ cell-apart row column pen symbol style columns before rest there more = at (pen.
 behind-byte : (symbol : List ℕ) → (length symbol == 1) ≡ true → behind symbol ≡ Byte
 behind-byte symbol e = rw e refl
 
-row-apart : (row column : ℕ) (pen : Pen) (cells : List StyledCell) (before : Before) (rest : List Command) → (pen.is_there ≡ true → before ≡ Byte) → ((b : Before) → AreApart b rest)
-    → AreApart before (row_commands row column pen cells ++ rest)
-unfolding row_commands
-row-apart row column pen [] before rest there more = more before
-row-apart row column pen (Later ∷ ps) before rest there more = row-apart row (column + 1) (pen_after pen Later) ps before rest (λ e. absurd (cc)) more
-row-apart row column pen (First symbol style ∷ ps) before rest there more =
-    let first = cell_commands row column pen (First symbol style) (1 + laters ps) in
-    let others = row_commands row (column + 1) (pen_after pen (First symbol style)) ps in
-    subst (AreApart before) (sym (append_assoc first others rest))
-    (cell-apart row column pen symbol style (1 + laters ps) before (others ++ rest) there
-    (row-apart row (column + 1) (pen_after pen (First symbol style)) ps (behind symbol) rest (behind-byte symbol) more))
+-- a cell, whatever the pass puts at it
+any-apart : (row column : ℕ) (pen : Pen) (p : StyledCell) (columns : ℕ) (before : Before) (rest : List Command) → (pen.is_there ≡ true → before ≡ Byte)
+    → ((b : Before) → ((pen_after pen p).is_there ≡ true → b ≡ Byte) → AreApart b rest) → AreApart before (cell_commands row column pen p columns ++ rest)
+any-apart row column pen Later columns before rest there more = more before (λ e. absurd (cc))
+any-apart row column pen (First symbol style) columns before rest there more =
+    cell-apart row column pen symbol style columns before rest there (more (behind symbol) (behind-byte symbol))
 
-pub painting-apart : (row : ℕ) (lines : List Line) (before : Before) → AreApart before (painting row lines)
+pass-apart : (pass : Pass) (row column : ℕ) (pen : Pen) (cells : List StyledCell) (before : Before) (rest : List Command) → (pen.is_there ≡ true → before ≡ Byte) → ((b : Before) → AreApart b rest)
+    → AreApart before (pass_commands pass row column pen cells ++ rest)
+unfolding pass_commands
+pass-apart pass row column pen [] before rest there more = more before
+pass-apart pass row column pen (p ∷ ps) before rest there more =
+    let first = cell_commands row column pen (passed pass pen.is_there p) (columns_in pass (laters ps)) in
+    let others = pass_commands pass row (column + 1) (pen_after pen (passed pass pen.is_there p)) ps in
+    subst (AreApart before) (sym (append_assoc first others rest))
+    (any-apart row column pen (passed pass pen.is_there p) (columns_in pass (laters ps)) before (others ++ rest) there
+    (λ (b : Before) (e : (pen_after pen (passed pass pen.is_there p)).is_there ≡ true → b ≡ Byte). pass-apart pass row (column + 1) (pen_after pen (passed pass pen.is_there p)) ps b rest e more))
+
+row-apart : (row : ℕ) (cells : List StyledCell) (before : Before) (rest : List Command) → ((b : Before) → AreApart b rest) → AreApart before (row_commands row cells ++ rest)
+unfolding row_commands
+row-apart row cells before rest more =
+    let blanks = pass_commands Blanks row 0 new_pen cells in
+    let symbols = pass_commands Symbols row 0 new_pen cells in
+    let letters = pass_commands Letters row 0 new_pen cells in
+    subst (AreApart before) (sym (append_assoc blanks (symbols ++ letters) rest ∙ ap (λ (t : List Command). blanks ++ t) (append_assoc symbols letters rest)))
+    (pass-apart Blanks row 0 new_pen cells before (symbols ++ (letters ++ rest)) (λ e. absurd (cc))
+    (λ b. pass-apart Symbols row 0 new_pen cells b (letters ++ rest) (λ e. absurd (cc)) (λ c. pass-apart Letters row 0 new_pen cells c rest (λ e. absurd (cc)) more)))
+
+painting-apart : (row : ℕ) (lines : List Line) (before : Before) (rest : List Command) → ((b : Before) → AreApart b rest) → AreApart before (painting row lines ++ rest)
 unfolding painting
-painting-apart row [] before = tt
-painting-apart row (line ∷ lines) before = at line.is_changed (λ b. painting-apart (row + 1) lines b)
+painting-apart row [] before rest more = more before
+painting-apart row (line ∷ lines) before rest more =
+    subst (AreApart before) (sym (append_assoc (if line.is_changed then row_commands row line.cells else []) (painting (row + 1) lines) rest))
+    (at line.is_changed (λ b. painting-apart (row + 1) lines b rest more))
   where
-    at : (b : Bool) → ((later : Before) → AreApart later (painting (row + 1) lines))
-        → AreApart before ((if b then row_commands row 0 new_pen line.cells else []) ++ painting (row + 1) lines)
-    at true rest = row-apart row 0 new_pen line.cells before (painting (row + 1) lines) (λ e. absurd (cc)) rest
-    at false rest = rest before
+    at : (b : Bool) → ((later : Before) → AreApart later (painting (row + 1) lines ++ rest))
+        → AreApart before ((if b then row_commands row line.cells else []) ++ (painting (row + 1) lines ++ rest))
+    at true others = row-apart row line.cells before (painting (row + 1) lines ++ rest) others
+    at false others = others before
+
+pub paint-apart : (lines : List Line) (before : Before) → AreApart before (paint_commands lines)
+unfolding paint_commands
+paint-apart lines before = at (list_any (λ line. line.is_changed) lines)
+  where
+    at : (b : Bool) → AreApart before (if b then SetWrap false ∷ (painting 0 lines ++ (SetWrap true ∷ [])) else [])
+    at true = painting-apart 0 lines before (SetWrap true ∷ []) (λ b. tt)
+    at false = tt

@@ -6,8 +6,8 @@ use Rattle.scm_terminal.specs.declared.style.Style.{Style}
 use Rattle.scm_terminal.specs.StyledCell.{StyledCell, First, Later}
 use Rattle.scm_terminal.specs.Reading.{parts_of, read_commands, text_commands}
 use Rattle.scm_terminal.specs.Style.{style_code, style_of}
-use Rattle.scm_terminal.specs.Terminal.{Spot, Symbol, AreApart, MoveTo, SetStyle, Put, over, put, after, after_all}
-use Rattle.scm_terminal.specs.Painting.{Line, row_commands, painting}
+use Rattle.scm_terminal.specs.Terminal.{Spot, Symbol, AreApart, MoveTo, SetStyle, Put, SetWrap, over, put, after, after_all}
+use Rattle.scm_terminal.specs.Painting.{Line, pass_commands, row_commands, painting, paint_commands}
 
 abbrev plain : Style
 plain = record { colour = None; bold = false; dim = false; underlined = false; reversed = false }
@@ -30,20 +30,26 @@ lines = record { cells = first; is_changed = true } ∷ (record { cells = second
 abbrev known_row : List Spot
 known_row = Some (First (98 ∷ []) red) ∷ (Some (First (99 ∷ []) red) ∷ (Some (First (100 ∷ []) plain) ∷ []))
 
--- the cursor goes to the first column, and to that of the symbol of more bytes
-written : painting 0 lines ≡ MoveTo 0 0 ∷ (SetStyle plain ∷ (Put (97 ∷ []) 1 ∷ (MoveTo 0 1 ∷ (SetStyle red ∷ (Put wide 2 ∷ [])))))
-unfolding painting row_commands style_code
+-- the later column is blanked, the symbol of more bytes put, and then that of one byte
+written : painting 0 lines
+    ≡ MoveTo 0 2 ∷ (SetStyle plain ∷ (Put (32 ∷ []) 1 ∷ (MoveTo 0 1 ∷ (SetStyle red ∷ (Put wide 2 ∷ (MoveTo 0 0 ∷ (SetStyle plain ∷ (Put (97 ∷ []) 1 ∷ []))))))))
+unfolding painting row_commands pass_commands style_code
 written = refl
+
+-- no symbol wraps meanwhile
+around : paint_commands lines ≡ SetWrap false ∷ (painting 0 lines ++ (SetWrap true ∷ []))
+unfolding paint_commands
+around = refl
 
 -- on a row that began within a symbol, and with one that goes on past its end
 shown : after_all (painting 0 lines) (record { width = 3; rows = (Some Later ∷ (None ∷ (Some Later ∷ []))) ∷ (known_row ∷ []); cursor = None; style = None })
     ≡ Some (record {
       width = 3;
       rows = (Some (First (97 ∷ []) plain) ∷ (Some (First wide red) ∷ (Some Later ∷ []))) ∷ (known_row ∷ []);
-      cursor = None;
-      style = Some red;
+      cursor = Some (0, 1);
+      style = Some plain;
     })
-unfolding painting row_commands style_code over put after after_all
+unfolding painting row_commands pass_commands style_code over put after after_all
 shown = refl
 
 -- a wide symbol that is covered by half leaves a column of which nothing is known, and one that has no room is not put
@@ -51,6 +57,12 @@ cut : after_all (MoveTo 0 1 ∷ (SetStyle plain ∷ (Put (97 ∷ []) 1 ∷ [])))
     ≡ Some (record { width = 3; rows = (Some (First (97 ∷ []) red) ∷ (Some (First (97 ∷ []) plain) ∷ (None ∷ []))) ∷ []; cursor = Some (0, 2); style = Some plain })
 unfolding over put after after_all
 cut = refl
+
+-- and so does one whose later column is covered, and nothing before it
+covered : after_all (MoveTo 0 2 ∷ (SetStyle plain ∷ (Put (97 ∷ []) 1 ∷ []))) (record { width = 3; rows = (Some (First (97 ∷ []) red) ∷ (Some (First wide red) ∷ (Some Later ∷ []))) ∷ []; cursor = None; style = None })
+    ≡ Some (record { width = 3; rows = (Some (First (97 ∷ []) red) ∷ (None ∷ (Some (First (97 ∷ []) plain) ∷ []))) ∷ []; cursor = None; style = Some plain })
+unfolding over put after after_all
+covered = refl
 
 no_room : after_all (MoveTo 0 2 ∷ (SetStyle plain ∷ (Put wide 2 ∷ []))) (record { width = 3; rows = (None ∷ (None ∷ (None ∷ []))) ∷ []; cursor = None; style = None }) ≡ None
 unfolding over put after after_all
@@ -70,6 +82,15 @@ read : read_commands ((27 ∷ codes "[2;13H") ++ ((27 ∷ codes "[0;1;4;32m") ++
     ≡ Some (MoveTo 1 12 ∷ (SetStyle green ∷ (Put (97 ∷ []) 1 ∷ (Put (98 ∷ []) 1 ∷ []))))
 unfolding reading
 read = refl
+
+-- whether symbols wrap
+modes : read_commands ((27 ∷ codes "[?7l") ++ (27 ∷ codes "[?7h")) ≡ Some (SetWrap false ∷ (SetWrap true ∷ []))
+unfolding reading
+modes = refl
+
+no_mode : read_commands (27 ∷ codes "[?25l") ≡ None
+unfolding reading
+no_mode = refl
 
 -- nothing else is read: a title, the screen cleared, a style that does not reset the one before, a style that has no meaning here, an
 -- escape alone, a command without its last byte

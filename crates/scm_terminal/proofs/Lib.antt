@@ -4,6 +4,10 @@ pub mod StyleLemmas
 pub mod RunLemmas
 pub mod RowLemmas
 pub mod ApartLemmas
+pub mod SafeLemmas
+-- a terminal of any widths
+pub mod AnyLemmas
+pub mod ShowingTerminals
 pub mod PaintingLemmas
 -- ---- what a grid shows
 pub mod PictureLemmas
@@ -26,3 +30,7 @@ pub mod HeardLemmas
 pub mod LawLemmas
 -- what is pasted
 pub mod PasteLemmas
+-- what ends a paste
+pub mod MarkLemmas
+-- the bytes of each key
+pub mod KeyLemmas

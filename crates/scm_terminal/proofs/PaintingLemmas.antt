@@ -1,7 +1,7 @@
 -- The commands of all rows make a terminal show them, whether they are written or left out.
 use Rattle.std.proofs.Common.{◌≡◌, ℕ, ◌==◌, ◌&&◌, zero, suc, ◌+◌, ◌<◌, ◌^◌, Bool, true, false, List, [], ◌∷◌, ◌++◌, length, get_or, map, refl, sym, ap, subst, ◌∙◌, arith, Option, Some, None, append_assoc, length-append}
 use Rattle.std.specs.Prelude.{if◌then◌else◌}
-use Rattle.std.specs.List.{All, AllZip, flat_map}
+use Rattle.std.specs.List.{All, AllZip, flat_map, list_any}
 use Rattle.std.proofs.lemmas.List.{length-map, get_or-map}
 use Rattle.std.proofs.lemmas.List.Elements.{All-nil, All-cons, All-head, All-tail, All-append}
 use Rattle.std.proofs.lemmas.List.FromFn.{length-map-range_with_len, get_or-map-range_with_len}
@@ -13,17 +13,21 @@ use Rattle.scm_cells.proofs.WholeLemmas.{HasColumn}
 use Rattle.scm_terminal.specs.declared.style.Style.{Style}
 use Rattle.scm_terminal.specs.declared.row.Row.{Row}
 use Rattle.scm_terminal.specs.declared.pen.Pen.{Pen}
-use Rattle.scm_terminal.specs.StyledCell.{StyledCell, First, Later, laters, styled_row, picture}
-use Rattle.scm_terminal.specs.Terminal.{Terminal, Spot, Command, MoveTo, SetStyle, Put, IsOfSize, IsSafe, IsNear, Symbol, bytes_of}
+use Rattle.scm_terminal.specs.declared.pen.Pass.{Pass}
+use Rattle.scm_terminal.specs.declared.pen.Pass.TheVariants.{Blanks, Symbols, Letters}
+use Rattle.scm_terminal.specs.StyledCell.{StyledCell, First, Later, laters, HasSize, styled_row, picture}
+use Rattle.scm_terminal.specs.Terminal.{Terminal, Spot, Command, MoveTo, SetStyle, Put, SetWrap, IsOfSize, IsSafe, IsNear, Symbol, bytes_of}
 use Rattle.scm_terminal.specs.Reading.{read_commands}
-use Rattle.scm_terminal.specs.Painting.{Line, AreUpdates, is_style_set, move_commands, style_commands, cell_commands, pen_after, new_pen, row_commands, line_commands, painting}
-use Rattle.scm_terminal.specs.Promise.{known_spots, HasSize, HasChanged, MovesTo, Paints}
+use Rattle.scm_terminal.specs.Painting.{Line, AreUpdates, is_style_set, move_commands, style_commands, cell_commands, pen_after, new_pen, passed, columns_in, pass_commands, row_commands, line_commands, painting, paint_commands}
+use Rattle.scm_terminal.specs.Promise.{known_spots, HasChanged, MovesTo, Paints}
 use Rattle.scm_terminal.specs.PainterView.{cells_of_row}
 use Rattle.scm_terminal.specs.RowView.{line_of}
-use Rattle.scm_terminal.proofs.RunLemmas.{Runs, Runs-none, terminal}
-use Rattle.scm_terminal.proofs.RowLemmas.{Ends, Ends-append, left-none, row-runs}
+use Rattle.scm_terminal.proofs.RunLemmas.{Runs, Runs-none, Runs-append, wrap-runs, terminal}
+use Rattle.scm_terminal.proofs.RowLemmas.{Ends, Ends-append, over_all, places, row-runs, passes-show}
+use Rattle.scm_terminal.proofs.SafeLemmas.{AreMeasured, measured-styled, paint-safe}
+use Rattle.scm_terminal.proofs.AnyLemmas.{keeps-places}
 use Rattle.scm_terminal.proofs.PictureLemmas.{styled_from, styled-row, length-styled}
-use Rattle.scm_terminal.proofs.ApartLemmas.{runs-near, painting-apart}
+use Rattle.scm_terminal.proofs.ApartLemmas.{runs-near, paint-apart}
 use Rattle.scm_terminal.proofs.ReadingLemmas.{read_back}
 use Rattle.scm_terminal.proofs.UpdateLemmas.{line_cells, cells-lines}
 
@@ -48,17 +52,19 @@ line-runs : (r w : ℕ) (before after : List (List Spot)) (line : Line) (old : L
     → Ends w (line_commands r line) (terminal w (before ++ old ∷ after) cursor was) (before ++ known_spots line.cells ∷ after)
 line-runs r w before after line old cursor was above whole stood = at line.is_changed refl
   where
-    at : (b : Bool) → line.is_changed ≡ b → Ends w (if b then row_commands r 0 new_pen line.cells else []) (terminal w (before ++ old ∷ after) cursor was) (before ++ known_spots line.cells ∷ after)
+    at : (b : Bool) → line.is_changed ≡ b → Ends w (if b then row_commands r line.cells else []) (terminal w (before ++ old ∷ after) cursor was) (before ++ known_spots line.cells ∷ after)
     at true e =
-        let count : length old ≡ length (flat_map cells_of whole.symbols) = stood.0 ∙ sym whole.size ∙ ap length whole.shows ∙ length-styled whole.style 0 (flat_map cells_of whole.symbols) in
-        let full : 0 + length old ≡ w = let long = stood.0 in omega arith in
-        subst (λ (ps : List StyledCell). Ends w (row_commands r 0 new_pen ps) (terminal w (before ++ old ∷ after) cursor was) (before ++ known_spots ps ∷ after)) (sym whole.shows)
-        (row-runs r w whole.style before after above whole.symbols 0 new_pen cursor was [] old whole.wide whole.kept refl count full (left-none old) (λ t. absurd (cc)) (λ s t. absurd (cc)))
+        let size = whole.size in
+        let count : length (flat_map cells_of whole.symbols) ≡ w = sym (length-styled whole.style 0 (flat_map cells_of whole.symbols)) ∙ sym (ap length whole.shows) ∙ whole.size in
+        let shown : over_all old (places Blanks new_pen 0 line.cells ++ (places Symbols new_pen 0 line.cells ++ places Letters new_pen 0 line.cells)) ≡ known_spots line.cells =
+        subst (λ (ps : List StyledCell). over_all old (places Blanks new_pen 0 ps ++ (places Symbols new_pen 0 ps ++ places Letters new_pen 0 ps)) ≡ known_spots ps) (sym whole.shows)
+        (passes-show w whole.style whole.symbols old whole.wide whole.kept stood.0 count) in
+        subst (λ (row : List Spot). Ends w (row_commands r line.cells) (terminal w (before ++ old ∷ after) cursor was) (before ++ row ∷ after)) shown
+        (row-runs r w before after above line.cells cursor was old (omega (arith, size)))
     at false e = record {
       cursor = cursor;
       style = was;
       runs = Runs-none (terminal w (before ++ old ∷ after) cursor was) ∙ ap (λ (row : List Spot). Some (terminal w (before ++ row ∷ after) cursor was)) (stood.1 e);
-      safe = All-nil IsSafe;
     }
 
 painting-first : (r : ℕ) (line : Line) (lines : List Line) → painting r (line ∷ lines) ≡ line_commands r line ++ painting (r + 1) lines
@@ -74,7 +80,7 @@ pub painting-runs : (w r : ℕ) (before : List (List Spot)) (lines : List Line) 
     → Ends w (painting r lines) (terminal w (before ++ olds) cursor was) (before ++ lines_shown lines)
 painting-runs w r before [] [] cursor was above whole stood =
     subst (λ (cs : List Command). Ends w cs (terminal w (before ++ []) cursor was) (before ++ [])) (sym (painting-last r))
-    (record { cursor = cursor; style = was; runs = Runs-none (terminal w (before ++ []) cursor was); safe = All-nil IsSafe })
+    (record { cursor = cursor; style = was; runs = Runs-none (terminal w (before ++ []) cursor was) })
 painting-runs w r before [] (old ∷ olds) cursor was above whole stood = absurd stood
 painting-runs w r before (line ∷ lines) [] cursor was above whole stood = absurd stood
 painting-runs w r before (line ∷ lines) (old ∷ olds) cursor was above whole stood =
@@ -86,7 +92,40 @@ painting-runs w r before (line ∷ lines) (old ∷ olds) cursor was above whole 
     let rest' = subst (λ (rows : List (List Spot)). Ends w (painting (r + 1) lines) (terminal w rows first.cursor first.style) ((before ++ row ∷ []) ++ lines_shown lines)) (sym (moved olds)) rest in
     let rest'' = subst (λ (rows : List (List Spot)). Ends w (painting (r + 1) lines) (terminal w (before ++ row ∷ olds) first.cursor first.style) rows) (sym (moved (lines_shown lines))) rest' in
     subst (λ (cs : List Command). Ends w cs (terminal w (before ++ old ∷ olds) cursor was) (before ++ row ∷ lines_shown lines)) (sym (painting-first r line lines))
-    (Ends-append w (line_commands r line) (painting (r + 1) lines) (terminal w (before ++ old ∷ olds) cursor was) (before ++ row ∷ olds) (before ++ row ∷ lines_shown lines) first.cursor first.style first.runs first.safe rest'')
+    (Ends-append w (line_commands r line) (painting (r + 1) lines) (terminal w (before ++ old ∷ olds) cursor was) (before ++ row ∷ olds) (before ++ row ∷ lines_shown lines) first.cursor first.style first.runs rest'')
+
+-- none of the rows is written
+painting-none : (r : ℕ) (lines : List Line) → list_any (λ line. line.is_changed) lines ≡ false → painting r lines ≡ []
+unfolding painting
+painting-none r [] e = refl
+painting-none r (line ∷ lines) e = at line.is_changed refl (painting-none (r + 1) lines)
+  where
+    at : (b : Bool) → line.is_changed ≡ b → (list_any (λ (l : Line). l.is_changed) lines ≡ false → painting (r + 1) lines ≡ []) → (if b then row_commands r line.cells else []) ++ painting (r + 1) lines ≡ []
+    at true f more = absurd (let first : list_any (λ (l : Line). l.is_changed) (line ∷ lines) ≡ true = rw f refl in cc)
+    at false f more =
+        let rest : list_any (λ (l : Line). l.is_changed) (line ∷ lines) ≡ list_any (λ (l : Line). l.is_changed) lines = rw f refl in
+        more (sym rest ∙ e)
+
+-- the rows are written while no symbol wraps
+pub paint-runs : (w : ℕ) (lines : List Line) (olds : List (List Spot)) (cursor : Option (ℕ × ℕ)) (was : Option Style)
+    → All (IsWholeLine w) lines → AllZip (Stood w) lines olds
+    → Ends w (paint_commands lines) (terminal w olds cursor was) (lines_shown lines)
+unfolding paint_commands
+paint-runs w lines olds cursor was whole stood = at (list_any (λ line. line.is_changed) lines) refl
+  where
+    at : (b : Bool) → list_any (λ (line : Line). line.is_changed) lines ≡ b
+        → Ends w (if b then SetWrap false ∷ (painting 0 lines ++ (SetWrap true ∷ [])) else []) (terminal w olds cursor was) (lines_shown lines)
+    at true e =
+        let rows = painting-runs w 0 [] lines olds cursor was refl whole stood in
+        let end = terminal w (lines_shown lines) rows.cursor rows.style in
+        record {
+          cursor = rows.cursor;
+          style = rows.style;
+          runs = Runs-append (SetWrap false ∷ []) (painting 0 lines ++ (SetWrap true ∷ [])) (terminal w olds cursor was) (terminal w olds cursor was) end (wrap-runs false (terminal w olds cursor was))
+              (Runs-append (painting 0 lines) (SetWrap true ∷ []) (terminal w olds cursor was) end end rows.runs (wrap-runs true end));
+        }
+    at false e =
+        subst (λ (cs : List Command). Ends w cs (terminal w olds cursor was) (lines_shown lines)) (painting-none 0 lines e) (painting-runs w 0 [] lines olds cursor was refl whole stood)
 
 -- ---- what stood
 
@@ -161,16 +200,12 @@ few-rows style grid rows screen e =
 
 -- ---- the rows to which the cursor moves
 
-row-moves : (IsOne : ℕ → Type 0) (row column : ℕ) (pen : Pen) (cells : List StyledCell) → IsOne row → All (MovesTo IsOne) (row_commands row column pen cells)
-unfolding row_commands
-row-moves IsOne row column pen [] one = All-nil (MovesTo IsOne)
-row-moves IsOne row column pen (Later ∷ ps) one = row-moves IsOne row (column + 1) (pen_after pen Later) ps one
-row-moves IsOne row column pen (First symbol style ∷ ps) one =
-    All-append (MovesTo IsOne) (cell_commands row column pen (First symbol style) (1 + laters ps)) (row_commands row (column + 1) (pen_after pen (First symbol style)) ps)
-    (All-append (MovesTo IsOne) (move_commands (pen.is_there && (length symbol == 1)) row column) (style_commands pen.style style ++ (Put symbol (1 + laters ps) ∷ [])) (at (pen.is_there && (length symbol == 1)))
-    (All-append (MovesTo IsOne) (style_commands pen.style style) (Put symbol (1 + laters ps) ∷ []) (set (is_style_set pen.style style))
-    (All-cons (MovesTo IsOne) (Put symbol (1 + laters ps)) [] tt (All-nil (MovesTo IsOne)))))
-    (row-moves IsOne row (column + 1) (pen_after pen (First symbol style)) ps one)
+cell-moves : (IsOne : ℕ → Type 0) (row column : ℕ) (pen : Pen) (p : StyledCell) (columns : ℕ) → IsOne row → All (MovesTo IsOne) (cell_commands row column pen p columns)
+cell-moves IsOne row column pen Later columns one = All-nil (MovesTo IsOne)
+cell-moves IsOne row column pen (First symbol style) columns one =
+    All-append (MovesTo IsOne) (move_commands (pen.is_there && (length symbol == 1)) row column) (style_commands pen.style style ++ (Put symbol columns ∷ [])) (at (pen.is_there && (length symbol == 1)))
+    (All-append (MovesTo IsOne) (style_commands pen.style style) (Put symbol columns ∷ []) (set (is_style_set pen.style style))
+    (All-cons (MovesTo IsOne) (Put symbol columns) [] tt (All-nil (MovesTo IsOne))))
   where
     at : (b : Bool) → All (MovesTo IsOne) (move_commands b row column)
     at true = All-nil (MovesTo IsOne)
@@ -180,11 +215,24 @@ row-moves IsOne row column pen (First symbol style ∷ ps) one =
     set true = All-nil (MovesTo IsOne)
     set false = All-cons (MovesTo IsOne) (SetStyle style) [] tt (All-nil (MovesTo IsOne))
 
+pass-moves : (IsOne : ℕ → Type 0) (pass : Pass) (row column : ℕ) (pen : Pen) (cells : List StyledCell) → IsOne row → All (MovesTo IsOne) (pass_commands pass row column pen cells)
+unfolding pass_commands
+pass-moves IsOne pass row column pen [] one = All-nil (MovesTo IsOne)
+pass-moves IsOne pass row column pen (p ∷ ps) one =
+    All-append (MovesTo IsOne) (cell_commands row column pen (passed pass pen.is_there p) (columns_in pass (laters ps))) (pass_commands pass row (column + 1) (pen_after pen (passed pass pen.is_there p)) ps)
+    (cell-moves IsOne row column pen (passed pass pen.is_there p) (columns_in pass (laters ps)) one) (pass-moves IsOne pass row (column + 1) (pen_after pen (passed pass pen.is_there p)) ps one)
+
+row-moves : (IsOne : ℕ → Type 0) (row : ℕ) (cells : List StyledCell) → IsOne row → All (MovesTo IsOne) (row_commands row cells)
+unfolding row_commands
+row-moves IsOne row cells one =
+    All-append (MovesTo IsOne) (pass_commands Blanks row 0 new_pen cells) (pass_commands Symbols row 0 new_pen cells ++ pass_commands Letters row 0 new_pen cells) (pass-moves IsOne Blanks row 0 new_pen cells one)
+    (All-append (MovesTo IsOne) (pass_commands Symbols row 0 new_pen cells) (pass_commands Letters row 0 new_pen cells) (pass-moves IsOne Symbols row 0 new_pen cells one) (pass-moves IsOne Letters row 0 new_pen cells one))
+
 line-moves : (IsOne : ℕ → Type 0) (row : ℕ) (line : Line) → (line.is_changed ≡ true → IsOne row) → All (MovesTo IsOne) (line_commands row line)
 line-moves IsOne row line one = at line.is_changed refl
   where
-    at : (b : Bool) → line.is_changed ≡ b → All (MovesTo IsOne) (if b then row_commands row 0 new_pen line.cells else [])
-    at true e = row-moves IsOne row 0 new_pen line.cells (one e)
+    at : (b : Bool) → line.is_changed ≡ b → All (MovesTo IsOne) (if b then row_commands row line.cells else [])
+    at true e = row-moves IsOne row line.cells (one e)
     at false e = All-nil (MovesTo IsOne)
 
 -- the cursor moves only to rows that are written
@@ -196,6 +244,18 @@ painting-moves IsOne row (line ∷ lines) one =
     All-append (MovesTo IsOne) (line_commands row line) (painting (row + 1) lines)
     (line-moves IsOne row line (λ e. let here : row + 0 ≡ row = omega arith in subst IsOne here (one 0 line (omega arith) refl e)))
     (painting-moves IsOne (row + 1) lines (λ k l h read e. let there : row + suc k ≡ row + 1 + k = omega arith in subst IsOne there (one (suc k) l (omega arith) read e)))
+
+paint-moves : (IsOne : ℕ → Type 0) (lines : List Line) → ((k : ℕ) (line : Line) → k < length lines → line ≡ get_or lines k line → line.is_changed ≡ true → IsOne k) → All (MovesTo IsOne) (paint_commands lines)
+unfolding paint_commands
+paint-moves IsOne lines one = at (list_any (λ line. line.is_changed) lines)
+  where
+    at : (b : Bool) → All (MovesTo IsOne) (if b then SetWrap false ∷ (painting 0 lines ++ (SetWrap true ∷ [])) else [])
+    at true =
+        All-cons (MovesTo IsOne) (SetWrap false) (painting 0 lines ++ (SetWrap true ∷ [])) tt
+        (All-append (MovesTo IsOne) (painting 0 lines) (SetWrap true ∷ [])
+        (painting-moves IsOne 0 lines (λ k line h read e. let here : k ≡ 0 + k = omega arith in subst IsOne here (one k line h read e)))
+        (All-cons (MovesTo IsOne) (SetWrap true) [] tt (All-nil (MovesTo IsOne))))
+    at false = All-nil (MovesTo IsOne)
 
 -- a row that is written is one that changed
 update-changed : (is_all : Bool) (last : List (List StyledCell)) (lines : List Line) (k : ℕ) (line : Line) → AreUpdates is_all last lines → k < length lines → line ≡ get_or lines k line
@@ -213,7 +273,7 @@ update-changed is_all (b ∷ last) (l ∷ lines) (suc k) line updates h read e f
 pub paints : (style : ℕ → ℕ → Style) (grid : Screen) (is_all : Bool) (last lasts : List (List StyledCell)) (rows : List Row) (bytes : List ℕ)
     → IsScreen grid → map cells_of_row rows ≡ picture style grid → AreUpdates is_all lasts (map line_of rows)
     → (is_all ≡ false → lasts ≡ last) → (is_all ≡ false → HasSize grid.width (length grid.rows) last) → (HasSize grid.width (length grid.rows) last → is_all ≡ false)
-    → bytes ≡ flat_map bytes_of (painting 0 (map line_of rows))
+    → bytes ≡ flat_map bytes_of (paint_commands (map line_of rows))
     → Paints grid.width last (picture style grid) bytes
 paints style grid is_all last lasts rows bytes screen e updates same fits fitted made =
     let lines = map line_of rows in
@@ -223,32 +283,35 @@ paints style grid is_all last lasts rows bytes screen e updates same fits fitted
     let count' : length lines ≡ length grid.rows = sym (length-map lines line_cells) ∙ ap length shows ∙ height in
     let count : length lines ≡ length (picture style grid) = sym (length-map lines line_cells) ∙ ap length shows in
     let run = λ (t : Terminal) (size : IsOfSize t grid.width (length (picture style grid))) (stood : HasSize grid.width (length (picture style grid)) last → t.rows ≡ map known_spots last).
-    painting-runs grid.width 0 [] lines t.rows t.cursor t.style refl whole
+    paint-runs grid.width lines t.rows t.cursor t.style whole
     (stands is_all grid.width lasts lines t.rows updates (size.high ∙ sym count) size.all_wide
     (λ (f : is_all ≡ false). stood (subst (λ (n : ℕ). HasSize grid.width n last) (sym height) (fits f)) ∙ ap (map known_spots) (sym (same f)))) in
     record {
-      commands = painting 0 lines;
+      commands = paint_commands lines;
       written = made;
-      are_read = ap read_commands made ∙ read_back Symbol (painting 0 lines) (own lines whole).safe (near lines whole count') (painting-apart 0 lines Symbol);
-      safe = (own lines whole).safe;
-      apart = painting-apart 0 lines Symbol;
-      few = painting-moves (HasChanged grid.width last (picture style grid)) 0 lines (λ k line h read written size equal.
+      are_read = ap read_commands made ∙ read_back Symbol (paint_commands lines) (safe lines whole) (near lines whole count') (paint-apart lines Symbol);
+      safe = safe lines whole;
+      apart = paint-apart lines Symbol;
+      few = paint-moves (HasChanged grid.width last (picture style grid)) lines (λ k line h read written size equal.
           let not_all : is_all ≡ false = fitted (subst (λ (n : ℕ). HasSize grid.width n last) height size) in
-          let here : 0 + k ≡ k = omega arith in
-          let equal' : get_or last k [] ≡ get_or (picture style grid) k [] = subst (λ (n : ℕ). get_or last n [] ≡ get_or (picture style grid) n []) here equal in
-          update-changed is_all lasts lines k line updates h read written not_all (ap (λ (xs : List (List StyledCell)). get_or xs k []) (same not_all) ∙ equal' ∙ ap (λ (xs : List (List StyledCell)). get_or xs k []) (sym shows)));
+          update-changed is_all lasts lines k line updates h read written not_all (ap (λ (xs : List (List StyledCell)). get_or xs k []) (same not_all) ∙ equal ∙ ap (λ (xs : List (List StyledCell)). get_or xs k []) (sym shows)));
+      places = keeps-places grid.width is_all last lasts (picture style grid) lines (λ k d h. (whole k d h).size) count
+          (λ (k : ℕ) (line : Line) (h : k < length lines) (read : line ≡ get_or lines k line).
+          ap (λ (l : Line). l.cells) read ∙ sym (get_or-map line_cells lines k line [] h) ∙ ap (λ (xs : List (List StyledCell)). get_or xs k []) shows)
+          updates same (λ (f : is_all ≡ false). subst (λ (n : ℕ). HasSize grid.width n last) (sym height) (fits f))
+          (λ (size : HasSize grid.width (length (picture style grid)) last). fitted (subst (λ (n : ℕ). HasSize grid.width n last) height size));
       shows = λ t size stood.
           let ends = run t size stood in
           let start : terminal grid.width t.rows t.cursor t.style ≡ t = ap (λ (n : ℕ). terminal n t.rows t.cursor t.style) (sym size.wide) in
           record {
             end = terminal grid.width (lines_shown lines) ends.cursor ends.style;
-            runs = subst (λ (u : Terminal). Runs (painting 0 lines) u (terminal grid.width (lines_shown lines) ends.cursor ends.style)) start ends.runs;
+            runs = subst (λ (u : Terminal). Runs (paint_commands lines) u (terminal grid.width (lines_shown lines) ends.cursor ends.style)) start ends.runs;
             stays_wide = sym size.wide;
             shows = shown-known lines ∙ ap (map known_spots) shows;
           };
     }
   where
-    -- the commands are safe whatever they are run on
+    -- the commands run on what they show
     stood-own : (lines : List Line) → All (IsWholeLine grid.width) lines → AllZip (Stood grid.width) lines (lines_shown lines)
     stood-own [] whole = tt
     stood-own (line ∷ lines) whole =
@@ -256,14 +319,17 @@ paints style grid is_all last lasts rows bytes screen e updates same fits fitted
         ((length-map line.cells Some ∙ first.size, λ h. refl), stood-own lines (All-tail (IsWholeLine grid.width) line lines whole))
 
     own : (lines : List Line) → All (IsWholeLine grid.width) lines
-        → Ends grid.width (painting 0 lines) (terminal grid.width (lines_shown lines) None None) (lines_shown lines)
-    own lines whole = painting-runs grid.width 0 [] lines (lines_shown lines) None None refl whole (stood-own lines whole)
+        → Ends grid.width (paint_commands lines) (terminal grid.width (lines_shown lines) None None) (lines_shown lines)
+    own lines whole = paint-runs grid.width lines (lines_shown lines) None None whole (stood-own lines whole)
+
+    safe : (lines : List Line) → All (IsWholeLine grid.width) lines → All IsSafe (paint_commands lines)
+    safe lines whole = paint-safe lines (λ k d h. let one : IsWholeLine grid.width (get_or lines k d) = whole k d h in subst AreMeasured (sym one.shows) (measured-styled one.style one.symbols 0 one.wide one.kept))
 
     -- and stay on the screen
-    near : (lines : List Line) → All (IsWholeLine grid.width) lines → length lines ≡ length grid.rows → All IsNear (painting 0 lines)
+    near : (lines : List Line) → All (IsWholeLine grid.width) lines → length lines ≡ length grid.rows → All IsNear (paint_commands lines)
     near lines whole count =
         let high = screen.height in
         let all = length-map lines (λ line. known_spots line.cells) in
         let start = terminal grid.width (lines_shown lines) None None in
         let ends = own lines whole in
-        runs-near (painting 0 lines) start (terminal grid.width (lines_shown lines) ends.cursor ends.style) screen.width (omega (arith, count, all)) ends.runs
+        runs-near (paint_commands lines) start (terminal grid.width (lines_shown lines) ends.cursor ends.style) screen.width (omega (arith, count, all)) ends.runs

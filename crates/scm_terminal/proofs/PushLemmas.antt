@@ -1,14 +1,17 @@
 -- The bytes of cells and of rows one after another.
-use Rattle.std.proofs.Common.{◌≡◌, ℕ, ◌==◌, ◌&&◌, ◌+◌, ◌<◌, ◌≤◌, true, List, [], ◌∷◌, ◌++◌, length, drop, get_or, refl, sym, ap, ◌∙◌, append-nil, append_assoc}
-use Rattle.std.specs.List.{flat_map}
+use Rattle.std.proofs.Common.{◌≡◌, ℕ, ◌==◌, ◌&&◌, ◌||◌, ◌+◌, ◌<◌, ◌≤◌, Bool, true, false, List, [], ◌∷◌, ◌++◌, length, drop, get_or, map, refl, sym, ap, ◌∙◌, append-nil, append_assoc}
+use Rattle.std.specs.Prelude.{if◌then◌else◌}
+use Rattle.std.specs.List.{flat_map, list_any}
 use Rattle.std.proofs.lemmas.List.{drop_more, drop_all}
 use Rattle.std.proofs.lemmas.List.Concat.{flat_map-append}
 use Rattle.scm_terminal.specs.declared.pen.Pen.{Pen}
+use Rattle.scm_terminal.specs.declared.pen.Pass.{Pass}
+use Rattle.scm_terminal.specs.declared.pen.Pass.TheVariants.{Blanks, Symbols, Letters}
 use Rattle.scm_terminal.specs.declared.row.Row.{Row}
 use Rattle.scm_terminal.specs.RowView.{line_of}
 use Rattle.scm_terminal.specs.StyledCell.{StyledCell, First, Later, laters}
-use Rattle.scm_terminal.specs.Terminal.{Command, Put, bytes_of}
-use Rattle.scm_terminal.specs.Painting.{Line, move_commands, style_commands, cell_commands, pen_after, new_pen, row_commands, line_commands, painting}
+use Rattle.scm_terminal.specs.Terminal.{Command, Put, SetWrap, bytes_of}
+use Rattle.scm_terminal.specs.Painting.{Line, move_commands, style_commands, cell_commands, pen_after, new_pen, passed, columns_in, pass_commands, row_commands, line_commands, painting, paint_commands}
 
 abbrev pub bytes : List Command → List ℕ
 bytes commands = flat_map bytes_of commands
@@ -24,35 +27,49 @@ bytes-columns row column pen (First symbol style) m n =
     last m ∙ sym (last n)
 bytes-columns row column pen Later m n = refl
 
-row-cons : (row column : ℕ) (pen : Pen) (p : StyledCell) (ps : List StyledCell)
-    → bytes (row_commands row column pen (p ∷ ps)) ≡ bytes (cell_commands row column pen p 0) ++ bytes (row_commands row (column + 1) (pen_after pen p) ps)
-unfolding row_commands
-row-cons row column pen p ps =
-    flat_map-append bytes_of (cell_commands row column pen p (1 + laters ps)) (row_commands row (column + 1) (pen_after pen p) ps)
-    ∙ ap (λ t. t ++ bytes (row_commands row (column + 1) (pen_after pen p) ps)) (bytes-columns row column pen p (1 + laters ps) 0)
+pass-cons : (pass : Pass) (row column : ℕ) (pen : Pen) (p : StyledCell) (ps : List StyledCell)
+    → bytes (pass_commands pass row column pen (p ∷ ps)) ≡ bytes (cell_commands row column pen (passed pass pen.is_there p) 0) ++ bytes (pass_commands pass row (column + 1) (pen_after pen (passed pass pen.is_there p)) ps)
+unfolding pass_commands
+pass-cons pass row column pen p ps =
+    flat_map-append bytes_of (cell_commands row column pen (passed pass pen.is_there p) (columns_in pass (laters ps))) (pass_commands pass row (column + 1) (pen_after pen (passed pass pen.is_there p)) ps)
+    ∙ ap (λ t. t ++ bytes (pass_commands pass row (column + 1) (pen_after pen (passed pass pen.is_there p)) ps)) (bytes-columns row column pen (passed pass pen.is_there p) (columns_in pass (laters ps)) 0)
 
-pub row-more : (row column : ℕ) (pen after : Pen) (cells : List StyledCell) (p : StyledCell) (was now start : List ℕ) → column < length cells → p ≡ get_or cells column p
-    → after ≡ pen_after pen p → now ≡ was ++ bytes (cell_commands row column pen p 0)
-    → was ++ bytes (row_commands row column pen (drop column cells)) ≡ start
-    → now ++ bytes (row_commands row (column + 1) after (drop (column + 1) cells)) ≡ start
-row-more row column pen after cells p was now start h read behind e inv =
+pub pass-more : (pass : Pass) (row column : ℕ) (pen after : Pen) (cells : List StyledCell) (p : StyledCell) (was now start : List ℕ) → column < length cells → p ≡ get_or cells column p
+    → after ≡ pen_after pen (passed pass pen.is_there p) → now ≡ was ++ bytes (cell_commands row column pen (passed pass pen.is_there p) 0)
+    → was ++ bytes (pass_commands pass row column pen (drop column cells)) ≡ start
+    → now ++ bytes (pass_commands pass row (column + 1) after (drop (column + 1) cells)) ≡ start
+pass-more pass row column pen after cells p was now start h read behind e inv =
     let more : drop column cells ≡ p ∷ drop (column + 1) cells = drop_more cells column p h ∙ ap (λ q. q ∷ drop (column + 1) cells) (sym read) in
-    let rest = bytes (row_commands row (column + 1) (pen_after pen p) (drop (column + 1) cells)) in
-    ap (λ (q : Pen). now ++ bytes (row_commands row (column + 1) q (drop (column + 1) cells))) behind
+    let rest = bytes (pass_commands pass row (column + 1) (pen_after pen (passed pass pen.is_there p)) (drop (column + 1) cells)) in
+    ap (λ (q : Pen). now ++ bytes (pass_commands pass row (column + 1) q (drop (column + 1) cells))) behind
     ∙ ap (λ t. t ++ rest) e
-    ∙ append_assoc was (bytes (cell_commands row column pen p 0)) rest
-    ∙ ap (λ t. was ++ t) (sym (row-cons row column pen p (drop (column + 1) cells)))
-    ∙ ap (λ ps. was ++ bytes (row_commands row column pen ps)) (sym more)
+    ∙ append_assoc was (bytes (cell_commands row column pen (passed pass pen.is_there p) 0)) rest
+    ∙ ap (λ t. was ++ t) (sym (pass-cons pass row column pen p (drop (column + 1) cells)))
+    ∙ ap (λ ps. was ++ bytes (pass_commands pass row column pen ps)) (sym more)
     ∙ inv
 
-row-nil : (row column : ℕ) (pen : Pen) → row_commands row column pen [] ≡ []
-unfolding row_commands
-row-nil row column pen = refl
+pass-nil : (pass : Pass) (row column : ℕ) (pen : Pen) → pass_commands pass row column pen [] ≡ []
+unfolding pass_commands
+pass-nil pass row column pen = refl
 
-pub row-all : (row column : ℕ) (pen : Pen) (cells : List StyledCell) (now start : List ℕ) → length cells ≤ column
-    → now ++ bytes (row_commands row column pen (drop column cells)) ≡ start → now ≡ start
-row-all row column pen cells now start h inv =
-    sym (append-nil now) ∙ ap (λ cs. now ++ bytes cs) (sym (ap (row_commands row column pen) (drop_all column cells h) ∙ row-nil row column pen)) ∙ inv
+pub pass-all : (pass : Pass) (row column : ℕ) (pen : Pen) (cells : List StyledCell) (now start : List ℕ) → length cells ≤ column
+    → now ++ bytes (pass_commands pass row column pen (drop column cells)) ≡ start → now ≡ start
+pass-all pass row column pen cells now start h inv =
+    sym (append-nil now) ∙ ap (λ cs. now ++ bytes cs) (sym (ap (pass_commands pass row column pen) (drop_all column cells h) ∙ pass-nil pass row column pen)) ∙ inv
+
+-- the three passes of a row
+pub row-passes : (row : ℕ) (cells : List StyledCell) (t0 t1 t2 t3 : List ℕ)
+    → t1 ≡ t0 ++ bytes (pass_commands Blanks row 0 new_pen cells) → t2 ≡ t1 ++ bytes (pass_commands Symbols row 0 new_pen cells) → t3 ≡ t2 ++ bytes (pass_commands Letters row 0 new_pen cells)
+    → t3 ≡ t0 ++ bytes (row_commands row cells)
+unfolding row_commands
+row-passes row cells t0 t1 t2 t3 e f g =
+    let blanks = pass_commands Blanks row 0 new_pen cells in
+    let symbols = pass_commands Symbols row 0 new_pen cells in
+    let letters = pass_commands Letters row 0 new_pen cells in
+    g ∙ ap (λ t. t ++ bytes letters) (f ∙ ap (λ t. t ++ bytes symbols) e)
+    ∙ append_assoc (t0 ++ bytes blanks) (bytes symbols) (bytes letters)
+    ∙ append_assoc t0 (bytes blanks) (bytes symbols ++ bytes letters)
+    ∙ ap (λ t. t0 ++ t) (ap (λ t. bytes blanks ++ t) (sym (flat_map-append bytes_of symbols letters)) ∙ sym (flat_map-append bytes_of blanks (symbols ++ letters)))
 
 painting-cons : (row : ℕ) (line : Line) (lines : List Line) → bytes (painting row (line ∷ lines)) ≡ bytes (line_commands row line) ++ bytes (painting (row + 1) lines)
 unfolding painting
@@ -79,6 +96,29 @@ pub painting-all : (row : ℕ) (lines : List Line) (now start : List ℕ) → le
 painting-all row lines now start h inv =
     sym (append-nil now) ∙ ap (λ cs. now ++ bytes cs) (sym (ap (painting row) (drop_all row lines h) ∙ painting-nil row)) ∙ inv
 
-pub row-push : (row : ℕ) (shown : Row) (was now : List ℕ) → shown.is_changed ≡ true → now ≡ was ++ bytes (row_commands row 0 new_pen shown.cells.items)
+pub row-push : (row : ℕ) (shown : Row) (was now : List ℕ) → shown.is_changed ≡ true → now ≡ was ++ bytes (row_commands row shown.cells.items)
     → now ≡ was ++ bytes (line_commands row (line_of shown))
 row-push row shown was now changed e = rw changed e
+
+pub changed-lines : (rows : List Row) → list_any (λ line. line.is_changed) (map line_of rows) ≡ list_any (λ row. row.is_changed) rows
+changed-lines [] = refl
+changed-lines (row ∷ rows) = ap (λ b. row.is_changed || b) (changed-lines rows)
+
+-- the rows of a paint, while no symbol wraps
+pub paint-push : (lines : List Line) (t0 t1 t2 t3 : List ℕ) → list_any (λ line. line.is_changed) lines ≡ true
+    → t1 ≡ t0 ++ (27 ∷ (91 ∷ (63 ∷ (55 ∷ (108 ∷ []))))) → t2 ≡ t1 ++ bytes (painting 0 lines) → t3 ≡ t2 ++ (27 ∷ (91 ∷ (63 ∷ (55 ∷ (104 ∷ [])))))
+    → t3 ≡ t0 ++ bytes (paint_commands lines)
+unfolding paint_commands bytes_of
+paint-push lines t0 t1 t2 t3 changed e f g =
+    let off = 27 ∷ (91 ∷ (63 ∷ (55 ∷ (108 ∷ [])))) in
+    let on = 27 ∷ (91 ∷ (63 ∷ (55 ∷ (104 ∷ [])))) in
+    let rows = painting 0 lines in
+    g ∙ ap (λ t. t ++ on) (f ∙ ap (λ t. t ++ bytes rows) e)
+    ∙ append_assoc (t0 ++ off) (bytes rows) on
+    ∙ append_assoc t0 off (bytes rows ++ on)
+    ∙ ap (λ t. t0 ++ (off ++ t)) (sym (flat_map-append bytes_of rows (SetWrap true ∷ [])))
+    ∙ ap (λ (b : Bool). t0 ++ bytes (if b then SetWrap false ∷ (rows ++ (SetWrap true ∷ [])) else [])) (sym changed)
+
+pub paint-none : (lines : List Line) (t0 : List ℕ) → list_any (λ line. line.is_changed) lines ≡ false → t0 ≡ t0 ++ bytes (paint_commands lines)
+unfolding paint_commands
+paint-none lines t0 none = sym (append-nil t0) ∙ ap (λ (b : Bool). t0 ++ bytes (if b then SetWrap false ∷ (painting 0 lines ++ (SetWrap true ∷ [])) else [])) (sym none)

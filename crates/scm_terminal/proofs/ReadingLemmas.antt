@@ -20,8 +20,8 @@ use Rattle.scm_terminal.specs.declared.style.Style.{Style}
 use Rattle.scm_terminal.specs.Bytes.{is_digit}
 use Rattle.scm_terminal.specs.Style.{colour_bytes, text_if, flag_bytes, style_bytes, with_number, style_of}
 use Rattle.scm_terminal.specs.Streams.{HasNoEscape}
-use Rattle.scm_terminal.specs.Terminal.{Command, MoveTo, SetStyle, Put, IsSafe, IsNotControl, IsNear, Before, Moved, Byte, Symbol, behind, MayFollow, AreApart, AreReadable, bytes_of}
-use Rattle.scm_terminal.specs.Reading.{put_byte, text_commands, commands_of_both, sequence_commands, part_commands, Parts, with_byte, parts_of, all_part_commands, read_commands}
+use Rattle.scm_terminal.specs.Terminal.{Command, MoveTo, SetStyle, Put, SetWrap, IsSafe, IsNotControl, IsNear, Before, Moved, Byte, Symbol, behind, MayFollow, AreApart, AreReadable, bytes_of}
+use Rattle.scm_terminal.specs.Reading.{put_byte, text_commands, commands_of_both, sequence_commands, control_commands, part_commands, Parts, with_byte, parts_of, all_part_commands, read_commands}
 use Rattle.scm_terminal.proofs.ControlLemmas.{holds_no_control}
 
 -- ---- bytes between escapes
@@ -72,6 +72,14 @@ sequence-decimal : (n : ℕ) (ns rest : List ℕ) → n < 2 ^ 64 → sequence_co
 sequence-decimal n ns rest h =
     sequence-digits 0 ns (decimal n) rest (digits_decimal numerals n h) ∙ ap (λ (m : ℕ). sequence_commands (m ∷ ns) rest) (digits_value-decimal numerals n h)
 
+-- what begins with a digit or a semicolon sets no mode
+control-digits : (ds rest : List ℕ) → AllDigits 10 ds → control_commands (ds ++ 59 ∷ rest) ≡ sequence_commands (0 ∷ []) (ds ++ 59 ∷ rest)
+control-digits [] rest h = refl
+control-digits (d ∷ ds) rest h =
+    let k = digit_from_value d h.0 in
+    let not : (d == 63) ≡ false = grind (arith, nat_tests) in
+    rw not refl
+
 no_escape-digits : (ds : List ℕ) → AllDigits 10 ds → HasNoEscape ds
 no_escape-digits [] h = tt
 no_escape-digits (d ∷ ds) h = let k = digit_from_value d h.0 in (λ e. omega (arith, k.0), no_escape-digits ds h.1)
@@ -103,7 +111,8 @@ move-read row column text h g =
     let second : (decimal (column + 1) ++ (72 ∷ [])) ++ text ≡ decimal (column + 1) ++ (72 ∷ text) = append_assoc (decimal (column + 1)) (72 ∷ []) text in
     let same : (row + 1) - 1 ≡ row = omega arith in
     let same' : (column + 1) - 1 ≡ column = omega arith in
-    ap (sequence_commands (0 ∷ [])) first
+    ap control_commands first
+    ∙ control-digits (decimal (row + 1)) ((decimal (column + 1) ++ (72 ∷ [])) ++ text) (digits_decimal numerals (row + 1) (omega arith))
     ∙ sequence-decimal (row + 1) [] (59 ∷ ((decimal (column + 1) ++ (72 ∷ [])) ++ text)) (omega arith)
     ∙ ap (sequence_commands (0 ∷ ((row + 1) ∷ []))) second
     ∙ sequence-decimal (column + 1) ((row + 1) ∷ []) (72 ∷ text) (omega arith)
@@ -247,6 +256,23 @@ style-read s text =
     ∙ colour-sequence s.colour _ (109 ∷ text)
     ∙ ap (λ (o : Option Style). commands_of_both (option_map (λ command. command ∷ []) (option_map SetStyle o)) (text_commands text)) (style-of s)
 
+-- ---- whether symbols wrap
+
+abbrev wrap_body : Bool → List ℕ
+wrap_body b = 91 ∷ (63 ∷ (55 ∷ ((if b then 104 else 108) ∷ [])))
+
+wrap-bytes : (b : Bool) → bytes_of (SetWrap b) ≡ 27 ∷ wrap_body b
+unfolding bytes_of
+wrap-bytes b = refl
+
+wrap-body : (b : Bool) → HasNoEscape (wrap_body b)
+wrap-body true = (λ e. omega (arith, e), (λ e. omega (arith, e), (λ e. omega (arith, e), (λ e. omega (arith, e), tt))))
+wrap-body false = (λ e. omega (arith, e), (λ e. omega (arith, e), (λ e. omega (arith, e), (λ e. omega (arith, e), tt))))
+
+wrap-read : (b : Bool) (text : List ℕ) → part_commands (wrap_body b ++ text) ≡ commands_of_both (Some (SetWrap b ∷ [])) (text_commands text)
+wrap-read true text = refl
+wrap-read false text = refl
+
 -- ---- symbols
 
 one_char : (b c : ℕ) (cs : List ℕ) → encode_utf8 c ++ encode_utf8_all cs ≡ b ∷ [] → b < 128
@@ -278,7 +304,7 @@ byte-printable b columns m =
     let within : b ≤ 126 = omega arith in
     grind (arith, nat_tests)
 
-byte-columns : (b columns : ℕ) → IsMeasured (b ∷ [], columns) → columns ≡ 1
+pub byte-columns : (b columns : ℕ) → IsMeasured (b ∷ [], columns) → columns ≡ 1
 unfolding with_width
 byte-columns b columns m =
     let one : option_map {U = Cluster} (λ w. (b ∷ [], w)) (visible_width (b ∷ [])) ≡ Some (b ∷ [], 1) = printable-kept b (byte-printable b columns m) in
@@ -383,7 +409,7 @@ reads-symbol before symbol columns cs parts m long follows more =
     kind Byte follows = absurd (grind (arith, nat_tests))
     kind Symbol follows = absurd follows
 
-one_byte : (symbol : List ℕ) → (length symbol == 1) ≡ true → (b : ℕ) × (symbol ≡ b ∷ [])
+pub one_byte : (symbol : List ℕ) → (length symbol == 1) ≡ true → (b : ℕ) × (symbol ≡ b ∷ [])
 one_byte [] h = absurd (cc)
 one_byte (b ∷ []) h = (b, refl)
 one_byte (b ∷ (c ∷ cs)) h = absurd (grind (arith, nat_tests))
@@ -411,6 +437,9 @@ reads before (MoveTo row column ∷ cs) safe near apart =
 reads before (SetStyle style ∷ cs) safe near apart =
     reads-command before before (SetStyle style) cs (style_body style) (style-bytes style) (style-body style) (λ text. style-read style text)
     (reads before cs (All-tail IsSafe (SetStyle style) cs safe) (All-tail IsNear (SetStyle style) cs near) apart)
+reads before (SetWrap wraps ∷ cs) safe near apart =
+    reads-command before before (SetWrap wraps) cs (wrap_body wraps) (wrap-bytes wraps) (wrap-body wraps) (λ text. wrap-read wraps text)
+    (reads before cs (All-tail IsSafe (SetWrap wraps) cs safe) (All-tail IsNear (SetWrap wraps) cs near) apart)
 reads before (Put symbol columns ∷ cs) safe near apart =
     let m = All-head IsSafe (Put symbol columns) cs safe in
     let clean = no_escape-plain symbol (holds_no_control symbol columns m).1 in

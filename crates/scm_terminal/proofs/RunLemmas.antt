@@ -8,7 +8,7 @@ use Rattle.scm_terminal.specs.declared.style.Style.{Style}
 use Rattle.scm_terminal.specs.declared.pen.Pen.{Pen}
 use Rattle.scm_terminal.specs.StyledCell.{First}
 use Rattle.scm_terminal.specs.Style.{style_code}
-use Rattle.scm_terminal.specs.Terminal.{Terminal, Spot, Command, MoveTo, SetStyle, Put, spots_of, over, put, after, after_all}
+use Rattle.scm_terminal.specs.Terminal.{Terminal, Spot, Command, MoveTo, SetStyle, Put, SetWrap, spots_of, over, put, after, after_all}
 use Rattle.scm_terminal.specs.Painting.{move_commands, style_commands, cell_commands}
 use Rattle.scm_terminal.proofs.StyleLemmas.{style-same}
 
@@ -38,6 +38,10 @@ Runs-append xs ys t u v e f = after_all-append xs ys t ∙ ap (option_and_then (
 pub Runs-one : (c : Command) (t u : Terminal) → after c t ≡ Some u → Runs (c ∷ []) t u
 unfolding after_all
 Runs-one c t u e = ap (option_and_then (after_all [])) e
+
+pub wrap-runs : (b : Bool) (t : Terminal) → Runs (SetWrap b ∷ []) t t
+unfolding after
+wrap-runs b t = Runs-one (SetWrap b) t t refl
 
 -- ---- the commands of a cell
 

@@ -7,8 +7,7 @@ use Rattle.std.proofs.lemmas.Bool.Decides.{nat_tests}
 use Rattle.std.proofs.lemmas.List.{get_or-map, length-map, length_push, map_push}
 use Rattle.std.proofs.lemmas.List.Elements.{All-map, All-append, All-cons, All-nil}
 use Rattle.std.proofs.lemmas.List.FromFn.{get_or-map-range_with_len, fill_by_all}
-use Rattle.scm_terminal.specs.StyledCell.{StyledCell, Later}
-use Rattle.scm_terminal.specs.Promise.{HasSize}
+use Rattle.scm_terminal.specs.StyledCell.{StyledCell, Later, HasSize}
 
 -- a cell that shows something else is one of a row that does
 pub differs : (f : ℕ → StyledCell) (cells : List StyledCell) (n column : ℕ) (p q : StyledCell) (b : Bool) → column < length cells → length cells ≡ n → p ≡ get_or cells column p → q ≡ f column

@@ -4,9 +4,8 @@ use Rattle.std.specs.List.{AllZip, range_with_len}
 use Rattle.std.proofs.lemmas.List.{length-map, get_or-map, map-set, get_or-drop, drop-drop, drop-set-lt, take_more, take_more_set, take_all}
 use Rattle.std.proofs.lemmas.List.Edits.{fill_by_more}
 use Rattle.std.proofs.lemmas.List.FromFn.{fill_by_all}
-use Rattle.scm_terminal.specs.StyledCell.{StyledCell}
+use Rattle.scm_terminal.specs.StyledCell.{StyledCell, HasSize}
 use Rattle.scm_terminal.specs.Painting.{Line, IsUpdate, AreUpdates}
-use Rattle.scm_terminal.specs.Promise.{HasSize}
 use Rattle.scm_terminal.specs.declared.row.Row.{Row}
 use Rattle.scm_terminal.specs.RowView.{line_of}
 use Rattle.scm_terminal.specs.PainterView.{cells_of_row}

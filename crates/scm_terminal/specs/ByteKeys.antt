@@ -1,5 +1,5 @@
 -- Keys that a terminal sends as one byte: printable ASCII, C0 controls and DEL.
-use Rattle.std.specs.Prelude.{ℕ, ◌+◌, Bool, false, ◌&&◌, ◌==◌, not, nat_lt, if◌then◌else◌}
+use Rattle.std.specs.Prelude.{ℕ, ◌+◌, Bool, false, ◌&&◌, ◌||◌, ◌==◌, not, nat_lt, if◌then◌else◌}
 use Rattle.scm_input.specs.declared.terminal.KeyCode.{KeyCode}
 use Rattle.scm_input.specs.declared.terminal.KeyCode.TheVariants as key
 use Rattle.scm_input.specs.declared.terminal.KeyEvent.{KeyEvent}
@@ -7,11 +7,13 @@ use Rattle.scm_input.specs.declared.terminal.KeyEventKind.TheVariants.{Press}
 use Rattle.scm_terminal.specs.Bytes.{is_between}
 
 -- the key code of byte `b`: 13 is Enter, 9 is Tab, 1 to 26 are letters with control, and space to
--- `~` are their characters; Backspace (8 and 127) is no key of the table
+-- `~` are their characters, but `H` and `L` the small letters, which the key table names with shift;
+-- Backspace (8 and 127) is no key of the table
 abbrev pub code_of : ℕ → KeyCode
 code_of b =
     if b == 13 then key.Enter
     else if b == 9 then key.Char b
+    else if b == 72 || b == 76 then key.Char (b + 32)
     else if is_between 32 126 b then key.Char b
     else if b == 8 then key.Other
     else if is_between 1 26 b then key.Char (b + 96)

@@ -4,6 +4,8 @@ pub mod Style
 pub mod StyledCell
 -- a model terminal, its commands, and their bytes
 pub mod Terminal
+-- a terminal of any widths
+pub mod AnyTerminal
 -- the commands that a terminal reads in bytes
 pub mod Reading
 -- the commands of a paint: those of the rows that changed
@@ -32,3 +34,5 @@ pub mod Streams
 pub mod Transitions
 -- the decoder, byte by byte
 pub mod Decoders
+-- the bytes of each row of the key table
+pub mod KeyBytes

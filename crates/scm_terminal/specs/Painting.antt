@@ -1,11 +1,13 @@
 -- The commands that a painter writes: those of the rows that changed, each from its first column.
-use Rattle.std.specs.Prelude.{◌≡◌, ◌↔◌, ℕ, ◌+◌, ◌==◌, ◌&&◌, List, [], ◌∷◌, ◌++◌, Bool, false, if◌then◌else◌, length, Option, Some, None}
-use Rattle.std.specs.List.{AllZip}
+use Rattle.std.specs.Prelude.{◌≡◌, ◌↔◌, ℕ, ◌+◌, ◌==◌, ◌&&◌, not, List, [], ◌∷◌, ◌++◌, Bool, true, false, if◌then◌else◌, length, Option, Some, None}
+use Rattle.std.specs.List.{AllZip, list_any}
 use Rattle.scm_terminal.specs.declared.style.Style.{Style}
 use Rattle.scm_terminal.specs.declared.pen.Pen.{Pen}
+use Rattle.scm_terminal.specs.declared.pen.Pass.{Pass}
+use Rattle.scm_terminal.specs.declared.pen.Pass.TheVariants.{Blanks, Symbols, Letters}
 use Rattle.scm_terminal.specs.StyledCell.{StyledCell, First, Later, laters}
-use Rattle.scm_terminal.specs.Style.{style_code}
-use Rattle.scm_terminal.specs.Terminal.{Command, MoveTo, SetStyle, Put}
+use Rattle.scm_terminal.specs.Style.{style_code, plain_style}
+use Rattle.scm_terminal.specs.Terminal.{Command, MoveTo, SetStyle, Put, SetWrap}
 
 -- the pen at the beginning of a row: nothing is known
 abbrev pub new_pen : Pen
@@ -37,12 +39,39 @@ abbrev pub pen_after : Pen → StyledCell → Pen
 pen_after pen Later = record { is_there = false; style = pen.style }
 pen_after pen (First symbol style) = record { is_there = length symbol == 1; style = Some style }
 
--- the commands of the cells of row `row`, of which the first is at `column`
-unfoldable pub row_commands : ℕ → ℕ → Pen → List StyledCell → List Command
-row_commands row column pen [] = []
-row_commands row column pen (p ∷ ps) =
-    cell_commands row column pen p (1 + laters ps)
-    ++ row_commands row (column + 1) (pen_after pen p) ps
+-- What a pass puts at a cell, or `Later` for nothing. The first pass blanks the later columns of
+-- symbols, the second puts the symbols of several bytes, and the third those of one byte. The first
+-- also blanks the column of a symbol of several bytes if the cursor is there, which saves a move.
+abbrev pub passed : Pass → Bool → StyledCell → StyledCell
+passed Blanks is_there (First symbol style) =
+    if is_there && not (length symbol == 1) then First (32 ∷ []) plain_style else Later
+passed Blanks is_there Later = First (32 ∷ []) plain_style
+passed Symbols is_there (First symbol style) =
+    if length symbol == 1 then Later else First symbol style
+passed Symbols is_there Later = Later
+passed Letters is_there (First symbol style) =
+    if length symbol == 1 then First symbol style else Later
+passed Letters is_there Later = Later
+
+-- the columns of what a pass puts at a cell, if `more` later columns follow it
+abbrev pub columns_in : Pass → ℕ → ℕ
+columns_in Blanks more = 1
+columns_in Symbols more = 1 + more
+columns_in Letters more = 1
+
+-- the commands of a pass for the cells of row `row`, of which the first is at `column`
+unfoldable pub pass_commands : Pass → ℕ → ℕ → Pen → List StyledCell → List Command
+pass_commands pass row column pen [] = []
+pass_commands pass row column pen (p ∷ ps) =
+    cell_commands row column pen (passed pass pen.is_there p) (columns_in pass (laters ps))
+    ++ pass_commands pass row (column + 1) (pen_after pen (passed pass pen.is_there p)) ps
+
+-- the commands of the cells of row `row`: a terminal that shows a symbol of several bytes in other
+-- columns than ours has shown it before the symbols of one byte are put
+unfoldable pub row_commands : ℕ → List StyledCell → List Command
+row_commands row cells =
+    pass_commands Blanks row 0 new_pen cells
+    ++ (pass_commands Symbols row 0 new_pen cells ++ pass_commands Letters row 0 new_pen cells)
 
 -- a row of the picture
 pub record Line : Type 0 where
@@ -53,12 +82,19 @@ pub record Line : Type 0 where
 
 -- the commands of `line`, the row with the index `row`: none unless it is changed
 abbrev pub line_commands : ℕ → Line → List Command
-line_commands row line = if line.is_changed then row_commands row 0 new_pen line.cells else []
+line_commands row line = if line.is_changed then row_commands row line.cells else []
 
 -- the commands of rows, of which the first has the index `row`
 unfoldable pub painting : ℕ → List Line → List Command
 painting row [] = []
 painting row (line ∷ lines) = line_commands row line ++ painting (row + 1) lines
+
+-- the commands of a paint: those of the rows, if any is changed, while no symbol wraps
+unfoldable pub paint_commands : List Line → List Command
+paint_commands lines =
+    if list_any (λ line. line.is_changed) lines then
+    SetWrap false ∷ (painting 0 lines ++ (SetWrap true ∷ []))
+    else []
 
 -- `line` is left out exactly if not all rows are written and its cells are those of `before`
 abbrev pub IsUpdate : Bool → List StyledCell → Line → Type 0

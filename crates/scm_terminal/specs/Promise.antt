@@ -1,20 +1,14 @@
 -- The promise of a paint: its bytes bring every terminal of the grid's size to the picture.
 use Rattle.std.specs.Prelude.{◌≡◌, ℕ, List, [], length, map, slice_index_or, Some}
 use Rattle.std.specs.List.{All, flat_map}
-use Rattle.scm_terminal.specs.StyledCell.{StyledCell}
-use Rattle.scm_terminal.specs.Terminal.{Terminal, Spot, IsOfSize, Command, MoveTo, SetStyle, Put, IsSafe, Symbol, AreApart, bytes_of, after_all}
+use Rattle.scm_terminal.specs.StyledCell.{StyledCell, HasSize}
+use Rattle.scm_terminal.specs.AnyTerminal.{KeepsPlaces}
+use Rattle.scm_terminal.specs.Terminal.{Terminal, Spot, IsOfSize, Command, MoveTo, SetStyle, Put, SetWrap, IsSafe, Symbol, AreApart, bytes_of, after_all}
 use Rattle.scm_terminal.specs.Reading.{read_commands}
 
 -- a row of which all columns are known
 abbrev pub known_spots : List StyledCell → List Spot
 known_spots cells = map Some cells
-
--- `rows` are `height` rows, each of `width` columns
-pub record HasSize (width height : ℕ) (rows : List (List StyledCell)) : Type 0 where
-  -- the number of rows
-  pub high : length rows ≡ height
-  -- the number of columns of each row
-  pub all_wide : All (λ row. length row ≡ width) rows
 
 -- `commands` bring the terminal `t` to one of the same width that shows `rows`
 pub record Leads (commands : List Command) (t : Terminal) (rows : List (List Spot)) : Type 0 where
@@ -32,6 +26,7 @@ abbrev pub MovesTo : (ℕ → Type 0) → Command → Type 0
 MovesTo IsOne (MoveTo row column) = IsOne row
 MovesTo IsOne (SetStyle style) = Unit {0}
 MovesTo IsOne (Put symbol columns) = Unit {0}
+MovesTo IsOne (SetWrap wraps) = Unit {0}
 
 -- row `row` of the picture `next` changed: it differs from that row of `last`, if `last` has the
 -- same size
@@ -44,6 +39,8 @@ HasChanged width last next row =
 -- - `safe`: all symbols that are put are kept clusters, which have no control character;
 -- - `apart`: the cursor is moved before and after each cluster of several bytes;
 -- - `few`: the cursor is moved only to rows that changed;
+-- - `places`: a terminal of any widths keeps the other rows, and shows each symbol of one byte of
+--   `next` at its place;
 -- - `shows`: every terminal of this width and height shows `next` afterwards, whatever it showed
 --   before. If `last` has the same size, the terminal has to show `last` before.
 pub record Paints (width : ℕ) (last next : List (List StyledCell)) (bytes : List ℕ) : Type 0 where
@@ -53,6 +50,7 @@ pub record Paints (width : ℕ) (last next : List (List StyledCell)) (bytes : Li
   pub safe : All IsSafe commands
   pub apart : AreApart Symbol commands
   pub few : All (MovesTo (HasChanged width last next)) commands
+  pub places : KeepsPlaces width last next commands
   pub shows : (t : Terminal) → IsOfSize t width (length next)
       → (HasSize width (length next) last → t.rows ≡ map known_spots last)
       → Leads commands t (map known_spots next)

@@ -1,11 +1,11 @@
 -- The commands that a terminal reads in bytes, by ECMA-48. An escape begins a control sequence; the
 -- bytes between two control sequences are text.
-use Rattle.std.specs.Prelude.{ℕ, ◌+◌, ◌-◌, ◌*◌, ◌==◌, List, [], ◌∷◌, ◌++◌, if◌then◌else◌, map, Option, Some, None, option_map}
+use Rattle.std.specs.Prelude.{ℕ, ◌+◌, ◌-◌, ◌*◌, ◌==◌, true, false, ◌&&◌, List, [], ◌∷◌, ◌++◌, if◌then◌else◌, map, Option, Some, None, option_map}
 use Rattle.scm_cells.specs.Cluster.{is_printable}
 use Rattle.scm_cells.specs.Clusters.{visible_width}
 use Rattle.scm_terminal.specs.Bytes.{is_digit}
 use Rattle.scm_terminal.specs.Style.{style_of}
-use Rattle.scm_terminal.specs.Terminal.{Command, MoveTo, SetStyle, Put}
+use Rattle.scm_terminal.specs.Terminal.{Command, MoveTo, SetStyle, Put, SetWrap}
 
 -- ---- text
 
@@ -56,10 +56,27 @@ sequence_commands numbers (b ∷ bs) =
     else commands_of_both
     (option_map (λ command. command ∷ []) (command_of b numbers)) (text_commands bs)
 
+-- the commands of bytes after `ESC [ ?`: `7h` wraps and `7l` does not, then text
+abbrev pub mode_commands : List ℕ → Option (List Command)
+mode_commands [] = None
+mode_commands (n ∷ []) = None
+mode_commands (n ∷ (b ∷ bs)) =
+    if (n == 55) && (b == 104) then
+    commands_of_both (Some (SetWrap true ∷ [])) (text_commands bs)
+    else if (n == 55) && (b == 108) then
+    commands_of_both (Some (SetWrap false ∷ [])) (text_commands bs)
+    else None
+
+-- the commands of bytes after `ESC [`
+abbrev pub control_commands : List ℕ → Option (List Command)
+control_commands [] = None
+control_commands (b ∷ bs) =
+    if b == 63 then mode_commands bs else sequence_commands (0 ∷ []) (b ∷ bs)
+
 -- the commands of a part, the bytes from an escape to the next: each sequence begins with a `[`
 abbrev pub part_commands : List ℕ → Option (List Command)
 part_commands [] = None
-part_commands (b ∷ bs) = if b == 91 then sequence_commands (0 ∷ []) bs else None
+part_commands (b ∷ bs) = if b == 91 then control_commands bs else None
 
 -- ---- all bytes
 

@@ -24,7 +24,7 @@ unrecognized_token = Event terminal.Other
 
 -- a sequence of `kind` without parameters
 unfoldable pub new_sequence : SequenceKind → Sequence
-new_sequence kind = record { kind = kind; semicolons = 0; first = 0; second = 0; last = 0 }
+new_sequence kind = record { kind = kind; bytes = 0; semicolons = 0; first = 0; second = 0; last = 0 }
 
 -- the sequence `q` with its kind replaced by `kind`
 abbrev pub as_kind : Sequence → SequenceKind → Sequence
@@ -58,14 +58,18 @@ is_csi Unknown = false
 abbrev pub is_blank : Sequence → Bool
 is_blank q = is_csi q.kind && (q.semicolons == 0 && q.last == 0)
 
+-- the sequence `q` with one more parameter byte counted, up to 4
+abbrev pub counted : Sequence → Sequence
+counted q = record q { bytes = if nat_lt q.bytes 4 then q.bytes + 1 else q.bytes }
+
 -- the sequence `q` after the parameter byte `b`: a digit, a semicolon, or a leading `<`, which
 -- makes it a mouse report; any other byte makes it unknown
 unfoldable pub with_parameter : Sequence → ℕ → Sequence
 with_parameter q b =
-    if is_digit b then with_digit q (b - 48)
-    else if b == 59 then with_semicolon q
-    else if b == 60 && is_blank q then as_kind q Mouse
-    else as_kind q Unknown
+    if is_digit b then with_digit (counted q) (b - 48)
+    else if b == 59 then with_semicolon (counted q)
+    else if b == 60 && is_blank (counted q) then as_kind (counted q) Mouse
+    else as_kind (counted q) Unknown
 
 -- ---- the token of a sequence
 
@@ -110,13 +114,17 @@ named_key q (Some code) =
     Event (terminal.Key (record { code = code; modifiers = key_modifiers q; kind = Press }))
     else unrecognized_token
 
+-- whether the parameter bytes of `q` are the three digits of `number`
+abbrev pub is_mark : Sequence → ℕ → Bool
+is_mark q number = ((q.bytes == 3) && (q.semicolons == 0)) && (q.last == number)
+
 -- the token of a control sequence with the final byte `last`: `~` ends a paging key or a mark of a
--- bracketed paste, 200 or 201; a letter ends an arrow
+-- bracketed paste, 200 or 201 and nothing else; a letter ends an arrow
 abbrev pub key_token : Sequence → ℕ → Token
 key_token q last =
     if last == 126 then (
-    if key_number q == 200 then PasteBegins
-    else if key_number q == 201 then PasteEnds
+    if is_mark q 200 then PasteBegins
+    else if is_mark q 201 then PasteEnds
     else named_key q (paging (key_number q)))
     else named_key q (arrow (key_number q) last)
 

@@ -180,6 +180,10 @@ paste_begin = 27 ∷ 91 ∷ 50 ∷ 48 ∷ 48 ∷ 126 ∷ []
 abbrev pub paste_end : List ℕ
 paste_end = 27 ∷ 91 ∷ 50 ∷ 48 ∷ 49 ∷ 126 ∷ []
 
+-- the end mark of a bracketed paste stands in the bytes
+abbrev pub HasMark : List ℕ → Type 0
+HasMark bytes = (before : List ℕ) × ((after : List ℕ) × (bytes ≡ before ++ (paste_end ++ after)))
+
 -- none of the bytes is an escape
 abbrev pub HasNoEscape : List ℕ → Type 0
 HasNoEscape [] = Unit {0}
@@ -189,6 +193,13 @@ HasNoEscape (b ∷ bs) = (b ≢ 27) × HasNoEscape bs
 abbrev pub AreOther : List TerminalEvent → Type 0
 AreOther [] = Unit {0}
 AreOther (event ∷ events) = (event ≡ terminal.Other) × AreOther events
+
+-- the bytes stay within a bracketed paste: nothing acts on them, and the paste goes on after them
+pub record StayPasted (bytes : List ℕ) : Type 0 where
+  -- their events are `Other`
+  pub quiet : AreOther (stream_events true bytes)
+  -- the paste has not ended
+  pub goes_on : is_pasted_after true bytes ≡ true
 
 -- a bracketed paste of `pasted` has only `Other` events, and does not change the events of the
 -- bytes `more` after it

@@ -1,6 +1,6 @@
 -- The content of one column of a screen, and the picture of a grid in styles.
-use Rattle.std.specs.Prelude.{ℕ, suc, List, [], ◌∷◌, length, map, Option, Some, None}
-use Rattle.std.specs.List.{range_with_len}
+use Rattle.std.specs.Prelude.{◌≡◌, ℕ, suc, List, [], ◌∷◌, length, map, Option, Some, None}
+use Rattle.std.specs.List.{All, range_with_len}
 use Rattle.scm_cells.specs.Screen.{Screen}
 use Rattle.scm_cells.specs.Symbols.{symbol_at}
 use Rattle.scm_terminal.specs.declared.style.Style.{Style}
@@ -39,3 +39,10 @@ styled_row style grid row = map (cell_at style grid row) (range_with_len 0 grid.
 -- the picture of `grid`: the cells of all rows, in styles
 abbrev pub picture : (ℕ → ℕ → Style) → Screen → List (List StyledCell)
 picture style grid = map (styled_row style grid) (range_with_len 0 (length grid.rows))
+
+-- `rows` are `height` rows, each of `width` columns
+pub record HasSize (width height : ℕ) (rows : List (List StyledCell)) : Type 0 where
+  -- the number of rows
+  pub high : length rows ≡ height
+  -- the number of columns of each row
+  pub all_wide : All (λ row. length row ≡ width) rows

@@ -1,7 +1,7 @@
 -- A model terminal: its content, and the effect of commands. The painter relies on nothing else of
 -- a real terminal. Unknown are: the cursor after a symbol of several bytes, or after one that fills
 -- the row; the columns of a symbol that was covered in part; the effect of a symbol without room.
-use Rattle.std.specs.Prelude.{◌≡◌, ℕ, ◌+◌, ◌-◌, ◌≤◌, ◌<◌, ◌^◌, ◌==◌, nat_lt, nat_le, Bool, true, false, ◌&&◌, List, [], ◌∷◌, ◌++◌, if◌then◌else◌, length, take, drop, replicate, slice_index_or, slice_set, Option, Some, None, decimal}
+use Rattle.std.specs.Prelude.{◌≡◌, ℕ, zero, suc, ◌+◌, ◌-◌, ◌≤◌, ◌<◌, ◌^◌, ◌==◌, nat_lt, nat_le, Bool, true, false, ◌&&◌, List, [], ◌∷◌, ◌++◌, if◌then◌else◌, length, drop, replicate, slice_index_or, slice_set, Option, Some, None, decimal}
 use Rattle.std.specs.List.{All}
 use Rattle.std.specs.Option.{option_and_then}
 use Rattle.scm_cells.specs.Clusters.{has_control, IsMeasured}
@@ -43,22 +43,26 @@ pub data Command : Type 0 where
   SetStyle : Style → Command
   -- writes a symbol, with its columns, at the cursor
   Put : List ℕ → ℕ → Command
+  -- sets whether a symbol without room wraps to the next row
+  SetWrap : Bool → Command
 
--- the bytes of a command, by ECMA-48: CUP, which counts rows and columns from 1, SGR, or the symbol
--- itself
+-- the bytes of a command: CUP of ECMA-48, which counts rows and columns from 1, SGR, the symbol
+-- itself, or DECAWM (`ESC [ ? 7 h` wraps, `ESC [ ? 7 l` does not)
 unfoldable pub bytes_of : Command → List ℕ
 bytes_of (MoveTo row column) =
     (27 ∷ (91 ∷ [])) ++ (decimal (row + 1) ++ ((59 ∷ []) ++ (decimal (column + 1) ++ (72 ∷ []))))
 bytes_of (SetStyle style) = style_bytes style
 bytes_of (Put symbol columns) = symbol
+bytes_of (SetWrap wraps) = (27 ∷ (91 ∷ (63 ∷ (55 ∷ [])))) ++ ((if wraps then 104 else 108) ∷ [])
 
 -- a symbol that is put is a kept cluster, with its columns: UTF-8 without control characters
 abbrev pub IsSafe : Command → Type 0
 IsSafe (MoveTo row column) = Unit {0}
 IsSafe (SetStyle style) = Unit {0}
 IsSafe (Put symbol columns) = IsMeasured (symbol, columns)
+IsSafe (SetWrap wraps) = Unit {0}
 
--- the last command before a symbol, styles left out
+-- the last command before a symbol, styles and wraps left out
 pub data Before : Type 0 where
   -- a move of the cursor
   Moved : Before
@@ -85,12 +89,14 @@ AreApart before [] = Unit {0}
 AreApart before (MoveTo row column ∷ cs) = AreApart Moved cs
 AreApart before (SetStyle style ∷ cs) = AreApart before cs
 AreApart before (Put symbol columns ∷ cs) = MayFollow before symbol × AreApart (behind symbol) cs
+AreApart before (SetWrap wraps ∷ cs) = AreApart before cs
 
 -- a move stays within 65,536 rows and columns
 abbrev pub IsNear : Command → Type 0
 IsNear (MoveTo row column) = (row < 2 ^ 16) × (column < 2 ^ 16)
 IsNear (SetStyle style) = Unit {0}
 IsNear (Put symbol columns) = Unit {0}
+IsNear (SetWrap wraps) = Unit {0}
 
 -- `commands` are such that a terminal reads them back from their bytes
 pub record AreReadable (commands : List Command) : Type 0 where
@@ -124,9 +130,19 @@ goes_on (None ∷ spots) = false
 goes_on (Some Later ∷ spots) = true
 goes_on (Some (First symbol style) ∷ spots) = false
 
--- the columns before a symbol that is put at `column`; unknown if it begins within another symbol
+-- whether each of the first `n + 1` columns is known to be a later column of a symbol
+abbrev pub go_on : ℕ → List Spot → Bool
+go_on zero spots = goes_on spots
+go_on (suc n) [] = false
+go_on (suc n) (None ∷ spots) = false
+go_on (suc n) (Some Later ∷ spots) = go_on n spots
+go_on (suc n) (Some (First symbol style) ∷ spots) = false
+
+-- the columns before a symbol that is put at a column; unknown are those of one that it covers in part
 abbrev pub left_of : ℕ → List Spot → List Spot
-left_of column row = if goes_on (drop column row) then replicate column None else take column row
+left_of zero row = []
+left_of (suc n) [] = []
+left_of (suc n) (spot ∷ row) = (if go_on n row then None else spot) ∷ left_of n row
 
 -- the columns after a symbol that is put; unknown are the rest of one that it covered in part
 abbrev pub rest_of : List Spot → List Spot
@@ -169,6 +185,7 @@ after (MoveTo row column) t =
     else None
 after (SetStyle style) t = Some (record t { style = Some style })
 after (Put symbol columns) t = put symbol columns t.cursor t.style t
+after (SetWrap wraps) t = Some t
 
 -- the terminal after all commands, if there is one after each command
 unfoldable pub after_all : List Command → Terminal → Option Terminal

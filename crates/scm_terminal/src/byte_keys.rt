@@ -23,7 +23,8 @@ pub(crate) fn byte_key(alt: bool, byte: u8) -> KeyEvent
     }
 }
 
-/// Returns the key code of `byte`. A C0 control from 1 to 26 is the letter that is typed with
+/// Returns the key code of `byte`. `H` and `L` are the small letters, as the key table names them
+/// with shift. A C0 control from 1 to 26 is the letter that is typed with
 /// control, except for Tab, Enter and Backspace.
 fn code_of(byte: u8) -> KeyCode
     ensures { result ≡ code_of byte }
@@ -32,6 +33,8 @@ fn code_of(byte: u8) -> KeyCode
         KeyCode::Enter
     } else if byte == 9 {
         KeyCode::Char('\t')
+    } else if byte == 72 || byte == 76 {
+        KeyCode::Char((byte + 32) as char)
     } else if is_between(32, 126, byte) {
         KeyCode::Char(byte as char)
     } else if byte == 8 {

@@ -1,14 +1,18 @@
 //! Laws of the definitions that the contracts cite.
 ghost use Rattle.std.specs.Prelude.{◌≡◌, ◌++◌, ◌∷◌, [], ℕ, List, Bool, Some, false};
 ghost use Rattle.scm_terminal.specs.Streams.{
+  HasMark,
   HasNoEscape,
   IsCut,
   IsQuiet,
+  StayPasted,
   is_pasted_after,
   paste_end,
   rest,
 };
+ghost use Rattle.scm_terminal.specs.KeyBytes.{AreTyped};
 ghost use Rattle.std.specs.List.{All, flat_map};
+ghost use Rattle.scm_terminal.specs.AnyTerminal.{AreWide, Display, May, Showing, step};
 ghost use Rattle.scm_terminal.specs.Reading.{read_commands};
 ghost use Rattle.scm_terminal.specs.Terminal.{
   AreApart,
@@ -43,6 +47,18 @@ pub fn what_is_pasted_does_not_act()
     ensures { (pasted more : List ℕ) → HasNoEscape pasted → IsQuiet pasted more }
 {}
 
+/// Proves that terminals can type each row of the key table: of its bytes, followed by a silence,
+/// the only event is the key of the row.
+pub fn each_key_can_be_typed()
+    ensures { AreTyped }
+{}
+
+/// Proves that nothing but its end mark ends a bracketed paste, whatever bytes it has, escapes
+/// included: until the mark all its events are `Other`.
+pub fn only_its_mark_ends_a_paste()
+    ensures { (bytes : List ℕ) → (HasMark bytes → ⊥) → StayPasted bytes }
+{}
+
 /// Proves that a symbol that is safe to put has no control character and no control byte. So no
 /// text of a grid can send a command to the terminal.
 pub fn symbols_hold_no_control()
@@ -61,4 +77,11 @@ pub fn commands_are_read_back()
 pub fn bytes_are_read_in_one_way()
     ensures { (commands others : List Command) → AreReadable commands → AreReadable others
         → flat_map bytes_of commands ≡ flat_map bytes_of others → commands ≡ others }
+{}
+
+/// Proves that `May` asks nothing of symbols of several bytes but that they stay on their row: a
+/// terminal may show them by any function of the symbol, its column, its style and the row.
+pub fn terminals_show_symbols_as_they_like()
+    ensures { (showing : Showing) → (command : Command) → (t : Display) → AreWide t
+        → May command t (step showing command t) }
 {}

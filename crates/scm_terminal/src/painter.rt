@@ -1,12 +1,12 @@
 //! The painter: turns a grid and its styles into the bytes that show them on a terminal.
 ghost use Rattle.std.specs.Prelude.{◌≡◌, ◌↔◌, ◌<◌, ◌^◌, ◌++◌, [], ℕ, IsTrue, IfOk, IfErr, OnOk, OnErr, true, false, length, map, slice_index_or, string_bytes};
-ghost use Rattle.std.specs.List.{All, flat_map};
+ghost use Rattle.std.specs.List.{All, flat_map, list_any};
 ghost use Rattle.scm_errors.specs.declared.error.RecordError.TheVariants.{OutOfMemory};
-ghost use Rattle.scm_terminal.specs.Painting.{AreUpdates, painting};
-ghost use Rattle.scm_terminal.specs.StyledCell.{picture};
+ghost use Rattle.scm_terminal.specs.Painting.{AreUpdates, paint_commands, painting};
+ghost use Rattle.scm_terminal.specs.StyledCell.{HasSize, picture};
 ghost use Rattle.scm_terminal.specs.RowView.{line_of};
 ghost use Rattle.scm_terminal.specs.PainterView.{cells_of_row};
-ghost use Rattle.scm_terminal.specs.Promise.{HasSize, Paints};
+ghost use Rattle.scm_terminal.specs.Promise.{Paints};
 ghost use Rattle.scm_terminal.specs.Terminal.{bytes_of};
 
 use crate::row::Row;
@@ -117,7 +117,7 @@ impl Painter {
         let is_all = self.prepare(grid.width(), grid.height())?;
         update_rows(self.rows.as_mut_slice(), grid, styles, is_all)?;
         let mut text = String::new(self.alloc);
-        push_rows(&mut text, self.rows.as_slice())?;
+        push_paint(&mut text, self.rows.as_slice())?;
         Ok(text)
     }
 
@@ -153,6 +153,30 @@ fn update_rows<S: Styles>(
     for shown in rows.iter_mut() {
         shown.update(grid, styles, row, is_all)?;
         row += 1;
+    }
+    Ok(())
+}
+
+/// Returns whether any of the rows is marked as changed.
+fn are_changed(rows: &[Row]) -> bool
+    ensures { result ≡ list_any (λ row. row.is_changed) rows.now }
+{
+    rows.iter().any(|row| row.is_changed)
+}
+
+/// Appends the bytes of a paint to `text`: those of the changed rows, if there are any, while no
+/// symbol wraps.
+#[tactic(auto, unfolding(crate::specs::Painting::paint_commands, crate::specs::Terminal::bytes_of))]
+fn push_paint(text: &mut String, rows: &[Row]) -> Result<(), AllocError>
+    requires rows { length rows.now < 2 ^ 16 }
+    requires columns { All (λ row. length row.cells.items < 2 ^ 16) rows.now }
+    ensures { let commands = paint_commands (map line_of rows.now) in
+        OnOk result (string_bytes text.new ≡ string_bytes text.old ++ flat_map bytes_of commands) }
+{
+    if are_changed(rows) {
+        text.push_str("\x1b[?7l")?;
+        push_rows(text, rows)?;
+        text.push_str("\x1b[?7h")?;
     }
     Ok(())
 }

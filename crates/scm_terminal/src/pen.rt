@@ -8,12 +8,25 @@ ghost use Rattle.scm_terminal.specs.Painting.{
   new_pen,
   pen_after,
   cell_commands,
+  passed,
 };
+ghost use Rattle.scm_terminal.specs.StyledCell.{First, Later};
 ghost use Rattle.scm_terminal.specs.Terminal.{bytes_of};
 
 use crate::style::{Style, push_style};
 use crate::styled_cell::StyledCell;
 use std::alloc::AllocError;
+
+/// A pass over the cells of a row: which columns it writes.
+#[derive(Clone, Copy)]
+pub(crate) enum Pass {
+    /// A space at each later column of a symbol, and at symbols of several bytes between them.
+    Blanks,
+    /// The symbols of several bytes.
+    Symbols,
+    /// The symbols of one byte.
+    Letters,
+}
 
 /// The cursor and the style of the terminal before a cell is written, as far as known.
 #[derive(Clone, Copy)]
@@ -77,8 +90,8 @@ impl Pen {
         }
     }
 
-    /// Appends the bytes that write `cell` at `row` and `column`, both counted from 0. Returns the
-    /// pen after it.
+    /// Appends the bytes that write what `pass` puts at `cell`, which is at `row` and `column`, both
+    /// counted from 0. Returns the pen after it.
     #[tactic(auto, unfolding(crate::specs::Terminal::bytes_of))]
     pub(crate) fn push_cell(
         self,
@@ -86,20 +99,76 @@ impl Pen {
         row: usize,
         column: usize,
         cell: &StyledCell,
+        pass: Pass,
     ) -> Result<Pen, AllocError>
         requires row { row < 2 ^ 16 }
         requires column { column < 2 ^ 16 }
-        ensures pen { IfOk result (λ p. p ≡ pen_after self cell.now) }
-        ensures bytes { let commands = cell_commands row column self cell.now 0 in OnOk result
+        ensures pen { IfOk result (λ p. p ≡ pen_after self (passed pass self.is_there cell.now)) }
+        ensures bytes { let commands = cell_commands row column self (passed pass self.is_there cell.now) 0 in
+            OnOk result
             (string_bytes text.new ≡ string_bytes text.old ++ flat_map bytes_of commands) }
     {
-        let Some(symbol) = cell.symbol() else {
-            return Ok(Pen {
-                is_there: false,
-                style: self.style,
-            });
-        };
-        let style = cell.style();
+        match pass {
+            Pass::Blanks => match cell.symbol() {
+                None => self.push_symbol(text, row, column, " ", Style::PLAIN),
+                Some(symbol) => {
+                    // `&`: one branch for the prover
+                    let is_next = self.is_there & (symbol.len() != 1);
+                    if is_next {
+                        return self.push_symbol(text, row, column, " ", Style::PLAIN);
+                    }
+                    Ok(self.past())
+                }
+            },
+            Pass::Symbols => match cell.symbol() {
+                None => Ok(self.past()),
+                Some(symbol) => {
+                    if symbol.len() == 1 {
+                        return Ok(self.past());
+                    }
+                    self.push_symbol(text, row, column, symbol, cell.style())
+                }
+            },
+            Pass::Letters => match cell.symbol() {
+                None => Ok(self.past()),
+                Some(symbol) => {
+                    if symbol.len() == 1 {
+                        return self.push_symbol(text, row, column, symbol, cell.style());
+                    }
+                    Ok(self.past())
+                }
+            },
+        }
+    }
+
+    /// Returns the pen after a cell where nothing is put.
+    fn past(self) -> Pen
+        ensures { result ≡ pen_after self Later }
+    {
+        Pen {
+            is_there: false,
+            style: self.style,
+        }
+    }
+
+    /// Appends the bytes that put `symbol` in `style` at `row` and `column`, both counted from 0.
+    /// Returns the pen after it.
+    #[tactic(auto, unfolding(crate::specs::Terminal::bytes_of))]
+    fn push_symbol(
+        self,
+        text: &mut String,
+        row: usize,
+        column: usize,
+        symbol: &str,
+        style: Style,
+    ) -> Result<Pen, AllocError>
+        requires row { row < 2 ^ 16 }
+        requires column { column < 2 ^ 16 }
+        ensures pen { IfOk result (λ p. p ≡ pen_after self (First symbol.now style)) }
+        ensures bytes { let commands = cell_commands row column self (First symbol.now style) 0 in
+            OnOk result
+            (string_bytes text.new ≡ string_bytes text.old ++ flat_map bytes_of commands) }
+    {
         // `&`: one branch for the prover
         let is_there = self.is_there & (symbol.len() == 1);
         push_move(text, is_there, row, column)?;

@@ -1,12 +1,12 @@
 //! One row of a painter's last picture, and the bytes that write it.
 ghost use Rattle.std.specs.Prelude.{◌≡◌, ◌↔◌, ◌<◌, ◌≤◌, ◌^◌, ◌++◌, IsTrue, IfOk, OnOk, true, false, length, string_bytes};
 ghost use Rattle.std.specs.List.{flat_map};
-ghost use Rattle.scm_terminal.specs.Painting.{IsUpdate, line_commands};
+ghost use Rattle.scm_terminal.specs.Painting.{IsUpdate, line_commands, new_pen, pass_commands};
 ghost use Rattle.scm_terminal.specs.StyledCell.{styled_row};
 ghost use Rattle.scm_terminal.specs.RowView.{line_of};
 ghost use Rattle.scm_terminal.specs.Terminal.{bytes_of};
 
-use crate::pen::Pen;
+use crate::pen::{Pass, Pen};
 use crate::style::Styles;
 use crate::styled_cell::StyledCell;
 use scm_cells::Grid;
@@ -53,6 +53,25 @@ fn show<S: Styles>(
     Ok(())
 }
 
+/// Appends the bytes that write what `pass` puts at `cells`, the cells of row `row`, counted from 0.
+fn push_pass(
+    text: &mut String,
+    row: usize,
+    cells: &[StyledCell],
+    pass: Pass,
+) -> Result<(), AllocError>
+    requires row { row < 2 ^ 16 }
+    requires columns { length cells.now < 2 ^ 16 }
+    ensures { let commands = pass_commands pass row 0 new_pen cells.now in OnOk result
+        (string_bytes text.new ≡ string_bytes text.old ++ flat_map bytes_of commands) }
+{
+    let mut pen = Pen::new();
+    for (column, cell) in cells.iter().enumerate() {
+        pen = pen.push_cell(text, row, column, cell, pass)?;
+    }
+    Ok(())
+}
+
 impl Row {
     /// Makes a row of `width` columns, marked as changed.
     pub(crate) fn new(alloc: Global, width: usize) -> Result<Row, AllocError>
@@ -94,6 +113,7 @@ impl Row {
 
     /// If the row is marked as changed, appends the bytes that write it to `text`. `row` is its
     /// index, counted from 0.
+    #[tactic(auto, unfolding(crate::specs::Painting::row_commands))]
     pub(crate) fn push(&self, text: &mut String, row: usize) -> Result<(), AllocError>
         requires row { row < 2 ^ 16 }
         requires columns { length self.now.cells.items < 2 ^ 16 }
@@ -103,10 +123,9 @@ impl Row {
         if !self.is_changed {
             return Ok(());
         }
-        let mut pen = Pen::new();
-        for (column, cell) in self.cells.iter().enumerate() {
-            pen = pen.push_cell(text, row, column, cell)?;
-        }
+        push_pass(text, row, self.cells.as_slice(), Pass::Blanks)?;
+        push_pass(text, row, self.cells.as_slice(), Pass::Symbols)?;
+        push_pass(text, row, self.cells.as_slice(), Pass::Letters)?;
         Ok(())
     }
 }

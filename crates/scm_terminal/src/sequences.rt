@@ -3,6 +3,8 @@
 ghost use Rattle.std.specs.Prelude.{◌≡◌};
 ghost use Rattle.scm_terminal.specs.Sequences.{
   arrow,
+  counted,
+  is_mark,
   new_sequence,
   trailing_bytes,
   key_modifiers,
@@ -42,6 +44,8 @@ pub enum SequenceKind {
 pub struct Sequence {
     /// The kind of the sequence.
     pub kind: SequenceKind,
+    /// The number of parameter bytes so far; 4 stands for 4 or more.
+    pub bytes: u8,
     /// The number of semicolons so far, at most 2.
     pub semicolons: u8,
     /// The parameter before `second`, if the sequence has two semicolons so far.
@@ -59,6 +63,7 @@ pub(crate) fn new_sequence(kind: SequenceKind) -> Sequence
 {
     Sequence {
         kind,
+        bytes: 0,
         semicolons: 0,
         first: 0,
         second: 0,
@@ -76,12 +81,25 @@ fn is_blank(sequence: Sequence) -> bool
     }
 }
 
+/// Counts one more parameter byte of `sequence`.
+fn counted(sequence: Sequence) -> Sequence
+    ensures { result ≡ counted sequence }
+{
+    let bytes = if sequence.bytes < 4 {
+        sequence.bytes + 1
+    } else {
+        sequence.bytes
+    };
+    Sequence { bytes, ..sequence }
+}
+
 /// Adds the parameter byte `byte` to `sequence`: a digit, a semicolon or a leading `<`. Any other
 /// byte makes the sequence unknown.
 #[tactic(auto, unfolding(crate::specs::Sequences::with_parameter))]
 pub(crate) fn with_parameter(sequence: Sequence, byte: u8) -> Sequence
     ensures { result ≡ with_parameter sequence byte }
 {
+    let sequence = counted(sequence);
     if is_digit(byte) {
         with_digit(sequence, byte - 48)
     } else if byte == 59 {
@@ -124,6 +142,7 @@ fn with_semicolon(sequence: Sequence) -> Sequence
     if sequence.semicolons < 2 {
         Sequence {
             kind: sequence.kind,
+            bytes: sequence.bytes,
             semicolons: sequence.semicolons + 1,
             first: sequence.second,
             second: sequence.last,
@@ -186,13 +205,21 @@ fn key_token(sequence: Sequence, last: u8) -> Token
     let number = key_number(sequence);
     if last != 126 {
         named_key(sequence, arrow(number, last))
-    } else if number == 200 {
+    } else if is_mark(sequence, 200) {
         Token::PasteBegins
-    } else if number == 201 {
+    } else if is_mark(sequence, 201) {
         Token::PasteEnds
     } else {
         named_key(sequence, paging(number))
     }
+}
+
+/// Returns whether the parameter bytes of `sequence` are the three digits of `number`.
+fn is_mark(sequence: Sequence, number: u16) -> bool
+    ensures { result ≡ is_mark sequence number }
+{
+    // `&`: one branch for the prover
+    (sequence.bytes == 3) & (sequence.semicolons == 0) & (sequence.last == number)
 }
 
 /// Returns the parameter of `sequence` that is the number of the key.

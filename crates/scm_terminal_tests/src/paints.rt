@@ -46,7 +46,8 @@ fn check_paint(
 }
 
 /// The whole screen of `rows_that_changed_are_written`.
-const WHOLE: &str = "\x1b[1;1H\x1b[0ma\x1b[1;2H日\x1b[2;1H\x1b[0;7m   ";
+const WHOLE: &str =
+    "\x1b[?7l\x1b[1;3H\x1b[0m \x1b[1;2H\x1b[0m日\x1b[1;1H\x1b[0ma\x1b[2;1H\x1b[0;7m   \x1b[?7h";
 
 #[test]
 fn rows_that_changed_are_written(rt: HostRuntime) -> Result<(), RecordError> {
@@ -56,12 +57,15 @@ fn rows_that_changed_are_written(rt: HostRuntime) -> Result<(), RecordError> {
     let mut painter = Painter::new(rt.alloc());
     check_paint(&rt, &mut painter, &grid, 1, WHOLE)?;
     check_paint(&rt, &mut painter, &grid, 1, "")?;
-    check_paint(&rt, &mut painter, &grid, 5, "\x1b[2;1H\x1b[0m   ")?;
-    check_paint(&rt, &mut painter, &grid, 1, "\x1b[2;1H\x1b[0;7m   ")?;
+    let plain = "\x1b[?7l\x1b[2;1H\x1b[0m   \x1b[?7h";
+    check_paint(&rt, &mut painter, &grid, 5, plain)?;
+    let reversed = "\x1b[?7l\x1b[2;1H\x1b[0;7m   \x1b[?7h";
+    check_paint(&rt, &mut painter, &grid, 1, reversed)?;
     painter.forget();
     check_paint(&rt, &mut painter, &grid, 1, WHOLE)?;
     let other = Grid::new(rt.alloc(), 2, 1)?;
-    check_paint(&rt, &mut painter, &other, 5, "\x1b[1;1H\x1b[0m  ")
+    let small = "\x1b[?7l\x1b[1;1H\x1b[0m  \x1b[?7h";
+    check_paint(&rt, &mut painter, &other, 5, small)
 }
 
 #[test]
@@ -69,7 +73,8 @@ fn a_text_sends_no_command(rt: HostRuntime) -> Result<(), RecordError> {
     let mut grid = Grid::new(rt.alloc(), 5, 1)?;
     grid.put(0, 0, "a\x1b[2J\u{9b}b\x07", 0, 5)?;
     let mut painter = Painter::new(rt.alloc());
-    check_paint(&rt, &mut painter, &grid, 5, "\x1b[1;1H\x1b[0ma[2Jb")
+    let wanted = "\x1b[?7l\x1b[1;1H\x1b[0ma[2Jb\x1b[?7h";
+    check_paint(&rt, &mut painter, &grid, 5, wanted)
 }
 
 /// The same style for every place.
@@ -87,7 +92,7 @@ impl Styles for Uniform {
 }
 
 /// Paints a screen of one column in `style`, after the painter forgot the screen, and checks that
-/// the bytes are `wanted`.
+/// the bytes are `wanted`, while no symbol wraps.
 fn check_style(
     rt: &impl Abort,
     painter: &mut Painter,
@@ -97,7 +102,9 @@ fn check_style(
 ) -> Result<(), RecordError> {
     painter.forget();
     let text = painter.paint(grid, &Uniform { style })?;
-    assert_eq!(rt; text.as_str(), wanted);
+    let shown = text.as_str().strip_prefix("\x1b[?7l");
+    let shown = shown.unwrap_or("").strip_suffix("\x1b[?7h");
+    assert_eq!(rt; shown, Some(wanted));
     Ok(())
 }
 

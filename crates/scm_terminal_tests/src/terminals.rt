@@ -24,7 +24,7 @@ const ALT: KeyModifiers = KeyModifiers {
 };
 
 /// Keys as tmux sends them.
-const TMUX: [(&[u8], KeyCode, KeyModifiers); 20] = [
+const TMUX: [(&[u8], KeyCode, KeyModifiers); 22] = [
     (b"\x1b[A", KeyCode::Up, NONE),
     (b"\x1b[B", KeyCode::Down, NONE),
     (b"\x1b[D", KeyCode::Left, NONE),
@@ -41,6 +41,8 @@ const TMUX: [(&[u8], KeyCode, KeyModifiers); 20] = [
     (b"\r", KeyCode::Enter, NONE),
     (b" ", KeyCode::Char(' '), NONE),
     (b"A", KeyCode::Char('A'), SHIFT),
+    (b"H", KeyCode::Char('h'), SHIFT),
+    (b"L", KeyCode::Char('l'), SHIFT),
     (b"\x03", KeyCode::Char('c'), CONTROL),
     (b"\x1ba", KeyCode::Char('a'), ALT),
     (b"\xc3\xa4", KeyCode::Char('ä'), NONE),
@@ -49,7 +51,7 @@ const TMUX: [(&[u8], KeyCode, KeyModifiers); 20] = [
 
 /// Bytes that act as no key: keys outside the table, as tmux, xterm, kitty, VTE and the Linux
 /// console send them, reports, and late answers.
-const OTHERS: [&[u8]; 12] = [
+const OTHERS: [&[u8]; 14] = [
     b"\x1b[1~",
     b"\x1b[H",
     b"\x1bOF",
@@ -58,6 +60,8 @@ const OTHERS: [&[u8]; 12] = [
     b"\x1b[1;5P",
     b"\x1b[Z",
     b"\x1b[[A",
+    b"\x1b[0201~",
+    b"\x1b[201;5~",
     b"\x1b[I",
     b"\x1b[12;40R",
     b"\x1b[48;24;80;480;800t",

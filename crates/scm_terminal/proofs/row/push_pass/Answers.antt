@@ -1,0 +1,11 @@
+use Rattle.std.proofs.Common.{arith}
+use Rattle.scm_terminal.proofs.PushLemmas.{pass-more, pass-all}
+use Rattle.scm_terminal.proofs.row.push_pass.Goals as goal
+
+pub loop-column-preserved : goal.loop-column-preserved
+loop-column-preserved c =
+    pass-more c.args.pass c.args.row c.loop-column.column c.loop-column.pen c.in_ok-pen.pen c.args.cells.now c.index-cells-column.result _ _ _ (omega arith) c.index-cells-column.is
+    c.in_ok-pen.ensures.pen c.in_ok-pen.ensures.bytes c.loop-column.invariant
+
+pub returns : goal.returns
+returns c = pass-all c.args.pass c.args.row c.loop-column.column c.loop-column.pen c.args.cells.now _ _ (omega arith) c.loop-column.invariant

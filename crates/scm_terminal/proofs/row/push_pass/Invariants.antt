@@ -1,0 +1,8 @@
+use Rattle.std.proofs.Common.{◌≡◌, ◌++◌, drop, string_bytes}
+use Rattle.scm_terminal.specs.Painting.{new_pen, pass_commands}
+use Rattle.scm_terminal.proofs.PushLemmas.{bytes}
+use Rattle.scm_terminal.proofs.row.push_pass.Given as goal
+
+abbrev pub invariant-loop-column : goal.invariant-loop-column
+invariant-loop-column l =
+    string_bytes l.text ++ bytes (pass_commands l.pass l.row l.column l.pen (drop l.column l.cells)) ≡ string_bytes l.fn.text ++ bytes (pass_commands l.pass l.row 0 new_pen l.cells)

@@ -1,0 +1,69 @@
+-- The bytes that terminals send for each row of the key table: xterm's, as tmux sends them.
+use Rattle.std.specs.Prelude.{◌≡◌, ◌++◌, ℕ, false, List, [], ◌∷◌, Option, Some, None, codes}
+use Rattle.std.specs.List.{AllZip}
+use Rattle.scm_input.specs.KeyTable.{KeyRow, key_table}
+use Rattle.scm_input.specs.declared.terminal.KeyEventKind.TheVariants.{Press}
+use Rattle.scm_input.specs.declared.terminal.TerminalEvent.{TerminalEvent}
+use Rattle.scm_input.specs.declared.terminal.TerminalEvent.TheVariants as terminal
+use Rattle.scm_terminal.specs.Streams.{stream_events, is_pasted_after, rest, idle_event}
+
+-- the event, if there is one
+abbrev pub if_any : Option TerminalEvent → List TerminalEvent
+if_any None = []
+if_any (Some event) = event ∷ []
+
+-- the events of bytes and of a silence after them
+abbrev pub events_before_silence : List ℕ → List TerminalEvent
+events_before_silence bytes =
+    stream_events false bytes ++ if_any (idle_event (is_pasted_after false bytes) (rest bytes))
+
+-- the bytes are the key of the row, and nothing else
+abbrev pub IsTyped : KeyRow → List ℕ → Type 0
+IsTyped row bytes =
+    events_before_silence bytes
+    ≡ terminal.Key (record { code = row.code; modifiers = row.modifiers; kind = Press }) ∷ []
+
+-- the bytes of each row, in the order of the table
+abbrev pub key_bytes : List (List ℕ)
+key_bytes =
+    codes "q"
+    ∷ (27 ∷ [])
+    ∷ (3 ∷ [])
+    ∷ codes "c"
+    ∷ codes "?"
+    ∷ (27 ∷ codes "[1;5A")
+    ∷ (25 ∷ [])
+    ∷ (27 ∷ codes "[1;5B")
+    ∷ (5 ∷ [])
+    ∷ (27 ∷ codes "[5;5~")
+    ∷ (2 ∷ [])
+    ∷ (27 ∷ codes "[6;5~")
+    ∷ (6 ∷ [])
+    ∷ (27 ∷ codes "[A")
+    ∷ codes "k"
+    ∷ (27 ∷ codes "[B")
+    ∷ codes "j"
+    ∷ (27 ∷ codes "[5~")
+    ∷ (27 ∷ codes "[6~")
+    ∷ (27 ∷ codes "[1;2D")
+    ∷ codes "H"
+    ∷ (27 ∷ codes "[D")
+    ∷ codes "h"
+    ∷ (27 ∷ codes "[C")
+    ∷ (27 ∷ codes "[1;2C")
+    ∷ codes "l"
+    ∷ codes "L"
+    ∷ (21 ∷ [])
+    ∷ (4 ∷ [])
+    ∷ codes " "
+    ∷ (13 ∷ [])
+    ∷ codes "a"
+    ∷ codes "A"
+    ∷ codes "f"
+    ∷ codes "F"
+    ∷ codes "e"
+    ∷ []
+
+-- terminals can type each row of the key table
+abbrev pub AreTyped : Type 0
+AreTyped = AllZip IsTyped key_table key_bytes
