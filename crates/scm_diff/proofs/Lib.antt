@@ -1,0 +1,12 @@
+-- the lines of a text, and lines joined to a text
+pub mod LineLemmas
+-- hunks that are found from the front
+pub mod HunkLemmas
+-- the lines of the sections of a file
+pub mod SectionLemmas
+-- the lines of a side, as lines of the file
+pub mod FileLineLemmas
+-- files of changes, and their marks
+pub mod ChangeLemmas
+-- a text that is joined line by line
+pub mod SideLemmas

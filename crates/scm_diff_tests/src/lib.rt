@@ -1,0 +1,5 @@
+//! Tests of the differences of two versions of a file.
+#![tactic(auto)]
+
+#[cfg(test)]
+mod table;

@@ -1,0 +1,159 @@
+//! Tables of texts: where they differ, and what marks leave of them.
+use scm_diff::{Hunk, Version, changed_file, hunks, lines_of, owned_file, side_text};
+use scm_types::{File, Section, Text};
+use std::alloc::{AllocError, Global};
+use std::process::Abort;
+use std::test::Fail;
+
+/// Two texts, and where they differ: for each hunk its old lines and its new lines.
+type Difference = (
+    &'static str,
+    &'static str,
+    &'static [(usize, usize, usize, usize)],
+);
+
+/// The hunks are those of `git diff -U0`.
+const DIFFERENCES: &[Difference] = &[
+    ("", "", &[]),
+    ("a\n", "a\n", &[]),
+    ("", "a\nb\n", &[(0, 0, 0, 2)]),
+    ("a\nb\n", "", &[(0, 2, 0, 0)]),
+    ("a\nb\nc\n", "a\nc\n", &[(1, 2, 1, 1)]),
+    ("a\nc\n", "a\nb\nc\n", &[(1, 1, 1, 2)]),
+    ("a\nb\nc\n", "x\nb\ny\n", &[(0, 1, 0, 1), (2, 3, 2, 3)]),
+    ("a\nb", "a\nb\n", &[(1, 2, 1, 2)]),
+    ("a\nb", "a\nb", &[]),
+    ("a\r\nb\n", "a\nb\n", &[(0, 1, 0, 1)]),
+    ("\n\n", "\n", &[(1, 2, 1, 1)]),
+    ("é\nb\n", "b\né\n", &[(0, 1, 0, 0), (2, 2, 1, 2)]),
+];
+
+/// Two texts, the marks of the changed lines (the first one is the lowest bit), and the two sides.
+type Choice = (
+    &'static str,
+    &'static str,
+    usize,
+    &'static str,
+    &'static str,
+);
+
+const CHOICES: &[Choice] = &[
+    ("a\nb", "a\nb\nc\n", 0, "a\nb", "a\nb\nc\n"),
+    ("a\nb", "a\nb\nc\n", 7, "a\nb\nc\n", "a\nb"),
+    // only `c` is added: `b` gets its line end
+    ("a\nb", "a\nb\nc\n", 4, "a\nb\nc\n", "a\nb\n"),
+    ("a\nb", "a\nb\nc\n", 1, "a\n", "a\nb\nb\nc\n"),
+    ("a", "b", 0, "a", "b"),
+    ("a", "b", 2, "a\nb", ""),
+    ("a", "b", 1, "", "a\nb"),
+    ("a\n", "a", 2, "a\na", ""),
+    ("", "a", 0, "", "a"),
+    ("a", "", 1, "", "a"),
+    // a line that reads like git's marker is a line
+    (
+        "a\n",
+        "a\n\\ No newline at end of file\n",
+        0,
+        "a\n",
+        "a\n\\ No newline at end of file\n",
+    ),
+    (
+        "a\n",
+        "a\n\\ No newline at end of file\n",
+        1,
+        "a\n\\ No newline at end of file\n",
+        "a\n",
+    ),
+    (
+        "a\n\\ No newline at end of file",
+        "b\n",
+        4,
+        "a\n\\ No newline at end of file\nb\n",
+        "",
+    ),
+];
+
+/// Returns the version of this text.
+fn version(text: &str) -> Option<Version<'_>> {
+    Some(Version {
+        mode: 0o100644,
+        text,
+    })
+}
+
+/// Marks the changed lines by the bits of `marks`, the lowest one first.
+fn mark(file: &mut File<'_>, marks: usize) {
+    let mut left = marks;
+    for section in file.sections.iter_mut() {
+        if let Section::Changed { lines } = section {
+            for line in lines.iter_mut() {
+                line.is_checked = left % 2 == 1;
+                left /= 2;
+            }
+        }
+    }
+}
+
+/// Checks where the texts differ.
+fn check_difference(
+    rt: &impl Abort,
+    alloc: Global,
+    difference: Difference,
+) -> Result<(), AllocError> {
+    let old = lines_of(alloc, difference.0)?;
+    let new = lines_of(alloc, difference.1)?;
+    let found = hunks(alloc, old.as_slice(), new.as_slice())?;
+    assert!(rt; found.len() == difference.2.len());
+    for (hunk, wanted) in found.iter().zip(difference.2) {
+        let wanted = Hunk {
+            old_start: wanted.0,
+            old_end: wanted.1,
+            new_start: wanted.2,
+            new_end: wanted.3,
+        };
+        assert!(rt; *hunk == wanted);
+    }
+    Ok(())
+}
+
+/// Checks the sides that the marks leave.
+fn check_choice(rt: &impl Abort, alloc: Global, choice: Choice) -> Result<(), AllocError> {
+    let path = Text::from("f");
+    let mut file = changed_file(alloc, path, version(choice.0), version(choice.1))?;
+    mark(&mut file, choice.2);
+    let selected = side_text(alloc, &file, true)?;
+    let unselected = side_text(alloc, &file, false)?;
+    assert!(rt; selected.as_str() == choice.3);
+    assert!(rt; unselected.as_str() == choice.4);
+    Ok(())
+}
+
+#[test]
+fn texts_differ_as_git_says(rt: HostRuntime) -> Result<(), Fail> {
+    for difference in DIFFERENCES {
+        check_difference(&rt, rt.alloc(), *difference)?;
+    }
+    Ok(())
+}
+
+#[test]
+fn marks_leave_whole_lines(rt: HostRuntime) -> Result<(), Fail> {
+    for choice in CHOICES {
+        check_choice(&rt, rt.alloc(), *choice)?;
+    }
+    Ok(())
+}
+
+#[test]
+fn files_come_and_go(rt: HostRuntime) -> Result<(), Fail> {
+    let alloc = rt.alloc();
+    let new = changed_file(alloc, Text::from("f"), None, version("a\n"))?;
+    assert!(rt; new.file_mode.is_absent());
+    assert!(rt; new.sections.len() == 2);
+    let old = changed_file(alloc, Text::from("f"), version("a\n"), None)?;
+    assert!(rt; !old.file_mode.is_absent());
+    assert!(rt; old.sections.len() == 2);
+    let copy = owned_file(alloc, &old)?;
+    assert!(rt; copy == old);
+    Ok(())
+}
