@@ -1,5 +1,5 @@
 //! One column of a row.
-ghost use Rattle.std.specs.Prelude.{◌≡◌, ◌-◌, ◌<◌, ◌∷◌, [], IsTrue, OnOk, length, option_map};
+ghost use Rattle.std.specs.Prelude.{◌≡◌, ◌↔◌, ◌-◌, ◌<◌, ◌∷◌, [], IsTrue, OnOk, length, option_map};
 ghost use Rattle.scm_cells.specs.Cell.{blank};
 ghost use Rattle.scm_cells.specs.Symbols.{symbol_of};
 
@@ -8,7 +8,7 @@ use std::marker::Model;
 
 /// Returns whether the text is a single space.
 fn is_space(text: &str) -> bool
-    ensures { IsTrue result → text.now ≡ 32 ∷ [] }
+    ensures { IsTrue result ↔ text.now ≡ 32 ∷ [] }
 {
     text.len() == 1 && text.as_bytes()[0] == b' '
 }

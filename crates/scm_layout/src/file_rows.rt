@@ -105,8 +105,8 @@ impl FileRows {
     )
         requires rows { AreRowsButKey self.old set.now file_key file.now key }
         ensures folded { self.new.folded ≡ folded_count set.now file_key 0 file.now.sections }
-        ensures sections { self.new.sections
-            ≡ sections_rows set.now file_key (length file.now.sections) 0 0 false file.now.sections }
+        ensures sections { self.new.sections ≡ sections_rows set.now file_key
+            (length file.now.sections) 0 0 false file.now.sections }
     {
         match key {
             SelectionKey::Section(key) => self.refold_section(set, file_key, file, key.section_idx),

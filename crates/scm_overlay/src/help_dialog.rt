@@ -84,7 +84,8 @@ impl HelpDialog {
     ) -> Result<(usize, usize), AllocError>
         requires { RectIsInDrawBounds screen }
         ensures rows { IfOk result (λ r. r ≡ dialog_run screen shown_help) }
-        ensures ok { OnOk result (rects.new.items ≡ rects.old.items ++ dialog_rects screen shown_help) }
+        ensures ok { OnOk result (
+            rects.new.items ≡ rects.old.items ++ dialog_rects screen shown_help) }
     {
         self.dialog(&[close_button()])
             .push_rects(alloc, rects, screen)

@@ -5,7 +5,7 @@ use Rattle.scm_cells.specs.Cell.{Cell}
 use Rattle.scm_cells.specs.Counts.{no_counts}
 use Rattle.scm_cells.specs.Screen.{Screen}
 use Rattle.scm_cells.specs.Symbols.{symbol_at}
-use Rattle.scm_terminal.specs.declared.style.Style.{Style}
+use Rattle.scm_cells.specs.declared.style.Style.{Style}
 use Rattle.scm_terminal.specs.StyledCell.{picture, cell_at, cell_of, styled_row}
 use Rattle.scm_types.specs.Limits.{max_scroll}
 use Rattle.scm_widgets.specs.declared.ids.ComponentId.{ComponentId}

@@ -2,7 +2,7 @@
 use Rattle.std.specs.Prelude.{ℕ, ◌+◌, List}
 use Rattle.scm_cells.specs.Counts.{no_counts}
 use Rattle.scm_cells.specs.Screen.{Screen}
-use Rattle.scm_terminal.specs.declared.style.Style.{Style}
+use Rattle.scm_cells.specs.declared.style.Style.{Style}
 use Rattle.scm_terminal.specs.StyledCell.{StyledCell, picture}
 use Rattle.scm_view_state.specs.Styles.{style_of}
 use Rattle.scm_record.specs.Frames.{columns_of, scene_of}

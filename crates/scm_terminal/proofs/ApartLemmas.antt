@@ -6,7 +6,7 @@ use Rattle.std.specs.List.{All, list_any}
 use Rattle.std.proofs.lemmas.Bool.{and_parts}
 use Rattle.std.proofs.lemmas.Bool.Decides.{nat_tests}
 use Rattle.std.proofs.lemmas.List.Elements.{All-nil, All-cons}
-use Rattle.scm_terminal.specs.declared.style.Style.{Style}
+use Rattle.scm_cells.specs.declared.style.Style.{Style}
 use Rattle.scm_terminal.specs.declared.pen.Pen.{Pen}
 use Rattle.scm_terminal.specs.declared.pen.Pass.{Pass}
 use Rattle.scm_terminal.specs.declared.pen.Pass.TheVariants.{Blanks, Symbols, Letters}

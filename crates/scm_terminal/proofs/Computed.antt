@@ -1,8 +1,8 @@
 -- A screen of 3 by 2, computed from the definitions: what it showed is not known, a byte and a wide symbol are written on the first
 -- row, and the second is left out. And bytes, read as commands.
 use Rattle.std.proofs.Common.{◌≡◌, ℕ, true, false, List, [], ◌∷◌, ◌++◌, codes, refl, arith, Some, None}
-use Rattle.scm_terminal.specs.declared.style.Colour.TheVariants.{Red, Green}
-use Rattle.scm_terminal.specs.declared.style.Style.{Style}
+use Rattle.scm_cells.specs.declared.style.Colour.TheVariants.{Red, Green}
+use Rattle.scm_cells.specs.declared.style.Style.{Style}
 use Rattle.scm_terminal.specs.StyledCell.{StyledCell, First, Later}
 use Rattle.scm_terminal.specs.Reading.{parts_of, read_commands, text_commands}
 use Rattle.scm_terminal.specs.Style.{style_code, style_of}

@@ -9,7 +9,7 @@ use Rattle.scm_cells.specs.Cluster.{Cluster}
 use Rattle.scm_cells.specs.Row.{cells_of, later_cells}
 use Rattle.scm_cells.specs.Screen.{Screen}
 use Rattle.scm_cells.specs.Symbols.{symbol_of, symbol_in, symbol_at}
-use Rattle.scm_terminal.specs.declared.style.Style.{Style}
+use Rattle.scm_cells.specs.declared.style.Style.{Style}
 use Rattle.scm_terminal.specs.StyledCell.{StyledCell, First, Later, cell_of, laters, cell_at, styled_row}
 
 -- cells from a column on, in the styles of their columns

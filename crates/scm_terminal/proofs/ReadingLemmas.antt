@@ -14,9 +14,9 @@ use Rattle.std.proofs.lemmas.Str.Parse.{IsNumeralModel, numerals_by_fold, tells_
 use Rattle.scm_cells.specs.Cluster.{Cluster, is_printable}
 use Rattle.scm_cells.specs.Clusters.{visible_width, with_width, IsMeasured}
 use Rattle.scm_cells.proofs.PrintableLemmas.{is_printable_char, printable-kept}
-use Rattle.scm_terminal.specs.declared.style.Colour.{Colour}
-use Rattle.scm_terminal.specs.declared.style.Colour.TheVariants.{Black, Red, Green, Yellow, Blue, Magenta, Cyan, White}
-use Rattle.scm_terminal.specs.declared.style.Style.{Style}
+use Rattle.scm_cells.specs.declared.style.Colour.{Colour}
+use Rattle.scm_cells.specs.declared.style.Colour.TheVariants.{Black, Red, Green, Yellow, Blue, Magenta, Cyan, White}
+use Rattle.scm_cells.specs.declared.style.Style.{Style}
 use Rattle.scm_terminal.specs.Bytes.{is_digit}
 use Rattle.scm_terminal.specs.Style.{colour_bytes, text_if, flag_bytes, style_bytes, with_number, style_of}
 use Rattle.scm_terminal.specs.Streams.{HasNoEscape}

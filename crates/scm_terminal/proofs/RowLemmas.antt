@@ -10,7 +10,7 @@ use Rattle.scm_cells.specs.Clusters.{IsMeasured}
 use Rattle.scm_cells.specs.Row.{cells_of}
 use Rattle.scm_cells.proofs.PutLemmas.{length-cells}
 use Rattle.scm_cells.proofs.WholeLemmas.{HasColumn}
-use Rattle.scm_terminal.specs.declared.style.Style.{Style}
+use Rattle.scm_cells.specs.declared.style.Style.{Style}
 use Rattle.scm_terminal.specs.declared.pen.Pen.{Pen}
 use Rattle.scm_terminal.specs.declared.pen.Pass.{Pass}
 use Rattle.scm_terminal.specs.declared.pen.Pass.TheVariants.{Blanks, Symbols, Letters}

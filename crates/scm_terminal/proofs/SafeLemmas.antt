@@ -9,7 +9,7 @@ use Rattle.scm_cells.specs.Row.{cells_of}
 use Rattle.scm_cells.proofs.PrintableLemmas.{printable-kept}
 use Rattle.scm_cells.proofs.WholeLemmas.{HasColumn}
 use Rattle.scm_cells.proofs.WrittenLemmas.{measured, utf8-ascii}
-use Rattle.scm_terminal.specs.declared.style.Style.{Style}
+use Rattle.scm_cells.specs.declared.style.Style.{Style}
 use Rattle.scm_terminal.specs.declared.pen.Pen.{Pen}
 use Rattle.scm_terminal.specs.declared.pen.Pass.{Pass}
 use Rattle.scm_terminal.specs.declared.pen.Pass.TheVariants.{Blanks, Symbols, Letters}

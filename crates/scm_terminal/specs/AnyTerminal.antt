@@ -3,7 +3,7 @@
 -- symbol of one byte takes one column, and the other symbols of one byte stay. While symbols wrap, or
 -- if the row of the cursor is unknown, nothing is known of a symbol.
 use Rattle.std.specs.Prelude.{◌≡◌, ◌≢◌, ℕ, ◌+◌, ◌<◌, Bool, true, false, List, [], ◌∷◌, length, slice_index_or, slice_set, Option, Some, None}
-use Rattle.scm_terminal.specs.declared.style.Style.{Style}
+use Rattle.scm_cells.specs.declared.style.Style.{Style}
 use Rattle.scm_terminal.specs.StyledCell.{StyledCell, First, HasSize}
 use Rattle.scm_terminal.specs.Terminal.{Spot, Command, MoveTo, SetStyle, Put, SetWrap}
 

@@ -1,7 +1,7 @@
 -- The commands that a painter writes: those of the rows that changed, each from its first column.
 use Rattle.std.specs.Prelude.{◌≡◌, ◌↔◌, ℕ, ◌+◌, ◌==◌, ◌&&◌, not, List, [], ◌∷◌, ◌++◌, Bool, true, false, if◌then◌else◌, length, Option, Some, None}
 use Rattle.std.specs.List.{AllZip, list_any}
-use Rattle.scm_terminal.specs.declared.style.Style.{Style}
+use Rattle.scm_cells.specs.declared.style.Style.{Style}
 use Rattle.scm_terminal.specs.declared.pen.Pen.{Pen}
 use Rattle.scm_terminal.specs.declared.pen.Pass.{Pass}
 use Rattle.scm_terminal.specs.declared.pen.Pass.TheVariants.{Blanks, Symbols, Letters}

@@ -1,9 +1,9 @@
 -- Styles as numbers, which compare them, and as SGR sequences of ECMA-48, written and read.
 use Rattle.std.specs.Prelude.{ℕ, ◌+◌, ◌*◌, ◌==◌, List, [], ◌∷◌, ◌++◌, Bool, true, false, if◌then◌else◌, Option, Some, None}
 use Rattle.std.specs.Option.{option_and_then}
-use Rattle.scm_terminal.specs.declared.style.Colour.{Colour}
-use Rattle.scm_terminal.specs.declared.style.Colour.TheVariants.{Black, Red, Green, Yellow, Blue, Magenta, Cyan, White}
-use Rattle.scm_terminal.specs.declared.style.Style.{Style}
+use Rattle.scm_cells.specs.declared.style.Colour.{Colour}
+use Rattle.scm_cells.specs.declared.style.Colour.TheVariants.{Black, Red, Green, Yellow, Blue, Magenta, Cyan, White}
+use Rattle.scm_cells.specs.declared.style.Style.{Style}
 
 -- the number of a colour: 0 for the terminal's own, and otherwise 1 to 8
 abbrev pub colour_code : Option Colour → ℕ

@@ -3,7 +3,7 @@ use Rattle.std.specs.Prelude.{◌≡◌, ℕ, suc, List, [], ◌∷◌, length, 
 use Rattle.std.specs.List.{All, range_with_len}
 use Rattle.scm_cells.specs.Screen.{Screen}
 use Rattle.scm_cells.specs.Symbols.{symbol_at}
-use Rattle.scm_terminal.specs.declared.style.Style.{Style}
+use Rattle.scm_cells.specs.declared.style.Style.{Style}
 
 -- the content of one column
 pub data StyledCell : Type 0 where

@@ -4,7 +4,7 @@
 
 pub use decoder::{Decoder, EventPair};
 pub use painter::Painter;
-pub use style::{Colour, Style, Styles};
+pub use style::Styles;
 
 mod byte_keys;
 mod bytes;

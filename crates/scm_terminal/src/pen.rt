@@ -13,8 +13,9 @@ ghost use Rattle.scm_terminal.specs.Painting.{
 ghost use Rattle.scm_terminal.specs.StyledCell.{First, Later};
 ghost use Rattle.scm_terminal.specs.Terminal.{bytes_of};
 
-use crate::style::{Style, push_style};
+use crate::style::{code_of, push_style};
 use crate::styled_cell::StyledCell;
+use scm_cells::Style;
 use std::alloc::AllocError;
 
 /// A pass over the cells of a row: which columns it writes.
@@ -44,7 +45,7 @@ fn is_style_set(set: Option<Style>, style: Style) -> bool
 {
     match set {
         None => false,
-        Some(set) => set.code() == style.code(),
+        Some(set) => code_of(set) == code_of(style),
     }
 }
 

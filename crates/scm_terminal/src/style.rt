@@ -1,6 +1,7 @@
-//! Styles of symbols, and the bytes that set them: the SGR parameters of ECMA-48.
-ghost use Rattle.std.specs.Prelude.{◌≡◌, ◌≤◌, ℕ, ◌++◌, OnOk, Some, string_bytes, true};
-ghost use Rattle.scm_terminal.specs.declared.style.Style.{Style};
+//! The style of each place of a screen, and the bytes that set a style: the SGR parameters of
+//! ECMA-48.
+ghost use Rattle.std.specs.Prelude.{◌≡◌, ◌≤◌, ℕ, ◌++◌, OnOk, string_bytes};
+ghost use Rattle.scm_cells.specs.declared.style.Style.{Style};
 ghost use Rattle.scm_terminal.specs.Style.{
   bit,
   colour_code,
@@ -10,49 +11,8 @@ ghost use Rattle.scm_terminal.specs.Style.{
   style_bytes,
 };
 
+use scm_cells::{Colour, Style};
 use std::alloc::AllocError;
-
-/// One of the eight basic colours of a terminal.
-#[derive(Clone, Copy, Debug, Eq, PartialEq)]
-pub enum Colour {
-    /// Black, `ESC [ 30 m`.
-    Black,
-    /// Red, `ESC [ 31 m`.
-    Red,
-    /// Green, `ESC [ 32 m`.
-    Green,
-    /// Yellow, `ESC [ 33 m`.
-    Yellow,
-    /// Blue, `ESC [ 34 m`.
-    Blue,
-    /// Magenta, `ESC [ 35 m`.
-    Magenta,
-    /// Cyan, `ESC [ 36 m`.
-    Cyan,
-    /// White, `ESC [ 37 m`.
-    White,
-}
-
-/// The colour and attributes of a symbol.
-///
-/// `Style::PLAIN.bold().coloured(Colour::Red)` is bold and red.
-#[derive(Clone, Copy, Debug, Eq, PartialEq)]
-pub struct Style {
-    /// The colour of the symbol, or `None` for the terminal's own.
-    pub colour: Option<Colour>,
-
-    /// Whether the symbol is bold.
-    pub bold: bool,
-
-    /// Whether the symbol is dim.
-    pub dim: bool,
-
-    /// Whether the symbol is underlined.
-    pub underlined: bool,
-
-    /// Whether the colours of the symbol and of its background are exchanged.
-    pub reversed: bool,
-}
 
 /// The style of each place of a screen.
 ///
@@ -91,69 +51,14 @@ fn bit(is_on: bool) -> u8
     if is_on { 1 } else { 0 }
 }
 
-impl Style {
-    /// The terminal's own colour, without attributes.
-    pub const PLAIN: Style = Style {
-        colour: None,
-        bold: false,
-        dim: false,
-        underlined: false,
-        reversed: false,
-    };
-
-    /// Returns this style with the colour `colour`.
-    pub fn coloured(self, colour: Colour) -> Style
-        ensures { result ≡ record self { colour = Some colour } }
-    {
-        Style {
-            colour: Some(colour),
-            ..self
-        }
-    }
-
-    /// Returns this style, made bold.
-    pub fn bold(self) -> Style
-        ensures { result ≡ record self { bold = true } }
-    {
-        Style { bold: true, ..self }
-    }
-
-    /// Returns this style, made dim.
-    pub fn dim(self) -> Style
-        ensures { result ≡ record self { dim = true } }
-    {
-        Style { dim: true, ..self }
-    }
-
-    /// Returns this style, made underlined.
-    pub fn underlined(self) -> Style
-        ensures { result ≡ record self { underlined = true } }
-    {
-        Style {
-            underlined: true,
-            ..self
-        }
-    }
-
-    /// Returns this style with the colours of the symbol and of its background exchanged.
-    pub fn reversed(self) -> Style
-        ensures { result ≡ record self { reversed = true } }
-    {
-        Style {
-            reversed: true,
-            ..self
-        }
-    }
-
-    /// Returns the number of the style, below 256. Two styles with the same number are equal.
-    #[tactic(auto, unfolding(crate::specs::Style::style_code))]
-    pub(crate) fn code(self) -> u8
-        ensures { result ≡ style_code self }
-    {
-        let lines = bit(self.underlined) + 2 * bit(self.reversed);
-        let flags = bit(self.bold) + 2 * (bit(self.dim) + 2 * lines);
-        colour_code(self.colour) + 16 * flags
-    }
+/// Returns the number of `style`, below 256. Two styles with the same number are equal.
+#[tactic(auto, unfolding(crate::specs::Style::style_code))]
+pub(crate) fn code_of(style: Style) -> u8
+    ensures { result ≡ style_code style }
+{
+    let lines = bit(style.underlined) + 2 * bit(style.reversed);
+    let flags = bit(style.bold) + 2 * (bit(style.dim) + 2 * lines);
+    colour_code(style.colour) + 16 * flags
 }
 
 /// Returns the SGR parameter of `colour` with its semicolon, or nothing for the terminal's own.

@@ -2,7 +2,8 @@
 ghost use Rattle.std.specs.Prelude.{◌≡◌, ◌↔◌, IsTrue, OnOk, option_map};
 ghost use Rattle.scm_terminal.specs.StyledCell.{Later, cell_of, symbol_of_cell};
 
-use crate::style::Style;
+use crate::style::code_of;
+use scm_cells::Style;
 use std::alloc::{AllocError, Global};
 use std::marker::Model;
 
@@ -69,7 +70,7 @@ impl StyledCell {
             None => !self.is_first,
             Some(symbol) => {
                 let is_text = self.symbol.as_str() == symbol;
-                let is_style = self.style.code() == style.code();
+                let is_style = code_of(self.style) == code_of(style);
                 // `&`: one branch for the prover
                 self.is_first & is_text & is_style
             }

@@ -1,9 +1,9 @@
 //! The bytes of paints, as ECMA-48 defines them.
 ghost use Rattle.std.specs.Prelude.{◌==◌, None, false};
 
-use scm_cells::Grid;
+use scm_cells::{Colour, Grid, Style};
 use scm_errors::RecordError;
-use scm_terminal::{Colour, Painter, Style, Styles};
+use scm_terminal::{Painter, Styles};
 use std::process::Abort;
 
 /// Plain styles, except for the reversed row `row`.

@@ -4,9 +4,9 @@ use Rattle.scm_types.specs.declared.keys.FileKey.{FileKey}
 use Rattle.scm_types.specs.declared.keys.SelectionKey.{SelectionKey}
 use Rattle.scm_types.specs.declared.keys.SelectionKey.TheVariants as keys
 use Rattle.scm_types.specs.Keys.{is_key}
-use Rattle.scm_terminal.specs.declared.style.Colour.{Colour}
-use Rattle.scm_terminal.specs.declared.style.Colour.TheVariants.{Blue, Green, Red}
-use Rattle.scm_terminal.specs.declared.style.Style.{Style}
+use Rattle.scm_cells.specs.declared.style.Colour.{Colour}
+use Rattle.scm_cells.specs.declared.style.Colour.TheVariants.{Blue, Green, Red}
+use Rattle.scm_cells.specs.declared.style.Style.{Style}
 use Rattle.scm_widgets.specs.declared.ids.ComponentId.{ComponentId}
 use Rattle.scm_widgets.specs.declared.ids.ComponentId.TheVariants as ids
 use Rattle.scm_overlay.specs.declared.quit_dialog.QuitDialog.{QuitDialog}

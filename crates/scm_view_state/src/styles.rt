@@ -17,7 +17,7 @@ ghost use Rattle.scm_view_state.specs.Styles.{
 
 use crate::items::ItemKind;
 use crate::view_state::ViewState;
-use scm_terminal::{Colour, Style};
+use scm_cells::{Colour, Style};
 use scm_view::{ComponentId, FileKey, QuitDialog, QuitDialogButtonId, SelectionKey};
 
 /// Returns `style`, reversed if `is_reversed`.

@@ -8,9 +8,9 @@ use Rattle.scm_types.specs.declared.section.Section.{Section}
 use Rattle.scm_types.specs.declared.section.Section.TheVariants.{Unchanged, Changed, FileMode, Binary}
 use Rattle.scm_types.specs.declared.keys.SelectionKey.{SelectionKey}
 use Rattle.scm_types.specs.declared.keys.SelectionKey.TheVariants as keys
-use Rattle.scm_terminal.specs.declared.style.Colour.{Colour}
-use Rattle.scm_terminal.specs.declared.style.Colour.TheVariants.{Blue, Green, Red}
-use Rattle.scm_terminal.specs.declared.style.Style.{Style}
+use Rattle.scm_cells.specs.declared.style.Colour.{Colour}
+use Rattle.scm_cells.specs.declared.style.Colour.TheVariants.{Blue, Green, Red}
+use Rattle.scm_cells.specs.declared.style.Style.{Style}
 use Rattle.scm_document.specs.declared.commit_view.CommitViewMode.TheVariants as mode
 use Rattle.scm_widgets.specs.declared.ids.ComponentId.TheVariants as ids
 use Rattle.scm_widgets.specs.declared.ids.QuitDialogButtonId.TheVariants as buttons

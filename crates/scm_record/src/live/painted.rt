@@ -7,7 +7,8 @@ ghost use Rattle.scm_record.specs.Headline.{IsInline};
 ghost use Rattle.scm_record.specs.Painted.{picture_of, style_at, window_picture_of, window_style_at};
 
 use crate::live::LiveSession;
-use scm_terminal::{Painter, Style, Styles};
+use scm_cells::Style;
+use scm_terminal::{Painter, Styles};
 use scm_types::RecordError;
 
 impl<'state> Styles for LiveSession<'state> {
