@@ -1,6 +1,6 @@
 //! The symbols that are sent for those of a row: a symbol that some terminals would let leave its row
 //! is replaced.
-ghost use Rattle.std.specs.Prelude.{◌≡◌, ◌+◌, ◌<◌, ◌≤◌, nat_le, sum_by, chars};
+ghost use Rattle.std.specs.Prelude.{◌≡◌, ◌≤◌, ◌==◌, ◌&&◌, nat_le, chars};
 ghost use Rattle.scm_terminal.specs.Sent.{
   char_columns,
   added_columns,
@@ -84,6 +84,13 @@ fn is_first_joined(symbol: &str) -> bool
     }
 }
 
+/// Returns whether some terminals join `symbol` to the row above, if it is put at `column`.
+fn joins_row_above(symbol: &str, column: usize) -> bool
+    ensures { result ≡ ((column == 0) && first_is_joined (chars symbol.now)) }
+{
+    column == 0 && is_first_joined(symbol)
+}
+
 /// Returns whether each terminal keeps `symbol` on its row of `width` columns, if it is put at
 /// `column`, counted from 0.
 #[tactic(auto, unfolding(crate::specs::Sent::stays_on_row))]
@@ -94,13 +101,15 @@ fn stays_on_row(symbol: &str, column: usize, width: usize) -> bool
     if symbol.len() == 1 {
         return true;
     }
-    let room = width - column;
-    // a code point has at most three columns, and at least one byte
-    let is_far = symbol.len() <= room / 3;
-    if !is_far && !has_room(symbol, room) {
+    if joins_row_above(symbol, column) {
         return false;
     }
-    !(column == 0 && is_first_joined(symbol))
+    let room = width - column;
+    // a character has at most three columns, and at least one byte
+    if symbol.len() <= room / 3 {
+        return true;
+    }
+    has_room(symbol, room)
 }
 
 /// What is sent for a cell.
