@@ -34,3 +34,5 @@ pub mod PasteLemmas
 pub mod MarkLemmas
 -- the bytes of each key
 pub mod KeyLemmas
+-- what silences tear
+pub mod TearingLemmas

@@ -18,5 +18,6 @@ mod row;
 mod sequences;
 mod style;
 mod styled_cell;
+mod tokenizer;
 mod tokens;
 mod transitions;
