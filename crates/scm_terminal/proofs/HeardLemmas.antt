@@ -386,7 +386,7 @@ left_of d AfterEscape (b ∷ bs) h =
     }
 
 -- a burst that is the byte of Ctrl-C alone
-abbrev is_lone : Burst → Bool
+abbrev pub is_lone : Burst → Bool
 is_lone burst.Empty = false
 is_lone burst.Interrupt = true
 is_lone burst.Other = false

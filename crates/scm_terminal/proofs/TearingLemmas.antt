@@ -31,14 +31,13 @@ use Rattle.scm_terminal.proofs.MarkLemmas.{stay_pasted}
 
 -- ---- bytes without a whole token
 
-bare : List ℕ → Split
+abbrev bare : List ℕ → Split
 bare w = record { tokens = []; rest = w }
 
 not_first : (t : Token) (ts : List Token) → t ∷ ts ≡ [] → ⊥
 not_first t ts e = cc
 
 bare_of : (w : List ℕ) → (split w).tokens ≡ [] → split w ≡ bare w
-unfolding bare
 bare_of [] e = split_nil
 bare_of (b ∷ bs) e = at (first (b ∷ bs)) refl
   where
@@ -65,11 +64,8 @@ front a c event h e = bare_of a (at (split a).tokens refl)
         let joined : before (t ∷ ts) (split (rest a ++ c)) ≡ record { tokens = Event event ∷ []; rest = [] } =
             ap (λ (l : List Token). before l (split (rest a ++ c))) (sym f) ∙ sym (cut_split a c) ∙ e in
         let none : (split (rest a ++ c)).tokens ≡ [] = one_left t ts (split (rest a ++ c)).tokens event (ap (λ (s : Split). s.tokens) joined) in
-        let is : rest a ++ c ≡ [] = sym (ap (λ (s : Split). s.rest) (bare-is (rest a ++ c) none)) ∙ ap (λ (s : Split). s.rest) joined in
+        let is : rest a ++ c ≡ [] = sym (ap (λ (s : Split). s.rest) (bare_of (rest a ++ c) none)) ∙ ap (λ (s : Split). s.rest) joined in
         absurd (h (none_joined (rest a) c is))
-
-    bare-is : (w : List ℕ) → (split w).tokens ≡ [] → split w ≡ record { tokens = []; rest = w }
-    bare-is w f = bare_of w f
 
 -- ---- a burst of a sequence
 
@@ -88,13 +84,12 @@ burst_escape c x e =
     record { plain = refl; reads = is; keeps = ap (λ (w : List ℕ). Waiting false (rest w)) is }
 
 -- what stands after it
-stands_then : SilenceEffect → List ℕ → Start
+abbrev stands_then : SilenceEffect → List ℕ → Start
 stands_then Keep y = Waiting false y
 stands_then EndEscape y = AfterEscape
 stands_then Drop y = at_first
 
 then_is : (f : SilenceEffect) (start : Start) (x y : List ℕ) → kept start x ≡ Waiting false y → after_effect f start x ≡ stands_then f y
-unfolding stands_then
 then_is Keep start x y e = e
 then_is EndEscape start x y e = refl
 then_is Drop start x y e = refl
@@ -108,21 +103,20 @@ all_events start x bursts events event next e f g =
 
 -- a burst outside of a paste that leaves none
 record Plain (start : Start) (x : List ℕ) (events : List TerminalEvent) (f : SilenceEffect) (next : Start) : Type 0 where
-  events : events_from start x ≡ events
-  event : idle_event start x ≡ event_of_effect f
-  after : after_silence start x ≡ next
+  says : events_from start x ≡ events
+  idles : idle_event start x ≡ event_of_effect f
+  leads : after_silence start x ≡ next
 
 plain_of : (start : Start) (x : List ℕ) (events : List TerminalEvent) (f : SilenceEffect) (next : Start)
     → events_from start x ≡ events → is_pasted_from start x ≡ false → effect_on (rest_from start x) ≡ f → after_effect f start x ≡ next → Plain start x events f next
 plain_of start x events f next e p r g = record {
-  events = e;
-  event = rw (p, r) refl;
-  after = rw (p, r) g;
+  says = e;
+  idles = rw (p, r) refl;
+  leads = rw (p, r) g;
 }
 
 -- the sequence has not ended
 quiet_burst : (start : Start) (x y : List ℕ) → Burst start x y → split y ≡ bare y → (f : SilenceEffect) → effect_on y ≡ f → Plain start x [] f (stands_then f y)
-unfolding bare
 quiet_burst start x y b e f g =
     plain_of start x [] f (stands_then f y)
     (ap₂ (λ (p : Bool) (w : List ℕ). stream_events p w) b.plain b.reads ∙ ap (λ (s : Split). token_events false s.tokens) e)
@@ -142,11 +136,11 @@ last_burst start x y event b e =
 -- nothing comes
 empty_burst : Plain at_first [] [] Keep at_first
 unfolding split_from
-empty_burst = record { events = refl; event = refl; after = refl }
+empty_burst = record { says = refl; idles = refl; leads = refl }
 
 empty_escape : Plain AfterEscape [] [] Keep AfterEscape
 unfolding split_from
-empty_escape = record { events = refl; event = refl; after = refl }
+empty_escape = record { says = refl; idles = refl; leads = refl }
 
 cons_not : (b : ℕ) (bs : List ℕ) → b ∷ bs ≡ [] → ⊥
 cons_not b bs e = cc
@@ -159,7 +153,7 @@ nothing_more : (bursts : List (List ℕ)) → bytes_of_bursts bursts ≡ [] → 
 nothing_more [] e = refl
 nothing_more (x ∷ bursts) e =
     subst (λ (x : List ℕ). burst_events at_first (x ∷ bursts) ≡ []) (sym (joined_none x (bytes_of_bursts bursts) e))
-    (all_events at_first [] bursts [] None at_first empty_burst.events empty_burst.event empty_burst.after
+    (all_events at_first [] bursts [] None at_first empty_burst.says empty_burst.idles empty_burst.leads
     ∙ nothing_more bursts (none_joined x (bytes_of_bursts bursts) e))
 
 -- ---- all bursts of a sequence
@@ -214,7 +208,7 @@ module _ (c : ℕ) (v : List ℕ) (event : TerminalEvent) (opens : begins_sequen
   comes_rest : (bursts : List (List ℕ)) (w : List ℕ) → (w ≡ [] → ⊥) → effect_on w ≡ Keep → w ++ bytes_of_bursts bursts ≡ 27 ∷ c ∷ v → (bytes_of_bursts bursts ≡ [] → ⊥)
       → burst_events (Waiting false w) bursts ≡ event ∷ []
   comes_rest [] w n k e h = absurd (h refl)
-  comes_rest (x ∷ bursts) w n k e h = at (is_none (bytes_of_bursts bursts))
+  comes_rest (x ∷ bursts) w n k e h = at (is_none (bytes_of_bursts bursts)) (λ y. comes_rest bursts y)
     where
       joins : (w ++ x) ++ bytes_of_bursts bursts ≡ 27 ∷ c ∷ v
       joins = append_assoc w x (bytes_of_bursts bursts) ∙ e
@@ -222,25 +216,28 @@ module _ (c : ℕ) (v : List ℕ) (event : TerminalEvent) (opens : begins_sequen
       lone : w ++ x ≡ 27 ∷ [] → burst_events (Waiting false w) (x ∷ bursts) ≡ event ∷ []
       lone f = absurd (lone_front w x n k f)
 
-      at : (bytes_of_bursts bursts ≡ []) ⊎ (bytes_of_bursts bursts ≡ [] → ⊥) → burst_events (Waiting false w) (x ∷ bursts) ≡ event ∷ []
-      at (inl none) =
+      at : (bytes_of_bursts bursts ≡ []) ⊎ (bytes_of_bursts bursts ≡ [] → ⊥)
+          → ((y : List ℕ) → (y ≡ [] → ⊥) → effect_on y ≡ Keep → y ++ bytes_of_bursts bursts ≡ 27 ∷ c ∷ v → (bytes_of_bursts bursts ≡ [] → ⊥)
+          → burst_events (Waiting false y) bursts ≡ event ∷ [])
+          → burst_events (Waiting false w) (x ∷ bursts) ≡ event ∷ []
+      at (inl none) more =
           let whole : w ++ x ≡ 27 ∷ c ∷ v = sym (append-nil (w ++ x)) ∙ ap (λ (l : List ℕ). (w ++ x) ++ l) (sym none) ∙ joins in
           let p = last_burst (Waiting false w) x (w ++ x) event (burst_waiting w x) (subst (λ (y : List ℕ). IsToken y event) (sym whole) token) in
-          all_events (Waiting false w) x bursts (event ∷ []) None at_first p.events p.event p.after ∙ ap (λ (l : List TerminalEvent). event ∷ l) (nothing_more bursts none)
-      at (inr some) =
+          all_events (Waiting false w) x bursts (event ∷ []) None at_first p.says p.idles p.leads ∙ ap (λ (l : List TerminalEvent). event ∷ l) (nothing_more bursts none)
+      at (inr some) more =
           let bare-is = front (w ++ x) (bytes_of_bursts bursts) event some (subst (λ (y : List ℕ). IsToken y event) (sym joins) token) in
           ⊎_elim lone
           (λ (keeps : effect_on (w ++ x) ≡ Keep).
           let p = quiet_burst (Waiting false w) x (w ++ x) (burst_waiting w x) bare-is Keep keeps in
-          all_events (Waiting false w) x bursts [] None (Waiting false (w ++ x)) p.events p.event p.after
-          ∙ comes_rest bursts (w ++ x) (λ f. n (joined_none w x f)) keeps joins some)
+          all_events (Waiting false w) x bursts [] None (Waiting false (w ++ x)) p.says p.idles p.leads
+          ∙ more (w ++ x) (λ f. n (joined_none w x f)) keeps joins some)
           (fronts (w ++ x) (bytes_of_bursts bursts) joins)
 
   -- after the escape has ended: once the token
   comes_escape : (bursts : List (List ℕ)) → bytes_of_bursts bursts ≡ c ∷ v → burst_events AfterEscape bursts ≡ event ∷ []
   comes_escape [] e = absurd (cc)
   comes_escape ([] ∷ bursts) e =
-      all_events AfterEscape [] bursts [] None AfterEscape empty_escape.events empty_escape.event empty_escape.after ∙ comes_escape bursts e
+      all_events AfterEscape [] bursts [] None AfterEscape empty_escape.says empty_escape.idles empty_escape.leads ∙ comes_escape bursts e
   comes_escape ((d ∷ x) ∷ bursts) e = at (is_none (bytes_of_bursts bursts))
     where
       starts : begins_sequence d ≡ true
@@ -253,13 +250,13 @@ module _ (c : ℕ) (v : List ℕ) (event : TerminalEvent) (opens : begins_sequen
       at (inl none) =
           let whole : 27 ∷ d ∷ x ≡ 27 ∷ c ∷ v = sym (append-nil (27 ∷ d ∷ x)) ∙ ap (λ (l : List ℕ). (27 ∷ d ∷ x) ++ l) (sym none) ∙ joins in
           let p = last_burst AfterEscape (d ∷ x) (27 ∷ d ∷ x) event (burst_escape d x starts) (subst (λ (y : List ℕ). IsToken y event) (sym whole) token) in
-          all_events AfterEscape (d ∷ x) bursts (event ∷ []) None at_first p.events p.event p.after ∙ ap (λ (l : List TerminalEvent). event ∷ l) (nothing_more bursts none)
+          all_events AfterEscape (d ∷ x) bursts (event ∷ []) None at_first p.says p.idles p.leads ∙ ap (λ (l : List TerminalEvent). event ∷ l) (nothing_more bursts none)
       at (inr some) =
           let bare-is = front (27 ∷ d ∷ x) (bytes_of_bursts bursts) event some (subst (λ (y : List ℕ). IsToken y event) (sym joins) token) in
           ⊎_elim (λ (f : 27 ∷ d ∷ x ≡ 27 ∷ []). absurd (cons_not d x (tail_is 27 27 (d ∷ x) [] f)))
           (λ (keeps : effect_on (27 ∷ d ∷ x) ≡ Keep).
           let p = quiet_burst AfterEscape (d ∷ x) (27 ∷ d ∷ x) (burst_escape d x starts) bare-is Keep keeps in
-          all_events AfterEscape (d ∷ x) bursts [] None (Waiting false (27 ∷ d ∷ x)) p.events p.event p.after
+          all_events AfterEscape (d ∷ x) bursts [] None (Waiting false (27 ∷ d ∷ x)) p.says p.idles p.leads
           ∙ comes_rest bursts (27 ∷ d ∷ x) (λ f. cons_not 27 (d ∷ x) f) keeps joins some)
           (fronts (27 ∷ d ∷ x) (bytes_of_bursts bursts) joins)
 
@@ -268,24 +265,24 @@ module _ (c : ℕ) (v : List ℕ) (event : TerminalEvent) (opens : begins_sequen
   comes_first [] e = absurd (cc)
   comes_first ([] ∷ bursts) e =
       subst (λ (l : List TerminalEvent). ComesOnce event l)
-      (sym (all_events at_first [] bursts [] None at_first empty_burst.events empty_burst.event empty_burst.after)) (comes_first bursts e)
+      (sym (all_events at_first [] bursts [] None at_first empty_burst.says empty_burst.idles empty_burst.leads)) (comes_first bursts e)
   comes_first ((p ∷ x) ∷ bursts) e = at (is_none (bytes_of_bursts bursts))
     where
       at : (bytes_of_bursts bursts ≡ []) ⊎ (bytes_of_bursts bursts ≡ [] → ⊥) → ComesOnce event (burst_events at_first ((p ∷ x) ∷ bursts))
       at (inl none) =
           let whole : p ∷ x ≡ 27 ∷ c ∷ v = sym (append-nil (p ∷ x)) ∙ ap (λ (l : List ℕ). (p ∷ x) ++ l) (sym none) ∙ e in
           let q = last_burst at_first (p ∷ x) (p ∷ x) event (burst_waiting [] (p ∷ x)) (subst (λ (y : List ℕ). IsToken y event) (sym whole) token) in
-          inl (all_events at_first (p ∷ x) bursts (event ∷ []) None at_first q.events q.event q.after ∙ ap (λ (l : List TerminalEvent). event ∷ l) (nothing_more bursts none))
+          inl (all_events at_first (p ∷ x) bursts (event ∷ []) None at_first q.says q.idles q.leads ∙ ap (λ (l : List TerminalEvent). event ∷ l) (nothing_more bursts none))
       at (inr some) =
           let bare-is = front (p ∷ x) (bytes_of_bursts bursts) event some (subst (λ (y : List ℕ). IsToken y event) (sym e) token) in
           ⊎_elim
           (λ (f : p ∷ x ≡ 27 ∷ []).
           let q = quiet_burst at_first (p ∷ x) (p ∷ x) (burst_waiting [] (p ∷ x)) bare-is EndEscape (ap effect_on f) in
           let next : bytes_of_bursts bursts ≡ c ∷ v = ap (λ (l : List ℕ). l ++ bytes_of_bursts bursts) (sym (tail_is p 27 x [] f)) ∙ tail_is p 27 (x ++ bytes_of_bursts bursts) (c ∷ v) e in
-          inr (all_events at_first (p ∷ x) bursts [] (Some escape_event) AfterEscape q.events q.event q.after ∙ ap (λ (l : List TerminalEvent). escape_event ∷ l) (comes_escape bursts next)))
+          inr (all_events at_first (p ∷ x) bursts [] (Some escape_event) AfterEscape q.says q.idles q.leads ∙ ap (λ (l : List TerminalEvent). escape_event ∷ l) (comes_escape bursts next)))
           (λ (keeps : effect_on (p ∷ x) ≡ Keep).
           let q = quiet_burst at_first (p ∷ x) (p ∷ x) (burst_waiting [] (p ∷ x)) bare-is Keep keeps in
-          inl (all_events at_first (p ∷ x) bursts [] None (Waiting false (p ∷ x)) q.events q.event q.after
+          inl (all_events at_first (p ∷ x) bursts [] None (Waiting false (p ∷ x)) q.says q.idles q.leads
           ∙ comes_rest bursts (p ∷ x) (λ f. cons_not p x f) keeps e some))
           (fronts (p ∷ x) (bytes_of_bursts bursts) e)
 
