@@ -36,3 +36,5 @@ pub mod MarkLemmas
 pub mod KeyLemmas
 -- what silences tear
 pub mod TearingLemmas
+-- the grammar of sequences
+pub mod GrammarLemmas

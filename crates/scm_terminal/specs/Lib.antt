@@ -40,3 +40,5 @@ pub mod Decoders
 pub mod KeyBytes
 -- what silences do to a sequence and to a paste
 pub mod Tearing
+-- whole sequences by the grammar of ECMA-48, a second definition
+pub mod Grammar

@@ -12,6 +12,18 @@ ghost use Rattle.scm_terminal.specs.Streams.{
 };
 ghost use Rattle.scm_terminal.specs.KeyBytes.{AreTyped};
 ghost use Rattle.std.specs.Prelude.{true};
+ghost use Rattle.scm_terminal.specs.declared.tokens.Token.{Token};
+ghost use Rattle.scm_terminal.specs.Bytes.{begins_sequence, escape};
+ghost use Rattle.scm_terminal.specs.Sequences.{unrecognized_token};
+ghost use Rattle.scm_terminal.specs.Streams.{Finished, first};
+ghost use Rattle.scm_terminal.specs.Grammar.{
+  AreRead,
+  BeginsWithParts,
+  IsOneToken,
+  Parts,
+  is_well_formed,
+  may_be_followed,
+};
 ghost use Rattle.scm_input.specs.declared.terminal.TerminalEvent.{TerminalEvent};
 ghost use Rattle.scm_terminal.specs.Silences.{
   Start,
@@ -108,6 +120,27 @@ pub fn torn_keys_are_the_same_keys()
 /// Proves that a silence after a silence changes nothing: a caller may report one silence often.
 pub fn a_second_silence_changes_nothing()
     ensures { (start : Start) (bytes : List ℕ) → IsSilent (after_silence start bytes) }
+{}
+
+/// Proves that the grammar of ECMA-48, a second definition, reads the sequences of the key table as
+/// the keys that the table names.
+pub fn the_grammar_reads_the_keys()
+    ensures { AreRead }
+{}
+
+/// Proves that each sequence of the grammar is one token, whatever bytes come after it. Left out are
+/// the final bytes `M` and `[`, which two old forms continue with more bytes.
+pub fn sequences_are_whole_tokens()
+    ensures { (parts : Parts) → is_well_formed parts ≡ true → may_be_followed parts ≡ false
+        → IsOneToken parts }
+{}
+
+/// Proves that a token that begins with `ESC [` or `ESC O` is a sequence of the grammar, unless it is
+/// not recognized.
+pub fn tokens_are_whole_sequences()
+    ensures { (opening : ℕ) (bytes : List ℕ) (token : Token) (n : ℕ)
+        → begins_sequence opening ≡ true → first (escape ∷ opening ∷ bytes) ≡ Finished token n
+        → (token ≡ unrecognized_token → ⊥) → BeginsWithParts (escape ∷ opening ∷ bytes) n }
 {}
 
 /// Proves that a symbol that is safe to put has no control character and no control byte. So no
