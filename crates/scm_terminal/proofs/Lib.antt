@@ -36,3 +36,7 @@ pub mod PasteLemmas
 pub mod MarkLemmas
 -- the bytes of each key
 pub mod KeyLemmas
+-- what silences tear
+pub mod TearingLemmas
+-- the grammar of sequences
+pub mod GrammarLemmas

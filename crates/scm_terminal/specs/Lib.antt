@@ -34,9 +34,15 @@ pub mod Sequences
 pub mod Characters
 -- the tokens and the events of a stream of bytes
 pub mod Streams
+-- bytes and silences
+pub mod Silences
 -- the state machine of the decoder
 pub mod Transitions
 -- the decoder, byte by byte
 pub mod Decoders
 -- the bytes of each row of the key table
 pub mod KeyBytes
+-- what silences do to a sequence and to a paste
+pub mod Tearing
+-- whole sequences by the grammar of ECMA-48, a second definition
+pub mod Grammar

@@ -19,5 +19,6 @@ mod sent;
 mod sequences;
 mod style;
 mod styled_cell;
+mod tokenizer;
 mod tokens;
 mod transitions;
