@@ -28,7 +28,8 @@ fn is_showing(cells: &[StyledCell], grid: &Grid, styles: &[Style], row: usize) -
     ensures { IsTrue result ↔ (cells.now ≡ row_in styles.now grid.now row) }
 {
     for (column, cell) in cells.iter().enumerate() {
-        if !cell.is_showing(grid.symbol(row, column), styles[column]) {
+        let style = styles[column];
+        if !cell.is_showing(grid.symbol(row, column), style) {
             return false;
         }
     }
