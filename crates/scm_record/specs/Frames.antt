@@ -106,7 +106,7 @@ KnowsPlaces w frame (Free boxes) = IsMapOf w frame boxes
 -- `owners` are those of row `y` of the document, if they were found: what the index has on that row
 abbrev pub KnowsRow : Option RowOwners → Places → ℕ → Type 0
 KnowsRow None places y = Unit {0}
-KnowsRow (Some owners) (Plain index) y = AreRowOwners index y owners
+KnowsRow (Some owners) (Plain index) y = (owners.row ≡ y) × AreRowOwners index owners
 KnowsRow (Some owners) (Free boxes) y = Unit {0}
 
 -- whether the code keeps an index, and not a map of boxes
