@@ -49,11 +49,10 @@ abbrev pub owner_in : LayoutIndex → ℕ → ℕ → Option ComponentId
 owner_in i y x =
     if nat_lt x i.width then first_of_two (overlay_owner i.rects.items y x) (document_owner i y x) else None
 
--- `r` knows what row y has in index i: the file and the section, and whether anything lies over the document
-pub record AreRowOwners (i : LayoutIndex) (y : ℕ) (r : RowOwners) : Type 0 where
-  pub row : r.row ≡ y
-  pub found : r.found ≡ pieces_on i.selection i.pinned y i.rows.files
-  pub covered : r.is_covered ≡ have_row i.rects.items y
+-- `r` knows what its row has in index i: the file and the section, and whether anything lies over the document
+pub record AreRowOwners (i : LayoutIndex) (r : RowOwners) : Type 0 where
+  pub found : r.found ≡ pieces_on i.selection i.pinned r.row i.rows.files
+  pub covered : r.is_covered ≡ have_row i.rects.items r.row
 
 -- the rows of a key by index i
 abbrev pub span_in : LayoutIndex → SelectionKey → Option (ℕ × ℕ)

@@ -44,7 +44,8 @@ fn owner_of_found(
 impl LayoutIndex {
     /// Finds what row `row` of the document has.
     pub fn row_owners(&self, row: usize) -> RowOwners
-        ensures { AreRowOwners self.now row result }
+        ensures row { result.row ≡ row }
+        ensures owners { AreRowOwners self.now result }
     {
         RowOwners {
             row,
@@ -55,7 +56,7 @@ impl LayoutIndex {
 
     /// Returns the owner of the place at `column` among what lies over the document, if any.
     fn overlay_on(&self, owners: RowOwners, column: usize) -> Option<ComponentId>
-        requires { AreRowOwners self.now owners.row owners }
+        requires { AreRowOwners self.now owners }
         ensures { result ≡ overlay_owner self.now.rects.items owners.row column }
     {
         if owners.is_covered {
@@ -67,7 +68,7 @@ impl LayoutIndex {
 
     /// Returns the owner of the place at `column` of the row of `owners`, if any.
     fn owner_in(&self, owners: RowOwners, column: usize) -> Option<ComponentId>
-        requires { AreRowOwners self.now owners.row owners }
+        requires { AreRowOwners self.now owners }
         ensures { result ≡ owner_in self.now owners.row column }
     {
         if usize::from(self.width) <= column {
@@ -83,7 +84,7 @@ impl LayoutIndex {
     /// Returns the component that owns the place at `column` of the screen, on the row of `owners`,
     /// if any. Columns off the screen have no owner.
     pub fn owner_on(&self, owners: RowOwners, column: usize) -> Option<ComponentId>
-        requires { AreRowOwners self.now owners.row owners }
+        requires { AreRowOwners self.now owners }
         ensures { (w h s : ℕ) (shown : ViewState) → IsLayoutIndexOf w h s shown self.now →
             result ≡ (if nat_lt column w then owner w h s shown owners.row column else None) }
     {
