@@ -28,7 +28,14 @@ pub trait Styles {
     /// Sets `styles` to the styles of the places of row `row`, counted from 0: one for each column,
     /// from column 0 on.
     fn row_styles(&self, row: usize, styles: &mut [Style])
-        ensures { styles.new ≡ row_of_styles (styled self.now) row (length styles.old) };
+        ensures { styles.new ≡ row_of_styles (styled self.now) row (length styles.old) }
+    {
+        let mut column = 0;
+        for style in styles.iter_mut() {
+            *style = self.style(row, column);
+            column += 1;
+        }
+    }
 }
 
 /// Returns the number of `colour`: 0 for the terminal's own colour, and otherwise 1 to 8.
