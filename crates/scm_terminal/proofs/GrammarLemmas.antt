@@ -127,9 +127,9 @@ one_token p e f =
     let back = and_parts (are_all (is_between 32 47) p.intermediates) (is_between 64 126 p.final) halves.1 in
     let inner = p.parameters ++ p.intermediates in
     let fit : are_all is_parameter inner ≡ true =
-        are_all-append is_parameter p.parameters p.intermediates
-        (are_parameters (is_between 48 63) between-weaker p.parameters front.1)
-        (are_parameters (is_between 32 47) between-intermediate p.intermediates back.0) in
+    are_all-append is_parameter p.parameters p.intermediates
+    (are_parameters (is_between 48 63) between-weaker p.parameters front.1)
+    (are_parameters (is_between 32 47) between-intermediate p.intermediates back.0) in
     let joins : p.parameters ++ (p.intermediates ++ (p.final ∷ [])) ≡ inner ++ (p.final ∷ []) = sym (append_assoc p.parameters p.intermediates (p.final ∷ [])) in
     let long : length (inner ++ (p.final ∷ [])) ≡ length inner + 1 = length-append inner (p.final ∷ []) in
     let whole : length (written p) ≡ length (inner ++ (p.final ∷ [])) + 1 + 1 = ap (λ (l : List ℕ). length (27 ∷ p.opening ∷ l)) joins in
