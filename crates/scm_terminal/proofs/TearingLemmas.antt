@@ -62,7 +62,7 @@ front a c event h e = bare_of a (at (split a).tokens refl)
     at [] f = refl
     at (t ∷ ts) f =
         let joined : before (t ∷ ts) (split (rest a ++ c)) ≡ record { tokens = Event event ∷ []; rest = [] } =
-            ap (λ (l : List Token). before l (split (rest a ++ c))) (sym f) ∙ sym (cut_split a c) ∙ e in
+        ap (λ (l : List Token). before l (split (rest a ++ c))) (sym f) ∙ sym (cut_split a c) ∙ e in
         let none : (split (rest a ++ c)).tokens ≡ [] = one_left t ts (split (rest a ++ c)).tokens event (ap (λ (s : Split). s.tokens) joined) in
         let is : rest a ++ c ≡ [] = sym (ap (λ (s : Split). s.rest) (bare_of (rest a ++ c) none)) ∙ ap (λ (s : Split). s.rest) joined in
         absurd (h (none_joined (rest a) c is))
@@ -347,11 +347,11 @@ freed_at p x =
     let d = after p x in
     let reads : Follows (tokenizer true d.state) true (rest x) = sym (rest_again d p x (after_heard p x) true) in
     let stays : is_pasted_after true (rest x ++ (3 ∷ [])) ≡ true =
-        pasted_is (hears (tokenizer true d.state) 3) true (rest x ++ (3 ∷ [])) (follows_next (tokenizer true d.state) true (rest x) reads 3)
-        ∙ ap (λ (t : Tokenizer). t.is_pasted) (interrupt_state d.state) in
+    pasted_is (hears (tokenizer true d.state) 3) true (rest x ++ (3 ∷ [])) (follows_next (tokenizer true d.state) true (rest x) reads 3)
+    ∙ ap (λ (t : Tokenizer). t.is_pasted) (interrupt_state d.state) in
     let says : stream_events true (rest x ++ (3 ∷ [])) ≡ events_of (step (tokenizer true d.state) 3).events =
-        follows_event (tokenizer true d.state) true (rest x) reads 3
-        ∙ ap (λ (s : Split). token_events true s.tokens ++ events_of (step (tokenizer true d.state) 3).events) (rest_alone d p x (after_heard p x)) in
+    follows_event (tokenizer true d.state) true (rest x) reads 3
+    ∙ ap (λ (s : Split). token_events true s.tokens ++ events_of (step (tokenizer true d.state) 3).events) (rest_alone d p x (after_heard p x)) in
     record {
       quiet = subst AreOther (sym says) (interrupt_quiet d.state);
       event = rw stays refl;
@@ -455,10 +455,11 @@ torn_from (x ∷ bursts) w n h =
     let again : end.0 ++ (rest (w ++ x) ++ more) ≡ w ++ (x ++ more) = sym (append_assoc end.0 (rest (w ++ x)) more) ∙ ap (λ (l : List ℕ). l ++ more) (sym end.1) ∙ sym joins in
     let next = torn_from bursts (rest (w ++ x)) n.1 (λ m. h (subst HasMark again (mark_back end.0 (rest (w ++ x) ++ more) m))) in
     let none : idle_event (Waiting true w) x ≡ None = rw (pasted, not) refl in
-    let stands : after_silence (Waiting true w) x ≡ Waiting true (rest (w ++ x)) = rw (pasted, not) refl in
-    (subst AreOther (sym (all_events (Waiting true w) x bursts (stream_events true (w ++ x)) None (Waiting true (rest (w ++ x))) refl none stands))
-    (other-append (stream_events true (w ++ x)) (burst_events (Waiting true (rest (w ++ x))) bursts) stay.quiet next.0),
-    ap (λ (s : Start). is_pasted_at (after_bursts s bursts)) stands ∙ next.1)
+    let stands : after_silence (Waiting true w) x ≡ Waiting true (rest (w ++ x)) = rw (pasted, not) refl in (
+      subst AreOther (sym (all_events (Waiting true w) x bursts (stream_events true (w ++ x)) None (Waiting true (rest (w ++ x))) refl none stands))
+          (other-append (stream_events true (w ++ x)) (burst_events (Waiting true (rest (w ++ x))) bursts) stay.quiet next.0),
+      ap (λ (s : Start). is_pasted_at (after_bursts s bursts)) stands ∙ next.1,
+    )
 
 pub stay_pasted_torn : (bursts : List (List ℕ)) → HaveNoInterrupt bursts → (HasMark (bytes_of_bursts bursts) → ⊥) → StayPastedTorn bursts
 stay_pasted_torn bursts n h = let t = torn_from bursts [] n h in record { quiet = t.0; goes_on = t.1 }
