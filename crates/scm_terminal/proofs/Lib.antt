@@ -3,6 +3,8 @@ pub mod StyleLemmas
 -- ---- commands one after another, on one row and on all
 pub mod RunLemmas
 pub mod RowLemmas
+pub mod SentLemmas
+pub mod AddingLemmas
 pub mod ApartLemmas
 pub mod SafeLemmas
 -- a terminal of any widths

@@ -22,7 +22,7 @@ puts-known showing symbol r c st t at_row at_column in_style wide =
     let old = get_or t.rows r [] in
     let new = row_after showing symbol c st old in
     record {
-      stays = λ row off e. let same : r ≡ row = alike t.row r row at_row e in record {
+      stays = λ row column off e at on. let same : r ≡ row = alike t.row r row at_row e in record {
         wide = refl;
         high = length-set t.rows r new;
         others = λ k h. get_or-set_other t.rows r k new [] (λ f. h (f ∙ same));
@@ -55,15 +55,15 @@ puts-known showing symbol r c st t at_row at_column in_style wide =
 
 puts-any : (showing : Showing) (symbol : List ℕ) (a b : Option ℕ) (s : Option Style) (t : Display) → t.row ≡ a → t.column ≡ b → t.style ≡ s → AreWide t → Puts symbol t (display_after showing symbol a b s t)
 puts-any showing symbol None b s t e f g wide = record {
-  stays = λ row off h. stays row t h;
+  stays = λ row column off h at on. stays row t h;
   byte = λ row column x style off h i j above before is. absurd (unlike t.row row e h);
 }
 puts-any showing symbol (Some r) None s t e f g wide = record {
-  stays = λ row off h. stays row t h;
+  stays = λ row column off h at on. stays row t h;
   byte = λ row column x style off h i j above before is. absurd (unlike t.column column f i);
 }
 puts-any showing symbol (Some r) (Some c) None t e f g wide = record {
-  stays = λ row off h. stays row t h;
+  stays = λ row column off h at on. stays row t h;
   byte = λ row column x style off h i j above before is. absurd (unlike t.style style g j);
 }
 puts-any showing symbol (Some r) (Some c) (Some st) t e f g wide = puts-known showing symbol r c st t e f g wide

@@ -1,10 +1,12 @@
 -- A terminal of any widths, by what may follow a command. A symbol of several bytes may change any
 -- column of its row: it may take any number of columns, be drawn further left, or be left out. A
--- symbol of one byte takes one column, and the other symbols of one byte stay. While symbols wrap, or
--- if the row of the cursor is unknown, nothing is known of a symbol.
+-- symbol of one byte takes one column, and the other symbols of one byte stay. Nothing is known of a
+-- symbol while symbols wrap, if the cursor is unknown, or if it is none that stays on its row: it may
+-- then wrap, scroll, or join the row above.
 use Rattle.std.specs.Prelude.{◌≡◌, ◌≢◌, ℕ, ◌+◌, ◌<◌, Bool, true, false, List, [], ◌∷◌, length, slice_index_or, slice_set, Option, Some, None}
 use Rattle.scm_cells.specs.declared.style.Style.{Style}
 use Rattle.scm_terminal.specs.StyledCell.{StyledCell, First, HasSize}
+use Rattle.scm_terminal.specs.Sent.{stays_on_row}
 use Rattle.scm_terminal.specs.Terminal.{Spot, Command, MoveTo, SetStyle, Put, SetWrap}
 
 -- what a terminal shows, and its state; rows and columns are counted from 0
@@ -50,8 +52,9 @@ pub record PutsByte (row column b : ℕ) (style : Style) (t u : Display) : Type 
 
 -- what is known of a symbol that is put
 pub record Puts (symbol : List ℕ) (t u : Display) : Type 0 where
-  -- if no symbol wraps, only the row of the cursor changes
-  pub stays : (row : ℕ) → t.wraps ≡ Some false → t.row ≡ Some row → ChangesRow row t u
+  -- if no symbol wraps, and this one stays on its row, only the row of the cursor changes
+  pub stays : (row column : ℕ) → t.wraps ≡ Some false → t.row ≡ Some row → t.column ≡ Some column
+      → stays_on_row t.width column symbol ≡ true → ChangesRow row t u
   -- if it has one byte, it takes one column
   pub byte : (row column b : ℕ) → (style : Style)
       → t.wraps ≡ Some false → t.row ≡ Some row → t.column ≡ Some column → t.style ≡ Some style

@@ -2,10 +2,14 @@
 pub mod Style
 -- the content of one column, and the picture of a grid, in styles
 pub mod StyledCell
+-- the cells that are sent for a row
+pub mod Sent
 -- a model terminal, its commands, and their bytes
 pub mod Terminal
 -- a terminal of any widths
 pub mod AnyTerminal
+-- a terminal that adds up the columns of code points
+pub mod Adding
 -- the commands that a terminal reads in bytes
 pub mod Reading
 -- the commands of a paint: those of the rows that changed

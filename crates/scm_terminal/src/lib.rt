@@ -15,6 +15,7 @@ mod mouse;
 mod painter;
 mod pen;
 mod row;
+mod sent;
 mod sequences;
 mod style;
 mod styled_cell;

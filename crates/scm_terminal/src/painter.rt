@@ -4,7 +4,7 @@ ghost use Rattle.std.specs.List.{All, flat_map, list_any};
 ghost use Rattle.scm_errors.specs.declared.error.RecordError.TheVariants.{OutOfMemory};
 ghost use Rattle.scm_terminal.specs.Painting.{AreUpdates, paint_commands, painting};
 ghost use Rattle.scm_terminal.specs.StyledCell.{HasSize, picture};
-ghost use Rattle.scm_terminal.specs.RowView.{line_of};
+ghost use Rattle.scm_terminal.specs.RowView.{line_of, sent_line_of};
 ghost use Rattle.scm_terminal.specs.PainterView.{cells_of_row};
 ghost use Rattle.scm_terminal.specs.Promise.{Paints};
 ghost use Rattle.scm_terminal.specs.Terminal.{bytes_of};
@@ -170,7 +170,7 @@ fn are_changed(rows: &[Row]) -> bool
 fn push_paint(text: &mut String, rows: &[Row]) -> Result<(), AllocError>
     requires rows { length rows.now < 2 ^ 16 }
     requires columns { All (λ row. length row.cells.items < 2 ^ 16) rows.now }
-    ensures { let commands = paint_commands (map line_of rows.now) in
+    ensures { let commands = paint_commands (map sent_line_of rows.now) in
         OnOk result (string_bytes text.new ≡ string_bytes text.old ++ flat_map bytes_of commands) }
 {
     if are_changed(rows) {
@@ -185,7 +185,7 @@ fn push_paint(text: &mut String, rows: &[Row]) -> Result<(), AllocError>
 fn push_rows(text: &mut String, rows: &[Row]) -> Result<(), AllocError>
     requires rows { length rows.now < 2 ^ 16 }
     requires columns { All (λ row. length row.cells.items < 2 ^ 16) rows.now }
-    ensures { let commands = painting 0 (map line_of rows.now) in
+    ensures { let commands = painting 0 (map sent_line_of rows.now) in
         OnOk result (string_bytes text.new ≡ string_bytes text.old ++ flat_map bytes_of commands) }
 {
     for (index, row) in rows.iter().enumerate() {

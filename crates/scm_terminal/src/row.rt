@@ -1,12 +1,14 @@
 //! One row of a painter's last picture, and the bytes that write it.
 ghost use Rattle.std.specs.Prelude.{◌≡◌, ◌↔◌, ◌<◌, ◌≤◌, ◌^◌, ◌++◌, IsTrue, IfOk, OnOk, true, false, length, string_bytes};
 ghost use Rattle.std.specs.List.{flat_map};
-ghost use Rattle.scm_terminal.specs.Painting.{IsUpdate, line_commands, new_pen, pass_commands};
+ghost use Rattle.scm_terminal.specs.Painting.{IsUpdate, line_commands, new_pen, pass_commands, sent_line};
+ghost use Rattle.scm_terminal.specs.Sent.{sent_row};
 ghost use Rattle.scm_terminal.specs.StyledCell.{styled_row};
 ghost use Rattle.scm_terminal.specs.RowView.{line_of};
 ghost use Rattle.scm_terminal.specs.Terminal.{bytes_of};
 
 use crate::pen::{Pass, Pen};
+use crate::sent::Sent;
 use crate::style::Styles;
 use crate::styled_cell::StyledCell;
 use scm_cells::Grid;
@@ -53,7 +55,7 @@ fn show<S: Styles>(
     Ok(())
 }
 
-/// Appends the bytes that write what `pass` puts at `cells`, the cells of row `row`, counted from 0.
+/// Appends the bytes that write what `pass` puts of `cells`, the cells of row `row`, counted from 0.
 fn push_pass(
     text: &mut String,
     row: usize,
@@ -62,12 +64,15 @@ fn push_pass(
 ) -> Result<(), AllocError>
     requires row { row < 2 ^ 16 }
     requires columns { length cells.now < 2 ^ 16 }
-    ensures { let commands = pass_commands pass row 0 new_pen cells.now in OnOk result
+    ensures { let commands = pass_commands pass row 0 new_pen (sent_row cells.now) in OnOk result
         (string_bytes text.new ≡ string_bytes text.old ++ flat_map bytes_of commands) }
 {
     let mut pen = Pen::new();
+    let mut blank = None;
     for (column, cell) in cells.iter().enumerate() {
-        pen = pen.push_cell(text, row, column, cell, pass)?;
+        let sent = Sent::new(cell, blank, column, cells.len());
+        pen = pen.push_cell(text, row, column, sent, pass)?;
+        blank = sent.blank;
     }
     Ok(())
 }
@@ -117,7 +122,7 @@ impl Row {
     pub(crate) fn push(&self, text: &mut String, row: usize) -> Result<(), AllocError>
         requires row { row < 2 ^ 16 }
         requires columns { length self.now.cells.items < 2 ^ 16 }
-        ensures { let commands = line_commands row (line_of self.now) in OnOk result
+        ensures { let commands = line_commands row (sent_line (line_of self.now)) in OnOk result
             (string_bytes text.new ≡ string_bytes text.old ++ flat_map bytes_of commands) }
     {
         if !self.is_changed {
