@@ -1,5 +1,5 @@
 -- The grammar and the decoder agree.
-use Rattle.std.proofs.Common.{◌≡◌, refl, sym, ◌∙◌, ap, ap₂, subst, ℕ, ◌+◌, ◌-◌, ◌*◌, ◌≤◌, ◌<◌, Bool, true, false, ◌==◌, ◌&&◌, ◌||◌, nat_le, nat_lt, List, [], ◌∷◌, ◌++◌, length, append_assoc, fold, codes, arith, ◌⊎◌, inl, inr, ⊎_elim, if◌then◌else◌}
+use Rattle.std.proofs.Common.{◌≡◌, refl, sym, ◌∙◌, ap, ap₂, subst, ℕ, suc, ◌+◌, ◌-◌, ◌*◌, ◌≤◌, ◌<◌, Bool, true, false, ◌==◌, ◌&&◌, ◌||◌, nat_le, nat_lt, List, [], ◌∷◌, ◌++◌, length, Some, append_assoc, fold, codes, arith, ◌⊎◌, inl, inr, ⊎_elim, if◌then◌else◌}
 use Rattle.std.proofs.lemmas.Bool.{and_parts, eqb-true}
 use Rattle.std.proofs.lemmas.Bool.Decides.{nat_tests}
 use Rattle.std.proofs.lemmas.List.{length-append}
@@ -16,21 +16,26 @@ use Rattle.scm_terminal.specs.Streams.{Found, Unfinished, Finished, sequence, tr
 use Rattle.scm_terminal.specs.Silences.{press}
 use Rattle.scm_terminal.specs.KeyBytes.{key_bytes}
 use Rattle.scm_terminal.specs.Tearing.{is_sequence}
-use Rattle.scm_terminal.specs.Grammar.{Parts, written, are_all, is_well_formed, key_of, IsReadAs, AreRead, IsOneToken, may_be_followed, BeginsWithParts}
+use Rattle.scm_terminal.specs.Grammar.{Parts, written, are_all, is_well_formed, IsReadAs, AreRead, IsOneToken, may_be_followed, BeginsWithParts, numbers_from, are_small, key_by}
 
 -- ---- the keys of the table
 
 abbrev parts : List ℕ → ℕ → Parts
 parts ps final = record { opening = 91; parameters = ps; intermediates = []; final = final }
 
-keyed : {row : KeyRow} {bytes : List ℕ} (p : Parts) → is_well_formed p ≡ true → written p ≡ bytes → key_of p p.intermediates ≡ Event (press row.modifiers row.code) → IsReadAs row bytes
-keyed p e f g = record { parts = p; well_formed = e; bytes_are = f; key = g }
+keyed : {row : KeyRow} {bytes : List ℕ} (ps : List ℕ) (final : ℕ) (numbers : List ℕ) → is_well_formed (parts ps final) ≡ true → written (parts ps final) ≡ bytes
+    → numbers_from 0 ps ≡ Some numbers → are_small numbers ≡ true → key_by 91 numbers final ≡ Event (press row.modifiers row.code) → IsReadAs row bytes
+keyed ps final numbers e f g h k = record {
+  parts = parts ps final;
+  bytes_are = f;
+  is = record { well_formed = e; plain = refl; numbers = numbers; numbers_are = g; small = h; key_is = k };
+}
 
 no_sequence : {T : Type 0} → false ≡ true → T
 no_sequence e = absurd (cc)
 
 pub keys_read : AreRead
-keys_read = (no_sequence, (no_sequence, (no_sequence, (no_sequence, (no_sequence, ((λ e. keyed (parts (codes "1;5") 65) refl refl refl), (no_sequence, ((λ e. keyed (parts (codes "1;5") 66) refl refl refl), (no_sequence, ((λ e. keyed (parts (codes "5;5") 126) refl refl refl), (no_sequence, ((λ e. keyed (parts (codes "6;5") 126) refl refl refl), (no_sequence, ((λ e. keyed (parts ([]) 65) refl refl refl), (no_sequence, ((λ e. keyed (parts ([]) 66) refl refl refl), (no_sequence, ((λ e. keyed (parts (codes "5") 126) refl refl refl), ((λ e. keyed (parts (codes "6") 126) refl refl refl), ((λ e. keyed (parts (codes "1;2") 68) refl refl refl), (no_sequence, ((λ e. keyed (parts ([]) 68) refl refl refl), (no_sequence, ((λ e. keyed (parts ([]) 67) refl refl refl), ((λ e. keyed (parts (codes "1;2") 67) refl refl refl), (no_sequence, (no_sequence, (no_sequence, (no_sequence, (no_sequence, (no_sequence, (no_sequence, (no_sequence, (no_sequence, (no_sequence, (no_sequence, tt))))))))))))))))))))))))))))))))))))
+keys_read = (no_sequence, (no_sequence, (no_sequence, (no_sequence, (no_sequence, ((λ e. keyed (codes "1;5") 65 (1 ∷ 5 ∷ []) refl refl refl refl refl), (no_sequence, ((λ e. keyed (codes "1;5") 66 (1 ∷ 5 ∷ []) refl refl refl refl refl), (no_sequence, ((λ e. keyed (codes "5;5") 126 (5 ∷ 5 ∷ []) refl refl refl refl refl), (no_sequence, ((λ e. keyed (codes "6;5") 126 (6 ∷ 5 ∷ []) refl refl refl refl refl), (no_sequence, ((λ e. keyed ([]) 65 (0 ∷ []) refl refl refl refl refl), (no_sequence, ((λ e. keyed ([]) 66 (0 ∷ []) refl refl refl refl refl), (no_sequence, ((λ e. keyed (codes "5") 126 (5 ∷ []) refl refl refl refl refl), ((λ e. keyed (codes "6") 126 (6 ∷ []) refl refl refl refl refl), ((λ e. keyed (codes "1;2") 68 (1 ∷ 2 ∷ []) refl refl refl refl refl), (no_sequence, ((λ e. keyed ([]) 68 (0 ∷ []) refl refl refl refl refl), (no_sequence, ((λ e. keyed ([]) 67 (0 ∷ []) refl refl refl refl refl), ((λ e. keyed (codes "1;2") 67 (1 ∷ 2 ∷ []) refl refl refl refl refl), (no_sequence, (no_sequence, (no_sequence, (no_sequence, (no_sequence, (no_sequence, (no_sequence, (no_sequence, (no_sequence, (no_sequence, (no_sequence, tt))))))))))))))))))))))))))))))))))))
 
 -- ---- a sequence of the grammar is one token
 
@@ -82,7 +87,7 @@ none_trail : (q : Sequence) (final : ℕ) → (final == 77 || final == 91) ≡ f
 unfolding trailing_bytes
 none_trail q final e = at (is_blank q) (final == 77) (final == 91) e
   where
-    at : (s t u : Bool) → (t || u) ≡ false → (if s then (if t then 3 else if u then 1 else 0) else 0) ≡ 0
+    at : (s t u : Bool) → (t || u) ≡ false → ◌≡◌ {A = ℕ} (if s then (if t then 3 else if u then 1 else 0) else 0) 0
     at true true u f = absurd (cc)
     at true false true f = absurd (cc)
     at true false false f = refl
@@ -108,11 +113,11 @@ reads-all (b ∷ bs) q n m final more e f g h =
     step is = rw is refl
 
 -- a sequence begins with an opening
-kind_of : ℕ → SequenceKind
+abbrev pub kind_of : ℕ → SequenceKind
 kind_of c = if c == 91 then Csi else Ss3
 
 opened : (c : ℕ) (bs : List ℕ) → begins_sequence c ≡ true → first (27 ∷ c ∷ bs) ≡ sequence (new_sequence (kind_of c)) 1 bs
-unfolding first kind_of
+unfolding first
 opened c bs e = at (c == 91) refl (c == 79) refl e
   where
     at : (s : Bool) → (c == 91) ≡ s → (t : Bool) → (c == 79) ≡ t → (s || t) ≡ true → first (27 ∷ c ∷ bs) ≡ sequence (new_sequence (if c == 91 then Csi else Ss3)) 1 bs
@@ -120,8 +125,12 @@ opened c bs e = at (c == 91) refl (c == 79) refl e
     at false f true g h = subst (λ (c : ℕ). first (27 ∷ c ∷ bs) ≡ sequence (new_sequence (if c == 91 then Csi else Ss3)) 1 bs) (sym (eqb-true c 79 g)) refl
     at false f false g h = absurd (cc)
 
-pub one_token : (p : Parts) → is_well_formed p ≡ true → may_be_followed p ≡ false → IsOneToken p
-one_token p e f =
+-- its token
+abbrev pub token_of_parts : Parts → Token
+token_of_parts p = token_of (fold with_parameter (new_sequence (kind_of p.opening)) (p.parameters ++ p.intermediates)) p.final
+
+pub token_is : (p : Parts) → is_well_formed p ≡ true → may_be_followed p ≡ false → (more : List ℕ) → first (written p ++ more) ≡ Finished (token_of_parts p) (length (written p) - 1)
+token_is p e f more =
     let halves = and_parts (begins_sequence p.opening && are_all (is_between 48 63) p.parameters) (are_all (is_between 32 47) p.intermediates && is_between 64 126 p.final) e in
     let front = and_parts (begins_sequence p.opening) (are_all (is_between 48 63) p.parameters) halves.0 in
     let back = and_parts (are_all (is_between 32 47) p.intermediates) (is_between 64 126 p.final) halves.1 in
@@ -132,15 +141,14 @@ one_token p e f =
     (are_parameters (is_between 32 47) between-intermediate p.intermediates back.0) in
     let joins : p.parameters ++ (p.intermediates ++ (p.final ∷ [])) ≡ inner ++ (p.final ∷ []) = sym (append_assoc p.parameters p.intermediates (p.final ∷ [])) in
     let long : length (inner ++ (p.final ∷ [])) ≡ length inner + 1 = length-append inner (p.final ∷ []) in
-    let whole : length (written p) ≡ length (inner ++ (p.final ∷ [])) + 1 + 1 = ap (λ (l : List ℕ). length (27 ∷ p.opening ∷ l)) joins in
+    let whole : length (written p) ≡ suc (suc (length (inner ++ (p.final ∷ [])))) = ap (λ (l : List ℕ). length (27 ∷ p.opening ∷ l)) joins in
     let size : 1 + length inner + 1 ≡ length (written p) - 1 = omega (arith, long, whole) in
-    record {
-      token = token_of (fold with_parameter (new_sequence (kind_of p.opening)) inner) p.final;
-      is = λ more.
-          opened p.opening ((p.parameters ++ (p.intermediates ++ (p.final ∷ []))) ++ more) front.0
-          ∙ ap (λ (l : List ℕ). sequence (new_sequence (kind_of p.opening)) 1 l) (ap (λ (l : List ℕ). l ++ more) joins ∙ append_assoc inner (p.final ∷ []) more)
-          ∙ reads-all inner (new_sequence (kind_of p.opening)) 1 (length (written p) - 1) p.final more fit back.1 f size;
-    }
+    opened p.opening ((p.parameters ++ (p.intermediates ++ (p.final ∷ []))) ++ more) front.0
+    ∙ ap (λ (l : List ℕ). sequence (new_sequence (kind_of p.opening)) 1 l) (ap (λ (l : List ℕ). l ++ more) joins ∙ append_assoc inner (p.final ∷ []) more)
+    ∙ reads-all inner (new_sequence (kind_of p.opening)) 1 (length (written p) - 1) p.final more fit back.1 f size
+
+pub one_token : (p : Parts) → is_well_formed p ≡ true → may_be_followed p ≡ false → IsOneToken p
+one_token p e f = record { token = token_of_parts p; is = token_is p e f }
 
 -- ---- a token with a meaning is a sequence of the grammar
 

@@ -40,3 +40,5 @@ pub mod KeyLemmas
 pub mod TearingLemmas
 -- the grammar of sequences
 pub mod GrammarLemmas
+-- the keys of the grammar
+pub mod MeaningLemmas

@@ -7,8 +7,8 @@ use Rattle.scm_input.specs.declared.terminal.KeyEventKind.TheVariants.{Press}
 use Rattle.scm_terminal.specs.Bytes.{enter, tab, backspace, space, is_between, is_capital}
 
 -- the key code of byte `b`: 13 is Enter, 9 is Tab, 1 to 26 are letters with control, and space to
--- `~` are their characters, but `H` and `L` the small letters, which the key table names with shift;
--- Backspace (8 and 127) is no key of the table
+-- `~` are their characters; but `H` and `L` are the small letters, which the key table names with
+-- shift. Backspace (8 and 127) is no key of the table
 abbrev pub code_of : ℕ → KeyCode
 code_of b =
     if b == enter then key.Enter

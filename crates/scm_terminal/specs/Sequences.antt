@@ -167,8 +167,8 @@ tilde_token q =
     else if q.first == 27 then typed_key (modifiers_of q.second) q.last
     else unrecognized_token
 
--- the token of a mouse report in rxvt's form: a button, 32 more than in xterm's SGR form, column and
--- row
+-- the token of a mouse report in rxvt's form: a button, 32 more than in xterm's SGR form, a column
+-- and a row
 abbrev pub old_mouse_token : Sequence → Token
 old_mouse_token q =
     if q.semicolons == 2 && nat_le 32 q.first then

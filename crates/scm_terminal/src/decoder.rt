@@ -163,7 +163,8 @@ impl Decoder {
 
     /// Handles a silence of the terminal, and returns the event that it completes, if any.
     ///
-    /// - A lone escape is the Esc key. If `[` or `O` comes next, it continues the escape's sequence.
+    /// - A lone escape is the Esc key. If `[` or `O` comes next, it continues that escape's
+    ///   sequence.
     /// - An escape with a byte that begins a control string is `Other`.
     /// - Any other unfinished token stays unfinished.
     ///

@@ -13,16 +13,20 @@ ghost use Rattle.scm_terminal.specs.Streams.{
 ghost use Rattle.scm_terminal.specs.KeyBytes.{AreTyped};
 ghost use Rattle.std.specs.Prelude.{true};
 ghost use Rattle.scm_terminal.specs.declared.tokens.Token.{Token};
+ghost use Rattle.scm_input.specs.declared.terminal.KeyEvent.{KeyEvent};
+ghost use Rattle.scm_input.specs.declared.terminal.TerminalEvent.TheVariants as terminal;
 ghost use Rattle.scm_terminal.specs.Bytes.{begins_sequence, escape};
 ghost use Rattle.scm_terminal.specs.Sequences.{unrecognized_token};
 ghost use Rattle.scm_terminal.specs.Streams.{Finished, first};
 ghost use Rattle.scm_terminal.specs.Grammar.{
   AreRead,
   BeginsWithParts,
+  IsKey,
   IsOneToken,
   Parts,
   is_well_formed,
   may_be_followed,
+  written,
 };
 ghost use Rattle.scm_input.specs.declared.terminal.TerminalEvent.{TerminalEvent};
 ghost use Rattle.scm_terminal.specs.Silences.{
@@ -97,8 +101,8 @@ pub fn a_silence_ends_no_paste()
         → (HasMark (bytes_of_bursts bursts) → ⊥) → StayPastedTorn bursts }
 {}
 
-/// Proves that a lost end mark of a bracketed paste never locks the user out: after any bytes of the
-/// paste and a silence, Ctrl-C before another silence is the key, and ends the paste.
+/// Proves that a lost end mark of a bracketed paste never locks the user out: after any bytes of
+/// the paste and a silence, Ctrl-C before another silence is the key, and ends the paste.
 pub fn a_lost_mark_locks_nobody_out()
     ensures { (start : Start) (bytes : List ℕ) → is_pasted_from start bytes ≡ true
         → is_interrupt bytes ≡ false → IsFreed (after_silence start bytes) }
@@ -128,15 +132,22 @@ pub fn the_grammar_reads_the_keys()
     ensures { AreRead }
 {}
 
-/// Proves that each sequence of the grammar is one token, whatever bytes come after it. Left out are
-/// the final bytes `M` and `[`, which two old forms continue with more bytes.
+/// Proves that the decoder finds every key that the grammar names: the bytes of its sequence are
+/// one token, and the event is the key.
+pub fn the_decoder_finds_the_keys_of_the_grammar()
+    ensures { (parts : Parts) (key : KeyEvent) → IsKey parts key
+        → IsToken (written parts) (terminal.Key key) }
+{}
+
+/// Proves that each sequence of the grammar is one token, whatever bytes come after it. Left out
+/// are the final bytes `M` and `[`, which two old forms continue with more bytes.
 pub fn sequences_are_whole_tokens()
     ensures { (parts : Parts) → is_well_formed parts ≡ true → may_be_followed parts ≡ false
         → IsOneToken parts }
 {}
 
-/// Proves that a token that begins with `ESC [` or `ESC O` is a sequence of the grammar, unless it is
-/// not recognized.
+/// Proves that a token that begins with `ESC [` or `ESC O` is a sequence of the grammar, unless it
+/// is not recognized.
 pub fn tokens_are_whole_sequences()
     ensures { (opening : ℕ) (bytes : List ℕ) (token : Token) (n : ℕ)
         → begins_sequence opening ≡ true → first (escape ∷ opening ∷ bytes) ≡ Finished token n
