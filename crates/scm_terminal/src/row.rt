@@ -1,7 +1,13 @@
 //! One row of a painter's last picture, and the bytes that write it.
 ghost use Rattle.std.specs.Prelude.{◌≡◌, ◌↔◌, ◌<◌, ◌≤◌, ◌^◌, ◌++◌, IsTrue, IfOk, OnOk, true, false, length, string_bytes};
 ghost use Rattle.std.specs.List.{flat_map};
-ghost use Rattle.scm_terminal.specs.Painting.{IsUpdate, line_commands, new_pen, pass_commands, sent_line};
+ghost use Rattle.scm_terminal.specs.Painting.{
+  IsUpdate,
+  line_commands,
+  new_pen,
+  pass_commands,
+  sent_line,
+};
 ghost use Rattle.scm_terminal.specs.Sent.{sent_row};
 ghost use Rattle.scm_terminal.specs.StyledCell.{row_in};
 ghost use Rattle.scm_terminal.specs.RowView.{line_of};
@@ -57,7 +63,8 @@ fn show(
     Ok(())
 }
 
-/// Appends the bytes that write what `pass` puts of `cells`, the cells of row `row`, counted from 0.
+/// Appends the bytes that write what `pass` puts of `cells`, the cells of row `row`. `row` is
+/// counted from 0.
 fn push_pass(
     text: &mut String,
     row: usize,
