@@ -1,4 +1,4 @@
-use Rattle.std.proofs.Common.{◌≡◌, ◌∙◌, false, ap, ap₂, arith, rules}
+use Rattle.std.proofs.Common.{◌≡◌, false, ap₂, arith, rules}
 use Rattle.std.proofs.lemmas.List.{get_or_default}
 use Rattle.scm_terminal.specs.Style.{plain_style}
 use Rattle.scm_terminal.specs.StyledCell.{cell_of, cell_in}

@@ -1,4 +1,4 @@
-use Rattle.std.proofs.Common.{◌≡◌, ◌∙◌, set, get_or, ap, arith}
+use Rattle.std.proofs.Common.{◌∙◌, set, get_or, ap, arith}
 use Rattle.std.proofs.lemmas.List.Edits.{fill_by_more}
 use Rattle.std.proofs.lemmas.List.FromFn.{fill_by_all}
 use Rattle.scm_cells.specs.declared.style.Style.{Style}
