@@ -5,7 +5,7 @@
 #include "scm.h"
 
 /* The largest screen, in columns and rows: a session takes some 100 bytes for each place. A larger terminal shows it at its top left. */
-enum { WIDEST = 1000, TALLEST = 500 };
+enum { WIDEST = 1000, TALLEST = 1000 };
 
 /* Shows an open session on a terminal, and hands in what the user types, until the session waits no more. The window's title is
  * `title`, in ASCII. The terminal and the handlers of signals are as before when it returns. One run at a time is in a process.
