@@ -105,6 +105,7 @@ int main(int argc, char **argv) {
     const char *path = argc > 2 ? argv[2] : NULL;
     check(path || fcntl(STDOUT_FILENO, F_GETFD) >= 0, "standard output", NULL);
     fill_standard_files();
+    signal(SIGCHLD, SIG_DFL); /* else the editor's status would be lost */
     scm_session session = {0};
     text ending = {0};
     open_session(&session, argv[1]);
