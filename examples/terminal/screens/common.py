@@ -48,8 +48,8 @@ def compiled(source, folder, library):
     if found.returncode:
         raise Absent("there is no " + library)
     made = os.path.join(folder, source[:-2])
-    compiler = (os.environ.get("CC") or "cc").split()
-    subprocess.run([*compiler, "-O1", os.path.join(HERE, source), *found.stdout.split(), "-o", made], check=True)
+    compiler, *words = (os.environ.get("CC") or "cc").split()
+    subprocess.run([need(compiler), *words, "-O1", os.path.join(HERE, source), *found.stdout.split(), "-o", made], check=True)
     return made
 
 

@@ -35,8 +35,9 @@ class GnuScreen(Window):
         fcntl.ioctl(inner, termios.TIOCSWINSZ, struct.pack("HHHH", height, width, 0, 0))
         threading.Thread(target=drain, args=[self.terminal], daemon=True).start()
         # setsid and the redirection give screen the terminal that it is to be shown on
+        need("setsid")
         attach = 'exec setsid -c -w "$@" < "$0" > "$0" 2>&1'
-        words = ["sh", "-c", attach, os.ttyname(inner), need("screen"), "-U", "-S", self.session, "-c", settings]
+        words = [need("sh"), "-c", attach, os.ttyname(inner), need("screen"), "-U", "-S", self.session, "-c", settings]
         super().__init__(words, folder, {"TERM": "xterm-256color", "SCREENDIR": os.path.join(folder, "sockets")})
         os.close(inner)
 
