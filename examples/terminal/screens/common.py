@@ -118,23 +118,29 @@ class Window:
         self.process.wait()
 
 
+def whole_lines(path, count, begun=0):
+    """Returns `count` lines of a file, of those behind its first `begun` bytes, once they are written."""
+    end = time.monotonic() + SECONDS
+    text = b""
+    while text.count(b"\n") < count:
+        if time.monotonic() > end:
+            raise TimeoutError("there are no rows in %s" % path)
+        time.sleep(0.002)
+        if os.path.exists(path):
+            with open(path, "rb") as file:
+                file.seek(begun)
+                text = file.read()
+    return text.split(b"\n")[:count]
+
+
 class Printed:
     """The rows that a terminal prints to a file after `ESC [ i`. Its window adds `show`, `path` and `height`."""
 
     def rows(self):
         begun = os.path.getsize(self.path) if os.path.exists(self.path) else 0
         self.show(b"\x1b[i")
-        end = time.monotonic() + SECONDS
-        text = b""
-        while text.count(b"\n") < self.height and time.monotonic() < end:
-            time.sleep(0.002)
-            if os.path.exists(self.path):
-                with open(self.path, "rb") as file:
-                    file.seek(begun)
-                    text = file.read()
-        # the second column of a wide symbol is a character that is none, and a form feed ends the page
-        lines = re.sub("[\0\f\r\uffff]", "", text.decode(errors="replace")).split("\n")
-        return lines[:self.height]
+        # the second column of a wide symbol is a character that is none, and a form feed begins or ends the page
+        return [re.sub("[\0\f\r\uffff]", "", line.decode(errors="replace")) for line in whole_lines(self.path, self.height, begun)]
 
 
 class Xvfb:

@@ -3,11 +3,10 @@ import fcntl
 import os
 import pty
 import struct
-import subprocess
 import termios
 import threading
 
-from .common import ENVIRONMENT, Window, first_line, need
+from .common import Window, first_line, need, whole_lines
 
 NAME = "GNU screen"
 
@@ -27,7 +26,7 @@ def drain(terminal):
 
 class GnuScreen(Window):
     def __init__(self, folder, width, height):
-        self.folder, self.session = folder, "scm-%d" % os.getpid()
+        self.folder, self.height = folder, height
         settings = os.path.join(folder, "screenrc")
         with open(settings, "w") as file:
             file.write("startup_message off\ndefutf8 on\nhardcopydir %s\nmsgwait 0\ndefhstatus ''\nhardstatus ignore\n" % folder)
@@ -37,23 +36,19 @@ class GnuScreen(Window):
         # setsid and the redirection give screen the terminal that it is to be shown on
         need("setsid")
         attach = 'exec setsid -c -w "$@" < "$0" > "$0" 2>&1'
-        words = [need("sh"), "-c", attach, os.ttyname(inner), need("screen"), "-U", "-S", self.session, "-c", settings]
+        words = [need("sh"), "-c", attach, os.ttyname(inner), need("screen"), "-U", "-c", settings]
         super().__init__(words, folder, {"TERM": "xterm-256color", "SCREENDIR": os.path.join(folder, "sockets")})
         os.close(inner)
 
-    def run(self, *words):
-        environment = {**ENVIRONMENT, "SCREENDIR": os.path.join(self.folder, "sockets")}
-        subprocess.run(["screen", "-S", self.session, "-X", *words], env=environment, check=True, stdout=subprocess.DEVNULL)
-
     def rows(self):
-        path = os.path.join(self.folder, "copy")
+        path = os.path.join(self.folder, "hardcopy.0")
         if os.path.exists(path):
             os.remove(path)
-        self.run("hardcopy", path)
-        self.show(b"")
+        # its key for a hard copy
+        os.write(self.terminal, b"\x01h")
         # one byte for each column, of a symbol that is not ASCII a byte that says nothing
-        with open(path, "rb") as file:
-            return [[chr(byte) if byte < 127 else None for byte in row] for row in file.read().split(b"\n")[:-1]]
+        rows = whole_lines(path, self.height)
+        return [[chr(byte) if byte < 127 else None for byte in row] for row in rows]
 
     def close(self):
         self.child.close()

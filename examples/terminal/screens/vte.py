@@ -1,9 +1,8 @@
 """VTE, the terminal of gnome-terminal, in Xvfb. Its Python binding reads its text."""
 import os
 import subprocess
-import time
 
-from .common import HERE, SECONDS, Absent, Window, Xvfb, python_with
+from .common import HERE, Absent, Window, Xvfb, python_with, whole_lines
 
 NAME = "VTE"
 VERSION = "import gi; gi.require_version('Vte', '2.91'); from gi.repository import Vte; print(Vte.get_major_version(), Vte.get_minor_version(), Vte.get_micro_version(), sep='.')"
@@ -31,11 +30,7 @@ class Vte(Window):
         with open(os.path.join(self.folder, "asked.new"), "w") as file:
             file.write(str(self.cursor[0]))
         os.rename(file.name, os.path.join(self.folder, "asked"))
-        end = time.monotonic() + SECONDS
-        while not os.path.exists(path) and time.monotonic() < end:
-            time.sleep(0.002)
-        with open(path, encoding="utf-8") as file:
-            rows = file.read().split("\n")[:self.height]
+        rows = [line.decode() for line in whole_lines(path, self.height)]
         os.remove(path)
         return rows
 

@@ -17,11 +17,11 @@ def write_rows(terminal, folder, width, height):
         with open(asked) as file:
             # the rows of VTE are counted from the first one that it ever had
             first = terminal.get_cursor_position()[1] - int(file.read())
+        os.remove(asked)
         rows = [terminal.get_text_range(first + row, 0, first + row, width)[0].rstrip("\n") for row in range(height)]
         with open(os.path.join(folder, "written"), "w", encoding="utf-8") as file:
             file.write("".join(row + "\n" for row in rows))
         os.rename(os.path.join(folder, "written"), os.path.join(folder, "rows"))
-        os.remove(asked)
     return True
 
 
