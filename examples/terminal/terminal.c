@@ -99,7 +99,7 @@ static int print(const char *words) {
 int main(int argc, char **argv) {
     bool asks_version = argc == 2 && strcmp(argv[1], "--version") == 0;
     if (asks_version || (argc == 2 && strcmp(argv[1], "--help") == 0)) {
-        return print(asks_version ? NAME " 1.1\n" : HELP);
+        return print(asks_version ? NAME " " SCM_VERSION_TEXT "\n" : HELP);
     }
     check(argc == 2 || argc == 3, "wrong arguments", "try " NAME " --help");
     const char *path = argc > 2 ? argv[2] : NULL;
