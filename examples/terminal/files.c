@@ -47,7 +47,8 @@ uint32_t read_session(scm_session *session, reader *read, text *into) {
     return code;
 }
 
-/* Reads on behind the first `*length` bytes, and adds to `*length`. Returns 0 at the end of the file, and -1 with errno set if that fails. */
+/* Reads on behind the first `*length` bytes, and adds to `*length`. Returns 0 at the end of the file, and -1 with errno set if that
+ * fails. */
 static ssize_t read_more(int file, text *into, size_t *length) {
     if (!make_room(into, *length < into->room ? into->room : *length + MORE_ROOM)) {
         return -1;
@@ -143,7 +144,8 @@ bool replace_file(const char *path, const char *bytes, size_t length) {
     char *target = realpath(path, NULL);
     bool is_there = target && stat(target, &old) == 0;
     bool is_beside = is_there ? S_ISREG(old.st_mode) : lstat(path, &itself) != 0;
-    bool is_done = is_beside ? write_beside(is_there ? target : path, is_there ? &old : NULL, bytes, length) : write_onto(path, bytes, length);
+    bool is_done = is_beside ? write_beside(is_there ? target : path, is_there ? &old : NULL, bytes, length)
+                             : write_onto(path, bytes, length);
     int error = errno;
     free(target);
     errno = error;
