@@ -36,6 +36,12 @@ def is_given_back(typed):
     return bool(re.search(GIVE_BACK + rb"[^\x1b]*$", typed.seen, re.S))
 
 
+def give_up(typed):
+    """Gives up: ctrl-c asks, and the second one cancels."""
+    typed.press("ctrl-c")
+    typed.write(b"\x03")
+
+
 def leave(typed):
     """Gives up, and says whether the front end ends as it does then, with the terminal given back."""
     while not typed.has_ended:

@@ -51,7 +51,7 @@ class GnuScreen(Window):
         os.write(self.terminal, b"\x01h")
         # one byte for each column, of a symbol that is not ASCII a byte that says nothing
         rows = whole_lines(path, self.height)
-        return [[chr(byte) if byte < 127 else None for byte in row] for row in rows]
+        return [[chr(byte) if byte < 127 else "\ufffd" for byte in row] for row in rows]
 
     def close(self):
         self.child.close()
