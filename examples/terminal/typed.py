@@ -9,7 +9,7 @@ FRAME = re.compile(rb"\x1b\[\?2026h(.*?)\x1b\[\?2026l", re.S)
 TAKE, GIVE_BACK = rb"(?:\x1b\[22;2t)?\x1b\]2;.*?\x1b\[\?2004h", rb"\x1b\[\?2026l\x1b\[\?7h\x1b\[0m\x1b\[\?2004l.*?\x1b\[23;2t"
 # what a frame is made of: the cursor goes to a place, a style is set, and symbols without a control character
 COMMAND = re.compile(rb"\x1b\[([0-9]+);([0-9]+)H|\x1b\[([0-9;]*)m|((?:[^\x00-\x1f\x7f\xc2]|\xc2[^\x80-\x9f])+)|\x1b\[\?7[hl]")
-SECONDS = 10
+SECONDS = 60
 # after how long the program has drawn all, in seconds
 QUIET = 0.3
 
