@@ -253,7 +253,7 @@ static int report(const char *path) {
 int main(int argc, char **argv) {
     bool asks_version = argc == 2 && strcmp(argv[1], "--version") == 0;
     if (asks_version || (argc == 2 && strcmp(argv[1], "--help") == 0)) {
-        return fputs(asks_version ? NAME " 1.1\n" : HELP, stdout) < 0 ? FAILED : 0;
+        return fputs(asks_version ? NAME " " SCM_VERSION_TEXT "\n" : HELP, stdout) < 0 ? FAILED : 0;
     }
     check(argc == 2 || argc == 3, "wrong arguments", "try " NAME " --help");
     begin(argv[1]);
