@@ -19,10 +19,10 @@ def text_of(seed):
 
 
 @contextlib.contextmanager
-def disk(place):
-    """Gives a disk of SIZE bytes in the folder `disk`, or None if none can be made here."""
+def disk(place, size=SIZE):
+    """Gives a disk of `size` bytes in the folder `disk`, or None if none can be made here."""
     folder = place.folder("disk")
-    words = ["mount", "-t", "tmpfs", "-o", "size=%d" % SIZE, "tmpfs", folder]
+    words = ["mount", "-t", "tmpfs", "-o", "size=%d" % size, "tmpfs", folder]
     try:
         is_there = subprocess.run(words, stderr=subprocess.DEVNULL).returncode == 0
     except FileNotFoundError:
