@@ -69,9 +69,9 @@ class Folders:
 
     pairs = {}
 
-    def is_told(self, path, old):
-        """Whether a path is the file of jj, which is no file of the commit. `old` is its side in LEFT."""
-        return path == INSTRUCTIONS and old == ABSENT_SIDE
+    def is_told(self, path):
+        """Whether a path is the file of jj, which is no file of the commit: LEFT does not have it."""
+        return path == INSTRUCTIONS and self.left.read(path)[0] == ABSENT_SIDE
 
     def differing(self):
         """Returns the two sides of each file that differs, by path, and the paths that are left out."""
@@ -80,14 +80,14 @@ class Folders:
         self.pairs = {}
         for path in sorted({path for path, _ in found} - left_out):
             old, new = (files.read(path)[0] for files in (self.left, self.right))
-            if old != new and not self.is_told(path, old):
+            if old != new and not self.is_told(path):
                 self.pairs[path] = old, new
         return self.pairs, sorted(left_out)
 
     def instructions(self):
         """Returns what jj says of the files, or an empty text."""
         (mode, data), _ = self.target.read(INSTRUCTIONS)
-        is_file = mode != ABSENT and self.is_told(INSTRUCTIONS, self.left.read(INSTRUCTIONS)[0])
+        is_file = mode != ABSENT and self.is_told(INSTRUCTIONS)
         return data.decode(errors="replace") if is_file else ""
 
     def entries(self, choices):
@@ -99,7 +99,7 @@ class Folders:
         entries = []
         for path in sorted({*self.in_right, *self.there, *wanted}):
             is_file = self.in_right.get(path, True) and self.there.get(path, True)
-            if is_file and not self.is_told(path, self.left.read(path)[0]):
+            if is_file and not self.is_told(path):
                 now, side = self.target.read(path)[0], wanted.get(path) or self.right.read(path)[0]
                 entries += [(path, now, side)] if now != side else []
         return entries
