@@ -57,6 +57,7 @@ class Folders:
     def __init__(self, options):
         self.left, self.right = Files(options.left), Files(options.right, follows=IS_DIFFTOOL)
         self.target = Files(options.output) if options.output else self.right
+        self.pairs = {}  # the two sides of each file that differs, by path
 
     @functools.cached_property
     def there(self):
@@ -66,8 +67,6 @@ class Folders:
     @functools.cached_property
     def in_right(self):
         return self.there if self.target is self.right else paths_below(self.right.top)
-
-    pairs = {}
 
     def is_told(self, path):
         """Whether a path is the file of jj, which is no file of the commit: LEFT does not have it."""
