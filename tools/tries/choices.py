@@ -9,6 +9,7 @@ import subprocess
 
 import changed
 import trying
+from choosing.change import path_of
 from choosing.words import shown
 from options import content_of, edit_folders
 from places import Repository
@@ -107,14 +108,23 @@ def marked_at_random(place, command, seed, folder=None):
     if not os.path.exists(marked):
         return {}
     with open(marked) as file:
-        files = {file["path"]: file for file in json.load(file)["files"]}
+        files = {path_of(file): file for file in json.load(file)["files"]}
     os.unlink(marked)
     return files
 
 
 def chosen(files, old, new):
     """Returns the table `old` with the marked changes of `files`, which lead to `new`. In `files` names are as they are shown."""
-    made = {path: split(files[shown(path)], old.get(path), new.get(path)) for path in {**old, **new} if shown(path) in files}
+    made, paths = {}, {shown(path): path for path in {**old, **new}}
+    for name, file in files.items():
+        path, before = paths[name], paths.get(file["old_path"])
+        if before is None:
+            made[path] = split(file, old.get(path), new.get(path))
+        else:
+            # as a new file, whose old side is the file with the old path
+            is_new = any(part["is_checked"] for word, part in parts_of(file) if word == "FileMode")
+            made[path if is_new else before] = split(file, old[before], new[path])
+            made[before if is_new else path] = None
     return {path: what for path, what in {**old, **made}.items() if what is not None}
 
 

@@ -140,7 +140,7 @@ def a_locked_index(place):
 
 
 def in_conflict(place):
-    """A file in conflict is left out by its name with each option, and others are used. A commit is refused."""
+    """A file in conflict is left out by its name with each option, and others are used. A commit is refused before the choice."""
     repository = Repository(place, {"a": b"1\n", "b": b"1\n"}, {"a": b"2\n", "b": b"1\n"})
     repository.git("checkout", "--quiet", "-b", "other")
     repository.commit()
@@ -156,10 +156,8 @@ def in_conflict(place):
         ends.append((status, said.count("a is left out: it is in conflict\n")) == (0, 1))
         if words != ["--unstage"]:
             continue
-        status, said = repository.select("--commit", "-m", "x", keys=["a", "c"])
-        is_out = not repository.git("diff", "--cached", "--name-only", "--diff-filter=M")
-        ends.append(status == 1 and "nothing was committed" in said and is_out)
-    place.forget_marks()
+        for words in ["--commit", "-m", "x"], ["--amend"], ["--fixup", "HEAD"], ["--stash"]:
+            ends.append(place.call("git", "select", *words, folder=repository.folder) == (1, "git-select: a is in conflict: resolve that first\n"))
     is_left = len(repository.git("ls-files", "--unmerged").splitlines()) == 3
     return all(ends) and is_left and repository.files() == {"a": conflict, "b": b"1\n"} and repository.is_sound()
 
