@@ -5,7 +5,7 @@ import os
 import re
 
 from .change import ABSENT
-from .files import DONE, IS_FOLDER, PLAN, SPARE, Files, digest_of, empty, lock_folder, read_all
+from .files import DONE, IS_FOLDER, PLAN, SPARE, Files, digest_of, empty, lock_open, read_all
 from .words import Stop, shown
 
 NAME = re.compile(re.escape(SPARE).replace("%d", r"\d+"))
@@ -24,9 +24,6 @@ class Entry:
         """Whether the file is as it is to be."""
         return not self.is_made and (self.is_aside or self.old[0] == ABSENT)
 
-    def is_begun(self):
-        return self.is_aside or self.new[0] != ABSENT and not self.is_made
-
 
 class CutOff:
     """What was left by a change of files that was cut off, in the folder `name` below `top`, open as `spare`."""
@@ -34,32 +31,27 @@ class CutOff:
     def __init__(self, top, name, spare):
         self.files, self.name, self.spare = Files(top), name, spare
         self.left = set(os.listdir(spare))
-        plan = self.plan() if PLAN in self.left else {"lock": None, "entries": []}
-        self.lock = plan["lock"]
-        self.entries = [Entry(number, path, sides, self.left) for number, (path, *sides) in enumerate(plan["entries"])]
+        self.entries = self.plan() if PLAN in self.left else []
 
     def plan(self):
+        """Returns the entries of the plan."""
         try:
-            plan = json.loads(read_all(self.spare, PLAN, os.O_NOFOLLOW))
-            [(path, *sides) for path, *sides in plan["entries"]]
-            return plan
-        except (ValueError, LookupError, TypeError):
+            lines = json.loads(read_all(self.spare, PLAN, os.O_NOFOLLOW))
+            return [Entry(number, path, sides, self.left) for number, (path, *sides) in enumerate(lines)]
+        except (ValueError, TypeError):
             raise Stop("%s has no plan that can be read" % shown(os.path.join(self.files.top, self.name))) from None
 
     def is_known(self):
         """Whether it is known what the files in the folder are for."""
         return bool(self.entries) or DONE in self.left or not any(name.startswith("old-") for name in self.left)
 
-    def is_begun(self):
-        """Whether a file is no more as it was."""
-        return any(entry.is_begun() for entry in self.entries)
-
     def progress(self):
         """Returns how many of the files are as they are to be, and of how many."""
         return sum(entry.is_done() for entry in self.entries), len(self.entries)
 
     def finish(self):
-        """Puts in place what is not there yet. Stops if something else is there, and can be called again then."""
+        """Puts in place what is not there yet, and returns the entries. Stops if something else is there, and can be called again
+        then."""
         for entry in self.entries:
             if entry.new[0] != ABSENT and not entry.is_made:
                 self.check(entry, self.now(entry), entry.new)
@@ -74,10 +66,10 @@ class CutOff:
                     undo.pop_all()
             elif entry.new[0] == ABSENT:
                 self.prune(entry)
-        self.remove()
+        return self.removed()
 
     def undo(self):
-        """Puts back what was there. Stops if something else is there, and can be called again then."""
+        """Puts back what was there, and returns the entries. Stops if something else is there, and can be called again then."""
         for entry in reversed(self.entries):
             if entry.new[0] != ABSENT and not entry.is_made:
                 self.take_away(entry)
@@ -85,7 +77,7 @@ class CutOff:
                 self.give_back(entry)
             if entry.old[0] == ABSENT:
                 self.prune(entry)
-        self.remove()
+        return self.removed()
 
     def now(self, entry):
         return digest_of(self.files.read(entry.path)[0])
@@ -120,9 +112,11 @@ class CutOff:
             self.files.prune(entry.path, undo)
             undo.pop_all()
 
-    def remove(self):
+    def removed(self):
+        """Removes the folder, which is not needed any more. Returns the entries."""
         empty(self.spare)
         os.rmdir(self.name, dir_fd=self.files.at)
+        return self.entries
 
 
 @contextlib.contextmanager
@@ -143,4 +137,4 @@ def opened(top, name, stack):
     except (FileNotFoundError, NotADirectoryError):
         return None
     stack.callback(os.close, spare)
-    return CutOff(top, name, spare) if lock_folder(spare) else None
+    return CutOff(top, name, spare) if lock_open(spare) else None

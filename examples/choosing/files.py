@@ -20,7 +20,7 @@ NO_FOLDER = errno.ENOENT, errno.ENOTDIR, errno.ELOOP
 ABSENT_SIDE = ABSENT, b""
 SPARE = ".choosing-%d"
 # in such a folder: what is to be done, while that is begun and not at its end, and the same once all is done
-PLAN, DONE = "plan", "done"
+NEW_PLAN, PLAN, DONE = "new-plan", "plan", "done"
 THREADS = 16
 
 
@@ -57,10 +57,11 @@ def flush(folder, names):
             pass
 
 
-def lock_folder(folder):
-    """Locks a folder until it is closed, also by the end of the program. Returns whether nobody else has locked it."""
+def lock_open(opened):
+    """Locks a file or a folder that is open until it is closed, also by the end of the program. Returns whether nobody else has
+    locked it."""
     try:
-        fcntl.flock(folder, fcntl.LOCK_EX | fcntl.LOCK_NB)
+        fcntl.flock(opened, fcntl.LOCK_EX | fcntl.LOCK_NB)
     except BlockingIOError:
         return False
     except OSError:
@@ -75,12 +76,13 @@ def digest_of(side):
     return [mode, hashlib.sha256(data).hexdigest()]
 
 
-def write_plan(spare, entries, lock):
+def write_plan(spare, entries):
     """Writes into `spare` what is about to be done (see Files.change)."""
-    plan = {"lock": lock, "entries": [[path, digest_of(old), digest_of(new)] for path, old, new in entries]}
-    with open(os.open(PLAN, os.O_WRONLY | os.O_CREAT | os.O_EXCL | os.O_CLOEXEC, 0o600, dir_fd=spare), "w") as file:
+    plan = [[path, digest_of(old), digest_of(new)] for path, old, new in entries]
+    with open(os.open(NEW_PLAN, os.O_WRONLY | os.O_CREAT | os.O_EXCL | os.O_CLOEXEC, 0o600, dir_fd=spare), "w") as file:
         file.write(json.dumps(plan))
-    flush(spare, [PLAN])
+    flush(spare, [NEW_PLAN])
+    os.rename(NEW_PLAN, PLAN, src_dir_fd=spare, dst_dir_fd=spare)
 
 
 def empty(spare):
@@ -166,16 +168,16 @@ class Files:
         except FileNotFoundError:
             return None
 
-    def change(self, entries, lock=None):
+    def change(self, entries):
         """Puts all of `entries` in place, or none of them: paths, each with the mode and bytes that are there and those
         that are to be there. Files come by a rename. Stops if something else is there. If this is cut off, a plan says how to
-        finish it, or to undo it (see cut_off.py). `lock` is noted there: the mark of a lock that is held meanwhile."""
+        finish it, or to undo it (see cut_off.py)."""
         if not entries:
             return
         with signals_wait(), self.spare() as spare, contextlib.ExitStack() as undo:
             self.make_all(spare, entries)
             with named(self.top, "written"):
-                write_plan(spare, entries, lock)
+                write_plan(spare, entries)
             # what goes makes room for what comes
             for number, (path, old, new) in sorted(enumerate(entries), key=lambda entry: entry[1][2][0] != ABSENT):
                 with named(path, "written"):
@@ -195,7 +197,7 @@ class Files:
             os.mkdir(name, 0o700, dir_fd=self.at)
         with closing(os.open(name, IS_FOLDER, dir_fd=self.at)) as spare:
             try:
-                lock_folder(spare)
+                lock_open(spare)
                 yield spare
             finally:
                 self.remove_spare(spare, name)

@@ -1,4 +1,5 @@
 """The text of a file as the lines of a state, and back."""
+import io
 import os
 import re
 
@@ -41,7 +42,7 @@ def texts_of(sides):
 
 def lines_in(text):
     """Returns the lines of `text` with their line ends. Only the last one may have none."""
-    return re.findall("[^\n]*\n|[^\n]+", text)
+    return list(io.StringIO(text, newline="\n"))
 
 
 def marker_for(old, new):

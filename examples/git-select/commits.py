@@ -59,7 +59,7 @@ class Commit(Stage):
 
     def write(self, choices, scratch, accepted, lock):
         """Commits the index with `choices`, which the index then has."""
-        self.repository.update(self.entries(self.all_of(choices)), GIT_INDEX_FILE=lock.copy)
+        self.repository.update(self.stored(self.all_of(choices), self.now), GIT_INDEX_FILE=lock.copy)
         asked, before = self.tree_of(lock), self.repository.last_commit()
         status = status_of(lambda: self.commit(message_in(state_in(accepted)), lock.copy))
         self.check_made(status, before, lock)
@@ -208,7 +208,7 @@ class Split(Stage):
         first, second = messages_in(state_in(accepted), 2)
         if not first.strip() or not second.strip():
             raise Stop("a commit has no message")
-        tree = self.repository.tree_with(self.before(), self.entries(self.all_of(choices)), self.folder)
+        tree = self.repository.tree_with(self.before(), self.stored(self.all_of(choices), self.now), self.folder)
         if tree == self.tree:
             raise Stop("all of it is marked, so nothing is left for the second commit")
         author, signing = self.repository.author_of(self.last), self.repository.signing()

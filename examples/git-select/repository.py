@@ -8,8 +8,8 @@ from choosing.waiting import counted
 from choosing.words import Stop, printable, shown
 
 
-# what is said of a lock that is there
-IS_LOCKED = "is there: another git command is at work, or one was cut off"
+
+NO_FILE = "it is neither a file nor a link"
 
 
 def index_lines(entries):
@@ -61,9 +61,6 @@ class Repository(Git):
 
     def check_writable(self):
         """Stops if it can be seen already that nothing could be written."""
-        lock = self.index + ".lock"
-        if os.path.lexists(lock):
-            raise Stop("%s %s" % (shown(lock), IS_LOCKED))
         for folder in (os.path.dirname(self.index), self.objects):
             if not os.access(folder, os.W_OK):
                 raise Stop("%s cannot be written to" % shown(folder))
@@ -197,7 +194,13 @@ class Repository(Git):
             mode = os.lstat(os.path.join(self.top, path)).st_mode
         except OSError as error:
             return error.strerror
-        return None if stat.S_ISREG(mode) or stat.S_ISLNK(mode) else "it is neither a file nor a link"
+        return None if stat.S_ISREG(mode) or stat.S_ISLNK(mode) else NO_FILE
+
+    def no_files(self, paths, start):
+        """Returns those of `paths`, seen from the folder `start`, that are neither files nor links nor folders. Git passes over them."""
+        found = [os.path.join(start, path) for path in paths]
+        found = [os.path.relpath(path, self.top) for path in found if not os.path.isdir(path)]
+        return [path for path in found if self.reason_against(path) == NO_FILE]
 
     def indexed(self):
         """Returns the paths in the index."""

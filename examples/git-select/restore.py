@@ -37,7 +37,7 @@ class Restore(Way):
         named."""
         entries = self.entries(choices, scratch)
         names = keep_lost(self.repository, entries)
-        self.files.change(entries, lock.taken)
+        self.files.change(entries)
         reports = self.reports(entries)
         if names:
             reports.append("to have a file as it was before: git cat-file blob %s > FILE" % names[0])
@@ -84,20 +84,13 @@ class Stash(Restore):
     def write(self, choices, scratch, accepted, lock):
         """Takes files of the working tree back, as Restore does, once git has what is marked as a stash."""
         entries = self.entries(choices, scratch)
-        stash = self.store(choices_in(accepted, self.changes, "selected", "old"))
+        stashed = self.stored(choices_in(accepted, self.changes, "selected", "old"), "old")
+        stash = self.repository.store_stash(stashed, self.options.message, self.folder)
         try:
-            self.files.change(entries, lock.taken)
+            self.files.change(entries)
         except HalfDone:
             raise
         except BaseException:
             self.repository.drop_stash(stash)
             raise
         return [*self.reports(entries), "git stash pop has it back"], False
-
-    def store(self, choices):
-        """Stores a stash that has `choices`. Returns the name of its commit."""
-        names = self.repository.named([(choice.data, choice.name()) for choice in choices])
-        # what goes has the name of what it was
-        sides = [Side(it.mode, it.change.old.name if it.mode == ABSENT else name) for it, name in zip(choices, names)]
-        entries = [(it.change.path, side) for it, side in zip(choices, sides)]
-        return self.repository.store_stash(entries, self.options.message, self.folder)

@@ -1,6 +1,7 @@
 """Which files differ, each with its two sides: between the index and the working tree, or the last commit and the index."""
 from choosing.change import ABSENT, SUBMODULE, Change, Renamed, Side
 from choosing.words import shown
+from repository import NO_FILE
 
 
 def reason_in_index(modes, letter):
@@ -28,6 +29,7 @@ def candidates(repository, paths, start, has_untracked):
             found[path] = Side(ABSENT, None), False
             if path.endswith("/"):
                 left_out[path] = "it is a repository of its own"
+    left_out.update((path, NO_FILE) for path in repository.no_files(paths, start))
     return found, left_out, said
 
 

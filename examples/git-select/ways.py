@@ -48,6 +48,14 @@ class Way:
     def prepare(self, choices, accepted):
         """Reads what `write` needs as it was before all is looked at again. Stops if what was accepted cannot be used."""
 
+    def stored(self, choices, now):
+        """Stores the contents of `choices`. Returns what an index that has their sides `now` is to have of them."""
+        with waits("storing %s .." % counted(len(choices), "file")):
+            names = iter(self.repository.store([choice.data for choice in choices if choice.mode != ABSENT]))
+        # what goes has the name of what it was
+        sides = [getattr(choice.change, now).name if choice.mode == ABSENT else next(names) for choice in choices]
+        return [(choice.change.path, Side(choice.mode, name)) for choice, name in zip(choices, sides)]
+
     def locked_index(self):
         """Keeps others from the index, as git does, and gives a copy of it that can take its place."""
         return Lock(self.repository.index, os.path.join(self.folder, "index"))
@@ -77,18 +85,11 @@ class Stage(Way):
             raise Stop("what is left out is named above")
         return choices
 
-    def entries(self, choices):
-        """Stores the contents of `choices`. Returns what the index is to have of them."""
-        with waits("storing %s .." % counted(len(choices), "file")):
-            names = iter(self.repository.store([choice.data for choice in choices if choice.mode != ABSENT]))
-        sides = [getattr(choice.change, self.now).name if choice.mode == ABSENT else next(names) for choice in choices]
-        return [(choice.change.path, Side(choice.mode, name)) for choice, name in zip(choices, sides)]
-
     def write(self, choices, scratch, accepted, lock):
         """Puts `choices` in place, under the `lock` of the index. Returns what to report, and whether something was left."""
         taken = self.without_blocked(choices)
         if taken:
-            self.repository.update(self.entries(taken), GIT_INDEX_FILE=lock.copy)
+            self.repository.update(self.stored(taken, self.now), GIT_INDEX_FILE=lock.copy)
             lock.keep()
         return self.reports(taken), len(taken) < len(choices)
 

@@ -69,11 +69,18 @@ class Repository:
         self.commit()
         changed.write(self.folder, new)
 
-    def git(self, *words, given=b"", **more):
+    @classmethod
+    def at(cls, place, folder):
+        """Returns the repository that is in `folder` already."""
+        found = cls.__new__(cls)
+        found.place, found.folder = place, folder
+        return found
+
+    def git(self, *words, given=b"", check=True, **more):
         environment = {**os.environ, **self.place.environment, **more}
         how = {"capture_output": True, "cwd": self.folder, "env": environment}
         done = subprocess.run(["git", *words], input=given, **how)
-        if done.returncode and words[0] != "merge":
+        if check and done.returncode and words[0] != "merge":
             raise RuntimeError("git %s: %s" % (" ".join(words), os.fsdecode(done.stderr)))
         return os.fsdecode(done.stdout)
 
