@@ -185,12 +185,12 @@ class Split(Stage):
         self.parent = parents[0] if parents else None
         self.tree = self.repository.name_by("rev-parse", self.last + "^{tree}")
 
-    def before(self):
+    def tree_before(self):
         """Returns the name of what the last commit changes."""
         return self.parent or self.repository.empty_tree()
 
     def read(self, scratch):
-        return changed_between(self.repository, self.before(), self.last, self.options.paths, self.start)
+        return changed_between(self.repository, self.tree_before(), self.last, self.options.paths, self.start)
 
     def commits(self, kept):
         begun = self.repository.message_of(self.last)
@@ -201,14 +201,14 @@ class Split(Stage):
     environment = Commit.environment
 
     def paths_there(self):
-        return self.repository.paths_in(self.before())
+        return self.repository.paths_in(self.tree_before())
 
     def write(self, choices, scratch, accepted, lock):
         """Makes the two commits, and has HEAD name the second one. The index and the working tree stay."""
         first, second = messages_in(state_in(accepted), 2)
         if not first.strip() or not second.strip():
             raise Stop("a commit has no message")
-        tree = self.repository.tree_with(self.before(), self.stored(self.all_of(choices), self.now), self.folder)
+        tree = self.repository.tree_with(self.tree_before(), self.stored(self.all_of(choices), self.now), self.folder)
         if tree == self.tree:
             raise Stop("all of it is marked, so nothing is left for the second commit")
         author, signing = self.repository.author_of(self.last), self.repository.signing()

@@ -84,12 +84,15 @@ class Repository(Git):
         if not self.last_commit():
             raise Stop("there is no commit yet")
 
-    def check_paths(self, paths, start):
-        """Stops if one of `paths`, seen from the folder `start`, is neither in the working tree nor in the index."""
+    def check_paths(self, paths, start, tree):
+        """Stops if one of `paths`, seen from the folder `start`, is neither in the working tree nor in the index, nor in `tree` if
+        that is one."""
         excludes = ":!", ":^", ":(exclude"
         lost = [path for path in paths if not os.path.lexists(os.path.join(start, path)) and not path.startswith(excludes)]
         if lost:
-            self.git("ls-files", "--error-unmatch", "--cached", "--others", "--exclude-standard", "--", *lost, folder=start)
+            also = ["--with-tree=" + tree] if tree else []
+            words = "ls-files", "--error-unmatch", "--cached", "--others", "--exclude-standard", *also, "--", *lost
+            self.git(*words, folder=start)
 
     def tracked(self, paths, start):
         """Yields what may differ from the index: a path, its side there, its mode now, and git's letter for the change."""

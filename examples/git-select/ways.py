@@ -29,6 +29,10 @@ class Way:
     def check(self):
         """Stops if it can be seen already that the choice could not be used."""
 
+    def tree_before(self):
+        """Returns the name of a tree whose paths can be given beside those of the index, or None."""
+        return None
+
     def empty(self):
         """Returns what is said where nothing differs."""
         return self.no_change
@@ -107,6 +111,9 @@ class Unstage(Stage):
     done, nothing, no_change = "unstaged", "nothing was unstaged", "there is nothing to unstage"
     words, does = ("git-select", "--unstage"), "takes what is marked out of the index"
     side, now, goal = "unselected", "new", "old"
+
+    def tree_before(self):
+        return self.repository.last_tree()
 
     def read(self, scratch):
         return changed_in_index(self.repository, self.options.paths, self.start)

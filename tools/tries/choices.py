@@ -99,11 +99,12 @@ def with_other_marks(part):
     return [with_other_marks(it) for it in part] if isinstance(part, list) else part
 
 
-def marked_at_random(place, command, seed, folder=None):
-    """Runs a command with marks that `seed` chooses. Returns the files that it showed, with their marks, by path."""
+def marked_at_random(place, command, seed, folder=None, refused=None):
+    """Runs a command with marks that `seed` chooses. Returns the files that it showed, with their marks, by path. If it refuses them,
+    it says `refused`."""
     marked, front = os.path.join(place.top, "marked"), os.path.join(place.prefix, "bin", "scm-select")
     status, said = place.type(command, ["c"], folder, SELECT=MARKER, FRONT=front, MARKED=marked, SEED=str(seed))
-    if status:
+    if status and not (refused and refused in said):
         raise RuntimeError(said)
     if not os.path.exists(marked):
         return {}
@@ -156,7 +157,33 @@ def some_in_a_repository(place, seed, old, new):
     return is_staged and is_back and is_out and repository.is_sound()
 
 
-RANDOM = some_in_folders, some_in_a_repository
+def some_in_two_commits(place, seed, old, new):
+    """A random choice of what the last commit changes is in the first of two commits, and the second has all. If all is chosen,
+    that is refused, and if nothing is, nothing is done."""
+    repository = Repository(place, old, new)
+    repository.commit()
+    words, refused = ["git", "select", "--split"], "all of it is marked"
+    marked = marked_at_random(place, words, seed, repository.folder, refused)
+    place.forget_marks()
+    wanted, count = chosen(marked, old, new), int(repository.git("rev-list", "--count", "HEAD"))
+    is_split = count == 3 and repository.files_of("HEAD^") == wanted
+    is_right = is_split if wanted not in (old, new) else count == 2
+    return is_right and repository.files_of("HEAD") == repository.index_files() == repository.files() == new and repository.is_sound()
+
+
+def some_in_a_stash(place, seed, old, new):
+    """A random choice of what the working tree has changed is taken back, and a stash has it."""
+    repository = Repository(place, old, new)
+    marked = marked_at_random(place, ["git", "select", "--stash"], seed, repository.folder)
+    untracked = {path: what for path, what in new.items() if path not in old}
+    is_taken = repository.files() == {**untracked, **chosen(with_other_marks(marked), old, new)}
+    repository.git("checkout", "--quiet", ".", check=bool(old))
+    if repository.git("stash", "list"):
+        repository.git("stash", "pop", "--quiet")
+    return is_taken and repository.files() == {**untracked, **chosen(marked, old, new)} and repository.is_sound()
+
+
+RANDOM = some_in_folders, some_in_a_repository, some_in_two_commits, some_in_a_stash
 
 
 def tries():

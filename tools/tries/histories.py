@@ -105,6 +105,15 @@ def the_first_commit_in_two(place):
     repository = Repository(place, {"a": b"1\n", "b": b"1\n"}, {"a": b"1\n", "b": b"1\n"})
     status, _ = repository.select("--split", keys=["space", "c"])
     is_split = status == 0 and repository.git("ls-tree", "-r", "--name-only", "HEAD^").split() == ["a"]
+    # a path that only the parent has
+    repository.git("rm", "--quiet", "a")
+    repository.git("commit", "--quiet", "--amend", "--message=without a")
+    status, _ = repository.select("--split", "a", keys=["space", "c"])
+    is_split = is_split and status == 0 and repository.git("ls-tree", "-r", "--name-only", "HEAD^").split() == []
+    is_split = is_split and repository.git("ls-tree", "-r", "--name-only", "HEAD").split() == ["b"]
+    repository.git("reset", "--quiet", "--hard", "HEAD~2")
+    changed.write(repository.folder, {"a": b"1\n", "b": b"1\n"})
+    repository.commit()
     is_split = is_split and repository.git("rev-list", "--count", "HEAD") == "2\n" and not repository.git("status", "--porcelain")
     repository.git("checkout", "--quiet", "-b", "other", "HEAD^")
     repository.git("commit", "--quiet", "--allow-empty", "--message=other")

@@ -103,11 +103,17 @@ class Repository:
             self.git(*words, **copy)
         return self.git("ls-files", "-z", "--stage", **copy)
 
-    def index_files(self):
+    def index_files(self, **more):
         """Returns the table of the files of the index."""
         folder = self.place.folder("index")
-        self.git("checkout-index", "--all", "--prefix=%s/" % folder)
+        self.git("checkout-index", "--all", "--prefix=%s/" % folder, **more)
         return changed.read(folder)
+
+    def files_of(self, commit):
+        """Returns the table of the files of a commit."""
+        copy = {"GIT_INDEX_FILE": os.path.join(self.place.top, "copy")}
+        self.git("read-tree", commit, **copy)
+        return self.index_files(**copy)
 
     def files(self):
         return changed.read(self.folder)

@@ -62,7 +62,7 @@ def lines_of_new_and_gone_files(place):
     repository.git("add", "--all")
     # all unfolded: the file, its mode, its lines
     keys = ["shift-F", *["j"] * 3, "space", *["j"] * 5, "space", "c"]
-    status, _ = repository.select("--unstage", keys=keys)
+    status, _ = repository.select("--unstage", "gone", "new", keys=keys)
     is_out = status == 0 and repository.git("show", ":gone") == "1\n" and repository.git("show", ":new") == "4\n"
     repository.git("reset", "--quiet")
     status, _ = repository.select("--restore", keys=["shift-F", *["j"] * 3, "space", "c"])
