@@ -12,8 +12,8 @@ NAME = re.compile(re.escape(SPARE).replace("%d", r"\d+"))
 
 
 class Entry:
-    """A file of a plan (see Files.change). `old` and `new` are what digest_of says of its sides. `is_aside` says whether what it was
-    is in the spare folder, and `is_made` whether what it is to be still is."""
+    """A file of a plan (see Files.change). `old` and `new` are what digest_of says of its sides. `is_aside` says whether what it
+    was is in the spare folder, and `is_made` whether what it is to be still is."""
 
     def __init__(self, number, path, sides, left):
         self.number, self.path, (self.old, self.new) = number, path, sides
@@ -121,7 +121,8 @@ class CutOff:
 
 @contextlib.contextmanager
 def cut_off(top):
-    """Gives what was left below `top` by a change of files that was cut off, or None if there is nothing. It is locked meanwhile."""
+    """Gives what was left below `top` by a change of files that was cut off, or None if there is nothing. It is locked
+    meanwhile."""
     with contextlib.ExitStack() as stack:
         yield next((it for it in map(lambda name: opened(top, name, stack), names_in(top)) if it), None)
 

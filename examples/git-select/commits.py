@@ -19,7 +19,7 @@ def can_be_shown(message):
 
 class Commit(Stage):
     done, nothing, no_change = "committed", "nothing was committed", "there is nothing to commit"
-    words, does = ("git-select", "--commit"), "commits what is marked"
+    words, does, too_long = ("git-select", "--commit"), "commits what is marked", "git shows it in its editor"
 
     def check(self):
         self.repository.check_no_conflict()
@@ -40,7 +40,7 @@ class Commit(Stage):
         given = self.options.message
         self.begun = "" if given else self.read_message()
         if not can_be_shown(self.begun):
-            say("the message to begin with is too long to be shown: git shows it in its editor")
+            say("the message to begin with is too long to be shown: " + self.too_long)
             self.begun = ""
         return [{"message": given or kept or self.begun}]
 
@@ -63,8 +63,7 @@ class Commit(Stage):
         asked, before = self.tree_of(lock), self.repository.last_commit()
         status = status_of(lambda: self.commit(message_in(state_in(accepted)), lock.copy))
         self.check_made(status, before, lock)
-        self.keep(lock)
-        self.check_tree(asked, lock)
+        self.keep(asked, lock)
         return self.reports(choices), False
 
     def tree_of(self, lock):
@@ -94,24 +93,22 @@ class Commit(Stage):
     def has_tree(self, commit, lock):
         return self.repository.name_by("rev-parse", commit + "^{tree}") == self.tree_of(lock)
 
-    def keep(self, lock):
+    def keep(self, asked, lock):
+        """Has the index be that of the commit. Says so if the commit is not what was asked for: `asked` is the tree that was."""
         try:
+            made, wanted = self.repository.name_by("rev-parse", "HEAD^{tree}"), self.tree_of(lock)
             lock.keep()
         except (Stop, OSError) as error:
             words = "it is committed, but the index stays as it was (git reset mends that): "
             raise HalfDone(words + words_of(error)) from None
-
-    def check_tree(self, asked, lock):
-        """Says so if a commit has not what was asked for, as where a hook changed it. `asked` is the tree that was."""
-        made = self.repository.name_by("rev-parse", "HEAD^{tree}")
-        if made != self.repository.name_by("write-tree"):
+        if made != wanted:
             raise HalfDone("it is committed, but something moved HEAD behind that: git reflog shows the commit")
         if made != asked:
             say("a hook changed what is committed: git show")
 
     def commit(self, message, index):
-        """Commits what `index` has, and returns git's status. What git and the hooks say is shown. Without a message of the user git
-        opens its editor."""
+        """Commits what `index` has, and returns git's status. What git and the hooks say is shown. Without a message of the user
+        git opens its editor."""
         if not message.strip() or message == self.begun:
             return self.repository.for_hooks().in_terminal("commit", GIT_INDEX_FILE=index)
         # as in git's editor, the comments of a template are no part of the message
@@ -126,7 +123,7 @@ class Commit(Stage):
 
 
 class Amend(Commit):
-    words, does = ("git-select", "--amend"), "adds what is marked to the last commit"
+    words, does, too_long = ("git-select", "--amend"), "adds what is marked to the last commit", "it stays"
 
     def check(self):
         super().check()
@@ -216,7 +213,7 @@ class Split(Stage):
         last = self.repository.commit_tree(self.tree, [made], second, *signing, **author)
         if not self.has_files_of(last):
             raise Stop("the second commit would not have the files of the last one")
-        self.repository.git("update-ref", "-m", "split: " + first.split("\n")[0], "HEAD", last, self.last)
+        self.repository.git("update-ref", "-m", "split: " + first.strip().split("\n")[0], "HEAD", last, self.last)
         words = "split: %s is %s and %s now: git reset --soft %s takes that back"
         return [*self.reports(choices), words % (self.last[:10], made[:10], last[:10], self.last[:10])], False
 

@@ -132,7 +132,8 @@ class Repository(Git):
 
     def commit_named(self, name):
         """Returns the name of the commit that the user calls `name`, or an empty text if there is none."""
-        return "" if name.startswith("-") else self.run("rev-parse", "--verify", "--quiet", name + "^{commit}")[1].decode().strip()
+        found = b"" if name.startswith("-") else self.run("rev-parse", "--verify", "--quiet", name + "^{commit}")[1]
+        return found.decode().strip()
 
     def message_of(self, commit):
         """Returns the message of a commit, or None if it is not UTF-8."""
@@ -200,7 +201,8 @@ class Repository(Git):
         return None if stat.S_ISREG(mode) or stat.S_ISLNK(mode) else NO_FILE
 
     def no_files(self, paths, start):
-        """Returns those of `paths`, seen from the folder `start`, that are neither files nor links nor folders. Git passes over them."""
+        """Returns those of `paths`, seen from the folder `start`, that are neither files nor links nor folders. Git passes over
+        them."""
         found = [os.path.join(start, path) for path in paths]
         found = [os.path.relpath(path, self.top) for path in found if not os.path.isdir(path)]
         return [path for path in found if self.reason_against(path) == NO_FILE]

@@ -100,8 +100,8 @@ def with_other_marks(part):
 
 
 def marked_at_random(place, command, seed, folder=None, refused=None):
-    """Runs a command with marks that `seed` chooses. Returns the files that it showed, with their marks, by path. If it refuses them,
-    it says `refused`."""
+    """Runs a command with marks that `seed` chooses. Returns the files that it showed, with their marks, by path. If it refuses
+    them, it says `refused`."""
     marked, front = os.path.join(place.top, "marked"), os.path.join(place.prefix, "bin", "scm-select")
     status, said = place.type(command, ["c"], folder, SELECT=MARKER, FRONT=front, MARKED=marked, SEED=str(seed))
     if status and not (refused and refused in said):
@@ -168,7 +168,8 @@ def some_in_two_commits(place, seed, old, new):
     wanted, count = chosen(marked, old, new), int(repository.git("rev-list", "--count", "HEAD"))
     is_split = count == 3 and repository.files_of("HEAD^") == wanted
     is_right = is_split if wanted not in (old, new) else count == 2
-    return is_right and repository.files_of("HEAD") == repository.index_files() == repository.files() == new and repository.is_sound()
+    is_left = repository.files_of("HEAD") == repository.index_files() == repository.files() == new
+    return is_right and is_left and repository.is_sound()
 
 
 def some_in_a_stash(place, seed, old, new):

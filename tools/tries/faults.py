@@ -5,6 +5,7 @@ import os
 import shutil
 import signal
 import subprocess
+import time
 
 import changed
 from places import Repository
@@ -28,8 +29,8 @@ def lock_of(repository):
 
 
 def a_hook_that_removes_the_lock(place):
-    """The lock is taken again, and the index is that of the commit. If another has the lock by then, it is said that the commit is
-    made, and that lock stays."""
+    """The lock is taken again, and the index is that of the commit. If another has the lock by then, it is said that the commit
+    is made, and that lock stays."""
     repository = Repository(place, {"a": b"1\n"}, {"a": b"2\n"})
     write_hook(repository, "pre-commit", "rm .git/index.lock\n")
     ends = [select(repository, "--commit", "-m", "x")[0] == 0 and repository.git("status", "--porcelain") == ""]
@@ -51,8 +52,8 @@ def a_hook_that_removes_the_lock(place):
 
 
 def a_hook_that_moves_the_last_commit(place):
-    """A hook refuses, and moves HEAD itself, also to the very files that were asked for: nothing was committed. If a hook behind the
-    commit moves it, that is said."""
+    """A hook refuses, and moves HEAD itself, also to the very files that were asked for: nothing was committed. If a hook behind
+    the commit moves it, that is said."""
     ends = []
     for tree in "HEAD^{tree}", "$(git write-tree)":
         repository = Repository(place, {"a": b"1\n"}, {"a": b"2\n"}, "repository-%d" % len(ends))
@@ -86,8 +87,8 @@ def a_hook_that_takes_back(place):
 
 
 def points(repository, places, words, number=0, point=0):
-    """Runs git select until it is about to run line `point` of `places` (see end-at), where it is sent the signal `number`. Returns its
-    status, what it said, and how many of these lines it came to."""
+    """Runs git select until it is about to run line `point` of `places` (see end-at), where it is sent the signal `number`. Returns
+    its status, what it said, and how many of these lines it came to."""
     program = os.path.join(repository.place.prefix, "bin", "git-select")
     count = repository.folder + ".count"
     environment = {**os.environ, **repository.place.environment, **ACCEPTS}
@@ -100,7 +101,7 @@ def points(repository, places, words, number=0, point=0):
 
 def seen(repository):
     """Returns what a way to use a choice may write."""
-    names = "HEAD", "refs/stash"
+    names = "HEAD", "HEAD^", "refs/stash"
     commits = [repository.git("rev-parse", "--quiet", "--verify", name + "^{tree}", check=False) for name in names]
     return repository.index(), repository.files(), commits
 
@@ -169,7 +170,33 @@ def a_signal_at_each_line(place):
     return all(ends) and place.has_left_nothing()
 
 
-MEND_PLACES = "files.py:change,files.py:put,files.py:set_aside,files.py:empty,files.py:remove_spare,files.py:write_plan,lock.py:take,lock.py:__exit__"
+def a_signal_while_a_hook_runs(place):
+    """TERM ends git. If the commit is made by then, the index is that of the commit, and that is said; else nothing was committed."""
+    ends = []
+    for name, is_made in ("pre-commit", False), ("post-commit", True):
+        repository = Repository(place, {"a": b"1\n"}, {"a": b"2\n"}, name)
+        started = os.path.join(place.top, "started")
+        write_hook(repository, name, "touch '%s'\nexec sleep 60 > /dev/null 2>&1\n" % started)
+        environment = {**os.environ, **place.environment, **ACCEPTS}
+        command = [os.path.join(place.prefix, "bin", "git-select"), "--commit", "-m", "x"]
+        how = {"stdin": subprocess.DEVNULL, "stdout": subprocess.PIPE, "stderr": subprocess.STDOUT}
+        process = subprocess.Popen(command, cwd=repository.folder, env=environment, start_new_session=True, **how)
+        while not os.path.exists(started):
+            time.sleep(0.01)
+        os.kill(process.pid, signal.SIGTERM)
+        said, _ = process.communicate(timeout=60)
+        os.unlink(started)
+        place.forget_marks()
+        words = b"committed: a\n" if is_made else b"git did not commit: nothing was committed\n"
+        ends.append(process.returncode == -signal.SIGTERM and words in said and not os.path.exists(lock_of(repository)))
+        ends.append(repository.git("show", "HEAD:a", ":a") == ("2\n2\n" if is_made else "1\n1\n") and repository.is_sound())
+    return all(ends)
+
+
+MEND_PLACES = (
+    "files.py:change,files.py:put,files.py:set_aside,files.py:empty,files.py:remove_spare,files.py:write_plan,"
+    "lock.py:take,lock.py:__exit__"
+)
 
 
 def is_removed(repository, told, *wanted):
@@ -179,8 +206,8 @@ def is_removed(repository, told, *wanted):
 
 
 def is_mended(copies, before, after, point):
-    """Whether what a restore leaves that is killed at a line is named by the next run, and can be finished, or undone. If no file is
-    written yet, or all are, there is nothing but to remove what is left. Between two lines the lock alone is there and is empty."""
+    """Whether what a restore leaves that is killed at a line is named by the next run, and can be finished, or undone. If no file
+    is written yet, or all are, there is nothing but to remove what is left. Between two lines the lock alone is there, empty."""
     repository = copies.copy("kill-%d" % point)
     points(repository, MEND_PLACES, copies.words, signal.SIGKILL, point)
     way, wanted = (("--undo", before), ("--finish", after))[point % 2]
@@ -223,12 +250,14 @@ def what_changed_since_it_was_cut_off(place):
     cut_at(place, repository, at)
     changed.write_file(os.path.join(repository.folder, "a"), b"3\n")
     ends = [select(repository, word) for word in ("--finish", "--undo")]
-    is_named = ends == [(1, "git-select: a changed since\n")] * 2 and changed.read_file(os.path.join(repository.folder, "a")) == b"3\n"
+    is_named = ends == [(1, "git-select: a changed since\n")] * 2
+    is_named = is_named and changed.read_file(os.path.join(repository.folder, "a")) == b"3\n"
     changed.write_file(os.path.join(repository.folder, "a"), b"1\n")
     changed.write_file(lock_of(repository), b"")
     is_locked = "index.lock is there" in select(repository, "--undo")[1]
     os.unlink(lock_of(repository))
-    is_undone = select(repository, "--undo") == (0, "as it was: a\nas it was: b\n") and repository.files() == {"a": b"2\n", "b": b"2\n"}
+    is_undone = select(repository, "--undo") == (0, "as it was: a\nas it was: b\n")
+    is_undone = is_undone and repository.files() == {"a": b"2\n", "b": b"2\n"}
     shutil.rmtree(place.temporary)
     os.mkdir(place.temporary)
     return is_named and is_locked and is_undone and repository.is_sound()
@@ -250,8 +279,8 @@ def a_race_for_the_index(place):
     """While all is looked at once more, and until it is written, no other git command can write the index. A filter tries."""
     ends = []
     for words in WORDS:
-        repository = Repository(place, {".gitattributes": b"a filter=race\n", "a": b"1\n"}, {".gitattributes": b"a filter=race\n", "a": b"1\n"})
-        changed.write_file(os.path.join(repository.folder, "a"), b"2\n")
+        attributes = {".gitattributes": b"a filter=race\n"}
+        repository = Repository(place, {**attributes, "a": b"1\n"}, {**attributes, "a": b"2\n"})
         if words == ["--unstage"]:
             repository.git("add", "a")
             repository.git("config", "filter.race.clean", "cat")
@@ -328,7 +357,7 @@ def who_is_not_known(place):
     """A commit without a name of its author is refused before the choice."""
     repository = Repository(place, {"a": b"1\n"}, {"a": b"2\n"})
     repository.git("config", "user.useConfigOnly", "true")
-    nobody = {name: "" for name in ("GIT_AUTHOR_NAME", "GIT_AUTHOR_EMAIL", "GIT_COMMITTER_NAME", "GIT_COMMITTER_EMAIL")}
+    nobody = {"GIT_%s_%s" % (who, what): "" for who in ("AUTHOR", "COMMITTER") for what in ("NAME", "EMAIL")}
     ends = [select(repository, *words, **nobody) for words in (["--commit"], ["--amend"], ["--split"], ["--stash"])]
     is_told = all(status == 1 and said.startswith("git-select: git does not know who you are: ") for status, said in ends)
     return is_told and select(repository, **nobody)[0] == 0 and repository.is_sound()
@@ -348,22 +377,24 @@ def a_fifo(place):
 
 
 NOTES = {
-    "bytes": "binary", "gone": "deleted, +0 -2", "link": "link", "mode": "mode", "mode+": "mode, +1 -1", "new": "new, +3 -0",
-    "empty": "new", "moved": "renamed", "moved+": "renamed, +1 -1", "text": "+2 -1", "no end": "+1 -1", "latin": "+1 -1",
+    "bytes": "binary", "gone": "deleted, +0 -2", "link": "link", "mode": "mode", "mode+": "mode, +1 -1",
+    "new": "new, +3 -0", "empty": "new", "moved": "renamed", "moved+": "renamed, +1 -1", "text": "+2 -1", "no end": "+1 -1",
+    "latin": "+1 -1",
 }
 
 
 def what_each_file_is(place):
-    """Behind its path: what each file is, and how many lines come and go. A no-break space, which no path has as it is shown, is
-    between them."""
+    """Behind its path: what each file is, and how many lines come and go. A no-break space, which no path has as it is shown,
+    is between them."""
     text, more = (b"".join(b"line %d %s\n" % (number, word) for number in range(20)) for word in (b"one", b"two"))
     old = {
-        "bytes": b"\0", "gone": b"1\n2\n", "link": ("link", "a"), "mode": b"1\n", "mode+": b"1\n", "text": b"1\n2\n", "no end": b"1",
-        "latin": b"\xe4\n", "from": text, "from+": more,
+        "bytes": b"\0", "gone": b"1\n2\n", "link": ("link", "a"), "mode": b"1\n", "mode+": b"1\n", "text": b"1\n2\n",
+        "no end": b"1", "latin": b"\xe4\n", "from": text, "from+": more,
     }
     new = {
         "bytes": b"\0\1", "link": ("link", "b"), "mode": ("run", b"1\n"), "mode+": ("run", b"2\n"), "text": b"one\n2\n3\n",
-        "no end": b"2", "latin": b"\xf6\n", "moved": text, "moved+": more.replace(b"line 7 ", b"7 "), "new": b"a\nb\nc", "empty": b"",
+        "no end": b"2", "latin": b"\xf6\n", "moved": text, "moved+": more.replace(b"line 7 ", b"7 "), "new": b"a\nb\nc",
+        "empty": b"",
     }
     repository = Repository(place, old, new)
     state = os.path.join(place.top, "state")
@@ -384,7 +415,8 @@ def each_byte(place):
     old = b"".join(b"%d \xe4 %c\n" % (byte, byte) for byte in range(1, 256) if byte != 10)
     new = old.replace(b"100 \xe4", b"100 \xf6").replace(b"200 \xe4", b"200 \xff\xfe")
     some = old.replace(b"100 \xe4", b"100 \xf6")
-    repository = Repository(place, {"a": old, "b": "ä\n".encode() + old, "c": b"\xff"}, {"a": new, "b": "ö\n".encode() + new, "c": b"\xfe\n"})
+    both = {"a": old, "b": "ä\n".encode() + old, "c": b"\xff"}, {"a": new, "b": "ö\n".encode() + new, "c": b"\xfe\n"}
+    repository = Repository(place, *both)
     keys = ["shift-F", "j", "space", "c"]
     is_some = repository.select("a", keys=keys)[0] == 0 and repository.index_files()["a"] == some
     is_back = repository.select("--restore", "a", keys=keys)[0] == 0 and repository.files()["a"] == some
@@ -396,6 +428,6 @@ def each_byte(place):
 
 ALL = (
     a_hook_that_removes_the_lock, a_hook_that_moves_the_last_commit, a_hook_that_takes_back, a_signal_at_each_line,
-    a_restore_that_is_killed, what_changed_since_it_was_cut_off, a_race_for_the_index, an_index_behind_a_link,
+    a_signal_while_a_hook_runs, a_restore_that_is_killed, what_changed_since_it_was_cut_off, a_race_for_the_index, an_index_behind_a_link,
     marks_that_are_malformed, a_template_that_is_too_long, who_is_not_known, a_fifo, what_each_file_is, each_byte,
 )

@@ -25,13 +25,16 @@ def to_the_last_commit(place):
     first = log(repository, "%H", "-1", "HEAD^")
     status, _ = repository.select("--amend", keys=[*SOME, "c"])
     is_added = status == 0 and repository.git("show", "HEAD:a.txt", "HEAD:b").encode() == CHOSEN + b"2\n"
-    is_same = log(repository, "%an %s %b") == "other Second # with a line\n\nn base \n" and log(repository, "%H", "-1", "HEAD^") == first
+    is_same = log(repository, "%an %s %b") == "other Second # with a line\n\nn base \n"
+    is_same = is_same and log(repository, "%H", "-1", "HEAD^") == first
     is_left = repository.files() == {**NEW, "b": b"2\n"} and repository.git("diff", "--cached") == ""
     repository.git("config", "core.editor", "printf 'Edited\\n' >")
-    is_edited = repository.select("--amend", keys=["a", "e", "c"])[0] == 0 and log(repository, "%an %s %b") == "other Edited \nn base \n"
-    is_given = repository.git("status", "--porcelain") == "" and "nothing to add" in place.call(
-        "git", "select", "--amend", folder=repository.folder)[1]
-    return is_added and is_same and is_left and is_edited and is_given and repository.is_sound()
+    is_edited = repository.select("--amend", keys=["a", "e", "c"])[0] == 0
+    is_edited = is_edited and log(repository, "%an %s %b") == "other Edited \nn base \n"
+    is_edited = is_edited and repository.git("status", "--porcelain") == ""
+    nothing = place.call("git", "select", "--amend", folder=repository.folder)
+    is_told = nothing == (0, "git-select: there is nothing to add: git commit --amend changes the message\n")
+    return is_added and is_same and is_left and is_edited and is_told and repository.is_sound()
 
 
 def as_a_fixup(place):
@@ -55,14 +58,15 @@ def in_a_stash(place):
     """Chosen lines are taken back, and `git stash pop` has them again. What is staged, and what is new, stays."""
     repository = Repository(place, {**OLD, "b": b"1\n", "gone": b"1\n"}, {**NEW, "b": b"2\n", "new": b"1\n"})
     repository.git("add", "b")
-    before = repository.files(), repository.index()
+    index = repository.index()
     status, _ = repository.select("--stash", "-m", "Later", "a.txt", keys=[*SOME, "c"])
-    is_stashed = status == 0 and repository.files() == {"a.txt": REST, "b": b"2\n", "new": b"1\n"} and repository.index() == before[1]
+    is_stashed = status == 0 and repository.files() == {"a.txt": REST, "b": b"2\n", "new": b"1\n"}
+    is_stashed = is_stashed and repository.index() == index
     is_stashed = is_stashed and repository.git("stash", "list").endswith(": Later\n")
     is_stashed = is_stashed and repository.git("show", "stash@{0}:a.txt", "stash@{0}:b").encode() == CHOSEN + b"1\n"
     repository.git("checkout", "--quiet", "a.txt")
     repository.git("stash", "pop", "--quiet")
-    is_back = repository.files() == {"a.txt": CHOSEN, "b": b"2\n", "new": b"1\n"} and repository.index() == before[1]
+    is_back = repository.files() == {"a.txt": CHOSEN, "b": b"2\n", "new": b"1\n"} and repository.index() == index
     is_all = repository.select("--stash", keys=["a", "c"])[0] == 0 and repository.files()["gone"] == b"1\n"
     repository.git("stash", "pop", "--quiet")
     is_all = is_all and "gone" not in repository.files() and repository.git("stash", "list") == ""

@@ -157,7 +157,8 @@ def in_conflict(place):
         if words != ["--unstage"]:
             continue
         for words in ["--commit", "-m", "x"], ["--amend"], ["--fixup", "HEAD"], ["--stash"]:
-            ends.append(place.call("git", "select", *words, folder=repository.folder) == (1, "git-select: a is in conflict: resolve that first\n"))
+            said = place.call("git", "select", *words, folder=repository.folder)
+            ends.append(said == (1, "git-select: a is in conflict: resolve that first\n"))
     is_left = len(repository.git("ls-files", "--unmerged").splitlines()) == 3
     return all(ends) and is_left and repository.files() == {"a": conflict, "b": b"1\n"} and repository.is_sound()
 
