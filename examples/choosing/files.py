@@ -57,11 +57,11 @@ def flush(folder, names):
             pass
 
 
-def lock_open(opened):
+def lock_open(opened, waits=False):
     """Locks a file or a folder that is open until it is closed, also by the end of the program. Returns whether nobody else has
-    locked it."""
+    locked it. With `waits` it waits until nobody has."""
     try:
-        fcntl.flock(opened, fcntl.LOCK_EX | fcntl.LOCK_NB)
+        fcntl.flock(opened, fcntl.LOCK_EX | (0 if waits else fcntl.LOCK_NB))
     except BlockingIOError:
         return False
     except OSError:
@@ -197,7 +197,8 @@ class Files:
             os.mkdir(name, 0o700, dir_fd=self.at)
         with closing(os.open(name, IS_FOLDER, dir_fd=self.at)) as spare:
             try:
-                lock_open(spare)
+                # another call may look just now whether it was left behind
+                lock_open(spare, waits=True)
                 yield spare
             finally:
                 self.remove_spare(spare, name)

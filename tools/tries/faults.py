@@ -241,6 +241,39 @@ def a_restore_that_is_killed(place):
     return is_mended_each and count > 40 and nothing == (1, "git-select: there is no restore that was cut off\n")
 
 
+def a_mending_that_is_killed(place):
+    """KILL at each line of --undo and of --finish: the next one comes to the same end."""
+    old, new = {"a": b"1\n", "b/c": b"1\n", "d": b"1\n", "gone/x": b"1\n"}, {"a": b"2\n", "b/c": b"2\n", "d": b"2\n"}
+    copies = Copies(place, ["--restore"], old, new)
+    before, after, _ = copies.ends(MEND_PLACES)
+    # the first point at which two files are written
+    for point in range(40, 200):
+        cut = copies.copy("cut")
+        points(cut, MEND_PLACES, ["--restore"], signal.SIGKILL, point)
+        if "with 2 of 4 files written" in select(cut)[1]:
+            break
+        shutil.rmtree(cut.folder)
+    copies.first = cut
+    places = "cut_off.py:finish,cut_off.py:undo,cut_off.py:give_back,cut_off.py:take_away,cut_off.py:removed,files.py:empty"
+    ends = []
+    for way, wanted in ("--undo", before), ("--finish", after):
+        def attempt(point):
+            repository = copies.copy("mend-%d" % point)
+            points(repository, places, [way], signal.SIGKILL, point)
+            if select(repository, way)[0]:
+                # nothing but the lock may be left
+                select(repository, "--undo")
+            is_right = seen(repository) == wanted and not os.path.exists(lock_of(repository))
+            shutil.rmtree(repository.folder)
+            return is_right
+
+        count = points(copies.copy("whole" + way), places, [way])[2]
+        ends.append(count > 20 and copies.each(attempt, count))
+    shutil.rmtree(place.temporary)
+    os.mkdir(place.temporary)
+    return all(ends)
+
+
 def what_changed_since_it_was_cut_off(place):
     """A file that was written by someone since a restore was cut off is named, and stays. The rest can be undone later. Another's
     lock is not taken."""
@@ -428,6 +461,7 @@ def each_byte(place):
 
 ALL = (
     a_hook_that_removes_the_lock, a_hook_that_moves_the_last_commit, a_hook_that_takes_back, a_signal_at_each_line,
-    a_signal_while_a_hook_runs, a_restore_that_is_killed, what_changed_since_it_was_cut_off, a_race_for_the_index, an_index_behind_a_link,
+    a_signal_while_a_hook_runs, a_restore_that_is_killed, a_mending_that_is_killed,
+    what_changed_since_it_was_cut_off, a_race_for_the_index, an_index_behind_a_link,
     marks_that_are_malformed, a_template_that_is_too_long, who_is_not_known, a_fifo, what_each_file_is, each_byte,
 )
