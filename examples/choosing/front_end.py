@@ -10,6 +10,7 @@ import tempfile
 from .accepted import sides_in
 from .change import ABSENT, Choice
 from .git import run_in_terminal
+from .signals import SIGNALS, Stopped, ignore, stop_on_signals
 from .waiting import erase
 from .words import Stop, shown, words_of
 
@@ -19,11 +20,6 @@ INSTALLED, BUILDS = os.path.join(HERE, "../../../bin/scm-select"), os.path.join(
 KEYS = """Keys: l moves in, j and k down and up, space marks, c accepts, q gives up, and ? shows the others.
 
 SELECT names another front end: a command that takes the file of a state, and a file to write to what was accepted."""
-SIGNALS = signal.SIGHUP, signal.SIGINT, signal.SIGTERM
-
-
-class Stopped(BaseException):
-    """A signal that ends the program."""
 
 
 def say(text):
@@ -65,10 +61,10 @@ def choices_in(accepted, changes, side, now):
     """Returns what is to be of each change by the sides that were accepted, if it is not so now. `side` is `selected` or
     `unselected`, and `now` says which side of a change is in place: `old` or `new`."""
     choices = []
-    for change, found in zip(changes, sides_in(accepted, side, len(changes))):
-        wanted = getattr(change, side)(*found)
-        if wanted != (getattr(change, now).mode, getattr(change, now + "_data")):
-            choices.append(Choice(change, *wanted))
+    for whole, found in zip(changes, sides_in(accepted, side, len(changes))):
+        for change, *wanted in whole.chosen(side, *found):
+            if wanted != [getattr(change, now).mode, getattr(change, now + "_data")]:
+                choices.append(Choice(change, *wanted))
     return choices
 
 
@@ -101,36 +97,18 @@ def keep_lost(git, entries):
     return names
 
 
-def ignore(numbers):
-    for number in numbers:
-        signal.signal(number, signal.SIG_IGN)
-
-
-def stop_on_signals():
-    """Has signals end the program as an error does, so that its temporary files are removed. Returns their numbers."""
-    numbers = [it for it in SIGNALS if signal.getsignal(it) != signal.SIG_IGN]
-
-    def stop(number, _):
-        ignore(numbers)
-        raise Stopped(number)
-
-    for number in numbers:
-        signal.signal(number, stop)
-    return numbers
-
-
 def run(work):
     """Calls `work` with a folder for temporary files, which is removed in the end. Returns the program's status."""
     if sys.stdout:
         sys.stdout.reconfigure(errors="backslashreplace")
-    numbers = stop_on_signals()
+    stop_on_signals()
     try:
         with tempfile.TemporaryDirectory(prefix=os.path.basename(sys.argv[0]) + "-") as folder:
             try:
                 return work(folder)
             finally:
                 # what removes the folder is not cut off
-                ignore(numbers)
+                ignore(SIGNALS)
     except (Stop, OSError) as error:
         say(words_of(error))
         return 1

@@ -62,7 +62,7 @@ def lines_of_new_and_gone_files(place):
     repository.git("add", "--all")
     # all unfolded: the file, its mode, its lines
     keys = ["shift-F", *["j"] * 3, "space", *["j"] * 5, "space", "c"]
-    status, _ = repository.select("--unstage", keys=keys)
+    status, _ = repository.select("--unstage", "gone", "new", keys=keys)
     is_out = status == 0 and repository.git("show", ":gone") == "1\n" and repository.git("show", ":new") == "4\n"
     repository.git("reset", "--quiet")
     status, _ = repository.select("--restore", keys=["shift-F", *["j"] * 3, "space", "c"])
@@ -140,7 +140,7 @@ def a_locked_index(place):
 
 
 def in_conflict(place):
-    """A file in conflict is left out by its name with each option, and others are used. A commit is refused."""
+    """A file in conflict is left out by its name with each option, and others are used. A commit is refused before the choice."""
     repository = Repository(place, {"a": b"1\n", "b": b"1\n"}, {"a": b"2\n", "b": b"1\n"})
     repository.git("checkout", "--quiet", "-b", "other")
     repository.commit()
@@ -156,10 +156,9 @@ def in_conflict(place):
         ends.append((status, said.count("a is left out: it is in conflict\n")) == (0, 1))
         if words != ["--unstage"]:
             continue
-        status, said = repository.select("--commit", "-m", "x", keys=["a", "c"])
-        is_out = not repository.git("diff", "--cached", "--name-only", "--diff-filter=M")
-        ends.append(status == 1 and "nothing was committed" in said and is_out)
-    place.forget_marks()
+        for words in ["--commit", "-m", "x"], ["--amend"], ["--fixup", "HEAD"], ["--stash"]:
+            said = place.call("git", "select", *words, folder=repository.folder)
+            ends.append(said == (1, "git-select: a is in conflict: resolve that first\n"))
     is_left = len(repository.git("ls-files", "--unmerged").splitlines()) == 3
     return all(ends) and is_left and repository.files() == {"a": conflict, "b": b"1\n"} and repository.is_sound()
 
