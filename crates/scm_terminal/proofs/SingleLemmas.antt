@@ -1,5 +1,5 @@
 -- A symbol of one code point has room for it wherever it has room for its columns.
-use Rattle.std.proofs.Common.{◌≡◌, ℕ, ◌+◌, ◌<◌, ◌≤◌, ◌==◌, ◌&&◌, ◌||◌, nat_lt, nat_le, not, Bool, true, false, List, [], ◌∷◌, length, refl, sym, ap, subst, ◌∙◌, arith, Option, Some, None, ⊎_elim, chars, sum_by}
+use Rattle.std.proofs.Common.{◌≡◌, ℕ, ◌+◌, ◌<◌, ◌≤◌, ◌==◌, ◌&&◌, ◌||◌, nat_lt, nat_le, not, Bool, true, false, List, [], ◌∷◌, length, refl, ap, subst, ◌∙◌, arith, Some, None, ⊎_elim, chars, sum_by}
 use Rattle.std.specs.Prelude.{if◌then◌else◌}
 use Rattle.std.specs.Int.{is_in_range}
 use Rattle.std.specs.List.{list_all}
@@ -9,7 +9,7 @@ use Rattle.std.proofs.lemmas.List.Sums.{sum_by-cons}
 use Rattle.unicode_width.specs.Width.{plain, alone, char_width, step, past_emoji, str_width}
 use Rattle.unicode_width.proofs.Computing.{unicode_width}
 use Rattle.unicode_width.proofs.Rules.{str_width-printable}
-use Rattle.scm_cells.specs.Clusters.{has_control, visible_width, IsMeasured}
+use Rattle.scm_cells.specs.Clusters.{has_control, visible_width}
 use Rattle.scm_terminal.specs.Sent.{char_columns, added_columns, is_joined, first_is_joined, stays_on_row, IsOfOne, IsSentWithRoom}
 
 -- ---- the width of a code point, and of a text of it alone
