@@ -7,6 +7,7 @@ use Rattle.scm_terminal.specs.declared.pen.Pass.{Pass}
 use Rattle.scm_terminal.specs.declared.pen.Pass.TheVariants.{Blanks, Symbols, Letters}
 use Rattle.scm_terminal.specs.StyledCell.{StyledCell, First, Later, laters}
 use Rattle.scm_terminal.specs.Style.{style_code, plain_style}
+use Rattle.scm_terminal.specs.Sent.{sent_row}
 use Rattle.scm_terminal.specs.Terminal.{Command, MoveTo, SetStyle, Put, SetWrap}
 
 -- the pen at the beginning of a row: nothing is known
@@ -79,6 +80,10 @@ pub record Line : Type 0 where
   pub cells : List StyledCell
   -- whether the paint writes the row
   pub is_changed : Bool
+
+-- a row of the picture that is sent for `line`
+abbrev pub sent_line : Line → Line
+sent_line line = record { cells = sent_row line.cells; is_changed = line.is_changed }
 
 -- the commands of `line`, the row with the index `row`: none unless it is changed
 abbrev pub line_commands : ℕ → Line → List Command
