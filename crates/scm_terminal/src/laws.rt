@@ -1,34 +1,24 @@
 //! Laws of the definitions that the contracts cite.
-ghost use Rattle.std.specs.Prelude.{◌≡◌, ◌++◌, ◌∷◌, [], ℕ, List, Bool, Some, false};
+ghost use Rattle.std.specs.Prelude.{◌≡◌, ◌++◌, ◌∷◌, [], ℕ, List, Bool, Some, true, false};
+ghost use Rattle.std.specs.List.{All, flat_map};
+ghost use Rattle.scm_input.specs.declared.terminal.KeyEvent.{KeyEvent};
+ghost use Rattle.scm_input.specs.declared.terminal.TerminalEvent.{TerminalEvent};
+ghost use Rattle.scm_input.specs.declared.terminal.TerminalEvent.TheVariants as terminal;
+ghost use Rattle.scm_terminal.specs.declared.tokens.Token.{Token};
+ghost use Rattle.scm_terminal.specs.Bytes.{begins_sequence, escape};
+ghost use Rattle.scm_terminal.specs.Sequences.{unrecognized_token};
 ghost use Rattle.scm_terminal.specs.Streams.{
+  Finished,
   HasMark,
   HasNoEscape,
   IsCut,
   IsQuiet,
   StayPasted,
+  first,
   is_pasted_after,
   paste_end,
   rest,
 };
-ghost use Rattle.scm_terminal.specs.KeyBytes.{AreTyped};
-ghost use Rattle.std.specs.Prelude.{true};
-ghost use Rattle.scm_terminal.specs.declared.tokens.Token.{Token};
-ghost use Rattle.scm_input.specs.declared.terminal.KeyEvent.{KeyEvent};
-ghost use Rattle.scm_input.specs.declared.terminal.TerminalEvent.TheVariants as terminal;
-ghost use Rattle.scm_terminal.specs.Bytes.{begins_sequence, escape};
-ghost use Rattle.scm_terminal.specs.Sequences.{unrecognized_token};
-ghost use Rattle.scm_terminal.specs.Streams.{Finished, first};
-ghost use Rattle.scm_terminal.specs.Grammar.{
-  AreRead,
-  BeginsWithParts,
-  IsKey,
-  IsOneToken,
-  Parts,
-  is_well_formed,
-  may_be_followed,
-  written,
-};
-ghost use Rattle.scm_input.specs.declared.terminal.TerminalEvent.{TerminalEvent};
 ghost use Rattle.scm_terminal.specs.Silences.{
   Start,
   after_silence,
@@ -36,6 +26,7 @@ ghost use Rattle.scm_terminal.specs.Silences.{
   is_interrupt,
   is_pasted_from,
 };
+ghost use Rattle.scm_terminal.specs.KeyBytes.{AreTyped};
 ghost use Rattle.scm_terminal.specs.Tearing.{
   AreTorn,
   HaveNoInterrupt,
@@ -46,7 +37,16 @@ ghost use Rattle.scm_terminal.specs.Tearing.{
   SurvivesTearing,
   is_sequence,
 };
-ghost use Rattle.std.specs.List.{All, flat_map};
+ghost use Rattle.scm_terminal.specs.Grammar.{
+  AreRead,
+  BeginsWithParts,
+  IsKey,
+  IsOneToken,
+  Parts,
+  is_well_formed,
+  may_be_followed,
+  written,
+};
 ghost use Rattle.scm_terminal.specs.AnyTerminal.{AreWide, Display, Leaving, May, Showing, step};
 ghost use Rattle.scm_terminal.specs.Sent.{IsOfOne, IsSentWithRoom};
 ghost use Rattle.scm_terminal.specs.Reading.{read_commands};

@@ -66,6 +66,9 @@ pub struct Sequence {
     pub last: u16,
 }
 
+/// The first parameter of a typed key in the form of xterm's `modifyOtherKeys`.
+const OTHER_KEY: u16 = 27;
+
 /// Makes a sequence of `kind` without parameters.
 #[tactic(auto, unfolding(crate::specs::Sequences::new_sequence))]
 pub(crate) fn new_sequence(kind: SequenceKind) -> Sequence
@@ -231,7 +234,7 @@ fn tilde_token(sequence: Sequence) -> Token
         Token::PasteEnds
     } else if sequence.semicolons < 2 {
         key_with(key_modifiers(sequence), paging(key_number(sequence)))
-    } else if sequence.first == 27 {
+    } else if sequence.first == OTHER_KEY {
         typed_key(modifiers_of(sequence.second), sequence.last)
     } else {
         Token::UNRECOGNIZED
