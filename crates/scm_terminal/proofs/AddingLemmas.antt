@@ -1,5 +1,5 @@
 -- No code point of what is sent wraps on a terminal that adds up the columns of code points.
-use Rattle.std.proofs.Common.{◌≡◌, ℕ, ◌+◌, ◌<◌, ◌≤◌, ◌==◌, ◌&&◌, ◌||◌, nat_lt, nat_le, not, Bool, true, false, List, [], ◌∷◌, ◌++◌, length, map, refl, sym, ap, subst, ◌∙◌, arith, Option, Some, None, append_assoc, chars, sum_by}
+use Rattle.std.proofs.Common.{◌≡◌, ℕ, ◌+◌, ◌<◌, ◌≤◌, ◌==◌, ◌&&◌, nat_lt, nat_le, not, Bool, true, false, List, [], ◌∷◌, ◌++◌, length, refl, sym, ap, subst, ◌∙◌, arith, Option, append_assoc, chars, sum_by}
 use Rattle.std.specs.Prelude.{if◌then◌else◌}
 use Rattle.std.specs.List.{All, list_any}
 use Rattle.std.proofs.lemmas.Bool.{and_parts}
@@ -17,7 +17,7 @@ use Rattle.scm_terminal.specs.declared.pen.Pass.{Pass}
 use Rattle.scm_terminal.specs.declared.pen.Pass.TheVariants.{Blanks, Symbols, Letters}
 use Rattle.scm_terminal.specs.StyledCell.{StyledCell, First, Later, laters}
 use Rattle.scm_terminal.specs.Sent.{char_columns, added_columns, first_is_joined, stays_on_row}
-use Rattle.scm_terminal.specs.Terminal.{Command, MoveTo, SetStyle, Put, SetWrap}
+use Rattle.scm_terminal.specs.Terminal.{Command, SetStyle, Put, SetWrap}
 use Rattle.scm_terminal.specs.Adding.{columns_by, NoneWraps}
 use Rattle.scm_terminal.specs.Painting.{Line, is_style_set, move_commands, style_commands, cell_commands, pen_after, new_pen, passed, columns_in, pass_commands, row_commands, painting, paint_commands}
 use Rattle.scm_terminal.proofs.ReadingLemmas.{one_byte, byte-printable}

@@ -1,21 +1,18 @@
 -- The grammar and the decoder agree.
-use Rattle.std.proofs.Common.{◌≡◌, refl, sym, ◌∙◌, ap, ap₂, subst, ℕ, suc, ◌+◌, ◌-◌, ◌*◌, ◌≤◌, ◌<◌, Bool, true, false, ◌==◌, ◌&&◌, ◌||◌, nat_le, nat_lt, List, [], ◌∷◌, ◌++◌, length, Some, append_assoc, fold, codes, arith, ◌⊎◌, inl, inr, ⊎_elim, if◌then◌else◌}
+use Rattle.std.proofs.Common.{◌≡◌, refl, sym, ◌∙◌, ap, subst, ℕ, suc, ◌+◌, ◌-◌, ◌*◌, ◌≤◌, ◌<◌, Bool, true, false, ◌==◌, ◌&&◌, ◌||◌, nat_le, nat_lt, List, [], ◌∷◌, ◌++◌, length, Some, append_assoc, fold, codes, arith, ◌⊎◌, inl, inr, ⊎_elim, if◌then◌else◌}
 use Rattle.std.proofs.lemmas.Bool.{and_parts, eqb-true}
 use Rattle.std.proofs.lemmas.Bool.Decides.{nat_tests}
 use Rattle.std.proofs.lemmas.List.{length-append}
-use Rattle.std.specs.List.{AllZip}
-use Rattle.scm_input.specs.KeyTable.{KeyRow, key_table}
+use Rattle.scm_input.specs.KeyTable.{KeyRow}
 use Rattle.scm_terminal.specs.declared.sequences.Sequence.{Sequence}
 use Rattle.scm_terminal.specs.declared.sequences.SequenceKind.{SequenceKind}
 use Rattle.scm_terminal.specs.declared.sequences.SequenceKind.TheVariants.{Csi, Ss3, Mouse, Unknown}
 use Rattle.scm_terminal.specs.declared.tokens.Token.{Token}
 use Rattle.scm_terminal.specs.declared.tokens.Token.TheVariants.{Event}
-use Rattle.scm_terminal.specs.Bytes.{is_parameter, is_final, is_between, is_digit, begins_sequence, begins_control_string}
-use Rattle.scm_terminal.specs.Sequences.{unrecognized_token, new_sequence, with_parameter, with_digit, with_semicolon, as_kind, counted, is_blank, token_of, token_by, trailing_bytes}
-use Rattle.scm_terminal.specs.Streams.{Found, Unfinished, Finished, sequence, trailing, control_string, escape_key, after_start, after_escape, first}
+use Rattle.scm_terminal.specs.Bytes.{is_parameter, is_final, is_between, is_digit, begins_sequence}
+use Rattle.scm_terminal.specs.Sequences.{unrecognized_token, new_sequence, with_parameter, as_kind, counted, is_blank, token_of, token_by, trailing_bytes}
+use Rattle.scm_terminal.specs.Streams.{Found, Unfinished, Finished, sequence, trailing, first}
 use Rattle.scm_terminal.specs.Silences.{press}
-use Rattle.scm_terminal.specs.KeyBytes.{key_bytes}
-use Rattle.scm_terminal.specs.Tearing.{is_sequence}
 use Rattle.scm_terminal.specs.Grammar.{Parts, written, are_all, is_well_formed, IsReadAs, AreRead, IsOneToken, may_be_followed, BeginsWithParts, numbers_from, are_small, key_by}
 
 -- ---- the keys of the table

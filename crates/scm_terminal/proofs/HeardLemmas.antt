@@ -1,5 +1,5 @@
 -- What a decoder has heard: each byte tells what the definition has more of the longer stream.
-use Rattle.std.proofs.Common.{◌≡◌, refl, sym, ◌∙◌, ap, ap₂, subst, ℕ, ◌+◌, ◌==◌, Bool, true, false, List, [], ◌∷◌, ◌++◌, length, Option, Some, None, append_assoc, fold, Result, Ok, Err, OnErr, if◌then◌else◌}
+use Rattle.std.proofs.Common.{◌≡◌, refl, sym, ◌∙◌, ap, ap₂, subst, ℕ, ◌+◌, ◌==◌, Bool, true, false, List, [], ◌∷◌, ◌++◌, length, Some, None, append_assoc, fold, Result, Ok, Err, OnErr, if◌then◌else◌}
 use Rattle.std.proofs.lemmas.List.{append-nil}
 use Rattle.std.proofs.lemmas.List.Sums.{fold-append}
 use Rattle.scm_input.specs.declared.terminal.TerminalEvent.{TerminalEvent}
@@ -10,7 +10,7 @@ use Rattle.scm_terminal.specs.declared.decoder.EventPair.{EventPair}
 use Rattle.scm_terminal.specs.declared.tokenizer.Tokenizer.{Tokenizer}
 use Rattle.scm_terminal.specs.declared.tokens.Token.{Token}
 use Rattle.scm_terminal.specs.declared.transitions.SilenceEffect.{SilenceEffect}
-use Rattle.scm_terminal.specs.declared.transitions.SilenceEffect.TheVariants.{Keep, EndEscape, Drop}
+use Rattle.scm_terminal.specs.declared.transitions.SilenceEffect.TheVariants.{Keep}
 use Rattle.scm_terminal.specs.declared.transitions.State.{State}
 use Rattle.scm_terminal.specs.declared.transitions.State.TheVariants as state
 use Rattle.scm_terminal.specs.declared.transitions.Transition.{Transition}

@@ -1,16 +1,12 @@
 -- What holds of every stream.
-use Rattle.std.proofs.Common.{◌≡◌, refl, sym, ◌∙◌, ap, ℕ, Bool, true, false, ◌==◌, List, [], ◌∷◌, ◌++◌, Some, None, fold, if◌then◌else◌}
-use Rattle.std.proofs.lemmas.Bool.{eqb-true}
+use Rattle.std.proofs.Common.{◌≡◌, refl, sym, ◌∙◌, ap, ℕ, Bool, false, List, [], ◌∷◌, ◌++◌, fold}
 use Rattle.std.proofs.lemmas.List.Sums.{fold-append}
-use Rattle.scm_input.specs.declared.terminal.TerminalEvent.{TerminalEvent}
-use Rattle.scm_input.specs.declared.terminal.TerminalEvent.TheVariants.{Other}
 use Rattle.scm_terminal.specs.declared.tokenizer.Tokenizer.{Tokenizer}
 use Rattle.scm_terminal.specs.declared.transitions.State.{State}
 use Rattle.scm_terminal.specs.declared.transitions.State.TheVariants as state
 use Rattle.scm_terminal.specs.Bytes.{is_parameter, is_final, is_continuation}
 use Rattle.scm_terminal.specs.Sequences.{new_sequence, with_parameter, token_of, trailing_bytes}
-use Rattle.scm_terminal.specs.Streams.{Split, split, token_event, token_events, pasted_after, is_pasted_after, rest, IsCut, paste_end}
-use Rattle.scm_terminal.specs.Silences.{effect_on}
+use Rattle.scm_terminal.specs.Streams.{Split, split, token_events, pasted_after, is_pasted_after, rest, IsCut, paste_end}
 use Rattle.scm_terminal.specs.Transitions.{transition_of, effect_of_silence}
 use Rattle.scm_terminal.specs.Decoders.{tokenizer, step, hears}
 use Rattle.scm_terminal.proofs.StreamLemmas.{before, lone_escape}

@@ -4,6 +4,7 @@ pub mod StyleLemmas
 pub mod RunLemmas
 pub mod RowLemmas
 pub mod SentLemmas
+pub mod SingleLemmas
 pub mod AddingLemmas
 pub mod ApartLemmas
 pub mod SafeLemmas

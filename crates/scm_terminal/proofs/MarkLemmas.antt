@@ -19,7 +19,7 @@ use Rattle.scm_terminal.specs.declared.tokens.Token.{Token}
 use Rattle.scm_terminal.specs.declared.tokens.Token.TheVariants.{Event, PasteBegins, PasteEnds}
 use Rattle.scm_terminal.specs.Bytes.{begins_control_string, is_between, is_continuation, is_final, is_parameter, is_digit}
 use Rattle.scm_terminal.specs.ByteKeys.{byte_key}
-use Rattle.scm_terminal.specs.Sequences.{key_modifiers, modifiers_of, unrecognized_token, new_sequence, with_parameter, token_of, token_by, key_token, tilde_token, control_paging_token, typed_token, old_mouse_token, arrow_token, key_with, typed_key, printable_key, capital, arrow, paging, key_number, is_mark, is_blank, is_csi, counted, with_digit, with_semicolon, trailing_bytes}
+use Rattle.scm_terminal.specs.Sequences.{key_modifiers, modifiers_of, unrecognized_token, new_sequence, with_parameter, token_of, token_by, key_token, control_paging_token, typed_token, old_mouse_token, arrow_token, key_with, typed_key, arrow, paging, key_number, is_mark, is_blank, is_csi, counted, with_digit, with_semicolon, trailing_bytes}
 use Rattle.scm_terminal.specs.Characters.{char_token, part, bits_with, lead_character, with_continuation}
 use Rattle.scm_terminal.specs.Streams.{Split, with_token, Found, Unfinished, Finished, character, after_lead, after_start, trailing, sequence, control_string, escape_key, after_escape, first, split_from, token_events, pasted_after, AreOther, StayPasted, HasMark, paste_end}
 use Rattle.scm_input.specs.declared.terminal.KeyCode.{KeyCode}

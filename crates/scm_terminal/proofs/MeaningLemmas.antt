@@ -14,9 +14,9 @@ use Rattle.scm_terminal.specs.declared.sequences.SequenceKind.{SequenceKind}
 use Rattle.scm_terminal.specs.declared.sequences.SequenceKind.TheVariants.{Csi, Ss3}
 use Rattle.scm_terminal.specs.declared.tokens.Token.{Token}
 use Rattle.scm_terminal.specs.declared.tokens.Token.TheVariants.{Event}
-use Rattle.scm_terminal.specs.Bytes.{is_digit, begins_sequence}
+use Rattle.scm_terminal.specs.Bytes.{is_digit}
 use Rattle.scm_terminal.specs.Sequences.{unrecognized_token, new_sequence, with_parameter, counted, modifiers_of, key_with, typed_key, arrow, paging, token_of, token_by, tilde_token, is_mark}
-use Rattle.scm_terminal.specs.Streams.{Finished, first, Split, with_token, split_from, split}
+use Rattle.scm_terminal.specs.Streams.{Finished, first, with_token, split_from, split}
 use Rattle.scm_terminal.specs.Tearing.{IsToken}
 use Rattle.scm_terminal.specs.Grammar.{Parts, written, numbers_from, are_small, key_by, arrow_by, IsKey}
 use Rattle.scm_terminal.proofs.StreamLemmas.{split_says, split_nil, skip}

@@ -22,7 +22,7 @@ use Rattle.scm_terminal.specs.declared.pen.Pass.TheVariants.{Blanks, Symbols, Le
 use Rattle.scm_terminal.specs.declared.row.Row.{Row}
 use Rattle.scm_terminal.specs.Style.{plain_style}
 use Rattle.scm_terminal.specs.StyledCell.{StyledCell, First, Later, cell_of, laters}
-use Rattle.scm_terminal.specs.Sent.{char_columns, added_columns, first_is_joined, stays_on_row, sent_symbol, sent_cell, blank_after, sent_from, sent_row}
+use Rattle.scm_terminal.specs.Sent.{char_columns, added_columns, first_is_joined, stays_on_row, sent_cell, blank_after, sent_from, sent_row}
 use Rattle.scm_terminal.specs.Painting.{Line, passed, sent_line}
 use Rattle.scm_terminal.specs.RowView.{line_of, sent_line_of}
 use Rattle.scm_terminal.proofs.PictureLemmas.{styled_from, styled-cells, laters-styled}

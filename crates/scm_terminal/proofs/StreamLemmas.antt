@@ -15,10 +15,10 @@ use Rattle.scm_terminal.specs.declared.transitions.Transition.TheVariants.{Conti
 use Rattle.scm_terminal.specs.Bytes.{begins_control_string, is_continuation, is_final, is_parameter}
 use Rattle.scm_terminal.specs.Sequences.{trailing_bytes}
 use Rattle.scm_terminal.specs.Characters.{lead_character, with_continuation}
-use Rattle.scm_terminal.specs.Streams.{Found, Unfinished, Finished, character, after_lead, after_start, trailing, sequence, control_string, after_escape, first, Split, with_token, split_from, split, escape_key}
+use Rattle.scm_terminal.specs.Streams.{Found, Unfinished, Finished, character, after_lead, after_start, trailing, sequence, control_string, after_escape, first, Split, with_token, split_from, split}
 use Rattle.scm_terminal.specs.Transitions.{lead_transition, start_transition, ground_transition, escape_transition, sequence_transition, trailing_transition, progress_transition, character_transition, control_string_transition, transition_of, effect_of_silence}
 use Rattle.scm_terminal.specs.Silences.{effect_on}
-use Rattle.scm_terminal.specs.Decoders.{Step, step_by, step, hears, tokenizer}
+use Rattle.scm_terminal.specs.Decoders.{step_by, step, hears, tokenizer}
 use Rattle.scm_terminal.specs.declared.tokenizer.Tokenizer.{Tokenizer}
 use Rattle.scm_terminal.specs.declared.transitions.SilenceEffect.{SilenceEffect}
 use Rattle.scm_terminal.specs.declared.transitions.SilenceEffect.TheVariants.{Keep, EndEscape, Drop}

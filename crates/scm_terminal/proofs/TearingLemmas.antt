@@ -1,11 +1,10 @@
 -- What silences tear.
-use Rattle.std.proofs.Common.{◌≡◌, refl, sym, ◌∙◌, ap, ap₂, subst, ℕ, zero, suc, Bool, true, false, ◌==◌, List, [], ◌∷◌, ◌++◌, ◌&&◌, ◌||◌, nat_le, Option, Some, None, append_assoc, fold, ◌⊎◌, inl, inr, ⊎_elim, if◌then◌else◌, option_to_list}
+use Rattle.std.proofs.Common.{◌≡◌, refl, sym, ◌∙◌, ap, ap₂, subst, ℕ, zero, suc, Bool, true, false, ◌==◌, List, [], ◌∷◌, ◌++◌, ◌&&◌, ◌||◌, Option, Some, None, append_assoc, fold, ◌⊎◌, inl, inr, ⊎_elim, if◌then◌else◌, option_to_list}
 use Rattle.std.proofs.lemmas.Bool.{eqb-true}
 use Rattle.std.proofs.lemmas.List.{append-nil}
 use Rattle.std.specs.List.{AllZip}
 use Rattle.scm_input.specs.KeyTable.{KeyRow, key_table}
 use Rattle.scm_input.specs.declared.terminal.TerminalEvent.{TerminalEvent}
-use Rattle.scm_input.specs.declared.terminal.TerminalEvent.TheVariants.{Other}
 use Rattle.scm_terminal.specs.declared.tokenizer.Tokenizer.{Tokenizer}
 use Rattle.scm_terminal.specs.declared.tokens.Token.{Token}
 use Rattle.scm_terminal.specs.declared.tokens.Token.TheVariants.{Event}
@@ -18,7 +17,7 @@ use Rattle.scm_terminal.specs.ByteKeys.{byte_key}
 use Rattle.scm_terminal.specs.Mouse.{mouse_event}
 use Rattle.scm_terminal.specs.Sequences.{new_sequence, with_parameter, token_of, trailing_bytes}
 use Rattle.scm_terminal.specs.Characters.{lead_character, with_continuation}
-use Rattle.scm_terminal.specs.Streams.{Found, Unfinished, Finished, first, Split, with_token, split_from, split, token_events, pasted_after, stream_events, is_pasted_after, rest, AreOther, HasMark, StayPasted, paste_end}
+use Rattle.scm_terminal.specs.Streams.{Found, Unfinished, Finished, first, Split, with_token, split_from, split, token_events, pasted_after, stream_events, is_pasted_after, rest, AreOther, HasMark, paste_end}
 use Rattle.scm_terminal.specs.Transitions.{transition_of}
 use Rattle.scm_terminal.specs.Decoders.{tokenizer, events_of, step, hears}
 use Rattle.scm_terminal.specs.Silences.{Start, Waiting, AfterEscape, at_first, is_pasted_at, read_as, events_from, is_pasted_from, rest_from, effect_on, event_of_effect, escape_event, is_interrupt, idle_event, kept, after_effect, after_silence, burst_events, after_bursts, bytes_of_bursts, press}

@@ -1,5 +1,5 @@
--- A terminal that knows no clusters: it adds up the columns of the code points of a symbol, and wraps
--- a code point without room, whatever was said of wrapping.
+-- A terminal without clusters: it adds up the columns of the code points of a symbol. It wraps a
+-- code point without room, whether symbols wrap or not.
 use Rattle.std.specs.Prelude.{ℕ, ◌+◌, ◌≤◌, List, [], ◌∷◌, sum_by}
 use Rattle.std.specs.Str.{chars}
 use Rattle.scm_terminal.specs.Terminal.{Command, MoveTo, SetStyle, Put, SetWrap}

@@ -1,7 +1,7 @@
 -- Whole escape sequences by the grammar of ECMA-48, and their keys by xterm's control sequences.
 -- This is a second definition: it has the whole sequence at hand, in its parts. `Sequences` reads it
 -- byte by byte.
-use Rattle.std.specs.Prelude.{◌≡◌, ◌++◌, ℕ, ◌+◌, ◌-◌, ◌*◌, Bool, true, false, ◌&&◌, ◌==◌, ◌||◌, nat_le, List, [], ◌∷◌, length, Option, Some, None, option_map, if◌then◌else◌}
+use Rattle.std.specs.Prelude.{◌≡◌, ◌++◌, ℕ, ◌+◌, ◌-◌, ◌*◌, Bool, true, ◌&&◌, ◌==◌, ◌||◌, nat_le, List, [], ◌∷◌, length, Option, Some, None, option_map, if◌then◌else◌}
 use Rattle.std.specs.List.{AllZip}
 use Rattle.scm_input.specs.KeyTable.{KeyRow, key_table, none}
 use Rattle.scm_input.specs.declared.terminal.KeyEvent.{KeyEvent}

@@ -1,9 +1,8 @@
 -- The bytes that terminals send for each row of the key table: xterm's, as tmux sends them.
-use Rattle.std.specs.Prelude.{◌≡◌, ◌++◌, ℕ, false, List, [], ◌∷◌, Option, Some, None, codes}
+use Rattle.std.specs.Prelude.{◌≡◌, ℕ, List, [], ◌∷◌, codes}
 use Rattle.std.specs.List.{AllZip}
 use Rattle.scm_input.specs.KeyTable.{KeyRow, key_table}
 use Rattle.scm_input.specs.declared.terminal.KeyEventKind.TheVariants.{Press}
-use Rattle.scm_input.specs.declared.terminal.TerminalEvent.{TerminalEvent}
 use Rattle.scm_input.specs.declared.terminal.TerminalEvent.TheVariants as terminal
 use Rattle.scm_terminal.specs.Silences.{at_first, burst_events}
 

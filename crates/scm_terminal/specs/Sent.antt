@@ -1,7 +1,7 @@
--- The cells that are sent for a row. Some terminals let a symbol of several bytes leave its row: one
--- without room for all its code points side by side wraps, and one that begins the row with a mark
--- joins the row above. Such a symbol is replaced by a question mark and blanks.
-use Rattle.std.specs.Prelude.{ℕ, ◌+◌, ◌==◌, nat_le, List, [], ◌∷◌, Bool, true, false, not, ◌&&◌, ◌||◌, if◌then◌else◌, length, map, Option, Some, None, option_map, unwrap_or, sum_by}
+-- The cells that are sent for a row. Some terminals let a symbol of several bytes leave its row.
+-- Without room for all its code points side by side it wraps. At the first column it joins the row
+-- above, if it begins with a mark. Such a symbol is replaced by a question mark and blanks.
+use Rattle.std.specs.Prelude.{◌≡◌, ℕ, ◌+◌, ◌≤◌, ◌==◌, nat_le, List, [], ◌∷◌, Bool, true, false, not, ◌&&◌, ◌||◌, if◌then◌else◌, length, map, Option, Some, None, option_map, unwrap_or, sum_by}
 use Rattle.std.specs.Str.{chars}
 use Rattle.ucd_breaks.specs.declared.GraphemeClusterBreak.{GraphemeClusterBreak}
 use Rattle.ucd_breaks.specs.declared.GraphemeClusterBreak.TheVariants.{Control, Cr, Extend, L, Lf, Lv, Lvt, Prepend, RegionalIndicator, SpacingMark, T, V, Other, Zwj}
@@ -10,6 +10,7 @@ use Rattle.ucd_category.specs.declared.GeneralCategoryGroup.TheVariants.{Mark}
 use Rattle.ucd_category.specs.GeneralCategory.{general_category}
 use Rattle.ucd_category.specs.GeneralCategoryGroup.{in_group}
 use Rattle.unicode_width.specs.Width.{char_width}
+use Rattle.scm_cells.specs.Clusters.{IsMeasured}
 use Rattle.scm_cells.specs.declared.style.Style.{Style}
 use Rattle.scm_terminal.specs.declared.sent.Sent.{Sent}
 use Rattle.scm_terminal.specs.StyledCell.{StyledCell, First, Later, cell_of}
@@ -26,7 +27,7 @@ added_columns symbol = sum_by char_columns (chars symbol)
 
 -- ---- marks
 
--- whether a code point continues the cluster before it, whatever it is (rules GB9 and GB9a of UAX 29)
+-- whether a code point continues any cluster before it, by rules GB9 and GB9a of UAX 29
 abbrev pub continues : GraphemeClusterBreak → Bool
 continues Control = false
 continues Cr = false
@@ -43,8 +44,8 @@ continues V = false
 continues Other = false
 continues Zwj = true
 
--- Whether some terminals give the code point `c` no width, and join it to the one before it: it is a
--- mark, or it continues a cluster, like the modifiers of emoji
+-- Whether some terminals give the code point `c` no width, and join it to the one before it: a
+-- mark, or a code point that continues a cluster, like the modifiers of emoji
 unfoldable pub is_joined : ℕ → Bool
 is_joined c = in_group Mark (general_category c) || continues (grapheme_cluster_break c)
 
@@ -56,8 +57,8 @@ first_is_joined (c ∷ cs) = is_joined c
 -- ---- symbols
 
 -- Whether each terminal keeps `symbol` on its row, which has `width` columns, if it is put at
--- `column`. A symbol of one byte always stays. Another one needs room for its code points side by
--- side, and at the first column it begins with no code point that is joined.
+-- `column`. A symbol of one byte always stays. Any other needs room for its code points side by
+-- side. At the first column it also has to begin with a code point that is not joined.
 unfoldable pub stays_on_row : ℕ → ℕ → List ℕ → Bool
 stays_on_row width column symbol =
     (length symbol == 1)
@@ -72,6 +73,17 @@ sent_symbol width column symbol = if stays_on_row width column symbol then symbo
 abbrev pub blank_style : ℕ → ℕ → List ℕ → Style → Option Style
 blank_style width column symbol style =
     if stays_on_row width column symbol then None else Some style
+
+-- `symbol` is the code point `c`
+abbrev pub IsOfOne : ℕ → List ℕ → Type 0
+IsOfOne c symbol = chars symbol ≡ c ∷ []
+
+-- if `symbol`, which is the code point `c`, has room for its columns, then it stays on its row; at
+-- the first column `c` has to be none that is joined
+abbrev pub IsSentWithRoom : ℕ → List ℕ → Type 0
+IsSentWithRoom c symbol = (columns width column : ℕ)
+    → IsMeasured (symbol, columns) → column + columns ≤ width
+    → (column ≡ 0 → is_joined c ≡ false) → stays_on_row width column symbol ≡ true
 
 -- ---- cells
 

@@ -1,6 +1,6 @@
 -- A stream of bytes and silences of the terminal. A burst is the bytes between two silences. A
 -- silence within a sequence does not end it: a slow line may tear it there.
-use Rattle.std.specs.Prelude.{◌≡◌, ℕ, ◌++◌, Bool, true, false, ◌&&◌, ◌==◌, List, [], ◌∷◌, Option, Some, None, option_to_list, if◌then◌else◌}
+use Rattle.std.specs.Prelude.{ℕ, ◌++◌, Bool, true, false, ◌&&◌, ◌==◌, List, [], ◌∷◌, Option, Some, None, option_to_list, if◌then◌else◌}
 use Rattle.scm_input.specs.KeyTable.{none, control, char}
 use Rattle.scm_input.specs.declared.terminal.KeyCode.{KeyCode}
 use Rattle.scm_input.specs.declared.terminal.KeyCode.TheVariants as key

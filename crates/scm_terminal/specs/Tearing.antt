@@ -1,11 +1,11 @@
 -- What silences do to a sequence that they tear, and to a paste: the laws of bursts.
-use Rattle.std.specs.Prelude.{◌≡◌, ◌≢◌, ◌⊎◌, ℕ, Bool, true, false, ◌==◌, List, [], ◌∷◌, Option, Some, None, if◌then◌else◌}
+use Rattle.std.specs.Prelude.{◌≡◌, ◌⊎◌, ℕ, Bool, true, false, ◌==◌, List, [], ◌∷◌, Some, None, if◌then◌else◌}
 use Rattle.std.specs.List.{AllZip}
 use Rattle.scm_input.specs.KeyTable.{KeyRow, key_table, control, char}
 use Rattle.scm_input.specs.declared.terminal.TerminalEvent.{TerminalEvent}
 use Rattle.scm_terminal.specs.declared.tokens.Token.TheVariants.{Event}
 use Rattle.scm_terminal.specs.Bytes.{escape, interrupt, begins_sequence}
-use Rattle.scm_terminal.specs.Streams.{split, AreOther, HasMark}
+use Rattle.scm_terminal.specs.Streams.{split, AreOther}
 use Rattle.scm_terminal.specs.Silences.{Start, Waiting, at_first, is_pasted_at, events_from, idle_event, after_silence, is_interrupt, burst_events, after_bursts, bytes_of_bursts, escape_event, press}
 use Rattle.scm_terminal.specs.KeyBytes.{key_bytes}
 

@@ -138,7 +138,8 @@ go_on (suc n) (None ∷ spots) = false
 go_on (suc n) (Some Later ∷ spots) = go_on n spots
 go_on (suc n) (Some (First symbol style) ∷ spots) = false
 
--- the columns before a symbol that is put at a column; unknown are those of one that it covers in part
+-- the columns before a symbol that is put at a column; unknown are those of a symbol that it covers
+-- in part
 abbrev pub left_of : ℕ → List Spot → List Spot
 left_of zero row = []
 left_of (suc n) [] = []

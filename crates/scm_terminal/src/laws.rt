@@ -47,7 +47,8 @@ ghost use Rattle.scm_terminal.specs.Grammar.{
   may_be_followed,
   written,
 };
-ghost use Rattle.scm_terminal.specs.AnyTerminal.{AreWide, Display, May, Showing, step};
+ghost use Rattle.scm_terminal.specs.AnyTerminal.{AreWide, Display, Leaving, May, Showing, step};
+ghost use Rattle.scm_terminal.specs.Sent.{IsOfOne, IsSentWithRoom};
 ghost use Rattle.scm_terminal.specs.Reading.{read_commands};
 ghost use Rattle.scm_terminal.specs.Terminal.{
   AreApart,
@@ -174,9 +175,16 @@ pub fn bytes_are_read_in_one_way()
         → flat_map bytes_of commands ≡ flat_map bytes_of others → commands ≡ others }
 {}
 
-/// Proves that `May` asks nothing of symbols of several bytes but that they stay on their row: a
-/// terminal may show them by any function of the symbol, its column, its style and the row.
+/// Proves that `May` asks nothing of symbols of several bytes but that the painter's stay on their
+/// row: a terminal may show them by any function of the symbol, its column, its style and the row.
+/// With a symbol that the painter would replace it may do anything.
 pub fn terminals_show_symbols_as_they_like()
-    ensures { (showing : Showing) → (command : Command) → (t : Display) → AreWide t
-        → May command t (step showing command t) }
+    ensures { (showing : Showing) → (leaving : Leaving) → (command : Command) → (t : Display)
+        → AreWide t → May command t (step showing leaving command t) }
+{}
+
+/// Proves that a symbol of one character is sent wherever it has room for its columns. The only
+/// exception is a mark at the first column.
+pub fn symbols_of_one_character_are_sent()
+    ensures { (c : ℕ) (symbol : List ℕ) → IsOfOne c symbol → IsSentWithRoom c symbol }
 {}

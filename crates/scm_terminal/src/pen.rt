@@ -92,8 +92,8 @@ impl Pen {
         }
     }
 
-    /// Appends the bytes that write what `pass` puts of `sent`, which is at `row` and `column`, both
-    /// counted from 0. Returns the pen after it.
+    /// Appends the bytes that write what `pass` puts of `sent`, which is at `row` and `column`,
+    /// both counted from 0. Returns the pen after it.
     #[tactic(auto, unfolding(crate::specs::Terminal::bytes_of))]
     pub(crate) fn push_cell(
         self,

@@ -1,5 +1,5 @@
-//! The symbols that are sent for those of a row: a symbol that some terminals would let leave its row
-//! is replaced.
+//! The symbols that are sent for those of a row. One that could leave its row at some terminal is
+//! replaced.
 ghost use Rattle.std.specs.Prelude.{◌≡◌, ◌≤◌, ◌==◌, ◌&&◌, nat_le, chars};
 ghost use Rattle.scm_terminal.specs.Sent.{
   char_columns,
@@ -64,8 +64,8 @@ fn continues(property: GraphemeClusterBreak) -> bool
     }
 }
 
-/// Returns whether some terminals join `character` to the one before it: a mark, or a character that
-/// continues a cluster.
+/// Returns whether some terminals join `character` to the one before it: a mark, or a character
+/// that continues a cluster.
 #[tactic(auto, unfolding(crate::specs::Sent::is_joined))]
 fn is_joined(character: char) -> bool
     ensures { result ≡ is_joined character }

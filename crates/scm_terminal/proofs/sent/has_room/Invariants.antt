@@ -1,6 +1,6 @@
-use Rattle.std.proofs.Common.{◌≡◌, ◌+◌, IsUtf8, chars, sum_by}
+use Rattle.std.proofs.Common.{◌≡◌, ◌+◌, IsUtf8}
 use Rattle.std.specs.Str.Iter.{chars_rest}
-use Rattle.scm_terminal.specs.Sent.{char_columns, added_columns}
+use Rattle.scm_terminal.specs.Sent.{added_columns}
 use Rattle.scm_terminal.proofs.sent.has_room.Given as goal
 
 abbrev pub invariant-loop-character : goal.invariant-loop-character
