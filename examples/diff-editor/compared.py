@@ -1,15 +1,17 @@
 """The two sides that are compared, and where what is chosen goes: folders, or files."""
 import functools
 import os
+import re
 import stat
 
 from choosing.change import ABSENT, in_the_way
+from choosing.cut_off import NAME
 from choosing.files import ABSENT_SIDE, Files
 from choosing.git import Git
 from choosing.words import Stop, shown
 
-# what git and jj keep for themselves in a working tree
-OWN = ".git", ".jj"
+# what git and jj keep for themselves in a working tree, and this program while it writes
+OWN = re.compile(r"\.git|\.jj|" + NAME.pattern)
 # jj puts this file beside those of the commit, for whoever reads the folder
 INSTRUCTIONS = "JJ-INSTRUCTIONS"
 # git difftool --dir-diff sets it. Its folder RIGHT has links to the files of the working tree.
@@ -26,9 +28,9 @@ def paths_below(top):
     """Returns the paths of all that is no folder below `top`, and whether each is a file or a link. OWN is left out."""
     found = {}
     for folder, folders, names in os.walk(top, onerror=raise_error):
-        folders[:] = [name for name in folders if name not in OWN]
+        folders[:] = [name for name in folders if not OWN.fullmatch(name)]
         links = [name for name in folders if os.path.islink(os.path.join(folder, name))]
-        for name in [name for name in names if name not in OWN] + links:
+        for name in [name for name in names if not OWN.fullmatch(name)] + links:
             path = os.path.join(folder, name)
             mode = os.lstat(path).st_mode
             found[os.path.relpath(path, top)] = stat.S_ISREG(mode) or stat.S_ISLNK(mode)

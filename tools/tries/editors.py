@@ -2,10 +2,12 @@
 import json
 import os
 import shutil
+import signal
 import stat
 import subprocess
 
 import changed
+from faults import ACCEPTS, END_AT, MEND_PLACES
 from places import Repository
 
 NAME = "gabrosty-diff-editor"
@@ -227,7 +229,49 @@ def lines_of_a_conflict(place):
     return is_named and paths == [name + " (conflict markers)" * (name != "c") for name in "abcd"] and is_chosen and is_written
 
 
+def killed_at(place, point, command):
+    """Runs a command that accepts everything until it is about to run line `point` of those that put files in place, where it is
+    killed. Returns how many of these lines it came to."""
+    count = os.path.join(place.top, "count")
+    program = os.path.join(place.prefix, "bin", NAME)
+    how = {"stdout": subprocess.DEVNULL, "stderr": subprocess.DEVNULL, "stdin": subprocess.DEVNULL, "start_new_session": True}
+    words = [END_AT, MEND_PLACES, str(int(signal.SIGKILL)), str(point), count, program, *command[1:]]
+    subprocess.run(words, env={**os.environ, **place.environment}, **how)
+    return int(read_data(count))
+
+
+def writing_that_is_killed(place):
+    """KILL at lines that put files in place: the next run says what it finds, and finishes or undoes it."""
+    old = {"a": b"1\n", "b/c": b"1\n", "d": ("link", "a"), "gone/x": b"1\n"}
+    new = {"a": b"2\n", "b/c": b"1\n", "d": b"2\n", "new/x": ("run", b"2\n")}
+    left, right, output = place.folder("left", old), place.folder("right", new), place.folder("output")
+    command = [NAME, "--output", output, left, right]
+    place.environment.update(ACCEPTS)
+    ends, told = [], set()
+    count = killed_at(place, 0, command)
+    is_whole = changed.read(output) == new
+    for point in range(1, count + 1, 3):
+        changed.write(output, old)
+        killed_at(place, point, command)
+        way, wanted = (("--undo", old), ("--finish", new))[point % 2]
+        status, said = place.call(*command)
+        told.add(said.partition(" ")[2][:20])
+        if "writing was cut off, with " in said:
+            ends.append("of 4 files written" in said and place.call(*command, way)[0] == 0 and changed.read(output) == wanted)
+        elif "is not needed" in said:
+            ends.append(place.call(*command, "--undo") == (0, "") and changed.read(output) in (old, new))
+        else:
+            ends.append((status, changed.read(output)) == (0, new))
+        ends.append(not any(name.startswith(".choosing-") for name in os.listdir(output)))
+    nothing = place.call(*command, "--finish")
+    shutil.rmtree(place.temporary)
+    os.mkdir(place.temporary)
+    is_none = nothing == (1, NAME + ": there is no writing that was cut off\n")
+    return is_whole and all(ends) and is_none and count > 40 and any("writing was cut off" in words for words in told)
+
+
 ALL = (
     two_files, a_file_that_comes_or_goes, what_are_not_two_of_a_kind, a_file_that_changed_meanwhile, git_difftool_on_one_file,
     hg_extdiff, a_third_folder, a_third_file, nothing_is_written, everything_is_marked_first, the_words_of_jj, lines_of_a_conflict,
+    writing_that_is_killed,
 )

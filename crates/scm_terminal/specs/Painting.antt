@@ -27,8 +27,8 @@ move_commands is_there row column = if is_there then [] else MoveTo row column �
 abbrev pub style_commands : Option Style → Style → List Command
 style_commands set style = if is_style_set set style then [] else SetStyle style ∷ []
 
--- the commands of a cell whose symbol has `columns` columns. The cursor is moved to each symbol of
--- several bytes, even if it is there: no terminal can then join the symbol to the one before it.
+-- The commands of a cell whose symbol has `columns` columns. The cursor is moved to each symbol of
+-- several bytes, even if it is there: the symbol is then read apart from the one before it.
 abbrev pub cell_commands : ℕ → ℕ → Pen → StyledCell → ℕ → List Command
 cell_commands row column pen Later columns = []
 cell_commands row column pen (First symbol style) columns =

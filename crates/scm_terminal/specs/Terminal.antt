@@ -82,8 +82,8 @@ MayFollow Moved symbol = Unit {0}
 MayFollow Byte symbol = length symbol ≡ 1
 MayFollow Symbol symbol = ⊥
 
--- the cursor is moved before and after each symbol of several bytes: no terminal can join it to
--- another symbol
+-- the cursor is moved before and after each symbol of several bytes: no other symbol stands beside
+-- it in the bytes
 abbrev pub AreApart : Before → List Command → Type 0
 AreApart before [] = Unit {0}
 AreApart before (MoveTo row column ∷ cs) = AreApart Moved cs
