@@ -34,19 +34,24 @@ def front_end():
         raise Stop("SELECT has no such form: %s" % error) from None
 
 
-def choose(files, folder, given_up, task, commits=(), environment=None):
-    """Has the user choose in the front end, whose title says the `task`. Returns the path of what the front end wrote. Stops
-    with the words `given_up` if the user gives up."""
+def ask(files, folder, task, commits=(), environment=None, is_read_only=False):
+    """Has the user choose in the front end, whose title says the `task`. Returns its status, and the path of what it wrote."""
     state, accepted = os.path.join(folder, "state.json"), os.path.join(folder, "accepted")
     with open(state, "w", encoding="utf-8") as file:
         # json.dump would go through the state in Python, and takes ten times as long
-        file.write(json.dumps({"is_read_only": False, "commits": list(commits), "files": files}))
+        file.write(json.dumps({"is_read_only": is_read_only, "commits": list(commits), "files": files}))
     open(accepted, "w").close()
     try:
         more = {"SELECT_TITLE": "%s: %s" % (os.path.basename(sys.argv[0]), task), **(environment or {})}
-        status = run_in_terminal([*front_end(), state, accepted], {**os.environ, **more})
+        return run_in_terminal([*front_end(), state, accepted], {**os.environ, **more}), accepted
     except OSError as error:
         raise Stop("the front end cannot be run: " + words_of(error)) from None
+
+
+def choose(files, folder, given_up, task, commits=(), environment=None):
+    """Has the user choose as `ask` does. Returns the path of what the front end wrote. Stops with the words `given_up` if the
+    user gives up."""
+    status, accepted = ask(files, folder, task, commits, environment)
     if status:
         raise Stop(given_up)
     return accepted

@@ -1,6 +1,6 @@
 """Random choices among the changes of each case of changed.py, and of commits of this repository.
 
-scm-diff-editor has a commit's parent and the commit itself as LEFT and RIGHT. git-select has the parent's files in the last
+gabrosty-diff-editor has a commit's parent and the commit itself as LEFT and RIGHT. git-select has the parent's files in the last
 commit and the commit's own in the working tree. What each one writes is what a splitter makes of the marks, in here."""
 import json
 import os
@@ -132,7 +132,7 @@ def chosen(files, old, new):
 def some_in_folders(place, seed, old, new):
     """A random choice of what LEFT and RIGHT differ in is written."""
     left, right = place.folder("left", old), place.folder("right", new)
-    files = marked_at_random(place, ["scm-diff-editor", left, right], seed)
+    files = marked_at_random(place, ["gabrosty-diff-editor", left, right], seed)
     return changed.read(right) == chosen(files, old, new) and changed.read(left) == old and place.has_left_nothing()
 
 

@@ -27,7 +27,7 @@ def some_lines(place):
     is_committed = repository.select("--commit", "-m", "Some", keys=keys)[0] == 0
     is_committed = is_committed and repository.git("show", "HEAD:a.txt").encode() == chosen and repository.files() == new
     left, right = place.folder("left", old), place.folder("right", new)
-    is_written = place.type(["scm-diff-editor", left, right], keys)[0] == 0 and changed.read(right) == {"a.txt": chosen}
+    is_written = place.type(["gabrosty-diff-editor", left, right], keys)[0] == 0 and changed.read(right) == {"a.txt": chosen}
     return is_staged and is_back and is_out and is_taken_back and is_committed and is_written and repository.is_sound()
 
 
@@ -295,7 +295,7 @@ def a_file_that_changed(place):
     change = {"before_last": lambda: changed.write(repository.folder, wanted)}
     status, said = repository.select("--restore", keys=["a", "c"], **change)
     is_left = status == 1 and "b changed meanwhile: nothing was restored" in said and repository.files() == wanted
-    status, said = place.type(["scm-diff-editor", left, right], ["c"], before_last=lambda: changed.write(right, wanted))
+    status, said = place.type(["gabrosty-diff-editor", left, right], ["c"], before_last=lambda: changed.write(right, wanted))
     is_stopped = status == 1 and "b changed meanwhile: nothing was written" in said and changed.read(right) == wanted
     place.forget_marks()
     return is_left and is_stopped and repository.is_sound()
@@ -310,7 +310,7 @@ def all_or_nothing(place):
     is_left = is_left and sorted(os.listdir(repository.folder)) == [".git", "b", "d"]
     left, right = place.folder("left", old), place.folder("right", new)
     # the new file b, without the removal of b/c: the files are a/x, b, b/c and d
-    status, said = place.type(["scm-diff-editor", left, right], ["j", "space", "c"])
+    status, said = place.type(["gabrosty-diff-editor", left, right], ["j", "space", "c"])
     is_stopped = status == 1 and "b and b/c cannot both be there" in said and changed.read(right) == new
     place.forget_marks()
     return is_left and is_stopped and repository.is_sound()

@@ -52,20 +52,8 @@ fn file_index(commit_idx: usize, key: SelectionKey) -> Option<usize>
     ensures { result ≡ file_index commit_idx key }
 {
     match key {
-        SelectionKey::File(key) => {
-            if key.commit_idx == commit_idx {
-                Some(key.file_idx)
-            } else {
-                None
-            }
-        }
-        SelectionKey::Section(key) => {
-            if key.commit_idx == commit_idx {
-                Some(key.file_idx)
-            } else {
-                None
-            }
-        }
+        SelectionKey::File(key) => (key.commit_idx == commit_idx).then_some(key.file_idx),
+        SelectionKey::Section(key) => (key.commit_idx == commit_idx).then_some(key.file_idx),
         SelectionKey::None | SelectionKey::Line(_) => None,
     }
 }

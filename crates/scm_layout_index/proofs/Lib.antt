@@ -14,3 +14,5 @@ pub mod SpanLemmas
 pub mod FitLemmas
 -- what the index answers
 pub mod AnswerLemmas
+-- what lies over a row
+pub mod RowOwnerLemmas

@@ -6,7 +6,7 @@ use Rattle.scm_render.specs.Hits.{first_of_two}
 use Rattle.scm_types.specs.declared.keys.SelectionKey.{SelectionKey}
 use Rattle.scm_types.specs.Limits.{is_accepted_state, max_scroll}
 use Rattle.scm_widgets.specs.declared.ids.ComponentId.{ComponentId}
-use Rattle.scm_widgets.specs.OverlayRects.{overlay_owner}
+use Rattle.scm_widgets.specs.OverlayRects.{have_row, overlay_owner}
 use Rattle.scm_document.specs.declared.commit_view.CommitViewMode.TheVariants.{Inline}
 use Rattle.scm_document.specs.PieceOwners.{rows_owner}
 use Rattle.scm_document.specs.Pieces.{files_of, piece_places, sections_of}
@@ -17,6 +17,7 @@ use Rattle.scm_layout.specs.declared.state_rows.StateRows.{StateRows}
 use Rattle.scm_layout.specs.Layouts.{files_top}
 use Rattle.scm_layout.specs.Rows.{rows_of}
 use Rattle.scm_layout_index.specs.declared.layout_index.LayoutIndex.{LayoutIndex}
+use Rattle.scm_layout_index.specs.declared.row_owners.RowOwners.{RowOwners}
 use Rattle.scm_layout_index.specs.RowPieces.{found_list, piece_list, piece_of_key, pieces_on}
 
 -- ---- what an index is made of
@@ -47,6 +48,11 @@ document_owner i y x =
 abbrev pub owner_in : LayoutIndex → ℕ → ℕ → Option ComponentId
 owner_in i y x =
     if nat_lt x i.width then first_of_two (overlay_owner i.rects.items y x) (document_owner i y x) else None
+
+-- `r` knows what its row has in index i: the file and the section, and whether anything lies over the document
+pub record AreRowOwners (i : LayoutIndex) (r : RowOwners) : Type 0 where
+  pub found : r.found ≡ pieces_on i.selection i.pinned r.row i.rows.files
+  pub covered : r.is_covered ≡ have_row i.rects.items r.row
 
 -- the rows of a key by index i
 abbrev pub span_in : LayoutIndex → SelectionKey → Option (ℕ × ℕ)

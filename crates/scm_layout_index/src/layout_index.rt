@@ -8,9 +8,9 @@ ghost use Rattle.scm_document.specs.Rows.{message_height};
 ghost use Rattle.scm_overlay.specs.Tables.{menus_with};
 ghost use Rattle.scm_view.specs.ViewState.{ViewState, commit_at};
 ghost use Rattle.scm_view.specs.Window.{extent, owner, span};
-ghost use Rattle.scm_layout_index.specs.LayoutIndex.{document_owner, owner_in, span_in, AreRowsOf, IsInline, IsLayoutIndexOf};
+ghost use Rattle.scm_layout_index.specs.LayoutIndex.{span_in, AreRowsOf, IsInline, IsLayoutIndexOf};
 
-use crate::row_pieces::{end_of_files, owner_among, push_pinned_on};
+use crate::row_pieces::{end_of_files, push_pinned_on};
 use crate::shared_rows::SharedRows;
 use scm_document::CommitMessageView;
 use scm_document::key_rows::find_in;
@@ -19,7 +19,7 @@ use scm_types::{Commit, Items, RecordError, SelectionKey};
 use scm_view::frame_measures::{document_run, joined, joined_with, push_help, push_quit, screen};
 use scm_view_state::ViewState;
 use scm_widgets::ids::ComponentId;
-use scm_widgets::overlay_rects::{OverlayRect, overlay_owner};
+use scm_widgets::overlay_rects::OverlayRect;
 use std::alloc::{AllocError, Global};
 
 /// The index of an inline frame: the owner of each place, the rows of each key, and the extent. It
@@ -27,18 +27,18 @@ use std::alloc::{AllocError, Global};
 #[derive(Drop)]
 pub struct LayoutIndex {
     /// The width of the screen, in columns.
-    width: u16,
+    pub(crate) width: u16,
     /// The row of the document to which a header may be pinned: that below the menu bar.
-    pinned: usize,
+    pub(crate) pinned: usize,
     /// The key that was selected when the frame was drawn.
-    selection: SelectionKey,
+    pub(crate) selection: SelectionKey,
     /// The rectangles over the rows of files: the message's button, the pinned header, the menu bar
     /// with its open menu, and the dialogs. Where two overlap, the later one owns the place.
-    rects: Vec<OverlayRect>,
+    pub(crate) rects: Vec<OverlayRect>,
     /// The extent: the number of rows that the frame spans.
     extent: usize,
     /// The rows of the files and sections.
-    rows: SharedRows,
+    pub(crate) rows: SharedRows,
 }
 
 /// Adds the rectangle of the button that edits the message of the first of `commits`, if it has
@@ -119,7 +119,7 @@ impl LayoutIndex {
         ensures { (w h s : ℕ) (shown : ViewState) → IsLayoutIndexOf w h s shown self.now →
             result ≡ (if nat_lt column w then owner w h s shown row column else None) }
     {
-        self.owner_in(row, column)
+        self.owner_on(self.row_owners(row), column)
     }
 
     /// If the item of `key` is visible, returns its first row in the document and its number of
@@ -137,30 +137,6 @@ impl LayoutIndex {
             result ≡ extent w h s shown }
     {
         self.extent
-    }
-
-    /// Returns the owner of `row` and `column` among files and sections, if any.
-    fn document_owner(&self, row: usize, column: usize) -> Option<ComponentId>
-        ensures { result ≡ document_owner self.now row column }
-    {
-        match self.rows.pieces_on(self.selection, self.pinned, row) {
-            None => None,
-            Some(found) => owner_among(usize::from(self.width), &found, row, column),
-        }
-    }
-
-    /// Returns the owner of the place at `row` and `column`, if any.
-    fn owner_in(&self, row: usize, column: usize) -> Option<ComponentId>
-        ensures { result ≡ owner_in self.now row column }
-    {
-        if usize::from(self.width) <= column {
-            return None;
-        }
-        let overlay = overlay_owner(&self.rects, row, column);
-        match overlay {
-            Some(_) => overlay,
-            None => self.document_owner(row, column),
-        }
     }
 
     /// Returns the row range of `key` by its piece.

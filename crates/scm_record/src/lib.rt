@@ -121,7 +121,6 @@ pub use scm_view::SectionView;
 pub use scm_view::SelectionKey;
 pub use scm_view::TristateBox;
 pub use scm_view::TristateIconStyle;
-pub use scm_view::document_part;
 pub use scm_view_state::ItemKind;
 pub use scm_view_state::ViewState;
 pub use scm_view_state::menus;

@@ -21,10 +21,8 @@ pub mod WindowOwnerLemmas
 pub mod WindowExtentLemmas
 pub mod PartViewLemmas
 pub mod MovedLemmas
-pub mod PartExamples
 pub mod PaintPartLemmas
 pub mod SameWindowLemmas
 pub mod DocumentPartLemmas
-pub mod AnchorLemmas
 -- the pieces near the screen own what all pieces do on its rows
 pub mod NearPieceLemmas

@@ -18,7 +18,5 @@ pub mod Index
 pub mod Runs
 -- Parts of a document, and which of them show what the document shows.
 pub mod DocumentParts
--- Headers and sections with their first rows, and the search for the visible part.
-pub mod Anchors
 -- Views that show a document or a part of it inline.
 pub mod PartViews

@@ -4,7 +4,6 @@ ghost use Rattle.scm_view.specs.ComponentRanges.{ComponentsAreInRange};
 ghost use Rattle.scm_view.specs.Laws.{ClearedGridsAreScreens, CommitsAreInRange, DocumentsArePainted, SectionsOwnTheirColumns};
 ghost use Rattle.scm_widgets.specs.SameIds.{IdsAreToldApart};
 ghost use Rattle.scm_view.specs.DocumentParts.{PartsShowWindows};
-ghost use Rattle.scm_view.specs.Anchors.{SearchesShowWindows};
 ghost use Rattle.scm_view.specs.Window.{AppsHaveExtents, AppsShowWindows, AppsTakeFewCalls, ClicksFindOwners, KeysHaveRows};
 
 /// Proves that all that a `CommitView` draws is in range, if it shows a commit of a session with an
@@ -122,10 +121,4 @@ pub fn apps_take_few_calls()
 /// above.
 pub fn parts_show_windows()
     ensures { PartsShowWindows }
-{}
-
-/// Proves that the part that `visible_part` finds shows the same as the whole document, on a screen
-/// of at least two rows. It is scrolled up by `visible_part_offset`.
-pub fn searches_show_windows()
-    ensures { SearchesShowWindows }
 {}

@@ -66,9 +66,9 @@ impl<'state> ViewState<'state> {
     /// show row `scroll` of the document, and the row of that view that it shows then. The layout is
     /// that of the state and its unfolded keys.
     ///
-    /// It has the files and sections that have a row on the screen below the menu bar, the header of
-    /// the first of these files, and at most one section above them and one below. So it costs what
-    /// the screen shows, however long the document is.
+    /// It has the files and sections from the first to the last that have a row on the screen below
+    /// the menu bar, those between them without rows included, and the header of the first of these
+    /// files. It may have one section more above them and one below.
     ///
     /// # Errors
     /// `OutOfMemory`: an allocation failed.

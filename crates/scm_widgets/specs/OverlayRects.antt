@@ -1,5 +1,6 @@
 -- Overlay rectangles: the owners of columns and rows over the document. Where two overlap, the later one of a list owns the place.
 use Rattle.std.specs.Prelude.{ℕ, pos, nat_le, nat_lt, Bool, ◌&&◌, if◌then◌else◌, List, [], ◌∷◌, Option, Some, None}
+use Rattle.std.specs.List.{list_any}
 use Rattle.scm_render.specs.Drawing.{row_rect}
 use Rattle.scm_render.specs.Hits.{first_of_two}
 use Rattle.scm_widgets.specs.declared.ids.ComponentId.{ComponentId}
@@ -25,6 +26,10 @@ is_from top end y = nat_le top y && nat_lt y end
 -- whether overlay rectangle `s` has row y and column x
 abbrev pub is_at : OverlayRect → ℕ → ℕ → Bool
 is_at s y x = is_within s.rect.y s.rect.height y && is_within s.rect.x s.rect.width x
+
+-- whether one of the overlay rectangles has row y
+abbrev pub have_row : List OverlayRect → ℕ → Bool
+have_row ss y = list_any (λ (s : OverlayRect). is_within s.rect.y s.rect.height y) ss
 
 -- the owner of a point among overlay rectangles: the last one that has the point
 abbrev pub overlay_owner : List OverlayRect → ℕ → ℕ → Option ComponentId

@@ -2,7 +2,7 @@
 //! where two overlap, the later one owns the place.
 ghost use Rattle.std.specs.Prelude.{◌≡◌, ◌<◌, ◌^◌};
 ghost use Rattle.scm_widgets.specs.Layers.{is_within};
-ghost use Rattle.scm_widgets.specs.OverlayRects.{is_at, is_from, overlay_owner, row_overlay_rect};
+ghost use Rattle.scm_widgets.specs.OverlayRects.{have_row, is_at, is_from, overlay_owner, row_overlay_rect};
 
 use crate::ids::ComponentId;
 use scm_cells::{Rect, gap};
@@ -58,6 +58,15 @@ fn is_at(rect: OverlayRect, row: usize, column: usize) -> bool
     let OverlayRect { rect, .. } = rect;
     // `&`: one branch for the prover
     is_within(rect.y, rect.height, row) & is_within(rect.x, rect.width, column)
+}
+
+/// Returns whether one of `rects` has row `row` of the document.
+pub fn have_row(rects: &[OverlayRect], row: usize) -> bool
+    ensures { result ≡ have_row rects.now row }
+{
+    rects
+        .iter()
+        .any(|placed| is_within(placed.rect.y, placed.rect.height, row))
 }
 
 /// Returns the owner of the last of `rects` that holds the place at `row` and `column`, if any.

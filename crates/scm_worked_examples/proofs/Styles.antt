@@ -91,6 +91,20 @@ a_section_header :
     × (style_of (shown false (section_key 1)) 3 (item (section_key 1)) ≡ style None false false true)
 a_section_header = (refl, refl)
 
+-- a key of the second commit has the colour of the first one's, and only the very key that is selected is reversed
+abbrev second_commit : SelectionKey → SelectionKey
+second_commit keys.None = keys.None
+second_commit (keys.File key) = keys.File (record key { commit_idx = 1 })
+second_commit (keys.Section key) = keys.Section (record key { commit_idx = 1 })
+second_commit (keys.Line key) = keys.Line (record key { commit_idx = 1 })
+
+a_selected_line_of_the_second_commit :
+    (style_of (shown false (second_commit (line_key 1 1))) 5 (item (second_commit (line_key 1 1)))
+    ≡ style (Some Green) false false true)
+    × (style_of (shown false (second_commit (line_key 1 1))) 5 (item (line_key 1 1)) ≡ style (Some Green) false false false)
+    × (style_of (shown false (line_key 1 1)) 5 (item (second_commit (line_key 1 1))) ≡ style (Some Green) false false false)
+a_selected_line_of_the_second_commit = (refl, refl, refl)
+
 -- ---- boxes and headers
 
 boxes :

@@ -8,7 +8,7 @@ import subprocess
 import time
 
 from made import (
-    ENVIRONMENT, PROGRAM, Typed, called, commit, git, is_as_added, kept_marks, objects, staged, typed_into, write,
+    ENVIRONMENT, PROGRAM, VERSION, Typed, called, commit, git, is_as_added, kept_marks, objects, staged, typed_into, write,
 )
 
 from apart import without_rights
@@ -262,7 +262,7 @@ def what_is_asked_for():
     write(".gitignore", b"empty/\n")
     commit()
     nothing = 0, "git-select: there is nothing to stage\n"
-    is_told = called("--help")[1].startswith("usage: git-select ") and called("--version") == (0, "git-select 1.1\n")
+    is_told = called("--help")[1].startswith("usage: git-select ") and called("--version") == (0, "git-select %s\n" % VERSION)
     is_nothing = called() == called(".gitignore") == called("--", ".") == called(".", ":!nowhere") == nothing
     lost = [called("nowhere"), called("--", "-x"), called("*.c"), called(".gitignore", ":/nowhere")]
     is_lost = all(status == 1 and "did not match any file" in said for status, said in lost)

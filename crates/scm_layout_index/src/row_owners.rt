@@ -1,0 +1,93 @@
+//! The owners of the places of one row, for which what the row has is found once.
+ghost use Rattle.std.specs.Prelude.{◌≡◌, ℕ, nat_lt, if◌then◌else◌, None};
+ghost use Rattle.scm_document.specs.PieceOwners.{rows_owner};
+ghost use Rattle.scm_document.specs.Pieces.{files_of, sections_of};
+ghost use Rattle.scm_view.specs.ViewState.{ViewState};
+ghost use Rattle.scm_view.specs.Window.{owner};
+ghost use Rattle.scm_widgets.specs.OverlayRects.{overlay_owner};
+ghost use Rattle.scm_layout_index.specs.LayoutIndex.{owner_in, AreRowOwners, IsLayoutIndexOf};
+ghost use Rattle.scm_layout_index.specs.RowPieces.{found_list};
+
+use crate::layout_index::LayoutIndex;
+use crate::row_pieces::{RowPieces, owner_among};
+use scm_widgets::ids::ComponentId;
+use scm_widgets::overlay_rects::{have_row, overlay_owner};
+
+/// What a row of a frame has, for the owners of its places.
+#[derive(Clone, Copy)]
+pub struct RowOwners {
+    /// The row of the document, counted from 0.
+    row: usize,
+    /// The file that has the row, and its section, if there is such a file.
+    found: Option<RowPieces>,
+    /// Whether something that lies over the document has the row.
+    is_covered: bool,
+}
+
+/// Returns the owner of `row` and `column` among the pieces that have the row, if any. The screen
+/// has `width` columns.
+fn owner_of_found(
+    width: usize,
+    found: Option<RowPieces>,
+    row: usize,
+    column: usize,
+) -> Option<ComponentId>
+    ensures { result ≡ rows_owner width (files_of (found_list found))
+        (sections_of (found_list found)) row column }
+{
+    match found {
+        None => None,
+        Some(found) => owner_among(width, &found, row, column),
+    }
+}
+
+impl LayoutIndex {
+    /// Finds what row `row` of the document has.
+    pub fn row_owners(&self, row: usize) -> RowOwners
+        ensures row { result.row ≡ row }
+        ensures owners { AreRowOwners self.now result }
+    {
+        RowOwners {
+            row,
+            found: self.rows.pieces_on(self.selection, self.pinned, row),
+            is_covered: have_row(&self.rects, row),
+        }
+    }
+
+    /// Returns the owner of the place at `column` among what lies over the document, if any.
+    fn overlay_on(&self, owners: RowOwners, column: usize) -> Option<ComponentId>
+        requires { AreRowOwners self.now owners }
+        ensures { result ≡ overlay_owner self.now.rects.items owners.row column }
+    {
+        if owners.is_covered {
+            overlay_owner(&self.rects, owners.row, column)
+        } else {
+            None
+        }
+    }
+
+    /// Returns the owner of the place at `column` of the row of `owners`, if any.
+    fn owner_in(&self, owners: RowOwners, column: usize) -> Option<ComponentId>
+        requires { AreRowOwners self.now owners }
+        ensures { result ≡ owner_in self.now owners.row column }
+    {
+        if usize::from(self.width) <= column {
+            return None;
+        }
+        let overlay = self.overlay_on(owners, column);
+        match overlay {
+            Some(_) => overlay,
+            None => owner_of_found(usize::from(self.width), owners.found, owners.row, column),
+        }
+    }
+
+    /// Returns the component that owns the place at `column` of the screen, on the row of `owners`,
+    /// if any. Columns off the screen have no owner.
+    pub fn owner_on(&self, owners: RowOwners, column: usize) -> Option<ComponentId>
+        requires { AreRowOwners self.now owners }
+        ensures { (w h s : ℕ) (shown : ViewState) → IsLayoutIndexOf w h s shown self.now →
+            result ≡ (if nat_lt column w then owner w h s shown owners.row column else None) }
+    {
+        self.owner_in(owners, column)
+    }
+}
