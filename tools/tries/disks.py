@@ -79,7 +79,9 @@ def is_left_by_the_diff_editor(place, folder):
 
 def is_told_half_done(place, folder):
     """Whether a commit is named whose index has no room, since a hook behind it fills the disk."""
-    repository = Repository(place, {"a": b"1\n"}, {"a": b"2\n"}, os.path.join("disk", "repository"))
+    # the index is larger than what the lock has room for already
+    rest = {"rest/%d" % number: b"" for number in range(200)}
+    repository = Repository(place, {"a": b"1\n", **rest}, {"a": b"2\n", **rest}, os.path.join("disk", "repository"))
     write_hook(repository, "post-commit", "cat /dev/zero > '%s/fill'\n" % folder)
     status, said = repository.select("--commit", "-m", "x", keys=["a", "c"])
     os.unlink(os.path.join(folder, "fill"))

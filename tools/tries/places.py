@@ -1,5 +1,6 @@
 """Temporary folders and repositories, in which the installed programs are typed into."""
 import os
+import re
 import shutil
 import subprocess
 import sys
@@ -37,7 +38,8 @@ class Place:
             if before_last and number == len(words) - 1:
                 before_last()
             typed.press(word)
-        return typed.end(), typed.said()
+        # without the lines that said what was waited for, and were erased
+        return typed.end(), re.sub(r"[^\n]*\r\x1b\[K", "", typed.said())
 
     def call(self, *command, folder=None, given=b""):
         """Returns the status and all that a command wrote, which is typed into by nobody."""
