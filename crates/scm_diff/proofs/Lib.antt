@@ -2,6 +2,8 @@
 pub mod LineLemmas
 -- hunks that are found from the front
 pub mod HunkLemmas
+-- the changed lines of a hunk, in pairs
+pub mod PairLemmas
 -- the lines of the sections of a file
 pub mod SectionLemmas
 -- the lines of a side, as lines of the file
@@ -10,3 +12,9 @@ pub mod FileLineLemmas
 pub mod ChangeLemmas
 -- a text that is joined line by line
 pub mod SideLemmas
+-- bytes as a text, and back
+pub mod ByteLemmas
+-- the words of a line
+pub mod WordLemmas
+-- worked examples of the definitions
+pub mod Examples

@@ -1,17 +1,16 @@
 -- The lines of the sections of a file.
-use Rattle.std.proofs.Common.{◌≡◌, ℕ, ◌+◌, ◌-◌, ◌<◌, ◌≤◌, ◌==◌, List, [], ◌∷◌, ◌++◌, length, take, drop, get_or, map, Bool, true, false, if◌then◌else◌, refl, ap, sym, ◌∙◌, subst, arith, append-nil, append_assoc}
+use Rattle.std.proofs.Common.{◌≡◌, ℕ, ◌+◌, ◌-◌, ◌<◌, ◌≤◌, ◌==◌, List, [], ◌∷◌, ◌++◌, length, take, drop, get_or, Bool, true, false, if◌then◌else◌, refl, ap, sym, ◌∙◌, subst, arith, append-nil, append_assoc}
 use Rattle.std.specs.Prelude.{slice_range}
 use Rattle.std.specs.List.{flat_map}
 use Rattle.std.proofs.lemmas.List.{drop_more, drop-drop, take-append-drop, drop_all}
 use Rattle.std.proofs.lemmas.List.Concat.{flat_map-append}
-use Rattle.scm_types.specs.declared.line.ChangeType.TheVariants.{Added, Removed}
-use Rattle.scm_types.specs.declared.line.SectionChangedLine.{SectionChangedLine}
 use Rattle.scm_types.specs.declared.section.Section.{Section}
-use Rattle.scm_types.specs.declared.section.Section.TheVariants.{Unchanged}
+use Rattle.scm_types.specs.declared.section.Section.TheVariants.{Unchanged, Changed}
 use Rattle.scm_types.specs.Split.{changed_lines, section_lines}
 use Rattle.scm_diff.specs.declared.hunk.Hunk.{Hunk}
 use Rattle.scm_diff.specs.Hunks.{IsNextHunk, AreHunksFrom, AreHunks}
-use Rattle.scm_diff.specs.Sections.{IsWithin, unchecked_line, changed_section, context_sections, hunk_sections, sections_from}
+use Rattle.scm_diff.specs.Sections.{AreHunkSections, AreSections, HasMore, IsWithin, context_sections}
+use Rattle.scm_diff.proofs.PairLemmas.{merge-new, merge-old}
 
 -- ---- a walk over hunks
 
@@ -40,15 +39,31 @@ next-rest old new i hs k h l e r =
     let all : AreHunksFrom old new r.least i r.j (h ∷ drop (k + 1) hs) = subst (AreHunksFrom old new r.least i r.j) (first-of hs k h l e) r.hunks in
     record { least = 1; j = h.new_end; hunks = all.1 }
 
-pub next-built : (old new : List (List ℕ)) (i : ℕ) (hs : List Hunk) (k : ℕ) (h : Hunk) (done more all : List Section) → k < length hs → h ≡ get_or hs k h → more ≡ done ++ hunk_sections old new i h → done ++ sections_from old new i (drop k hs) ≡ all → more ++ sections_from old new h.old_end (drop (k + 1) hs) ≡ all
-next-built old new i hs k h done more all l e m a =
-    ap (λ xs. xs ++ sections_from old new h.old_end (drop (k + 1) hs)) m
-    ∙ append_assoc done (hunk_sections old new i h) (sections_from old new h.old_end (drop (k + 1) hs))
-    ∙ ap (λ xs. done ++ sections_from old new i xs) (sym (first-of hs k h l e))
-    ∙ a
+-- The sections are those of the lines before line `i` of `old`: with sections of what is left they
+-- are those of all lines.
+pub record AreSectionsTo (old new : List (List ℕ)) (all : List Hunk) (start : List Section) (i : ℕ) (hs : List Hunk) (now : List Section) : Type 0 where
+  pub done : List Section
+  pub joined : now ≡ start ++ done
+  pub goes_on : (rest : List Section) → AreSections old new i hs rest → AreSections old new 0 all (done ++ rest)
 
-pub last-built : (old new : List (List ℕ)) (i : ℕ) (hs : List Hunk) (k : ℕ) (done all : List Section) → length hs ≤ k → done ++ sections_from old new i (drop k hs) ≡ all → done ++ context_sections (drop i old) ≡ all
-last-built old new i hs k done all l a = ap (λ xs. done ++ sections_from old new i xs) (sym (drop_all k hs l)) ∙ a
+pub to-none : (old new : List (List ℕ)) (all : List Hunk) (start : List Section) → AreSectionsTo old new all start 0 all start
+to-none old new all start = record { done = []; joined = sym (append-nil start); goes_on = λ rest r. r }
+
+pub to-more : (old new : List (List ℕ)) (all : List Hunk) (start : List Section) (i : ℕ) (k : ℕ) (h : Hunk) (now then_now : List Section) → k < length all → h ≡ get_or all k h → HasMore (AreHunkSections old new i h) now then_now → AreSectionsTo old new all start i (drop k all) now → AreSectionsTo old new all start h.old_end (drop (k + 1) all) then_now
+to-more old new all start i k h now then_now l e m s = record {
+  done = s.done ++ m.more;
+  joined = m.joined ∙ ap (λ xs. xs ++ m.more) s.joined ∙ append_assoc start s.done m.more;
+  goes_on = λ rest r.
+      subst (AreSections old new 0 all) (sym (append_assoc s.done m.more rest))
+      (s.goes_on (m.more ++ rest) (subst (λ hs. AreSections old new i hs (m.more ++ rest)) (sym (first-of all k h l e)) (m.more, rest, refl, m.holds, r)));
+}
+
+pub to-all : (old new : List (List ℕ)) (all : List Hunk) (start : List Section) (i k : ℕ) (now end_now : List Section) → length all ≤ k → end_now ≡ now ++ context_sections (drop i old) → AreSectionsTo old new all start i (drop k all) now → HasMore (AreSections old new 0 all) start end_now
+to-all old new all start i k now end_now l e s = record {
+  more = s.done ++ context_sections (drop i old);
+  joined = e ∙ ap (λ xs. xs ++ context_sections (drop i old)) s.joined ∙ append_assoc start s.done (context_sections (drop i old));
+  holds = s.goes_on (context_sections (drop i old)) (subst (λ hs. AreSections old new i hs (context_sections (drop i old))) (sym (drop_all k all l)) refl);
+}
 
 -- ---- the lines of the sides
 
@@ -63,49 +78,35 @@ context-lines side ls = at (length ls == 0) refl
     at true e = no-lines ls e
     at false e = append-nil ls
 
-kept-removed : (r : List (List ℕ)) (ys : List SectionChangedLine) → changed_lines true (map (unchecked_line Removed) r ++ ys) ≡ r ++ changed_lines true ys
-kept-removed [] ys = refl
-kept-removed (x ∷ r) ys = ap (λ xs. x ∷ xs) (kept-removed r ys)
-
-left-added : (a : List (List ℕ)) → changed_lines true (map (unchecked_line Added) a) ≡ []
-left-added [] = refl
-left-added (x ∷ a) = left-added a
-
-left-removed : (r : List (List ℕ)) (ys : List SectionChangedLine) → changed_lines false (map (unchecked_line Removed) r ++ ys) ≡ changed_lines false ys
-left-removed [] ys = refl
-left-removed (x ∷ r) ys = left-removed r ys
-
-kept-added : (a : List (List ℕ)) → changed_lines false (map (unchecked_line Added) a) ≡ a
-kept-added [] = refl
-kept-added (x ∷ a) = ap (λ xs. x ∷ xs) (kept-added a)
-
-changed-old : (r a : List (List ℕ)) → section_lines true (changed_section r a) ≡ r
-changed-old r a = kept-removed r (map (unchecked_line Added) a) ∙ ap (λ xs. r ++ xs) (left-added a) ∙ append-nil r
-
-changed-new : (r a : List (List ℕ)) → section_lines false (changed_section r a) ≡ a
-changed-new r a = left-removed r (map (unchecked_line Added) a) ∙ kept-added a
-
 slice-drop : (xs : List (List ℕ)) (i k : ℕ) → i ≤ k → slice_range xs i k ++ drop k xs ≡ drop i xs
 slice-drop xs i k h =
     let place : i + (k - i) ≡ k = omega arith in
     ap (λ n. slice_range xs i k ++ drop n xs) (sym place) ∙ ap (λ ys. slice_range xs i k ++ ys) (sym (drop-drop (k - i) i xs)) ∙ take-append-drop (k - i) (drop i xs)
 
--- the lines of a hunk with the context before it, and of what follows
-hunk-lines : (side : Bool) (old new : List (List ℕ)) (i : ℕ) (h : Hunk) (rest : List Section) → flat_map (section_lines side) (hunk_sections old new i h ++ rest) ≡ slice_range old i h.old_start ++ (section_lines side (changed_section (slice_range old h.old_start h.old_end) (slice_range new h.new_start h.new_end)) ++ flat_map (section_lines side) rest)
-hunk-lines side old new i h rest =
-    let section = changed_section (slice_range old h.old_start h.old_end) (slice_range new h.new_start h.new_end) in
+-- the lines of a hunk with the context before it
+hunk-lines : (side : Bool) (old new : List (List ℕ)) (i : ℕ) (h : Hunk) (ss : List Section) → (m : AreHunkSections old new i h ss) → flat_map (section_lines side) ss ≡ slice_range old i h.old_start ++ changed_lines side m.lines
+hunk-lines side old new i h ss m =
     let context = context_sections (slice_range old i h.old_start) in
-    ap (flat_map (section_lines side)) (append_assoc context (section ∷ []) rest)
-    ∙ flat_map-append (section_lines side) context (section ∷ rest)
-    ∙ ap (λ xs. xs ++ (section_lines side section ++ flat_map (section_lines side) rest)) (context-lines side (slice_range old i h.old_start))
+    ap (flat_map (section_lines side)) m.sections_are
+    ∙ flat_map-append (section_lines side) context (Changed m.lines ∷ [])
+    ∙ ap (λ xs. xs ++ (changed_lines side m.lines ++ [])) (context-lines side (slice_range old i h.old_start))
+    ∙ ap (λ xs. slice_range old i h.old_start ++ xs) (append-nil (changed_lines side m.lines))
 
-pub old-lines : (old new : List (List ℕ)) (least i j : ℕ) (hs : List Hunk) → AreHunksFrom old new least i j hs → flat_map (section_lines true) (sections_from old new i hs) ≡ drop i old
-old-lines old new least i j [] h = context-lines true (drop i old)
-old-lines old new least i j (g ∷ hs) h =
+both-lines : (side : Bool) (ss first rest : List Section) (a b c : List (List ℕ)) → ss ≡ first ++ rest → flat_map (section_lines side) first ≡ a ++ b → flat_map (section_lines side) rest ≡ c → flat_map (section_lines side) ss ≡ a ++ (b ++ c)
+both-lines side ss first rest a b c e x y =
+    ap (flat_map (section_lines side)) e ∙ flat_map-append (section_lines side) first rest
+    ∙ ap (λ xs. xs ++ flat_map (section_lines side) rest) x ∙ ap (λ xs. (a ++ b) ++ xs) y ∙ append_assoc a b c
+
+pub old-lines : (old new : List (List ℕ)) (least i j : ℕ) (hs : List Hunk) (ss : List Section) → AreHunksFrom old new least i j hs → AreSections old new i hs ss → flat_map (section_lines true) ss ≡ drop i old
+old-lines old new least i j [] ss h e = ap (flat_map (section_lines true)) e ∙ context-lines true (drop i old)
+old-lines old new least i j (g ∷ hs) ss h s =
     let n = within-of old new least i j g h.0 in
-    hunk-lines true old new i g (sections_from old new g.old_end hs)
-    ∙ ap (λ xs. slice_range old i g.old_start ++ (xs ++ flat_map (section_lines true) (sections_from old new g.old_end hs))) (changed-old (slice_range old g.old_start g.old_end) (slice_range new g.new_start g.new_end))
-    ∙ ap (λ xs. slice_range old i g.old_start ++ (slice_range old g.old_start g.old_end ++ xs)) (old-lines old new 1 g.old_end g.new_end hs h.1)
+    let m = s.3 in
+    let removed = slice_range old g.old_start g.old_end in
+    let added = slice_range new g.new_start g.new_end in
+    both-lines true ss s.0 s.1 (slice_range old i g.old_start) removed (drop g.old_end old) s.2
+    (hunk-lines true old new i g s.0 m ∙ ap (λ xs. slice_range old i g.old_start ++ xs) (merge-old removed added m.lines m.merged))
+    (old-lines old new 1 g.old_end g.new_end hs s.1 h.1 s.4)
     ∙ ap (λ xs. slice_range old i g.old_start ++ xs) (slice-drop old g.old_start g.old_end n.old_order)
     ∙ slice-drop old i g.old_start n.begins
 
@@ -115,13 +116,16 @@ context-same old new least i j h n =
     let b : h.new_start - j ≡ n.run = omega arith in
     ap (λ k. take k (drop i old)) a ∙ n.common ∙ ap (λ k. take k (drop j new)) (sym b)
 
-pub new-lines : (old new : List (List ℕ)) (least i j : ℕ) (hs : List Hunk) → AreHunksFrom old new least i j hs → flat_map (section_lines false) (sections_from old new i hs) ≡ drop j new
-new-lines old new least i j [] h = context-lines false (drop i old) ∙ h
-new-lines old new least i j (g ∷ hs) h =
+pub new-lines : (old new : List (List ℕ)) (least i j : ℕ) (hs : List Hunk) (ss : List Section) → AreHunksFrom old new least i j hs → AreSections old new i hs ss → flat_map (section_lines false) ss ≡ drop j new
+new-lines old new least i j [] ss h e = ap (flat_map (section_lines false)) e ∙ context-lines false (drop i old) ∙ h
+new-lines old new least i j (g ∷ hs) ss h s =
     let n = h.0 in
-    hunk-lines false old new i g (sections_from old new g.old_end hs)
-    ∙ ap (λ xs. slice_range old i g.old_start ++ (xs ++ flat_map (section_lines false) (sections_from old new g.old_end hs))) (changed-new (slice_range old g.old_start g.old_end) (slice_range new g.new_start g.new_end))
-    ∙ ap (λ xs. slice_range old i g.old_start ++ (slice_range new g.new_start g.new_end ++ xs)) (new-lines old new 1 g.old_end g.new_end hs h.1)
-    ∙ ap (λ xs. xs ++ (slice_range new g.new_start g.new_end ++ drop g.new_end new)) (context-same old new least i j g n)
+    let m = s.3 in
+    let removed = slice_range old g.old_start g.old_end in
+    let added = slice_range new g.new_start g.new_end in
+    both-lines false ss s.0 s.1 (slice_range old i g.old_start) added (drop g.new_end new) s.2
+    (hunk-lines false old new i g s.0 m ∙ ap (λ xs. slice_range old i g.old_start ++ xs) (merge-new removed added m.lines m.merged))
+    (new-lines old new 1 g.old_end g.new_end hs s.1 h.1 s.4)
+    ∙ ap (λ xs. xs ++ (added ++ drop g.new_end new)) (context-same old new least i j g n)
     ∙ ap (λ xs. slice_range new j g.new_start ++ xs) (slice-drop new g.new_start g.new_end n.new_order)
     ∙ slice-drop new j g.new_start (omega arith)
