@@ -1,15 +1,14 @@
 -- Files of changes, and their marks.
-use Rattle.std.proofs.Common.{◌≡◌, ℕ, ◌-◌, ◌==◌, List, [], ◌∷◌, ◌++◌, length, take, drop, map, filter, cond, Bool, true, false, not, if◌then◌else◌, refl, ap, sym, ◌∙◌, subst, append-nil, Option, None, option_map, unwrap_or}
+use Rattle.std.proofs.Common.{◌≡◌, ℕ, ◌-◌, ◌==◌, List, [], ◌∷◌, ◌++◌, length, take, drop, map, filter, cond, Bool, true, false, not, if◌then◌else◌, refl, ap, sym, ◌∙◌, subst, append_assoc, Option, None, option_map, unwrap_or}
 use Rattle.std.specs.Prelude.{slice_range}
 use Rattle.std.specs.List.{concat, flat_map, list_any, AllByRecursion}
 use Rattle.std.proofs.lemmas.Bool.{eqb-true}
 use Rattle.std.proofs.lemmas.List.{map-append}
 use Rattle.std.proofs.lemmas.List.Concat.{flat_map-append}
 use Rattle.std.proofs.lemmas.List.Folds.{list_any-append}
-use Rattle.std.proofs.lemmas.List.Elements.{All-from_recursion, recursion_from_All, All-take, All-drop}
+use Rattle.std.proofs.lemmas.List.Elements.{All-from_recursion, recursion_from_All, All-take, All-drop, filter-append}
 use Rattle.scm_types.specs.declared.file_mode.FileMode.{FileMode as Mode}
 use Rattle.scm_types.specs.declared.file_mode.FileMode.TheVariants.{Unix, Absent}
-use Rattle.scm_types.specs.declared.line.ChangeType.{ChangeType}
 use Rattle.scm_types.specs.declared.line.ChangeType.TheVariants.{Added, Removed}
 use Rattle.scm_types.specs.declared.line.SectionChangedLine.{SectionChangedLine}
 use Rattle.scm_types.specs.declared.section.Section.{Section}
@@ -25,17 +24,19 @@ use Rattle.scm_embed.specs.Lines.{lines_of}
 use Rattle.scm_diff.specs.declared.hunk.Hunk.{Hunk}
 use Rattle.scm_diff.specs.declared.change.Version.{Version}
 use Rattle.scm_diff.specs.Hunks.{AreHunks}
-use Rattle.scm_diff.specs.Sections.{unchecked_line, changed_section, context_sections, hunk_sections, sections_from}
+use Rattle.scm_diff.specs.Pairs.{unchecked_line}
+use Rattle.scm_diff.specs.Sections.{AreHunkSections, AreSections, HasMore, context_sections}
 use Rattle.scm_diff.specs.Sides.{IsLine, side_text, text_of, with_line_ends}
-use Rattle.scm_diff.specs.Change.{IsChange, checked, is_same_mode, mode_of, mode_sections, text_in, unchecked}
+use Rattle.scm_diff.specs.Change.{IsChange, IsPairMarked, IsReplaced, checked, checked_line, is_same_mode, mode_of, mode_sections, text_in, unchecked}
+use Rattle.scm_diff.proofs.PairLemmas.{merge-lines, merge-unchecked}
 use Rattle.scm_diff.proofs.LineLemmas.{concat-lines_of, lines_are_lines, lines_of-text_of, text_of-lines_of}
 use Rattle.scm_diff.proofs.FileLineLemmas.{any-marked, side-texts, tail-all}
-use Rattle.scm_diff.proofs.SectionLemmas.{old-lines, new-lines}
+use Rattle.scm_diff.proofs.ChangedSectionLemmas.{old-lines, new-lines}
 
 -- ---- what holds of the sections of lines
 
--- a fact about sections that context and changed sections have
-module _ (P : List Section → Type 0) (none : P []) (context : (lines : List (List ℕ)) → P (Unchanged lines ∷ [])) (change : (r a : List (List ℕ)) → P (changed_section r a ∷ [])) (both : (xs ys : List Section) → P xs → P ys → P (xs ++ ys)) where
+-- a fact about sections that context and the merged lines of hunks have
+module _ (P : List Section → Type 0) (none : P []) (context : (lines : List (List ℕ)) → P (Unchanged lines ∷ [])) (change : (ls : List SectionChangedLine) → map (line_with_mark (λ _. false)) ls ≡ ls → P (Changed ls ∷ [])) (both : (xs ys : List Section) → P xs → P ys → P (xs ++ ys)) where
   context-has : (lines : List (List ℕ)) → P (context_sections lines)
   context-has lines = at (length lines == 0)
     where
@@ -43,18 +44,22 @@ module _ (P : List Section → Type 0) (none : P []) (context : (lines : List (L
       at true = none
       at false = context lines
 
-  pub sections-have : (old new : List (List ℕ)) (i : ℕ) (hs : List Hunk) → P (sections_from old new i hs)
-  sections-have old new i [] = context-has (drop i old)
-  sections-have old new i (h ∷ hs) =
-      both (hunk_sections old new i h) (sections_from old new h.old_end hs)
-      (both (context_sections (slice_range old i h.old_start)) (changed_section (slice_range old h.old_start h.old_end) (slice_range new h.new_start h.new_end) ∷ []) (context-has (slice_range old i h.old_start)) (change (slice_range old h.old_start h.old_end) (slice_range new h.new_start h.new_end)))
-      (sections-have old new h.old_end hs)
+  hunk-has : (old new : List (List ℕ)) (i : ℕ) (h : Hunk) (ss : List Section) → AreHunkSections old new i h ss → P ss
+  hunk-has old new i h ss m =
+      subst P (sym m.sections_are)
+      (both (context_sections (slice_range old i h.old_start)) (Changed m.lines ∷ []) (context-has (slice_range old i h.old_start))
+      (change m.lines (merge-unchecked (slice_range old h.old_start h.old_end) (slice_range new h.new_start h.new_end) m.lines m.merged)))
+
+  pub sections-have : (old new : List (List ℕ)) (i : ℕ) (hs : List Hunk) (ss : List Section) → AreSections old new i hs ss → P ss
+  sections-have old new i [] ss e = subst P (sym e) (context-has (drop i old))
+  sections-have old new i (h ∷ hs) ss s =
+      subst P (sym s.2) (both s.0 s.1 (hunk-has old new i h s.0 s.3) (sections-have old new h.old_end hs s.1 s.4))
 
 any-false : (xs ys : List Section) → list_any is_binary xs ≡ false → list_any is_binary ys ≡ false → list_any is_binary (xs ++ ys) ≡ false
 any-false xs ys a b = rw (list_any-append is_binary xs ys, a, b) refl
 
-not-binary : (old new : List (List ℕ)) (i : ℕ) (hs : List Hunk) → list_any is_binary (sections_from old new i hs) ≡ false
-not-binary = sections-have (λ xs. list_any is_binary xs ≡ false) refl (λ lines. refl) (λ r a. refl) any-false
+not-binary : (old new : List (List ℕ)) (i : ℕ) (hs : List Hunk) (ss : List Section) → AreSections old new i hs ss → list_any is_binary ss ≡ false
+not-binary = sections-have (λ xs. list_any is_binary xs ≡ false) refl (λ lines. refl) (λ ls e. refl) any-false
 
 modes-none : (xs ys : List Section) → first_mode_change xs ≡ None → first_mode_change ys ≡ None → first_mode_change (xs ++ ys) ≡ None
 modes-none [] ys a b = b
@@ -63,26 +68,19 @@ modes-none (Changed lines ∷ xs) ys a b = modes-none xs ys a b
 modes-none (FileMode c m ∷ xs) ys a b = cc
 modes-none (Binary c o n ∷ xs) ys a b = modes-none xs ys a b
 
-no-mode : (old new : List (List ℕ)) (i : ℕ) (hs : List Hunk) → first_mode_change (sections_from old new i hs) ≡ None
-no-mode = sections-have (λ xs. first_mode_change xs ≡ None) refl (λ lines. refl) (λ r a. refl) modes-none
+no-mode : (old new : List (List ℕ)) (i : ℕ) (hs : List Hunk) (ss : List Section) → AreSections old new i hs ss → first_mode_change ss ≡ None
+no-mode = sections-have (λ xs. first_mode_change xs ≡ None) refl (λ lines. refl) (λ ls e. refl) modes-none
 
 abbrev pub all_unchecked : List Section → List Section
 all_unchecked = map (section_with_marks (λ _. false))
 
-lines-unchecked : (kind : ChangeType) (ls : List (List ℕ)) (ys : List SectionChangedLine) → map (line_with_mark (λ _. false)) ys ≡ ys → map (line_with_mark (λ _. false)) (map (unchecked_line kind) ls ++ ys) ≡ map (unchecked_line kind) ls ++ ys
-lines-unchecked kind [] ys e = e
-lines-unchecked kind (l ∷ ls) ys e = ap (λ xs. unchecked_line kind l ∷ xs) (lines-unchecked kind ls ys e)
-
-change-unchecked : (r a : List (List ℕ)) → all_unchecked (changed_section r a ∷ []) ≡ changed_section r a ∷ []
-change-unchecked r a =
-    let added : map (line_with_mark (λ _. false)) (map (unchecked_line Added) a) ≡ map (unchecked_line Added) a =
-    ap (map (line_with_mark (λ _. false))) (sym (append-nil (map (unchecked_line Added) a))) ∙ lines-unchecked Added a [] refl ∙ append-nil (map (unchecked_line Added) a) in
-    ap (λ xs. Changed xs ∷ []) (lines-unchecked Removed r (map (unchecked_line Added) a) added)
+change-unchecked : (ls : List SectionChangedLine) → map (line_with_mark (λ _. false)) ls ≡ ls → all_unchecked (Changed ls ∷ []) ≡ Changed ls ∷ []
+change-unchecked ls e = ap (λ xs. Changed xs ∷ []) e
 
 both-unchecked : (xs ys : List Section) → all_unchecked xs ≡ xs → all_unchecked ys ≡ ys → all_unchecked (xs ++ ys) ≡ xs ++ ys
 both-unchecked xs ys a b = map-append (section_with_marks (λ _. false)) xs ys ∙ ap (λ zs. zs ++ all_unchecked ys) a ∙ ap (λ zs. xs ++ zs) b
 
-is-unchecked : (old new : List (List ℕ)) (i : ℕ) (hs : List Hunk) → all_unchecked (sections_from old new i hs) ≡ sections_from old new i hs
+is-unchecked : (old new : List (List ℕ)) (i : ℕ) (hs : List Hunk) (ss : List Section) → AreSections old new i hs ss → all_unchecked ss ≡ ss
 is-unchecked = sections-have (λ xs. all_unchecked xs ≡ xs) refl (λ lines. refl) change-unchecked both-unchecked
 
 -- ---- the texts of all lines
@@ -159,15 +157,6 @@ back-lines n ls h = recursion_from_All IsLine (drop n ls) (All-drop IsLine n ls 
 slice-lines : (i k : ℕ) (ls : List (List ℕ)) → AllByRecursion IsLine ls → AllByRecursion IsLine (slice_range ls i k)
 slice-lines i k ls h = front-lines (k - i) (drop i ls) (back-lines i ls h)
 
-texts-of : (kind : ChangeType) (ls : List (List ℕ)) → AllByRecursion IsLine ls → AllByRecursion IsLine (map (λ (l : SectionChangedLine). l.line) (map (unchecked_line kind) ls))
-texts-of kind [] h = tt
-texts-of kind (l ∷ ls) h = (h.0, texts-of kind ls h.1)
-
-change-lines : (r a : List (List ℕ)) → AllByRecursion IsLine r → AllByRecursion IsLine a → AllByRecursion IsLine (texts_in (changed_section r a))
-change-lines r a h k =
-    subst (AllByRecursion IsLine) (sym (map-append (λ (l : SectionChangedLine). l.line) (map (unchecked_line Removed) r) (map (unchecked_line Added) a)))
-    (and-lines (map (λ (l : SectionChangedLine). l.line) (map (unchecked_line Removed) r)) (map (λ (l : SectionChangedLine). l.line) (map (unchecked_line Added) a)) (texts-of Removed r h) (texts-of Added a k))
-
 both-lines : (xs ys : List Section) → AreLines xs → AreLines ys → AreLines (xs ++ ys)
 both-lines [] ys a b = b
 both-lines (x ∷ xs) ys a b = (a.0, both-lines xs ys a.1 b)
@@ -179,24 +168,26 @@ context-are lines h = at (length lines == 0)
     at true = tt
     at false = (h, tt)
 
-sections-are : (old new : List (List ℕ)) (i : ℕ) (hs : List Hunk) → AllByRecursion IsLine old → AllByRecursion IsLine new → AreLines (sections_from old new i hs)
-sections-are old new i [] h k = context-are (drop i old) (back-lines i old h)
-sections-are old new i (g ∷ hs) h k =
-    both-lines (hunk_sections old new i g) (sections_from old new g.old_end hs)
-    (both-lines (context_sections (slice_range old i g.old_start)) (changed_section (slice_range old g.old_start g.old_end) (slice_range new g.new_start g.new_end) ∷ [])
+hunk-are : (old new : List (List ℕ)) (i : ℕ) (g : Hunk) (ss : List Section) → AreHunkSections old new i g ss → AllByRecursion IsLine old → AllByRecursion IsLine new → AreLines ss
+hunk-are old new i g ss m h k =
+    subst AreLines (sym m.sections_are)
+    (both-lines (context_sections (slice_range old i g.old_start)) (Changed m.lines ∷ [])
     (context-are (slice_range old i g.old_start) (slice-lines i g.old_start old h))
-    (change-lines (slice_range old g.old_start g.old_end) (slice_range new g.new_start g.new_end) (slice-lines g.old_start g.old_end old h) (slice-lines g.new_start g.new_end new k), tt))
-    (sections-are old new g.old_end hs h k)
+    (merge-lines (slice_range old g.old_start g.old_end) (slice_range new g.new_start g.new_end) m.lines m.merged (slice-lines g.old_start g.old_end old h) (slice-lines g.new_start g.new_end new k), tt))
+
+sections-are : (old new : List (List ℕ)) (i : ℕ) (hs : List Hunk) (ss : List Section) → AreSections old new i hs ss → AllByRecursion IsLine old → AllByRecursion IsLine new → AreLines ss
+sections-are old new i [] ss e h k = subst AreLines (sym e) (context-are (drop i old) (back-lines i old h))
+sections-are old new i (g ∷ hs) ss s h k = subst AreLines (sym s.2) (both-lines s.0 s.1 (hunk-are old new i g s.0 s.3 h k) (sections-are old new g.old_end hs s.1 s.4 h k))
 
 -- ---- the file
 
 -- the file of a change
-abbrev pub file_of : List ℕ → Option Version → Option Version → List Hunk → File
-file_of path old new hs = record {
+abbrev pub file_of : List ℕ → Option Version → Option Version → List Section → File
+file_of path old new ss = record {
   old_path = None;
   path = path;
   file_mode = mode_of old;
-  sections = mode_sections (mode_of old) (mode_of new) ++ sections_from (lines_of (text_in old)) (lines_of (text_in new)) 0 hs;
+  sections = mode_sections (mode_of old) (mode_of new) ++ ss;
 }
 
 -- the sections of modes
@@ -267,9 +258,44 @@ all-twice : (ss : List Section) → map (section_with_marks not) (map (section_w
 all-twice [] = refl
 all-twice (s ∷ ss) = ap (λ x. x ∷ map (section_with_marks not) (map (section_with_marks (λ _. false)) ss)) (section-twice s) ∙ ap (λ xs. section_with_marks (λ _. true) s ∷ xs) (all-twice ss)
 
-module _ (path : List ℕ) (old new : Option Version) (hs : List Hunk) (h : AreHunks (lines_of (text_in old)) (lines_of (text_in new)) hs) where
+-- ---- a pair that is checked
+
+-- the lines of the selected side around some changed lines
+around-lines : (front back : List Section) (before lines after : List SectionChangedLine) → flat_map (section_lines true) (front ++ Changed (before ++ (lines ++ after)) ∷ back) ≡ (flat_map (section_lines true) front ++ changed_lines true before) ++ (changed_lines true lines ++ (changed_lines true after ++ flat_map (section_lines true) back))
+around-lines front back before lines after =
+    let C : List SectionChangedLine → List (List ℕ) = changed_lines true in
+    let F = flat_map (section_lines true) front in
+    let B = flat_map (section_lines true) back in
+    flat_map-append (section_lines true) front (Changed (before ++ (lines ++ after)) ∷ back)
+    ∙ ap (λ xs. F ++ (xs ++ B)) (changed-append before (lines ++ after) ∙ ap (λ xs. C before ++ xs) (changed-append lines after))
+    ∙ ap (λ xs. F ++ xs) (append_assoc (C before) (C lines ++ C after) B ∙ ap (λ xs. C before ++ xs) (append_assoc (C lines) (C after) B))
+    ∙ sym (append_assoc F (C before) (C lines ++ (C after ++ B)))
+  where
+    changed-append : (xs ys : List SectionChangedLine) → changed_lines true (xs ++ ys) ≡ changed_lines true xs ++ changed_lines true ys
+    changed-append xs ys = ap (map (λ (l : SectionChangedLine). l.line)) (filter-append (takes true) xs ys) ∙ map-append (λ (l : SectionChangedLine). l.line) (filter (takes true) xs) (filter (takes true) ys)
+
+around-binary : (front back : List Section) (xs ys : List SectionChangedLine) → list_any is_binary (front ++ Changed xs ∷ back) ≡ false → list_any is_binary (front ++ Changed ys ∷ back) ≡ false
+around-binary front back xs ys e = list_any-append is_binary front (Changed ys ∷ back) ∙ sym (list_any-append is_binary front (Changed xs ∷ back)) ∙ e
+
+-- without a binary section a checked pair replaces its line
+pair-replaced : (file marked : File) (r a : List ℕ) → list_any is_binary file.sections ≡ false → IsPairMarked file marked r a → IsReplaced (side_lines true file) r a (side_text true marked)
+pair-replaced file marked r a e p =
+    let F = p.sections_before in let B = p.sections_after in let x = p.lines_before in let y = p.lines_after in
+    let old : List SectionChangedLine = unchecked_line Removed r ∷ unchecked_line Added a ∷ [] in
+    let new : List SectionChangedLine = checked_line Removed r ∷ checked_line Added a ∷ [] in
+    let plain : list_any is_binary (F ++ Changed (x ++ (old ++ y)) ∷ B) ≡ false = ap (list_any is_binary) (sym p.were) ∙ e in
+    record {
+      before = flat_map (section_lines true) F ++ changed_lines true x;
+      after = changed_lines true y ++ flat_map (section_lines true) B;
+      were = ap (flat_map (section_lines true)) (tail-all file.sections e ∙ p.were) ∙ around-lines F B x old y;
+      are = ap (λ xs. text_of (flat_map (section_lines true) (tail_of xs))) p.are
+          ∙ ap (λ xs. text_of (flat_map (section_lines true) xs)) (tail-all (F ++ Changed (x ++ (new ++ y)) ∷ B) (around-binary F B (x ++ (old ++ y)) (x ++ (new ++ y)) plain))
+          ∙ ap text_of (around-lines F B x new y);
+    }
+
+module _ (path : List ℕ) (old new : Option Version) (hs : List Hunk) (S : List Section) (h : AreHunks (lines_of (text_in old)) (lines_of (text_in new)) hs) (s : AreSections (lines_of (text_in old)) (lines_of (text_in new)) 0 hs S) where
   abbrev F : File
-  F = file_of path old new hs
+  F = file_of path old new S
 
   abbrev A : List (List ℕ)
   A = lines_of (text_in old)
@@ -280,11 +306,8 @@ module _ (path : List ℕ) (old new : Option Version) (hs : List Hunk) (h : AreH
   abbrev M : List Section
   M = mode_sections (mode_of old) (mode_of new)
 
-  abbrev S : List Section
-  S = sections_from A B 0 hs
-
   none-binary : list_any is_binary (M ++ S) ≡ false
-  none-binary = any-false M S (mode-not-binary (mode_of old) (mode_of new)) (not-binary A B 0 hs)
+  none-binary = any-false M S (mode-not-binary (mode_of old) (mode_of new)) (not-binary A B 0 hs S s)
 
   whole : tail_of F.sections ≡ M ++ S
   whole = tail-all (M ++ S) none-binary
@@ -293,16 +316,16 @@ module _ (path : List ℕ) (old new : Option Version) (hs : List Hunk) (h : AreH
   side-is side = ap (flat_map (section_lines side)) whole ∙ flat_map-append (section_lines side) M S ∙ ap (λ xs. xs ++ flat_map (section_lines side) S) (mode-no-lines side (mode_of old) (mode_of new))
 
   pub selected-lines : side_lines true F ≡ A
-  selected-lines = side-is true ∙ old-lines A B 0 0 0 hs h
+  selected-lines = side-is true ∙ old-lines A B 0 0 0 hs S h s
 
   pub unselected-lines : side_lines false F ≡ B
-  unselected-lines = side-is false ∙ new-lines A B 0 0 0 hs h
+  unselected-lines = side-is false ∙ new-lines A B 0 0 0 hs S h s
 
   no-marks : unchecked F ≡ F
-  no-marks = ap (λ ss. record F { sections = ss }) (both-unchecked M S (mode-unchecked (mode_of old) (mode_of new)) (is-unchecked A B 0 hs))
+  no-marks = ap (λ ss. record F { sections = ss }) (both-unchecked M S (mode-unchecked (mode_of old) (mode_of new)) (is-unchecked A B 0 hs S s))
 
   are-lines : AreLines F.sections
-  are-lines = both-lines M S (mode-are (mode_of old) (mode_of new)) (sections-are A B 0 hs (lines_are_lines (text_in old)) (lines_are_lines (text_in new)))
+  are-lines = both-lines M S (mode-are (mode_of old) (mode_of new)) (sections-are A B 0 hs S s (lines_are_lines (text_in old)) (lines_are_lines (text_in new)))
 
   checked-toggled : checked F ≡ file_after_toggle F
   checked-toggled = ap (λ ss. record F { sections = ss }) (sym (all-twice F.sections)) ∙ ap (file_with_marks not) no-marks
@@ -325,10 +348,10 @@ module _ (path : List ℕ) (old new : Option Version) (hs : List Hunk) (h : AreH
   new-text = ap text_of unselected-lines ∙ text_of-lines_of (text_in new)
 
   old-mode : side_mode true F ≡ mode_of old
-  old-mode = mode-selected (mode_of old) (mode_of new) S (no-mode A B 0 hs)
+  old-mode = mode-selected (mode_of old) (mode_of new) S (no-mode A B 0 hs S s)
 
   new-mode : side_mode false F ≡ mode_of new
-  new-mode = mode-unselected (mode_of old) (mode_of new) S (no-mode A B 0 hs)
+  new-mode = mode-unselected (mode_of old) (mode_of new) S (no-mode A B 0 hs S s)
 
   pub is-change : IsChange path old new F
   is-change = record {
@@ -337,7 +360,9 @@ module _ (path : List ℕ) (old new : Option Version) (hs : List Hunk) (h : AreH
     old_mode = refl;
     hunks = hs;
     are_hunks = h;
+    sections = S;
     sections_are = refl;
+    are_sections = s;
     nothing_checked = no-marks;
     selected = old-text;
     unselected = new-text;
@@ -351,6 +376,7 @@ module _ (path : List ℕ) (old new : Option Version) (hs : List Hunk) (h : AreH
     checked_split_unselected = checked-split false ∙ split-text true ∙ ap (λ ls. contents.Text (concat ls)) selected-lines ∙ ap contents.Text (concat-lines_of (text_in old));
     checked_selected_mode = ap (side_mode true) checked-toggled ∙ side_mode_toggled true F ∙ new-mode;
     checked_unselected_mode = ap (side_mode false) checked-toggled ∙ side_mode_toggled false F ∙ old-mode;
+    pair_selected = λ marked r a p. subst (λ ls. IsReplaced ls r a (side_text true marked)) selected-lines (pair-replaced F marked r a none-binary p);
     any_marks = λ marked side e.
         marked-lines marked side (subst (λ (f : File). AreLines f.sections) (sym e) are-lines)
         ∙ ap with_line_ends (side-texts marked side (sym (any-marked (λ _. false) marked.sections) ∙ ap (λ (f : File). list_any is_binary f.sections) e ∙ none-binary));
@@ -361,9 +387,9 @@ abbrev file_with : List ℕ → Mode → List Section → File
 file_with path mode ss = record { old_path = None; path = path; file_mode = mode; sections = ss }
 
 -- the file that the code makes
-pub change-made : (path : List ℕ) (old new : Option Version) (hs : List Hunk) (mode : Mode) (modes all : List Section) → AreHunks (lines_of (text_in old)) (lines_of (text_in new)) hs → mode ≡ mode_of old → modes ≡ mode_sections (mode_of old) (mode_of new) → all ≡ modes ++ sections_from (lines_of (text_in old)) (lines_of (text_in new)) 0 hs → IsChange path old new (record { old_path = None; path = path; file_mode = mode; sections = all })
+pub change-made : (path : List ℕ) (old new : Option Version) (hs : List Hunk) (mode : Mode) (modes all : List Section) → AreHunks (lines_of (text_in old)) (lines_of (text_in new)) hs → mode ≡ mode_of old → modes ≡ mode_sections (mode_of old) (mode_of new) → HasMore (AreSections (lines_of (text_in old)) (lines_of (text_in new)) 0 hs) modes all → IsChange path old new (record { old_path = None; path = path; file_mode = mode; sections = all })
 change-made path old new hs mode modes all h m e a =
-    let same : file_of path old new hs ≡ file_with path mode all =
-    ap (λ ss. file_with path (mode_of old) ss) (sym (a ∙ ap (λ ss. ss ++ sections_from (lines_of (text_in old)) (lines_of (text_in new)) 0 hs) e))
+    let same : file_of path old new a.more ≡ file_with path mode all =
+    ap (λ ss. file_with path (mode_of old) ss) (sym (a.joined ∙ ap (λ ss. ss ++ a.more) e))
     ∙ ap (λ x. file_with path x all) (sym m) in
-    subst (IsChange path old new) same (is-change path old new hs h)
+    subst (IsChange path old new) same (is-change path old new hs a.more h a.holds)

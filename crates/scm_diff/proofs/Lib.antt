@@ -2,11 +2,19 @@
 pub mod LineLemmas
 -- hunks that are found from the front
 pub mod HunkLemmas
+-- the changed lines of a hunk, in pairs
+pub mod PairLemmas
 -- the lines of the sections of a file
-pub mod SectionLemmas
+pub mod ChangedSectionLemmas
 -- the lines of a side, as lines of the file
 pub mod FileLineLemmas
 -- files of changes, and their marks
 pub mod ChangeLemmas
 -- a text that is joined line by line
 pub mod SideLemmas
+-- bytes as a text, and back
+pub mod ByteLemmas
+-- the words of a line
+pub mod WordLemmas
+-- worked examples of the definitions
+pub mod Examples

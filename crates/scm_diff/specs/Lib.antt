@@ -2,9 +2,17 @@
 
 -- the differences of two lists of lines
 pub mod Hunks
+-- how the changed lines of a hunk are listed
+pub mod Pairs
 -- the sections of a file that differs
 pub mod Sections
 -- lines joined to a text, and the text of a side
 pub mod Sides
+-- bytes as a text, and back
+pub mod Bytes
 -- what the file of a change promises
 pub mod Change
+-- from file to file
+pub mod Files
+-- the parts in which two lines differ
+pub mod Words

@@ -1,34 +1,34 @@
 -- The sections of a file that differs.
-use Rattle.std.specs.Prelude.{ℕ, ◌≤◌, ◌==◌, List, [], ◌∷◌, ◌++◌, map, drop, length, false, slice_range, if◌then◌else◌}
-use Rattle.scm_types.specs.declared.line.ChangeType.{ChangeType}
-use Rattle.scm_types.specs.declared.line.ChangeType.TheVariants.{Added, Removed}
+use Rattle.std.specs.Prelude.{◌≡◌, ℕ, ◌≤◌, ◌==◌, List, [], ◌∷◌, ◌++◌, drop, length, slice_range, if◌then◌else◌}
 use Rattle.scm_types.specs.declared.line.SectionChangedLine.{SectionChangedLine}
 use Rattle.scm_types.specs.declared.section.Section.{Section}
 use Rattle.scm_types.specs.declared.section.Section.TheVariants.{Unchanged, Changed}
 use Rattle.scm_diff.specs.declared.hunk.Hunk.{Hunk}
-
--- the unchecked changed line
-abbrev pub unchecked_line : ChangeType → List ℕ → SectionChangedLine
-unchecked_line kind text = record { is_checked = false; change_type = kind; line = text }
-
--- the section of the removed lines and then the added ones, all unchecked
-abbrev pub changed_section : List (List ℕ) → List (List ℕ) → Section
-changed_section removed added = Changed (map (unchecked_line Removed) removed ++ map (unchecked_line Added) added)
+use Rattle.scm_diff.specs.Pairs.{IsMerge}
 
 -- the section of the context lines, if there are any
 abbrev pub context_sections : List (List ℕ) → List Section
 context_sections lines = if length lines == 0 then [] else Unchanged lines ∷ []
 
--- the sections of the context from line `i` of `old` on and of the hunk after it
-abbrev pub hunk_sections : List (List ℕ) → List (List ℕ) → ℕ → Hunk → List Section
-hunk_sections old new i h =
-    context_sections (slice_range old i h.old_start)
-    ++ changed_section (slice_range old h.old_start h.old_end) (slice_range new h.new_start h.new_end) ∷ []
+-- The sections are the context from line `i` of `old` on, if there is any, and the lines of the hunk
+-- after it, merged.
+pub record AreHunkSections (old new : List (List ℕ)) (i : ℕ) (h : Hunk) (sections : List Section) : Type 0 where
+  pub lines : List SectionChangedLine
+  pub merged : IsMerge (slice_range old h.old_start h.old_end) (slice_range new h.new_start h.new_end) lines
+  pub sections_are : sections ≡ context_sections (slice_range old i h.old_start) ++ Changed lines ∷ []
 
--- the sections of the lines from line `i` of `old` on
-abbrev pub sections_from : List (List ℕ) → List (List ℕ) → ℕ → List Hunk → List Section
-sections_from old new i [] = context_sections (drop i old)
-sections_from old new i (h ∷ hs) = hunk_sections old new i h ++ sections_from old new h.old_end hs
+-- The sections are those of the lines from line `i` of `old` on, which differ by the hunks.
+abbrev pub AreSections : List (List ℕ) → List (List ℕ) → ℕ → List Hunk → List Section → Type 0
+AreSections old new i [] sections = sections ≡ context_sections (drop i old)
+AreSections old new i (h ∷ hs) sections =
+    (first : List Section) × (rest : List Section) × (sections ≡ first ++ rest)
+    × AreHunkSections old new i h first × AreSections old new h.old_end hs rest
+
+-- `after` is `before` with more sections at its end, of which `P` holds.
+pub record HasMore (P : List Section → Type 0) (before after : List Section) : Type 0 where
+  pub more : List Section
+  pub joined : after ≡ before ++ more
+  pub holds : P more
 
 -- The hunk lies within the lines, from line `i` of `old` on.
 pub record IsWithin (old new : List (List ℕ)) (i : ℕ) (h : Hunk) : Type 0 where

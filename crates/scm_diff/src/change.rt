@@ -72,15 +72,19 @@ fn sections_of_mode<'a>(
 /// Returns the file that shows how `old` becomes `new`, with nothing checked. `None` is a file that
 /// does not exist. Lines are borrowed from the texts.
 ///
-/// If the modes differ, the first section is the change of mode. Then come the lines of both
-/// texts, in order: context that is equal, and changed lines, the removed ones before the added
-/// ones.
+/// If the modes differ, the first section is the change of mode. Then come the lines of both texts,
+/// in order: context that is equal, and changed lines. A removed line stands right before the added
+/// line that replaces it. `old_path` is `None`: the caller sets it for a renamed file.
 ///
 /// A last line without a line end is a line as it is, and differs from the line with one. Read the
-/// sides of the file by [`side_text`](crate::side_text), which adds the line end where such a line
-/// is not the last one. Nothing checked: the selected side is the old text, the other one the new
-/// text. Everything checked: the reverse. Any marks: the lines of a side's text are the context and
-/// the changed lines that the marks put there, in order; none is joined with another, or lost.
+/// sides of the file by [`side_text`](crate::side_text), which adds the line end if another line
+/// follows. For bytes that may not be UTF-8 see [`text_of_bytes`](crate::text_of_bytes).
+///
+/// - Nothing checked: the selected side is the old text, the other side the new one.
+/// - Everything checked: the reverse.
+/// - One pair checked: the selected side is the old text with that one line replaced in place.
+/// - Any marks: the lines of a side are the context and the changed lines that the marks put there,
+///   in order. None is joined with another, or lost.
 ///
 /// # Errors
 /// `AllocError`: an allocation failed.

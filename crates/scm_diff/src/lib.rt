@@ -1,19 +1,28 @@
 //! The differences of two versions of a file, as a file of a state, and the texts of its sides.
 #![tactic(auto)]
 
+mod bytes;
 pub mod change;
 mod compare;
+mod diagonals;
 pub mod hunk;
 pub mod laws;
+mod likeness;
 mod lines;
+mod lists;
+mod merge;
 mod own;
 mod search;
 mod sections;
 mod sides;
+mod slide;
+mod words;
 
+pub use bytes::{bytes_of_text, has_nul, side_bytes, text_of_bytes};
 pub use change::{Version, changed_file};
 pub use compare::hunks;
 pub use hunk::Hunk;
 pub use lines::lines_of;
 pub use own::owned_file;
 pub use sides::side_text;
+pub use words::{WordSpan, word_spans};

@@ -1,10 +1,11 @@
 //! The sections of the lines of a file that differs.
-ghost use Rattle.std.specs.Prelude.{◌≡◌, ◌++◌, IfOk, OnOk, map};
+ghost use Rattle.std.specs.Prelude.{◌≡◌, ◌++◌, IfOk, OnOk};
 ghost use Rattle.scm_diff.specs.Hunks.{AreHunks};
-ghost use Rattle.scm_diff.specs.Sections.{IsWithin, changed_section, context_sections, hunk_sections, sections_from, unchecked_line};
+ghost use Rattle.scm_diff.specs.Sections.{AreHunkSections, AreSections, HasMore, IsWithin, context_sections};
 
 use crate::hunk::Hunk;
-use scm_types::{ChangeType, Items, Section, SectionChangedLine, Text};
+use crate::merge::merged_lines;
+use scm_types::{Items, Section, Text};
 use std::alloc::{AllocError, Global};
 
 /// Returns a copy of `lines`, which borrows what they borrow.
@@ -37,43 +38,6 @@ fn push_context<'a>(
     Ok(())
 }
 
-/// Adds `texts` at the end of `lines`, as unchecked changed lines.
-fn push_lines<'a>(
-    lines: &mut Vec<SectionChangedLine<'a>>,
-    change_type: ChangeType,
-    texts: &[Text<'a>],
-) -> Result<(), AllocError>
-    ensures { OnOk result (lines.new.items
-        ≡ lines.old.items ++ map (unchecked_line change_type) texts.now) }
-{
-    for text in texts {
-        let line = SectionChangedLine {
-            is_checked: false,
-            change_type,
-            line: text.clone()?,
-        };
-        lines.push(line)?;
-    }
-    Ok(())
-}
-
-/// Returns the section of the removed and the added lines.
-fn make_changed<'a>(
-    alloc: Global,
-    removed: &[Text<'a>],
-    added: &[Text<'a>],
-) -> Result<Section<'a>, AllocError>
-    ensures { IfOk result (λ section. section ≡ changed_section removed.now added.now) }
-{
-    let count = removed.len().saturating_add(added.len());
-    let mut lines = Vec::with_capacity(alloc, count)?;
-    push_lines(&mut lines, ChangeType::Removed, removed)?;
-    push_lines(&mut lines, ChangeType::Added, added)?;
-    Ok(Section::Changed {
-        lines: Items::from(lines),
-    })
-}
-
 /// Adds the context from line `done` of `old` on and the lines of `hunk` at the end of `sections`.
 fn push_hunk_sections<'a>(
     alloc: Global,
@@ -84,14 +48,16 @@ fn push_hunk_sections<'a>(
     hunk: Hunk,
 ) -> Result<(), AllocError>
     requires { IsWithin old.now new.now done hunk }
-    ensures { OnOk result (sections.new.items
-        ≡ sections.old.items ++ hunk_sections old.now new.now done hunk) }
+    ensures { OnOk result (HasMore (AreHunkSections old.now new.now done hunk)
+        sections.old.items sections.new.items) }
 {
     push_context(alloc, sections, &old[done..hunk.old_start])?;
     let removed = &old[hunk.old_start..hunk.old_end];
     let added = &new[hunk.new_start..hunk.new_end];
-    let section = make_changed(alloc, removed, added)?;
-    sections.push(section)?;
+    let lines = merged_lines(alloc, removed, added)?;
+    sections.push(Section::Changed {
+        lines: Items::from(lines),
+    })?;
     Ok(())
 }
 
@@ -105,13 +71,14 @@ pub(crate) fn push_line_sections<'a>(
     hunks: &[Hunk],
 ) -> Result<(), AllocError>
     requires { AreHunks old.now new.now hunks.now }
-    ensures { OnOk result (sections.new.items
-        ≡ sections.old.items ++ sections_from old.now new.now 0 hunks.now) }
+    ensures { OnOk result (HasMore (AreSections old.now new.now 0 hunks.now)
+        sections.old.items sections.new.items) }
 {
     let mut done = 0;
     for hunk in hunks {
         push_hunk_sections(alloc, sections, old, new, done, *hunk)?;
         done = hunk.old_end;
     }
-    push_context(alloc, sections, &old[done..])
+    push_context(alloc, sections, &old[done..])?;
+    Ok(())
 }

@@ -121,7 +121,8 @@ impl Joiner {
         line: &SectionChangedLine<'_>,
         selected: bool,
     ) -> Result<(), AllocError>
-        ensures { OnOk result (self.new ≡ with_lines self.old (changed_lines selected (line.now ∷ []))) }
+        ensures { OnOk result (self.new
+            ≡ with_lines self.old (changed_lines selected (line.now ∷ []))) }
     {
         if is_taken(line, selected) {
             self.push(&line.line)?;
@@ -145,7 +146,8 @@ impl Joiner {
 
     /// Adds the lines of a section that the side has.
     fn push_section(&mut self, section: &Section<'_>, selected: bool) -> Result<(), AllocError>
-        ensures { OnOk result (self.new ≡ with_lines self.old (section_lines selected section.now)) }
+        ensures { OnOk result (self.new
+            ≡ with_lines self.old (section_lines selected section.now)) }
     {
         match section {
             Section::Unchanged { lines } => self.push_context(lines.as_slice()),

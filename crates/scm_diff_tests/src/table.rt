@@ -25,6 +25,12 @@ const DIFFERENCES: &[Difference] = &[
     ("a\nb", "a\nb", &[]),
     ("a\r\nb\n", "a\nb\n", &[(0, 1, 0, 1)]),
     ("\n\n", "\n", &[(1, 2, 1, 1)]),
+    // an added block stands where it is indented least, after a blank line
+    (
+        "f {\n    a\n}\n\ng {\n    a\n}\n",
+        "f {\n    a\n}\n\nh {\n    a\n}\n\ng {\n    a\n}\n",
+        &[(4, 4, 4, 8)],
+    ),
     ("é\nb\n", "b\né\n", &[(0, 1, 0, 0), (2, 2, 1, 2)]),
 ];
 

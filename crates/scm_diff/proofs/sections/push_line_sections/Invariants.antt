@@ -1,11 +1,10 @@
-use Rattle.std.proofs.Common.{◌≡◌, ◌≤◌, ◌++◌, drop, length}
-use Rattle.scm_diff.specs.Sections.{sections_from}
-use Rattle.scm_diff.proofs.SectionLemmas.{HasHunks}
+use Rattle.std.proofs.Common.{◌≤◌, drop, length}
+use Rattle.scm_diff.proofs.ChangedSectionLemmas.{AreSectionsTo, HasHunks}
 use Rattle.scm_diff.proofs.sections.push_line_sections.Given as goal
 
 abbrev pub invariant-loop-hunk : goal.invariant-loop-hunk
 invariant-loop-hunk l = record {
   rest : HasHunks l.old l.new l.done (drop l.hunk-index l.hunks);
   within : l.done ≤ length l.old;
-  built : l.sections.items ++ sections_from l.old l.new l.done (drop l.hunk-index l.hunks) ≡ l.fn.sections.items ++ sections_from l.old l.new 0 l.hunks;
+  built : AreSectionsTo l.old l.new l.hunks l.fn.sections.items l.done (drop l.hunk-index l.hunks) l.sections.items;
 }

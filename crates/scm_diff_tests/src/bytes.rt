@@ -1,0 +1,131 @@
+//! Tables of bytes as texts, and of words.
+use scm_diff::{
+    Version, WordSpan, bytes_of_text, changed_file, has_nul, side_bytes, text_of_bytes, word_spans,
+};
+use scm_types::Text;
+use std::alloc::{AllocError, Global};
+use std::process::Abort;
+use std::test::Fail;
+
+/// Bytes, and their text.
+const TEXTS: &[(&[u8], &str)] = &[
+    (b"", ""),
+    (b"a\nb", "a\nb"),
+    (b"a\rb\0\n", "a\rb\0\n"),
+    (b"\xC3\xA9\xE6\x97\xA5\xF0\x9F\x98\x80", "é日\u{1F600}"),
+    // Latin-1
+    (b"caf\xE9\n", "caf\u{10FFE9}\n"),
+    (b"\xC3\n", "\u{10FFC3}\n"),
+    (b"\x80\xFF", "\u{10FF80}\u{10FFFF}"),
+    // cut off, too long, a surrogate
+    (b"\xE6\x97", "\u{10FFE6}\u{10FF97}"),
+    (b"\xC0\x80", "\u{10FFC0}\u{10FF80}"),
+    (b"\xED\xA0\x80", "\u{10FFED}\u{10FFA0}\u{10FF80}"),
+    // a reserved character, and the one before them
+    (
+        b"\xF4\x8F\xBF\xA9",
+        "\u{10FFF4}\u{10FF8F}\u{10FFBF}\u{10FFA9}",
+    ),
+    (b"\xF4\x8F\xBD\xBF", "\u{10FF7F}"),
+];
+
+/// The old and the new bytes of a file.
+const FILES: &[(&[u8], &[u8])] = &[
+    (b"", b"a"),
+    (b"caf\xE9\n", b"cafe\n"),
+    (b"caf\xE9", b"caf\xE8"),
+    (b"a\0b\n", b"a\0\n"),
+    (b"\xF4\x8F\xBF\xA9\n", b"\xE9\n"),
+];
+
+/// Two lines, and the spans in which they differ: for each its bytes in both.
+type Difference = (
+    &'static str,
+    &'static str,
+    &'static [(usize, usize, usize, usize)],
+);
+
+const WORDS: &[Difference] = &[
+    ("a", "a", &[]),
+    ("", "ab", &[(0, 0, 0, 2)]),
+    ("foo(a, b)", "foo(x, b)", &[(4, 5, 4, 5)]),
+    ("foo(a, b)", "foo(x, y)", &[(4, 5, 4, 5), (7, 8, 7, 8)]),
+    ("let a_1 = 2;", "let a_2 = 2;", &[(4, 7, 4, 7)]),
+    ("x = é;", "x = è;", &[(4, 6, 4, 6)]),
+    ("a b", "a  b", &[(1, 2, 1, 3)]),
+    ("end", "end\n", &[(3, 3, 3, 4)]),
+];
+
+/// Checks the text of the bytes, and that it gives them back.
+fn check_text(rt: &impl Abort, alloc: Global, row: (&[u8], &str)) -> Result<(), AllocError> {
+    let text = text_of_bytes(alloc, row.0)?;
+    assert!(rt; text.as_str() == row.1);
+    let bytes = bytes_of_text(alloc, text.as_str())?;
+    assert!(rt; bytes.as_slice() == row.0);
+    Ok(())
+}
+
+/// Checks that nothing checked leaves the old bytes, and the other side the new ones.
+fn check_file(rt: &impl Abort, alloc: Global, row: (&[u8], &[u8])) -> Result<(), AllocError> {
+    let old_text = text_of_bytes(alloc, row.0)?;
+    let new_text = text_of_bytes(alloc, row.1)?;
+    let old = Version {
+        mode: 0o100644,
+        text: old_text.as_str(),
+    };
+    let new = Version {
+        mode: 0o100644,
+        text: new_text.as_str(),
+    };
+    let mut file = changed_file(alloc, Text::from("f"), Some(old), Some(new))?;
+    let selected = side_bytes(alloc, &file, true)?;
+    let unselected = side_bytes(alloc, &file, false)?;
+    assert!(rt; selected.as_slice() == row.0);
+    assert!(rt; unselected.as_slice() == row.1);
+    file.toggle_all();
+    let selected = side_bytes(alloc, &file, true)?;
+    assert!(rt; selected.as_slice() == row.1);
+    Ok(())
+}
+
+/// Checks the spans of two lines.
+fn check_words(rt: &impl Abort, alloc: Global, row: Difference) -> Result<(), AllocError> {
+    let spans = word_spans(alloc, row.0, row.1)?;
+    assert!(rt; spans.len() == row.2.len());
+    for (span, wanted) in spans.iter().zip(row.2) {
+        let wanted = WordSpan {
+            old_start: wanted.0,
+            old_end: wanted.1,
+            new_start: wanted.2,
+            new_end: wanted.3,
+        };
+        assert!(rt; *span == wanted);
+    }
+    Ok(())
+}
+
+#[test]
+fn bytes_are_texts(rt: HostRuntime) -> Result<(), Fail> {
+    for row in TEXTS {
+        check_text(&rt, rt.alloc(), *row)?;
+    }
+    assert!(rt; has_nul(b"a\0"));
+    assert!(rt; !has_nul(b"a0"));
+    Ok(())
+}
+
+#[test]
+fn bytes_come_back(rt: HostRuntime) -> Result<(), Fail> {
+    for row in FILES {
+        check_file(&rt, rt.alloc(), *row)?;
+    }
+    Ok(())
+}
+
+#[test]
+fn words_differ(rt: HostRuntime) -> Result<(), Fail> {
+    for row in WORDS {
+        check_words(&rt, rt.alloc(), *row)?;
+    }
+    Ok(())
+}
