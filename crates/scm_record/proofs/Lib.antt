@@ -29,6 +29,8 @@ pub mod AcceptedLemmas
 pub mod QuietLemmas
 -- a session that a program drives
 pub mod LiveLemmas
+-- paths of its calls
+pub mod PathLemmas
 -- a session that is driven by bytes
 pub mod TypedLemmas
 -- what a session shows on a terminal
