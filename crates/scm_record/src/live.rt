@@ -22,6 +22,7 @@ ghost use Rattle.scm_record.specs.Keeping.{IsKept};
 ghost use Rattle.scm_record.specs.FrameQueries.{hit};
 ghost use Rattle.scm_types.specs.declared.state.RecordState.{RecordState};
 
+pub mod jumps;
 mod painted;
 pub mod typed;
 
