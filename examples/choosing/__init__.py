@@ -1,1 +1,1 @@
-"""What the programs share that have a user choose changes: git-select and scm-diff-editor."""
+"""What the programs share that have a user choose changes: git-select and gabrosty-diff-editor."""

@@ -2,13 +2,16 @@
 import concurrent.futures
 import contextlib
 import errno
+import fcntl
 import functools
+import hashlib
+import json
 import os
-import signal
 import stat
 import sys
 
 from .change import ABSENT, LINK
+from .signals import signals_wait
 from .words import HalfDone, Stop, shown, words_of
 
 IS_FOLDER = os.O_RDONLY | os.O_DIRECTORY | os.O_NOFOLLOW | os.O_CLOEXEC
@@ -16,6 +19,8 @@ IS_FOLDER = os.O_RDONLY | os.O_DIRECTORY | os.O_NOFOLLOW | os.O_CLOEXEC
 NO_FOLDER = errno.ENOENT, errno.ENOTDIR, errno.ELOOP
 ABSENT_SIDE = ABSENT, b""
 SPARE = ".choosing-%d"
+# in such a folder: what is to be done, while that is begun and not at its end, and the same once all is done
+NEW_PLAN, PLAN, DONE = "new-plan", "plan", "done"
 THREADS = 16
 
 
@@ -25,16 +30,6 @@ def closing(folder):
         yield folder
     finally:
         os.close(folder)
-
-
-@contextlib.contextmanager
-def signals_wait():
-    """What is begun here is brought to its end before a signal is heard."""
-    before = signal.pthread_sigmask(signal.SIG_BLOCK, [signal.SIGHUP, signal.SIGINT, signal.SIGTERM])
-    try:
-        yield
-    finally:
-        signal.pthread_sigmask(signal.SIG_SETMASK, before)
 
 
 @contextlib.contextmanager
@@ -60,6 +55,43 @@ def flush(folder, names):
     with concurrent.futures.ThreadPoolExecutor(THREADS) as pool:
         for _ in pool.map(flush_one, names):
             pass
+
+
+def lock_open(opened, waits=False):
+    """Locks a file or a folder that is open until it is closed, also by the end of the program. Returns whether nobody else has
+    locked it. With `waits` it waits until nobody has."""
+    try:
+        fcntl.flock(opened, fcntl.LOCK_EX | (0 if waits else fcntl.LOCK_NB))
+    except BlockingIOError:
+        return False
+    except OSError:
+        # some disks have no such locks
+        pass
+    return True
+
+
+def digest_of(side):
+    """Returns what a side of a file is known by: its mode, and a digest of its bytes."""
+    mode, data = side
+    return [mode, hashlib.sha256(data).hexdigest()]
+
+
+def write_plan(spare, entries):
+    """Writes into `spare` what is about to be done (see Files.change)."""
+    plan = [[path, digest_of(old), digest_of(new)] for path, old, new in entries]
+    with open(os.open(NEW_PLAN, os.O_WRONLY | os.O_CREAT | os.O_EXCL | os.O_CLOEXEC, 0o600, dir_fd=spare), "w") as file:
+        file.write(json.dumps(plan))
+    flush(spare, [NEW_PLAN])
+    os.rename(NEW_PLAN, PLAN, src_dir_fd=spare, dst_dir_fd=spare)
+
+
+def empty(spare):
+    """Removes the files of `spare`, which are needed no more."""
+    with contextlib.suppress(FileNotFoundError):
+        os.rename(PLAN, DONE, src_dir_fd=spare, dst_dir_fd=spare)
+    # what says that all is done goes last
+    for name in sorted(os.listdir(spare), key=lambda name: name == DONE):
+        os.unlink(name, dir_fd=spare)
 
 
 def permissions_for(mode, before):
@@ -138,11 +170,14 @@ class Files:
 
     def change(self, entries):
         """Puts all of `entries` in place, or none of them: paths, each with the mode and bytes that are there and those
-        that are to be there. Files come by a rename. Stops if something else is there."""
+        that are to be there. Files come by a rename. Stops if something else is there. If this is cut off, a plan says how to
+        finish it, or to undo it (see cut_off.py)."""
         if not entries:
             return
         with signals_wait(), self.spare() as spare, contextlib.ExitStack() as undo:
             self.make_all(spare, entries)
+            with named(self.top, "written"):
+                write_plan(spare, entries)
             # what goes makes room for what comes
             for number, (path, old, new) in sorted(enumerate(entries), key=lambda entry: entry[1][2][0] != ABSENT):
                 with named(path, "written"):
@@ -152,8 +187,7 @@ class Files:
                     else:
                         self.put(spare, number, path, undo)
             undo.pop_all()
-            for name in os.listdir(spare):
-                os.unlink(name, dir_fd=spare)
+            empty(spare)
 
     @contextlib.contextmanager
     def spare(self):
@@ -163,16 +197,18 @@ class Files:
             os.mkdir(name, 0o700, dir_fd=self.at)
         with closing(os.open(name, IS_FOLDER, dir_fd=self.at)) as spare:
             try:
+                # another call may look just now whether it was left behind
+                lock_open(spare, waits=True)
                 yield spare
             finally:
                 self.remove_spare(spare, name)
 
     def remove_spare(self, spare, name):
         """Removes the folder `spare` with the new files in it. If old ones are in it, it stays, and that is said."""
-        for left in os.listdir(spare):
-            if left.startswith("new-"):
-                os.unlink(left, dir_fd=spare)
-        if os.listdir(spare):
+        left = os.listdir(spare)
+        if not any(other.startswith("old-") for other in left):
+            empty(spare)
+        else:
             reason = sys.exc_info()[1]
             why = words_of(reason) + ", and " if reason else ""
             raise HalfDone("%swhat could not be put back is in %s" % (why, shown(os.path.join(self.top, name))))

@@ -10,6 +10,7 @@ import tempfile
 from .accepted import sides_in
 from .change import ABSENT, Choice
 from .git import run_in_terminal
+from .signals import SIGNALS, Stopped, ignore, stop_on_signals
 from .waiting import erase
 from .words import Stop, shown, words_of
 
@@ -19,11 +20,6 @@ INSTALLED, BUILDS = os.path.join(HERE, "../../../bin/scm-select"), os.path.join(
 KEYS = """Keys: l moves in, j and k down and up, space marks, c accepts, q gives up, and ? shows the others.
 
 SELECT names another front end: a command that takes the file of a state, and a file to write to what was accepted."""
-SIGNALS = signal.SIGHUP, signal.SIGINT, signal.SIGTERM
-
-
-class Stopped(BaseException):
-    """A signal that ends the program."""
 
 
 def say(text):
@@ -38,19 +34,24 @@ def front_end():
         raise Stop("SELECT has no such form: %s" % error) from None
 
 
-def choose(files, folder, given_up, task, commits=(), environment=None):
-    """Has the user choose in the front end, whose title says the `task`. Returns the path of what the front end wrote. Stops
-    with the words `given_up` if the user gives up."""
+def ask(files, folder, task, commits=(), environment=None, is_read_only=False):
+    """Has the user choose in the front end, whose title says the `task`. Returns its status, and the path of what it wrote."""
     state, accepted = os.path.join(folder, "state.json"), os.path.join(folder, "accepted")
     with open(state, "w", encoding="utf-8") as file:
         # json.dump would go through the state in Python, and takes ten times as long
-        file.write(json.dumps({"is_read_only": False, "commits": list(commits), "files": files}))
+        file.write(json.dumps({"is_read_only": is_read_only, "commits": list(commits), "files": files}))
     open(accepted, "w").close()
     try:
         more = {"SELECT_TITLE": "%s: %s" % (os.path.basename(sys.argv[0]), task), **(environment or {})}
-        status = run_in_terminal([*front_end(), state, accepted], {**os.environ, **more})
+        return run_in_terminal([*front_end(), state, accepted], {**os.environ, **more}), accepted
     except OSError as error:
         raise Stop("the front end cannot be run: " + words_of(error)) from None
+
+
+def choose(files, folder, given_up, task, commits=(), environment=None):
+    """Has the user choose as `ask` does. Returns the path of what the front end wrote. Stops with the words `given_up` if the
+    user gives up."""
+    status, accepted = ask(files, folder, task, commits, environment)
     if status:
         raise Stop(given_up)
     return accepted
@@ -60,10 +61,10 @@ def choices_in(accepted, changes, side, now):
     """Returns what is to be of each change by the sides that were accepted, if it is not so now. `side` is `selected` or
     `unselected`, and `now` says which side of a change is in place: `old` or `new`."""
     choices = []
-    for change, found in zip(changes, sides_in(accepted, side, len(changes))):
-        wanted = getattr(change, side)(*found)
-        if wanted != (getattr(change, now).mode, getattr(change, now + "_data")):
-            choices.append(Choice(change, *wanted))
+    for whole, found in zip(changes, sides_in(accepted, side, len(changes))):
+        for change, *wanted in whole.chosen(side, *found):
+            if wanted != [getattr(change, now).mode, getattr(change, now + "_data")]:
+                choices.append(Choice(change, *wanted))
     return choices
 
 
@@ -96,36 +97,18 @@ def keep_lost(git, entries):
     return names
 
 
-def ignore(numbers):
-    for number in numbers:
-        signal.signal(number, signal.SIG_IGN)
-
-
-def stop_on_signals():
-    """Has signals end the program as an error does, so that its temporary files are removed. Returns their numbers."""
-    numbers = [it for it in SIGNALS if signal.getsignal(it) != signal.SIG_IGN]
-
-    def stop(number, _):
-        ignore(numbers)
-        raise Stopped(number)
-
-    for number in numbers:
-        signal.signal(number, stop)
-    return numbers
-
-
 def run(work):
     """Calls `work` with a folder for temporary files, which is removed in the end. Returns the program's status."""
     if sys.stdout:
         sys.stdout.reconfigure(errors="backslashreplace")
-    numbers = stop_on_signals()
+    stop_on_signals()
     try:
         with tempfile.TemporaryDirectory(prefix=os.path.basename(sys.argv[0]) + "-") as folder:
             try:
                 return work(folder)
             finally:
                 # what removes the folder is not cut off
-                ignore(numbers)
+                ignore(SIGNALS)
     except (Stop, OSError) as error:
         say(words_of(error))
         return 1

@@ -6,24 +6,28 @@ import signal
 import subprocess
 
 from .packs import name_of, pack_of
+from .signals import signals_wait, waiting
 from .words import Stop, printable
 
 
 def run_to_end(command, given=None, **settings):
     """Runs `command` to its end. If a signal ends this program, the command is ended first, so that it can tidy up."""
-    with subprocess.Popen(command, **settings) as process:
+    they_wait = waiting[-1]
+    # a command that was begun, but is not known yet, could not be ended
+    with signals_wait(), subprocess.Popen(command, **settings) as process:
         try:
-            output, words = process.communicate(given)
+            with signals_wait(they_wait):
+                output, words = process.communicate(given)
         except BaseException:
             process.terminate()
             raise
     return process.returncode, output, words
 
 
-def reason_in(said):
-    """Returns why git failed: the first line of what it said that is no warning, without the word before it."""
-    lines = [line for line in os.fsdecode(said).splitlines() if not line.startswith(("warning: ", "hint: "))]
-    return printable(re.sub("^(error|fatal): ", "", lines[0])) if lines else "git failed"
+def reason_in(said, last=False):
+    """Returns why git failed: the first line of what it said that is no warning, or the last one, without the word before it."""
+    lines = [line for line in os.fsdecode(said).splitlines() if line and not line.startswith(("warning: ", "hint: "))]
+    return printable(re.sub("^(error|fatal): ", "", lines[-1 if last else 0])) if lines else "git failed"
 
 
 def split_by_zeros(output):

@@ -1,9 +1,12 @@
 """The text of a file as the lines of a state, and back."""
+import io
 import os
 import re
 
 NO_LINE_END = "\\ No newline at end of file\n"
 LONGEST_LINE = 1_000_000
+# in Latin-1 each byte is the character of its number, so each byte comes back as it was
+ENCODINGS = "utf-8", "latin-1"
 PLACE = re.compile(rb"^(?:diff --git a/(\d+) |@@ -(\d+)(?:,(\d+))? \+(\d+)(?:,(\d+))? @@)", re.M)
 # what the user has set may change how lines are compared, but not how the differences are written
 PLAIN = (
@@ -12,19 +15,34 @@ PLAIN = (
 )
 
 
-def text_of(data):
+def text_of(data, encoding):
     """Returns the text of a file, or None if it is no text or has a line that is too long to be shown."""
-    if b"\0" in data or len(data) >= LONGEST_LINE and any(len(line) >= LONGEST_LINE for line in data.split(b"\n")):
+    if b"\0" in data:
         return None
     try:
-        return data.decode()
+        text = data.decode(encoding)
     except UnicodeDecodeError:
         return None
+    return None if has_long_line(data if encoding == "utf-8" else text.encode()) else text
+
+
+def has_long_line(data):
+    return len(data) >= LONGEST_LINE and any(len(line) >= LONGEST_LINE for line in data.split(b"\n"))
+
+
+def texts_of(sides):
+    """Returns the texts of both sides of a file, each of which may be None, and the encoding in which their bytes are read. If one
+    side is not UTF-8, each byte of both is one character."""
+    for encoding in ENCODINGS:
+        texts = [text_of(data, encoding) for data in sides]
+        if None not in texts:
+            break
+    return texts, encoding
 
 
 def lines_in(text):
     """Returns the lines of `text` with their line ends. Only the last one may have none."""
-    return re.findall("[^\n]*\n|[^\n]+", text)
+    return list(io.StringIO(text, newline="\n"))
 
 
 def marker_for(old, new):

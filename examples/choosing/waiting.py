@@ -1,11 +1,11 @@
-"""A line on the terminal that says what the user waits for, where that takes more than half a second."""
+"""A line on the terminal that says what the user waits for, where that takes longer than PATIENCE."""
 import contextlib
 import os
 import signal
 import sys
 import time
 
-PATIENCE = 0.5  # seconds
+PATIENCE = 0.2  # seconds
 ERASE = b"\r\x1b[K"
 lines = []  # what is on the terminal now: one line, or none
 
@@ -25,7 +25,7 @@ def erase():
 
 @contextlib.contextmanager
 def waits(words, begun=None):
-    """While this block is run, `words` are on the terminal, if the user has waited for half a second. `begun` says since when,
+    """While this block is run, `words` are on the terminal, if the user has waited for that long. `begun` says since when,
     by the clock `time.monotonic`; without it since now."""
     if not sys.stderr or not sys.stderr.isatty():
         yield

@@ -1,7 +1,7 @@
 """How the programs name what they speak of, and why they stop."""
 import os
 
-VERSION = "1.1"
+VERSION = "1.1.0"
 
 
 class Stop(Exception):

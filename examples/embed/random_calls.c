@@ -135,7 +135,7 @@ static uint32_t addition_code(bool is_text, bool needs_file, bool is_long) {
     if (stage != SCM_BUILDING) {
         return stage == SCM_NONE ? SCM_CLOSED : SCM_NOT_NOW;
     }
-    scm_files(&session, &count);
+    assert(scm_files(&session, &count) == SCM_DONE);
     return needs_file && count == 0 ? SCM_NO_ITEM : is_long ? SCM_TOO_LONG : SCM_DONE;
 }
 

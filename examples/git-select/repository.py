@@ -4,13 +4,27 @@ import stat
 
 from choosing.change import ABSENT, Side
 from choosing.git import Git, reason_in, split_by_zeros
+from choosing.waiting import counted
 from choosing.words import Stop, printable, shown
+
+
+
+NO_FILE = "it is neither a file nor a link"
 
 
 def index_lines(entries):
     """Returns paths with their sides in the form that `git update-index --index-info` reads."""
     lines = [b"%s %s\t%s\0" % (side.mode.encode(), side.name.encode(), os.fsencode(path)) for path, side in entries]
     return b"".join(lines)
+
+
+def differing_in(output):
+    """Yields what git says of files that differ: a path, its two sides, and git's letter for the change."""
+    parts = split_by_zeros(output)
+    for head, path in zip(parts[0::2], parts[1::2]):
+        old_mode, new_mode, *names, letter = head[1:].split()
+        old, new = (Side(mode, None if mode == ABSENT else name) for mode, name in zip((old_mode, new_mode), names))
+        yield path, old, new, letter
 
 
 class Repository(Git):
@@ -25,7 +39,8 @@ class Repository(Git):
             ["--show-toplevel"], ["--absolute-git-dir"], ["--git-path", "index"], ["--git-path", "objects"]
         )
         environment.update(GIT_DIR=folder, GIT_WORK_TREE=top)
-        self.top = top
+        # git writes what a link in the index's place leads to
+        self.top, self.index = top, os.path.realpath(self.index)
 
     def places(self, *questions):
         """Returns the path that `git rev-parse` answers to each question."""
@@ -46,19 +61,38 @@ class Repository(Git):
 
     def check_writable(self):
         """Stops if it can be seen already that nothing could be written."""
-        lock = self.index + ".lock"
-        if os.path.lexists(lock):
-            raise Stop("%s is there: another git command is at work, or one was cut off" % shown(lock))
         for folder in (os.path.dirname(self.index), self.objects):
             if not os.access(folder, os.W_OK):
                 raise Stop("%s cannot be written to" % shown(folder))
 
-    def check_paths(self, paths, start):
-        """Stops if one of `paths`, seen from the folder `start`, is neither in the working tree nor in the index."""
+    def check_no_conflict(self):
+        """Stops if the index has files in conflict, which git commits and stashes nothing beside."""
+        lines = split_by_zeros(self.git("ls-files", "-z", "--unmerged"))
+        paths = sorted({line.partition("\t")[2] for line in lines})
+        if paths:
+            more = " and %s more" % counted(len(paths) - 1, "file") if paths[1:] else ""
+            raise Stop("%s%s in conflict: resolve that first" % (shown(paths[0]) + more, " are" if more else " is"))
+
+    def check_identity(self):
+        """Stops if git does not know who the user is."""
+        for name in "GIT_AUTHOR_IDENT", "GIT_COMMITTER_IDENT":
+            status, _, said = self.run("var", name)
+            if status:
+                raise Stop("git does not know who you are: " + reason_in(said, last=True))
+
+    def check_last_commit(self):
+        if not self.last_commit():
+            raise Stop("there is no commit yet")
+
+    def check_paths(self, paths, start, tree):
+        """Stops if one of `paths`, seen from the folder `start`, is neither in the working tree nor in the index, nor in `tree` if
+        that is one."""
         excludes = ":!", ":^", ":(exclude"
         lost = [path for path in paths if not os.path.lexists(os.path.join(start, path)) and not path.startswith(excludes)]
         if lost:
-            self.git("ls-files", "--error-unmatch", "--cached", "--others", "--exclude-standard", "--", *lost, folder=start)
+            also = ["--with-tree=" + tree] if tree else []
+            words = "ls-files", "--error-unmatch", "--cached", "--others", "--exclude-standard", *also, "--", *lost
+            self.git(*words, folder=start)
 
     def tracked(self, paths, start):
         """Yields what may differ from the index: a path, its side there, its mode now, and git's letter for the change."""
@@ -70,11 +104,15 @@ class Repository(Git):
     def staged(self, paths, start):
         """Yields what differs between the last commit and the index: a path, its two sides, and git's letter."""
         words = "diff-index", "-z", "--cached", "--no-renames", "--ita-invisible-in-index", "--ignore-submodules=none"
-        parts = split_by_zeros(self.git(*words, self.last_tree(), "--", *paths, folder=start))
-        for head, path in zip(parts[0::2], parts[1::2]):
-            old_mode, new_mode, *names, letter = head[1:].split()
-            old, new = (Side(mode, None if mode == ABSENT else name) for mode, name in zip((old_mode, new_mode), names))
-            yield path, old, new, letter
+        yield from differing_in(self.git(*words, self.last_tree(), "--", *paths, folder=start))
+
+    def between(self, old, new, paths, start):
+        """Yields the same of what differs between two trees."""
+        yield from differing_in(self.git("diff-tree", "-r", "-z", "--no-renames", old, new, "--", *paths, folder=start))
+
+    def paths_in(self, tree):
+        """Returns the paths of the files of a tree."""
+        return split_by_zeros(self.git("ls-tree", "-r", "-z", "--full-tree", "--name-only", tree))
 
     def last_commit(self):
         """Returns the name of the last commit, or an empty text if there is none."""
@@ -82,7 +120,69 @@ class Repository(Git):
 
     def last_tree(self):
         """Returns the name of the last commit, or of an empty folder if there is none."""
-        return self.last_commit() or self.git("hash-object", "-t", "tree", "--stdin", given=b"").decode().strip()
+        return self.last_commit() or self.empty_tree()
+
+    def empty_tree(self):
+        """Returns the name of an empty folder, which need not be stored."""
+        return self.name_by("hash-object", "-t", "tree", "--stdin", given=b"")
+
+    def name_by(self, *words, **settings):
+        """Returns the name of an object that git answers."""
+        return self.git(*words, **settings).decode().strip()
+
+    def commit_named(self, name):
+        """Returns the name of the commit that the user calls `name`, or an empty text if there is none."""
+        found = b"" if name.startswith("-") else self.run("rev-parse", "--verify", "--quiet", name + "^{commit}")[1]
+        return found.decode().strip()
+
+    def message_of(self, commit):
+        """Returns the message of a commit, or None if it is not UTF-8."""
+        words = "--no-show-signature", "--no-notes", "--encoding=UTF-8", "--format=%B"
+        try:
+            return self.git("log", "-1", *words, commit, "--").decode().removesuffix("\n")
+        except UnicodeDecodeError:
+            return None
+
+    def author_of(self, commit):
+        """Returns the variables by which a new commit has the author of `commit`."""
+        words = "--no-show-signature", "--encoding=UTF-8", "--format=%an%x00%ae%x00@%ad", "--date=raw"
+        values = os.fsdecode(self.git("log", "-1", *words, commit, "--")).removesuffix("\n").split("\0")
+        return dict(zip(("GIT_AUTHOR_NAME", "GIT_AUTHOR_EMAIL", "GIT_AUTHOR_DATE"), values))
+
+    def commit_tree(self, tree, parents, message, *words, **author):
+        """Stores a commit. Returns its name. `author` is what author_of returns, or nothing."""
+        words = [*words, *(word for parent in parents for word in ("-p", parent)), "-F", "-"]
+        settings = "-c", "i18n.commitEncoding=UTF-8"
+        return self.name_by(*settings, "commit-tree", *words, tree, given=message.encode(), **author)
+
+    def signing(self):
+        """Returns the words by which a commit is signed, if the user has set that."""
+        return ["-S"] if self.run("config", "--type=bool", "--get", "commit.gpgSign")[1].strip() == b"true" else []
+
+    def tree_with(self, tree, entries, folder):
+        """Stores a tree that has the files of another one and these entries (see `update`). Returns its name. An index is made
+        in `folder`."""
+        index = {"GIT_INDEX_FILE": os.path.join(folder, "tree")}
+        self.git("read-tree", tree, **index)
+        self.update(entries, **index)
+        return self.name_by("write-tree", **index)
+
+    def store_stash(self, entries, message, folder):
+        """Stores a stash: the last commit with these entries (see `update`). Returns its name."""
+        last, branch = self.last_commit(), self.run("symbolic-ref", "--quiet", "--short", "HEAD")[1]
+        branch = os.fsdecode(branch).strip() or "(no branch)"
+        subject = "%s: %s" % (branch, os.fsdecode(self.git("log", "-1", "--no-show-signature", "--format=%h %s", last)).strip())
+        words = "On %s: %s" % (branch, message) if message else "WIP on " + subject
+        tree = self.tree_with(last, entries, folder)
+        base = self.commit_tree(last + "^{tree}", [last], "index on " + subject)
+        stash = self.commit_tree(tree, [last, base], words)
+        self.git("stash", "store", "--quiet", "-m", words, stash)
+        return stash
+
+    def drop_stash(self, stash):
+        """Takes a stash back, if it is the last one."""
+        if self.commit_named("refs/stash") == stash:
+            self.git("stash", "drop", "--quiet")
 
     def untracked(self, paths, start):
         """Returns the paths that only the working tree has, and what git said of folders that it cannot read."""
@@ -98,7 +198,14 @@ class Repository(Git):
             mode = os.lstat(os.path.join(self.top, path)).st_mode
         except OSError as error:
             return error.strerror
-        return None if stat.S_ISREG(mode) or stat.S_ISLNK(mode) else "it is neither a file nor a link"
+        return None if stat.S_ISREG(mode) or stat.S_ISLNK(mode) else NO_FILE
+
+    def no_files(self, paths, start):
+        """Returns those of `paths`, seen from the folder `start`, that are neither files nor links nor folders. Git passes over
+        them."""
+        found = [os.path.join(start, path) for path in paths]
+        found = [os.path.relpath(path, self.top) for path in found if not os.path.isdir(path)]
+        return [path for path in found if self.reason_against(path) == NO_FILE]
 
     def indexed(self):
         """Returns the paths in the index."""

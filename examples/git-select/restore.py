@@ -1,9 +1,10 @@
-"""What git-select does with a choice in the working tree: takes it back."""
+"""What git-select does with a choice in the working tree: takes it back, or stashes it."""
 from choosing.change import ABSENT, LINK, Side
 from choosing.files import Files
-from choosing.front_end import keep_lost
+from choosing.front_end import choices_in, keep_lost
+from choosing.signals import signals_wait
 from choosing.waiting import counted, waits
-from choosing.words import Stop, shown
+from choosing.words import HalfDone, Stop, shown
 from sides import changed_in_tree
 from ways import Way
 
@@ -21,29 +22,36 @@ def wanted_of(choice, now, made):
 
 class Restore(Way):
     done, nothing, no_change = "restored", "nothing was restored", "there is nothing to restore"
-    words, task = ("git-select", "--restore"), "mark what is to be taken back"
+    words, does = ("git-select", "--restore"), "takes back what is marked"
     side, now, goal = "unselected", "new", "old"
 
     def read(self, scratch):
-        return changed_in_tree(self.repository, scratch, self.paths, self.start, has_untracked=False)
+        return changed_in_tree(self.repository, scratch, self.options.paths, self.start, has_untracked=False)
 
     def prepare(self, choices, accepted):
         self.files = Files(self.repository.top)
         self.files_now = {choice.change.path: self.files.read(choice.change.path)[0] for choice in choices}
 
-    def write(self, choices, scratch, accepted):
-        """Writes files of the working tree. What they have now is stored in git first, and named."""
-        now = self.files_now
-        with waits("preparing %s .." % counted(len(choices), "file")):
-            wanted = self.wanted(choices, now, scratch)
-        entries = [(path, now[path], wanted[path]) for path in now]
-        with self.locked_index():
-            names = keep_lost(self.repository, entries)
-            self.files.change(entries)
-        reports = ["%s: %s" % (self.done, shown(path)) for path in now]
+    def write(self, choices, scratch, accepted, lock):
+        """Writes files of the working tree, under the `lock` of the index. What they have now is stored in git first, and
+        named."""
+        entries = self.entries(choices, scratch)
+        names = keep_lost(self.repository, entries)
+        self.files.change(entries)
+        reports = self.reports(entries)
         if names:
             reports.append("to have a file as it was before: git cat-file blob %s > FILE" % names[0])
         return reports, False
+
+    def reports(self, entries):
+        return ["%s: %s" % (self.done, shown(path)) for path, _, _ in entries]
+
+    def entries(self, choices, scratch):
+        """Returns the paths of the working tree, each with the mode and bytes that are there and those that are to be."""
+        now = self.files_now
+        with signals_wait(False), waits("preparing %s .." % counted(len(choices), "file")):
+            wanted = self.wanted(choices, now, scratch)
+        return [(path, now[path], wanted[path]) for path in now]
 
     def wanted(self, choices, now, scratch):
         """Returns by path the mode and the bytes that the working tree is to have."""
@@ -61,4 +69,28 @@ class Restore(Way):
         for path in (change.path for change in parts):
             if made.read(path)[0][1] != now[path][1]:
                 reason = "a filter or line ends would change its other lines: take back all of it, or nothing"
-                raise Stop("%s is not restored: %s" % (shown(path), reason))
+                raise Stop("%s is not %s: %s" % (shown(path), self.done, reason))
+
+
+class Stash(Restore):
+    done, nothing, no_change = "stashed", "nothing was stashed", "there is nothing to stash"
+    words, does = ("git-select", "--stash"), "stashes what is marked"
+
+    def check(self):
+        self.repository.check_no_conflict()
+        self.repository.check_identity()
+        self.repository.check_last_commit()
+
+    def write(self, choices, scratch, accepted, lock):
+        """Takes files of the working tree back, as Restore does, once git has what is marked as a stash."""
+        entries = self.entries(choices, scratch)
+        stashed = self.stored(choices_in(accepted, self.changes, "selected", "old"), "old")
+        stash = self.repository.store_stash(stashed, self.options.message, self.folder)
+        try:
+            self.files.change(entries)
+        except HalfDone:
+            raise
+        except BaseException:
+            self.repository.drop_stash(stash)
+            raise
+        return [*self.reports(entries), "git stash pop has it back"], False

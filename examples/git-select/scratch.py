@@ -5,10 +5,13 @@ import re
 import shutil
 import tempfile
 
-from choosing.change import Side
+from choosing.change import ABSENT, Side
 from choosing.git import AS_ONE_FILE, FOR_NOW, Git, reason_in, split_by_zeros
 from choosing.words import Stop
 from repository import index_lines
+
+# of how many files that come and go git compares each with each, to find those that have another path
+MOST_COMPARED = 200
 
 
 class Scratch(Git):
@@ -20,6 +23,7 @@ class Scratch(Git):
     taking = AS_ONE_FILE
 
     def __init__(self, repository, folder):
+        self.folder = folder
         index, objects = os.path.join(folder, "index"), os.path.join(folder, "objects")
         os.makedirs(objects)
         if os.path.exists(repository.index):
@@ -57,6 +61,23 @@ class Scratch(Git):
         wanted = set(paths)
         lines = (line.partition("\t") for line in split_by_zeros(self.git("ls-files", "-z", "--stage")))
         return {path: Side(*head.split()[:2]) for head, _, path in lines if path in wanted}
+
+    def renames(self, sides):
+        """Returns the old paths of files that have another one by now, by the new ones, as git finds them. `sides` has the sides of
+        each file that differs, by path. None is found if the user has set that."""
+        gone, come = ([(path, pair[side]) for path, pair in sides.items() if pair[1 - side].mode == ABSENT] for side in (0, 1))
+        if not gone or not come or self.run("config", "--type=bool", "--get", "diff.renames")[1].strip() == b"false":
+            return {}
+        words = "-r", "-z", "-M", "-l%d" % MOST_COMPARED, "--diff-filter=R"
+        parts = split_by_zeros(self.git("diff-tree", *words, self.tree(gone), self.tree(come)))
+        return dict(zip(parts[2::3], parts[1::3]))
+
+    def tree(self, entries):
+        """Stores a tree of paths with their sides. Returns its name."""
+        with tempfile.TemporaryDirectory(dir=self.folder) as folder:
+            index = {"GIT_INDEX_FILE": os.path.join(folder, "index")}
+            self.git("update-index", "-z", "--index-info", given=index_lines(entries), **index)
+            return self.git("write-tree", **index).decode().strip()
 
     def contents(self, names):
         """Returns the bytes of objects, by name."""

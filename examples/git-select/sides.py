@@ -1,6 +1,7 @@
 """Which files differ, each with its two sides: between the index and the working tree, or the last commit and the index."""
-from choosing.change import ABSENT, SUBMODULE, Change, Side
+from choosing.change import ABSENT, SUBMODULE, Change, Renamed, Side
 from choosing.words import shown
+from repository import NO_FILE
 
 
 def reason_in_index(modes, letter):
@@ -28,6 +29,7 @@ def candidates(repository, paths, start, has_untracked):
             found[path] = Side(ABSENT, None), False
             if path.endswith("/"):
                 left_out[path] = "it is a repository of its own"
+    left_out.update((path, NO_FILE) for path in repository.no_files(paths, start))
     return found, left_out, said
 
 
@@ -51,8 +53,18 @@ def changed_in_tree(repository, scratch, paths, start, has_untracked=True):
 
 def changed_in_index(repository, paths, start):
     """Returns the same of each file that differs between the last commit and the index."""
+    return without_left_out(repository.staged(paths, start))
+
+
+def changed_between(repository, old, new, paths, start):
+    """Returns the same of each file that differs between two commits."""
+    return without_left_out(repository.between(old, new, paths, start))
+
+
+def without_left_out(differing):
+    """Returns the sides of files that differ, by path, and notes on what is left out. `differing` has what git says of them."""
     sides, left_out = {}, {}
-    for path, old, new, letter in repository.staged(paths, start):
+    for path, old, new, letter in differing:
         reason = reason_in_index((old.mode, new.mode), letter)
         if reason:
             left_out[path] = reason
@@ -65,5 +77,12 @@ def notes_on(left_out):
 
 
 def read_changes(scratch, sides):
+    """Returns what is changed, by the sides of each file. A file that has another path by now is one change."""
     contents = scratch.contents(side.name for pair in sides.values() for side in pair if side.name)
-    return [Change(path, pair, contents) for path, pair in sides.items()]
+    changes = {path: Change(path, pair, contents) for path, pair in sides.items()}
+    for new, old in scratch.renames(sides).items():
+        renamed = Renamed(changes[old], changes[new], contents)
+        if renamed.can_be_shown():
+            changes[new] = renamed
+            del changes[old]
+    return list(changes.values())

@@ -1,6 +1,6 @@
 /* Asks a user for lines of a state, and prints the two sides of each file: the tool of docs/TUTORIAL.md. No proof covers this file.
  *
- * It is the least front end. `terminal.c` beside it also follows new sizes, stops and signals, and starts an editor. */
+ * It is the least front end. `run.c` beside it also follows new sizes, stops and signals, and starts an editor. */
 #define _GNU_SOURCE
 #include "scm.h"
 
@@ -73,7 +73,7 @@ static void ask_in_terminal(scm_session *session) {
     tcsetattr(STDIN_FILENO, TCSAFLUSH, &raw);
     fputs("\x1b[?1049h\x1b[?25l\x1b[?2004h", stderr); /* the second screen, no cursor, and marks around what is pasted */
     ask(session);
-    fputs("\x1b[0m\x1b[?2004l\x1b[?25h\x1b[?1049l", stderr);
+    fputs("\x1b[?7h\x1b[0m\x1b[?2004l\x1b[?25h\x1b[?1049l", stderr);
     tcsetattr(STDIN_FILENO, TCSAFLUSH, &before);
 }
 

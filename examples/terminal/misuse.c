@@ -251,7 +251,8 @@ static void paint_rows(void) {
     assert(paint(again, length) == length && memcmp(all, again, length) == 0);
     done(press("j"), SCM_WAITING);
     size_t changed = paint(again, sizeof again);
-    assert(changed > EMPTY_UPDATE && changed < length);
+    again[changed] = 0;
+    assert(changed > EMPTY_UPDATE && !strstr(again, "\x1b[1;1H") && strstr(again, "\x1b[4;1H")); /* the menus stay, the file is selected */
     done(scm_resize(&session, WIDTH, HEIGHT + 1), SCM_WAITING);
     assert(paint(again, sizeof again) > length);
 #ifdef __GLIBC__

@@ -53,9 +53,14 @@ static text read_all(FILE *in) {
 /* Returns what `reader` (scm_paint or scm_text) writes into `room` bytes, and into more where that is not enough. */
 static text read_session(uint32_t (*reader)(scm_session *, char *, size_t, size_t *), size_t room) {
     text read = {more_room(NULL, room + 1), 0};
-    while (reader(&session, read.bytes, room, &read.length) == SCM_DONE && read.length > room) {
+    uint32_t code = reader(&session, read.bytes, room, &read.length);
+    while (code == SCM_DONE && read.length > room) {
         room = read.length;
         read.bytes = more_room(read.bytes, room + 1);
+        code = reader(&session, read.bytes, room, &read.length);
+    }
+    if (code == SCM_NO_MEMORY) {
+        stop("there is no memory");
     }
     return read;
 }

@@ -73,18 +73,27 @@ static void print_key(const char *word, const char *back) {
     printf(" | %s %.0f", word, least);
 }
 
-/* Hands in words in turn, and paints after each as `kind` says. */
-static void paint_keys(int count, const char *kind, int words, char **word) {
+/* Paints, and returns how many bytes that are. */
+static size_t paint(void) {
     static char out[1 << 17];
     size_t length = 0;
-    scm_paint(&session, out, sizeof out, &length);
+    if (scm_paint(&session, out, sizeof out, &length) != SCM_DONE || length > sizeof out) {
+        fputs("timing: nothing is painted\n", stderr);
+        exit(1);
+    }
+    return length;
+}
+
+/* Hands in words in turn, and paints after each as `kind` says. */
+static void paint_keys(int count, const char *kind, int words, char **word) {
+    size_t length = paint();
     for (int i = 0; i < count; i++) {
         time_of_key(word[i % words]);
         if (strcmp(kind, "all") == 0) {
             scm_repaint(&session);
         }
         if (strcmp(kind, "none") != 0) {
-            scm_paint(&session, out, sizeof out, &length);
+            length = paint();
         }
     }
     printf("%zu bytes\n", length);

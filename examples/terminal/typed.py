@@ -6,7 +6,7 @@ KEYS = {"space": " ", "enter": "\r", "esc": "\x1b", "up": "\x1b[A", "down": "\x1
         "view": "\t", "none": "z"}
 FRAME = re.compile(rb"\x1b\[\?2026h(.*?)\x1b\[\?2026l", re.S)
 # what the program sends where it takes the terminal, and where it gives it back
-TAKE, GIVE_BACK = rb"\x1b\[22;2t.*?\x1b\[\?2004h", rb"\x1b\[0m\x1b\[\?2004l.*?\x1b\[23;2t"
+TAKE, GIVE_BACK = rb"(?:\x1b\[22;2t)?\x1b\]2;.*?\x1b\[\?2004h", rb"\x1b\[\?2026l\x1b\[\?7h\x1b\[0m\x1b\[\?2004l.*?\x1b\[23;2t"
 # what a frame is made of: the cursor goes to a place, a style is set, and symbols without a control character
 COMMAND = re.compile(rb"\x1b\[([0-9]+);([0-9]+)H|\x1b\[([0-9;]*)m|((?:[^\x00-\x1f\x7f\xc2]|\xc2[^\x80-\x9f])+)|\x1b\[\?7[hl]")
 SECONDS = 60
@@ -145,10 +145,18 @@ class Typed:
     def resize(self, width, height):
         """Gives the terminal another size, and waits until the program draws no more."""
         count = len(self.frames) + 1
-        self.height = height
-        fcntl.ioctl(self.terminal, termios.TIOCSWINSZ, struct.pack("HHHH", height, width, 0, 0))
+        self.set_size(width, height)
         self.wait_for_frames(count)
         self.rest()
+
+    def set_size(self, width, height):
+        """Gives the terminal another size."""
+        self.height = height
+        fcntl.ioctl(self.terminal, termios.TIOCSWINSZ, struct.pack("HHHH", height, width, 0, 0))
+
+    def rows_drawn(self, begun):
+        """The rows to which the frames from `begun` on move the cursor."""
+        return {int(row) - 1 for frame in self.frames[begun:] for row in re.findall(rb"\x1b\[([0-9]+);[0-9]+H", frame)}
 
     def rows(self):
         """The symbols of each row with their styles, as the frames left them."""

@@ -1,6 +1,6 @@
 """Random choices among the changes of each case of changed.py, and of commits of this repository.
 
-scm-diff-editor has a commit's parent and the commit itself as LEFT and RIGHT. git-select has the parent's files in the last
+gabrosty-diff-editor has a commit's parent and the commit itself as LEFT and RIGHT. git-select has the parent's files in the last
 commit and the commit's own in the working tree. What each one writes is what a splitter makes of the marks, in here."""
 import json
 import os
@@ -9,6 +9,7 @@ import subprocess
 
 import changed
 import trying
+from choosing.change import path_of
 from choosing.words import shown
 from options import content_of, edit_folders
 from places import Repository
@@ -98,30 +99,40 @@ def with_other_marks(part):
     return [with_other_marks(it) for it in part] if isinstance(part, list) else part
 
 
-def marked_at_random(place, command, seed, folder=None):
-    """Runs a command with marks that `seed` chooses. Returns the files that it showed, with their marks, by path."""
+def marked_at_random(place, command, seed, folder=None, refused=None):
+    """Runs a command with marks that `seed` chooses. Returns the files that it showed, with their marks, by path. If it refuses
+    them, it says `refused`."""
     marked, front = os.path.join(place.top, "marked"), os.path.join(place.prefix, "bin", "scm-select")
     status, said = place.type(command, ["c"], folder, SELECT=MARKER, FRONT=front, MARKED=marked, SEED=str(seed))
-    if status:
+    if status and not (refused and refused in said):
         raise RuntimeError(said)
     if not os.path.exists(marked):
         return {}
     with open(marked) as file:
-        files = {file["path"]: file for file in json.load(file)["files"]}
+        files = {path_of(file): file for file in json.load(file)["files"]}
     os.unlink(marked)
     return files
 
 
 def chosen(files, old, new):
     """Returns the table `old` with the marked changes of `files`, which lead to `new`. In `files` names are as they are shown."""
-    made = {path: split(files[shown(path)], old.get(path), new.get(path)) for path in {**old, **new} if shown(path) in files}
+    made, paths = {}, {shown(path): path for path in {**old, **new}}
+    for name, file in files.items():
+        path, before = paths[name], paths.get(file["old_path"])
+        if before is None:
+            made[path] = split(file, old.get(path), new.get(path))
+        else:
+            # as a new file, whose old side is the file with the old path
+            is_new = any(part["is_checked"] for word, part in parts_of(file) if word == "FileMode")
+            made[path if is_new else before] = split(file, old[before], new[path])
+            made[before if is_new else path] = None
     return {path: what for path, what in {**old, **made}.items() if what is not None}
 
 
 def some_in_folders(place, seed, old, new):
     """A random choice of what LEFT and RIGHT differ in is written."""
     left, right = place.folder("left", old), place.folder("right", new)
-    files = marked_at_random(place, ["scm-diff-editor", left, right], seed)
+    files = marked_at_random(place, ["gabrosty-diff-editor", left, right], seed)
     return changed.read(right) == chosen(files, old, new) and changed.read(left) == old and place.has_left_nothing()
 
 
@@ -146,7 +157,34 @@ def some_in_a_repository(place, seed, old, new):
     return is_staged and is_back and is_out and repository.is_sound()
 
 
-RANDOM = some_in_folders, some_in_a_repository
+def some_in_two_commits(place, seed, old, new):
+    """A random choice of what the last commit changes is in the first of two commits, and the second has all. If all is chosen,
+    that is refused, and if nothing is, nothing is done."""
+    repository = Repository(place, old, new)
+    repository.commit()
+    words, refused = ["git", "select", "--split"], "all of it is marked"
+    marked = marked_at_random(place, words, seed, repository.folder, refused)
+    place.forget_marks()
+    wanted, count = chosen(marked, old, new), int(repository.git("rev-list", "--count", "HEAD"))
+    is_split = count == 3 and repository.files_of("HEAD^") == wanted
+    is_right = is_split if wanted not in (old, new) else count == 2
+    is_left = repository.files_of("HEAD") == repository.index_files() == repository.files() == new
+    return is_right and is_left and repository.is_sound()
+
+
+def some_in_a_stash(place, seed, old, new):
+    """A random choice of what the working tree has changed is taken back, and a stash has it."""
+    repository = Repository(place, old, new)
+    marked = marked_at_random(place, ["git", "select", "--stash"], seed, repository.folder)
+    untracked = {path: what for path, what in new.items() if path not in old}
+    is_taken = repository.files() == {**untracked, **chosen(with_other_marks(marked), old, new)}
+    repository.git("checkout", "--quiet", ".", check=bool(old))
+    if repository.git("stash", "list"):
+        repository.git("stash", "pop", "--quiet")
+    return is_taken and repository.files() == {**untracked, **chosen(marked, old, new)} and repository.is_sound()
+
+
+RANDOM = some_in_folders, some_in_a_repository, some_in_two_commits, some_in_a_stash
 
 
 def tries():

@@ -1,4 +1,4 @@
-"""git-select and scm-diff-editor on a disk that is full, for tools/try-tools."""
+"""git-select and gabrosty-diff-editor on a disk that is full, for tools/try-tools."""
 import contextlib
 import os
 import random
@@ -19,10 +19,10 @@ def text_of(seed):
 
 
 @contextlib.contextmanager
-def disk(place):
-    """Gives a disk of SIZE bytes in the folder `disk`, or None if none can be made here."""
+def disk(place, size=SIZE):
+    """Gives a disk of `size` bytes in the folder `disk`, or None if none can be made here."""
     folder = place.folder("disk")
-    words = ["mount", "-t", "tmpfs", "-o", "size=%d" % SIZE, "tmpfs", folder]
+    words = ["mount", "-t", "tmpfs", "-o", "size=%d" % size, "tmpfs", folder]
     try:
         is_there = subprocess.run(words, stderr=subprocess.DEVNULL).returncode == 0
     except FileNotFoundError:
@@ -71,7 +71,7 @@ def is_left_by_the_diff_editor(place, folder):
     left, new = place.folder("left", {"a": text_of(1), "b": text_of(2)}), {"a": b"1\n", "b": b"2\n"}
     right = place.folder(os.path.join("disk", "right"), new)
     fill(folder, FILE * 3 // 2)
-    status, said = place.type(["scm-diff-editor", left, right], ["c"])
+    status, said = place.type(["gabrosty-diff-editor", left, right], ["c"])
     os.unlink(os.path.join(folder, "fill"))
     is_named = status == 1 and "b cannot be written: No space left on device: nothing was written\n" in said
     return is_named and changed.read(right) == new and sorted(os.listdir(right)) == ["a", "b"]
@@ -79,7 +79,9 @@ def is_left_by_the_diff_editor(place, folder):
 
 def is_told_half_done(place, folder):
     """Whether a commit is named whose index has no room, since a hook behind it fills the disk."""
-    repository = Repository(place, {"a": b"1\n"}, {"a": b"2\n"}, os.path.join("disk", "repository"))
+    # the index is larger than what the lock has room for already
+    rest = {"rest/%d" % number: b"" for number in range(200)}
+    repository = Repository(place, {"a": b"1\n", **rest}, {"a": b"2\n", **rest}, os.path.join("disk", "repository"))
     write_hook(repository, "post-commit", "cat /dev/zero > '%s/fill'\n" % folder)
     status, said = repository.select("--commit", "-m", "x", keys=["a", "c"])
     os.unlink(os.path.join(folder, "fill"))

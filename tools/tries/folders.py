@@ -1,4 +1,4 @@
-"""scm-diff-editor on folders of their own kinds, for tools/try-tools."""
+"""gabrosty-diff-editor on folders of their own kinds, for tools/try-tools."""
 import os
 
 import changed
@@ -13,9 +13,9 @@ def links_out_of_the_folder(place):
     outside = place.folder("outside", {"b": b"outside\n"})
     left, right = place.folder("left", {"a/b": b"1\n"}), place.folder("right", {"a": ("link", outside)})
     # the file a/b again, but the link stays
-    status, said = place.type(["scm-diff-editor", left, right], ["space", "c"])
+    status, said = place.type(["gabrosty-diff-editor", left, right], ["space", "c"])
     is_named = status == 1 and "a/b" in said and changed.read(right) == {"a": ("link", outside)}
-    is_back = place.type(["scm-diff-editor", left, right], ["c"])[0] == 0 and changed.read(right) == {"a/b": b"1\n"}
+    is_back = place.type(["gabrosty-diff-editor", left, right], ["c"])[0] == 0 and changed.read(right) == {"a/b": b"1\n"}
     repository = Repository(place, {"a/b": b"1\n"}, {"a": ("link", outside)})
     is_refused = is_refused_restore(repository, {"a": ("link", outside)})
     return is_named and is_back and is_refused and changed.read(outside) == {"b": b"outside\n"}
@@ -24,7 +24,7 @@ def links_out_of_the_folder(place):
 def by_git_difftool(place):
     """git difftool --dir-diff: what is not chosen is taken back in the working tree, and git keeps what was there."""
     repository = Repository(place, {"a": b"1\n2\n3\n", "b": b"1\n"}, {"a": b"one\n2\nthree\n", "b": b"2\n"})
-    repository.git("config", "difftool.select.cmd", 'scm-diff-editor "$LOCAL" "$REMOTE"')
+    repository.git("config", "difftool.select.cmd", 'gabrosty-diff-editor "$LOCAL" "$REMOTE"')
     command = ["git", "difftool", "--dir-diff", "--tool=select"]
     # the first section of a, and b
     status, said = place.type(command, ["shift-F", "j", "space", *["j"] * 6, "space", "c"], repository.folder)
@@ -38,7 +38,7 @@ def as_jj_calls_it(place):
     left, right = place.folder("left", {"a": b"1\n"}), place.folder("right", {"a": b"2\n", "JJ-INSTRUCTIONS": b"x\n"})
     os.chmod(os.path.join(left, "a"), 0o444)
     os.chmod(left, 0o555)
-    status, _ = place.type(["scm-diff-editor", left, right], ["c"])
+    status, _ = place.type(["gabrosty-diff-editor", left, right], ["c"])
     os.chmod(left, 0o755)
     return status == 0 and changed.read(right) == {"a": b"1\n", "JJ-INSTRUCTIONS": b"x\n"}
 
@@ -46,10 +46,10 @@ def as_jj_calls_it(place):
 def what_is_no_folder(place):
     """What is no folder, wrong arguments, and nothing to choose."""
     left = place.folder("left", {"a": b"1\n"})
-    lost = place.call("scm-diff-editor", left, "/nowhere")
-    few, same = place.call("scm-diff-editor", left), place.call("scm-diff-editor", left, left)
-    is_named = lost == (1, "scm-diff-editor: /nowhere is no folder\n") and few[0] == 2
-    return is_named and same == (0, "scm-diff-editor: there is nothing to choose\n") and place.has_left_nothing()
+    lost = place.call("gabrosty-diff-editor", left, "/nowhere")
+    few, same = place.call("gabrosty-diff-editor", left), place.call("gabrosty-diff-editor", left, left)
+    is_named = lost == (1, "gabrosty-diff-editor: /nowhere is no folder\n") and few[0] == 2
+    return is_named and same == (0, "gabrosty-diff-editor: there is nothing to choose\n") and place.has_left_nothing()
 
 
 def a_folder_that_becomes_a_link(place):
@@ -58,7 +58,7 @@ def a_folder_that_becomes_a_link(place):
     outside = place.folder("outside", {"b": b"2\n"})
     left, right, repository = place.folder("left", old), place.folder("right", new), Repository(place, old, new)
     ends = []
-    for folder, command in ((right, ["scm-diff-editor", left, right]), (repository.folder, ["git", "select", "--restore"])):
+    for folder, command in ((right, ["gabrosty-diff-editor", left, right]), (repository.folder, ["git", "select", "--restore"])):
         def change(folder=folder):
             changed.write(folder, {"a": ("link", outside)})
 
@@ -75,7 +75,7 @@ def what_is_no_file(place):
     """What is neither a file nor a link is named and left out, in LEFT and in RIGHT."""
     left, right = place.folder("left", {"a": b"1\n", "b": b"1\n"}), place.folder("right", {"a": b"2\n"})
     os.mkfifo(os.path.join(right, "b"))
-    status, said = place.type(["scm-diff-editor", left, right], ["c"])
+    status, said = place.type(["gabrosty-diff-editor", left, right], ["c"])
     is_named = status == 0 and "b is left out: it is neither a file nor a link\n" in said
     is_there = os.path.exists(os.path.join(right, "b"))
     os.unlink(os.path.join(right, "b"))
@@ -86,7 +86,7 @@ def a_working_tree(place):
     """What git and jj keep for themselves in RIGHT is neither shown nor removed."""
     repository = Repository(place, {"a": b"1\n"}, {"a": b"2\n", ".jj/x": b"1\n", "b/.git": b"1\n"})
     left = place.folder("left", {"a": b"1\n"})
-    status, _ = place.type(["scm-diff-editor", left, repository.folder], ["c"])
+    status, _ = place.type(["gabrosty-diff-editor", left, repository.folder], ["c"])
     is_left = all(os.path.exists(os.path.join(repository.folder, path)) for path in (".jj/x", "b/.git"))
     return status == 0 and is_left and repository.files()["a"] == b"1\n" and repository.is_sound()
 
@@ -97,7 +97,7 @@ def permissions(place):
     for before, old, new, after in ((0o600, b"1\n", b"2\n", 0o600), (0o640, ("run", b"1\n"), b"1\n", 0o750)):
         left, right = place.folder("left", {"a": old}), place.folder("right", {"a": new})
         os.chmod(os.path.join(right, "a"), before)
-        status, _ = place.type(["scm-diff-editor", left, right], ["c"])
+        status, _ = place.type(["gabrosty-diff-editor", left, right], ["c"])
         ends.append((status, os.stat(os.path.join(right, "a")).st_mode & 0o777) == (0, after))
     return all(ends)
 
@@ -110,7 +110,7 @@ def what_cannot_be_written(place):
     old, new = {"a": b"1\n", "b/c": b"1\n", "d": b"1\n"}, {"a": b"2\n", "b/c": b"2\n", "d": b"2\n"}
     left, right = place.folder("left", old), place.folder("right", new)
     os.chmod(os.path.join(right, "b"), 0o555)
-    status, said = place.type([*before, "scm-diff-editor", left, right], ["c"])
+    status, said = place.type([*before, "gabrosty-diff-editor", left, right], ["c"])
     os.chmod(os.path.join(right, "b"), 0o755)
     is_named = status == 1 and "b/c cannot be written: " in said and ": nothing was written" in said
     return is_named and changed.read(right) == new and sorted(os.listdir(right)) == ["a", "b", "d"]

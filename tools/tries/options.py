@@ -1,4 +1,4 @@
-"""git-select with each of its options, and scm-diff-editor, on every case of changed.py and on cases of their own."""
+"""git-select with each of its options, and gabrosty-diff-editor, on every case of changed.py and on cases of their own."""
 import os
 
 import changed
@@ -77,7 +77,7 @@ def edit_folders(place, old, new):
     ends = []
     for keys, status, wanted in ((["a", "c"], 0, new), (["c"], 0, old), (["q"], 1, new)):
         left, right = place.folder("left", old), place.folder("right", new)
-        found = place.type(["scm-diff-editor", left, right], keys)[0], changed.read(right), changed.read(left)
+        found = place.type(["gabrosty-diff-editor", left, right], keys)[0], changed.read(right), changed.read(left)
         ends.append(found == (status, wanted, old))
     return all(ends) and place.has_left_nothing() and sorted(os.listdir(place.top)) == ["left", "right", "temporary"]
 

@@ -1,5 +1,6 @@
 """Temporary folders and repositories, in which the installed programs are typed into."""
 import os
+import re
 import shutil
 import subprocess
 import sys
@@ -37,7 +38,8 @@ class Place:
             if before_last and number == len(words) - 1:
                 before_last()
             typed.press(word)
-        return typed.end(), typed.said()
+        # without the lines that said what was waited for, and were erased
+        return typed.end(), re.sub(r"[^\n]*\r\x1b\[K", "", typed.said())
 
     def call(self, *command, folder=None, given=b""):
         """Returns the status and all that a command wrote, which is typed into by nobody."""
@@ -69,11 +71,18 @@ class Repository:
         self.commit()
         changed.write(self.folder, new)
 
-    def git(self, *words, given=b"", **more):
+    @classmethod
+    def at(cls, place, folder):
+        """Returns the repository that is in `folder` already."""
+        found = cls.__new__(cls)
+        found.place, found.folder = place, folder
+        return found
+
+    def git(self, *words, given=b"", check=True, **more):
         environment = {**os.environ, **self.place.environment, **more}
         how = {"capture_output": True, "cwd": self.folder, "env": environment}
         done = subprocess.run(["git", *words], input=given, **how)
-        if done.returncode and words[0] != "merge":
+        if check and done.returncode and words[0] != "merge":
             raise RuntimeError("git %s: %s" % (" ".join(words), os.fsdecode(done.stderr)))
         return os.fsdecode(done.stdout)
 
@@ -96,11 +105,17 @@ class Repository:
             self.git(*words, **copy)
         return self.git("ls-files", "-z", "--stage", **copy)
 
-    def index_files(self):
+    def index_files(self, **more):
         """Returns the table of the files of the index."""
         folder = self.place.folder("index")
-        self.git("checkout-index", "--all", "--prefix=%s/" % folder)
+        self.git("checkout-index", "--all", "--prefix=%s/" % folder, **more)
         return changed.read(folder)
+
+    def files_of(self, commit):
+        """Returns the table of the files of a commit."""
+        copy = {"GIT_INDEX_FILE": os.path.join(self.place.top, "copy")}
+        self.git("read-tree", commit, **copy)
+        return self.index_files(**copy)
 
     def files(self):
         return changed.read(self.folder)

@@ -27,7 +27,7 @@ def some_lines(place):
     is_committed = repository.select("--commit", "-m", "Some", keys=keys)[0] == 0
     is_committed = is_committed and repository.git("show", "HEAD:a.txt").encode() == chosen and repository.files() == new
     left, right = place.folder("left", old), place.folder("right", new)
-    is_written = place.type(["scm-diff-editor", left, right], keys)[0] == 0 and changed.read(right) == {"a.txt": chosen}
+    is_written = place.type(["gabrosty-diff-editor", left, right], keys)[0] == 0 and changed.read(right) == {"a.txt": chosen}
     return is_staged and is_back and is_out and is_taken_back and is_committed and is_written and repository.is_sound()
 
 
@@ -62,7 +62,7 @@ def lines_of_new_and_gone_files(place):
     repository.git("add", "--all")
     # all unfolded: the file, its mode, its lines
     keys = ["shift-F", *["j"] * 3, "space", *["j"] * 5, "space", "c"]
-    status, _ = repository.select("--unstage", keys=keys)
+    status, _ = repository.select("--unstage", "gone", "new", keys=keys)
     is_out = status == 0 and repository.git("show", ":gone") == "1\n" and repository.git("show", ":new") == "4\n"
     repository.git("reset", "--quiet")
     status, _ = repository.select("--restore", keys=["shift-F", *["j"] * 3, "space", "c"])
@@ -140,7 +140,7 @@ def a_locked_index(place):
 
 
 def in_conflict(place):
-    """A file in conflict is left out by its name with each option, and others are used. A commit is refused."""
+    """A file in conflict is left out by its name with each option, and others are used. A commit is refused before the choice."""
     repository = Repository(place, {"a": b"1\n", "b": b"1\n"}, {"a": b"2\n", "b": b"1\n"})
     repository.git("checkout", "--quiet", "-b", "other")
     repository.commit()
@@ -156,10 +156,9 @@ def in_conflict(place):
         ends.append((status, said.count("a is left out: it is in conflict\n")) == (0, 1))
         if words != ["--unstage"]:
             continue
-        status, said = repository.select("--commit", "-m", "x", keys=["a", "c"])
-        is_out = not repository.git("diff", "--cached", "--name-only", "--diff-filter=M")
-        ends.append(status == 1 and "nothing was committed" in said and is_out)
-    place.forget_marks()
+        for words in ["--commit", "-m", "x"], ["--amend"], ["--fixup", "HEAD"], ["--stash"]:
+            said = place.call("git", "select", *words, folder=repository.folder)
+            ends.append(said == (1, "git-select: a is in conflict: resolve that first\n"))
     is_left = len(repository.git("ls-files", "--unmerged").splitlines()) == 3
     return all(ends) and is_left and repository.files() == {"a": conflict, "b": b"1\n"} and repository.is_sound()
 
@@ -296,7 +295,7 @@ def a_file_that_changed(place):
     change = {"before_last": lambda: changed.write(repository.folder, wanted)}
     status, said = repository.select("--restore", keys=["a", "c"], **change)
     is_left = status == 1 and "b changed meanwhile: nothing was restored" in said and repository.files() == wanted
-    status, said = place.type(["scm-diff-editor", left, right], ["c"], before_last=lambda: changed.write(right, wanted))
+    status, said = place.type(["gabrosty-diff-editor", left, right], ["c"], before_last=lambda: changed.write(right, wanted))
     is_stopped = status == 1 and "b changed meanwhile: nothing was written" in said and changed.read(right) == wanted
     place.forget_marks()
     return is_left and is_stopped and repository.is_sound()
@@ -311,7 +310,7 @@ def all_or_nothing(place):
     is_left = is_left and sorted(os.listdir(repository.folder)) == [".git", "b", "d"]
     left, right = place.folder("left", old), place.folder("right", new)
     # the new file b, without the removal of b/c: the files are a/x, b, b/c and d
-    status, said = place.type(["scm-diff-editor", left, right], ["j", "space", "c"])
+    status, said = place.type(["gabrosty-diff-editor", left, right], ["j", "space", "c"])
     is_stopped = status == 1 and "b and b/c cannot both be there" in said and changed.read(right) == new
     place.forget_marks()
     return is_left and is_stopped and repository.is_sound()

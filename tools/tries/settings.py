@@ -24,6 +24,11 @@ def write_hook(repository, name, lines):
 
 
 def each_way(repository, path, top=None, **more):
+    """Returns whether each way to use a change of `path` does that alone. In the last commit the file has the lines 1 and 2."""
+    return four_ways(repository, path, top, **more) and other_ways(repository, path, top or repository.folder, **more)
+
+
+def four_ways(repository, path, top=None, **more):
     """Stages a change of `path`, takes it out of the index, takes it back in the working tree, makes it again, and commits it.
     Returns whether each step did that alone. In the last commit the file has the lines 1 and 2, and the second one changes."""
     old, new = b"1\n2\n", b"1\ntwo\n"
@@ -34,6 +39,24 @@ def each_way(repository, path, top=None, **more):
         found = repository.git("show", ":" + path).encode(), content_of(repository.files()[path])
         ends.append((status, *found) == (0, staged, there))
     return all(ends) and repository.git("show", "HEAD:" + path).encode() == new and repository.is_sound()
+
+
+def other_ways(repository, path, top, **more):
+    """Stashes another change, and has it back, adds it to the last commit, and makes two of that one. Returns whether each step did
+    that alone. In the last commit but one the file has the lines 1 and 2."""
+    old, new = repository.git("show", "HEAD:" + path).encode(), b"one\nthree\n"
+    changed.write_file(os.path.join(top, path), new)
+    is_stashed = repository.select("--stash", keys=["a", "c"], **more)[0] == 0 and content_of(repository.files()[path]) == old
+    where = {"GIT_DIR": os.path.join(repository.folder, ".git"), "GIT_WORK_TREE": top}
+    repository.git("stash", "pop", "--quiet", **where)
+    is_stashed = is_stashed and content_of(repository.files()[path]) == new
+    is_added = repository.select("--amend", "-m", "y", keys=["a", "c"], **more)[0] == 0
+    is_added = is_added and repository.git("show", "HEAD:" + path, ":" + path, "HEAD^:" + path).encode() == new + new + b"1\n2\n"
+    # the line 1 goes first
+    is_split = repository.select("--split", keys=["shift-F", "j", "j", "space", "c"], **more)[0] == 0
+    is_split = is_split and repository.git("show", "HEAD:" + path, "HEAD^:" + path, "HEAD^^:" + path).encode() == new + b"2\n1\n2\n"
+    is_done = is_stashed and is_added and is_split and content_of(repository.files()[path]) == new
+    return is_done and repository.is_sound()
 
 
 def in_a_folder_with_a_strange_name(place):
@@ -101,7 +124,8 @@ def modes_that_git_does_not_look_at(place):
     repository.git("config", "core.fileMode", "false")
     path = os.path.join(repository.folder, "a")
     os.chmod(path, 0o750)
-    is_done = each_way(repository, "a")
+    # git itself, which has a stash back, gives a file new permissions
+    is_done = four_ways(repository, "a")
     return is_done and stat.S_IMODE(os.stat(path).st_mode) == 0o750 and repository.files()["b"] == ("run", b"1\n")
 
 

@@ -69,6 +69,11 @@
  *     user's input is handled, and if an allocation fails in this, the call returns SCM_DONE and the session has ended. Its
  *     stage is SCM_ENDED and its text "out of memory". The changes of such a session are lost.
  *
+ *     A code is never a length. A call that returns a code writes a length to its own parameter (`written`, `count`,
+ *     `side->length`), and only if the code is SCM_DONE: ask for the code first, since any call that takes memory may fail.
+ *     scm_symbol and scm_words return a length, and cannot fail. With GCC and Clang, SCM_USE_CODE makes the compiler warn of a
+ *     caller who drops the code of a call that writes a length.
+ *
  * VERSION
  *     SCM_VERSION is that of this header, and scm_version returns that of the library. Within one major version a program
  *     that was built with an older header runs with a newer shared library. */
@@ -86,6 +91,13 @@ extern "C" {
 /* 10,000 times the major number, 100 times the minor number, and the patch number. */
 #define SCM_VERSION 10100
 #define SCM_VERSION_TEXT "1.1.0"
+
+/* The code of such a call has to be looked at. */
+#if defined(__GNUC__)
+#define SCM_USE_CODE __attribute__((warn_unused_result))
+#else
+#define SCM_USE_CODE
+#endif
 
 /* A session. All zeros if it is closed. Its members are the library's own. */
 typedef struct scm_session {
@@ -298,7 +310,7 @@ uint32_t scm_resize(scm_session *session, uint16_t width, uint16_t height);
  * Returns SCM_DONE, SCM_CLOSED, or SCM_NOT_NOW if the session waits for no event. If `written` is more than `length` after
  * SCM_DONE, no byte was written, and the next call writes every row: call again with a larger buffer. Or returns SCM_NO_MEMORY;
  * then the next call writes every row. */
-uint32_t scm_paint(scm_session *session, char *out, size_t length, size_t *written);
+SCM_USE_CODE uint32_t scm_paint(scm_session *session, char *out, size_t length, size_t *written);
 
 /* Makes the next `scm_paint` write every row. Call this if the terminal shows anything else than the last paint. After a
  * resize it is not needed.
@@ -327,7 +339,7 @@ size_t scm_symbol(scm_session *session, uint16_t row, uint16_t column, char *out
  * or `null`.
  *
  * Returns SCM_DONE, SCM_CLOSED or SCM_NO_MEMORY. */
-uint32_t scm_text(scm_session *session, char *out, size_t length, size_t *written);
+SCM_USE_CODE uint32_t scm_text(scm_session *session, char *out, size_t length, size_t *written);
 
 /* ---- The answer ----
  *
@@ -335,7 +347,7 @@ uint32_t scm_text(scm_session *session, char *out, size_t length, size_t *writte
  * return SCM_DONE, or the first of SCM_CLOSED, SCM_NOT_NOW (at any other stage) and SCM_NO_ITEM that applies. */
 
 /* Writes the number of files to `count`. */
-uint32_t scm_files(scm_session *session, size_t *count);
+SCM_USE_CODE uint32_t scm_files(scm_session *session, size_t *count);
 
 /* Writes a side of file `file`, counted from 0: the selected side if `selected`, or the other side. Its kind of contents, its
  * mode and the number of its bytes go to `side`, and its bytes to `out`, clipped to `length`. If `side->length` is more than
@@ -345,16 +357,17 @@ uint32_t scm_files(scm_session *session, size_t *count);
  * docs/RULES.md says it in full, under "The split of a file". If the mode is SCM_ABSENT, the file does not exist on that side.
  *
  * May also return SCM_NO_MEMORY. */
-uint32_t scm_side(scm_session *session, size_t file, bool selected, char *out, size_t length, scm_side_info *side);
+SCM_USE_CODE uint32_t scm_side(scm_session *session, size_t file, bool selected, char *out, size_t length,
+                               scm_side_info *side);
 
 /* Writes the mark of the line that `key` names to `mark`: SCM_UNCHECKED to SCM_CHECKED. If its line is SCM_NO_INDEX, that of
  * the section; if its section is SCM_NO_INDEX too, that of the file. The commit of the key does not matter. A context line has
  * no mark: SCM_NO_ITEM. */
-uint32_t scm_mark(scm_session *session, const scm_key *key, uint32_t *mark);
+SCM_USE_CODE uint32_t scm_mark(scm_session *session, const scm_key *key, uint32_t *mark);
 
 /* Writes the message of commit `commit`, counted from 0, to `out`, clipped to `length` bytes, and the whole length in bytes to
  * `written`. Returns SCM_NO_ITEM for a commit without a message too. */
-uint32_t scm_message(scm_session *session, size_t commit, char *out, size_t length, size_t *written);
+SCM_USE_CODE uint32_t scm_message(scm_session *session, size_t commit, char *out, size_t length, size_t *written);
 
 /* ---- The rest ---- */
 

@@ -1,6 +1,6 @@
 -- A session that is driven by bytes goes by calls, and what it presses are the decoded events.
 use Rattle.std.proofs.Common.{◌≡◌, ℕ, ◌+◌, ◌<◌, ◌≤◌, Bool, true, false, IsTrue, List, [], ◌∷◌, ◌++◌, map, length, drop, get_or, Option, sym, ap, ◌∙◌, refl, subst, append_assoc}
-use Rattle.std.specs.Prelude.{option_to_list, MatchBool}
+use Rattle.std.specs.Prelude.{option_to_list}
 use Rattle.std.proofs.lemmas.List.{append-nil, drop_all, drop_more}
 use Rattle.scm_errors.specs.declared.error.RecordError.{RecordError}
 use Rattle.scm_input.specs.KeyTable.{event_of}
@@ -9,14 +9,15 @@ use Rattle.scm_input.specs.declared.terminal.TerminalEvent.{TerminalEvent}
 use Rattle.scm_types.specs.declared.state.RecordState.{RecordState}
 use Rattle.scm_types.specs.Limits.{is_accepted_state}
 use Rattle.scm_terminal.specs.declared.decoder.Decoder.{Decoder}
-use Rattle.scm_terminal.specs.Decoders.{HasHeard}
-use Rattle.scm_terminal.specs.Streams.{stream_events, is_pasted_after, rest, idle_event, split_from}
+use Rattle.scm_terminal.specs.Decoders.{HasHeard, HasRead}
+use Rattle.scm_terminal.specs.Streams.{stream_events, split_from}
+use Rattle.scm_terminal.specs.Silences.{Start, at_first, events_from, after_silence}
 use Rattle.scm_record.specs.Session.{start}
 use Rattle.scm_record.specs.Live.{Live}
 use Rattle.scm_record.specs.LiveCalls.{Call, Press, Path, still, press, say, resize, EventLeads, EventFails, AreRuns}
 use Rattle.scm_record.specs.declared.live.Turn.{Turn}
 use Rattle.scm_record.specs.declared.live.Turn.TheVariants.{Waiting, Editing, Accepted}
-use Rattle.scm_record.specs.Typed.{presses, is_waiting, HandsIn, FailsAmong, BytesLead, Input, Bytes, Silence, Message, Screen, InputPath, at_end, by_bytes, by_silence, by_message, by_screen, InputsMean, no_more, of_bytes, of_pause, of_silence, of_message, of_screen, all_bytes}
+use Rattle.scm_record.specs.Typed.{presses, is_waiting, HandsIn, FailsAmong, BytesLead, Input, Bytes, Silence, Message, Screen, InputPath, at_end, by_bytes, by_silence, by_message, by_screen, InputsMean, no_more, of_bytes, of_silence, of_message, of_screen, all_bytes}
 use Rattle.scm_record.proofs.LiveLemmas.{sessions-are-runs}
 use Rattle.scm_record.proofs.PathLemmas.{path-after}
 
@@ -130,36 +131,19 @@ driven-runs given kind decoder inputs calls last accepted d = sessions-are-runs 
 
 -- ---- what it means
 
-front-none : {X : Type 0} (xs ys : List X) → [] ≡ xs ++ ys → xs ≡ []
-front-none [] ys e = refl
-front-none (x ∷ xs) ys e = cc
-
--- silence, within what is pasted or not
-means-silence : (is_pasted : Bool) (heard : List ℕ) (b : Bool) → is_pasted_after is_pasted heard ≡ b → (new : Decoder) (event : Option TerminalEvent)
-    → event ≡ idle_event b (rest heard) → MatchBool b (HasHeard new is_pasted heard) (HasHeard new false [])
-    → (handled dropped : List TerminalEvent) → option_to_list event ≡ handled ++ dropped → (inputs : List Input) (calls : List Call)
-    → ((q : Bool) (bytes : List ℕ) → HasHeard new q bytes → InputsMean q bytes inputs calls)
-    → InputsMean is_pasted heard (Silence ∷ inputs) (presses handled ++ calls)
-means-silence is_pasted heard true e new event f h handled dropped are inputs calls go =
-    let none : [] ≡ handled ++ dropped = sym (ap option_to_list f) ∙ are in
-    subst (λ (list : List TerminalEvent). InputsMean is_pasted heard (Silence ∷ inputs) (presses list ++ calls)) (sym (front-none handled dropped none))
-    (of_pause e (go is_pasted heard h))
-means-silence is_pasted heard false e new event f h handled dropped are inputs calls go =
-    of_silence handled dropped e (sym (ap option_to_list f) ∙ are) (go false [] h)
-
-pub driven-means : {decoder : Decoder} {turn last : Turn} {inputs : List Input} {calls : List Call} (is_pasted : Bool) (heard : List ℕ)
-    → HasHeard decoder is_pasted heard → InputPath decoder turn inputs calls last → InputsMean is_pasted heard inputs calls
-driven-means is_pasted heard h at_end = no_more
-driven-means is_pasted heard h (by_bytes {sent = sent} leads d) =
-    let hears = leads.hears.hears is_pasted heard h in
-    of_bytes leads.hands_in.handled leads.hands_in.dropped (hears.events ∙ ap (λ (list : List TerminalEvent). stream_events is_pasted heard ++ list) (sym leads.hears.is ∙ leads.hands_in.are))
-    (driven-means is_pasted (heard ++ sent) hears.heard d)
-driven-means is_pasted heard h (by_silence {new = new} {inputs = inputs} {calls = calls} leads d) =
-    let rests = leads.tells is_pasted heard h in
-    means-silence is_pasted heard (is_pasted_after is_pasted heard) refl new leads.event rests.event rests.heard leads.hands_in.handled leads.hands_in.dropped leads.hands_in.are inputs calls
-    (λ q bytes g. driven-means q bytes g d)
-driven-means is_pasted heard h (by_message g d) = of_message (driven-means is_pasted heard h d)
-driven-means is_pasted heard h (by_screen d) = of_screen (driven-means is_pasted heard h d)
+pub driven-means : {decoder : Decoder} {turn last : Turn} {inputs : List Input} {calls : List Call} (start : Start) (heard : List ℕ)
+    → HasRead decoder start heard → InputPath decoder turn inputs calls last → InputsMean start heard inputs calls
+driven-means start heard h at_end = no_more
+driven-means start heard h (by_bytes {sent = sent} leads d) =
+    let hears = leads.hears.hears start heard h in
+    of_bytes leads.hands_in.handled leads.hands_in.dropped (hears.events ∙ ap (λ (list : List TerminalEvent). events_from start heard ++ list) (sym leads.hears.is ∙ leads.hands_in.are))
+    (driven-means start (heard ++ sent) hears.heard d)
+driven-means start heard h (by_silence leads d) =
+    let rests = leads.tells start heard h in
+    of_silence leads.hands_in.handled leads.hands_in.dropped (sym (ap option_to_list rests.event) ∙ leads.hands_in.are)
+    (driven-means (after_silence start heard) [] rests.heard d)
+driven-means start heard h (by_message g d) = of_message (driven-means start heard h d)
+driven-means start heard h (by_screen d) = of_screen (driven-means start heard h d)
 
 -- ---- bytes alone, in chunks
 
@@ -186,48 +170,48 @@ none-waits (chunk ∷ chunks) d e =
     cc
 
 -- what chunks tell, and that it is handed in
-record Cut (is_pasted : Bool) (heard : List ℕ) (l : Live) (chunks : List (List ℕ)) (last : Turn) : Type 0 where
+record Cut (start : Start) (heard : List ℕ) (l : Live) (chunks : List (List ℕ)) (last : Turn) : Type 0 where
   events : List TerminalEvent
-  tells : stream_events is_pasted (heard ++ all_bytes chunks) ≡ stream_events is_pasted heard ++ events
+  tells : events_from start (heard ++ all_bytes chunks) ≡ events_from start heard ++ events
   hands_in : HandsIn l events last
 
-cut-last : (is_pasted : Bool) (heard chunk : List ℕ) (l : Live) (chunks : List (List ℕ)) (turn last : Turn) {old new : Decoder} (leads : BytesLead l old new chunk turn)
-    → HasHeard old is_pasted heard → (chunks ≡ []) × (turn ≡ last) → Cut is_pasted heard l (chunk ∷ chunks) last
-cut-last is_pasted heard chunk l chunks turn last leads h e =
-    let hears = leads.hears.hears is_pasted heard h in
+cut-last : (start : Start) (heard chunk : List ℕ) (l : Live) (chunks : List (List ℕ)) (turn last : Turn) {old new : Decoder} (leads : BytesLead l old new chunk turn)
+    → HasRead old start heard → (chunks ≡ []) × (turn ≡ last) → Cut start heard l (chunk ∷ chunks) last
+cut-last start heard chunk l chunks turn last leads h e =
+    let hears = leads.hears.hears start heard h in
     record {
       events = leads.events;
-      tells = ap (λ (list : List (List ℕ)). stream_events is_pasted (heard ++ (chunk ++ all_bytes list))) e.0
-          ∙ ap (λ (list : List ℕ). stream_events is_pasted (heard ++ list)) (append-nil chunk)
-          ∙ hears.events ∙ ap (λ (list : List TerminalEvent). stream_events is_pasted heard ++ list) (sym leads.hears.is);
+      tells = ap (λ (list : List (List ℕ)). events_from start (heard ++ (chunk ++ all_bytes list))) e.0
+          ∙ ap (λ (list : List ℕ). events_from start (heard ++ list)) (append-nil chunk)
+          ∙ hears.events ∙ ap (λ (list : List TerminalEvent). events_from start heard ++ list) (sym leads.hears.is);
       hands_in = subst (λ (t : Turn). HandsIn l leads.events t) e.1 leads.hands_in;
     }
 
-cut-more : (is_pasted : Bool) (heard chunk : List ℕ) (l next : Live) (chunks : List (List ℕ)) (last : Turn) {old new : Decoder} (leads : BytesLead l old new chunk (Waiting next))
-    → HasHeard old is_pasted heard → Cut is_pasted (heard ++ chunk) next chunks last → Cut is_pasted heard l (chunk ∷ chunks) last
-cut-more is_pasted heard chunk l next chunks last leads h k =
-    let hears = leads.hears.hears is_pasted heard h in
+cut-more : (start : Start) (heard chunk : List ℕ) (l next : Live) (chunks : List (List ℕ)) (last : Turn) {old new : Decoder} (leads : BytesLead l old new chunk (Waiting next))
+    → HasRead old start heard → Cut start (heard ++ chunk) next chunks last → Cut start heard l (chunk ∷ chunks) last
+cut-more start heard chunk l next chunks last leads h k =
+    let hears = leads.hears.hears start heard h in
     record {
       events = leads.events ++ k.events;
-      tells = ap (stream_events is_pasted) (sym (append_assoc heard chunk (all_bytes chunks))) ∙ k.tells
-          ∙ ap (λ (list : List TerminalEvent). list ++ k.events) (hears.events ∙ ap (λ (list : List TerminalEvent). stream_events is_pasted heard ++ list) (sym leads.hears.is))
-          ∙ append_assoc (stream_events is_pasted heard) leads.events k.events;
+      tells = ap (events_from start) (sym (append_assoc heard chunk (all_bytes chunks))) ∙ k.tells
+          ∙ ap (λ (list : List TerminalEvent). list ++ k.events) (hears.events ∙ ap (λ (list : List TerminalEvent). events_from start heard ++ list) (sym leads.hears.is))
+          ∙ append_assoc (events_from start heard) leads.events k.events;
       hands_in = hands-after l next leads.events k.events last leads.hands_in k.hands_in;
     }
 
-driven-cut : (chunks : List (List ℕ)) {decoder : Decoder} {l : Live} {last : Turn} {calls : List Call} (is_pasted : Bool) (heard : List ℕ)
-    → HasHeard decoder is_pasted heard → InputPath decoder (Waiting l) (map Bytes chunks) calls last → Cut is_pasted heard l chunks last
-driven-cut [] {l = l} is_pasted heard h at_end = record {
+driven-cut : (chunks : List (List ℕ)) {decoder : Decoder} {l : Live} {last : Turn} {calls : List Call} (start : Start) (heard : List ℕ)
+    → HasRead decoder start heard → InputPath decoder (Waiting l) (map Bytes chunks) calls last → Cut start heard l chunks last
+driven-cut [] {l = l} start heard h at_end = record {
   events = [];
-  tells = ap (stream_events is_pasted) (append-nil heard) ∙ sym (append-nil (stream_events is_pasted heard));
+  tells = ap (events_from start) (append-nil heard) ∙ sym (append-nil (events_from start heard));
   hands_in = hands-none l [] refl;
 }
-driven-cut (chunk ∷ chunks) {l = l} {last = last} is_pasted heard h (by_bytes {turn = Waiting next} leads d) =
-    cut-more is_pasted heard chunk l next chunks last leads h (driven-cut chunks is_pasted (heard ++ chunk) (leads.hears.hears is_pasted heard h).heard d)
-driven-cut (chunk ∷ chunks) {l = l} {last = last} is_pasted heard h (by_bytes {turn = Editing a} leads d) =
-    cut-last is_pasted heard chunk l chunks (Editing a) last leads h (none-waits chunks d refl)
-driven-cut (chunk ∷ chunks) {l = l} {last = last} is_pasted heard h (by_bytes {turn = Accepted state} leads d) =
-    cut-last is_pasted heard chunk l chunks (Accepted state) last leads h (none-waits chunks d refl)
+driven-cut (chunk ∷ chunks) {l = l} {last = last} start heard h (by_bytes {turn = Waiting next} leads d) =
+    cut-more start heard chunk l next chunks last leads h (driven-cut chunks start (heard ++ chunk) (leads.hears.hears start heard h).heard d)
+driven-cut (chunk ∷ chunks) {l = l} {last = last} start heard h (by_bytes {turn = Editing a} leads d) =
+    cut-last start heard chunk l chunks (Editing a) last leads h (none-waits chunks d refl)
+driven-cut (chunk ∷ chunks) {l = l} {last = last} start heard h (by_bytes {turn = Accepted state} leads d) =
+    cut-last start heard chunk l chunks (Accepted state) last leads h (none-waits chunks d refl)
 
 decoded-none : stream_events false [] ≡ []
 unfolding split_from
@@ -236,6 +220,6 @@ decoded-none = refl
 pub chunks-hand-in : (decoder : Decoder) (l : Live) (chunks : List (List ℕ)) (calls : List Call) (last : Turn)
     → HasHeard decoder false [] → InputPath decoder (Waiting l) (map Bytes chunks) calls last → HandsIn l (stream_events false (all_bytes chunks)) last
 chunks-hand-in decoder l chunks calls last h d =
-    let k = driven-cut chunks false [] h d in
+    let k = driven-cut chunks at_first [] h d in
     subst (λ (events : List TerminalEvent). HandsIn l events last)
     (sym (k.tells ∙ ap (λ (list : List TerminalEvent). list ++ k.events) decoded-none)) k.hands_in

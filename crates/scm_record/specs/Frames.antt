@@ -1,5 +1,5 @@
 -- What was drawn last: the frame and the scene of a session, and what the code keeps of them.
-use Rattle.std.specs.Prelude.{◌≡◌, ℕ, ◌<◌, pos, Bool, true, false, if◌then◌else◌, length, min, Option, option_map}
+use Rattle.std.specs.Prelude.{◌≡◌, ℕ, ◌<◌, pos, Bool, true, false, if◌then◌else◌, length, min, Option, None, Some, option_map}
 use Rattle.std.specs.HashMap.{HashMap, get}
 use Rattle.scm_cells.specs.declared.rect.Rect.{Rect}
 use Rattle.scm_render.specs.Target.{IsTargetOf}
@@ -16,7 +16,8 @@ use Rattle.scm_widgets.specs.declared.ids.ComponentId.TheVariants as ids
 use Rattle.scm_input.specs.declared.inputs.TerminalKind.{TerminalKind}
 use Rattle.scm_input.specs.declared.inputs.TerminalKind.TheVariants.{Testing}
 use Rattle.scm_layout_index.specs.declared.layout_index.LayoutIndex.{LayoutIndex}
-use Rattle.scm_layout_index.specs.LayoutIndex.{IsLayoutIndexOf}
+use Rattle.scm_layout_index.specs.declared.row_owners.RowOwners.{RowOwners}
+use Rattle.scm_layout_index.specs.LayoutIndex.{AreRowOwners, IsLayoutIndexOf}
 use Rattle.scm_record.specs.declared.frame.DrawnFrame.{DrawnFrame}
 use Rattle.scm_record.specs.declared.frame.Places.{Places}
 use Rattle.scm_record.specs.declared.frame.Places.TheVariants.{Plain, Free}
@@ -101,6 +102,12 @@ pub record IsIndexFor (w : ℕ) (frame : Frame) (index : LayoutIndex) : Type 0 w
 abbrev pub KnowsPlaces : ℕ → Frame → Places → Type 0
 KnowsPlaces w frame (Plain index) = IsIndexFor w frame index
 KnowsPlaces w frame (Free boxes) = IsMapOf w frame boxes
+
+-- `owners` are those of row `y` of the document, if they were found: what the index has on that row
+abbrev pub KnowsRow : Option RowOwners → Places → ℕ → Type 0
+KnowsRow None places y = Unit {0}
+KnowsRow (Some owners) (Plain index) y = (owners.row ≡ y) × AreRowOwners index owners
+KnowsRow (Some owners) (Free boxes) y = Unit {0}
 
 -- whether the code keeps an index, and not a map of boxes
 abbrev pub is_indexed : Places → Bool

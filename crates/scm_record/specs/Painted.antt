@@ -5,15 +5,20 @@ use Rattle.scm_cells.specs.Screen.{Screen}
 use Rattle.scm_cells.specs.declared.style.Style.{Style}
 use Rattle.scm_terminal.specs.StyledCell.{StyledCell, picture}
 use Rattle.scm_view_state.specs.Styles.{style_of}
-use Rattle.scm_record.specs.Frames.{columns_of, scene_of}
+use Rattle.scm_view.specs.ViewState.{ViewState}
+use Rattle.scm_record.specs.Frames.{Scene, columns_of, scene_of}
 use Rattle.scm_record.specs.Headline.{owner_at, window_of}
 use Rattle.scm_record.specs.Live.{Live}
 use Rattle.scm_record.specs.FrameQueries.{hit}
 
--- the style at `row` and `column` of the screen, counted from 0: that of the component that a click there hits
+-- the style at `row` and `column` of a screen, counted from 0, that shows `scene` of `shown`, scrolled to row `scroll` of the document:
+-- that of the component that a click there hits
+abbrev pub style_in : Scene → ViewState → ℕ → ℕ → ℕ → Style
+style_in scene shown scroll row column = style_of shown row (hit scene scroll row column)
+
+-- the style at `row` and `column` of the screen of a session
 abbrev pub style_at : Live → ℕ → ℕ → Style
-style_at l row column =
-    style_of l.session.shown row (hit (scene_of l.kind l.session) l.session.scroll row column)
+style_at l row column = style_in (scene_of l.kind l.session) l.session.shown l.session.scroll row column
 
 -- the screen as a grid
 abbrev pub screen_of : Live → Screen

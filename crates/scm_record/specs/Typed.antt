@@ -6,8 +6,8 @@ use Rattle.scm_input.specs.KeyTable.{event_of}
 use Rattle.scm_input.specs.declared.inputs.TerminalKind.{TerminalKind}
 use Rattle.scm_input.specs.declared.terminal.TerminalEvent.{TerminalEvent}
 use Rattle.scm_terminal.specs.declared.decoder.Decoder.{Decoder}
-use Rattle.scm_terminal.specs.Decoders.{Adds, HasHeard, Rests}
-use Rattle.scm_terminal.specs.Streams.{stream_events, is_pasted_after, rest, idle_event}
+use Rattle.scm_terminal.specs.Decoders.{Adds, HasRead, Rests}
+use Rattle.scm_terminal.specs.Silences.{Start, events_from, idle_event, after_silence}
 use Rattle.scm_record.specs.Live.{Live, LiveEdit, on_screen}
 use Rattle.scm_record.specs.LiveCalls.{Call, Press, Say, Resize, Path, EventFails, MessageLeads}
 use Rattle.scm_record.specs.declared.live.Turn.{Turn}
@@ -69,7 +69,7 @@ pub data BytesFail (l : Live) (old new : Decoder) (bytes : List ℕ) (error : Re
 
 -- the terminal was silent: `event` is what the silence means after the bytes that the decoder has read
 abbrev pub SilenceMeans : Decoder → Decoder → Option TerminalEvent → Type 0
-SilenceMeans old new event = (is_pasted : Bool) (bytes : List ℕ) → HasHeard old is_pasted bytes → Rests new event is_pasted bytes
+SilenceMeans old new event = (start : Start) (bytes : List ℕ) → HasRead old start bytes → Rests new event start bytes
 
 -- a silence leads to a turn: the event that it means, if any, is handed in
 pub record SilenceLeads (l : Live) (old new : Decoder) (turn : Turn) : Type 0 where
@@ -119,23 +119,19 @@ abbrev pub all_bytes : List (List ℕ) → List ℕ
 all_bytes [] = []
 all_bytes (chunk ∷ chunks) = chunk ++ all_bytes chunks
 
--- What inputs mean, if the decoder has read `heard` since it was new or since a silence: each input hands in the events that it adds
--- to the decoded ones, or the first of them.
-pub data InputsMean : Bool → List ℕ → List Input → List Call → Type 0 where
-  no_more : {is_pasted : Bool} {heard : List ℕ} → InputsMean is_pasted heard [] []
-  of_bytes : {is_pasted : Bool} {heard sent : List ℕ} {inputs : List Input} {calls : List Call} (handled dropped : List TerminalEvent)
-      → stream_events is_pasted (heard ++ sent) ≡ stream_events is_pasted heard ++ (handled ++ dropped)
-      → InputsMean is_pasted (heard ++ sent) inputs calls
-      → InputsMean is_pasted heard (Bytes sent ∷ inputs) (presses handled ++ calls)
-  -- within a paste, a silence means nothing
-  of_pause : {is_pasted : Bool} {heard : List ℕ} {inputs : List Input} {calls : List Call}
-      → IsTrue (is_pasted_after is_pasted heard) → InputsMean is_pasted heard inputs calls
-      → InputsMean is_pasted heard (Silence ∷ inputs) calls
-  of_silence : {is_pasted : Bool} {heard : List ℕ} {inputs : List Input} {calls : List Call} (handled dropped : List TerminalEvent)
-      → is_pasted_after is_pasted heard ≡ false → option_to_list (idle_event false (rest heard)) ≡ handled ++ dropped
-      → InputsMean false [] inputs calls
-      → InputsMean is_pasted heard (Silence ∷ inputs) (presses handled ++ calls)
-  of_message : {is_pasted : Bool} {heard text : List ℕ} {inputs : List Input} {calls : List Call}
-      → InputsMean is_pasted heard inputs calls → InputsMean is_pasted heard (Message text ∷ inputs) (Say text ∷ calls)
-  of_screen : {is_pasted : Bool} {heard : List ℕ} {kind : TerminalKind} {inputs : List Input} {calls : List Call}
-      → InputsMean is_pasted heard inputs calls → InputsMean is_pasted heard (Screen kind ∷ inputs) (Resize kind ∷ calls)
+-- What inputs mean, if the decoder has read `heard` since `start`, since it was new or since a silence: each input hands in the events
+-- that it adds to the decoded ones, or the first of them.
+pub data InputsMean : Start → List ℕ → List Input → List Call → Type 0 where
+  no_more : {start : Start} {heard : List ℕ} → InputsMean start heard [] []
+  of_bytes : {start : Start} {heard sent : List ℕ} {inputs : List Input} {calls : List Call} (handled dropped : List TerminalEvent)
+      → events_from start (heard ++ sent) ≡ events_from start heard ++ (handled ++ dropped)
+      → InputsMean start (heard ++ sent) inputs calls
+      → InputsMean start heard (Bytes sent ∷ inputs) (presses handled ++ calls)
+  of_silence : {start : Start} {heard : List ℕ} {inputs : List Input} {calls : List Call} (handled dropped : List TerminalEvent)
+      → option_to_list (idle_event start heard) ≡ handled ++ dropped
+      → InputsMean (after_silence start heard) [] inputs calls
+      → InputsMean start heard (Silence ∷ inputs) (presses handled ++ calls)
+  of_message : {start : Start} {heard text : List ℕ} {inputs : List Input} {calls : List Call}
+      → InputsMean start heard inputs calls → InputsMean start heard (Message text ∷ inputs) (Say text ∷ calls)
+  of_screen : {start : Start} {heard : List ℕ} {kind : TerminalKind} {inputs : List Input} {calls : List Call}
+      → InputsMean start heard inputs calls → InputsMean start heard (Screen kind ∷ inputs) (Resize kind ∷ calls)

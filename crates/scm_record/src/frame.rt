@@ -10,14 +10,14 @@ ghost use Rattle.scm_view.specs.Frame.{frame_of_document, frame_of_view, is_plai
 ghost use Rattle.scm_layout.specs.Layouts.{layout_of};
 ghost use Rattle.scm_layout_index.specs.LayoutIndex.{AreRowsOf, IsInline};
 ghost use Rattle.scm_layout_index.specs.SharedRows.{AreRowsOfState};
-ghost use Rattle.scm_record.specs.Frames.{HasSize, IsMapOf, IsSceneOf, KnowsPlaces, Scene, is_indexed, scene_of};
+ghost use Rattle.scm_record.specs.Frames.{HasSize, IsMapOf, IsSceneOf, KnowsPlaces, KnowsRow, Scene, is_indexed, scene_of};
 ghost use Rattle.scm_record.specs.Session.{Session};
 ghost use Rattle.scm_record.specs.FrameQueries.{scroll_to_show, limited_scroll, hit, free_rows_above, scroll_to_rows, scroll_to_span, shot_of, top_in};
 
 use scm_cells::{Grid, Rect};
 use scm_input::TerminalKind;
 use scm_layout::{Layout, StateRows};
-use scm_layout_index::{LayoutIndex, SharedRows, span_of_key};
+use scm_layout_index::{LayoutIndex, RowOwners, SharedRows, span_of_key};
 use scm_render::{DrawnRects, Viewport, find_target};
 use scm_types::{RecordError, RecordState};
 use scm_view::{AppView, CommitViewMode, ComponentId, SelectionKey, laws};
@@ -289,23 +289,61 @@ impl DrawnFrame {
         }
     }
 
+    /// Finds what row `row` of the document has, for the owners of its places. Returns `None` if the
+    /// frame has no index.
+    fn owners_on(&self, row: usize) -> Option<RowOwners>
+        ensures { KnowsRow result self.now.places row }
+    {
+        match &self.places {
+            Places::Plain(index) => Some(index.row_owners(row)),
+            Places::Free(_) => None,
+        }
+    }
+
     /// Returns the owner of `row` of the document and `column` of the screen, both counted from 0.
-    fn owner(&self, row: usize, column: usize) -> Option<ComponentId>
+    /// `owners` are those of the row, if they were found.
+    fn owner(&self, owners: Option<RowOwners>, row: usize, column: usize) -> Option<ComponentId>
         requires row { row < 2 ^ 63 }
         requires column { column < 2 ^ 63 }
+        requires owners { KnowsRow owners self.now.places row }
         ensures { (scene : Scene) → IsSceneOf scene self.now → column < scene.width
             → result ≡ scene.frame.owner row column }
     {
         match &self.places {
-            Places::Plain(index) => index.owner(row, column),
+            Places::Plain(index) => match owners {
+                Some(owners) => index.owner_on(owners, column),
+                None => index.owner(row, column),
+            },
             Places::Free(boxes) => find_target(boxes, row as isize, column as isize),
         }
     }
 
-    /// Returns the component that a click at `row` and `column` of the screen hits, if any, while
-    /// the screen is scrolled to row `scroll` of the document. All are counted from 0.
+    /// Finds what `row` of the screen has, for the components that clicks on it hit, while the screen
+    /// is scrolled to row `scroll` of the document. Both are counted from 0. Returns `None` if the row
+    /// is off the screen or the frame has no index.
     #[tactic(auto, unfolding(scm_types::specs::Limits::max_items, scm_types::specs::Limits::max_scroll))]
-    pub(crate) fn hit(&self, scroll: usize, row: usize, column: usize) -> Option<ComponentId>
+    pub(crate) fn row_owners(&self, scroll: usize, row: usize) -> Option<RowOwners>
+        ensures { KnowsRow result self.now.places (scroll + row) }
+    {
+        if row < self.grid.height() && scroll <= RecordState::MAX_SCROLL {
+            self.owners_on(scroll + row)
+        } else {
+            None
+        }
+    }
+
+    /// Returns the component that a click at `row` and `column` of the screen hits, if any, while
+    /// the screen is scrolled to row `scroll` of the document. All are counted from 0. `owners` are
+    /// those of the row, if they were found.
+    #[tactic(auto, unfolding(scm_types::specs::Limits::max_items, scm_types::specs::Limits::max_scroll))]
+    pub(crate) fn hit_among(
+        &self,
+        owners: Option<RowOwners>,
+        scroll: usize,
+        row: usize,
+        column: usize,
+    ) -> Option<ComponentId>
+        requires { KnowsRow owners self.now.places (scroll + row) }
         ensures { (scene : Scene) → IsSceneOf scene self.now
             → result ≡ hit scene scroll row column }
     {
@@ -313,10 +351,19 @@ impl DrawnFrame {
             && row < self.grid.height()
             && scroll <= RecordState::MAX_SCROLL
         {
-            self.owner(scroll + row, column)
+            self.owner(owners, scroll + row, column)
         } else {
             None
         }
+    }
+
+    /// Returns the component that a click at `row` and `column` of the screen hits, if any, while
+    /// the screen is scrolled to row `scroll` of the document. All are counted from 0.
+    pub(crate) fn hit(&self, scroll: usize, row: usize, column: usize) -> Option<ComponentId>
+        ensures { (scene : Scene) → IsSceneOf scene self.now
+            → result ≡ hit scene scroll row column }
+    {
+        self.hit_among(None, scroll, row, column)
     }
 
     /// Returns `scroll`, limited to the last row that the frame drew and to the maximum scroll.

@@ -1,10 +1,11 @@
 -- On a terminal of any widths a paint changes only the rows that it writes, and each symbol of one byte stands at its place.
-use Rattle.std.proofs.Common.{◌≡◌, ◌≢◌, ℕ, ◌&&◌, zero, suc, ◌+◌, ◌<◌, ◌≤◌, ◌==◌, Bool, true, false, List, [], ◌∷◌, ◌++◌, length, get_or, refl, sym, ap, ap₂, subst, ◌∙◌, arith, Option, Some, None, ⊎_elim}
+use Rattle.std.proofs.Common.{◌≡◌, ◌≢◌, ℕ, ◌&&◌, zero, suc, ◌+◌, ◌<◌, ◌≤◌, ◌==◌, Bool, true, false, List, [], ◌∷◌, ◌++◌, length, get_or, map, refl, sym, ap, ap₂, subst, ◌∙◌, arith, Option, Some, None, ⊎_elim}
 use Rattle.std.specs.Prelude.{if◌then◌else◌}
 use Rattle.std.specs.List.{All, list_any}
 use Rattle.std.proofs.lemmas.Bool.{and_parts, cases_lt}
 use Rattle.std.proofs.lemmas.Bool.Decides.{nat_tests}
-use Rattle.std.proofs.lemmas.List.Elements.{All-head, All-tail}
+use Rattle.std.proofs.lemmas.List.{length-map, get_or-map}
+use Rattle.std.proofs.lemmas.List.Elements.{All-nil, All-cons, All-head, All-tail}
 use Rattle.scm_cells.specs.declared.style.Style.{Style}
 use Rattle.scm_terminal.specs.declared.pen.Pen.{Pen}
 use Rattle.scm_terminal.specs.declared.pen.Pass.{Pass}
@@ -13,9 +14,11 @@ use Rattle.scm_terminal.specs.StyledCell.{StyledCell, First, Later, laters, HasS
 use Rattle.scm_terminal.specs.Style.{style_code}
 use Rattle.scm_terminal.specs.Terminal.{Command, MoveTo, SetStyle, Put, SetWrap}
 use Rattle.scm_terminal.specs.AnyTerminal.{Display, ShowsByte, ChangesRow, PutsByte, Puts, May, Might, ShowsBytes, KeepsPlaces}
-use Rattle.scm_terminal.specs.Painting.{Line, AreUpdates, move_commands, style_commands, cell_commands, pen_after, new_pen, passed, columns_in, pass_commands, row_commands, line_commands, painting, paint_commands}
+use Rattle.scm_terminal.specs.Sent.{stays_on_row}
+use Rattle.scm_terminal.specs.Painting.{Line, AreUpdates, sent_line, move_commands, style_commands, cell_commands, pen_after, new_pen, passed, columns_in, pass_commands, row_commands, line_commands, painting, paint_commands}
 use Rattle.scm_terminal.proofs.StyleLemmas.{style-same}
 use Rattle.scm_terminal.proofs.ReadingLemmas.{one_byte}
+use Rattle.scm_terminal.proofs.SentLemmas.{StayFrom, rest-stays, pass-stays, length-row, row-stays, row-byte}
 
 -- ---- commands one after another
 
@@ -145,11 +148,11 @@ puts-first r column b style p ps m u more shows f (suc k) c s below read =
     let n : column + 1 + k ≡ column + suc k = omega arith in subst (λ (x : ℕ). ShowsByte u r x c s) n (more.puts k c s (omega arith) read)
 
 module _ (r w : ℕ) where
-  pub pass-may : (pass : Pass) (cells : List StyledCell) (column : ℕ) (pen : Pen) (t u : Display) → t.width ≡ w → r < length t.rows → column + length cells ≤ w → t.wraps ≡ Some false
+  pub pass-may : (pass : Pass) (cells : List StyledCell) (column : ℕ) (pen : Pen) (t u : Display) → t.width ≡ w → r < length t.rows → column + length cells ≤ w → StayFrom w column cells → t.wraps ≡ Some false
       → (pen.is_there ≡ true → 0 < length cells → (t.row ≡ Some r) × (t.column ≡ Some column)) → ((s : Style) → pen.style ≡ Some s → t.style ≡ Some s)
       → Might (pass_commands pass r column pen cells) t u → Passed pass r column cells t u
   unfolding pass_commands
-  pass-may pass [] column pen t u wide high long off there same might =
+  pass-may pass [] column pen t u wide high long stay off there same might =
       let e = Might-none t u might in
       record {
         same = SameBut-none r t u e;
@@ -158,8 +161,8 @@ module _ (r w : ℕ) where
           puts = λ k c s h read. absurd (omega arith);
         };
       }
-  pass-may pass (p ∷ ps) column pen t u wide high long off there same might =
-      at (passed pass pen.is_there p) refl might (λ pen' m wide' high' off' there' same' might'. pass-may pass ps (column + 1) pen' m u wide' high' (omega arith) off' there' same' might')
+  pass-may pass (p ∷ ps) column pen t u wide high long stay off there same might =
+      at (passed pass pen.is_there p) refl might (λ pen' m wide' high' off' there' same' might'. pass-may pass ps (column + 1) pen' m u wide' high' (omega arith) (rest-stays w column p ps stay) off' there' same' might')
     where
       at : (q : StyledCell) → passed pass pen.is_there p ≡ q → Might (cell_commands r column pen q (columns_in pass (laters ps)) ++ pass_commands pass r (column + 1) (pen_after pen q) ps) t u
           → ((pen' : Pen) (m : Display) → m.width ≡ w → r < length m.rows → m.wraps ≡ Some false → (pen'.is_there ≡ true → 0 < length ps → (m.row ≡ Some r) × (m.column ≡ Some (column + 1)))
@@ -179,7 +182,8 @@ module _ (r w : ℕ) where
           let m = halves.0 in
           let start = in_style style (at_place r column t) in
           let put : Puts symbol start m = cell-may r column pen symbol style (columns_in pass (laters ps)) t m high (omega (arith, wide, long)) (λ f. there f (omega arith)) same halves.1.0 in
-          let row : ChangesRow r start m = put.stays r off refl in
+          let on : stays_on_row t.width column symbol ≡ true = subst (λ (n : ℕ). stays_on_row n column symbol ≡ true) (sym wide) (pass-stays w column pass pen.is_there p ps stay symbol style e) in
+          let row : ChangesRow r start m = put.stays r column off refl refl on in
           let same_row : SameBut r t m = record { wide = row.wide; high = row.high; others = row.others; wraps = row.wraps } in
           let byte = λ (b : ℕ) (f : symbol ≡ b ∷ []). put.byte r column b style off refl refl refl high (omega (arith, wide, long)) f in
           let high' = row.high in
@@ -199,20 +203,20 @@ module _ (r w : ℕ) where
           }
 
   -- the three passes of a row: what the first two did to the row does not matter
-  pub row-may : (cells : List StyledCell) (t u : Display) → t.width ≡ w → r < length t.rows → length cells ≤ w → t.wraps ≡ Some false → Might (row_commands r cells) t u
+  pub row-may : (cells : List StyledCell) (t u : Display) → t.width ≡ w → r < length t.rows → length cells ≤ w → StayFrom w 0 cells → t.wraps ≡ Some false → Might (row_commands r cells) t u
       → SameBut r t u × ((k c : ℕ) (s : Style) → k < length cells → get_or cells k (First [] s) ≡ First (c ∷ []) s → ShowsByte u r k c s)
   unfolding row_commands
-  row-may cells t u wide high long off might =
+  row-may cells t u wide high long stay off might =
       let blanks = pass_commands Blanks r 0 new_pen cells in
       let symbols = pass_commands Symbols r 0 new_pen cells in
       let letters = pass_commands Letters r 0 new_pen cells in
       let one = Might-split blanks (symbols ++ letters) t u might in
       let two = Might-split symbols letters one.0 u one.1.1 in
-      let a = (pass-may Blanks cells 0 new_pen t one.0 wide high (omega (arith, long)) off (λ f. absurd (cc)) (λ s f. absurd (cc)) one.1.0).same in
+      let a = (pass-may Blanks cells 0 new_pen t one.0 wide high (omega (arith, long)) stay off (λ f. absurd (cc)) (λ s f. absurd (cc)) one.1.0).same in
       let a_high = a.high in
-      let b = (pass-may Symbols cells 0 new_pen one.0 two.0 (a.wide ∙ wide) (omega (arith, a_high, high)) (omega (arith, long)) (a.wraps ∙ off) (λ f. absurd (cc)) (λ s f. absurd (cc)) two.1.0).same in
+      let b = (pass-may Symbols cells 0 new_pen one.0 two.0 (a.wide ∙ wide) (omega (arith, a_high, high)) (omega (arith, long)) stay (a.wraps ∙ off) (λ f. absurd (cc)) (λ s f. absurd (cc)) two.1.0).same in
       let b_high = b.high in
-      let c = pass-may Letters cells 0 new_pen two.0 u (b.wide ∙ a.wide ∙ wide) (omega (arith, a_high, b_high, high)) (omega (arith, long)) (b.wraps ∙ a.wraps ∙ off) (λ f. absurd (cc)) (λ s f. absurd (cc)) two.1.1 in
+      let c = pass-may Letters cells 0 new_pen two.0 u (b.wide ∙ a.wide ∙ wide) (omega (arith, a_high, b_high, high)) (omega (arith, long)) stay (b.wraps ∙ a.wraps ∙ off) (λ f. absurd (cc)) (λ s f. absurd (cc)) two.1.1 in
       let all = c.letters refl in (
         SameBut-more r t one.0 u a (SameBut-more r one.0 two.0 u b c.same),
         λ k x s below read. let n : 0 + k ≡ k = omega arith in subst (λ (m : ℕ). ShowsByte u r m x s) n (all.puts k x s below read),
@@ -234,8 +238,9 @@ record Painted (r : ℕ) (lines : List Line) (t u : Display) : Type 0 where
   pub shown : (j : ℕ) (line : Line) → j < length lines → line ≡ get_or lines j line → line.is_changed ≡ true
       → (k c : ℕ) (s : Style) → k < length line.cells → get_or line.cells k (First [] s) ≡ First (c ∷ []) s → ShowsByte u (r + j) k c s
 
+-- a line of `w` columns, of which each symbol stays on its row
 abbrev IsWide : ℕ → Line → Type 0
-IsWide w line = length line.cells ≡ w
+IsWide w line = (length line.cells ≡ w) × StayFrom w 0 line.cells
 
 -- what a row that is written or left out does to a terminal
 record Lined (r : ℕ) (line : Line) (t u : Display) : Type 0 where
@@ -247,7 +252,7 @@ line-may : (r w : ℕ) (line : Line) (t u : Display) → t.width ≡ w → r < l
 line-may r w line t u wide high size off might = at line.is_changed refl might
   where
     at : (b : Bool) → line.is_changed ≡ b → Might (if b then row_commands r line.cells else []) t u → Lined r line t u
-    at true e h = let row = row-may r w line.cells t u wide high (omega (arith, size)) off h in record { same = row.0; kept = λ f. absurd (cc); shown = λ f. row.1 }
+    at true e h = let long = size.0 in let row = row-may r w line.cells t u wide high (omega (arith, long)) size.1 off h in record { same = row.0; kept = λ f. absurd (cc); shown = λ f. row.1 }
     at false e h = let is = Might-none t u h in record { same = SameBut-none r t u is; kept = λ f. ap (λ (x : Display). get_or x.rows r []) is; shown = λ f. absurd (cc) }
 
 painting-may : (w r : ℕ) (lines : List Line) (t u : Display) → t.width ≡ w → r + length lines ≤ length t.rows → All (IsWide w) lines → t.wraps ≡ Some false → Might (painting r lines) t u → Painted r lines t u
@@ -382,53 +387,74 @@ update-left is_all (b ∷ last) (l ∷ lines) zero line updates h read e =
     (was.0, sym was.1 ∙ ap (λ (x : Line). x.cells) (sym read))
 update-left is_all (b ∷ last) (l ∷ lines) (suc k) line updates h read e = update-left is_all last lines k line updates.1 (omega arith) read e
 
+-- what is sent for lines of `w` columns
+sents-wide : (w : ℕ) (lines : List Line) → All (λ line. length line.cells ≡ w) lines → All (IsWide w) (map sent_line lines)
+sents-wide w [] sizes = All-nil (IsWide w)
+sents-wide w (line ∷ lines) sizes =
+    let size = All-head (λ (l : Line). length l.cells ≡ w) line lines sizes in
+    All-cons (IsWide w) (sent_line line) (map sent_line lines) (length-row line.cells ∙ size, row-stays w line.cells size) (sents-wide w lines (All-tail (λ (l : Line). length l.cells ≡ w) line lines sizes))
+
 pub keeps-places : (w : ℕ) (is_all : Bool) (last lasts next : List (List StyledCell)) (lines : List Line) → All (λ line. length line.cells ≡ w) lines
     → length lines ≡ length next → ((k : ℕ) (line : Line) → k < length lines → line ≡ get_or lines k line → line.cells ≡ get_or next k [])
     → AreUpdates is_all lasts lines → (is_all ≡ false → lasts ≡ last) → (is_all ≡ false → HasSize w (length next) last) → (HasSize w (length next) last → is_all ≡ false)
-    → KeepsPlaces w last next (paint_commands lines)
-keeps-places w is_all last lasts next lines sizes count cells updates same fits fitted = record {
+    → KeepsPlaces w last next (paint_commands (map sent_line lines))
+keeps-places w is_all last lasts next lines all_wide count cells updates same fits fitted = record {
   keeps = λ t u places might size row equal.
       let high = places.high in
-      let all = paint-may w lines t u places.wide (omega (arith, count, high)) sizes might in
+      let all = paint-may w sents t u places.wide (omega (arith, count, sent_count, high)) sizes might in
       ⊎_elim
       (λ (h : row < length lines).
       let line = get_or lines row (record { cells = []; is_changed = false }) in
       let read : line ≡ get_or lines row line = again lines row _ h in
       let not_all = fitted size in
-      all.kept row line h read (update-kept is_all lasts lines row line updates h read not_all (ap (λ (xs : List (List StyledCell)). get_or xs row []) (same not_all) ∙ equal ∙ sym (cells row line h read))))
-      (λ (h : length lines ≤ row). all.below row h)
+      all.kept row (sent_line line) (omega (arith, sent_count, h)) (sent-at row line h read) (update-kept is_all lasts lines row line updates h read not_all (ap (λ (xs : List (List StyledCell)). get_or xs row []) (same not_all) ∙ equal ∙ sym (cells row line h read))))
+      (λ (h : length lines ≤ row). all.below row (omega (arith, sent_count, h)))
       (cases_lt row (length lines));
   shows = λ t u places might stood row column b style inside across cell.
       let high = places.high in
-      let all = paint-may w lines t u places.wide (omega (arith, count, high)) sizes might in
+      let all = paint-may w sents t u places.wide (omega (arith, count, sent_count, high)) sizes might in
       let h : row < length lines = omega (arith, count, inside) in
       let line = get_or lines row (record { cells = []; is_changed = false }) in
       let read : line ≡ get_or lines row line = again lines row _ h in
       at t u all stood row column b style line h read inside across cell line.is_changed refl;
   sized = λ t u places might.
       let high = places.high in
-      let all = paint-may w lines t u places.wide (omega (arith, count, high)) sizes might in
+      let all = paint-may w sents t u places.wide (omega (arith, count, sent_count, high)) sizes might in
       record { wide = all.wide ∙ places.wide; high = all.high ∙ high };
-  wraps = λ t u places might on. let high = places.high in (paint-may w lines t u places.wide (omega (arith, count, high)) sizes might).wraps on;
+  wraps = λ t u places might on. let high = places.high in (paint-may w sents t u places.wide (omega (arith, count, sent_count, high)) sizes might).wraps on;
 }
   where
+    sents : List Line
+    sents = map sent_line lines
+
+    sent_count : length (map sent_line lines) ≡ length lines
+    sent_count = length-map lines sent_line
+
+    sizes : All (IsWide w) (map sent_line lines)
+    sizes = sents-wide w lines all_wide
+
     again : (xs : List Line) (k : ℕ) (d : Line) → k < length xs → get_or xs k d ≡ get_or xs k (get_or xs k d)
     again [] k d h = absurd (omega arith)
     again (x ∷ xs) zero d h = refl
     again (x ∷ xs) (suc k) d h = again xs k d (omega arith)
 
-    at : (t u : Display) → PaintedAll lines t u → (HasSize w (length next) last → ShowsBytes t last) → (row column b : ℕ) (style : Style) (line : Line) → row < length lines → line ≡ get_or lines row line
+    sent-at : (row : ℕ) (line : Line) → row < length lines → line ≡ get_or lines row line → sent_line line ≡ get_or (map sent_line lines) row (sent_line line)
+    sent-at row line h read = ap sent_line read ∙ sym (get_or-map sent_line lines row line (sent_line line) h)
+
+    at : (t u : Display) → PaintedAll (map sent_line lines) t u → (HasSize w (length next) last → ShowsBytes t last) → (row column b : ℕ) (style : Style) (line : Line) → row < length lines → line ≡ get_or lines row line
         → row < length next → column < length (get_or next row []) → get_or (get_or next row []) column (First [] style) ≡ First (b ∷ []) style
         → (changed : Bool) → line.is_changed ≡ changed → ShowsByte u row column b style
     at t u all stood row column b style line h read inside across cell true e =
         let is = cells row line h read in
         let long : length line.cells ≡ length (get_or next row []) = ap (λ (ps : List StyledCell). length ps) is in
-        all.shown row line h read e column b style (omega (arith, long, across)) (ap (λ (ps : List StyledCell). get_or ps column (First [] style)) is ∙ cell)
+        let count' = length-row line.cells in
+        all.shown row (sent_line line) (omega (arith, sent_count, h)) (sent-at row line h read) e column b style (omega (arith, long, count', across))
+        (row-byte line.cells column b style (omega (arith, long, across)) (ap (λ (ps : List StyledCell). get_or ps column (First [] style)) is ∙ cell))
     at t u all stood row column b style line h read inside across cell false e =
         let left = update-left is_all lasts lines row line updates h read e in
         let size = fits left.0 in
         let was : get_or last row [] ≡ get_or next row [] = ap (λ (xs : List (List StyledCell)). get_or xs row []) (sym (same left.0)) ∙ left.1 ∙ cells row line h read in
         let high = size.high in
         let long : length (get_or last row []) ≡ length (get_or next row []) = ap (λ (ps : List StyledCell). length ps) was in
-        shows-same t u row column b style (all.kept row line h read e)
+        shows-same t u row column b style (all.kept row (sent_line line) (omega (arith, sent_count, h)) (sent-at row line h read) e)
         (stood size row column b style (omega (arith, high, inside)) (omega (arith, long, across)) (ap (λ (ps : List StyledCell). get_or ps column (First [] style)) was ∙ cell))

@@ -3,6 +3,9 @@ pub mod StyleLemmas
 -- ---- commands one after another, on one row and on all
 pub mod RunLemmas
 pub mod RowLemmas
+pub mod SentLemmas
+pub mod SingleLemmas
+pub mod AddingLemmas
 pub mod ApartLemmas
 pub mod SafeLemmas
 -- a terminal of any widths
@@ -34,3 +37,9 @@ pub mod PasteLemmas
 pub mod MarkLemmas
 -- the bytes of each key
 pub mod KeyLemmas
+-- what silences tear
+pub mod TearingLemmas
+-- the grammar of sequences
+pub mod GrammarLemmas
+-- the keys of the grammar
+pub mod MeaningLemmas

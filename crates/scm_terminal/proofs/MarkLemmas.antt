@@ -17,12 +17,14 @@ use Rattle.scm_terminal.specs.declared.sequences.SequenceKind.{SequenceKind}
 use Rattle.scm_terminal.specs.declared.sequences.SequenceKind.TheVariants.{Csi, Ss3, Mouse, Unknown}
 use Rattle.scm_terminal.specs.declared.tokens.Token.{Token}
 use Rattle.scm_terminal.specs.declared.tokens.Token.TheVariants.{Event, PasteBegins, PasteEnds}
-use Rattle.scm_terminal.specs.Bytes.{begins_control_string, is_continuation, is_final, is_parameter, is_digit}
+use Rattle.scm_terminal.specs.Bytes.{begins_control_string, is_between, is_continuation, is_final, is_parameter, is_digit}
 use Rattle.scm_terminal.specs.ByteKeys.{byte_key}
-use Rattle.scm_terminal.specs.Sequences.{key_modifiers, unrecognized_token, new_sequence, with_parameter, token_of, token_by, key_token, named_key, arrow, paging, key_number, is_mark, is_blank, is_csi, counted, with_digit, with_semicolon, trailing_bytes}
+use Rattle.scm_terminal.specs.Sequences.{key_modifiers, modifiers_of, unrecognized_token, new_sequence, with_parameter, token_of, token_by, key_token, control_paging_token, typed_token, old_mouse_token, arrow_token, key_with, typed_key, arrow, paging, key_number, is_mark, is_blank, is_csi, counted, with_digit, with_semicolon, trailing_bytes}
 use Rattle.scm_terminal.specs.Characters.{char_token, part, bits_with, lead_character, with_continuation}
 use Rattle.scm_terminal.specs.Streams.{Split, with_token, Found, Unfinished, Finished, character, after_lead, after_start, trailing, sequence, control_string, escape_key, after_escape, first, split_from, token_events, pasted_after, AreOther, StayPasted, HasMark, paste_end}
 use Rattle.scm_input.specs.declared.terminal.KeyCode.{KeyCode}
+use Rattle.scm_input.specs.declared.terminal.KeyModifiers.{KeyModifiers}
+use Rattle.scm_input.specs.KeyTable.{shift, control}
 
 -- whether a token ends a paste
 abbrev pub is_end : Token → Bool
@@ -105,9 +107,59 @@ control-plain n (b ∷ bs) = at (b == 7) (nat_lt b 32) (control-plain (n + 1) bs
 
 -- ---- sequences
 
-named-plain : (q : Sequence) (key : Option KeyCode) → is_end (named_key q key) ≡ false
-named-plain q None = refl
-named-plain q (Some code) = event-plain (nat_lt q.semicolons 2) (terminal.Key (record { code = code; modifiers = key_modifiers q; kind = Press }))
+with-plain : (held : KeyModifiers) (key : Option KeyCode) → is_end (key_with held key) ≡ false
+with-plain held None = refl
+with-plain held (Some code) = refl
+
+if-plain : (t : Bool) (x y : Token) → is_end x ≡ false → is_end y ≡ false → is_end (if t then x else y) ≡ false
+if-plain true x y p q = p
+if-plain false x y p q = q
+
+typed-plain : (held : KeyModifiers) (code : ℕ) → is_end (typed_key held code) ≡ false
+typed-plain held code =
+    if-plain (code == 27) _ _ refl
+    (if-plain (code == 9 || code == 13) _ _ refl
+    (if-plain (is_between 32 126 code) _ _ refl refl))
+
+arrow-plain : (held : KeyModifiers) (q : Sequence) (last : ℕ) → is_end (arrow_token held q last) ≡ false
+arrow-plain held q last =
+    if-plain (is_between 97 100 last) _ _
+    (if-plain (q.bytes == 0) _ _ (with-plain held (arrow (last - 32))) refl)
+    (if-plain (nat_lt q.semicolons 2 && nat_le q.second 1) _ _ (with-plain (modifiers_of q.last) (arrow last)) refl)
+
+-- what a final byte makes that is no tilde
+final-token : Sequence → ℕ → Token
+final-token q b =
+    if b == 94 then control_paging_token q
+    else if b == 117 then typed_token q
+    else if b == 77 then old_mouse_token q
+    else arrow_token shift q b
+
+final-plain : (q : Sequence) (b : ℕ) → is_end (final-token q b) ≡ false
+unfolding final-token
+final-plain q b =
+    if-plain (b == 94) _ _ (if-plain (q.semicolons == 0) _ _ (with-plain control (paging q.last)) refl)
+    (if-plain (b == 117) _ _ (if-plain (nat_lt q.semicolons 2) _ _ (typed-plain (key_modifiers q) (key_number q)) refl)
+    (if-plain (b == 77) _ _ (event-plain (q.semicolons == 2 && nat_le 32 q.first) (mouse_event true (q.first - 32) q.second q.last))
+    (arrow-plain shift q b)))
+
+-- what a tilde makes that is no mark
+tilde-rest : Sequence → Token
+tilde-rest q =
+    if nat_lt q.semicolons 2 then key_with (key_modifiers q) (paging (key_number q))
+    else if q.first == 27 then typed_key (modifiers_of q.second) q.last
+    else unrecognized_token
+
+tilde-plain : (q : Sequence) → is_end (tilde-rest q) ≡ false
+unfolding tilde-rest
+tilde-plain q =
+    if-plain (nat_lt q.semicolons 2) _ _ (with-plain (key_modifiers q) (paging (key_number q)))
+    (if-plain (q.first == 27) _ _ (typed-plain (modifiers_of q.second) q.last) refl)
+
+key-is : (q : Sequence) (b : ℕ)
+    → key_token q b ≡ (if b == 126 then (if is_mark q 200 then PasteBegins else if is_mark q 201 then PasteEnds else tilde-rest q) else final-token q b)
+unfolding final-token tilde-rest
+key-is q b = refl
 
 -- a sequence that can end no paste: no control sequence, one with a semicolon, or one of four bytes
 pub data IsSpoilt (q : Sequence) : Type 0 where
@@ -130,14 +182,14 @@ mark-not q number (divided h) csi = let not : (q.semicolons == 0) ≡ false = gr
 mark-not q number (long h) csi = let not : (q.bytes == 3) ≡ false = grind (arith, nat_tests) in rw not refl
 
 key-plain : (q : Sequence) (b : ℕ) → is_mark q 201 ≡ false → is_end (key_token q b) ≡ false
-key-plain q b h = at (b == 126) (is_mark q 200) (is_mark q 201) h
+key-plain q b h = ap is_end (key-is q b) ∙ at (b == 126) (is_mark q 200) (is_mark q 201) h
   where
     at : (x y z : Bool) → z ≡ false
-        → is_end (if x then (if y then PasteBegins else if z then PasteEnds else named_key q (paging (key_number q))) else named_key q (arrow (key_number q) b)) ≡ false
+        → is_end (if x then (if y then PasteBegins else if z then PasteEnds else tilde-rest q) else final-token q b) ≡ false
     at true true z e = refl
     at true false true e = absurd (cc)
-    at true false false e = named-plain q (paging (key_number q))
-    at false y z e = named-plain q (arrow (key_number q) b)
+    at true false false e = tilde-plain q
+    at false y z e = final-plain q b
 
 token-plain : (q : Sequence) (b : ℕ) → IsSpoilt q → is_end (token_of q b) ≡ false
 unfolding token_of
@@ -145,7 +197,7 @@ token-plain q b s = at q.kind refl
   where
     at : (k : SequenceKind) → q.kind ≡ k → is_end (token_by k q b) ≡ false
     at Csi e = key-plain q b (mark-not q 201 s (ap is_csi e))
-    at Ss3 e = named-plain q (arrow (key_number q) b)
+    at Ss3 e = arrow-plain control q b
     at Mouse e = event-plain (q.semicolons == 2 && (b == 77 || b == 109)) (mouse_event (b == 77) q.first q.second q.last)
     at Unknown e = refl
 
@@ -203,10 +255,10 @@ digits i v = record { kind = Csi; bytes = i; semicolons = 0; first = 0; second =
 
 token-mark : (i v b : ℕ) → is_end (token_of (digits i v) b) ≡ true → (b ≡ 126) × ((i ≡ 3) × (v ≡ 201))
 unfolding token_of
-token-mark i v b e = at (b == 126) refl (is_mark (digits i v) 200) (is_mark (digits i v) 201) refl e
+token-mark i v b e = at (b == 126) refl (is_mark (digits i v) 200) (is_mark (digits i v) 201) refl (ap is_end (sym (key-is (digits i v) b)) ∙ e)
   where
     at : (x : Bool) → (b == 126) ≡ x → (y z : Bool) → is_mark (digits i v) 201 ≡ z
-        → is_end (if x then (if y then PasteBegins else if z then PasteEnds else named_key (digits i v) (paging (key_number (digits i v)))) else named_key (digits i v) (arrow (key_number (digits i v)) b)) ≡ true
+        → is_end (if x then (if y then PasteBegins else if z then PasteEnds else tilde-rest (digits i v)) else final-token (digits i v) b) ≡ true
         → (b ≡ 126) × ((i ≡ 3) × (v ≡ 201))
     at true h true z f g = absurd (cc)
     at true h false true f g =
@@ -216,8 +268,8 @@ token-mark i v b e = at (b == 126) refl (is_mark (digits i v) 200) (is_mark (dig
         let count : i ≡ 3 = let m = more.0 in grind (arith, nat_tests) in
         let value : v ≡ 201 = let m = parts.1 in grind (arith, nat_tests) in
         (last, (count, value))
-    at true h false false f g = let not = named-plain (digits i v) (paging (key_number (digits i v))) in absurd (cc)
-    at false h y z f g = let not = named-plain (digits i v) (arrow (key_number (digits i v)) b) in absurd (cc)
+    at true h false false f g = let not = tilde-plain (digits i v) in absurd (cc)
+    at false h y z f g = let not = final-plain (digits i v) b in absurd (cc)
 
 with-one-digit : (i v b : ℕ) → i < 4 → v ≤ 999 → b ≤ 57 → with_digit (counted (digits i v)) (b - 48) ≡ digits (i + 1) (v * 10 + (b - 48))
 with-one-digit i v b h g f =

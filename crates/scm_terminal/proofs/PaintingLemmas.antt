@@ -18,14 +18,17 @@ use Rattle.scm_terminal.specs.declared.pen.Pass.TheVariants.{Blanks, Symbols, Le
 use Rattle.scm_terminal.specs.StyledCell.{StyledCell, First, Later, laters, HasSize, styled_row, picture}
 use Rattle.scm_terminal.specs.Terminal.{Terminal, Spot, Command, MoveTo, SetStyle, Put, SetWrap, IsOfSize, IsSafe, IsNear, Symbol, bytes_of}
 use Rattle.scm_terminal.specs.Reading.{read_commands}
-use Rattle.scm_terminal.specs.Painting.{Line, AreUpdates, is_style_set, move_commands, style_commands, cell_commands, pen_after, new_pen, passed, columns_in, pass_commands, row_commands, line_commands, painting, paint_commands}
+use Rattle.scm_terminal.specs.Painting.{Line, sent_line, AreUpdates, is_style_set, move_commands, style_commands, cell_commands, pen_after, new_pen, passed, columns_in, pass_commands, row_commands, line_commands, painting, paint_commands}
 use Rattle.scm_terminal.specs.Promise.{known_spots, HasChanged, MovesTo, Paints}
 use Rattle.scm_terminal.specs.PainterView.{cells_of_row}
-use Rattle.scm_terminal.specs.RowView.{line_of}
+use Rattle.scm_terminal.specs.RowView.{line_of, sent_line_of}
+use Rattle.scm_terminal.specs.Sent.{sent_from, sent_row, sent_picture}
 use Rattle.scm_terminal.proofs.RunLemmas.{Runs, Runs-none, Runs-append, wrap-runs, terminal}
 use Rattle.scm_terminal.proofs.RowLemmas.{Ends, Ends-append, over_all, places, row-runs, passes-show}
 use Rattle.scm_terminal.proofs.SafeLemmas.{AreMeasured, measured-styled, paint-safe}
 use Rattle.scm_terminal.proofs.AnyLemmas.{keeps-places}
+use Rattle.scm_terminal.proofs.SentLemmas.{Wholes, sent-whole, length-row, row-stays, sent-lines, sent-cells, sent-read}
+use Rattle.scm_terminal.proofs.AddingLemmas.{Fitting, paint-fits}
 use Rattle.scm_terminal.proofs.PictureLemmas.{styled_from, styled-row, length-styled}
 use Rattle.scm_terminal.proofs.ApartLemmas.{runs-near, paint-apart}
 use Rattle.scm_terminal.proofs.ReadingLemmas.{read_back}
@@ -130,7 +133,7 @@ paint-runs w lines olds cursor was whole stood = at (list_any (λ line. line.is_
 -- ---- what stood
 
 stood-all : (w : ℕ) (lasts : List (List StyledCell)) (lines : List Line) (olds : List (List Spot)) → AreUpdates true lasts lines → length olds ≡ length lines
-    → All (λ row. length row ≡ w) olds → AllZip (Stood w) lines olds
+    → All (λ row. length row ≡ w) olds → AllZip (Stood w) (map sent_line lines) olds
 stood-all w [] [] [] updates size wide = tt
 stood-all w [] [] (old ∷ olds) updates size wide = absurd (omega arith)
 stood-all w [] (line ∷ lines) olds updates size wide = absurd updates
@@ -141,21 +144,56 @@ stood-all w (last ∷ lasts) (line ∷ lines) (old ∷ olds) updates size wide =
   stood-all w lasts lines olds updates.1 (omega arith) (All-tail (λ row. length row ≡ w) old olds wide),
 )
 
-stood-known : (w : ℕ) (lasts : List (List StyledCell)) (lines : List Line) → AreUpdates false lasts lines
-    → All (λ row. length row ≡ w) (map known_spots lasts) → AllZip (Stood w) lines (map known_spots lasts)
+stood-known : (w : ℕ) (lasts : List (List StyledCell)) (lines : List Line) → AreUpdates false lasts lines → All (λ row. length row ≡ w) (map known_spots (sent_picture lasts))
+    → AllZip (Stood w) (map sent_line lines) (map known_spots (sent_picture lasts))
 stood-known w [] [] updates wide = tt
 stood-known w [] (line ∷ lines) updates wide = absurd updates
 stood-known w (last ∷ lasts) [] updates wide = absurd updates
 stood-known w (last ∷ lasts) (line ∷ lines) updates wide = (
-  (All-head (λ row. length row ≡ w) (known_spots last) (map known_spots lasts) wide, λ e. ap known_spots (sym (updates.0.0 e).1)),
-  stood-known w lasts lines updates.1 (All-tail (λ row. length row ≡ w) (known_spots last) (map known_spots lasts) wide),
+  (
+    All-head (λ row. length row ≡ w) (known_spots (sent_row last)) (map known_spots (sent_picture lasts)) wide,
+    λ e. ap (λ (cells : List StyledCell). known_spots (sent_row cells)) (sym (updates.0.0 e).1),
+  ),
+  stood-known w lasts lines updates.1 (All-tail (λ row. length row ≡ w) (known_spots (sent_row last)) (map known_spots (sent_picture lasts)) wide),
 )
 
 pub stands : (is_all : Bool) (w : ℕ) (lasts : List (List StyledCell)) (lines : List Line) (olds : List (List Spot)) → AreUpdates is_all lasts lines → length olds ≡ length lines
-    → All (λ row. length row ≡ w) olds → (is_all ≡ false → olds ≡ map known_spots lasts) → AllZip (Stood w) lines olds
+    → All (λ row. length row ≡ w) olds → (is_all ≡ false → olds ≡ map known_spots (sent_picture lasts)) → AllZip (Stood w) (map sent_line lines) olds
 stands true w lasts lines olds updates size wide is = stood-all w lasts lines olds updates size wide
 stands false w lasts lines olds updates size wide is =
-    subst (AllZip (Stood w) lines) (sym (is refl)) (stood-known w lasts lines updates (subst (All (λ row. length row ≡ w)) (is refl) wide))
+    subst (AllZip (Stood w) (map sent_line lines)) (sym (is refl)) (stood-known w lasts lines updates (subst (All (λ row. length row ≡ w)) (is refl) wide))
+
+-- ---- what is sent
+
+whole-sent : (w : ℕ) (line : Line) → IsWholeLine w line → IsWholeLine w (sent_line line)
+whole-sent w line whole =
+    let sent : Wholes 0 (sent_row line.cells) =
+    subst (λ (ps : List StyledCell). Wholes 0 (sent_from (length line.cells) 0 None ps)) (sym whole.shows) (sent-whole (length line.cells) whole.style whole.symbols 0 whole.wide whole.kept) in
+    record {
+      style = sent.style;
+      symbols = sent.symbols;
+      wide = sent.wide;
+      kept = sent.kept;
+      shows = sent.shows;
+      size = length-row line.cells ∙ whole.size;
+    }
+
+sent-wholes : (w : ℕ) (lines : List Line) → All (IsWholeLine w) lines → All (IsWholeLine w) (map sent_line lines)
+sent-wholes w [] whole = All-nil (IsWholeLine w)
+sent-wholes w (line ∷ lines) whole =
+    All-cons (IsWholeLine w) (sent_line line) (map sent_line lines) (whole-sent w line (All-head (IsWholeLine w) line lines whole)) (sent-wholes w lines (All-tail (IsWholeLine w) line lines whole))
+
+measured-line : (w : ℕ) (line : Line) → IsWholeLine w line → AreMeasured line.cells
+measured-line w line whole = subst AreMeasured (sym whole.shows) (measured-styled whole.style whole.symbols 0 whole.wide whole.kept)
+
+sent-fitting : (w : ℕ) (lines : List Line) → All (IsWholeLine w) lines → All (Fitting w) (map sent_line lines)
+sent-fitting w [] whole = All-nil (Fitting w)
+sent-fitting w (line ∷ lines) whole =
+    let first : IsWholeLine w line = All-head (IsWholeLine w) line lines whole in
+    let sent = whole-sent w line first in
+    All-cons (Fitting w) (sent_line line) (map sent_line lines)
+    (record { size = sent.size; stay = row-stays w line.cells first.size; measured = measured-line w (sent_line line) sent })
+    (sent-fitting w lines (All-tail (IsWholeLine w) line lines whole))
 
 -- ---- the rows of a grid
 
@@ -273,28 +311,34 @@ update-changed is_all (b ∷ last) (l ∷ lines) (suc k) line updates h read e f
 pub paints : (style : ℕ → ℕ → Style) (grid : Screen) (is_all : Bool) (last lasts : List (List StyledCell)) (rows : List Row) (bytes : List ℕ)
     → IsScreen grid → map cells_of_row rows ≡ picture style grid → AreUpdates is_all lasts (map line_of rows)
     → (is_all ≡ false → lasts ≡ last) → (is_all ≡ false → HasSize grid.width (length grid.rows) last) → (HasSize grid.width (length grid.rows) last → is_all ≡ false)
-    → bytes ≡ flat_map bytes_of (paint_commands (map line_of rows))
+    → bytes ≡ flat_map bytes_of (paint_commands (map sent_line_of rows))
     → Paints grid.width last (picture style grid) bytes
-paints style grid is_all last lasts rows bytes screen e updates same fits fitted made =
+paints style grid is_all last lasts rows bytes screen e updates same fits fitted written =
     let lines = map line_of rows in
+    let sents = map sent_line lines in
+    let made : bytes ≡ flat_map bytes_of (paint_commands sents) = written ∙ ap (λ (ls : List Line). flat_map bytes_of (paint_commands ls)) (sym (sent-lines rows)) in
     let shows : map line_cells lines ≡ picture style grid = cells-lines rows ∙ e in
     let whole = whole-lines style grid lines screen shows in
+    let sent_whole = sent-wholes grid.width lines whole in
+    let sent_count = length-map lines sent_line in
     let height : length (picture style grid) ≡ length grid.rows = length-map-range_with_len (styled_row style grid) 0 (length grid.rows) in
     let count' : length lines ≡ length grid.rows = sym (length-map lines line_cells) ∙ ap length shows ∙ height in
     let count : length lines ≡ length (picture style grid) = sym (length-map lines line_cells) ∙ ap length shows in
-    let run = λ (t : Terminal) (size : IsOfSize t grid.width (length (picture style grid))) (stood : HasSize grid.width (length (picture style grid)) last → t.rows ≡ map known_spots last).
-    paint-runs grid.width lines t.rows t.cursor t.style whole
+    let run = λ (t : Terminal) (size : IsOfSize t grid.width (length (picture style grid))) (stood : HasSize grid.width (length (picture style grid)) last → t.rows ≡ map known_spots (sent_picture last)).
+    paint-runs grid.width sents t.rows t.cursor t.style sent_whole
     (stands is_all grid.width lasts lines t.rows updates (size.high ∙ sym count) size.all_wide
-    (λ (f : is_all ≡ false). stood (subst (λ (n : ℕ). HasSize grid.width n last) (sym height) (fits f)) ∙ ap (map known_spots) (sym (same f)))) in
+    (λ (f : is_all ≡ false). stood (subst (λ (n : ℕ). HasSize grid.width n last) (sym height) (fits f)) ∙ ap (λ (rows : List (List StyledCell)). map known_spots (sent_picture rows)) (sym (same f)))) in
     record {
-      commands = paint_commands lines;
+      commands = paint_commands sents;
       written = made;
-      are_read = ap read_commands made ∙ read_back Symbol (paint_commands lines) (safe lines whole) (near lines whole count') (paint-apart lines Symbol);
-      safe = safe lines whole;
-      apart = paint-apart lines Symbol;
-      few = paint-moves (HasChanged grid.width last (picture style grid)) lines (λ k line h read written size equal.
+      are_read = ap read_commands made ∙ read_back Symbol (paint_commands sents) (safe sents sent_whole) (near sents sent_whole (sent_count ∙ count')) (paint-apart sents Symbol);
+      safe = safe sents sent_whole;
+      apart = paint-apart sents Symbol;
+      few = paint-moves (HasChanged grid.width last (picture style grid)) sents (λ k sent h read changed size equal.
           let not_all : is_all ≡ false = fitted (subst (λ (n : ℕ). HasSize grid.width n last) height size) in
-          update-changed is_all lasts lines k line updates h read written not_all (ap (λ (xs : List (List StyledCell)). get_or xs k []) (same not_all) ∙ equal ∙ ap (λ (xs : List (List StyledCell)). get_or xs k []) (sym shows)));
+          let source = sent-read lines k sent h read in
+          update-changed is_all lasts lines k source.0 updates (omega (arith, sent_count, h)) source.1.0 (ap (λ (line : Line). line.is_changed) (sym source.1.1) ∙ changed) not_all (ap (λ (xs : List (List StyledCell)). get_or xs k []) (same not_all) ∙ equal ∙ ap (λ (xs : List (List StyledCell)). get_or xs k []) (sym shows)));
+      fits = λ columns smaller at. paint-fits columns smaller grid.width sents at (sent-fitting grid.width lines whole);
       places = keeps-places grid.width is_all last lasts (picture style grid) lines (λ k d h. (whole k d h).size) count
           (λ (k : ℕ) (line : Line) (h : k < length lines) (read : line ≡ get_or lines k line).
           ap (λ (l : Line). l.cells) read ∙ sym (get_or-map line_cells lines k line [] h) ∙ ap (λ (xs : List (List StyledCell)). get_or xs k []) shows)
@@ -304,10 +348,10 @@ paints style grid is_all last lasts rows bytes screen e updates same fits fitted
           let ends = run t size stood in
           let start : terminal grid.width t.rows t.cursor t.style ≡ t = ap (λ (n : ℕ). terminal n t.rows t.cursor t.style) (sym size.wide) in
           record {
-            end = terminal grid.width (lines_shown lines) ends.cursor ends.style;
-            runs = subst (λ (u : Terminal). Runs (paint_commands lines) u (terminal grid.width (lines_shown lines) ends.cursor ends.style)) start ends.runs;
+            end = terminal grid.width (lines_shown sents) ends.cursor ends.style;
+            runs = subst (λ (u : Terminal). Runs (paint_commands sents) u (terminal grid.width (lines_shown sents) ends.cursor ends.style)) start ends.runs;
             stays_wide = sym size.wide;
-            shows = shown-known lines ∙ ap (map known_spots) shows;
+            shows = shown-known sents ∙ ap (map known_spots) (sent-cells lines ∙ ap sent_picture shows);
           };
     }
   where

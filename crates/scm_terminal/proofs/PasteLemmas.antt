@@ -8,7 +8,7 @@ use Rattle.scm_input.specs.declared.terminal.TerminalEvent.TheVariants.{Other}
 use Rattle.scm_terminal.specs.declared.characters.Character.{Character}
 use Rattle.scm_terminal.specs.declared.characters.CharacterProgress.{CharacterProgress}
 use Rattle.scm_terminal.specs.declared.characters.CharacterProgress.TheVariants.{Whole, Part}
-use Rattle.scm_terminal.specs.declared.decoder.Decoder.{Decoder}
+use Rattle.scm_terminal.specs.declared.tokenizer.Tokenizer.{Tokenizer}
 use Rattle.scm_terminal.specs.declared.tokens.Token.{Token}
 use Rattle.scm_terminal.specs.declared.tokens.Token.TheVariants.{Event, PasteBegins, PasteEnds}
 use Rattle.scm_terminal.specs.declared.transitions.State.{State}
@@ -20,43 +20,42 @@ use Rattle.scm_terminal.specs.Sequences.{new_sequence, with_parameter, token_of,
 use Rattle.scm_terminal.specs.Characters.{lead_character, with_continuation, char_token, bits_with}
 use Rattle.scm_terminal.specs.Streams.{split_from, stream_events, paste_begin, paste_end, HasNoEscape, AreOther, IsQuiet}
 use Rattle.scm_terminal.specs.Transitions.{lead_transition, ground_transition, progress_transition, transition_of}
-use Rattle.scm_terminal.specs.Decoders.{decoder, events_of, Step, step_by, step_retry, step, hears, HasHeard}
-use Rattle.scm_terminal.proofs.HeardLemmas.{hears_event, heard_next, knows}
+use Rattle.scm_terminal.specs.Decoders.{tokenizer, events_of, Step, step_by, step_retry, step, hears}
+use Rattle.scm_terminal.proofs.HeardLemmas.{hears_event, follows_next, knows, Follows}
 use Rattle.scm_terminal.proofs.StreamLemmas.{with_one}
 use Rattle.scm_terminal.proofs.LawLemmas.{end_state}
 
 -- ---- the events along a stream
 
-abbrev pub along : Decoder → List ℕ → List TerminalEvent
+abbrev pub along : Tokenizer → List ℕ → List TerminalEvent
 along d [] = []
 along d (b ∷ bs) = events_of (step d b).events ++ along (hears d b) bs
 
-along-append : (d : Decoder) (xs ys : List ℕ) → along d (xs ++ ys) ≡ along d xs ++ along (fold hears d xs) ys
+along-append : (d : Tokenizer) (xs ys : List ℕ) → along d (xs ++ ys) ≡ along d xs ++ along (fold hears d xs) ys
 along-append d [] ys = refl
 along-append d (x ∷ xs) ys =
     ap (λ (l : List TerminalEvent). events_of (step d x).events ++ l) (along-append (hears d x) xs ys)
     ∙ sym (append_assoc (events_of (step d x).events) (along (hears d x) xs) (along (fold hears (hears d x) xs) ys))
 
-decoded_along_from : (d : Decoder) (p : Bool) (bytes : List ℕ) → HasHeard d p bytes → (bs : List ℕ) → stream_events p (bytes ++ bs) ≡ stream_events p bytes ++ along d bs
+decoded_along_from : (d : Tokenizer) (p : Bool) (bytes : List ℕ) → Follows d p bytes → (bs : List ℕ) → stream_events p (bytes ++ bs) ≡ stream_events p bytes ++ along d bs
 decoded_along_from d p bytes h [] = ap (stream_events p) (append-nil bytes) ∙ sym (append-nil (stream_events p bytes))
 decoded_along_from d p bytes h (b ∷ bs) =
     ap (stream_events p) (sym (with_one bytes b bs))
-    ∙ decoded_along_from (hears d b) p (bytes ++ (b ∷ [])) (heard_next d p bytes h b) bs
+    ∙ decoded_along_from (hears d b) p (bytes ++ (b ∷ [])) (follows_next d p bytes h b) bs
     ∙ ap (λ (l : List TerminalEvent). l ++ along (hears d b) bs) (hears_event d p bytes (knows d p bytes h) b)
     ∙ append_assoc (stream_events p bytes) (events_of (step d b).events) (along (hears d b) bs)
 
-heard_none : (p : Bool) → HasHeard (decoder p state.Ground) p []
-unfolding HasHeard
+heard_none : (p : Bool) → Follows (tokenizer p state.Ground) p []
 heard_none p = refl
 
 decoded_none : (p : Bool) → stream_events p [] ≡ []
 unfolding split_from
 decoded_none p = refl
 
-decoded_along : (p : Bool) (bytes : List ℕ) → stream_events p bytes ≡ along (decoder p state.Ground) bytes
+decoded_along : (p : Bool) (bytes : List ℕ) → stream_events p bytes ≡ along (tokenizer p state.Ground) bytes
 decoded_along p bytes =
-    decoded_along_from (decoder p state.Ground) p [] (heard_none p) bytes
-    ∙ ap (λ (l : List TerminalEvent). l ++ along (decoder p state.Ground) bytes) (decoded_none p)
+    decoded_along_from (tokenizer p state.Ground) p [] (heard_none p) bytes
+    ∙ ap (λ (l : List TerminalEvent). l ++ along (tokenizer p state.Ground) bytes) (decoded_none p)
 
 -- ---- moves without an escape
 
@@ -69,9 +68,11 @@ IsTell PasteEnds = ⊥
 abbrev IsPlain : State → Type 0
 IsPlain state.Ground = Unit {0}
 IsPlain state.Escape = ⊥
+IsPlain state.EndedEscape = ⊥
 IsPlain (state.Sequence q) = ⊥
 IsPlain (state.Trailing left) = ⊥
 IsPlain (state.Character c) = Unit {0}
+IsPlain state.StringBegun = ⊥
 IsPlain state.ControlString = ⊥
 
 abbrev Stays : Transition → Type 0
@@ -122,16 +123,18 @@ move_stays : (s : State) → IsPlain s → (b : ℕ) → (b == 27) ≡ false →
 unfolding transition_of
 move_stays state.Ground h b e = ground_stays b e
 move_stays state.Escape h b e = absurd h
+move_stays state.EndedEscape h b e = absurd h
 move_stays (state.Sequence q) h b e = absurd h
 move_stays (state.Trailing left) h b e = absurd h
 move_stays (state.Character c) h b e = stays_if (is_continuation b) _ _ (joined_stays (with_continuation c b) (extended_joins c b)) tt
+move_stays state.StringBegun h b e = absurd h
 move_stays state.ControlString h b e = absurd h
 
 -- ---- steps within what is pasted
 
 record Remains (done : Step) : Type 0 where
-  pasted : done.decoder.is_pasted ≡ true
-  plain : IsPlain done.decoder.state
+  pasted : done.tokenizer.is_pasted ≡ true
+  plain : IsPlain done.tokenizer.state
   quiet : AreOther (events_of done.events)
 
 again_remains : (m : Transition) → Stays m → Remains (step_retry Other true m)
@@ -152,58 +155,60 @@ remains b e (EmitAndRetry (Event event)) h = again_remains (ground_transition b)
 remains b e (EmitAndRetry PasteBegins) h = absurd h
 remains b e (EmitAndRetry PasteEnds) h = absurd h
 
-step_remains : (s : State) → IsPlain s → (b : ℕ) → b ≢ 27 → Remains (step (decoder true s) b)
+step_remains : (s : State) → IsPlain s → (b : ℕ) → b ≢ 27 → Remains (step (tokenizer true s) b)
 unfolding step
 step_remains s h b e = remains b (ne_eqb b 27 e) (transition_of s b) (move_stays s h b (ne_eqb b 27 e))
 
-pasted_decoder : (d : Decoder) → d.is_pasted ≡ true → d ≡ decoder true d.state
-pasted_decoder d e = ap (λ q. decoder q d.state) e
+pasted_tokenizer : (d : Tokenizer) → d.is_pasted ≡ true → d ≡ tokenizer true d.state
+pasted_tokenizer d e = ap (λ q. tokenizer q d.state) e
 
-decoder_remains : (d : Decoder) → d.is_pasted ≡ true → IsPlain d.state → (b : ℕ) → b ≢ 27 → Remains (step d b)
-decoder_remains d e h b f = subst (λ (x : Decoder). Remains (step x b)) (sym (pasted_decoder d e)) (step_remains d.state h b f)
+tokenizer_remains : (d : Tokenizer) → d.is_pasted ≡ true → IsPlain d.state → (b : ℕ) → b ≢ 27 → Remains (step d b)
+tokenizer_remains d e h b f = subst (λ (x : Tokenizer). Remains (step x b)) (sym (pasted_tokenizer d e)) (step_remains d.state h b f)
 
 other-append : (xs ys : List TerminalEvent) → AreOther xs → AreOther ys → AreOther (xs ++ ys)
 other-append [] ys p q = q
 other-append (x ∷ xs) ys p q = (p.0, other-append xs ys p.1 q)
 
-record Passes (d : Decoder) (text : List ℕ) : Type 0 where
+record Passes (d : Tokenizer) (text : List ℕ) : Type 0 where
   pasted : (fold hears d text).is_pasted ≡ true
   plain : IsPlain (fold hears d text).state
   quiet : AreOther (along d text)
 
-passes : (text : List ℕ) → HasNoEscape text → (d : Decoder) → d.is_pasted ≡ true → IsPlain d.state → Passes d text
+passes : (text : List ℕ) → HasNoEscape text → (d : Tokenizer) → d.is_pasted ≡ true → IsPlain d.state → Passes d text
 passes [] h d e p = record { pasted = e; plain = p; quiet = tt }
 passes (b ∷ bs) h d e p =
-    let one = decoder_remains d e p b h.0 in
+    let one = tokenizer_remains d e p b h.0 in
     let more = passes bs h.1 (hears d b) one.pasted one.plain in
     record { pasted = more.pasted; plain = more.plain; quiet = other-append (events_of (step d b).events) (along (hears d b) bs) one.quiet more.quiet }
 
 -- ---- the marks at both ends
 
-begin_state : fold hears (decoder false state.Ground) paste_begin ≡ decoder true state.Ground
+begin_state : fold hears (tokenizer false state.Ground) paste_begin ≡ tokenizer true state.Ground
 unfolding step transition_of is_parameter is_final new_sequence with_parameter token_of trailing_bytes
 begin_state = refl
 
-begin_quiet : AreOther (along (decoder false state.Ground) paste_begin)
+begin_quiet : AreOther (along (tokenizer false state.Ground) paste_begin)
 unfolding step transition_of is_parameter is_final new_sequence with_parameter token_of trailing_bytes
 begin_quiet = (refl, tt)
 
-end_quiet_at : (s : State) → IsPlain s → AreOther (along (decoder true s) paste_end)
+end_quiet_at : (s : State) → IsPlain s → AreOther (along (tokenizer true s) paste_end)
 unfolding step transition_of is_parameter is_final is_continuation new_sequence with_parameter token_of trailing_bytes
 end_quiet_at state.Ground h = (refl, tt)
 end_quiet_at state.Escape h = absurd h
+end_quiet_at state.EndedEscape h = absurd h
 end_quiet_at (state.Sequence q) h = absurd h
 end_quiet_at (state.Trailing left) h = absurd h
 end_quiet_at (state.Character c) h = (refl, (refl, tt))
+end_quiet_at state.StringBegun h = absurd h
 end_quiet_at state.ControlString h = absurd h
 
-end_quiet : (d : Decoder) → d.is_pasted ≡ true → IsPlain d.state → AreOther (along d paste_end)
-end_quiet d e h = subst (λ (x : Decoder). AreOther (along x paste_end)) (sym (pasted_decoder d e)) (end_quiet_at d.state h)
+end_quiet : (d : Tokenizer) → d.is_pasted ≡ true → IsPlain d.state → AreOther (along d paste_end)
+end_quiet d e h = subst (λ (x : Tokenizer). AreOther (along x paste_end)) (sym (pasted_tokenizer d e)) (end_quiet_at d.state h)
 
 pub quiet : (text more : List ℕ) → HasNoEscape text → IsQuiet text more
 quiet text more h =
-    let start = decoder false state.Ground in
-    let inside = decoder true state.Ground in
+    let start = tokenizer false state.Ground in
+    let inside = tokenizer true state.Ground in
     let passed = passes text h inside refl tt in
     let last = fold hears inside text in
     record {
@@ -213,11 +218,11 @@ quiet text more h =
       events =
           decoded_along false (paste_begin ++ (text ++ (paste_end ++ more)))
           ∙ along-append start paste_begin (text ++ (paste_end ++ more))
-          ∙ ap (λ (d : Decoder). along start paste_begin ++ along d (text ++ (paste_end ++ more))) begin_state
+          ∙ ap (λ (d : Tokenizer). along start paste_begin ++ along d (text ++ (paste_end ++ more))) begin_state
           ∙ ap (λ (l : List TerminalEvent). along start paste_begin ++ l)
           (along-append inside text (paste_end ++ more)
           ∙ ap (λ (l : List TerminalEvent). along inside text ++ l)
-          (along-append last paste_end more ∙ ap (λ (d : Decoder). along last paste_end ++ along d more) (end_state last))
+          (along-append last paste_end more ∙ ap (λ (d : Tokenizer). along last paste_end ++ along d more) (end_state last))
           ∙ sym (append_assoc (along inside text) (along last paste_end) (along start more)))
           ∙ sym (append_assoc (along start paste_begin) (along inside text ++ along last paste_end) (along start more))
           ∙ ap (λ (l : List TerminalEvent). (along start paste_begin ++ (along inside text ++ along last paste_end)) ++ l) (sym (decoded_along false more));

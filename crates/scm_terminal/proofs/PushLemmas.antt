@@ -1,14 +1,16 @@
 -- The bytes of cells and of rows one after another.
-use Rattle.std.proofs.Common.{◌≡◌, ℕ, ◌==◌, ◌&&◌, ◌||◌, ◌+◌, ◌<◌, ◌≤◌, Bool, true, false, List, [], ◌∷◌, ◌++◌, length, drop, get_or, map, refl, sym, ap, ◌∙◌, append-nil, append_assoc}
+use Rattle.std.proofs.Common.{◌≡◌, ℕ, ◌==◌, ◌&&◌, ◌||◌, ◌+◌, ◌<◌, ◌≤◌, Bool, true, false, List, [], ◌∷◌, ◌++◌, length, drop, get_or, map, refl, sym, ap, ap₂, ◌∙◌, Option, append-nil, append_assoc}
 use Rattle.std.specs.Prelude.{if◌then◌else◌}
 use Rattle.std.specs.List.{flat_map, list_any}
 use Rattle.std.proofs.lemmas.List.{drop_more, drop_all}
 use Rattle.std.proofs.lemmas.List.Concat.{flat_map-append}
+use Rattle.scm_cells.specs.declared.style.Style.{Style}
 use Rattle.scm_terminal.specs.declared.pen.Pen.{Pen}
 use Rattle.scm_terminal.specs.declared.pen.Pass.{Pass}
 use Rattle.scm_terminal.specs.declared.pen.Pass.TheVariants.{Blanks, Symbols, Letters}
 use Rattle.scm_terminal.specs.declared.row.Row.{Row}
-use Rattle.scm_terminal.specs.RowView.{line_of}
+use Rattle.scm_terminal.specs.RowView.{sent_line_of}
+use Rattle.scm_terminal.specs.Sent.{sent_cell, blank_after, sent_from}
 use Rattle.scm_terminal.specs.StyledCell.{StyledCell, First, Later, laters}
 use Rattle.scm_terminal.specs.Terminal.{Command, Put, SetWrap, bytes_of}
 use Rattle.scm_terminal.specs.Painting.{Line, move_commands, style_commands, cell_commands, pen_after, new_pen, passed, columns_in, pass_commands, row_commands, line_commands, painting, paint_commands}
@@ -34,28 +36,41 @@ pass-cons pass row column pen p ps =
     flat_map-append bytes_of (cell_commands row column pen (passed pass pen.is_there p) (columns_in pass (laters ps))) (pass_commands pass row (column + 1) (pen_after pen (passed pass pen.is_there p)) ps)
     ∙ ap (λ t. t ++ bytes (pass_commands pass row (column + 1) (pen_after pen (passed pass pen.is_there p)) ps)) (bytes-columns row column pen (passed pass pen.is_there p) (columns_in pass (laters ps)) 0)
 
-pub pass-more : (pass : Pass) (row column : ℕ) (pen after : Pen) (cells : List StyledCell) (p : StyledCell) (was now start : List ℕ) → column < length cells → p ≡ get_or cells column p
-    → after ≡ pen_after pen (passed pass pen.is_there p) → now ≡ was ++ bytes (cell_commands row column pen (passed pass pen.is_there p) 0)
-    → was ++ bytes (pass_commands pass row column pen (drop column cells)) ≡ start
-    → now ++ bytes (pass_commands pass row (column + 1) after (drop (column + 1) cells)) ≡ start
-pass-more pass row column pen after cells p was now start h read behind e inv =
-    let more : drop column cells ≡ p ∷ drop (column + 1) cells = drop_more cells column p h ∙ ap (λ q. q ∷ drop (column + 1) cells) (sym read) in
-    let rest = bytes (pass_commands pass row (column + 1) (pen_after pen (passed pass pen.is_there p)) (drop (column + 1) cells)) in
-    ap (λ (q : Pen). now ++ bytes (pass_commands pass row (column + 1) q (drop (column + 1) cells))) behind
+sent-none : (w column : ℕ) (blank : Option Style) → sent_from w column blank [] ≡ []
+unfolding sent_from
+sent-none w column blank = refl
+
+sent-more : (w column : ℕ) (blank next : Option Style) (p q : StyledCell) (ps : List StyledCell) → q ≡ sent_cell w column blank p → next ≡ blank_after w column blank p
+    → sent_from w column blank (p ∷ ps) ≡ q ∷ sent_from w (column + 1) next ps
+unfolding sent_from
+sent-more w column blank next p q ps e f = ap₂ (λ (x : StyledCell) (b : Option Style). x ∷ sent_from w (column + 1) b ps) (sym e) (sym f)
+
+pub pass-more : (w : ℕ) (pass : Pass) (row column : ℕ) (pen after : Pen) (blank next : Option Style) (cells : List StyledCell) (p q : StyledCell) (was now start : List ℕ) → column < length cells → p ≡ get_or cells column p
+    → q ≡ sent_cell w column blank p → next ≡ blank_after w column blank p
+    → after ≡ pen_after pen (passed pass pen.is_there q) → now ≡ was ++ bytes (cell_commands row column pen (passed pass pen.is_there q) 0)
+    → was ++ bytes (pass_commands pass row column pen (sent_from w column blank (drop column cells))) ≡ start
+    → now ++ bytes (pass_commands pass row (column + 1) after (sent_from w (column + 1) next (drop (column + 1) cells))) ≡ start
+pass-more w pass row column pen after blank next cells p q was now start h read is follows behind e inv =
+    let more : drop column cells ≡ p ∷ drop (column + 1) cells = drop_more cells column p h ∙ ap (λ x. x ∷ drop (column + 1) cells) (sym read) in
+    let others = sent_from w (column + 1) next (drop (column + 1) cells) in
+    let sent : sent_from w column blank (drop column cells) ≡ q ∷ others = ap (sent_from w column blank) more ∙ sent-more w column blank next p q (drop (column + 1) cells) is follows in
+    let rest = bytes (pass_commands pass row (column + 1) (pen_after pen (passed pass pen.is_there q)) others) in
+    ap (λ (x : Pen). now ++ bytes (pass_commands pass row (column + 1) x others)) behind
     ∙ ap (λ t. t ++ rest) e
-    ∙ append_assoc was (bytes (cell_commands row column pen (passed pass pen.is_there p) 0)) rest
-    ∙ ap (λ t. was ++ t) (sym (pass-cons pass row column pen p (drop (column + 1) cells)))
-    ∙ ap (λ ps. was ++ bytes (pass_commands pass row column pen ps)) (sym more)
+    ∙ append_assoc was (bytes (cell_commands row column pen (passed pass pen.is_there q) 0)) rest
+    ∙ ap (λ t. was ++ t) (sym (pass-cons pass row column pen q others))
+    ∙ ap (λ ps. was ++ bytes (pass_commands pass row column pen ps)) (sym sent)
     ∙ inv
 
 pass-nil : (pass : Pass) (row column : ℕ) (pen : Pen) → pass_commands pass row column pen [] ≡ []
 unfolding pass_commands
 pass-nil pass row column pen = refl
 
-pub pass-all : (pass : Pass) (row column : ℕ) (pen : Pen) (cells : List StyledCell) (now start : List ℕ) → length cells ≤ column
-    → now ++ bytes (pass_commands pass row column pen (drop column cells)) ≡ start → now ≡ start
-pass-all pass row column pen cells now start h inv =
-    sym (append-nil now) ∙ ap (λ cs. now ++ bytes cs) (sym (ap (pass_commands pass row column pen) (drop_all column cells h) ∙ pass-nil pass row column pen)) ∙ inv
+pub pass-all : (w : ℕ) (pass : Pass) (row column : ℕ) (pen : Pen) (blank : Option Style) (cells : List StyledCell) (now start : List ℕ) → length cells ≤ column
+    → now ++ bytes (pass_commands pass row column pen (sent_from w column blank (drop column cells))) ≡ start → now ≡ start
+pass-all w pass row column pen blank cells now start h inv =
+    let none : sent_from w column blank (drop column cells) ≡ [] = ap (sent_from w column blank) (drop_all column cells h) ∙ sent-none w column blank in
+    sym (append-nil now) ∙ ap (λ cs. now ++ bytes cs) (sym (ap (pass_commands pass row column pen) none ∙ pass-nil pass row column pen)) ∙ inv
 
 -- the three passes of a row
 pub row-passes : (row : ℕ) (cells : List StyledCell) (t0 t1 t2 t3 : List ℕ)
@@ -96,11 +111,7 @@ pub painting-all : (row : ℕ) (lines : List Line) (now start : List ℕ) → le
 painting-all row lines now start h inv =
     sym (append-nil now) ∙ ap (λ cs. now ++ bytes cs) (sym (ap (painting row) (drop_all row lines h) ∙ painting-nil row)) ∙ inv
 
-pub row-push : (row : ℕ) (shown : Row) (was now : List ℕ) → shown.is_changed ≡ true → now ≡ was ++ bytes (row_commands row shown.cells.items)
-    → now ≡ was ++ bytes (line_commands row (line_of shown))
-row-push row shown was now changed e = rw changed e
-
-pub changed-lines : (rows : List Row) → list_any (λ line. line.is_changed) (map line_of rows) ≡ list_any (λ row. row.is_changed) rows
+pub changed-lines : (rows : List Row) → list_any (λ line. line.is_changed) (map sent_line_of rows) ≡ list_any (λ row. row.is_changed) rows
 changed-lines [] = refl
 changed-lines (row ∷ rows) = ap (λ b. row.is_changed || b) (changed-lines rows)
 

@@ -296,7 +296,7 @@ byte-low b u = at (chars (b ∷ [])) (encodes-chars (b ∷ []) (IsUtf8-from_is_u
     at (c ∷ cs) e = one_char b c cs e
 
 -- a kept symbol of one byte is printable ASCII of one column
-byte-printable : (b columns : ℕ) → IsMeasured (b ∷ [], columns) → is_printable_char b ≡ true
+pub byte-printable : (b columns : ℕ) → IsMeasured (b ∷ [], columns) → is_printable_char b ≡ true
 byte-printable b columns m =
     let plain = All-head IsNotControl b [] (holds_no_control (b ∷ []) columns m).1 in
     let low = byte-low b m.utf8 in

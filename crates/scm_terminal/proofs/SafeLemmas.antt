@@ -46,7 +46,7 @@ space-measured : IsMeasured (32 ∷ [], 1)
 space-measured = measured (32 ∷ [], 1) (printable-kept 32 refl) (utf8-ascii 32 (omega arith)) (λ h. refl)
 
 -- what a pass puts at the first cell
-put-measured : (pass : Pass) (there : Bool) (p : StyledCell) (ps : List StyledCell) → AreMeasured (p ∷ ps) → (symbol : List ℕ) (style : Style) → passed pass there p ≡ First symbol style
+pub put-measured : (pass : Pass) (there : Bool) (p : StyledCell) (ps : List StyledCell) → AreMeasured (p ∷ ps) → (symbol : List ℕ) (style : Style) → passed pass there p ≡ First symbol style
     → IsMeasured (symbol, columns_in pass (laters ps))
 unfolding AreMeasured
 put-measured Blanks there Later ps h symbol style e = let same : (32 ∷ []) ≡ symbol = cc in subst (λ (s : List ℕ). IsMeasured (s, 1)) same space-measured
@@ -72,7 +72,7 @@ put-measured Letters there (First s st) ps h symbol style e = at (length s == 1)
         subst (λ (t : List ℕ). IsMeasured (t, 1)) same (subst (λ (m : ℕ). IsMeasured (s, m)) n h.0)
     at false one f = absurd (cc)
 
-rest-measured : (p : StyledCell) (ps : List StyledCell) → AreMeasured (p ∷ ps) → AreMeasured ps
+pub rest-measured : (p : StyledCell) (ps : List StyledCell) → AreMeasured (p ∷ ps) → AreMeasured ps
 unfolding AreMeasured
 rest-measured Later ps h = h
 rest-measured (First symbol style) ps h = h.1

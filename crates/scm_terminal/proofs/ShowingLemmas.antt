@@ -6,8 +6,12 @@ use Rattle.std.proofs.lemmas.Bool.{and_parts}
 use Rattle.std.proofs.lemmas.Bool.Decides.{nat_tests}
 use Rattle.std.proofs.lemmas.List.{get_or-map, length-map, length_push, map_push}
 use Rattle.std.proofs.lemmas.List.Elements.{All-map, All-append, All-cons, All-nil}
-use Rattle.std.proofs.lemmas.List.FromFn.{get_or-map-range_with_len, fill_by_all}
-use Rattle.scm_terminal.specs.StyledCell.{StyledCell, Later, HasSize}
+use Rattle.std.proofs.lemmas.List.FromFn.{get_or-map-range_with_len, length-map-range_with_len, fill_by_all}
+use Rattle.scm_cells.specs.Screen.{Screen}
+use Rattle.scm_cells.specs.Symbols.{symbol_at}
+use Rattle.scm_cells.specs.declared.style.Style.{Style}
+use Rattle.scm_terminal.specs.Style.{plain_style}
+use Rattle.scm_terminal.specs.StyledCell.{StyledCell, Later, HasSize, cell_at, cell_in, cell_of, row_in, row_of_styles, styled_row}
 
 -- a cell that shows something else is one of a row that does
 pub differs : (f : ℕ → StyledCell) (cells : List StyledCell) (n column : ℕ) (p q : StyledCell) (b : Bool) → column < length cells → length cells ≡ n → p ≡ get_or cells column p → q ≡ f column
@@ -22,6 +26,14 @@ differs f cells n column p q b h size read e says not = (
 
 pub all_shown : (f : ℕ → StyledCell) (cells : List StyledCell) (n : ℕ) → length cells ≡ n → ((k : ℕ) → k < n → get_or cells k Later ≡ f k) → cells ≡ map f (range_with_len 0 n)
 all_shown f cells n size shown = fill_by_all f cells n Later size shown
+
+-- the styles of a row, asked for at once, are those of its places
+pub row-styled : (style : ℕ → ℕ → Style) (grid : Screen) (row : ℕ) (styles : List Style) → styles ≡ row_of_styles style row grid.width → row_in styles grid row ≡ styled_row style grid row
+row-styled style grid row styles e =
+    fill_by_all (cell_at style grid row) (row_in styles grid row) grid.width Later
+    (length-map-range_with_len (cell_in styles grid row) 0 grid.width)
+    (λ k within. get_or-map-range_with_len (cell_in styles grid row) 0 grid.width k k Later within (omega arith)
+    ∙ ap (cell_of (symbol_at grid.rows row k)) (ap (λ (ss : List Style). get_or ss k plain_style) e ∙ get_or-map-range_with_len (style row) 0 grid.width k k plain_style within (omega arith)))
 
 -- ---- rows of a size
 

@@ -1,10 +1,12 @@
 -- A terminal of any widths, by what may follow a command. A symbol of several bytes may change any
 -- column of its row: it may take any number of columns, be drawn further left, or be left out. A
--- symbol of one byte takes one column, and the other symbols of one byte stay. While symbols wrap, or
--- if the row of the cursor is unknown, nothing is known of a symbol.
-use Rattle.std.specs.Prelude.{◌≡◌, ◌≢◌, ℕ, ◌+◌, ◌<◌, Bool, true, false, List, [], ◌∷◌, length, slice_index_or, slice_set, Option, Some, None}
+-- symbol of one byte takes one column, and the other symbols of one byte stay. Nothing is known of
+-- a symbol while symbols wrap, or if the cursor is unknown, or if it need not stay on its row
+-- (`stays_on_row`): then it may wrap, scroll, or join the row above.
+use Rattle.std.specs.Prelude.{◌≡◌, ◌≢◌, ℕ, ◌+◌, ◌<◌, if◌then◌else◌, Bool, true, false, List, [], ◌∷◌, length, slice_index_or, slice_set, Option, Some, None}
 use Rattle.scm_cells.specs.declared.style.Style.{Style}
 use Rattle.scm_terminal.specs.StyledCell.{StyledCell, First, HasSize}
+use Rattle.scm_terminal.specs.Sent.{stays_on_row}
 use Rattle.scm_terminal.specs.Terminal.{Spot, Command, MoveTo, SetStyle, Put, SetWrap}
 
 -- what a terminal shows, and its state; rows and columns are counted from 0
@@ -50,8 +52,9 @@ pub record PutsByte (row column b : ℕ) (style : Style) (t u : Display) : Type 
 
 -- what is known of a symbol that is put
 pub record Puts (symbol : List ℕ) (t u : Display) : Type 0 where
-  -- if no symbol wraps, only the row of the cursor changes
-  pub stays : (row : ℕ) → t.wraps ≡ Some false → t.row ≡ Some row → ChangesRow row t u
+  -- if no symbol wraps, and this one stays on its row, only the row of the cursor changes
+  pub stays : (row column : ℕ) → t.wraps ≡ Some false → t.row ≡ Some row → t.column ≡ Some column
+      → stays_on_row t.width column symbol ≡ true → ChangesRow row t u
   -- if it has one byte, it takes one column
   pub byte : (row column b : ℕ) → (style : Style)
       → t.wraps ≡ Some false → t.row ≡ Some row → t.column ≡ Some column → t.style ≡ Some style
@@ -88,7 +91,8 @@ pub record HasPlaces (t : Display) (width height : ℕ) : Type 0 where
 --   before. If `last` has the same size, those of `last` have to stand at their places before.
 -- - `sized`: the size of the terminal is unchanged;
 -- - `wraps`: symbols wrap afterwards if they wrapped before.
-pub record KeepsPlaces (width : ℕ) (last next : List (List StyledCell)) (commands : List Command) : Type 0 where
+pub record KeepsPlaces (width : ℕ) (last next : List (List StyledCell))
+    (commands : List Command) : Type 0 where
   pub keeps : (t u : Display) → HasPlaces t width (length next) → Might commands t u
       → HasSize width (length next) last → (row : ℕ)
       → slice_index_or last row [] ≡ slice_index_or next row []
@@ -108,6 +112,10 @@ pub record KeepsPlaces (width : ℕ) (last next : List (List StyledCell)) (comma
 abbrev pub Showing : Type 0
 Showing = List ℕ → ℕ → Style → List Spot → List Spot
 
+-- What a terminal does with a symbol that may leave its row: anything, as scrolling
+abbrev pub Leaving : Type 0
+Leaving = List ℕ → Display → Display
+
 -- the row after a symbol at `column`: a symbol of one byte takes that column
 abbrev pub row_after : Showing → List ℕ → ℕ → Style → List Spot → List Spot
 row_after showing [] column style row = showing [] column style row
@@ -115,21 +123,28 @@ row_after showing (b ∷ []) column style row = slice_set row column (Some (Firs
 row_after showing (b ∷ (c ∷ cs)) column style row = showing (b ∷ (c ∷ cs)) column style row
 
 -- the display after a symbol at the cursor, if it is known
-abbrev pub display_after : Showing → List ℕ → Option ℕ → Option ℕ → Option Style → Display → Display
-display_after showing symbol None column style t = t
-display_after showing symbol (Some row) None style t = t
-display_after showing symbol (Some row) (Some column) None t = t
-display_after showing symbol (Some row) (Some column) (Some style) t = record t {
-  rows = slice_set t.rows row (row_after showing symbol column style (slice_index_or t.rows row []));
-  column = Some (column + 1);
-}
+abbrev pub display_after : Showing → Leaving → List ℕ → Option ℕ → Option ℕ → Option Style
+    → Display → Display
+display_after showing leaving symbol None column style t = t
+display_after showing leaving symbol (Some row) None style t = t
+display_after showing leaving symbol (Some row) (Some column) None t = t
+display_after showing leaving symbol (Some row) (Some column) (Some style) t =
+    if stays_on_row t.width column symbol then
+    record t {
+      rows =
+          slice_set t.rows row
+          (row_after showing symbol column style (slice_index_or t.rows row []));
+      column = Some (column + 1);
+    }
+    else leaving symbol t
 
 -- the display after a command
-abbrev pub step : Showing → Command → Display → Display
-step showing (MoveTo row column) t = record t { row = Some row; column = Some column }
-step showing (SetStyle style) t = record t { style = Some style }
-step showing (Put symbol columns) t = display_after showing symbol t.row t.column t.style t
-step showing (SetWrap wraps) t = record t { wraps = Some wraps }
+abbrev pub step : Showing → Leaving → Command → Display → Display
+step showing leaving (MoveTo row column) t = record t { row = Some row; column = Some column }
+step showing leaving (SetStyle style) t = record t { style = Some style }
+step showing leaving (Put symbol columns) t =
+    display_after showing leaving symbol t.row t.column t.style t
+step showing leaving (SetWrap wraps) t = record t { wraps = Some wraps }
 
 -- each row has the display's width
 abbrev pub AreWide : Display → Type 0

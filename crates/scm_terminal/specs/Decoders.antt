@@ -1,5 +1,5 @@
 -- The decoder: its step at each byte, the bytes that it has read, and the events that it returns.
-use Rattle.std.specs.Prelude.{◌≡◌, ℕ, Bool, false, MatchBool, List, [], ◌++◌, Option, Some, None, fold, option_to_list}
+use Rattle.std.specs.Prelude.{◌≡◌, ℕ, Bool, false, List, [], ◌++◌, ◌==◌, Option, Some, None, fold, option_to_list, if◌then◌else◌}
 use Rattle.scm_input.specs.declared.terminal.TerminalEvent.{TerminalEvent}
 use Rattle.scm_terminal.specs.declared.decoder.Decoder.{Decoder}
 use Rattle.scm_terminal.specs.declared.decoder.EventPair.{EventPair}
@@ -7,12 +7,21 @@ use Rattle.scm_terminal.specs.declared.transitions.Transition.{Transition}
 use Rattle.scm_terminal.specs.declared.transitions.Transition.TheVariants.{Continue, Emit, EmitAndRetry}
 use Rattle.scm_terminal.specs.declared.transitions.State.{State}
 use Rattle.scm_terminal.specs.declared.transitions.State.TheVariants as state
-use Rattle.scm_terminal.specs.Streams.{stream_events, is_pasted_after, rest, idle_event, token_event, pasted_after}
+use Rattle.scm_terminal.specs.declared.decoder.Burst.{Burst}
+use Rattle.scm_terminal.specs.declared.decoder.Burst.TheVariants as burst
+use Rattle.scm_terminal.specs.declared.tokenizer.Tokenizer.{Tokenizer}
+use Rattle.scm_terminal.specs.Bytes.{interrupt}
+use Rattle.scm_terminal.specs.Streams.{token_event, pasted_after}
+use Rattle.scm_terminal.specs.Silences.{Start, Waiting, AfterEscape, events_from, idle_event, after_silence}
 use Rattle.scm_terminal.specs.Transitions.{ground_transition, transition_of}
 
--- a decoder by its two fields
-abbrev pub decoder : Bool → State → Decoder
-decoder is_pasted waiting = record { is_pasted = is_pasted; state = waiting }
+-- a tokenizer by its two fields
+abbrev pub tokenizer : Bool → State → Tokenizer
+tokenizer is_pasted waiting = record { is_pasted = is_pasted; state = waiting }
+
+-- a tokenizer that has read no bytes
+abbrev pub new_tokenizer : Tokenizer
+new_tokenizer = tokenizer false state.Ground
 
 -- the events of a pair, in order
 abbrev pub events_of : EventPair → List TerminalEvent
@@ -28,13 +37,13 @@ event_pair first second = record { first = first; second = second }
 pub record Step : Type 0 where
   -- the events that the byte completes
   pub events : EventPair
-  -- the decoder after the byte
-  pub decoder : Decoder
+  -- the tokenizer after the byte
+  pub tokenizer : Tokenizer
 
--- a step by its events and the fields of its decoder
+-- a step by its events and the fields of its tokenizer
 abbrev pub step_to : Option TerminalEvent → Option TerminalEvent → Bool → State → Step
 step_to first second is_pasted waiting =
-    record { events = event_pair first second; decoder = decoder is_pasted waiting }
+    record { events = event_pair first second; tokenizer = tokenizer is_pasted waiting }
 
 -- the step of a byte that ended a token before it, with `event`; the transition is that of the byte
 -- as the first of the next token
@@ -55,28 +64,51 @@ step_by is_pasted b (Emit token) =
 step_by is_pasted b (EmitAndRetry token) =
     step_retry (token_event is_pasted token) (pasted_after is_pasted token) (ground_transition b)
 
--- the step of the decoder `d` at byte `b`
-unfoldable pub step : Decoder → ℕ → Step
-step d b = step_by d.is_pasted b (transition_of d.state b)
+-- the step of the tokenizer `t` at byte `b`
+unfoldable pub step : Tokenizer → ℕ → Step
+step t b = step_by t.is_pasted b (transition_of t.state b)
+
+-- the tokenizer `t` after byte `b`
+abbrev pub hears : Tokenizer → ℕ → Tokenizer
+hears t b = (step t b).tokenizer
 
 -- ---- the bytes that a decoder has read
 
--- the decoder `d` after byte `b`
-abbrev pub hears : Decoder → ℕ → Decoder
-hears d b = (step d b).decoder
+-- a decoder by its two fields
+abbrev pub decoder : Tokenizer → Burst → Decoder
+decoder tokens bytes = record { tokenizer = tokens; burst = bytes }
 
--- The decoder `d` has read `bytes` since it was new or since a silence. `is_pasted` is whether they
--- began within a paste.
-unfoldable pub HasHeard : Decoder → Bool → List ℕ → Type 0
-HasHeard d is_pasted bytes = d ≡ fold hears (decoder is_pasted state.Ground) bytes
+-- the burst `bytes` with byte `b` after it
+abbrev pub burst_after : Burst → ℕ → Burst
+burst_after burst.Empty b = if b == interrupt then burst.Interrupt else burst.Other
+burst_after burst.Interrupt b = burst.Other
+burst_after burst.Other b = burst.Other
+
+-- the decoder `d` after byte `b`
+abbrev pub next : Decoder → ℕ → Decoder
+next d b = decoder (hears d.tokenizer b) (burst_after d.burst b)
+
+-- the decoder before a burst
+abbrev pub begun : Start → Decoder
+begun (Waiting is_pasted waiting) =
+    decoder (fold hears (tokenizer is_pasted state.Ground) waiting) burst.Empty
+begun AfterEscape = decoder (tokenizer false state.EndedEscape) burst.Empty
+
+-- the decoder `d` has read `bytes` since `start`: since it was new, or since the last silence
+unfoldable pub HasRead : Decoder → Start → List ℕ → Type 0
+HasRead d start bytes = d ≡ fold next (begun start) bytes
+
+-- the decoder `d` has read `bytes` and no silence; `is_pasted` is whether they began within a paste
+abbrev pub HasHeard : Decoder → Bool → List ℕ → Type 0
+HasHeard d is_pasted bytes = HasRead d (Waiting is_pasted []) bytes
 
 -- the decoder `new` is that after `bytes` and then `more`, which completes the events `found`
-pub record Hears (new : Decoder) (more : List ℕ) (found : List TerminalEvent) (is_pasted : Bool)
+pub record Hears (new : Decoder) (more : List ℕ) (found : List TerminalEvent) (start : Start)
     (bytes : List ℕ) : Type 0 where
   -- it has read both
-  pub heard : HasHeard new is_pasted (bytes ++ more)
-  -- `found` are the events that the longer stream has beyond those of the shorter one
-  pub events : stream_events is_pasted (bytes ++ more) ≡ stream_events is_pasted bytes ++ found
+  pub heard : HasRead new start (bytes ++ more)
+  -- `found` are the events that the longer burst has beyond those of the shorter one
+  pub events : events_from start (bytes ++ more) ≡ events_from start bytes ++ found
 
 -- the decoder `old` becomes `new` by the bytes `more`, and their events are appended to `before`
 pub record Adds (old new : Decoder) (more : List ℕ) (before after : List TerminalEvent)
@@ -86,8 +118,8 @@ pub record Adds (old new : Decoder) (more : List ℕ) (before after : List Termi
   -- they are appended
   pub is : after ≡ before ++ found
   -- whatever `old` has read, `new` has read `more` after it
-  pub hears : (is_pasted : Bool) (bytes : List ℕ) → HasHeard old is_pasted bytes
-      → Hears new more found is_pasted bytes
+  pub hears : (start : Start) (bytes : List ℕ) → HasRead old start bytes
+      → Hears new more found start bytes
 
 -- `before` is a prefix of `after`
 abbrev pub IsFront : List TerminalEvent → List TerminalEvent → Type 0
@@ -96,10 +128,9 @@ IsFront before after = (more : List TerminalEvent) × (after ≡ before ++ more)
 -- ---- silence
 
 -- the decoder `new` is that after `bytes` and then a silence with the event `found`, if any
-pub record Rests (new : Decoder) (found : Option TerminalEvent) (is_pasted : Bool) (bytes : List ℕ)
+pub record Rests (new : Decoder) (found : Option TerminalEvent) (start : Start) (bytes : List ℕ)
     : Type 0 where
-  -- the event is that of the unfinished token
-  pub event : found ≡ idle_event (is_pasted_after is_pasted bytes) (rest bytes)
-  -- within a paste the silence is a no-op; otherwise the decoder starts again
-  pub heard : MatchBool (is_pasted_after is_pasted bytes)
-      (HasHeard new is_pasted bytes) (HasHeard new false [])
+  -- the event is that of the silence
+  pub event : found ≡ idle_event start bytes
+  -- the next burst begins
+  pub heard : HasRead new (after_silence start bytes) []

@@ -1,26 +1,15 @@
 -- The bytes that terminals send for each row of the key table: xterm's, as tmux sends them.
-use Rattle.std.specs.Prelude.{◌≡◌, ◌++◌, ℕ, false, List, [], ◌∷◌, Option, Some, None, codes}
+use Rattle.std.specs.Prelude.{◌≡◌, ℕ, List, [], ◌∷◌, codes}
 use Rattle.std.specs.List.{AllZip}
 use Rattle.scm_input.specs.KeyTable.{KeyRow, key_table}
 use Rattle.scm_input.specs.declared.terminal.KeyEventKind.TheVariants.{Press}
-use Rattle.scm_input.specs.declared.terminal.TerminalEvent.{TerminalEvent}
 use Rattle.scm_input.specs.declared.terminal.TerminalEvent.TheVariants as terminal
-use Rattle.scm_terminal.specs.Streams.{stream_events, is_pasted_after, rest, idle_event}
+use Rattle.scm_terminal.specs.Silences.{at_first, burst_events}
 
--- the event, if there is one
-abbrev pub if_any : Option TerminalEvent → List TerminalEvent
-if_any None = []
-if_any (Some event) = event ∷ []
-
--- the events of bytes and of a silence after them
-abbrev pub events_before_silence : List ℕ → List TerminalEvent
-events_before_silence bytes =
-    stream_events false bytes ++ if_any (idle_event (is_pasted_after false bytes) (rest bytes))
-
--- the bytes are the key of the row, and nothing else
+-- the bytes with a silence after them are the key of the row, and nothing else
 abbrev pub IsTyped : KeyRow → List ℕ → Type 0
 IsTyped row bytes =
-    events_before_silence bytes
+    burst_events at_first (bytes ∷ [])
     ≡ terminal.Key (record { code = row.code; modifiers = row.modifiers; kind = Press }) ∷ []
 
 -- the bytes of each row, in the order of the table

@@ -2,10 +2,14 @@
 pub mod Style
 -- the content of one column, and the picture of a grid, in styles
 pub mod StyledCell
+-- the cells that are sent for a row
+pub mod Sent
 -- a model terminal, its commands, and their bytes
 pub mod Terminal
 -- a terminal of any widths
 pub mod AnyTerminal
+-- a terminal that adds up the columns of code points
+pub mod Adding
 -- the commands that a terminal reads in bytes
 pub mod Reading
 -- the commands of a paint: those of the rows that changed
@@ -30,9 +34,15 @@ pub mod Sequences
 pub mod Characters
 -- the tokens and the events of a stream of bytes
 pub mod Streams
+-- bytes and silences
+pub mod Silences
 -- the state machine of the decoder
 pub mod Transitions
 -- the decoder, byte by byte
 pub mod Decoders
 -- the bytes of each row of the key table
 pub mod KeyBytes
+-- what silences do to a sequence and to a paste
+pub mod Tearing
+-- whole sequences by the grammar of ECMA-48, a second definition
+pub mod Grammar

@@ -7,6 +7,7 @@ use Rattle.scm_terminal.specs.declared.pen.Pass.{Pass}
 use Rattle.scm_terminal.specs.declared.pen.Pass.TheVariants.{Blanks, Symbols, Letters}
 use Rattle.scm_terminal.specs.StyledCell.{StyledCell, First, Later, laters}
 use Rattle.scm_terminal.specs.Style.{style_code, plain_style}
+use Rattle.scm_terminal.specs.Sent.{sent_row}
 use Rattle.scm_terminal.specs.Terminal.{Command, MoveTo, SetStyle, Put, SetWrap}
 
 -- the pen at the beginning of a row: nothing is known
@@ -26,8 +27,8 @@ move_commands is_there row column = if is_there then [] else MoveTo row column �
 abbrev pub style_commands : Option Style → Style → List Command
 style_commands set style = if is_style_set set style then [] else SetStyle style ∷ []
 
--- the commands of a cell whose symbol has `columns` columns. The cursor is moved to each symbol of
--- several bytes, even if it is there: no terminal can then join the symbol to the one before it.
+-- The commands of a cell whose symbol has `columns` columns. The cursor is moved to each symbol of
+-- several bytes, even if it is there: the symbol is then read apart from the one before it.
 abbrev pub cell_commands : ℕ → ℕ → Pen → StyledCell → ℕ → List Command
 cell_commands row column pen Later columns = []
 cell_commands row column pen (First symbol style) columns =
@@ -79,6 +80,10 @@ pub record Line : Type 0 where
   pub cells : List StyledCell
   -- whether the paint writes the row
   pub is_changed : Bool
+
+-- a row of the picture that is sent for `line`
+abbrev pub sent_line : Line → Line
+sent_line line = record { cells = sent_row line.cells; is_changed = line.is_changed }
 
 -- the commands of `line`, the row with the index `row`: none unless it is changed
 abbrev pub line_commands : ℕ → Line → List Command

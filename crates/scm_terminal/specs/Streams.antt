@@ -1,6 +1,6 @@
 -- A stream of bytes, its tokens (keys, characters, escape sequences and control strings), and its
 -- events. These definitions have no states: they look for the end of the first token.
-use Rattle.std.specs.Prelude.{◌≡◌, ◌≢◌, ◌++◌, ℕ, zero, suc, ◌+◌, ◌-◌, Bool, true, false, ◌==◌, nat_le, nat_lt, List, [], ◌∷◌, Option, Some, None, fold, if◌then◌else◌}
+use Rattle.std.specs.Prelude.{◌≡◌, ◌≢◌, ◌++◌, ℕ, zero, suc, ◌+◌, ◌-◌, Bool, true, false, ◌==◌, nat_le, nat_lt, List, [], ◌∷◌, Option, Some, None, fold, codes, if◌then◌else◌}
 use Rattle.scm_input.specs.KeyTable.{none}
 use Rattle.scm_input.specs.declared.terminal.KeyCode.TheVariants as key
 use Rattle.scm_input.specs.declared.terminal.KeyEventKind.TheVariants.{Press}
@@ -12,7 +12,7 @@ use Rattle.scm_terminal.specs.declared.sequences.Sequence.{Sequence}
 use Rattle.scm_terminal.specs.declared.sequences.SequenceKind.TheVariants.{Csi, Ss3}
 use Rattle.scm_terminal.specs.declared.tokens.Token.{Token}
 use Rattle.scm_terminal.specs.declared.tokens.Token.TheVariants.{Event, PasteBegins, PasteEnds}
-use Rattle.scm_terminal.specs.Bytes.{begins_control_string, is_continuation, is_final, is_parameter}
+use Rattle.scm_terminal.specs.Bytes.{escape, bracket, capital_o, backslash, bell, space, begins_control_string, is_continuation, is_final, is_parameter}
 use Rattle.scm_terminal.specs.ByteKeys.{byte_key}
 use Rattle.scm_terminal.specs.Sequences.{unrecognized_token, new_sequence, with_parameter, token_of, trailing_bytes}
 use Rattle.scm_terminal.specs.Characters.{lead_character, with_continuation}
@@ -57,7 +57,7 @@ after_start alt n b bs =
 abbrev pub trailing : ℕ → ℕ → List ℕ → Found
 trailing left n [] = Unfinished
 trailing left n (b ∷ bs) =
-    if nat_lt b 32 then Finished unrecognized_token n
+    if nat_lt b space then Finished unrecognized_token n
     else if nat_le left 1 then Finished unrecognized_token (n + 1)
     else trailing (left - 1) (n + 1) bs
 
@@ -76,8 +76,8 @@ sequence q n (b ∷ bs) =
 abbrev pub control_string : ℕ → List ℕ → Found
 control_string n [] = Unfinished
 control_string n (b ∷ bs) =
-    if b == 7 then Finished unrecognized_token (n + 1)
-    else if nat_lt b 32 then Finished unrecognized_token n
+    if b == bell then Finished unrecognized_token (n + 1)
+    else if nat_lt b space then Finished unrecognized_token n
     else control_string (n + 1) bs
 
 -- the token of the Esc key
@@ -89,17 +89,17 @@ escape_key = Event (terminal.Key (record { code = key.Esc; modifiers = none; kin
 abbrev pub after_escape : ℕ → List ℕ → Found
 after_escape n [] = Unfinished
 after_escape n (b ∷ bs) =
-    if b == 27 then Finished escape_key n
-    else if b == 91 then sequence (new_sequence Csi) (n + 1) bs
-    else if b == 79 then sequence (new_sequence Ss3) (n + 1) bs
-    else if b == 92 then Finished unrecognized_token (n + 1)
+    if b == escape then Finished escape_key n
+    else if b == bracket then sequence (new_sequence Csi) (n + 1) bs
+    else if b == capital_o then sequence (new_sequence Ss3) (n + 1) bs
+    else if b == backslash then Finished unrecognized_token (n + 1)
     else if begins_control_string b then control_string (n + 1) bs
     else after_start true (n + 1) b bs
 
 -- the first token of a stream
 unfoldable pub first : List ℕ → Found
 first [] = Unfinished
-first (b ∷ bs) = if b == 27 then after_escape 0 bs else after_start false 0 b bs
+first (b ∷ bs) = if b == escape then after_escape 0 bs else after_start false 0 b bs
 
 -- ---- all tokens
 
@@ -174,11 +174,11 @@ pub record IsCut (is_pasted : Bool) (a b : List ℕ) : Type 0 where
 
 -- the start mark of a bracketed paste: `ESC [ 200 ~`
 abbrev pub paste_begin : List ℕ
-paste_begin = 27 ∷ 91 ∷ 50 ∷ 48 ∷ 48 ∷ 126 ∷ []
+paste_begin = escape ∷ codes "[200~"
 
 -- the end mark of a bracketed paste: `ESC [ 201 ~`
 abbrev pub paste_end : List ℕ
-paste_end = 27 ∷ 91 ∷ 50 ∷ 48 ∷ 49 ∷ 126 ∷ []
+paste_end = escape ∷ codes "[201~"
 
 -- the end mark of a bracketed paste stands in the bytes
 abbrev pub HasMark : List ℕ → Type 0
@@ -187,7 +187,7 @@ HasMark bytes = (before : List ℕ) × ((after : List ℕ) × (bytes ≡ before 
 -- none of the bytes is an escape
 abbrev pub HasNoEscape : List ℕ → Type 0
 HasNoEscape [] = Unit {0}
-HasNoEscape (b ∷ bs) = (b ≢ 27) × HasNoEscape bs
+HasNoEscape (b ∷ bs) = (b ≢ escape) × HasNoEscape bs
 
 -- all events are `Other`, on which nothing acts
 abbrev pub AreOther : List TerminalEvent → Type 0
@@ -211,15 +211,3 @@ pub record IsQuiet (pasted more : List ℕ) : Type 0 where
   -- the events of the paste and of the bytes after it
   pub events : stream_events false (paste_begin ++ (pasted ++ (paste_end ++ more)))
       ≡ others ++ stream_events false more
-
--- ---- silence
-
--- the event of the bytes of an unfinished token if no more bytes come: a lone escape is the Esc key
-abbrev pub event_at_end : List ℕ → Option TerminalEvent
-event_at_end [] = None
-event_at_end (b ∷ []) = Some (if b == 27 then token_event false escape_key else terminal.Other)
-event_at_end (b ∷ c ∷ bs) = Some terminal.Other
-
--- the event of a silence after the unfinished bytes `waiting`, if any; within a paste there is none
-abbrev pub idle_event : Bool → List ℕ → Option TerminalEvent
-idle_event is_pasted waiting = if is_pasted then None else event_at_end waiting

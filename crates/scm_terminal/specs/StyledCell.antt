@@ -1,9 +1,10 @@
 -- The content of one column of a screen, and the picture of a grid in styles.
-use Rattle.std.specs.Prelude.{◌≡◌, ℕ, suc, List, [], ◌∷◌, length, map, Option, Some, None}
+use Rattle.std.specs.Prelude.{◌≡◌, ℕ, suc, List, [], ◌∷◌, length, map, slice_index_or, Option, Some, None}
 use Rattle.std.specs.List.{All, range_with_len}
 use Rattle.scm_cells.specs.Screen.{Screen}
 use Rattle.scm_cells.specs.Symbols.{symbol_at}
 use Rattle.scm_cells.specs.declared.style.Style.{Style}
+use Rattle.scm_terminal.specs.Style.{plain_style}
 
 -- the content of one column
 pub data StyledCell : Type 0 where
@@ -35,6 +36,18 @@ cell_at style grid row column = cell_of (symbol_at grid.rows row column) (style 
 -- the cells of row `row` of `grid`, in styles
 abbrev pub styled_row : (ℕ → ℕ → Style) → Screen → ℕ → List StyledCell
 styled_row style grid row = map (cell_at style grid row) (range_with_len 0 grid.width)
+
+-- the styles of the first `width` places of row `row`
+abbrev pub row_of_styles : (ℕ → ℕ → Style) → ℕ → ℕ → List Style
+row_of_styles style row width = map (style row) (range_with_len 0 width)
+
+-- the cell of `grid` at `row` and `column`, counted from 0, in the style of that column in `styles`
+abbrev pub cell_in : List Style → Screen → ℕ → ℕ → StyledCell
+cell_in styles grid row column = cell_of (symbol_at grid.rows row column) (slice_index_or styles column plain_style)
+
+-- the cells of row `row` of `grid`, in the styles of its columns
+abbrev pub row_in : List Style → Screen → ℕ → List StyledCell
+row_in styles grid row = map (cell_in styles grid row) (range_with_len 0 grid.width)
 
 -- the picture of `grid`: the cells of all rows, in styles
 abbrev pub picture : (ℕ → ℕ → Style) → Screen → List (List StyledCell)

@@ -82,8 +82,8 @@ MayFollow Moved symbol = Unit {0}
 MayFollow Byte symbol = length symbol ≡ 1
 MayFollow Symbol symbol = ⊥
 
--- the cursor is moved before and after each symbol of several bytes: no terminal can join it to
--- another symbol
+-- the cursor is moved before and after each symbol of several bytes: no other symbol stands beside
+-- it in the bytes
 abbrev pub AreApart : Before → List Command → Type 0
 AreApart before [] = Unit {0}
 AreApart before (MoveTo row column ∷ cs) = AreApart Moved cs
@@ -138,7 +138,8 @@ go_on (suc n) (None ∷ spots) = false
 go_on (suc n) (Some Later ∷ spots) = go_on n spots
 go_on (suc n) (Some (First symbol style) ∷ spots) = false
 
--- the columns before a symbol that is put at a column; unknown are those of one that it covers in part
+-- the columns before a symbol that is put at a column; unknown are those of a symbol that it covers
+-- in part
 abbrev pub left_of : ℕ → List Spot → List Spot
 left_of zero row = []
 left_of (suc n) [] = []

@@ -1,6 +1,5 @@
 -- The state machine of the decoder: the transition of each byte in each state of a token.
 use Rattle.std.specs.Prelude.{ℕ, ◌-◌, Bool, true, false, ◌==◌, nat_le, nat_lt, Option, Some, None, if◌then◌else◌}
-use Rattle.scm_input.specs.declared.terminal.TerminalEvent.{TerminalEvent}
 use Rattle.scm_input.specs.declared.terminal.TerminalEvent.TheVariants as terminal
 use Rattle.scm_terminal.specs.declared.characters.Character.{Character}
 use Rattle.scm_terminal.specs.declared.characters.CharacterProgress.{CharacterProgress}
@@ -12,11 +11,13 @@ use Rattle.scm_terminal.specs.declared.transitions.State.{State}
 use Rattle.scm_terminal.specs.declared.transitions.State.TheVariants as state
 use Rattle.scm_terminal.specs.declared.transitions.Transition.{Transition}
 use Rattle.scm_terminal.specs.declared.transitions.Transition.TheVariants.{Continue, Emit, EmitAndRetry}
-use Rattle.scm_terminal.specs.Bytes.{begins_control_string, is_continuation, is_final, is_parameter}
+use Rattle.scm_terminal.specs.declared.transitions.SilenceEffect.{SilenceEffect}
+use Rattle.scm_terminal.specs.declared.transitions.SilenceEffect.TheVariants.{Keep, EndEscape, Drop}
+use Rattle.scm_terminal.specs.Bytes.{escape, bracket, capital_o, backslash, bell, space, begins_sequence, begins_control_string, is_continuation, is_final, is_parameter}
 use Rattle.scm_terminal.specs.ByteKeys.{byte_key}
 use Rattle.scm_terminal.specs.Sequences.{unrecognized_token, new_sequence, with_parameter, token_of, trailing_bytes}
 use Rattle.scm_terminal.specs.Characters.{lead_character, with_continuation}
-use Rattle.scm_terminal.specs.Streams.{token_event, escape_key}
+use Rattle.scm_terminal.specs.Streams.{escape_key}
 
 -- the transition of a lead byte: its unfinished character, or unrecognized without one
 abbrev pub lead_transition : Option Character → Transition
@@ -32,17 +33,22 @@ start_transition alt b =
 
 -- the transition of byte `b` between tokens
 abbrev pub ground_transition : ℕ → Transition
-ground_transition b = if b == 27 then Continue state.Escape else start_transition false b
+ground_transition b = if b == escape then Continue state.Escape else start_transition false b
 
 -- the transition of byte `b` after an escape
 abbrev pub escape_transition : ℕ → Transition
 escape_transition b =
-    if b == 27 then EmitAndRetry escape_key
-    else if b == 91 then Continue (state.Sequence (new_sequence Csi))
-    else if b == 79 then Continue (state.Sequence (new_sequence Ss3))
-    else if b == 92 then Emit unrecognized_token
-    else if begins_control_string b then Continue state.ControlString
+    if b == escape then EmitAndRetry escape_key
+    else if b == bracket then Continue (state.Sequence (new_sequence Csi))
+    else if b == capital_o then Continue (state.Sequence (new_sequence Ss3))
+    else if b == backslash then Emit unrecognized_token
+    else if begins_control_string b then Continue state.StringBegun
     else start_transition true b
+
+-- the transition of byte `b` after an escape that a silence has made the Esc key: `[` or `O`
+-- continues the escape's sequence, any other byte begins a token
+abbrev pub ended_escape_transition : ℕ → Transition
+ended_escape_transition b = if begins_sequence b then escape_transition b else ground_transition b
 
 -- the transition of the final byte `b` of the sequence `q`
 abbrev pub final_transition : Sequence → ℕ → Transition
@@ -60,7 +66,7 @@ sequence_transition q b =
 -- the transition of byte `b` after the final byte of a sequence, with `left` bytes missing
 abbrev pub trailing_transition : ℕ → ℕ → Transition
 trailing_transition left b =
-    if nat_lt b 32 then EmitAndRetry unrecognized_token
+    if nat_lt b space then EmitAndRetry unrecognized_token
     else if nat_le left 1 then Emit unrecognized_token
     else Continue (state.Trailing (left - 1))
 
@@ -79,24 +85,28 @@ character_transition c b =
 -- control ends it before that byte
 abbrev pub control_string_transition : ℕ → Transition
 control_string_transition b =
-    if b == 7 then Emit unrecognized_token
-    else if nat_lt b 32 then EmitAndRetry unrecognized_token
+    if b == bell then Emit unrecognized_token
+    else if nat_lt b space then EmitAndRetry unrecognized_token
     else Continue state.ControlString
 
 -- the transition of byte `b` in a state
 unfoldable pub transition_of : State → ℕ → Transition
 transition_of state.Ground b = ground_transition b
 transition_of state.Escape b = escape_transition b
+transition_of state.EndedEscape b = ended_escape_transition b
 transition_of (state.Sequence q) b = sequence_transition q b
 transition_of (state.Trailing left) b = trailing_transition left b
 transition_of (state.Character c) b = character_transition c b
+transition_of state.StringBegun b = control_string_transition b
 transition_of state.ControlString b = control_string_transition b
 
--- the event of the unfinished token in a state if no more bytes come, if there is a token
-abbrev pub pending_event : State → Option TerminalEvent
-pending_event state.Ground = None
-pending_event state.Escape = Some (token_event false escape_key)
-pending_event (state.Sequence q) = Some terminal.Other
-pending_event (state.Trailing left) = Some terminal.Other
-pending_event (state.Character c) = Some terminal.Other
-pending_event state.ControlString = Some terminal.Other
+-- the effect of a silence on the unfinished token in a state
+abbrev pub effect_of_silence : State → SilenceEffect
+effect_of_silence state.Ground = Keep
+effect_of_silence state.Escape = EndEscape
+effect_of_silence state.EndedEscape = Keep
+effect_of_silence (state.Sequence q) = Keep
+effect_of_silence (state.Trailing left) = Keep
+effect_of_silence (state.Character c) = Keep
+effect_of_silence state.StringBegun = Drop
+effect_of_silence state.ControlString = Keep

@@ -2,6 +2,7 @@
 ghost use Rattle.std.specs.Prelude.{◌≡◌, ◌<◌};
 ghost use Rattle.scm_terminal.specs.Bytes.{
   begins_control_string,
+  begins_sequence,
   is_between,
   is_continuation,
   is_digit,
@@ -11,7 +12,13 @@ ghost use Rattle.scm_terminal.specs.Bytes.{
 };
 
 /// The escape byte. It begins an escape sequence or a control string; alone it is the Esc key.
-pub(crate) const ESCAPE: u8 = 27;
+pub(crate) const ESCAPE: u8 = b'\x1b';
+
+/// The byte of Ctrl-C.
+pub(crate) const INTERRUPT: u8 = b'\x03';
+
+/// The least byte that is no C0 control.
+pub(crate) const SPACE: u8 = b' ';
 
 /// Returns whether `byte` is in the range `low..=high`.
 pub(crate) fn is_between(low: u8, high: u8, byte: u8) -> bool
@@ -24,7 +31,7 @@ pub(crate) fn is_between(low: u8, high: u8, byte: u8) -> bool
 pub(crate) fn is_digit(byte: u8) -> bool
     ensures { result ≡ is_digit byte }
 {
-    is_between(48, 57, byte)
+    is_between(b'0', b'9', byte)
 }
 
 /// Returns whether `byte` is a parameter byte or an intermediate byte of a control sequence.
@@ -32,7 +39,7 @@ pub(crate) fn is_digit(byte: u8) -> bool
 pub(crate) fn is_parameter(byte: u8) -> bool
     ensures { result ≡ is_parameter byte }
 {
-    is_between(32, 63, byte)
+    is_between(b' ', b'?', byte)
 }
 
 /// Returns whether `byte` is a final byte of a control sequence.
@@ -40,7 +47,7 @@ pub(crate) fn is_parameter(byte: u8) -> bool
 pub(crate) fn is_final(byte: u8) -> bool
     ensures { result ≡ is_final byte }
 {
-    is_between(64, 126, byte)
+    is_between(b'@', b'~', byte)
 }
 
 /// Returns whether `byte` is a continuation byte of UTF-8.
@@ -51,12 +58,20 @@ pub(crate) fn is_continuation(byte: u8) -> bool
     is_between(128, 191, byte)
 }
 
+/// Returns whether `byte` after an escape begins an escape sequence with parameters: `[` (CSI) or
+/// `O` (SS3).
+pub(crate) fn begins_sequence(byte: u8) -> bool
+    ensures { result ≡ begins_sequence byte }
+{
+    byte == b'[' || byte == b'O'
+}
+
 /// Returns whether `byte` after an escape begins a control string: DCS, SOS, OSC, PM or APC.
 #[tactic(auto, unfolding(crate::specs::Bytes::begins_control_string))]
 pub(crate) fn begins_control_string(byte: u8) -> bool
     ensures { result ≡ begins_control_string byte }
 {
-    byte == 80 || byte == 88 || is_between(93, 95, byte)
+    byte == b'P' || byte == b'X' || is_between(b']', b'_', byte)
 }
 
 /// Returns whether the bit `unit` of `number` is set. `unit` is a power of two.

@@ -1,8 +1,11 @@
 //! The decoder: turns the bytes of a terminal into key and mouse events.
+ghost use Rattle.std.specs.Prelude.{◌≡◌};
+ghost use Rattle.scm_terminal.specs.Decoders.{burst_after};
 
-use crate::tokens::Token;
-use crate::transitions::{State, Transition, ground_transition, pending_event, transition_of};
-use scm_input::TerminalEvent;
+use crate::bytes::INTERRUPT;
+use crate::tokenizer::Tokenizer;
+use crate::transitions::{ESCAPE_EVENT, SilenceEffect, State, effect_of_silence};
+use scm_input::{KeyCode, KeyEvent, KeyEventKind, KeyModifiers, TerminalEvent};
 use std::alloc::AllocError;
 
 /// The events of one byte, two at most. A byte that cannot continue a token ends it, and is
@@ -40,51 +43,84 @@ impl EventPair {
     }
 }
 
+/// The key Ctrl-C.
+const INTERRUPT_EVENT: TerminalEvent = TerminalEvent::Key(KeyEvent {
+    code: KeyCode::Char('c'),
+    modifiers: KeyModifiers::CONTROL,
+    kind: KeyEventKind::Press,
+});
+
+/// The bytes since the last silence of the terminal.
+#[derive(Clone, Copy)]
+pub enum Burst {
+    /// No byte.
+    Empty,
+    /// The byte of Ctrl-C alone.
+    Interrupt,
+    /// Any other bytes.
+    Other,
+}
+
+/// Returns the burst `burst` with `byte` after it.
+fn burst_after(burst: Burst, byte: u8) -> Burst
+    ensures { result ≡ burst_after burst byte }
+{
+    match burst {
+        Burst::Empty => {
+            if byte == INTERRUPT {
+                Burst::Interrupt
+            } else {
+                Burst::Other
+            }
+        }
+        Burst::Interrupt | Burst::Other => Burst::Other,
+    }
+}
+
 /// A decoder of the bytes that a terminal sends, which may come in pieces of any length. Its size
 /// is fixed, however long an escape sequence is.
 ///
 /// The bytes `ESC [ A` are the Up key. A lone `ESC` is the Esc key, once `idle` reports a silence.
+/// If `[ A` comes after that silence, it is still the Up key, and `A` is not.
 #[derive(Clone, Copy)]
 pub struct Decoder {
-    /// Whether the next byte is part of a bracketed paste.
-    is_pasted: bool,
-    /// The state of the unfinished token.
-    state: State,
+    /// The unfinished token.
+    tokenizer: Tokenizer,
+    /// The bytes since the last silence.
+    burst: Burst,
 }
 
 impl Decoder {
-    ghost use Rattle.std.specs.Prelude.{◌≡◌, ◌++◌, ◌∷◌, [], ℕ, List, Bool, false, OnOk, OnErr};
-    ghost use Rattle.scm_terminal.specs.Streams.{pasted_after, token_event};
-    ghost use Rattle.scm_terminal.specs.Transitions.{ground_transition};
+    ghost use Rattle.std.specs.Prelude.{◌≡◌, ◌++◌, ◌∷◌, [], ℕ, List, false, OnOk, OnErr};
+    ghost use Rattle.scm_terminal.specs.Silences.{Start};
     ghost use Rattle.scm_terminal.specs.Decoders.{
       Adds,
       HasHeard,
+      HasRead,
       Hears,
       IsFront,
       Rests,
-      decoder,
       events_of,
-      step,
-      step_retry,
     };
 
     /// Makes a decoder that has read no bytes.
-    #[tactic(auto, unfolding(crate::specs::Decoders::HasHeard))]
+    #[tactic(auto, unfolding(crate::specs::Decoders::HasRead))]
     pub fn new() -> Decoder
         ensures { HasHeard result false [] }
     {
         Decoder {
-            is_pasted: false,
-            state: State::Ground,
+            tokenizer: Tokenizer::new(),
+            burst: Burst::Empty,
         }
     }
 
     /// Decodes `byte`, and returns the events that it completes.
     pub fn push(&mut self, byte: u8) -> EventPair
-        ensures { (is_pasted : Bool) (bytes : List ℕ) → HasHeard self.old is_pasted bytes
-            → Hears self.new (byte ∷ []) (events_of result) is_pasted bytes }
+        ensures { (start : Start) (bytes : List ℕ) → HasRead self.old start bytes
+            → Hears self.new (byte ∷ []) (events_of result) start bytes }
     {
-        self.step(byte)
+        self.burst = burst_after(self.burst, byte);
+        self.tokenizer.step(byte)
     }
 
     /// Decodes `bytes`, and appends the events that they complete to `events`.
@@ -125,95 +161,40 @@ impl Decoder {
         Ok(())
     }
 
-    /// Ends the unfinished token after a silence of the terminal, and returns its event, if any. A
-    /// lone escape is the Esc key. Within a bracketed paste this is a no-op.
+    /// Handles a silence of the terminal, and returns the event that it completes, if any.
+    ///
+    /// - A lone escape is the Esc key. If `[` or `O` comes next, it continues that escape's
+    ///   sequence.
+    /// - An escape with a byte that begins a control string is `Other`.
+    /// - Any other unfinished token stays unfinished.
+    ///
+    /// Within a bracketed paste, a byte 3 with silences around it ends the paste, and is the key
+    /// Ctrl-C: the paste's end mark may be lost. Any other silence within a paste is a no-op.
     pub fn idle(&mut self) -> Option<TerminalEvent>
-        ensures { (is_pasted : Bool) (bytes : List ℕ) → HasHeard self.old is_pasted bytes
-            → Rests self.new result is_pasted bytes }
+        ensures { (start : Start) (bytes : List ℕ) → HasRead self.old start bytes
+            → Rests self.new result start bytes }
     {
-        if self.is_pasted {
-            None
+        let burst = self.burst;
+        self.burst = Burst::Empty;
+        if self.tokenizer.is_pasted {
+            match burst {
+                Burst::Interrupt => {
+                    self.tokenizer = Tokenizer::new();
+                    Some(INTERRUPT_EVENT)
+                }
+                Burst::Empty | Burst::Other => None,
+            }
         } else {
-            let event = pending_event(self.state);
-            self.state = State::Ground;
-            event
-        }
-    }
-
-    /// Decodes `byte` by its transition, and returns its events.
-    #[tactic(auto, unfolding(crate::specs::Decoders::step))]
-    fn step(&mut self, byte: u8) -> EventPair
-        ensures events { result ≡ (step self.old byte).events }
-        ensures decoder { self.new ≡ (step self.old byte).decoder }
-    {
-        match transition_of(self.state, byte) {
-            Transition::Continue(state) => {
-                self.state = state;
-                EventPair {
-                    first: None,
-                    second: None,
+            match effect_of_silence(self.tokenizer.state) {
+                SilenceEffect::Keep => None,
+                SilenceEffect::EndEscape => {
+                    self.tokenizer.state = State::EndedEscape;
+                    Some(ESCAPE_EVENT)
                 }
-            }
-            Transition::Emit(token) => {
-                let event = self.emit(token);
-                EventPair {
-                    first: Some(event),
-                    second: None,
+                SilenceEffect::Drop => {
+                    self.tokenizer.state = State::Ground;
+                    Some(TerminalEvent::Other)
                 }
-            }
-            Transition::EmitAndRetry(token) => {
-                let event = self.emit(token);
-                self.retry(event, byte)
-            }
-        }
-    }
-
-    /// Decodes `byte` as the first byte of a token, and returns `event` and its event, if any.
-    fn retry(&mut self, event: TerminalEvent, byte: u8) -> EventPair
-        ensures events { let after = step_retry event self.old.is_pasted (ground_transition byte) in
-            result ≡ after.events }
-        ensures decoder { let after = step_retry event self.old.is_pasted
-            (ground_transition byte) in self.new ≡ after.decoder }
-    {
-        match ground_transition(byte) {
-            Transition::Continue(state) => {
-                self.state = state;
-                EventPair {
-                    first: Some(event),
-                    second: None,
-                }
-            }
-            Transition::Emit(token) | Transition::EmitAndRetry(token) => {
-                let next = self.emit(token);
-                EventPair {
-                    first: Some(event),
-                    second: Some(next),
-                }
-            }
-        }
-    }
-
-    /// Ends `token`, and returns its event. Within a bracketed paste that is `Other`.
-    fn emit(&mut self, token: Token) -> TerminalEvent
-        ensures event { result ≡ token_event self.old.is_pasted token }
-        ensures decoder { self.new ≡ decoder (pasted_after self.old.is_pasted token) State.Ground }
-    {
-        self.state = State::Ground;
-        match token {
-            Token::Event(event) => {
-                if self.is_pasted {
-                    TerminalEvent::Other
-                } else {
-                    event
-                }
-            }
-            Token::PasteBegins => {
-                self.is_pasted = true;
-                TerminalEvent::Other
-            }
-            Token::PasteEnds => {
-                self.is_pasted = false;
-                TerminalEvent::Other
             }
         }
     }

@@ -4,14 +4,14 @@ ghost use Rattle.std.specs.List.{All, flat_map, list_any};
 ghost use Rattle.scm_errors.specs.declared.error.RecordError.TheVariants.{OutOfMemory};
 ghost use Rattle.scm_terminal.specs.Painting.{AreUpdates, paint_commands, painting};
 ghost use Rattle.scm_terminal.specs.StyledCell.{HasSize, picture};
-ghost use Rattle.scm_terminal.specs.RowView.{line_of};
+ghost use Rattle.scm_terminal.specs.RowView.{line_of, sent_line_of};
 ghost use Rattle.scm_terminal.specs.PainterView.{cells_of_row};
 ghost use Rattle.scm_terminal.specs.Promise.{Paints};
 ghost use Rattle.scm_terminal.specs.Terminal.{bytes_of};
 
 use crate::row::Row;
 use crate::style::Styles;
-use scm_cells::Grid;
+use scm_cells::{Grid, Style};
 use scm_errors::RecordError;
 use std::alloc::{AllocError, Global};
 use std::marker::Model;
@@ -115,7 +115,14 @@ impl Painter {
         ensures painted { OnOk result (self.new ≡ picture (S.styled styles.now) grid.now) }
     {
         let is_all = self.prepare(grid.width(), grid.height())?;
-        update_rows(self.rows.as_mut_slice(), grid, styles, is_all)?;
+        let mut room = vec![in self.alloc; Style::PLAIN; grid.width()]?;
+        update_rows(
+            self.rows.as_mut_slice(),
+            grid,
+            styles,
+            room.as_mut_slice(),
+            is_all,
+        )?;
         let mut text = String::new(self.alloc);
         push_paint(&mut text, self.rows.as_slice())?;
         Ok(text)
@@ -136,14 +143,17 @@ impl Painter {
     }
 }
 
-/// Updates `rows` to `grid` in `styles`. Marks a row as changed if it differs, or if `is_all`.
+/// Updates `rows` to `grid` in `styles`. Marks a row as changed if it differs, or if `is_all`. The
+/// styles of a row are asked for at once, in `room`.
 fn update_rows<S: Styles>(
     rows: &mut [Row],
     grid: &Grid,
     styles: &S,
+    room: &mut [Style],
     is_all: bool,
 ) -> Result<(), AllocError>
-    requires { HasSize grid.now.width (length grid.now.rows) (map cells_of_row rows.old) }
+    requires rows { HasSize grid.now.width (length grid.now.rows) (map cells_of_row rows.old) }
+    requires room { length room.old ≡ grid.now.width }
     ensures cells { OnOk result
         (map cells_of_row rows.new ≡ picture (S.styled styles.now) grid.now) }
     ensures changed { OnOk result
@@ -151,7 +161,8 @@ fn update_rows<S: Styles>(
 {
     let mut row = 0;
     for shown in rows.iter_mut() {
-        shown.update(grid, styles, row, is_all)?;
+        styles.row_styles(row, room);
+        shown.update(grid, room, row, is_all)?;
         row += 1;
     }
     Ok(())
@@ -170,7 +181,7 @@ fn are_changed(rows: &[Row]) -> bool
 fn push_paint(text: &mut String, rows: &[Row]) -> Result<(), AllocError>
     requires rows { length rows.now < 2 ^ 16 }
     requires columns { All (λ row. length row.cells.items < 2 ^ 16) rows.now }
-    ensures { let commands = paint_commands (map line_of rows.now) in
+    ensures { let commands = paint_commands (map sent_line_of rows.now) in
         OnOk result (string_bytes text.new ≡ string_bytes text.old ++ flat_map bytes_of commands) }
 {
     if are_changed(rows) {
@@ -185,7 +196,7 @@ fn push_paint(text: &mut String, rows: &[Row]) -> Result<(), AllocError>
 fn push_rows(text: &mut String, rows: &[Row]) -> Result<(), AllocError>
     requires rows { length rows.now < 2 ^ 16 }
     requires columns { All (λ row. length row.cells.items < 2 ^ 16) rows.now }
-    ensures { let commands = painting 0 (map line_of rows.now) in
+    ensures { let commands = painting 0 (map sent_line_of rows.now) in
         OnOk result (string_bytes text.new ≡ string_bytes text.old ++ flat_map bytes_of commands) }
 {
     for (index, row) in rows.iter().enumerate() {

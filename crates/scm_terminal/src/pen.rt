@@ -10,11 +10,12 @@ ghost use Rattle.scm_terminal.specs.Painting.{
   cell_commands,
   passed,
 };
+ghost use Rattle.scm_terminal.specs.Sent.{cell_sent};
 ghost use Rattle.scm_terminal.specs.StyledCell.{First, Later};
 ghost use Rattle.scm_terminal.specs.Terminal.{bytes_of};
 
+use crate::sent::Sent;
 use crate::style::{code_of, push_style};
-use crate::styled_cell::StyledCell;
 use scm_cells::Style;
 use std::alloc::AllocError;
 
@@ -91,26 +92,27 @@ impl Pen {
         }
     }
 
-    /// Appends the bytes that write what `pass` puts at `cell`, which is at `row` and `column`, both
-    /// counted from 0. Returns the pen after it.
+    /// Appends the bytes that write what `pass` puts of `sent`, which is at `row` and `column`,
+    /// both counted from 0. Returns the pen after it.
     #[tactic(auto, unfolding(crate::specs::Terminal::bytes_of))]
     pub(crate) fn push_cell(
         self,
         text: &mut String,
         row: usize,
         column: usize,
-        cell: &StyledCell,
+        sent: Sent<'_>,
         pass: Pass,
     ) -> Result<Pen, AllocError>
         requires row { row < 2 ^ 16 }
         requires column { column < 2 ^ 16 }
-        ensures pen { IfOk result (λ p. p ≡ pen_after self (passed pass self.is_there cell.now)) }
-        ensures bytes { let commands = cell_commands row column self (passed pass self.is_there cell.now) 0 in
-            OnOk result
+        ensures pen { IfOk result
+            (λ p. p ≡ pen_after self (passed pass self.is_there (cell_sent sent.entry))) }
+        ensures bytes { let put = passed pass self.is_there (cell_sent sent.entry) in
+            let commands = cell_commands row column self put 0 in OnOk result
             (string_bytes text.new ≡ string_bytes text.old ++ flat_map bytes_of commands) }
     {
         match pass {
-            Pass::Blanks => match cell.symbol() {
+            Pass::Blanks => match sent.symbol {
                 None => self.push_symbol(text, row, column, " ", Style::PLAIN),
                 Some(symbol) => {
                     // `&`: one branch for the prover
@@ -121,20 +123,20 @@ impl Pen {
                     Ok(self.past())
                 }
             },
-            Pass::Symbols => match cell.symbol() {
+            Pass::Symbols => match sent.symbol {
                 None => Ok(self.past()),
                 Some(symbol) => {
                     if symbol.len() == 1 {
                         return Ok(self.past());
                     }
-                    self.push_symbol(text, row, column, symbol, cell.style())
+                    self.push_symbol(text, row, column, symbol, sent.style)
                 }
             },
-            Pass::Letters => match cell.symbol() {
+            Pass::Letters => match sent.symbol {
                 None => Ok(self.past()),
                 Some(symbol) => {
                     if symbol.len() == 1 {
-                        return self.push_symbol(text, row, column, symbol, cell.style());
+                        return self.push_symbol(text, row, column, symbol, sent.style);
                     }
                     Ok(self.past())
                 }

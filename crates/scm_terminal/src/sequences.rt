@@ -1,8 +1,11 @@
 //! Escape sequences: CSI (`ESC [`) or SS3 (`ESC O`), parameters between semicolons, a final byte.
 //! Their meanings are those of xterm's control sequences, as far as the key table needs them.
-ghost use Rattle.std.specs.Prelude.{◌≡◌};
+ghost use Rattle.std.specs.Prelude.{◌≡◌, ◌<◌};
 ghost use Rattle.scm_terminal.specs.Sequences.{
   arrow,
+  arrow_token,
+  capital,
+  control_paging_token,
   counted,
   is_mark,
   new_sequence,
@@ -11,16 +14,23 @@ ghost use Rattle.scm_terminal.specs.Sequences.{
   is_blank,
   key_number,
   key_token,
+  key_with,
+  modifiers_of,
   mouse_token,
-  named_key,
+  old_mouse_token,
   paging,
+  printable_key,
+  tilde_token,
+  typed_key,
+  typed_token,
   with_parameter,
   token_of,
   with_digit,
   with_semicolon,
 };
 
-use crate::bytes::{has_bit, is_digit};
+use crate::byte_keys::code_of;
+use crate::bytes::{has_bit, is_between, is_digit};
 use crate::mouse::mouse_event;
 use crate::tokens::Token;
 use scm_input::{KeyCode, KeyEvent, KeyEventKind, KeyModifiers, TerminalEvent};
@@ -55,6 +65,9 @@ pub struct Sequence {
     /// The last parameter of the sequence so far.
     pub last: u16,
 }
+
+/// The first parameter of a typed key in the form of xterm's `modifyOtherKeys`.
+const OTHER_KEY: u16 = 27;
 
 /// Makes a sequence of `kind` without parameters.
 #[tactic(auto, unfolding(crate::specs::Sequences::new_sequence))]
@@ -101,10 +114,10 @@ pub(crate) fn with_parameter(sequence: Sequence, byte: u8) -> Sequence
 {
     let sequence = counted(sequence);
     if is_digit(byte) {
-        with_digit(sequence, byte - 48)
-    } else if byte == 59 {
+        with_digit(sequence, byte - b'0')
+    } else if byte == b';' {
         with_semicolon(sequence)
-    } else if byte == 60 && is_blank(sequence) {
+    } else if byte == b'<' && is_blank(sequence) {
         Sequence {
             kind: SequenceKind::Mouse,
             ..sequence
@@ -164,9 +177,9 @@ pub(crate) fn trailing_bytes(sequence: Sequence, last: u8) -> u8
 {
     if !is_blank(sequence) {
         0
-    } else if last == 77 {
+    } else if last == b'M' {
         3
-    } else if last == 91 {
+    } else if last == b'[' {
         1
     } else {
         0
@@ -180,7 +193,7 @@ pub(crate) fn token_of(sequence: Sequence, last: u8) -> Token
 {
     match sequence.kind {
         SequenceKind::Csi => key_token(sequence, last),
-        SequenceKind::Ss3 => named_key(sequence, arrow(key_number(sequence), last)),
+        SequenceKind::Ss3 => arrow_token(KeyModifiers::CONTROL, sequence, last),
         SequenceKind::Mouse => mouse_token(sequence, last),
         SequenceKind::Unknown => Token::UNRECOGNIZED,
     }
@@ -190,27 +203,76 @@ pub(crate) fn token_of(sequence: Sequence, last: u8) -> Token
 fn mouse_token(sequence: Sequence, last: u8) -> Token
     ensures { result ≡ mouse_token sequence last }
 {
-    if sequence.semicolons == 2 && (last == 77 || last == 109) {
-        Token::Event(mouse_event(last == 77, sequence.first, sequence.second, sequence.last))
+    if sequence.semicolons == 2 && (last == b'M' || last == b'm') {
+        Token::Event(mouse_event(last == b'M', sequence.first, sequence.second, sequence.last))
     } else {
         Token::UNRECOGNIZED
     }
 }
 
-/// Returns the token of the control sequence `sequence` with the final byte `last`: an arrow, a
-/// paging key, or a mark of a bracketed paste.
+/// Returns the token of the control sequence `sequence` with the final byte `last`.
 fn key_token(sequence: Sequence, last: u8) -> Token
     ensures { result ≡ key_token sequence last }
 {
-    let number = key_number(sequence);
-    if last != 126 {
-        named_key(sequence, arrow(number, last))
-    } else if is_mark(sequence, 200) {
+    match last {
+        b'~' => tilde_token(sequence),
+        b'^' => control_paging_token(sequence),
+        b'u' => typed_token(sequence),
+        b'M' => old_mouse_token(sequence),
+        _ => arrow_token(KeyModifiers::SHIFT, sequence, last),
+    }
+}
+
+/// Returns the token of the control sequence `sequence` with the final byte `~`: a mark of a
+/// bracketed paste, a paging key, or a typed key in xterm's form `27 ; modifiers ; code`.
+fn tilde_token(sequence: Sequence) -> Token
+    ensures { result ≡ tilde_token sequence }
+{
+    if is_mark(sequence, 200) {
         Token::PasteBegins
     } else if is_mark(sequence, 201) {
         Token::PasteEnds
+    } else if sequence.semicolons < 2 {
+        key_with(key_modifiers(sequence), paging(key_number(sequence)))
+    } else if sequence.first == OTHER_KEY {
+        typed_key(modifiers_of(sequence.second), sequence.last)
     } else {
-        named_key(sequence, paging(number))
+        Token::UNRECOGNIZED
+    }
+}
+
+/// Returns the token of rxvt's paging key with control: `sequence` has the number of the key alone,
+/// and its final byte is `^`.
+fn control_paging_token(sequence: Sequence) -> Token
+    ensures { result ≡ control_paging_token sequence }
+{
+    if sequence.semicolons == 0 {
+        key_with(KeyModifiers::CONTROL, paging(sequence.last))
+    } else {
+        Token::UNRECOGNIZED
+    }
+}
+
+/// Returns the token of the typed key `code ; modifiers u`.
+fn typed_token(sequence: Sequence) -> Token
+    ensures { result ≡ typed_token sequence }
+{
+    if sequence.semicolons < 2 {
+        typed_key(key_modifiers(sequence), key_number(sequence))
+    } else {
+        Token::UNRECOGNIZED
+    }
+}
+
+/// Returns the token of a mouse report in rxvt's form `button ; column ; row M`. The button is 32
+/// more than in xterm's SGR form.
+fn old_mouse_token(sequence: Sequence) -> Token
+    ensures { result ≡ old_mouse_token sequence }
+{
+    if sequence.semicolons == 2 && 32 <= sequence.first {
+        Token::Event(mouse_event(true, sequence.first - 32, sequence.second, sequence.last))
+    } else {
+        Token::UNRECOGNIZED
     }
 }
 
@@ -233,15 +295,26 @@ fn key_number(sequence: Sequence) -> u16
     }
 }
 
-/// Returns the modifiers of `sequence`. As in xterm, its last parameter is 1 plus 1 for shift, 2
-/// for alt, 4 for control, and 8 or more for others.
+/// Returns the modifiers of `sequence`: those of its second parameter, or none without one.
 fn key_modifiers(sequence: Sequence) -> KeyModifiers
     ensures { result ≡ key_modifiers sequence }
 {
-    if sequence.semicolons == 0 || sequence.last == 0 {
+    if sequence.semicolons == 0 {
         KeyModifiers::NONE
     } else {
-        let bits = sequence.last - 1;
+        modifiers_of(sequence.last)
+    }
+}
+
+/// Returns the modifiers of the parameter `number`. As in xterm, it is 1 plus 1 for shift, 2 for
+/// alt, 4 for control, and 8 or more for others; 0 is none.
+fn modifiers_of(number: u16) -> KeyModifiers
+    ensures { result ≡ modifiers_of number }
+{
+    if number == 0 {
+        KeyModifiers::NONE
+    } else {
+        let bits = number - 1;
         KeyModifiers {
             shift: has_bit(1, bits),
             control: has_bit(4, bits),
@@ -251,20 +324,34 @@ fn key_modifiers(sequence: Sequence) -> KeyModifiers
     }
 }
 
-/// Returns the arrow key of the final byte `last`, if any and if `number` is at most 1.
-fn arrow(number: u16, last: u8) -> Option<KeyCode>
-    ensures { result ≡ arrow number last }
+/// Returns the token of an arrow: `A` to `D` with the modifiers of the last parameter, or `a` to
+/// `d`, rxvt's arrows with the modifiers `held`.
+fn arrow_token(held: KeyModifiers, sequence: Sequence, last: u8) -> Token
+    ensures { result ≡ arrow_token held sequence last }
 {
-    if 1 < number {
-        None
-    } else {
-        match last {
-            65 => Some(KeyCode::Up),
-            66 => Some(KeyCode::Down),
-            67 => Some(KeyCode::Right),
-            68 => Some(KeyCode::Left),
-            _ => None,
+    if is_between(b'a', b'd', last) {
+        if sequence.bytes == 0 {
+            key_with(held, arrow(last - 32))
+        } else {
+            Token::UNRECOGNIZED
         }
+    } else if sequence.semicolons < 2 && sequence.second <= 1 {
+        key_with(modifiers_of(sequence.last), arrow(last))
+    } else {
+        Token::UNRECOGNIZED
+    }
+}
+
+/// Returns the arrow key of the letter `last`, if any.
+fn arrow(last: u8) -> Option<KeyCode>
+    ensures { result ≡ arrow last }
+{
+    match last {
+        b'A' => Some(KeyCode::Up),
+        b'B' => Some(KeyCode::Down),
+        b'C' => Some(KeyCode::Right),
+        b'D' => Some(KeyCode::Left),
+        _ => None,
     }
 }
 
@@ -279,17 +366,50 @@ fn paging(number: u16) -> Option<KeyCode>
     }
 }
 
-/// Returns the token of `key` with the modifiers of `sequence`. It is unrecognized if there is no
-/// key, or if the sequence has three parameters.
-fn named_key(sequence: Sequence, key: Option<KeyCode>) -> Token
-    ensures { result ≡ named_key sequence key }
+/// Returns the token of `key` with `modifiers`, or of no key.
+fn key_with(modifiers: KeyModifiers, key: Option<KeyCode>) -> Token
+    ensures { result ≡ key_with modifiers key }
 {
     match key {
-        Some(code) if sequence.semicolons < 2 => Token::Event(TerminalEvent::Key(KeyEvent {
+        Some(code) => Token::Event(TerminalEvent::Key(KeyEvent {
             code,
-            modifiers: key_modifiers(sequence),
+            modifiers,
             kind: KeyEventKind::Press,
         })),
+        None => Token::UNRECOGNIZED,
+    }
+}
+
+/// Returns the token of the key that types the character `code`, with `modifiers`: Esc, Tab, Enter
+/// or printable ASCII.
+fn typed_key(modifiers: KeyModifiers, code: u16) -> Token
+    ensures { result ≡ typed_key modifiers code }
+{
+    match code {
+        27 => key_with(modifiers, Some(KeyCode::Esc)),
+        9 | 13 => key_with(modifiers, Some(code_of(code as u8))),
+        32..=126 => printable_key(modifiers, capital(modifiers.shift, code as u8)),
         _ => Token::UNRECOGNIZED,
     }
+}
+
+/// Returns the capital letter if `byte` is a small letter and `is_shift`, and otherwise `byte`.
+fn capital(is_shift: bool, byte: u8) -> u8
+    requires { byte < 128 }
+    ensures { result ≡ capital is_shift byte }
+{
+    if is_shift && is_between(b'a', b'z', byte) {
+        byte - 32
+    } else {
+        byte
+    }
+}
+
+/// Returns the token of the key of `byte`, with `modifiers`. As when the byte itself is typed, a
+/// capital letter has shift, and other characters have none.
+fn printable_key(modifiers: KeyModifiers, byte: u8) -> Token
+    ensures { result ≡ printable_key modifiers byte }
+{
+    let shift = is_between(b'A', b'Z', byte);
+    key_with(KeyModifiers { shift, ..modifiers }, Some(code_of(byte)))
 }

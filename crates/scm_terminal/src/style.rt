@@ -1,7 +1,8 @@
 //! The style of each place of a screen, and the bytes that set a style: the SGR parameters of
 //! ECMA-48.
-ghost use Rattle.std.specs.Prelude.{◌≡◌, ◌≤◌, ℕ, ◌++◌, OnOk, string_bytes};
+ghost use Rattle.std.specs.Prelude.{◌≡◌, ◌≤◌, ℕ, ◌++◌, OnOk, length, string_bytes};
 ghost use Rattle.scm_cells.specs.declared.style.Style.{Style};
+ghost use Rattle.scm_terminal.specs.StyledCell.{row_of_styles};
 ghost use Rattle.scm_terminal.specs.Style.{
   bit,
   colour_code,
@@ -23,6 +24,18 @@ pub trait Styles {
     /// Returns the style of the place at `row` and `column`, both counted from 0.
     fn style(&self, row: usize, column: usize) -> Style
         ensures { result ≡ styled self.now row column };
+
+    /// Sets `styles` to the styles of the places of row `row`, counted from 0: one for each column,
+    /// from column 0 on.
+    fn row_styles(&self, row: usize, styles: &mut [Style])
+        ensures { styles.new ≡ row_of_styles (styled self.now) row (length styles.old) }
+    {
+        let mut column = 0;
+        for style in styles.iter_mut() {
+            *style = self.style(row, column);
+            column += 1;
+        }
+    }
 }
 
 /// Returns the number of `colour`: 0 for the terminal's own colour, and otherwise 1 to 8.

@@ -5,7 +5,8 @@ ghost use Rattle.scm_terminal.specs.Transitions.{
   trailing_transition,
   character_transition,
   final_transition,
-  pending_event,
+  effect_of_silence,
+  ended_escape_transition,
   escape_transition,
   ground_transition,
   progress_transition,
@@ -17,13 +18,18 @@ ghost use Rattle.scm_terminal.specs.Transitions.{
 };
 
 use crate::byte_keys::byte_key;
-use crate::bytes::{ESCAPE, begins_control_string, is_continuation, is_final, is_parameter};
+use crate::bytes::{
+    ESCAPE, SPACE, begins_control_string, begins_sequence, is_continuation, is_final, is_parameter,
+};
 use crate::characters::{Character, CharacterProgress, lead_character, with_continuation};
 use crate::sequences::{
     Sequence, SequenceKind, new_sequence, token_of, trailing_bytes, with_parameter,
 };
 use crate::tokens::Token;
 use scm_input::{KeyCode, KeyEvent, KeyEventKind, KeyModifiers, TerminalEvent};
+
+/// The bell, which ends a control string.
+const BELL: u8 = 7;
 
 /// The state of an unfinished token.
 #[derive(Clone, Copy)]
@@ -32,6 +38,10 @@ pub enum State {
     Ground,
     /// After an escape.
     Escape,
+    /// After an escape that a silence has made the Esc key.
+    EndedEscape,
+    /// After the two bytes that begin a control string.
+    StringBegun,
     /// Within an escape sequence: its parameters so far.
     Sequence(Sequence),
     /// After the final byte of a sequence: the number of its bytes that are missing.
@@ -53,12 +63,26 @@ pub enum Transition {
     EmitAndRetry(Token),
 }
 
-/// The token of the Esc key.
-const ESCAPE_KEY: Token = Token::Event(TerminalEvent::Key(KeyEvent {
+/// The effect of a silence of the terminal on the unfinished token.
+#[derive(Clone, Copy)]
+pub enum SilenceEffect {
+    /// The token stays unfinished.
+    Keep,
+    /// The token is the Esc key. The rest of its sequence may still come.
+    EndEscape,
+    /// The token is a key that is not recognized.
+    Drop,
+}
+
+/// The Esc key.
+pub(crate) const ESCAPE_EVENT: TerminalEvent = TerminalEvent::Key(KeyEvent {
     code: KeyCode::Esc,
     modifiers: KeyModifiers::NONE,
     kind: KeyEventKind::Press,
-}));
+});
+
+/// The token of the Esc key.
+const ESCAPE_KEY: Token = Token::Event(ESCAPE_EVENT);
 
 /// Returns the transition of `byte` in `state`.
 #[tactic(auto, unfolding(crate::specs::Transitions::transition_of))]
@@ -68,10 +92,11 @@ pub(crate) fn transition_of(state: State, byte: u8) -> Transition
     match state {
         State::Ground => ground_transition(byte),
         State::Escape => escape_transition(byte),
+        State::EndedEscape => ended_escape_transition(byte),
         State::Sequence(sequence) => sequence_transition(sequence, byte),
         State::Trailing(left) => trailing_transition(left, byte),
         State::Character(character) => character_transition(character, byte),
-        State::ControlString => control_string_transition(byte),
+        State::StringBegun | State::ControlString => control_string_transition(byte),
     }
 }
 
@@ -114,16 +139,28 @@ fn escape_transition(byte: u8) -> Transition
 {
     if byte == ESCAPE {
         Transition::EmitAndRetry(ESCAPE_KEY)
-    } else if byte == 91 {
+    } else if byte == b'[' {
         Transition::Continue(State::Sequence(new_sequence(SequenceKind::Csi)))
-    } else if byte == 79 {
+    } else if byte == b'O' {
         Transition::Continue(State::Sequence(new_sequence(SequenceKind::Ss3)))
-    } else if byte == 92 {
+    } else if byte == b'\\' {
         Transition::Emit(Token::UNRECOGNIZED)
     } else if begins_control_string(byte) {
-        Transition::Continue(State::ControlString)
+        Transition::Continue(State::StringBegun)
     } else {
         start_transition(true, byte)
+    }
+}
+
+/// Returns the transition of `byte` after an escape that a silence has made the Esc key: `[` or `O`
+/// continues the escape's sequence, and any other byte begins a token.
+fn ended_escape_transition(byte: u8) -> Transition
+    ensures { result ≡ ended_escape_transition byte }
+{
+    if begins_sequence(byte) {
+        escape_transition(byte)
+    } else {
+        ground_transition(byte)
     }
 }
 
@@ -156,7 +193,7 @@ fn final_transition(sequence: Sequence, byte: u8) -> Transition
 fn trailing_transition(left: u8, byte: u8) -> Transition
     ensures { result ≡ trailing_transition left byte }
 {
-    if byte < 32 {
+    if byte < SPACE {
         Transition::EmitAndRetry(Token::UNRECOGNIZED)
     } else if left <= 1 {
         Transition::Emit(Token::UNRECOGNIZED)
@@ -191,29 +228,27 @@ fn progress_transition(progress: CharacterProgress) -> Transition
 fn control_string_transition(byte: u8) -> Transition
     ensures { result ≡ control_string_transition byte }
 {
-    if byte == 7 {
+    if byte == BELL {
         Transition::Emit(Token::UNRECOGNIZED)
-    } else if byte < 32 {
+    } else if byte < SPACE {
         Transition::EmitAndRetry(Token::UNRECOGNIZED)
     } else {
         Transition::Continue(State::ControlString)
     }
 }
 
-/// Returns the event of the unfinished token in `state` if no more bytes come, or `None` if there
-/// is no token.
-pub(crate) fn pending_event(state: State) -> Option<TerminalEvent>
-    ensures { result ≡ pending_event state }
+/// Returns the effect of a silence on the unfinished token in `state`.
+pub(crate) fn effect_of_silence(state: State) -> SilenceEffect
+    ensures { result ≡ effect_of_silence state }
 {
     match state {
-        State::Ground => None,
-        State::Escape => Some(TerminalEvent::Key(KeyEvent {
-            code: KeyCode::Esc,
-            modifiers: KeyModifiers::NONE,
-            kind: KeyEventKind::Press,
-        })),
-        State::Sequence(_) | State::Trailing(_) | State::Character(_) | State::ControlString => {
-            Some(TerminalEvent::Other)
-        }
+        State::Escape => SilenceEffect::EndEscape,
+        State::StringBegun => SilenceEffect::Drop,
+        State::Ground
+        | State::EndedEscape
+        | State::Sequence(_)
+        | State::Trailing(_)
+        | State::Character(_)
+        | State::ControlString => SilenceEffect::Keep,
     }
 }

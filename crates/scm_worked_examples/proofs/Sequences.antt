@@ -16,7 +16,8 @@ use Rattle.scm_terminal.specs.ByteKeys.{byte_key}
 use Rattle.scm_terminal.specs.Mouse.{mouse_event}
 use Rattle.scm_terminal.specs.Sequences.{new_sequence, with_parameter, token_of, trailing_bytes}
 use Rattle.scm_terminal.specs.Characters.{lead_character, with_continuation}
-use Rattle.scm_terminal.specs.Streams.{first, split_from, stream_events, is_pasted_after, rest, idle_event}
+use Rattle.scm_terminal.specs.Streams.{first, split_from, stream_events, is_pasted_after}
+use Rattle.scm_terminal.specs.Silences.{at_first, idle_event, burst_events}
 
 unfoldable streams : Unit {0}
 unfolding is_parameter is_final is_continuation begins_control_string byte_key mouse_event new_sequence with_parameter token_of trailing_bytes lead_character with_continuation first split_from
@@ -80,9 +81,70 @@ unfolding streams
 escape_before_a_sequence = refl
 
 -- an escape waits, and a silence makes it the key
-escape_alone : idle_event false (rest (27 ∷ [])) ≡ Some (pressed none key.Esc)
+escape_alone : idle_event at_first (27 ∷ []) ≡ Some (pressed none key.Esc)
 unfolding streams
 escape_alone = refl
+
+-- ---- other forms of keys
+
+application_mode_with_control : stream_events false (27 ∷ codes "O5A") ≡ pressed control key.Up ∷ []
+unfolding streams
+application_mode_with_control = refl
+
+rxvt_arrows : stream_events false ((27 ∷ codes "[d") ++ (27 ∷ codes "Oa")) ≡ pressed shift key.Left ∷ pressed control key.Up ∷ []
+unfolding streams
+rxvt_arrows = refl
+
+rxvt_page_up : stream_events false (27 ∷ codes "[5^") ≡ pressed control key.PageUp ∷ []
+unfolding streams
+rxvt_page_up = refl
+
+-- a small letter with shift is the capital, as if its byte had come
+typed_letters : stream_events false ((27 ∷ codes "[97u") ++ (27 ∷ codes "[97;2u") ++ (27 ∷ codes "[104;2u") ++ (27 ∷ codes "[99;5u"))
+    ≡ pressed none (key.Char 97) ∷ pressed shift (key.Char 65) ∷ pressed shift (key.Char 104) ∷ pressed control (key.Char 99) ∷ []
+unfolding streams
+typed_letters = refl
+
+-- a question mark has no shift, as if its byte had come
+other_keys_of_xterm : stream_events false ((27 ∷ codes "[27;5;99~") ++ (27 ∷ codes "[27;2;63~") ++ (27 ∷ codes "[27;2;65~"))
+    ≡ pressed control (key.Char 99) ∷ pressed none (key.Char 63) ∷ pressed shift (key.Char 65) ∷ []
+unfolding streams
+other_keys_of_xterm = refl
+
+named_keys_by_code : stream_events false ((27 ∷ codes "[27u") ++ (27 ∷ codes "[13;2u") ++ (27 ∷ codes "[9u"))
+    ≡ pressed none key.Esc ∷ pressed shift key.Enter ∷ pressed none (key.Char 9) ∷ []
+unfolding streams
+named_keys_by_code = refl
+
+-- a release, a C0 control and a keypad's key by their codes
+no_typed_keys : stream_events false ((27 ∷ codes "[97;1:3u") ++ (27 ∷ codes "[3u") ++ (27 ∷ codes "[57414u")) ≡ terminal.Other ∷ terminal.Other ∷ terminal.Other ∷ []
+unfolding streams
+no_typed_keys = refl
+
+-- ---- silences
+
+-- an arrow behind an escape that a silence ended, and one that a silence tore within
+torn_arrows : burst_events at_first ((27 ∷ []) ∷ codes "[A" ∷ (27 ∷ codes "[1;") ∷ codes "5A" ∷ []) ≡ pressed none key.Esc ∷ pressed none key.Up ∷ pressed control key.Up ∷ []
+unfolding streams
+torn_arrows = refl
+
+-- after a real Esc, a letter is a key at once; a bracket takes one key with it
+keys_after_escape : burst_events at_first ((27 ∷ []) ∷ codes "a" ∷ (27 ∷ []) ∷ codes "[" ∷ codes "qq" ∷ [])
+    ≡ pressed none key.Esc ∷ pressed none (key.Char 97) ∷ pressed none key.Esc ∷ terminal.Other ∷ pressed none (key.Char 113) ∷ []
+unfolding streams
+keys_after_escape = refl
+
+-- alt with `]` is no key, and does not hide the next one; a torn answer on colours is no key
+strings_and_silences : burst_events at_first ((27 ∷ codes "]") ∷ codes "q" ∷ (27 ∷ codes "]11;rgb:c") ∷ codes "ccc" ∷ (7 ∷ []) ∷ [])
+    ≡ terminal.Other ∷ pressed none (key.Char 113) ∷ terminal.Other ∷ []
+unfolding streams
+strings_and_silences = refl
+
+-- the end mark of a paste is lost: ctrl-c alone ends it, among other bytes it does not
+lost_mark : burst_events at_first ((27 ∷ codes "[200~a") ∷ (3 ∷ codes "q") ∷ (3 ∷ []) ∷ codes "q" ∷ [])
+    ≡ terminal.Other ∷ terminal.Other ∷ terminal.Other ∷ terminal.Other ∷ terminal.Other ∷ pressed control (key.Char 99) ∷ pressed none (key.Char 113) ∷ []
+unfolding streams
+lost_mark = refl
 
 -- ---- characters
 
@@ -125,6 +187,10 @@ wheel = refl
 dragged : stream_events false (27 ∷ codes "[<33;2;2M") ≡ at (mouse.Drag Middle) 1 1 ∷ []
 unfolding streams
 dragged = refl
+
+rxvt_click_and_wheel : stream_events false ((27 ∷ codes "[32;3;7M") ++ (27 ∷ codes "[97;1;1M")) ≡ at (mouse.Down Left) 6 2 ∷ at mouse.ScrollDown 0 0 ∷ []
+unfolding streams
+rxvt_click_and_wheel = refl
 
 -- no place has the number 0, nor one above 65535
 no_place : stream_events false ((27 ∷ codes "[<0;0;1M") ++ (27 ∷ codes "[<0;65536;1M")) ≡ terminal.Other ∷ terminal.Other ∷ []

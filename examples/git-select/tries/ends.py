@@ -8,7 +8,7 @@ import subprocess
 import time
 
 from made import (
-    ENVIRONMENT, PROGRAM, Typed, called, commit, git, is_as_added, kept_marks, objects, staged, typed_into, write,
+    ENVIRONMENT, PROGRAM, VERSION, Typed, called, commit, git, is_as_added, kept_marks, objects, staged, typed_into, write,
 )
 
 from apart import without_rights
@@ -138,7 +138,7 @@ def given_up():
     write("a.txt", b"one\n")
     before = objects()
     status, said = typed_into(["q"])
-    return status == 1 and "git-select: nothing was staged\n" in said and not git("ls-files") and objects() == before
+    return status == 1 and said.endswith("git-select: nothing changed\n") and not git("ls-files") and objects() == before
 
 
 def nothing_is_marked():
@@ -158,7 +158,7 @@ def something_is_staged_already():
     ends = []
     for option, done in (None, "staged"), ("--unstage", "unstaged"), ("--restore", "restored"), ("--commit", "committed"):
         given_up, unmarked = (typed_into([key], [option] if option else []) for key in ("q", "c"))
-        ends.append(given_up[0] == 1 and given_up[1].endswith("git-select: nothing was %s\n" % done))
+        ends.append(given_up[0] == 1 and given_up[1].endswith("git-select: nothing changed\n"))
         ends.append(unmarked[0] == 0 and unmarked[1].endswith("nothing was marked, and nothing was %s\n" % done))
     write("a.txt", b"two\n")
     only_staged = called("--commit")
@@ -167,15 +167,22 @@ def something_is_staged_already():
 
 
 def a_title_that_says_what_is_done():
-    """The screen is the same for each option, so the window's title says what becomes of what is marked."""
-    write("a.txt", b"one\n")
+    """The screen is the same for each option, so the window's title says of how many files something is chosen, and what `c` does."""
+    for path in ("a.txt", "b.txt", "c.txt"):
+        write(path, b"one\n")
     commit()
-    write("a.txt", b"two\n")
+    for path in ("a.txt", "b.txt", "c.txt"):
+        write(path, b"two\n")
+    git("add", "c.txt")
     ends = []
-    for option, words in ("--restore", b"taken back"), ("--commit", b"committed"):
+    for option, words in (
+        ("--restore", b"2 files, c takes back what is marked"),
+        ("--unstage", b"1 file, c takes what is marked out of the index"),
+        ("--commit", b"2 files, c commits what is marked, with 1 file staged before"),
+    ):
         typed = Typed([PROGRAM, option], 60, 24, ENVIRONMENT)
         typed.press("q")
-        ends.append(b"\x1b]2;git-select: mark what is to be " + words + b" (? for help)\x1b\\" in typed.seen)
+        ends.append(b"\x1b]2;git-select: " + words + b" (? for help)\x1b\\" in typed.seen)
         typed.end()
     return all(ends)
 
@@ -255,7 +262,7 @@ def what_is_asked_for():
     write(".gitignore", b"empty/\n")
     commit()
     nothing = 0, "git-select: there is nothing to stage\n"
-    is_told = called("--help")[1].startswith("usage: git-select ") and called("--version") == (0, "git-select 1.1\n")
+    is_told = called("--help")[1].startswith("usage: git-select ") and called("--version") == (0, "git-select %s\n" % VERSION)
     is_nothing = called() == called(".gitignore") == called("--", ".") == called(".", ":!nowhere") == nothing
     lost = [called("nowhere"), called("--", "-x"), called("*.c"), called(".gitignore", ":/nowhere")]
     is_lost = all(status == 1 and "did not match any file" in said for status, said in lost)

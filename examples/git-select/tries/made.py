@@ -5,8 +5,9 @@ import subprocess
 import sys
 
 HERE = os.path.dirname(os.path.abspath(__file__))
-sys.path.insert(0, os.path.join(HERE, "..", "..", "terminal"))
+sys.path[:0] = [os.path.join(HERE, "..", "..", "terminal"), os.path.join(HERE, "..", "..")]
 from apart import SETTINGS  # noqa: E402
+from choosing.words import VERSION  # noqa: E402, F401
 from typed import Typed  # noqa: E402
 
 PROGRAM = os.path.join(HERE, "..", "git-select")

@@ -1,15 +1,38 @@
 //! Painting a live session on a terminal.
-ghost use Rattle.std.specs.Prelude.{◌≡◌, ◌+◌, ◌<◌, [], IfErr, IfOk, OnErr, OnOk, string_bytes};
+ghost use Rattle.std.specs.Prelude.{◌≡◌, ◌+◌, ◌<◌, [], IfErr, IfOk, OnErr, OnOk, length, string_bytes};
 ghost use Rattle.scm_errors.specs.declared.error.RecordError.TheVariants.{OutOfMemory};
 ghost use Rattle.scm_terminal.specs.Promise.{Paints};
-ghost use Rattle.scm_record.specs.Frames.{columns_of, rows_of};
+ghost use Rattle.scm_terminal.specs.StyledCell.{row_of_styles};
+ghost use Rattle.scm_record.specs.Frames.{columns_of, rows_of, IsSceneOf, Scene};
 ghost use Rattle.scm_record.specs.Headline.{IsInline};
-ghost use Rattle.scm_record.specs.Painted.{picture_of, style_at, window_picture_of, window_style_at};
+ghost use Rattle.scm_record.specs.Painted.{picture_of, style_at, style_in, window_picture_of, window_style_at};
 
+use crate::frame::DrawnFrame;
 use crate::live::LiveSession;
 use scm_cells::Style;
 use scm_terminal::{Painter, Styles};
 use scm_types::RecordError;
+use scm_view_state::ViewState;
+
+/// Sets `styles` to the styles of the places of row `row` of the screen, counted from 0, while the
+/// screen shows `frame` of `view_state`, scrolled to row `scroll` of the document.
+fn set_row_styles(
+    frame: &DrawnFrame,
+    view_state: &ViewState<'_>,
+    scroll: usize,
+    row: usize,
+    styles: &mut [Style],
+)
+    ensures { (scene : Scene) → IsSceneOf scene frame.now → styles.new
+        ≡ row_of_styles (style_in scene view_state.now scroll) row (length styles.old) }
+{
+    let owners = frame.row_owners(scroll, row);
+    let mut column = 0;
+    for style in styles.iter_mut() {
+        *style = view_state.style(row, frame.hit_among(owners, scroll, row, column));
+        column += 1;
+    }
+}
 
 impl<'state> Styles for LiveSession<'state> {
     ghost styled = { style_at };
@@ -22,6 +45,14 @@ impl<'state> Styles for LiveSession<'state> {
             → column < columns_of self.now.kind → result ≡ window_style_at self.now row column }
     {
         self.view_state().style(row, self.owner(row, column))
+    }
+
+    /// Sets `styles` to the styles of the places of row `row` of the screen, counted from 0.
+    fn row_styles(&self, row: usize, styles: &mut [Style])
+        ensures { styles.new ≡ row_of_styles (style_at self.now) row (length styles.old) }
+    {
+        let scroll = self.session.scroll();
+        set_row_styles(&self.frame, self.view_state(), scroll, row, styles);
     }
 }
 

@@ -1,10 +1,11 @@
 //! A live session that is driven by the bytes of a terminal.
-ghost use Rattle.std.specs.Prelude.{◌≡◌, ℕ, Bool, false, List, [], IsTrue, IfErr, IfOk, map};
+ghost use Rattle.std.specs.Prelude.{◌≡◌, ℕ, false, List, [], IsTrue, IfErr, IfOk, map};
 ghost use Rattle.scm_types.specs.Limits.{is_accepted_state};
 ghost use Rattle.scm_types.specs.declared.state.RecordState.{RecordState};
 ghost use Rattle.scm_input.specs.declared.inputs.TerminalKind.{TerminalKind};
 ghost use Rattle.scm_terminal.specs.declared.decoder.Decoder.{Decoder};
-ghost use Rattle.scm_terminal.specs.Decoders.{HasHeard};
+ghost use Rattle.scm_terminal.specs.Decoders.{HasHeard, HasRead};
+ghost use Rattle.scm_terminal.specs.Silences.{Start};
 ghost use Rattle.scm_terminal.specs.Streams.{stream_events};
 ghost use Rattle.scm_record.specs.Session.{start};
 ghost use Rattle.scm_record.specs.Live.{Live};
@@ -41,8 +42,9 @@ impl<'state> LiveSession<'state> {
         self.hand_in(events.as_slice())
     }
 
-    /// Handles a silence of the terminal: an escape byte with nothing after it is the key Esc. If
-    /// nothing is unfinished, this is a no-op.
+    /// Handles a silence of the terminal: an escape byte with nothing after it is the key Esc, and
+    /// within a paste Ctrl-C between two silences is the key. Otherwise this is a no-op, however
+    /// often it is called.
     ///
     /// # Errors
     ///
@@ -93,9 +95,9 @@ pub fn typed_sessions_are_runs()
         inputs calls last
         → AreRuns (start given) kind calls last }
     // the calls are what the bytes mean
-    ensures means { (decoder : Decoder) (is_pasted : Bool) (heard : List ℕ) (turn last : Turn)
-        (inputs : List Input) (calls : List Call) → HasHeard decoder is_pasted heard
-        → InputPath decoder turn inputs calls last → InputsMean is_pasted heard inputs calls }
+    ensures means { (decoder : Decoder) (start : Start) (heard : List ℕ) (turn last : Turn)
+        (inputs : List Input) (calls : List Call) → HasRead decoder start heard
+        → InputPath decoder turn inputs calls last → InputsMean start heard inputs calls }
     // wherever the stream is cut
     ensures cut { (decoder : Decoder) (l : Live) (chunks : List (List ℕ)) (calls : List Call)
         (last : Turn) → HasHeard decoder false []

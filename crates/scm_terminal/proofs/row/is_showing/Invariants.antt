@@ -1,6 +1,6 @@
 use Rattle.std.proofs.Common.{◌≡◌, ℕ, ◌<◌, get_or}
-use Rattle.scm_terminal.specs.StyledCell.{Later, cell_at}
+use Rattle.scm_terminal.specs.StyledCell.{Later, cell_in}
 use Rattle.scm_terminal.proofs.row.is_showing.Given as goal
 
 abbrev pub invariant-loop-column : goal.invariant-loop-column
-invariant-loop-column g l = (k : ℕ) → k < l.column → get_or l.cells k Later ≡ cell_at (g.S.Styles.styled l.styles) l.grid l.row k
+invariant-loop-column l = (k : ℕ) → k < l.column → get_or l.cells k Later ≡ cell_in l.styles l.grid l.row k

@@ -4,7 +4,7 @@ use Rattle.scm_terminal.specs.declared.row.Row.{Row}
 use Rattle.scm_terminal.specs.Painting.{paint_commands}
 use Rattle.scm_terminal.specs.PainterView.{cells_of_row}
 use Rattle.scm_terminal.specs.StyledCell.{HasSize}
-use Rattle.scm_terminal.specs.RowView.{line_of}
+use Rattle.scm_terminal.specs.RowView.{sent_line_of}
 use Rattle.scm_terminal.specs.Terminal.{bytes_of}
 use Rattle.scm_terminal.proofs.PaintingLemmas.{few-columns, paints}
 use Rattle.scm_terminal.proofs.painter.Painter.update_and_push.Goals as goal
@@ -27,4 +27,4 @@ returns-clause-ok g c =
     (λ (size : HasSize c.args.grid.now.width (length c.args.grid.now.rows) c.args.self.now).
     c.in_ok-is_all.ensures.sized.1 (subst (λ (w : ℕ). HasSize w c.height.result c.args.self.now) (sym c.width.ensures.value)
     (subst (λ (h : ℕ). HasSize c.args.grid.now.width h c.args.self.now) (sym c.height.ensures.value) size)))
-    (c.in_ok-push_paint.ensures ∙ ap₂ (λ (start : List ℕ) (rows : List Row). start ++ flat_map bytes_of (paint_commands (map line_of rows))) c.new-text.ensures.bytes same)
+    (c.in_ok-push_paint.ensures ∙ ap₂ (λ (start : List ℕ) (rows : List Row). start ++ flat_map bytes_of (paint_commands (map sent_line_of rows))) c.new-text.ensures.bytes same)

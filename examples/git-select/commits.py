@@ -1,0 +1,223 @@
+"""What git-select does with a choice in commits: commits it, adds it to the last commit, or makes two of that one."""
+import os
+
+from choosing.accepted import message_in, messages_in, state_in
+from choosing.front_end import say
+from choosing.signals import status_of
+from choosing.waiting import counted
+from choosing.words import HalfDone, Stop, printable, shown, words_of
+from sides import changed_between
+from ways import Stage
+
+# the front end takes no longer message
+LONGEST_MESSAGE = 1_000_000
+
+
+def can_be_shown(message):
+    return len(message.encode()) <= LONGEST_MESSAGE
+
+
+class Commit(Stage):
+    done, nothing, no_change = "committed", "nothing was committed", "there is nothing to commit"
+    words, does, too_long = ("git-select", "--commit"), "commits what is marked", "git shows it in its editor"
+
+    def check(self):
+        self.repository.check_no_conflict()
+        self.repository.check_identity()
+
+    def staged(self):
+        """Returns how many files are staged."""
+        return sum(1 for _ in self.repository.staged([], self.repository.top))
+
+    def empty(self):
+        return self.no_change + " beside what is staged: git commit commits that" if self.staged() else self.no_change
+
+    def task(self):
+        count = self.staged()
+        return self.does + (", with %s staged before" % counted(count, "file") if count else "")
+
+    def commits(self, kept):
+        given = self.options.message
+        self.begun = "" if given else self.read_message()
+        if not can_be_shown(self.begun):
+            say("the message to begin with is too long to be shown: " + self.too_long)
+            self.begun = ""
+        return [{"message": given or kept or self.begun}]
+
+    def read_message(self):
+        """Returns the message to begin with: the template that the user has set."""
+        status, path, _ = self.repository.run("config", "--type=path", "--get", "commit.template")
+        if status:
+            return ""
+        path = os.path.join(self.repository.top, os.fsdecode(path).rstrip("\n"))
+        with open(path, encoding="utf-8", errors="replace") as file:
+            return file.read()
+
+    def environment(self):
+        status, editor, _ = self.repository.run("var", "GIT_EDITOR")
+        return {} if status else {"VISUAL": os.fsdecode(editor).strip()}
+
+    def write(self, choices, scratch, accepted, lock):
+        """Commits the index with `choices`, which the index then has."""
+        self.repository.update(self.stored(self.all_of(choices), self.now), GIT_INDEX_FILE=lock.copy)
+        asked, before = self.tree_of(lock), self.repository.last_commit()
+        status = status_of(lambda: self.commit(message_in(state_in(accepted)), lock.copy))
+        self.check_made(status, before, lock)
+        self.keep(asked, lock)
+        return self.reports(choices), False
+
+    def tree_of(self, lock):
+        """Returns the name of the tree that a commit of the copied index has."""
+        return self.repository.name_by("write-tree", GIT_INDEX_FILE=lock.copy)
+
+    def check_made(self, status, before, lock):
+        """Stops if git made no commit. A hook may have moved HEAD; and git may have been cut off behind the commit."""
+        after = self.repository.last_commit()
+        # git's status is 1 if it refuses
+        if status == 0 and after != before or status != 1 and self.is_asked_for(after, before, lock):
+            return
+        moved = "" if after == before else ", and something else moved HEAD to %s" % after[:10]
+        raise Stop("git did not commit" + moved)
+
+    def is_asked_for(self, commit, before, lock):
+        """Whether a commit has the files and the parent that the new one has."""
+        return bool(commit) and self.parents_for(before) == self.parents_of(commit) and self.has_tree(commit, lock)
+
+    def parents_for(self, before):
+        """Returns the first parent that the new commit has, or none. `before` is the last commit before it."""
+        return [before] if before else []
+
+    def parents_of(self, commit):
+        return self.repository.git("rev-parse", commit + "^@").decode().split()[:1]
+
+    def has_tree(self, commit, lock):
+        return self.repository.name_by("rev-parse", commit + "^{tree}") == self.tree_of(lock)
+
+    def keep(self, asked, lock):
+        """Has the index be that of the commit. Says so if the commit is not what was asked for: `asked` is the tree that was."""
+        try:
+            made, wanted = self.repository.name_by("rev-parse", "HEAD^{tree}"), self.tree_of(lock)
+            lock.keep()
+        except (Stop, OSError) as error:
+            words = "it is committed, but the index stays as it was (git reset mends that): "
+            raise HalfDone(words + words_of(error)) from None
+        if made != wanted:
+            raise HalfDone("it is committed, but something moved HEAD behind that: git reflog shows the commit")
+        if made != asked:
+            say("a hook changed what is committed: git show")
+
+    def commit(self, message, index):
+        """Commits what `index` has, and returns git's status. What git and the hooks say is shown. Without a message of the user
+        git opens its editor."""
+        if not message.strip() or message == self.begun:
+            return self.repository.for_hooks().in_terminal("commit", GIT_INDEX_FILE=index)
+        # as in git's editor, the comments of a template are no part of the message
+        return self.commit_with(index, message, "--file=-", *(["--cleanup=strip"] if self.begun else []))
+
+    def commit_with(self, index, message, *words):
+        given = {"given": message.encode(), "GIT_INDEX_FILE": index}
+        status, output, said = self.repository.for_hooks().run("commit", *words, **given)
+        for line in os.fsdecode(output + said).splitlines():
+            say("git: " + printable(line))
+        return status
+
+
+class Amend(Commit):
+    words, does, too_long = ("git-select", "--amend"), "adds what is marked to the last commit", "it stays"
+
+    def check(self):
+        super().check()
+        self.repository.check_last_commit()
+        for name in "MERGE_HEAD", "CHERRY_PICK_HEAD":
+            if self.repository.commit_named(name):
+                raise Stop("the last commit cannot be amended while %s is there" % name)
+
+    def empty(self):
+        return "there is nothing to add: git commit --amend changes the message"
+
+    def read_message(self):
+        return self.repository.message_of("HEAD") or ""
+
+    def parents_for(self, before):
+        return self.parents_of(before)
+
+    def commit(self, message, index):
+        if message == self.begun or not message and not self.begun:
+            return self.commit_with(index, "", "--amend", "--no-edit")
+        if not message.strip():
+            return self.repository.for_hooks().in_terminal("commit", "--amend", GIT_INDEX_FILE=index)
+        return self.commit_with(index, message, "--amend", "--file=-")
+
+
+class Fixup(Commit):
+    words = "git-select", "--fixup"
+
+    def check(self):
+        super().check()
+        self.repository.check_last_commit()
+        self.fixed = self.repository.commit_named(self.options.fixup)
+        if not self.fixed:
+            raise Stop("%s names no commit" % shown(self.options.fixup))
+        self.does = "commits what is marked as a fixup of " + self.fixed[:10]
+        self.words = "git-select", "--fixup", self.fixed[:10]
+
+    def commits(self, kept):
+        return []
+
+    def commit(self, message, index):
+        return self.commit_with(index, "", "--fixup=" + self.fixed)
+
+
+class Split(Stage):
+    done, nothing, no_change = "first", "nothing was split", "there is nothing to split: the last commit changes nothing"
+    words, does = ("git-select", "--split"), "makes two commits of the last one: what is marked comes first"
+
+    def check(self):
+        self.repository.check_identity()
+        self.repository.check_last_commit()
+        self.last = self.repository.last_commit()
+        parents = self.repository.git("rev-parse", self.last + "^@").decode().split()
+        if len(parents) > 1:
+            raise Stop("the last commit is a merge, which cannot be split")
+        self.parent = parents[0] if parents else None
+        self.tree = self.repository.name_by("rev-parse", self.last + "^{tree}")
+
+    def tree_before(self):
+        """Returns the name of what the last commit changes."""
+        return self.parent or self.repository.empty_tree()
+
+    def read(self, scratch):
+        return changed_between(self.repository, self.tree_before(), self.last, self.options.paths, self.start)
+
+    def commits(self, kept):
+        begun = self.repository.message_of(self.last)
+        if begun is None or not can_be_shown(begun):
+            raise Stop("the message of the last commit is too long to be shown, or no text")
+        return [{"message": self.options.message or kept or begun}, {"message": begun}]
+
+    environment = Commit.environment
+
+    def paths_there(self):
+        return self.repository.paths_in(self.tree_before())
+
+    def write(self, choices, scratch, accepted, lock):
+        """Makes the two commits, and has HEAD name the second one. The index and the working tree stay."""
+        first, second = messages_in(state_in(accepted), 2)
+        if not first.strip() or not second.strip():
+            raise Stop("a commit has no message")
+        tree = self.repository.tree_with(self.tree_before(), self.stored(self.all_of(choices), self.now), self.folder)
+        if tree == self.tree:
+            raise Stop("all of it is marked, so nothing is left for the second commit")
+        author, signing = self.repository.author_of(self.last), self.repository.signing()
+        made = self.repository.commit_tree(tree, [self.parent] if self.parent else [], first, *signing, **author)
+        last = self.repository.commit_tree(self.tree, [made], second, *signing, **author)
+        if not self.has_files_of(last):
+            raise Stop("the second commit would not have the files of the last one")
+        self.repository.git("update-ref", "-m", "split: " + first.strip().split("\n")[0], "HEAD", last, self.last)
+        words = "split: %s is %s and %s now: git reset --soft %s takes that back"
+        return [*self.reports(choices), words % (self.last[:10], made[:10], last[:10], self.last[:10])], False
+
+    def has_files_of(self, commit):
+        """Whether a commit has the files of the one that is split."""
+        names = [self.repository.name_by("rev-parse", name + "^{tree}") for name in (commit, self.last)]
+        return names[0] == names[1] == self.tree

@@ -1,0 +1,153 @@
+/* Bytes in memory and in files, and what a session writes. No proof covers this file. */
+#define _GNU_SOURCE
+#include "files.h"
+
+#include <errno.h>
+#include <fcntl.h>
+#include <libgen.h>
+#include <stdio.h>
+#include <stdlib.h>
+#include <string.h>
+#include <sys/stat.h>
+#include <unistd.h>
+
+enum { FIRST_ROOM = 1 << 15, MORE_ROOM = 1 << 20, PERMISSIONS = 0777, ALL_MAY_WRITE = 0666 };
+
+/* Gives a text room for `room` bytes and the zero behind them. Returns false if that fails; the text is as it was. */
+static bool make_room(text *text, size_t room) {
+    if (text->bytes && text->room >= room) {
+        return true;
+    }
+    char *larger = realloc(text->bytes, room + 1);
+    if (larger) {
+        text->bytes = larger;
+        text->room = room;
+    }
+    return larger;
+}
+
+static void end_at(text *text, size_t length) {
+    text->length = length;
+    if (text->bytes) {
+        text->bytes[length] = 0;
+    }
+}
+
+uint32_t read_session(scm_session *session, reader *read, text *into) {
+    size_t length = FIRST_ROOM;
+    uint32_t code = SCM_NO_MEMORY;
+    end_at(into, 0);
+    do {
+        if (!make_room(into, length)) {
+            return SCM_NO_MEMORY;
+        }
+        code = read(session, into->bytes, into->room, &length);
+    } while (code == SCM_DONE && length > into->room);
+    end_at(into, code == SCM_DONE ? length : 0);
+    return code;
+}
+
+/* Reads on behind the first `*length` bytes, and adds to `*length`. Returns 0 at the end of the file, and -1 with errno set if that
+ * fails. */
+static ssize_t read_more(int file, text *into, size_t *length) {
+    if (!make_room(into, *length < into->room ? into->room : *length + MORE_ROOM)) {
+        return -1;
+    }
+    ssize_t count = read(file, into->bytes + *length, into->room - *length);
+    *length += count > 0 ? (size_t)count : 0;
+    return count;
+}
+
+bool read_file(const char *path, text *into) {
+    int file = open(path, O_RDONLY | O_CLOEXEC);
+    ssize_t count = file < 0 ? -1 : 1;
+    size_t length = 0;
+    while (count > 0) {
+        count = read_more(file, into, &length);
+    }
+    int error = errno;
+    end_at(into, count == 0 ? length : 0);
+    if (file >= 0) {
+        close(file);
+    }
+    errno = error;
+    return count == 0;
+}
+
+bool write_bytes(int file, const char *bytes, size_t length) {
+    while (length > 0) {
+        ssize_t count = write(file, bytes, length);
+        if (count < 0) {
+            return false;
+        }
+        bytes += count;
+        length -= (size_t)count;
+    }
+    return true;
+}
+
+/* Closes a file to which all was written, if `is_written`. Returns false with errno set if that is not so, or closing fails. */
+static bool close_written(int file, bool is_written) {
+    int error = errno;
+    bool is_closed = close(file) == 0;
+    if (!is_written) {
+        errno = error;
+    }
+    return is_written && is_closed;
+}
+
+/* Returns the permissions of the file that takes the place of `old`, or of a new file if `old` is NULL. */
+static mode_t permissions_like(const struct stat *old) {
+    mode_t mask = umask(0);
+    umask(mask);
+    return old ? old->st_mode & PERMISSIONS : ALL_MAY_WRITE & ~mask;
+}
+
+/* Makes a file in the folder of `target`, and sets `path` to its path, which the caller frees. Returns -1 with errno set if that
+ * fails. */
+static int make_beside(const char *target, char **path) {
+    char *copy = strdup(target);
+    bool is_named = copy && asprintf(path, "%s/.accepted-XXXXXX", dirname(copy)) >= 0;
+    free(copy);
+    if (!is_named) {
+        *path = NULL;
+        errno = ENOMEM;
+        return -1;
+    }
+    return mkostemp(*path, O_CLOEXEC);
+}
+
+/* Writes a file beside `target`, and gives it that name. Returns false with errno set if that fails; then no file is beside it. */
+static bool write_beside(const char *target, const struct stat *old, const char *bytes, size_t length) {
+    char *path;
+    int file = make_beside(target, &path);
+    bool is_made = file >= 0;
+    bool is_written = is_made && fchmod(file, permissions_like(old)) == 0 && write_bytes(file, bytes, length) && fsync(file) == 0;
+    bool is_done = is_made && close_written(file, is_written) && rename(path, target) == 0;
+    int error = errno;
+    if (is_made && !is_done) {
+        unlink(path);
+    }
+    free(path);
+    errno = error;
+    return is_done;
+}
+
+/* Writes to a pipe or a device, or to the file that a link names and that is not there. */
+static bool write_onto(const char *path, const char *bytes, size_t length) {
+    int file = open(path, O_WRONLY | O_CREAT | O_CLOEXEC, ALL_MAY_WRITE);
+    return file >= 0 && close_written(file, write_bytes(file, bytes, length));
+}
+
+bool replace_file(const char *path, const char *bytes, size_t length) {
+    struct stat old, itself;
+    char *target = realpath(path, NULL);
+    bool is_there = target && stat(target, &old) == 0;
+    bool is_beside = is_there ? S_ISREG(old.st_mode) : lstat(path, &itself) != 0;
+    bool is_done = is_beside ? write_beside(is_there ? target : path, is_there ? &old : NULL, bytes, length)
+                             : write_onto(path, bytes, length);
+    int error = errno;
+    free(target);
+    errno = error;
+    return is_done;
+}

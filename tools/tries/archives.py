@@ -1,0 +1,172 @@
+"""An archive of tools/release, unpacked and used where there is little else, for tools/try-tools."""
+import filecmp
+import os
+import re
+import shutil
+import subprocess
+import sys
+import sysconfig
+
+import changed
+from apart import SETTINGS
+from typed import Typed
+
+# parts of Python that no program of the archive uses
+NOT_NEEDED = shutil.ignore_patterns("test", "tests", "site-packages", "idlelib", "tkinter", "ensurepip", "__pycache__", "config-*", "*.a")
+OLD, NEW = b"one\ntwo\n", b"one\nTWO\nthree\n"
+# those of the page of the archive: to `+ three`
+KEYS = ["shift-F", *["j"] * 4, "space", "c"]
+
+
+class Root:
+    """A root folder for programs, which have no other variables than these: `head` is before each command."""
+
+    def __init__(self, head, top, path):
+        self.head, self.top = head, top
+        self.path = path
+        self.work = os.path.join(top, "work")
+        os.makedirs(self.work, exist_ok=True)
+
+    def inside(self, path):
+        """Returns the name by which the programs know a path below the root."""
+        return path if not self.head else "/" + os.path.relpath(path, self.top)
+
+    def command(self, words):
+        variables = {**SETTINGS, "PATH": self.path, "HOME": self.inside(self.work), "PYTHONDONTWRITEBYTECODE": "1"}
+        return [*self.head, "/usr/bin/env", "-i", *("%s=%s" % it for it in variables.items()), *words]
+
+    def run(self, *words):
+        return subprocess.run(self.command(words), stdout=subprocess.PIPE, stderr=subprocess.STDOUT, cwd=self.work)
+
+    def type(self, words, keys):
+        typed = Typed(self.command(words), 60, 24, folder=self.work)
+        for key in keys:
+            typed.press(key)
+        return typed.end(), typed.said()
+
+
+def stages_a_line(root, unpacked):
+    """Whether the page of the archive is true in a root folder: installed, a line is staged, and all is taken back."""
+    prefix = os.path.join(root.work, "prefix")
+    done = root.run(root.inside(os.path.join(unpacked, "install")), root.inside(prefix))
+    if done.returncode or b"install: " in done.stdout:
+        print(done.stdout.decode(), end="")
+        return False
+    before, root.path = root.path, root.inside(prefix) + "/bin:" + root.path
+    repository = os.path.join(root.work, "repository")
+    os.makedirs(repository)
+    text, here = os.path.join(repository, "text"), ["git", "-C", root.inside(repository)]
+    root.run(*here, "init", "--quiet")
+    changed.write_file(text, OLD)
+    root.run(*here, "add", "text")
+    root.run(*here, "commit", "--quiet", "--message", "First")
+    changed.write_file(text, NEW)
+    status, said = root.type([*here, "select"], KEYS)
+    found = root.run(*here, "diff", "--cached", "--unified=0").stdout.decode().splitlines()[4:]
+    root.path = before
+    is_gone = root.run(root.inside(os.path.join(prefix, "lib/gabrosty/uninstall"))).returncode == 0 and not os.path.exists(prefix)
+    is_staged = status == 0 and said.endswith("staged: text\n") and found == ["@@ -2,0 +3 @@ two", "+three"]
+    if not is_staged:
+        print(said, found)
+    return is_staged and is_gone
+
+
+def in_a_bare_folder(unpacked, folder):
+    """The path has git and Python alone."""
+    programs = os.path.join(folder, "programs")
+    os.makedirs(programs)
+    os.symlink(shutil.which("git"), os.path.join(programs, "git"))
+    os.symlink(os.path.realpath(sys.executable), os.path.join(programs, "python3"))
+    return stages_a_line(Root([], os.path.join(folder, "bare"), programs), unpacked)
+
+
+def libraries_of(program):
+    """Returns the paths of what a program is linked with."""
+    said = subprocess.run(["ldd", program], stdout=subprocess.PIPE, stderr=subprocess.DEVNULL, text=True).stdout
+    return re.findall(r"(/\S+) \(0x", said)
+
+
+def bring(top, path):
+    """Copies a file to the same place below `top`, with all that it is linked with."""
+    for name in (path, *libraries_of(path)):
+        target = top + name
+        if not os.path.exists(target):
+            os.makedirs(os.path.dirname(target), exist_ok=True)
+            shutil.copy(name, target)
+
+
+def make_root(top):
+    """Fills a root folder with git, Python and env, and with nothing else. Returns why that cannot be done, or None."""
+    if os.geteuid():
+        return "only root changes the root folder"
+    for name in ("chroot", "ldd", "mknod"):
+        if not shutil.which(name):
+            return "there is no " + name
+    python = os.path.realpath(sys.executable)
+    for path in (shutil.which("git"), "/usr/bin/env", python):
+        bring(top, path)
+    for name in {sysconfig.get_path(name) for name in ("stdlib", "platstdlib")}:
+        shutil.copytree(name, top + name, ignore=NOT_NEEDED, dirs_exist_ok=True)
+    for at, _, names in os.walk(sysconfig.get_path("platstdlib") + "/lib-dynload"):
+        for name in names:
+            bring(top, os.path.join(at, name))
+    os.makedirs(top + "/programs")
+    os.symlink(python, top + "/programs/python3")
+    os.symlink(shutil.which("git"), top + "/programs/git")
+    for name in ("dev", "tmp"):
+        os.makedirs(os.path.join(top, name), exist_ok=True)
+    for name, numbers in (("null", "1 3"), ("urandom", "1 9"), ("tty", "5 0")):
+        path = os.path.join(top, "dev", name)
+        if subprocess.run(["mknod", "-m", "666", path, "c", *numbers.split()], stderr=subprocess.DEVNULL).returncode:
+            return "no device can be made"
+    with_null = ["chroot", top, "/programs/python3", "-c", "import argparse, hashlib, json, zlib; open('/dev/null', 'w')"]
+    return None if subprocess.run(with_null, stderr=subprocess.DEVNULL).returncode == 0 else "Python does not run in another root folder"
+
+
+def in_an_empty_root(unpacked, folder):
+    """A root folder has git and Python, and what these are linked with, alone. Skipped where none can be made."""
+    top = os.path.join(folder, "root")
+    reason = make_root(top)
+    if reason:
+        return reason
+    shutil.copytree(unpacked, top + "/archive", symlinks=True)
+    return stages_a_line(Root(["chroot", top], top, "/programs"), top + "/archive")
+
+
+def by_its_page(unpacked, archive, folder, path):
+    """Does what README.md of the archive says, in a folder that has the archive alone, where there is no toolchain."""
+    with open(os.path.join(unpacked, "README.md")) as file:
+        page = file.read()
+    home = os.path.join(folder, "home")
+    os.makedirs(home)
+    shutil.copy(archive, home)
+    blocks = re.findall(r"^```sh\n(.*?)^```$", page, re.M | re.S)
+    # the shell reads the lines of a file, as the terminal is the front end's
+    script = os.path.join(home, "script")
+    changed.write_file(script, ("set -e\ncd ~\n" + "".join(blocks)).encode())
+    variables = {**SETTINGS, "PATH": path, "HOME": home, "TMPDIR": folder}
+    typed = Typed(["env", "-i", *("%s=%s" % it for it in variables.items()), "sh", script], 60, 24)
+    for key in KEYS:
+        typed.press(key)
+    status, said = typed.end(), typed.said()
+    diff = subprocess.run(["git", "-C", home + "/first", "diff", "--cached", "--numstat"], stdout=subprocess.PIPE, text=True)
+    return len(blocks) == 2 and status == 0 and said.endswith("staged: text\n") and diff.stdout == "1\t0\ttext\n"
+
+
+def names_of_its_page(unpacked):
+    """Whether each file that the table of README.md names is there."""
+    with open(os.path.join(unpacked, "README.md")) as file:
+        table = file.read().partition("## What is here")[2]
+    cells = [line.split("|")[1] for line in table.splitlines() if line.startswith("| `")]
+    names = [name for cell in cells for name in re.findall(r"`([^`]+)`", cell)]
+    return len(names) > 10 and all(os.path.exists(os.path.join(unpacked, name)) for name in names)
+
+
+def is_the_same_again(archive, release, folder):
+    """Whether the archive is the same, made again by another user: with another mask, language, time zone and home."""
+    other = {"TZ": "Pacific/Auckland", "LC_ALL": "C.UTF-8", "LANG": "de_DE.UTF-8", "HOME": folder, "SOURCE_DATE_EPOCH": "1"}
+    out = os.path.join(folder, "again")
+    done = subprocess.run([release, out], stdout=subprocess.DEVNULL, env={**os.environ, **other}, preexec_fn=lambda: os.umask(0o077))
+    if done.returncode:
+        return False
+    return filecmp.cmp(archive, os.path.join(out, os.path.basename(archive)), shallow=False)

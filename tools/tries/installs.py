@@ -1,0 +1,121 @@
+"""tools/place, which puts what is installed in place and is the script `install` of an archive, for tools/try-tools. It installs
+here what lies below the prefix that is tried."""
+import os
+import signal
+import stat
+import subprocess
+import sys
+import time
+
+import changed
+import trying
+from disks import disk, fill
+
+PLACE, UNINSTALL = (os.path.join(trying.ROOT, "tools", name) for name in ("place", "uninstall"))
+
+
+def call(*words, **more):
+    """Returns the status of a call of these scripts, and all that it wrote."""
+    how = {"stdout": subprocess.PIPE, "stderr": subprocess.STDOUT, "env": {**os.environ, "DESTDIR": ""}}
+    done = subprocess.run([sys.executable, *words], **{**how, **more})
+    return done.returncode, done.stdout.decode()
+
+
+def seen(top):
+    """Returns what lies below a folder: for each path its permissions, and its bytes or where it leads to."""
+    found = {}
+    for at, folders, names in os.walk(top):
+        for name in [*folders, *names]:
+            path = os.path.join(at, name)
+            mode = os.lstat(path).st_mode
+            what = None if stat.S_ISDIR(mode) else os.readlink(path) if stat.S_ISLNK(mode) else changed.read_file(path)
+            found[os.path.relpath(path, top)] = stat.S_IMODE(mode), what
+    return found
+
+
+def size_of(top):
+    return sum(os.lstat(os.path.join(at, name)).st_size for at, _, names in os.walk(top) for name in names)
+
+
+def a_reinstall_on_a_full_disk(place):
+    """What was installed stays as it was, and the next install works again. Skipped where no disk can be made."""
+    with disk(place, 3 * size_of(place.prefix) + (1 << 20)) as folder:
+        if folder is None:
+            return "no disk can be made here"
+        top = os.path.join(folder, "prefix")
+        is_there = call(PLACE, "--from", place.prefix, top)[0] == 0
+        before = seen(top)
+        fill(folder, size_of(place.prefix) // 2)
+        status, said = call(PLACE, "--from", place.prefix, top)
+        is_left = status == 2 and "No space left on device: nothing was installed" in said and seen(top) == before
+        os.unlink(os.path.join(folder, "fill"))
+        is_again = call(PLACE, "--from", place.prefix, top)[0] == 0 and seen(top) == before
+        is_gone = call(UNINSTALL, top)[0] == 0 and not os.path.lexists(top)
+        return is_there and is_left and is_again and is_gone
+
+
+def with_a_mask_of_the_user(place):
+    """Others can read what is installed, whatever files the user makes otherwise."""
+    top = os.path.join(place.top, "some prefix", "below")
+    status, _ = call(PLACE, "--from", place.prefix, top, preexec_fn=lambda: os.umask(0o077))
+    modes = {mode for mode, what in seen(os.path.dirname(top)).values() if not isinstance(what, str)}
+    is_gone = call(os.path.join(top, "lib/gabrosty/uninstall"))[0] == 0
+    return status == 0 and modes == {0o755, 0o644} and is_gone and not os.path.lexists(os.path.dirname(top))
+
+
+def files_of_others(place):
+    """They stay, also in a folder that an install made, and what an older version had goes."""
+    top = place.folder("prefix", {"bin/other": b"1\n"})
+    call(PLACE, "--from", place.prefix, top)
+    changed.write_file(os.path.join(top, "lib/gabrosty/choosing/older.py"), b"")
+    changed.write_file(os.path.join(top, "lib/other"), b"2\n")
+    with open(os.path.join(top, "lib/gabrosty/installed"), "a") as file:
+        file.write("lib/gabrosty/choosing/older.py\n/etc/nothing\n../nothing\n")
+    is_newer = call(PLACE, "--from", place.prefix, top)[0] == 0
+    is_newer = is_newer and not os.path.exists(os.path.join(top, "lib/gabrosty/choosing/older.py"))
+    is_gone = call(UNINSTALL, top)[0] == 0 and changed.read(top) == {"bin/other": b"1\n", "lib/other": b"2\n"}
+    return is_newer and is_gone and call(UNINSTALL, top)[0] == 1
+
+
+def what_is_in_the_way(place):
+    """A folder where a program is to be, or a file where a folder is: it is named, and all stays."""
+    ends = []
+    for path, named in (("bin/scm-select/x", "bin/scm-select is a folder"), ("share", "share is no folder")):
+        top = place.folder("prefix", {path: b"1\n"})
+        before = seen(top)
+        status, said = call(PLACE, "--from", place.prefix, top)
+        ends.append(status == 2 and named in said and "nothing was installed" in said and seen(top) == before)
+    return all(ends)
+
+
+def where_nothing_can_be_written(place):
+    """An install stops before anything is built, also as root in a folder that takes no files."""
+    ends = []
+    for prefix in ("/dev/null/prefix", "/proc/x", "/proc/self/x"):
+        command = [trying.ROOT / "tools/install", prefix]
+        done = subprocess.run(command, capture_output=True, text=True, env={**os.environ, "DESTDIR": ""})
+        is_named = "nothing can be installed below %s" % prefix in done.stderr and "Name another PREFIX, as ~/.local" in done.stderr
+        ends.append((done.returncode, is_named, "step 1" in done.stderr) == (2, True, False))
+    top = os.path.join(place.top, "new/prefix")
+    ends.append(call(PLACE, "--try", top) == (0, "") and not os.path.lexists(os.path.dirname(top)))
+    return all(ends) and call(PLACE, "")[0] == call(PLACE)[0] == call(UNINSTALL)[0] == call(UNINSTALL, "-x")[0] == 2
+
+
+def an_install_that_is_stopped(place):
+    """A signal while files are brought to the disk leaves all as it was."""
+    source = place.folder("source", {"bin/a": b"1\n"})
+    top = place.folder("prefix", {"bin/a": b"0\n"})
+    # what it cannot come to the end of
+    os.mkfifo(os.path.join(source, "bin/b"))
+    with subprocess.Popen([sys.executable, PLACE, "--from", source, top], env={**os.environ, "DESTDIR": ""}) as process:
+        until = time.monotonic() + 60
+        while not [name for name in os.listdir(top) if os.path.exists(os.path.join(top, name, "new-1"))] and time.monotonic() < until:
+            time.sleep(0.01)
+        process.send_signal(signal.SIGTERM)
+    return process.returncode == 128 + signal.SIGTERM and changed.read(top) == {"bin/a": b"0\n"} and os.listdir(top) == ["bin"]
+
+
+ALL = (
+    a_reinstall_on_a_full_disk, with_a_mask_of_the_user, files_of_others, what_is_in_the_way, where_nothing_can_be_written,
+    an_install_that_is_stopped,
+)
