@@ -2,16 +2,10 @@
 use Rattle.std.proofs.Common.{◌≡◌, ℕ, List, [], ◌∷◌, ◌++◌, sym, subst}
 use Rattle.std.specs.Prelude.{Result, Ok, Err, IfOk}
 use Rattle.scm_record.specs.Live.{LiveEdit}
-use Rattle.scm_record.specs.LiveCalls.{MessageLeads, Call, Path, Say, still, press, say, resize}
+use Rattle.scm_record.specs.LiveCalls.{MessageLeads, Call, Path, Say, still, say}
+use Rattle.scm_record.proofs.PathLemmas.{path-after}
 use Rattle.scm_record.specs.declared.live.Turn.{Turn}
 use Rattle.scm_record.specs.declared.live.Turn.TheVariants.{Editing}
-
--- one behind another
-pub path-join : {a b c : Turn} {xs ys : List Call} → Path a xs b → Path b ys c → Path a (xs ++ ys) c
-path-join still q = q
-path-join (press h p) q = press h (path-join p q)
-path-join (say h p) q = say h (path-join p q)
-path-join (resize p) q = resize (path-join p q)
 
 -- an answer is one of one call
 pub path-of-answer : {E : Type 0} (r : Result Turn E) (t : Turn) (a : LiveEdit) (text : List ℕ) → t ≡ Editing a
@@ -22,4 +16,4 @@ path-of-answer (Err error) t a text e h = tt
 -- calls, one more, and what it leads to
 pub path-goes : {a b c d : Turn} {ys : List Call} → ((calls : List Call) × Path a calls b) → Path b ys c → ((calls : List Call) × Path c calls d)
     → (calls : List Call) × Path a calls d
-path-goes {ys = ys} p h q = (p.0 ++ (ys ++ q.0), path-join p.1 (path-join h q.1))
+path-goes {ys = ys} p h q = (p.0 ++ (ys ++ q.0), path-after p.1 (path-after h q.1))

@@ -29,6 +29,15 @@ pub mod AcceptedLemmas
 pub mod QuietLemmas
 -- a session that a program drives
 pub mod LiveLemmas
+-- paths of its calls
+pub mod PathLemmas
+-- moves that lead to a given key, with what it lies in unfolded
+pub mod KeyOrderLemmas
+pub mod WalkToLemmas
+pub mod InsideLemmas
+pub mod MoveToLemmas
+pub mod FoldLemmas
+pub mod JumpLemmas
 -- a session that is driven by bytes
 pub mod TypedLemmas
 -- what a session shows on a terminal

@@ -19,6 +19,7 @@ use Rattle.scm_record.specs.declared.live.Turn.{Turn}
 use Rattle.scm_record.specs.declared.live.Turn.TheVariants.{Waiting, Editing, Accepted}
 use Rattle.scm_record.specs.Typed.{presses, is_waiting, HandsIn, FailsAmong, BytesLead, Input, Bytes, Silence, Message, Screen, InputPath, at_end, by_bytes, by_silence, by_message, by_screen, InputsMean, no_more, of_bytes, of_silence, of_message, of_screen, all_bytes}
 use Rattle.scm_record.proofs.LiveLemmas.{sessions-are-runs}
+use Rattle.scm_record.proofs.PathLemmas.{path-after}
 
 -- ---- events, one after the other
 
@@ -98,12 +99,6 @@ pub goes-end : (first now : Live) (events : List TerminalEvent) (i : ℕ) → le
 goes-end first now events i is g = g.leads (Waiting now) (hands-none now (drop i events) (drop_all i events is))
 
 -- ---- paths
-
-pub path-after : {first next last : Turn} {calls more : List Call} → Path first calls next → Path next more last → Path first (calls ++ more) last
-path-after still q = q
-path-after (press g p) q = press g (path-after p q)
-path-after (say g p) q = say g (path-after p q)
-path-after (resize p) q = resize (path-after p q)
 
 pub presses-append : (xs ys : List TerminalEvent) → presses (xs ++ ys) ≡ presses xs ++ presses ys
 presses-append [] ys = refl

@@ -30,6 +30,8 @@ pub mod Headline
 pub mod Live
 -- the calls of a live session, as steps of runs
 pub mod LiveCalls
+-- a key that is selected at once, as moves would select it
+pub mod Jumps
 -- what the code of a live session keeps of its screen
 pub mod LiveView
 -- the picture of a live session: its screen and the styles

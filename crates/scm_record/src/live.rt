@@ -7,6 +7,7 @@ ghost use Rattle.scm_input.specs.Script.{Read, Reply};
 ghost use Rattle.scm_input.specs.declared.events.Event.TheVariants.{Click};
 ghost use Rattle.scm_record.specs.Session.{IsDrawable, Session, after_frame, pending_of, message_of, message_text, start, without_pending};
 ghost use Rattle.scm_record.specs.Live.{on_screen};
+ghost use Rattle.scm_record.specs.LiveView.{IsWaiting};
 ghost use Rattle.scm_record.specs.RunContracts.{IsCurrent};
 ghost use Rattle.scm_record.specs.Frames.{HasSize, IsSceneOf, columns_of, rows_of, scene_of};
 ghost use Rattle.scm_record.specs.Step.{change};
@@ -21,6 +22,7 @@ ghost use Rattle.scm_record.specs.Keeping.{IsKept};
 ghost use Rattle.scm_record.specs.FrameQueries.{hit};
 ghost use Rattle.scm_types.specs.declared.state.RecordState.{RecordState};
 
+pub mod jumps;
 mod painted;
 pub mod typed;
 
@@ -96,6 +98,22 @@ pub enum Turn<'state> {
     Accepted(RecordState<'state>),
 }
 
+/// Returns the session as one that waits for an event.
+fn waiting<'state>(
+    session: ActiveSession<'state>,
+    frame: DrawnFrame,
+    kind: TerminalKind,
+) -> LiveSession<'state>
+    requires { IsWaiting kind session frame }
+    ensures { result ≡ record { session = session.entry; kind = kind } }
+{
+    LiveSession {
+        session,
+        frame,
+        kind,
+    }
+}
+
 /// Draws the session on `frame`, unless `is_current`, and takes the pending event, if any.
 fn advance(
     session: &mut ActiveSession<'_>,
@@ -134,14 +152,9 @@ fn settle_unseen<'state>(
 {
     let mut session = session;
     let mut frame = frame;
-    session.begin_frame();
-    session.show_unseen(&frame);
+    session.pass_unseen(&frame);
     advance(&mut session, &mut frame, false)?;
-    Ok(Turn::Waiting(LiveSession {
-        session,
-        frame,
-        kind,
-    }))
+    Ok(Turn::Waiting(waiting(session, frame, kind)))
 }
 
 /// Handles `event`, and then each event that it leaves pending after a frame of its own. A frame that
@@ -177,11 +190,7 @@ fn settle<'state>(
                 return settle_unseen(session, frame, kind);
             }
             match advance(&mut session, &mut frame, is_current)? {
-                None => Ok(Turn::Waiting(LiveSession {
-                    session,
-                    frame,
-                    kind,
-                })),
+                None => Ok(Turn::Waiting(waiting(session, frame, kind))),
                 Some(next) => settle(session, frame, kind, next),
             }
         }
@@ -226,11 +235,7 @@ impl<'state> LiveSession<'state> {
         let mut session = ActiveSession::new(alloc, state)?;
         let mut frame = DrawnFrame::new(alloc, kind)?;
         advance(&mut session, &mut frame, false)?;
-        Ok(LiveSession {
-            session,
-            frame,
-            kind,
-        })
+        Ok(waiting(session, frame, kind))
     }
 
     /// Handles `event`, and the events that it leaves pending, and returns what they lead to.
@@ -387,11 +392,7 @@ impl<'state> Editing<'state> {
         }
         session.set_message(commit, text);
         match advance(&mut session, &mut frame, false)? {
-            None => Ok(Turn::Waiting(LiveSession {
-                session,
-                frame,
-                kind,
-            })),
+            None => Ok(Turn::Waiting(waiting(session, frame, kind))),
             Some(next) => settle(session, frame, kind, next),
         }
     }

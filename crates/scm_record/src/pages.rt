@@ -15,7 +15,7 @@ use scm_view::SelectionKey;
 
 /// The direction of a move of the selection, over the visible keys or by a page.
 #[derive(Clone, Copy)]
-pub(crate) enum Way {
+pub enum Way {
     /// Towards the first row of the document.
     Up,
     /// Towards the last row of the document.

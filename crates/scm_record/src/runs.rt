@@ -303,8 +303,7 @@ fn turn_unseen(session: &mut ActiveSession<'_>, frame: &DrawnFrame, store: &mut 
         → session.new ≡ after_ensure kind (after_frame session.old) }
     ensures counted { store.new ≡ with_frame store.old }
 {
-    session.begin_frame();
-    session.show_unseen(frame);
+    session.pass_unseen(frame);
     store.add_frame();
 }
 

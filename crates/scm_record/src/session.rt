@@ -32,7 +32,7 @@ use std::mem;
 
 /// What the run does after an event.
 #[derive(Clone, Copy)]
-pub(crate) enum Flow {
+pub enum Flow {
     /// Goes on.
     GoOn,
     /// Ends, with the changes accepted.

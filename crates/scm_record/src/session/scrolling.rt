@@ -1,24 +1,24 @@
 //! Scrolling the screen over the document.
-ghost use Rattle.std.specs.Prelude.{◌≡◌, IsTrue, [], ◌∷◌};
+ghost use Rattle.std.specs.Prelude.{◌≡◌, ◌↔◌, IsTrue, [], ◌∷◌};
 ghost use Rattle.scm_input.specs.declared.events.Event.TheVariants.{EnsureSelectionInViewport};
 
 use super::ActiveSession;
 use crate::frame::DrawnFrame;
 use scm_input::Event;
 
-/// Returns true only if `events` is `EnsureSelectionInViewport` alone.
+/// Returns whether `events` is `EnsureSelectionInViewport` alone.
 fn is_ensure_alone(events: &[Event]) -> bool
-    ensures { IsTrue result → events.now ≡ EnsureSelectionInViewport ∷ [] }
+    ensures { IsTrue result ↔ events.now ≡ EnsureSelectionInViewport ∷ [] }
 {
     matches!(events, [Event::EnsureSelectionInViewport])
 }
 
 impl<'state> ActiveSession<'state> {
-    ghost use Rattle.std.specs.Prelude.{◌≡◌, ◌+◌, ◌-◌, IsTrue};
+    ghost use Rattle.std.specs.Prelude.{◌≡◌, ◌↔◌, ◌+◌, ◌-◌, IsTrue};
     ghost use Rattle.scm_input.specs.declared.inputs.TerminalKind.{TerminalKind};
     ghost use Rattle.scm_record.specs.Frames.{HasSize, IsSceneOf, Scene};
     ghost use Rattle.scm_record.specs.FrameQueries.{scroll_to_show};
-    ghost use Rattle.scm_record.specs.Session.{with_scroll};
+    ghost use Rattle.scm_record.specs.Session.{after_frame, with_scroll};
     ghost use Rattle.scm_record.specs.Pages.{after_scroll};
     ghost use Rattle.scm_record.specs.Step.{change};
     ghost use Rattle.scm_record.specs.Change.{stays};
@@ -89,21 +89,22 @@ impl<'state> ActiveSession<'state> {
         }
     }
 
-    /// Returns true only if the next turn is quiet: it has a plain frame, and then shows the
-    /// selection, and nothing else. Nobody sees that frame.
+    /// Returns whether the next turn is quiet: it has a plain frame, and then shows the selection, and
+    /// nothing else. Nobody sees that frame.
     pub(crate) fn is_quiet(&self, frame: &DrawnFrame) -> bool
-        ensures { IsTrue result → IsQuiet self.now frame.now }
+        ensures { IsTrue result ↔ IsQuiet self.now frame.now }
     {
         is_ensure_alone(self.pending.as_slice()) && frame.is_plain(self.view_state.view_mode)
     }
 
-    /// Handles the pending `EnsureSelectionInViewport` by the rows of the layout, as if the session
-    /// were drawn on `frame`.
-    pub(crate) fn show_unseen(&mut self, frame: &DrawnFrame)
+    /// Passes over the frame of a quiet turn: handles the pending `EnsureSelectionInViewport` by the
+    /// rows of the layout, as if the session were drawn on `frame`.
+    pub(crate) fn pass_unseen(&mut self, frame: &DrawnFrame)
         requires quiet { IsQuiet self.old frame.now }
         ensures { (kind : TerminalKind) → HasSize kind frame.now
-            → self.new ≡ after_ensure kind self.old }
+            → self.new ≡ after_ensure kind (after_frame self.old) }
     {
+        self.begin_frame();
         self.pending.clear();
         let selection = self.view_state.selection;
         self.scroll = frame.scroll_by_rows(&self.layout.rows, self.scroll, selection);

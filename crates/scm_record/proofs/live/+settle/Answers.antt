@@ -4,7 +4,9 @@ use Rattle.scm_record.specs.Session.{Session, after_frame, pending_of}
 use Rattle.scm_record.specs.Frames.{IsSceneOf, scene_of}
 use Rattle.scm_record.specs.Run.{world_in, Within, Reaches}
 use Rattle.scm_input.specs.Script.{Read, Reply}
-use Rattle.scm_record.specs.LiveCalls.{live_setting}
+use Rattle.scm_record.specs.Live.{Live}
+use Rattle.scm_record.specs.LiveCalls.{Leads, live_setting}
+use Rattle.scm_record.specs.declared.live.Turn.TheVariants.{Waiting}
 use Rattle.scm_record.proofs.Budget.{rank}
 use Rattle.scm_record.proofs.LiveLemmas.{changed-few, changed-said, changed-drawable, changed-falls, drawn-drawable, leads-after, fails-after, fails-memory, goes, ends, edits, gives-up, lacks-place, frames-next, calm-session, comes-to-wait, comes-to-handle, shown-sized}
 use Rattle.scm_record.proofs.CurrentLemmas.{current-after, current-kept}
@@ -49,8 +51,8 @@ returns-in_err-advance-in-GoOn-clause-err t c =
     let p = err_from_is_err_and c.from_residual-in_err-advance-in-GoOn.result c.from_residual-in_err-advance-in-GoOn.ensures.1 in
     rw (p.1, p.2) (λ drawn reads edits frames h. fails-memory _ c.in_err-advance-in-GoOn.field-0.0 c.in_err-advance-in-GoOn.ensures.err)
 
-pub invariant_of-result : goal.invariant_of-result
-invariant_of-result t c =
+pub waiting-requires : goal.waiting-requires
+waiting-requires t c =
     let rest = c.in_ok-advance-in-GoOn.ensures.rest in
     let none : [] ≡ c.change.new.self.pending = ap pending_of (sym c.in-None.is) ∙ c.in_ok-advance-in-GoOn.ensures.taken in
     let same = calm-session c.change.new.self c.advance.new.session none rest in
@@ -63,8 +65,9 @@ invariant_of-result t c =
 pub returns-in-None-clause-ok : goal.returns-in-None-clause-ok
 returns-in-None-clause-ok t c = λ drawn reads edits frames h.
     let none : [] ≡ c.change.new.self.pending = ap pending_of (sym c.in-None.is) ∙ c.in_ok-advance-in-GoOn.ensures.taken in
-    comes-to-wait _ c.args.kind reads edits c.change.new.self c.advance.new.session (frames + 1) none c.in_ok-advance-in-GoOn.ensures.rest
-    (goes (live_setting c.args.kind reads edits) drawn c.args.session c.change.new.self frames c.args.event c.in_ok-change.field-0 (c.in_ok-change.ensures.ok (scene_of c.args.kind drawn) h) c.in-GoOn.is)
+    subst (λ (l : Live). Leads (Within drawn (world_in (live_setting c.args.kind reads edits) c.args.session frames) (c.args.event ∷ [])) c.args.kind reads edits (Waiting l)) (sym c.waiting.ensures)
+    (comes-to-wait _ c.args.kind reads edits c.change.new.self c.advance.new.session (frames + 1) none c.in_ok-advance-in-GoOn.ensures.rest
+    (goes (live_setting c.args.kind reads edits) drawn c.args.session c.change.new.self frames c.args.event c.in_ok-change.field-0 (c.in_ok-change.ensures.ok (scene_of c.args.kind drawn) h) c.in-GoOn.is))
 
 pub settle-requires : goal.settle-requires
 settle-requires t c =
@@ -121,8 +124,8 @@ pub returns-in-Cancel-clause-err : goal.returns-in-Cancel-clause-err
 returns-in-Cancel-clause-err t c = λ drawn reads edits frames h.
     gives-up (live_setting c.args.kind reads edits) drawn c.args.session c.change.new.self frames c.args.event c.in_ok-change.field-0 (c.in_ok-change.ensures.ok (scene_of c.args.kind drawn) h) c.in-Cancel.is
 
-pub invariant_of-result-in-Edit : goal.invariant_of-result-in-Edit
-invariant_of-result-in-Edit t c =
+pub invariant_of-result : goal.invariant_of-result
+invariant_of-result t c =
     let is = c.in_ok-change.ensures.ok (scene_of c.args.kind c.requires.shown.0) c.requires.shown.1 in
     record {
       busy = record {

@@ -14,7 +14,7 @@ returns-then-is_quiet-clause-ok g c =
     let before = (goal.RecordInput-dyn g c.args.input.now) in
     let a = setting (before.kind c.args.input.now.1) (before.reads c.args.input.now.1) (before.edits c.args.input.now.1) c.args.screens.now in
     λ frames.
-    quiet-counted a c.args.session.now c.turn_unseen.new.session c.turn_unseen.new.store frames (c.is_quiet.ensures c.if-is_quiet.true).pending (c.turn_unseen.ensures.shown a.kind c.requires.sized) c.turn_unseen.ensures.counted
+    quiet-counted a c.args.session.now c.turn_unseen.new.session c.turn_unseen.new.store frames (c.is_quiet.ensures.0 c.if-is_quiet.true).pending (c.turn_unseen.ensures.shown a.kind c.requires.sized) c.turn_unseen.ensures.counted
 
 pub returns-in_err-draw-clause-err : goal.returns-in_err-draw-clause-err
 returns-in_err-draw-clause-err g c =

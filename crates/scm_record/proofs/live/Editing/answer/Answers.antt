@@ -3,8 +3,9 @@ use Rattle.std.proofs.lemmas.Result.{err_from_is_err_and, IfOk-weaker, IfErr-wea
 use Rattle.std.specs.Prelude.{string_bytes}
 use Rattle.scm_record.specs.Session.{Session, IsDrawable, after_frame, pending_of}
 use Rattle.scm_record.specs.Frames.{IsSceneOf, scene_of}
-use Rattle.scm_record.specs.LiveCalls.{live_setting}
-use Rattle.scm_record.specs.Live.{LiveEdit}
+use Rattle.scm_record.specs.LiveCalls.{MessageLeads, live_setting}
+use Rattle.scm_record.specs.Live.{Live, LiveEdit}
+use Rattle.scm_record.specs.declared.live.Turn.TheVariants.{Waiting}
 use Rattle.scm_record.proofs.AcceptedLemmas.{message-keeps-drawable}
 use Rattle.scm_record.proofs.LiveLemmas.{leads-after, fails-after, fails-memory, says-drawn, says-too-long, calm-session, drawn-drawable, comes-to-wait, comes-to-handle}
 use Rattle.scm_record.proofs.CurrentLemmas.{current-after}
@@ -24,8 +25,8 @@ returns-in_err-advance-clause-err c =
     let p = err_from_is_err_and c.from_residual.result c.from_residual.ensures.1 in
     rw (p.1, p.2) (λ drawn reads edits frames. fails-memory _ c.in_err-advance.field-0.0 c.in_err-advance.ensures.err)
 
-pub invariant_of-result : goal.invariant_of-result
-invariant_of-result c =
+pub waiting-requires : goal.waiting-requires
+waiting-requires c =
     let rest = c.in_ok-advance.ensures.rest in
     let drawable = subst IsDrawable (sym c.set_message.ensures) (message-keeps-drawable c.self.inside.session c.self.inside.commit (string_bytes c.args.text) (sym c.if-not-is_short.ensures) c.self.invariant.busy.drawable) in
     let none : [] ≡ c.set_message.new.self.pending = ap pending_of (sym c.in-None.is) ∙ c.in_ok-advance.ensures.taken in
@@ -52,10 +53,10 @@ pub returns-in-None-clause-ok : goal.returns-in-None-clause-ok
 returns-in-None-clause-ok c =
     let a : LiveEdit = record { session = c.self.inside.session; kind = c.self.inside.kind; commit = c.self.inside.commit } in
     let none : [] ≡ c.set_message.new.self.pending = ap pending_of (sym c.in-None.is) ∙ c.in_ok-advance.ensures.taken in
-    rw (sym c.self.view_is)
-    (λ drawn reads edits frames.
+    let leads : MessageLeads a (string_bytes c.args.text) (Waiting (record { session = c.advance.new.session; kind = a.kind })) = λ drawn reads edits frames.
     comes-to-wait _ a.kind reads edits c.set_message.new.self c.advance.new.session (frames + 1) none c.in_ok-advance.ensures.rest
-    (says-drawn a (string_bytes c.args.text) drawn reads edits frames c.set_message.new.self c.set_message.ensures c.if-not-is_short.ensures))
+    (says-drawn a (string_bytes c.args.text) drawn reads edits frames c.set_message.new.self c.set_message.ensures c.if-not-is_short.ensures) in
+    rw (sym c.self.view_is) (subst (λ (l : Live). MessageLeads a (string_bytes c.args.text) (Waiting l)) (sym c.waiting.ensures) leads)
 
 pub returns-in-Some-clause-ok : goal.returns-in-Some-clause-ok
 returns-in-Some-clause-ok c =

@@ -8,8 +8,8 @@ use Rattle.scm_record.proofs.live.LiveSession.new.Goals as goal
 pub advance-requires-clause-drawable : goal.advance-requires-clause-drawable
 advance-requires-clause-drawable c = subst IsDrawable (sym c.in_ok-session.ensures.ok) (start-drawable c.args.state c.requires)
 
-pub invariant_of-result : goal.invariant_of-result
-invariant_of-result c =
+pub waiting-requires : goal.waiting-requires
+waiting-requires c =
     let s = c.in_ok-session.session in
     let rest = c.in_ok-advance.ensures.rest in
     let drawable : IsDrawable s = subst IsDrawable (sym c.in_ok-session.ensures.ok) (start-drawable c.args.state c.requires) in

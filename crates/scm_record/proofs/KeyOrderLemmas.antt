@@ -1,0 +1,160 @@
+-- Sets of keys are in ascending order, and a key that is in one is added without a change.
+use Rattle.std.proofs.Common.{◌≡◌, ℕ, Bool, true, false, cond, ◌||◌, ◌&&◌, List, [], ◌∷◌, refl, sym, ap, ◌∙◌, subst, arith, nat_eq}
+use Rattle.std.proofs.lemmas.Bool.Decides.{nat_tests}
+use Rattle.std.proofs.lemmas.Cmp.{tied_itself}
+use Rattle.std.specs.declared.cmp.Ordering.{Ordering}
+use Rattle.std.specs.declared.cmp.Ordering.TheVariants.{Less, Equal, Greater}
+use Rattle.std.specs.Ordering.{nat_cmp, is_eq, ordering_reverse, ordering_then, match_ordering}
+use Rattle.std.specs.Prelude.{fold}
+use Rattle.std.specs.Cmp.{IsTotalOrder}
+use Rattle.std.specs.Cmp.Lexicographic.{on_texts, slice_cmp}
+use Rattle.scm_types.specs.declared.keys.SelectionKey.{SelectionKey}
+use Rattle.scm_selection.proofs.PartLemmas.{eq-self}
+use Rattle.scm_selection.proofs.RelationLemmas.{key-same}
+use Rattle.scm_selection.specs.KeySet.{key_cmp, numbers_of, same_numbers, is_key, has_key, with_key, without_key, with_key_flipped, key_set}
+
+self-numbers : (ns : List ℕ) → same_numbers ns ns ≡ true
+self-numbers [] = refl
+self-numbers (n ∷ ns) = rw (eq-self n) (self-numbers ns)
+
+pub key-self : (k : SelectionKey) → is_key k k ≡ true
+key-self k = self-numbers (numbers_of k)
+
+equal-numbers : (ms ns : List ℕ) → same_numbers ms ns ≡ is_eq (slice_cmp nat_cmp ms ns)
+equal-numbers [] [] = refl
+equal-numbers [] (n ∷ ns) = refl
+equal-numbers (m ∷ ms) [] = refl
+equal-numbers (m ∷ ms) (n ∷ ns) = ap (λ b. nat_eq m n && b) (equal-numbers ms ns) ∙ sym (first-numbers m n (slice_cmp nat_cmp ms ns))
+  where
+    first-numbers : (m n : ℕ) (o : Ordering) → is_eq (ordering_then (nat_cmp m n) o) ≡ (nat_eq m n && is_eq o)
+    first-numbers m n o = grind (arith, nat_tests)
+
+equal-is-same : (a b : SelectionKey) → key_cmp a b ≡ Equal → is_key a b ≡ true
+equal-is-same a b e = equal-numbers (numbers_of a) (numbers_of b) ∙ ap is_eq e
+
+order : IsTotalOrder key_cmp
+order = on_texts numbers_of
+
+-- the key comes before each key of the list
+abbrev pub IsBefore : SelectionKey → List SelectionKey → Type 0
+IsBefore key [] = Unit {0}
+IsBefore key (k ∷ ks) = (key_cmp key k ≡ Less) × IsBefore key ks
+
+-- the keys ascend
+abbrev pub Ascends : List SelectionKey → Type 0
+Ascends [] = Unit {0}
+Ascends (k ∷ ks) = IsBefore k ks × Ascends ks
+
+before-all : (a b : SelectionKey) (ks : List SelectionKey) → key_cmp a b ≡ Less → IsBefore b ks → IsBefore a ks
+before-all a b [] e h = tt
+before-all a b (k ∷ ks) e h = (order.trans a b k e h.0, before-all a b ks e h.1)
+
+turned : (a b : SelectionKey) → key_cmp a b ≡ Greater → key_cmp b a ≡ Less
+turned a b e = order.antisymm b a ∙ ap ordering_reverse e
+
+with-before : (key k : SelectionKey) (ks : List SelectionKey) → key_cmp k key ≡ Less → IsBefore k ks → IsBefore k (with_key ks key)
+with-before key k [] e h = (e, tt)
+with-before key k (x ∷ xs) e h = go (key_cmp key x) (with-before key k xs e h.1)
+  where
+    go : (o : Ordering) → IsBefore k (with_key xs key) → IsBefore k (match_ordering o (key ∷ x ∷ xs) (x ∷ xs) (x ∷ with_key xs key))
+    go Less more = (e, h)
+    go Equal more = h
+    go Greater more = (h.0, more)
+
+pub with-ascends : (ks : List SelectionKey) (key : SelectionKey) → Ascends ks → Ascends (with_key ks key)
+with-ascends [] key h = (tt, tt)
+with-ascends (k ∷ ks) key h = go (key_cmp key k) refl (with-ascends ks key h.1)
+  where
+    go : (o : Ordering) → key_cmp key k ≡ o → Ascends (with_key ks key) → Ascends (match_ordering o (key ∷ k ∷ ks) (k ∷ ks) (k ∷ with_key ks key))
+    go Less e more = ((e, before-all key k ks e h.0), h)
+    go Equal e more = h
+    go Greater e more = (with-before key k ks (turned key k e) h.0, more)
+
+either-before : (b : Bool) (k : SelectionKey) (xs ys : List SelectionKey) → IsBefore k xs → IsBefore k ys → IsBefore k (cond b xs ys)
+either-before true k xs ys h g = h
+either-before false k xs ys h g = g
+
+without-before : (key k : SelectionKey) (ks : List SelectionKey) → IsBefore k ks → IsBefore k (without_key ks key)
+without-before key k [] h = tt
+without-before key k (x ∷ xs) h = either-before (is_key key x) k xs (x ∷ without_key xs key) h.1 (h.0, without-before key k xs h.1)
+
+pub either-ascends : (b : Bool) (xs ys : List SelectionKey) → Ascends xs → Ascends ys → Ascends (cond b xs ys)
+either-ascends true xs ys h g = h
+either-ascends false xs ys h g = g
+
+pub without-ascends : (ks : List SelectionKey) (key : SelectionKey) → Ascends ks → Ascends (without_key ks key)
+without-ascends [] key h = tt
+without-ascends (k ∷ ks) key h = either-ascends (is_key key k) ks (k ∷ without_key ks key) h.1 (without-before key k ks h.0, without-ascends ks key h.1)
+
+pub flipped-ascends : (ks : List SelectionKey) (key : SelectionKey) → Ascends ks → Ascends (with_key_flipped ks key)
+flipped-ascends ks key h = either-ascends (has_key ks key) (without_key ks key) (with_key ks key) (without-ascends ks key h) (with-ascends ks key h)
+
+folded-ascends : (ks set : List SelectionKey) → Ascends set → Ascends (fold with_key set ks)
+folded-ascends [] set h = h
+folded-ascends (k ∷ ks) set h = folded-ascends ks (with_key set k) (with-ascends set k h)
+
+pub set-ascends : (ks : List SelectionKey) → Ascends (key_set ks)
+set-ascends ks = folded-ascends ks [] tt
+
+-- ---- a key that is in the set
+
+same-is-equal : (a b : SelectionKey) → is_key a b ≡ true → key_cmp a b ≡ Equal
+same-is-equal a b e = ap (key_cmp a) (sym (key-same a b e)) ∙ tied_itself order a
+
+less-is-other : (a b : SelectionKey) (x : Bool) → is_key a b ≡ x → key_cmp a b ≡ Less → x ≡ false
+less-is-other a b false e l = refl
+less-is-other a b true e l =
+    let equal = same-is-equal a b e in
+    cc
+
+not-before : (key : SelectionKey) (ks : List SelectionKey) → IsBefore key ks → has_key ks key ≡ false
+not-before key [] h = refl
+not-before key (k ∷ ks) h =
+    let other = less-is-other key k (is_key key k) refl h.0 in
+    let rest = not-before key ks h.1 in
+    rw (other, rest) refl
+
+-- adding a key of the set changes nothing
+pub with-same : (ks : List SelectionKey) (key : SelectionKey) → Ascends ks → has_key ks key ≡ true → with_key ks key ≡ ks
+with-same [] key h e = cc
+with-same (k ∷ ks) key h e = go (key_cmp key k) refl (is_key key k) refl (λ found. with-same ks key h.1 found) e
+  where
+    go : (o : Ordering) → key_cmp key k ≡ o → (b : Bool) → is_key key k ≡ b → (has_key ks key ≡ true → with_key ks key ≡ ks) → (b || has_key ks key) ≡ true
+        → match_ordering o (key ∷ k ∷ ks) (k ∷ ks) (k ∷ with_key ks key) ≡ k ∷ ks
+    go Equal c b s more e = refl
+    go Greater c true s more e = let equal = same-is-equal key k s in cc
+    go Greater c false s more e = ap (λ (l : List SelectionKey). k ∷ l) (more e)
+    go Less c true s more e = let equal = same-is-equal key k s in cc
+    go Less c false s more e = let none : has_key ks key ≡ false = not-before key ks (before-all key k ks c h.0) in cc
+
+-- a key that was added is in the set
+pub with-has : (ks : List SelectionKey) (key : SelectionKey) → has_key (with_key ks key) key ≡ true
+with-has [] key = rw (key-self key) refl
+with-has (k ∷ ks) key = go (key_cmp key k) refl (with-has ks key)
+  where
+    or-true : (b : Bool) → (b || true) ≡ true
+    or-true true = refl
+    or-true false = refl
+
+    go : (o : Ordering) → key_cmp key k ≡ o → has_key (with_key ks key) key ≡ true → has_key (match_ordering o (key ∷ k ∷ ks) (k ∷ ks) (k ∷ with_key ks key)) key ≡ true
+    go Less c more = rw (key-self key) refl
+    go Equal c more =
+        let is : is_key key k ≡ true = equal-is-same key k c in
+        rw is refl
+    go Greater c more = rw more (or-true (is_key key k))
+
+-- a key of the set stays in it
+pub with-keeps : (ks : List SelectionKey) (key other : SelectionKey) → has_key ks other ≡ true → has_key (with_key ks key) other ≡ true
+with-keeps [] key other e = cc
+with-keeps (k ∷ ks) key other e = go (key_cmp key k) (is_key other k) refl (λ found. with-keeps ks key other found) e
+  where
+    or-true : (b : Bool) → (b || true) ≡ true
+    or-true true = refl
+    or-true false = refl
+
+    go : (o : Ordering) (b : Bool) → is_key other k ≡ b → (has_key ks other ≡ true → has_key (with_key ks key) other ≡ true) → (b || has_key ks other) ≡ true
+        → has_key (match_ordering o (key ∷ k ∷ ks) (k ∷ ks) (k ∷ with_key ks key)) other ≡ true
+    go Less b s more e = rw s (rw e (or-true (is_key other key)))
+    go Equal b s more e = rw s e
+    go Greater true s more e = rw s refl
+    go Greater false s more e = rw s (more e)
