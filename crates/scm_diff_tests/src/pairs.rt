@@ -59,13 +59,13 @@ fn push_signs(signs: &mut String, section: &Section<'_>) -> Result<(), AllocErro
     Ok(())
 }
 
-/// Checks the changed lines numbered from `first` to `first + 1`, and no others.
+/// Checks the changed line numbered `first` and the one after it, and no others.
 fn check_pair(file: &mut File<'_>, first: usize) {
     let mut number = 0;
     for section in file.sections.iter_mut() {
         if let Section::Changed { lines } = section {
             for line in lines.iter_mut() {
-                line.is_checked = first <= number && number < first + 2;
+                line.is_checked = number == first || number == first.wrapping_add(1);
                 number = number.wrapping_add(1);
             }
         }
