@@ -307,6 +307,16 @@ uint32_t scm_resize(scm_session *session, uint16_t width, uint16_t height);
  * update (`ESC [ ? 2026 h` to `ESC [ ? 2026 l`). After it no colour is set. While rows are written no symbol wraps
  * (`ESC [ ? 7 l`), and after them symbols wrap (`ESC [ ? 7 h`).
  *
+ * The terminal that shows these bytes
+ * - reads UTF-8, and follows moves of the cursor, styles, and the modes `ESC [ ? 7 l` and `ESC [ ? 7 h`;
+ * - gives a printable ASCII character one column, and with wrapping off writes a symbol whose characters have room side by
+ *   side on its row alone. It may give other symbols any width;
+ * - has the session's size, without margins, and neither origin mode nor insert mode is on;
+ * - does not reorder right-to-left text.
+ * Then each printable ASCII character of the screen is in its column in its style, and no row changes but those that are
+ * written. If the terminal also has the widths of Unicode 18, it shows exactly the screen, with `?` and blanks for a symbol
+ * that might not have room on its row.
+ *
  * Returns SCM_DONE, SCM_CLOSED, or SCM_NOT_NOW if the session waits for no event. If `written` is more than `length` after
  * SCM_DONE, no byte was written, and the next call writes every row: call again with a larger buffer. Or returns SCM_NO_MEMORY;
  * then the next call writes every row. */
