@@ -1,5 +1,4 @@
 """git-select where a hook, a signal, a race or a loss of power meets what it writes, for tools/try-tools."""
-import concurrent.futures
 import json
 import os
 import shutil
@@ -8,6 +7,7 @@ import subprocess
 import time
 
 import changed
+import trying
 from places import Repository
 from settings import WORDS, each_way, write_hook
 
@@ -133,8 +133,7 @@ class Copies:
 
     def each(self, attempt, count):
         """Whether `attempt` holds of each line's number, beside one another."""
-        with concurrent.futures.ThreadPoolExecutor(os.cpu_count() or 1) as pool:
-            return all(list(pool.map(attempt, range(1, count + 1))))
+        return all(list(trying.pool.map(attempt, range(1, count + 1))))
 
 
 def is_ended_well(copies, places, before, after, point):
