@@ -272,7 +272,9 @@ uint32_t scm_stage(scm_session *session);
 uint32_t scm_type(scm_session *session, const char *bytes, size_t length);
 
 /* Handles the silence of the terminal. Call this if no byte came for about 50 milliseconds. If the last byte was an ESC, it
- * is now the Esc key, not the beginning of another key. Otherwise this is a no-op.
+ * is now the Esc key, not the beginning of another key. The rest of any other unfinished sequence may still come. Within a
+ * paste, call it too: Ctrl-C between two silences ends the paste and is the key. To call it again for the same silence is a
+ * no-op.
  *
  * Returns the same codes as `scm_type`. */
 uint32_t scm_idle(scm_session *session);
