@@ -166,6 +166,7 @@ def a_signal_at_each_line(place):
         ends.append(copies.each(lambda point: is_ended_well(copies, places, before, after, point), count))
         for name in "first", "whole":
             shutil.rmtree(os.path.join(place.top, name))
+    place.forget_marks()
     return all(ends) and place.has_left_nothing()
 
 
