@@ -18,7 +18,28 @@
 
 static const char HELP[] =
     "usage: " NAME " STATE.json [ACCEPTED]\n\nShows changes, and writes what you accept to ACCEPTED or to standard output.\n"
-    "`?` shows the keys. The status is 0 for accepted changes, 1 if you gave up, and 2 for an error.\n";
+    "The status is 0 for accepted changes, 1 if you gave up, and 2 for an error.\n\n"
+    /* keys: made by tools/make-keys */
+    "Keys:\n"
+    "  Down, j                   moves down, to the next item\n"
+    "  Up, k                     moves up, to the previous item\n"
+    "  Right, l, Shift-Right, L  moves in, from a file to its first section, or from\n"
+    "                            a section to its first line\n"
+    "  Left, h                   moves out, from a line to its section, or from a\n"
+    "                            folded section to its file; folds an open section,\n"
+    "                            and a file\n"
+    "  Space                     marks the selected item, or takes its mark away; of\n"
+    "                            a file or section, everything in it\n"
+    "  a                         inverts all marks\n"
+    "  F                         unfolds everything, or folds all if everything is\n"
+    "                            unfolded\n"
+    "  c                         accepts what is marked\n"
+    "  q                         gives up; asks first if something is marked or a\n"
+    "                            message is not empty (then Enter quits, and q goes\n"
+    "                            back)\n"
+    "  ?                         opens or closes the help, which names the keys\n"
+    /* end of keys */
+    ;
 
 enum { GIVEN_UP = 1, FAILED = 2 };
 
