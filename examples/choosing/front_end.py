@@ -21,11 +21,10 @@ INSTALLED, BUILDS = os.path.join(HERE, "../../../bin/scm-select"), os.path.join(
 KEYS = """Keys:
   Down, j                   moves down, to the next item
   Up, k                     moves up, to the previous item
-  Right, l, Shift-Right, L  moves in, from a file to its first section, or from
-                            a section to its first line
-  Left, h                   moves out, from a line to its section, or from a
-                            folded section to its file; folds an open section,
-                            and a file
+  Right, l, Shift-Right, L  moves in: to the first section of a file, or the
+                            first line of a section
+  Left, h                   moves out: to the section of a line, or the file of
+                            a folded section; folds an open section, and a file
   Space                     marks the selected item, or takes its mark away; of
                             a file or section, everything in it
   a                         inverts all marks
