@@ -1,6 +1,6 @@
 use Rattle.std.proofs.Common.{rules, ◌≡◌, ◌≤◌, length, arith}
 use Rattle.scm_types.specs.Limits.{max_items, max_scroll}
-use Rattle.scm_visible_tests.proofs.visible.check_scroll.Goals as goal
+use Rattle.scm_view_tests.proofs.visible.check_scroll.Goals as goal
 
 pub paint-requires : goal.paint-requires
 unfolding max_scroll max_items

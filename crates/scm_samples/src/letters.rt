@@ -1,11 +1,9 @@
-//! Sessions written in letters: a state, and the user's events.
-use scm_record::{
-    ChangeType, Commit, Event, File, FileMode, Items, LiveSession, RecordError, RecordState,
-    Section, SectionChangedLine, TerminalKind, Text, Turn,
+//! States written in letters, for tables of tests.
+use crate::{ADDED, DEFAULT, REMOVED, binary, changed, commits_of, context, file_of};
+use scm_types::{
+    Commit, File, FileMode, Items, RecordError, RecordState, Section, SectionChangedLine, Text,
 };
-use scm_samples::{ADDED, DEFAULT, REMOVED, binary, changed, commits_of, context, file_of};
 use std::alloc::Global;
-use std::process::Abort;
 
 /// The texts of lines.
 const DIGITS: [&str; 10] = [
@@ -18,7 +16,7 @@ fn additions(alloc: Global, count: usize) -> Result<Section<'static>, RecordErro
     for index in 0..count {
         lines.push(SectionChangedLine {
             is_checked: false,
-            change_type: ChangeType::Added,
+            change_type: ADDED,
             line: Text::from(DIGITS[index % 10]),
         })?;
     }
@@ -78,9 +76,9 @@ fn commits(alloc: Global, word: &str) -> Result<Items<Commit>, RecordError> {
     }
 }
 
-/// Returns the state of the files in `word`. If `word` begins with `!`, the first commit has a
-/// message.
-pub(crate) fn state_of(alloc: Global, word: &str) -> Result<RecordState<'static>, RecordError> {
+/// Returns the state of the files in `word`: a letter for each section, and a comma between two
+/// files. If `word` begins with `!`, the first commit has a message.
+pub fn state_of_letters(alloc: Global, word: &str) -> Result<RecordState<'static>, RecordError> {
     let files = files(alloc, word.trim_start_matches('!'))?;
     Ok(RecordState {
         is_read_only: false,
@@ -89,57 +87,7 @@ pub(crate) fn state_of(alloc: Global, word: &str) -> Result<RecordState<'static>
     })
 }
 
-/// Returns the event of `letter`. The capitals `A` to `D` open a menu.
-fn event_of(letter: char) -> Event {
-    match letter {
-        'l' => Event::FocusInner,
-        'h' => Event::FocusOuter { fold_section: true },
-        'j' => Event::FocusNext,
-        'f' => Event::ExpandItem,
-        'F' => Event::ExpandAll,
-        'd' => Event::ScrollDown,
-        'u' => Event::ScrollUp,
-        'p' => Event::PageDown,
-        'q' => Event::QuitCancel,
-        '?' => Event::Help,
-        'v' => Event::ToggleCommitViewMode,
-        'A' => Event::Click { row: 0, column: 1 },
-        'B' => Event::Click { row: 0, column: 8 },
-        'C' => Event::Click { row: 0, column: 15 },
-        'D' => Event::Click { row: 0, column: 24 },
-        _ => Event::None,
-    }
-}
-
-/// Returns the session after `event`, which must not end it.
-fn after(
-    rt: &impl Abort,
-    session: LiveSession<'static>,
-    event: Event,
-) -> Result<LiveSession<'static>, RecordError> {
-    let Turn::Waiting(next) = session.handle(event)? else {
-        panic!(rt; "the session waits for no event");
-    };
-    Ok(next)
-}
-
-/// Returns a session on `state` after the events `letters`.
-pub(crate) fn session_of(
-    rt: &impl Abort,
-    state: RecordState<'static>,
-    alloc: Global,
-    kind: TerminalKind,
-    letters: &str,
-) -> Result<LiveSession<'static>, RecordError> {
-    assert!(rt; state.is_accepted());
-    let mut session = LiveSession::new(alloc, kind, state)?;
-    for letter in letters.chars() {
-        session = after(rt, session, event_of(letter))?;
-    }
-    Ok(session)
-}
-
 /// Returns the number that `word` is, or 0.
-pub(crate) fn number_of(word: Option<&str>) -> usize {
+pub fn number_of(word: Option<&str>) -> usize {
     word.unwrap_or("").parse().unwrap_or(0)
 }

@@ -1,6 +1,7 @@
 //! The number of rows that a frame begins, and of calls that draw it.
-use crate::given::{number_of, session_of, state_of};
+use crate::sessions::session_of;
 use scm_record::{RecordError, TerminalKind};
+use scm_samples::number_of;
 use std::alloc::Global;
 use std::process::Abort;
 
@@ -98,19 +99,6 @@ const ADJACENT: &str = "
 24 8 !- v => 5 12
 ";
 
-/// Returns how many rows and calls the frame after the events `letters` takes.
-fn counts_of(
-    rt: &impl Abort,
-    alloc: Global,
-    kind: TerminalKind,
-    state: &str,
-    letters: &str,
-) -> Result<(usize, usize), RecordError> {
-    let session = session_of(rt, state_of(alloc, state)?, alloc, kind, letters)?;
-    let grid = session.grid();
-    Ok((grid.rows_drawn(), grid.calls()))
-}
-
 /// Returns the two numbers in `text`.
 fn numbers_of(text: &str) -> (usize, usize) {
     let mut words = text.split_whitespace();
@@ -127,16 +115,11 @@ fn check_counts(
     let mut words = given.split_whitespace();
     let width = number_of(words.next());
     let height = number_of(words.next());
+    let kind = TerminalKind::Testing { width, height };
     let state = words.next().unwrap_or("");
-    let letters = words.next().unwrap_or("");
-    let counts = counts_of(
-        rt,
-        alloc,
-        TerminalKind::Testing { width, height },
-        state,
-        letters,
-    )?;
-    assert_eq!(rt; counts, wanted, "{given}");
+    let session = session_of(rt, alloc, kind, state, words.next().unwrap_or(""))?;
+    let grid = session.grid();
+    assert_eq!(rt; (grid.rows_drawn(), grid.calls()), wanted, "{given}");
     Ok(())
 }
 
@@ -151,12 +134,9 @@ fn most_of(given: &str) -> (usize, usize) {
 fn check_row(rt: &impl Abort, alloc: Global, row: &str) -> Result<(), RecordError> {
     let (given, wanted) = row.split_once(" => ").unwrap_or((row, ""));
     let (wanted, most) = wanted.split_once(" of ").unwrap_or((wanted, ""));
-    let wanted = numbers_of(wanted);
-    assert_eq!(rt; numbers_of(most), most_of(given), "{row}");
-    assert!(rt;
-        wanted.0 <= most_of(given).0 && wanted.1 <= most_of(given).1,
-        "{row}"
-    );
+    let (wanted, most) = (numbers_of(wanted), numbers_of(most));
+    assert_eq!(rt; most, most_of(given), "{row}");
+    assert!(rt; wanted.0 <= most.0 && wanted.1 <= most.1, "{row}");
     check_counts(rt, alloc, given, wanted)
 }
 
