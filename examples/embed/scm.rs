@@ -60,7 +60,7 @@ unsafe extern "C" {
     fn scm_text(session: *mut Handle, out: *mut c_char, length: usize, written: *mut usize) -> u32;
     fn scm_files(session: *mut Handle, count: *mut usize) -> u32;
     fn scm_side(session: *mut Handle, file: usize, selected: bool, out: *mut c_char, length: usize, side: *mut SideInfo) -> u32;
-    fn scm_side_text(session: *mut Handle, file: usize, selected: bool, out: *mut c_char, length: usize, written: *mut usize) -> u32;
+    fn scm_side_bytes(session: *mut Handle, file: usize, selected: bool, out: *mut c_char, length: usize, written: *mut usize) -> u32;
     fn scm_mark(session: *mut Handle, key: *const Key, mark: *mut u32) -> u32;
     fn scm_marks(session: *mut Handle, file: usize, out: *mut c_char, length: usize, written: *mut usize) -> u32;
     fn scm_line(session: *mut Handle, key: *const Key, out: *mut c_char, length: usize, written: *mut usize) -> u32;
@@ -217,10 +217,10 @@ impl Session {
         done(unsafe { scm_state_mode(&mut self.handle, is_checked, mode) })
     }
 
-    /// Adds a file by its two versions, each with its mode. `None` is a file that does not exist.
-    pub fn add_texts(&mut self, path: &str, old_path: Option<&str>, old: Option<(&str, usize)>, new: Option<(&str, usize)>) -> Result<(), Error> {
+    /// Adds a file by the bytes of its two versions, each with its mode. `None` is a file that does not exist.
+    pub fn add_texts(&mut self, path: &str, old_path: Option<&str>, old: Option<(&[u8], usize)>, new: Option<(&[u8], usize)>) -> Result<(), Error> {
         let old_path = old_path.unwrap_or("");
-        let ((old, old_mode), (new, new_mode)) = (old.unwrap_or(("", ABSENT)), new.unwrap_or(("", ABSENT)));
+        let ((old, old_mode), (new, new_mode)) = (old.unwrap_or((b"", ABSENT)), new.unwrap_or((b"", ABSENT)));
         done(unsafe {
             scm_state_texts(&mut self.handle, start(path), path.len(), start(old_path), old_path.len(), start(old), old.len(), old_mode, start(new), new.len(), new_mode)
         })
@@ -309,9 +309,9 @@ impl Session {
         Ok((side.mode, [Contents::Unchanged, Contents::Text(bytes), Contents::Binary][side.contents as usize].clone()))
     }
 
-    /// Returns the text of a side of file `file`, in which no two lines are joined.
-    pub fn side_text(&mut self, file: usize, is_selected: bool) -> Result<String, Error> {
-        bytes_of(|out, room, length| unsafe { scm_side_text(&mut self.handle, file, is_selected, out, room, length) }).map(text_of)
+    /// Returns the bytes of a side of file `file`, in which no two lines are joined: the file to write of one that `add_texts` added.
+    pub fn side_bytes(&mut self, file: usize, is_selected: bool) -> Result<Vec<u8>, Error> {
+        bytes_of(|out, room, length| unsafe { scm_side_bytes(&mut self.handle, file, is_selected, out, room, length) })
     }
 
     /// Returns the message of commit `commit`, counted from 0.
@@ -434,9 +434,9 @@ mod tests {
         assert_eq!(session.line(Key { commit: 0, file: 0, section: 1, line: 0 }).unwrap(), "a\nb");
         assert_eq!(session.line(Key { commit: 0, file: 0, section: 1, line: 2 }), Err(Error::NoItem));
         assert_eq!((session.marks(0), session.end()), (Ok(vec![true, false]), None));
-        session.add_texts("g", None, Some(("a\nb", 0o100644)), None).unwrap();
-        assert_eq!(session.side_text(1, true).unwrap(), "a\nb");
-        assert_eq!(session.side_text(1, false).unwrap(), "");
+        session.add_texts("g", None, Some((b"a\xff\nb", 0o100644)), None).unwrap();
+        assert_eq!(session.side_bytes(1, true).unwrap(), b"a\xff\nb");
+        assert_eq!(session.side_bytes(1, false).unwrap(), b"");
     }
 
     /// Any text is a line: it is shown, and the side that selects it is that text.
