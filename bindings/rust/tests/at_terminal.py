@@ -59,11 +59,14 @@ class Terminal:
     def has_ended(self):
         return os.waitid(os.P_PID, self.program, os.WEXITED | os.WNOHANG | os.WNOWAIT) is not None
 
+    def wait_for_silence(self):
+        while self.read(0.15):
+            pass
+
     def type(self, *texts):
         """Types the texts, each once the program has been silent for a while behind the one before."""
         for text in texts:
-            while self.read(0.15):
-                pass
+            self.wait_for_silence()
             os.write(self.file, text.encode())
 
     def end(self):
@@ -110,7 +113,7 @@ def try_panic():
 
 def try_new_size():
     terminal = Terminal("count_events")
-    terminal.wait_for(b"[View]")
+    terminal.wait_for_silence()
     place = len(terminal.shown)
     terminal.resize(30, 100)
     terminal.wait_for(b"\x1b[30;1H", place)
