@@ -4,7 +4,7 @@ use crate::RecordError;
 
 /// The size of a screen, of which the library draws at most 1,000 columns and 1,000 rows.
 #[derive(Clone, Copy, Debug, Eq, PartialEq)]
-pub(crate) struct Size {
+pub struct Size {
     pub width: u16,
     pub height: u16,
 }
@@ -21,7 +21,7 @@ impl Size {
 }
 
 /// What shows the frames of a run.
-pub(crate) trait Screen {
+pub trait Screen {
     /// Returns its size.
     fn size(&mut self) -> Result<Size, RecordError>;
 
@@ -30,7 +30,7 @@ pub(crate) trait Screen {
 }
 
 /// A screen that nobody sees.
-pub(crate) struct TestingScreen {
+pub struct TestingScreen {
     size: Size,
 }
 

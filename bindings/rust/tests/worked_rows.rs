@@ -7,6 +7,7 @@ use scm_record::{
     Commit, Event, File, FileMode, RecordError, RecordState, SelectedChanges, SelectedContents,
     TestingScreenshot,
 };
+use std::borrow::Cow;
 
 const WIDE: (usize, usize) = (80, 24);
 const SMALL: (usize, usize) = (24, 8);
@@ -183,17 +184,11 @@ fn a_removed_text_is_empty_and_a_deleted_file_unchanged() {
 fn a_binary_is_on_one_side() {
     let file = file("f", vec![binary(true, Some("a"), None), context(&["z\n"])]);
     let (selected, unselected) = file.get_selected_contents();
-    let SelectedContents::Binary {
-        old_description,
-        new_description,
-    } = selected.contents
-    else {
-        panic!("no binary");
+    let wanted = SelectedContents::Binary {
+        old_description: Some(Cow::Borrowed("a")),
+        new_description: None,
     };
-    assert_eq!(
-        (old_description.as_deref(), new_description),
-        (Some("a"), None)
-    );
+    assert_eq!(selected.contents, wanted);
     assert_eq!(text(&unselected), "z\n");
 }
 
