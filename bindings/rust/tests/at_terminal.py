@@ -11,6 +11,7 @@ import re
 import select
 import signal
 import struct
+import subprocess
 import sys
 import tempfile
 import termios
@@ -122,6 +123,16 @@ def try_new_size():
     return is_drawn and terminal.end()[0] == 1
 
 
+def try_no_terminal():
+    """Runs `split` where there is no terminal."""
+    with tempfile.TemporaryDirectory() as folder:
+        path = pathlib.Path(folder, "text")
+        path.write_text(OLD)
+        words = [EXAMPLES / "split", path, path, path.with_name("out")]
+        done = subprocess.run(words, stdin=subprocess.DEVNULL, capture_output=True, start_new_session=True, text=True)
+        return done.returncode == 1 and done.stderr.startswith("split: failed to set up terminal: ") and not done.stdout
+
+
 def has_counts(said, keys):
     """Returns whether the line counts these keys, or reads of them."""
     events, reads = map(int, re.fullmatch(r"(\d+) events of (\d+) reads", said[0]).groups())
@@ -144,6 +155,7 @@ def tries():
     yield "a message is edited", status == 0 and said[1] == "MESSAGE: False" and is_as_before
     yield "a panic gives the terminal back first", try_panic()
     yield "a new size", try_new_size()
+    yield "no terminal", try_no_terminal()
 
 
 def main():

@@ -174,10 +174,9 @@ fn paths_that_are_no_utf_8_come_back() {
         ..mixed_file()
     }]);
     let rows = rows_after(given.clone(), (40, 3), Vec::new());
-    assert_eq!(
-        rows[1],
-        "(◐) old\u{fffd} => \u{fffd}new\u{fffd}               (+)"
-    );
+    let blanks = " ".repeat(20);
+    let header = format!("(◐) old\u{fffd} => \u{fffd}new\u{fffd}{blanks}(+)");
+    assert_eq!(rows[1], header);
     let accepted = run(given.clone(), (40, 3), vec![Event::QuitAccept]).unwrap();
     assert_eq!(accepted.files, given.files);
 }
