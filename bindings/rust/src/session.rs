@@ -314,10 +314,22 @@ fn mode_of(bits: usize) -> FileMode {
     }
 }
 
-/// Returns the bytes that `call` writes to the room that it gets, of the length that it gets. It returns its code, and writes
-/// how many bytes there are. If that is more than the room, `call` is made again.
-fn bytes_of(mut call: impl FnMut(*mut c_char, usize, &mut usize) -> u32) -> Result<Vec<u8>, Error> {
-    let mut bytes = vec![0; 1 << 12];
+/// The first room for a symbol, in bytes.
+const SYMBOL_ROOM: usize = 1 << 6;
+
+/// The first room for a text, in bytes.
+const TEXT_ROOM: usize = 1 << 14;
+
+/// The first room for a paint, in bytes: a paint that has no room is followed by one of every row.
+const PAINT_ROOM: usize = 1 << 18;
+
+/// Returns the bytes that `call` writes to the room that it gets, of the length that it gets: of `room` bytes at first. It returns
+/// its code, and writes how many bytes there are. If that is more than the room, `call` is made again.
+fn bytes_of(
+    room: usize,
+    mut call: impl FnMut(*mut c_char, usize, &mut usize) -> u32,
+) -> Result<Vec<u8>, Error> {
+    let mut bytes = vec![0; room];
     let mut length = 0;
     loop {
         done(call(bytes.as_mut_ptr().cast(), bytes.len(), &mut length))?;
@@ -331,7 +343,11 @@ fn bytes_of(mut call: impl FnMut(*mut c_char, usize, &mut usize) -> u32) -> Resu
 
 /// Returns the text that `call` writes, as [`bytes_of`] calls it.
 fn text_of(call: impl FnMut(*mut c_char, usize, &mut usize) -> u32) -> Result<String, Error> {
-    bytes_of(call).map(|bytes| String::from_utf8(bytes).expect("the library writes UTF-8"))
+    bytes_of(TEXT_ROOM, call).map(text)
+}
+
+fn text(bytes: Vec<u8>) -> String {
+    String::from_utf8(bytes).expect("the library writes UTF-8")
 }
 
 /// A session. One thread at a time uses it, and it can move to another one.
@@ -626,7 +642,9 @@ impl Session {
     ///
     /// `NotNow` if the session does not wait for an event, or `NoMemory`.
     pub fn paint(&mut self) -> Result<Vec<u8>, Error> {
-        bytes_of(|out, room, length| unsafe { ffi::scm_paint(self.at(), out, room, length) })
+        bytes_of(PAINT_ROOM, |out, room, length| unsafe {
+            ffi::scm_paint(self.at(), out, room, length)
+        })
     }
 
     /// Makes the next [`paint`](Session::paint) return every row.
@@ -665,13 +683,11 @@ impl Session {
     /// Returns the symbol that begins at a place of the screen. It is empty at the second column of a wide symbol, and outside
     /// the screen.
     pub fn symbol(&self, row: u16, column: u16) -> String {
-        let mut length = 0;
-        let symbol = text_of(|out, room, written| {
-            length = unsafe { ffi::scm_symbol(self.at(), row, column, out, room) };
-            *written = length;
+        let symbol = bytes_of(SYMBOL_ROOM, |out, room, length| {
+            *length = unsafe { ffi::scm_symbol(self.at(), row, column, out, room) };
             0
         });
-        symbol.unwrap_or_default()
+        symbol.map(text).unwrap_or_default()
     }
 
     /// Returns the text of the stage: the rows of the screen, each in quotes; the message before an edit; the sentence of an
@@ -728,7 +744,7 @@ impl Session {
     /// Those of [`side`](Session::side).
     pub fn side_bytes(&self, file: usize, side: Side) -> Result<Vec<u8>, Error> {
         let is_selected = side == Side::Selected;
-        bytes_of(|out, room, length| unsafe {
+        bytes_of(TEXT_ROOM, |out, room, length| unsafe {
             ffi::scm_side_bytes(self.at(), file, is_selected, out, room, length)
         })
     }
@@ -754,7 +770,7 @@ impl Session {
     ///
     /// Those of [`side`](Session::side).
     pub fn marks(&self, file: usize) -> Result<Vec<bool>, Error> {
-        let bytes = bytes_of(|out, room, length| unsafe {
+        let bytes = bytes_of(TEXT_ROOM, |out, room, length| unsafe {
             ffi::scm_marks(self.at(), file, out, room, length)
         })?;
         Ok(bytes.iter().map(|byte| *byte == 1).collect())
