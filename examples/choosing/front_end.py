@@ -17,8 +17,27 @@ from .words import Stop, shown, words_of
 HERE = os.path.dirname(os.path.realpath(__file__))
 # where it lies beside an installed program, and else what builds it
 INSTALLED, BUILDS = os.path.join(HERE, "../../../bin/scm-select"), os.path.join(HERE, "../../tools/select")
-KEYS = """Keys: l moves in, j and k down and up, space marks, c accepts, q gives up, and ? shows the others.
-
+# keys: made by tools/make-keys
+KEYS = """Keys:
+  Down, j                   moves down, to the next item
+  Up, k                     moves up, to the previous item
+  Right, l, Shift-Right, L  moves in: to the first section of a file, or the
+                            first line of a section
+  Left, h                   moves out: to the section of a line, or the file of
+                            a folded section; folds an open section, and a file
+  Space                     marks the selected item, or takes its mark away; of
+                            a file or section, everything in it
+  a                         inverts all marks
+  F                         unfolds everything, or folds all if everything is
+                            unfolded
+  c                         accepts what is marked
+  q                         gives up; asks first if something is marked or a
+                            message is not empty (then Enter quits, and q goes
+                            back)
+  ?                         opens or closes the help, which names the keys
+"""
+# end of keys
+EPILOGUE = KEYS + """
 SELECT names another front end: a command that takes the file of a state, and a file to write to what was accepted."""
 
 

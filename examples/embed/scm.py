@@ -243,9 +243,9 @@ class Session:
             self.call("side", *place, out, ctypes.c_size_t(len(out)), ctypes.byref(info))
         return Side(info.contents, info.mode, out.raw[: info.length] if info.contents == TEXT else None)
 
-    def side_text(self, file, is_selected=True):
-        """Returns the text of a side as bytes, in which no two lines are joined."""
-        return self.read("side_text", ctypes.c_size_t(file), ctypes.c_bool(is_selected))
+    def side_bytes(self, file, is_selected=True):
+        """Returns the bytes of a side, in which no two lines are joined: the file to write of one that `add_texts` added."""
+        return self.read("side_bytes", ctypes.c_size_t(file), ctypes.c_bool(is_selected))
 
     def mark(self, file: int, section: int = NO_INDEX, line: int = NO_INDEX) -> int:
         mark = ctypes.c_uint32()

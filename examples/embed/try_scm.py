@@ -113,8 +113,10 @@ def main():
         lines.add_line("")
         lines.add_line("a\nb", is_added=True, is_checked=True)
         lines.add_texts("g", "a\nb", b"a\nc\n")
-        assert (lines.side_text(1), lines.side_text(1, False)) == (b"a\nb", b"a\nc\n")
-        assert refused(lines.add_texts, "h", b"\xff", "") == "not_text"
+        assert (lines.side_bytes(1), lines.side_bytes(1, False)) == (b"a\nb", b"a\nc\n")
+        lines.add_texts("h", b"\xff\0\n", "\U0010ffff\xe4".encode())
+        assert (lines.side_bytes(2), lines.side_bytes(2, False)) == (b"\xff\0\n", "\U0010ffff\xe4".encode())
+        assert refused(lines.add_texts, b"\xff", "a", "b") == "not_text"
         assert (lines.line(0, 0, 0), lines.line(0, 1, 0), lines.marks(0)) == (b"", b"a\nb", [True])
     assert session.stage == scm.NONE and refused(session.paint) == "closed"
     try:

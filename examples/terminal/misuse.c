@@ -289,7 +289,7 @@ static void tell_lines(void) {
     assert(length == 3);
 }
 
-/* A file by its two versions has the lines that differ, and its sides are the two texts, byte for byte. */
+/* A file by its two versions has the lines that differ, and its sides are the two versions, byte for byte. */
 static void take_texts(void) {
     char text[8] = ".......";
     static char line[LONGEST_MESSAGE + 1];
@@ -297,31 +297,32 @@ static void take_texts(void) {
     memset(line, 'm', sizeof line);
     scm_key removed = {SCM_NO_INDEX, 0, 1, 0};
     done(scm_state_new(&session, false), SCM_BUILDING);
-    refused(scm_state_texts(&session, "f", 1, "", 0, "\xff", 1, 0100644, "b", 1, 0100644), SCM_NOT_TEXT);
+    refused(scm_state_texts(&session, "\xff", 1, "", 0, "a", 1, 0100644, "b", 1, 0100644), SCM_NOT_TEXT);
+    refused(scm_state_texts(&session, "f", 1, "\xff", 1, "a", 1, 0100644, "b", 1, 0100644), SCM_NOT_TEXT);
     refused(scm_state_texts(&session, "f", 1, "", 0, "a", 1, 0100644, line, sizeof line, 0100644), SCM_TOO_LONG);
-    refused(scm_side_text(&session, 0, true, text, sizeof text, &length), SCM_NO_ITEM);
+    refused(scm_side_bytes(&session, 0, true, text, sizeof text, &length), SCM_NO_ITEM);
     done(scm_state_texts(&session, "f", 1, "e", 1, "a\nb", 3, 0100644, "a\nc\n", 4, 0100644), SCM_BUILDING);
-    done(scm_state_texts(&session, "g", 1, "", 0, "\xff", 1, SCM_ABSENT, "x", 1, 0100644), SCM_BUILDING);
+    done(scm_state_texts(&session, "g", 1, "", 0, "old", 3, SCM_ABSENT, "x\xff\0", 3, 0100644), SCM_BUILDING);
     done(scm_line(&session, &removed, text, sizeof text, &length), SCM_BUILDING);
     assert(length == 1 && text[0] == 'b');
 #ifdef __GLIBC__
     is_refused = true;
     uint32_t code = scm_state_texts(&session, "h", 1, "", 0, "a", 1, 0100644, "b", 1, 0100644);
-    uint32_t code_of_side = scm_side_text(&session, 0, true, text, sizeof text, &length);
+    uint32_t code_of_side = scm_side_bytes(&session, 0, true, text, sizeof text, &length);
     is_refused = false;
     refused(code, SCM_NO_MEMORY);
     refused(code_of_side, SCM_NO_MEMORY);
 #endif
     done(scm_begin(&session, WIDTH, HEIGHT), SCM_WAITING);
     refused(scm_state_texts(&session, "h", 1, "", 0, "a", 1, 0100644, "b", 1, 0100644), SCM_NOT_NOW);
-    assert(scm_side_text(&session, 0, true, text, sizeof text, &length) == SCM_DONE && length == 3 && memcmp(text, "a\nb", 3) == 0);
+    assert(scm_side_bytes(&session, 0, true, text, sizeof text, &length) == SCM_DONE && length == 3 && memcmp(text, "a\nb", 3) == 0);
     done(press("a"), SCM_WAITING);
-    assert(scm_side_text(&session, 0, true, text, 3, &length) == SCM_DONE && length == 4 && memcmp(text, "a\nc", 3) == 0);
-    assert(scm_side_text(&session, 1, true, text, sizeof text, &length) == SCM_DONE && length == 1 && text[0] == 'x');
-    assert(scm_side_text(&session, 1, false, text, sizeof text, &length) == SCM_DONE && length == 0);
+    assert(scm_side_bytes(&session, 0, true, text, 3, &length) == SCM_DONE && length == 4 && memcmp(text, "a\nc", 3) == 0);
+    assert(scm_side_bytes(&session, 1, true, text, sizeof text, &length) == SCM_DONE && length == 3 && memcmp(text, "x\xff", 3) == 0);
+    assert(scm_side_bytes(&session, 1, false, text, sizeof text, &length) == SCM_DONE && length == 0);
     close_session();
     refused(scm_state_texts(&session, "h", 1, "", 0, "a", 1, 0100644, "b", 1, 0100644), SCM_CLOSED);
-    refused(scm_side_text(&session, 0, true, text, sizeof text, &length), SCM_CLOSED);
+    refused(scm_side_bytes(&session, 0, true, text, sizeof text, &length), SCM_CLOSED);
 }
 
 /* Of a window above the limit the screen has the limit. */

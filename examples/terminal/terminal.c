@@ -18,7 +18,27 @@
 
 static const char HELP[] =
     "usage: " NAME " STATE.json [ACCEPTED]\n\nShows changes, and writes what you accept to ACCEPTED or to standard output.\n"
-    "`?` shows the keys. The status is 0 for accepted changes, 1 if you gave up, and 2 for an error.\n";
+    "The status is 0 for accepted changes, 1 if you gave up, and 2 for an error.\n\n"
+    /* keys: made by tools/make-keys */
+    "Keys:\n"
+    "  Down, j                   moves down, to the next item\n"
+    "  Up, k                     moves up, to the previous item\n"
+    "  Right, l, Shift-Right, L  moves in: to the first section of a file, or the\n"
+    "                            first line of a section\n"
+    "  Left, h                   moves out: to the section of a line, or the file of\n"
+    "                            a folded section; folds an open section, and a file\n"
+    "  Space                     marks the selected item, or takes its mark away; of\n"
+    "                            a file or section, everything in it\n"
+    "  a                         inverts all marks\n"
+    "  F                         unfolds everything, or folds all if everything is\n"
+    "                            unfolded\n"
+    "  c                         accepts what is marked\n"
+    "  q                         gives up; asks first if something is marked or a\n"
+    "                            message is not empty (then Enter quits, and q goes\n"
+    "                            back)\n"
+    "  ?                         opens or closes the help, which names the keys\n"
+    /* end of keys */
+    ;
 
 enum { GIVEN_UP = 1, FAILED = 2 };
 

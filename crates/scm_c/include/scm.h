@@ -211,7 +211,7 @@ typedef struct scm_side_info {
  * After `scm_state_new` the stage is SCM_BUILDING. Each of the calls below adds at the end of the state: commits, files, and
  * the sections of the last file. Give all lines of a file, also those far from its changes: the sides are made of these lines.
  * If its contents are not UTF-8, add them as binary (`scm_state_binary`). A file that is created or deleted also needs a
- * change of its mode (`scm_state_mode`).
+ * change of its mode (`scm_state_mode`). `scm_state_texts` does all this by the bytes of the two versions.
  *
  * The calls return SCM_DONE, or the first of these that applies, and then the state is as it was:
  *
@@ -272,17 +272,19 @@ uint32_t scm_state_mode(scm_session *session, bool is_checked, size_t mode);
 uint32_t scm_state_binary(scm_session *session, bool is_checked, const char *old_text, size_t old_length,
                           const char *new_text, size_t new_length);
 
-/* Adds a file by its two versions: the library finds the lines that differ. `old` is the text before the changes, of
- * `old_size` bytes, with the mode `old_mode`, and `new_text` the one after them. A mode SCM_ABSENT says that the file does not
- * exist in that version; then its bytes do not matter. The path before a rename or a copy has `old_length` bytes, none if that
- * is 0. Nothing is checked. The file has a change of the mode if the modes differ, and all lines of both texts.
+/* Adds a file by its two versions, whatever their bytes are: the library finds the lines that differ. `old` has the bytes before
+ * the changes, `old_size` of them, with the mode `old_mode`, and `new_bytes` those after them. A mode SCM_ABSENT says that the
+ * file does not exist in that version; then its bytes do not matter. The path before a rename or a copy has `old_length` bytes,
+ * none if that is 0. Nothing is checked. The file has a change of the mode if the modes differ, and all lines of both versions.
  *
- * A last line without a line end differs from the same line with one. Read the sides of such a file by `scm_side_text`: with
- * nothing checked the selected side is the old text, byte for byte, and with all checked the new one.
+ * Read the sides of such a file by `scm_side_bytes`: with nothing checked the selected side is the old version, byte for byte,
+ * and with all checked the new one. A last line without a line end differs from the same line with one. A byte that is not UTF-8
+ * is shown as one symbol, and comes back as it was; in `scm_line`, and for the limit of a line, it is a character of four bytes.
  *
- * A text that is not UTF-8 is refused with SCM_NOT_TEXT: add that file as binary. */
+ * Only the paths have to be UTF-8: else the call returns SCM_NOT_TEXT. A file with a NUL is taken as text, too. A caller who
+ * shows such files as binary, as git does, looks for a NUL (memchr), and adds them by `scm_state_file` and `scm_state_binary`. */
 uint32_t scm_state_texts(scm_session *session, const char *path, size_t length, const char *old_path, size_t old_length,
-                         const char *old, size_t old_size, size_t old_mode, const char *new_text, size_t new_size,
+                         const char *old, size_t old_size, size_t old_mode, const char *new_bytes, size_t new_size,
                          size_t new_mode);
 
 /* Begins the session with the state that is made, on a screen of `width` columns and `height` rows. The session takes the state
@@ -424,14 +426,15 @@ SCM_USE_CODE uint32_t scm_files(scm_session *session, size_t *count);
 SCM_USE_CODE uint32_t scm_side(scm_session *session, size_t file, bool selected, char *out, size_t length,
                               scm_side_info *side);
 
-/* Writes the text of a side of file `file`, counted from 0, to `out`, clipped to `length` bytes, and the whole length in bytes
- * to `written`: of the selected side if `selected`, or of the other side. These are the lines of the side, and no two are
- * joined: a line without a line end gets one where another line follows. `scm_side` writes the lines as they are, and has the
- * mode and the kind of contents.
+/* Writes the bytes of a side of file `file`, counted from 0, to `out`, clipped to `length` bytes, and the whole length to
+ * `written`: of the selected side if `selected`, or of the other side. This is the file to write of a file that
+ * `scm_state_texts` added. It has the lines of the side, and no two are joined: a line without a line end gets one where another
+ * line follows. A character from U+10FF80 to U+10FFFF stands for one byte, in other files too. `scm_side` has the mode of the
+ * side, and the kind of its contents.
  *
  * May also return SCM_NO_MEMORY. */
-SCM_USE_CODE uint32_t scm_side_text(scm_session *session, size_t file, bool selected, char *out, size_t length,
-                                    size_t *written);
+SCM_USE_CODE uint32_t scm_side_bytes(scm_session *session, size_t file, bool selected, char *out, size_t length,
+                                     size_t *written);
 
 /* Writes the mark of the line that `key` names to `mark`: SCM_UNCHECKED to SCM_CHECKED. If its line is SCM_NO_INDEX, that of
  * the section; if its section is SCM_NO_INDEX too, that of the file. The commit of the key does not matter. A context line has

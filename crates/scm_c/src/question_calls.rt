@@ -3,7 +3,7 @@ ghost use Rattle.std.specs.Prelude.{◌≡◌, ◌<◌, Some, true};
 ghost use Rattle.scm_open_session.specs.Boxes.{box_value};
 ghost use Rattle.scm_open_session.specs.Results.{IsCode};
 ghost use Rattle.scm_open_session.specs.Questions.{TellsSide, TellsText, answer_of, asked_state, code_of_question, file_count, line_at, mark_at, marks_at, message_at, side_at};
-ghost use Rattle.scm_open_session.specs.Texts.{side_text_at};
+ghost use Rattle.scm_open_session.specs.Texts.{side_bytes_at};
 
 use crate::c_session::{CSession, give_back, take};
 use scm_open_session::owners::Key;
@@ -143,10 +143,10 @@ pub extern "C" fn scm_line(
     code
 }
 
-/// Writes the text of the selected side of file `file` if `selected`, or of the other side, to `out`,
+/// Writes the bytes of the selected side of file `file` if `selected`, or of the other side, to `out`,
 /// clipped to its length, and the whole length in bytes to `written`. Returns the code of the call.
 #[unsafe(no_mangle)]
-pub extern "C" fn scm_side_text(
+pub extern "C" fn scm_side_bytes(
     alloc: Global,
     session: &mut CSession,
     file: usize,
@@ -155,16 +155,16 @@ pub extern "C" fn scm_side_text(
     written: &mut usize,
 ) -> u32
     ensures code { IsCode true
-        (code_of_question (side_text_at file selected)
+        (code_of_question (side_bytes_at file selected)
         (asked_state session.old.pointer.value)) result }
-    ensures text { result ≡ 0
-        → TellsText (answer_of (side_text_at file selected)
+    ensures bytes { result ≡ 0
+        → TellsText (answer_of (side_bytes_at file selected)
         (asked_state session.old.pointer.value)) out.old out.new written.new }
     ensures unwritten { 0 < result → (out.new ≡ out.old) × (written.new ≡ written.old) }
     ensures kept { session.new.pointer.value ≡ session.old.pointer.value }
 {
     let inner = take(alloc, session);
-    let code = question_calls::ask_side_text(alloc, &inner, file, selected, out, written);
+    let code = question_calls::ask_side_bytes(alloc, &inner, file, selected, out, written);
     give_back(alloc, session, inner);
     code
 }

@@ -203,7 +203,7 @@ pub extern "C" fn scm_state_binary(
     code
 }
 
-/// Adds the file that shows how the text `old` becomes the text `new`. Each mode is that of a version,
+/// Adds the file that shows how the bytes `old` become the bytes `new`. Each mode is that of a version,
 /// `usize::MAX` of a file that does not exist. Returns the code of the call.
 #[unsafe(no_mangle)]
 pub extern "C" fn scm_state_texts(

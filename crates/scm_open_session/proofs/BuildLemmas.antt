@@ -17,7 +17,7 @@ use Rattle.scm_open_session.specs.declared.open_session.Stage.TheVariants.{Build
 use Rattle.scm_open_session.specs.Stages.{ChangesStage}
 use Rattle.scm_open_session.specs.Results.{IsCode}
 use Rattle.scm_open_session.specs.Building.{Adds, Builds, Starts, StartsSession, code_at_stage, code_of_addition, code_of_error, code_of_refusal, is_building, text_of_bytes}
-use Rattle.scm_open_session.specs.Texts.{AddsFile, BuildsChange, GivenChange, code_of_change_at, is_short_change}
+use Rattle.scm_open_session.specs.Texts.{AddsFile, BuildsChange, GivenChange, change_with, code_of_change, code_of_change_at, code_of_length, code_of_text_change, has_text_paths}
 use Rattle.scm_open_session.proofs.ResultLemmas.{not_utf8}
 
 -- codes
@@ -72,13 +72,19 @@ builds addition old new state after e f g = rw (e, f) (rw g Builds.built)
 pub adds : (addition : Addition) (given : Option Addition) (old new : Option OpenSession) → given ≡ Some addition → ChangesStage (Builds addition) old new → Adds given old new
 adds addition given old new e goes = rw e goes
 
--- files of two texts
+-- files of two versions
+
+pub long_change : (is_short : Bool) → is_short ≡ false → IsCode true (if is_short then 0 else 7) 7
+long_change is_short e = rw e IsCode.known
+
+pub length_code : (is_short : Bool) → is_short ≡ true → IsCode true (if is_short then 0 else 7) 0
+length_code is_short e = rw e IsCode.known
 
 pub builds_change : (c : GivenChange) (old new : Stage) (before after : RecordState) → old ≡ Building before → new ≡ Building after → AddsFile c before after → BuildsChange c old new
 builds_change c old new before after e f a = rw (e, f) (BuildsChange.built_change a)
 
 pub change_code : (c : GivenChange) (old : Stage) (state : RecordState) (answer : ℕ) → old ≡ Building state
-    → IsCode true (if is_short_change c then 0 else 7) answer → IsCode true (code_of_change_at c old) answer
+    → IsCode true (code_of_length c) answer → IsCode true (code_of_change_at c old) answer
 change_code c old state answer e code = rw e code
 
 pub not_building_change : (c : GivenChange) (s : Stage) → is_building s ≡ false → IsCode true (code_of_change_at c s) 2
@@ -87,6 +93,29 @@ not_building_change c (Waiting l) e = IsCode.known
 not_building_change c (Editing a) e = IsCode.known
 not_building_change c (Accepted state) e = IsCode.known
 not_building_change c (Ended error) e = IsCode.known
+
+pub change_session_code : (c : GivenChange) (old : Option OpenSession) (h before : OpenSession) (answer : ℕ) → old ≡ Some h → before ≡ h
+    → IsCode true (code_of_change_at c before.stage) answer → IsCode true (code_of_text_change c old) answer
+change_session_code c old h before answer e f code = rw e (subst (λ (x : OpenSession). IsCode true (code_of_change_at c x.stage) answer) f code)
+
+pub closed_change_code : (c : GivenChange) (old : Option OpenSession) → old ≡ None → IsCode true (code_of_text_change c old) 1
+closed_change_code c old e = rw e IsCode.known
+
+-- a change whose paths are UTF-8, or are not
+pub paths_code : (c given : GivenChange) (old : Option OpenSession) (answer : ℕ) → c ≡ given → has_text_paths given ≡ true
+    → IsCode true (code_of_text_change c old) answer → IsCode true (code_of_change given old) answer
+paths_code c given old answer e is_text code = rw is_text (subst (λ (g : GivenChange). IsCode true (code_of_text_change g old) answer) e code)
+
+pub no_paths_code : (given : GivenChange) (old : Option OpenSession) → has_text_paths given ≡ false → IsCode true (code_of_change given old) 4
+no_paths_code given old e = rw e IsCode.known
+
+pub same_change : (path path_now old_path old_path_now old old_now new new_now : List ℕ) (old_bits new_bits : ℕ) (c : GivenChange)
+    → c ≡ change_with path old_path old old_bits new new_bits → path ≡ path_now → old_path ≡ old_path_now → old ≡ old_now → new ≡ new_now
+    → c ≡ change_with path_now old_path_now old_now old_bits new_now new_bits
+same_change path path_now old_path old_path_now old old_now new new_now old_bits new_bits c is a b d e = is ∙ rw (a, b, d, e) refl
+
+pub adds_given : (c given : GivenChange) (old new : Option OpenSession) → c ≡ given → ChangesStage (BuildsChange c) old new → ChangesStage (BuildsChange given) old new
+adds_given c given old new e goes = subst (λ (g : GivenChange). ChangesStage (BuildsChange g) old new) e goes
 
 -- beginnings
 

@@ -8,3 +8,5 @@ pub mod PaintLemmas
 pub mod BuildLemmas
 -- what calls tell of a state
 pub mod QuestionLemmas
+-- the bytes of a file that shows a change
+pub mod TextLemmas

@@ -7,6 +7,7 @@ pub mod calls;
 pub mod codes;
 pub mod ends;
 pub mod items;
+pub mod laws;
 pub mod open_session;
 pub mod owners;
 pub mod question_calls;

@@ -5,8 +5,8 @@ ghost use Rattle.scm_types.specs.declared.tristate.Tristate.{Tristate};
 ghost use Rattle.scm_open_session.specs.Boxes.{box_value};
 ghost use Rattle.scm_open_session.specs.Results.{IsCode};
 ghost use Rattle.scm_open_session.specs.Questions.{TellsSide, TellsText, answer_of, asked_state, bytes_of_section, code_of_mark, code_of_question, file_count, index_if_any, line_at, mark_at, marks_at, message_at, side_at};
-ghost use Rattle.scm_diff.specs.Sides.{side_text};
-ghost use Rattle.scm_open_session.specs.Texts.{side_text_at};
+ghost use Rattle.scm_diff.specs.Bytes.{side_bytes};
+ghost use Rattle.scm_open_session.specs.Texts.{side_bytes_at};
 
 use crate::buffers::write_text;
 use crate::codes;
@@ -14,7 +14,7 @@ use crate::items::{line_at, marks_of};
 use crate::open_session::Session;
 use crate::owners::Key;
 use crate::sides::{Side, tell_side};
-use scm_diff::side_text;
+use scm_diff::side_bytes;
 use scm_embed::marks::mark_of;
 use scm_types::{Commit, File, RecordState, Tristate};
 use std::alloc::Global;
@@ -230,8 +230,8 @@ pub fn ask_line(session: &Session, key: &Key, out: &mut [u8], written: &mut usiz
     }
 }
 
-/// Writes the text of a side of `file` to `out` and `written`. Returns the code of the call.
-fn tell_side_text(
+/// Writes the bytes of a side of `file` to `out` and `written`. Returns the code of the call.
+fn tell_side_bytes(
     alloc: Global,
     file: &File<'static>,
     selected: bool,
@@ -239,21 +239,21 @@ fn tell_side_text(
     written: &mut usize,
 ) -> u32
     ensures code { IsCode true 0 result }
-    ensures text { result ≡ 0
-        → TellsText (Some (side_text selected file.now)) out.old out.new written.new }
+    ensures bytes { result ≡ 0
+        → TellsText (Some (side_bytes selected file.now)) out.old out.new written.new }
     ensures unwritten { 0 < result → (out.new ≡ out.old) × (written.new ≡ written.old) }
 {
-    match side_text(alloc, file, selected) {
-        Ok(text) => {
-            *written = write_text(text.as_str().as_bytes(), out);
+    match side_bytes(alloc, file, selected) {
+        Ok(bytes) => {
+            *written = write_text(bytes.as_slice(), out);
             codes::DONE
         }
         Err(_) => codes::NO_MEMORY,
     }
 }
 
-/// Writes the text of a side of file `file` to `out` and `written`. Returns the code of the call.
-pub fn ask_side_text(
+/// Writes the bytes of a side of file `file` to `out` and `written`. Returns the code of the call.
+pub fn ask_side_bytes(
     alloc: Global,
     session: &Session,
     file: usize,
@@ -262,16 +262,16 @@ pub fn ask_side_text(
     written: &mut usize,
 ) -> u32
     ensures code { IsCode true
-        (code_of_question (side_text_at file selected) (asked_state (box_value session.now)))
+        (code_of_question (side_bytes_at file selected) (asked_state (box_value session.now)))
         result }
-    ensures text { result ≡ 0
-        → TellsText (answer_of (side_text_at file selected) (asked_state (box_value session.now)))
+    ensures bytes { result ≡ 0
+        → TellsText (answer_of (side_bytes_at file selected) (asked_state (box_value session.now)))
         out.old out.new written.new }
     ensures unwritten { 0 < result → (out.new ≡ out.old) × (written.new ≡ written.old) }
 {
     match state_of(session) {
         Ok(state) => match state.files.as_slice().get(file) {
-            Some(file) => tell_side_text(alloc, file, selected, out, written),
+            Some(file) => tell_side_bytes(alloc, file, selected, out, written),
             None => codes::NO_ITEM,
         },
         Err(code) => code,

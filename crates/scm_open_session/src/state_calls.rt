@@ -10,7 +10,8 @@ ghost use Rattle.scm_open_session.specs.Texts.{BuildsChange, code_of_change, cod
 
 use crate::codes;
 use crate::open_session::{OpenSession, Session};
-use crate::texts::{TextChange, text_change_of};
+use crate::texts::{TextChange, paths_of, text_change_of};
+use scm_diff::text_of_bytes;
 use scm_embed::{Addition, Part};
 use scm_types::{ChangeType, FileMode, Text};
 use std::alloc::Global;
@@ -341,7 +342,7 @@ pub fn add_binary(
     add_text(alloc, session, binary_of(is_checked, old, new))
 }
 
-/// Adds the file that shows how the text `old` becomes the text `new`. Each mode is that of a version,
+/// Adds the file that shows how the bytes `old` become the bytes `new`. Each mode is that of a version,
 /// `usize::MAX` of a file that does not exist. Returns the code of the call.
 pub fn add_texts(
     alloc: Global,
@@ -361,10 +362,24 @@ pub fn add_texts(
         (box_value session.old) (box_value session.new) }
     ensures kept { 0 < result → box_value session.new ≡ box_value session.old }
 {
-    match text_change_of(path, old_path, old, old_mode, new, new_mode) {
-        Some(change) => add_change(alloc, session, change),
-        None => codes::NOT_TEXT,
-    }
+    let Some((path_text, old_path_text)) = paths_of(path, old_path) else {
+        return codes::NOT_TEXT;
+    };
+    let Ok(old_text) = text_of_bytes(alloc, old) else {
+        return codes::NO_MEMORY;
+    };
+    let Ok(new_text) = text_of_bytes(alloc, new) else {
+        return codes::NO_MEMORY;
+    };
+    let change = text_change_of(
+        path_text,
+        old_path_text,
+        old_text.as_str(),
+        old_mode,
+        new_text.as_str(),
+        new_mode,
+    );
+    add_change(alloc, session, change)
 }
 
 /// Adds the file that shows `change`. Returns the code of the call.

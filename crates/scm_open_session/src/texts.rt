@@ -1,9 +1,8 @@
 //! A file of a state that is made of its old and its new text.
-ghost use Rattle.std.specs.Prelude.{◌≡◌, ◌<◌, ◌&&◌, IfOk, IfSome, Some, is_some, option_map, true, if◌then◌else◌};
+ghost use Rattle.std.specs.Prelude.{◌≡◌, ◌<◌, ◌&&◌, IfOk, IfSome, is_some, option_map, true};
 ghost use Rattle.std.specs.Str.{is_utf8};
-ghost use Rattle.scm_open_session.specs.Building.{text_of_bytes};
 ghost use Rattle.scm_open_session.specs.Results.{IsCode};
-ghost use Rattle.scm_open_session.specs.Texts.{AddsFile, ShowsChange, given_change, given_version, is_change_text, is_short_change, is_short_version, is_version_text, old_path_of, seen_change, seen_version};
+ghost use Rattle.scm_open_session.specs.Texts.{AddsFile, ShowsChange, change_with, code_of_length, is_short_change, is_short_version, old_path_of, seen_change, seen_version, version_with};
 
 use crate::codes;
 use scm_diff::{Version, changed_file, owned_file};
@@ -35,24 +34,8 @@ fn text_of(bytes: &[u8]) -> Option<&str>
     }
 }
 
-/// Returns the version with these bytes and this mode. `usize::MAX` is no file. Returns `None` if the
-/// bytes of a file are not UTF-8.
-fn version_of(bytes: &[u8], mode: usize) -> Option<Option<Version<'_>>>
-    ensures version { IfSome result
-        (λ version. option_map seen_version version ≡ given_version bytes.now mode) }
-    ensures is_text { is_some result ≡ is_version_text (given_version bytes.now mode) }
-{
-    if mode == usize::MAX {
-        return Some(None);
-    }
-    match text_of(bytes) {
-        Some(text) => Some(Some(Version { mode, text })),
-        None => None,
-    }
-}
-
 /// Returns the two paths as texts, or `None` if one is not UTF-8.
-fn paths_of<'t>(path: &'t [u8], old_path: &'t [u8]) -> Option<(&'t str, &'t str)>
+pub fn paths_of<'t>(path: &'t [u8], old_path: &'t [u8]) -> Option<(&'t str, &'t str)>
     ensures path { IfSome result (λ paths. paths.0.now ≡ path.now) }
     ensures old_path { IfSome result (λ paths. paths.1.now ≡ old_path.now) }
     ensures is_text { is_some result ≡ is_utf8 path.now && is_utf8 old_path.now }
@@ -66,34 +49,34 @@ fn paths_of<'t>(path: &'t [u8], old_path: &'t [u8]) -> Option<(&'t str, &'t str)
     }
 }
 
-/// Returns the change of these bytes, or `None` if one of them is not UTF-8.
-pub fn text_change_of<'t>(
-    path: &'t [u8],
-    old_path: &'t [u8],
-    old: &'t [u8],
-    old_mode: usize,
-    new: &'t [u8],
-    new_mode: usize,
-) -> Option<TextChange<'t>>
-    ensures change { IfSome result (λ change. seen_change change
-        ≡ given_change path.now old_path.now old.now old_mode new.now new_mode) }
-    ensures is_text { is_some result ≡ is_change_text
-        (given_change path.now old_path.now old.now old_mode new.now new_mode) }
+/// Returns the version with this text and this mode. `usize::MAX` is no file.
+fn version_of(text: &str, mode: usize) -> Option<Version<'_>>
+    ensures { option_map seen_version result ≡ version_with text.now mode }
 {
-    let Some((path, old_path)) = paths_of(path, old_path) else {
-        return None;
-    };
-    let Some(old) = version_of(old, old_mode) else {
-        return None;
-    };
-    match version_of(new, new_mode) {
-        Some(new) => Some(TextChange {
-            path,
-            old_path,
-            old,
-            new,
-        }),
-        None => None,
+    if mode == usize::MAX {
+        None
+    } else {
+        Some(Version { mode, text })
+    }
+}
+
+/// Returns the change with these paths, texts and modes.
+pub fn text_change_of<'t>(
+    path: &'t str,
+    old_path: &'t str,
+    old: &'t str,
+    old_mode: usize,
+    new: &'t str,
+    new_mode: usize,
+) -> TextChange<'t>
+    ensures { seen_change result
+        ≡ change_with path.now old_path.now old.now old_mode new.now new_mode }
+{
+    TextChange {
+        path,
+        old_path,
+        old: version_of(old, old_mode),
+        new: version_of(new, new_mode),
     }
 }
 
@@ -145,8 +128,7 @@ fn file_of(alloc: Global, change: TextChange<'_>) -> Result<File<'static>, Alloc
 
 /// Adds the file that shows `change` to the state of `builder`. Returns the code of the call.
 pub fn add_change(alloc: Global, builder: &mut StateBuilder, change: TextChange<'_>) -> u32
-    ensures code { IsCode true (if is_short_change (seen_change change.entry) then 0 else 7)
-        result }
+    ensures code { IsCode true (code_of_length (seen_change change.entry)) result }
     ensures added { result ≡ 0 → AddsFile (seen_change change.entry) builder.old builder.new }
     ensures kept { 0 < result → builder.new ≡ builder.old }
 {

@@ -1,0 +1,86 @@
+//! What is true of a front, whatever is typed.
+ghost use Rattle.std.specs.Prelude.{◌≡◌, List, [], ◌∷◌, IsTrue, None, false};
+ghost use Rattle.scm_input.specs.declared.events.Event.{Event};
+ghost use Rattle.scm_input.specs.declared.events.Event.TheVariants.{EnsureSelectionInViewport, FocusNext, ToggleItem};
+ghost use Rattle.scm_record.specs.Session.{Session, after_frame, after_select, after_toggle, visible};
+ghost use Rattle.scm_record.specs.Moves.{next_key};
+ghost use Rattle.scm_record.specs.KeyLists.{first_key};
+ghost use Rattle.scm_record.specs.Frames.{scene_of};
+ghost use Rattle.scm_record.specs.Change.{stays};
+ghost use Rattle.scm_record.specs.Step.{change};
+ghost use Rattle.scm_record.specs.Live.{Live};
+ghost use Rattle.scm_record.specs.LiveCalls.{EventLeads};
+ghost use Rattle.scm_types.specs.Limits.{is_accepted_state};
+ghost use Rattle.scm_types.specs.declared.state.RecordState.{RecordState};
+ghost use Rattle.scm_input.specs.declared.inputs.TerminalKind.{TerminalKind};
+ghost use Rattle.scm_record.specs.Session.{start};
+ghost use Rattle.scm_record.specs.Keeping.{IsKept};
+ghost use Rattle.scm_record.specs.LiveCalls.{AreRuns, Call, Path};
+ghost use Rattle.scm_record.specs.declared.live.Turn.TheVariants.{Waiting, Accepted};
+ghost use Rattle.scm_front.specs.Presses.{PressesLead};
+ghost use Rattle.scm_front.specs.Fronts.{FrontPath, Input, beneath_of};
+ghost use Rattle.scm_front.specs.declared.layer.FrontTurn.{FrontTurn};
+
+use scm_record::live::sessions_are_runs;
+
+/// Proves that the session beneath a front goes through calls of a live session.
+///
+/// Whatever is typed and handed in, each thing that the layer does is a list of events of the session
+/// beneath, which goes from turn to turn by them. So [`sessions_are_runs`] is true of the session
+/// beneath: it is a run for each screen, and an accepted state differs from the given one only in
+/// marks and messages.
+///
+/// This is a law: the function does nothing, and is there for its contract.
+pub fn fronts_are_runs()
+    // inputs are calls of the session beneath
+    ensures path { (turn last : FrontTurn) (inputs : List Input) (calls : List Call)
+        → FrontPath turn inputs calls last → Path (beneath_of turn) calls (beneath_of last) }
+    // so they are runs
+    ensures runs { (given : RecordState) (kind : TerminalKind) (turn last : FrontTurn)
+        (inputs : List Input) (calls : List Call) → IsTrue (is_accepted_state given)
+        → beneath_of turn ≡ Waiting (record { session = start given; kind = kind })
+        → FrontPath turn inputs calls last → AreRuns (start given) kind calls (beneath_of last) }
+    // and an accepted state is the given one but for marks and messages
+    ensures kept { (given state : RecordState) (kind : TerminalKind) (turn last : FrontTurn)
+        (inputs : List Input) (calls : List Call) → IsTrue (is_accepted_state given)
+        → beneath_of turn ≡ Waiting (record { session = start given; kind = kind })
+        → FrontPath turn inputs calls last → beneath_of last ≡ Accepted state
+        → IsKept given state }
+{
+    sessions_are_runs();
+}
+
+/// Proves which session an event leads to.
+///
+/// An event leads to at most one session that waits. If the event leaves nothing pending, that is
+/// the session after the event and a frame. If the event scrolls to the selection after the next
+/// frame, as each move does, its view state is that of the session after the event.
+///
+/// This is a law: the function does nothing, and is there for its contract.
+pub fn events_have_one_turn()
+    ensures one { (l a b : Live) (event : Event) → EventLeads l event (Waiting a)
+        → EventLeads l event (Waiting b) → a ≡ b }
+    // so the same events lead to the same session
+    ensures replay { (l a b : Live) (events : List Event) → PressesLead l events (Waiting a)
+        → PressesLead l events (Waiting b) → a ≡ b }
+    // an event that leaves nothing pending, as a toggle
+    ensures stays { (l next : Live) (event : Event) (t : Session) → l.session.pending ≡ []
+        → change (scene_of l.kind l.session) l.session event ≡ stays t → t.pending ≡ []
+        → EventLeads l event (Waiting next)
+        → next ≡ record { session = after_frame t; kind = l.kind } }
+    // an event that scrolls to the selection, as a move
+    ensures moves { (l next : Live) (event : Event) (t : Session) → l.session.pending ≡ []
+        → change (scene_of l.kind l.session) l.session event ≡ stays t
+        → t.pending ≡ EnsureSelectionInViewport ∷ []
+        → EventLeads l event (Waiting next) → next.session.shown ≡ t.shown }
+    // a move down, if the quit dialog is closed
+    ensures next { (l next : Live) → l.session.pending ≡ []
+        → l.session.shown.quit_dialog ≡ None → EventLeads l FocusNext (Waiting next)
+        → next.session.shown ≡ (after_select l.session (next_key (visible l.session)
+        l.session.shown.selection (first_key l.session.shown.state.files))).shown }
+    // a toggle, if the help and the quit dialog are closed
+    ensures toggle { (l next : Live) → l.session.pending ≡ []
+        → l.session.shown.quit_dialog ≡ None → l.session.shown.is_help_open ≡ false
+        → EventLeads l ToggleItem (Waiting next)
+        → next.session ≡ after_frame (after_toggle l.session) }
+{}
