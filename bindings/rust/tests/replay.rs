@@ -65,6 +65,11 @@ const KEYS: [(&str, Event); 38] = [
     ("ctrl-f", Event::PageDown),
 ];
 
+/// Returns the words of a line.
+fn words(line: &str) -> impl Iterator<Item = &str> {
+    line.split(' ').filter(|word| !word.is_empty())
+}
+
 /// A script: the screen, the state, what each read and each edit returns, and the screenshots.
 #[derive(Default)]
 struct Script {
@@ -102,34 +107,42 @@ impl Script {
     }
 
     fn add_command(&mut self, line: &str) {
-        if let Some(text) = line.strip_prefix("answer ") {
+        if line.is_empty() || line.starts_with('#') {
+            return;
+        }
+        let command = line.trim_start_matches(' ');
+        if let Some(text) = command.strip_prefix("answer ") {
             self.edits
                 .push_back(Ok(serde_json::from_str(text).unwrap()));
-        } else if let Some(text) = line.strip_prefix("fault edit ") {
+        } else if let Some(text) = command.strip_prefix("fault edit ") {
             self.edits.push_back(Err(text.to_owned()));
-        } else if let Some(text) = line.strip_prefix("fault read ") {
+        } else if let Some(text) = command.strip_prefix("fault read ") {
             self.reads.push_back(Err(text.to_owned()));
-        } else if line.starts_with("batch") {
-            let words = line.split(' ').filter(|word| !word.is_empty()).skip(1);
+        } else {
+            let mut words = words(command);
+            assert_eq!(words.next(), Some("batch"), "{line}");
             let events = words.map(|word| self.event(word)).collect();
             self.reads.push_back(Ok(events));
-        } else {
-            assert!(line.is_empty() || line.starts_with('#'), "{line}");
         }
     }
 
+    /// Reads a script: its size, the lines of a state, the line `script`, and commands. A line may end in a carriage return, and
+    /// spaces may be around words.
     fn read(text: &str) -> Script {
         let mut script = Script::default();
-        let (first, rest) = text.split_once('\n').unwrap();
-        let numbers: Vec<usize> = first
-            .split(' ')
+        let mut lines = text.lines();
+        let numbers: Vec<usize> = words(lines.next().unwrap())
             .skip(1)
-            .map(|it| it.parse().unwrap())
+            .map(|word| word.parse().unwrap())
             .collect();
         script.size = (numbers[0], numbers[1]);
-        let (state, commands) = rest.split_once("\nscript\n").unwrap();
-        script.state = state.to_owned();
-        commands.lines().for_each(|line| script.add_command(line));
+        let is_state = |line: &&str| line.trim_matches(' ') != "script";
+        script.state = lines
+            .by_ref()
+            .take_while(is_state)
+            .collect::<Vec<_>>()
+            .join("\n");
+        lines.for_each(|line| script.add_command(line));
         script
     }
 
