@@ -9,9 +9,9 @@
         print(session.side(0).text)
 
 The library is the one that LIBSCM names, or where `tools/install` or `tools/build-shared` puts it, or where the system looks."""
-import collections
 import ctypes
 import os
+from typing import List, NamedTuple, Optional, Tuple, Union
 
 CODES = "done closed not_now no_word not_text bad_state not_accepted too_long no_memory no_item".split()
 WAITING, EDITING, ACCEPTED, ENDED, NONE, BUILDING = range(6)
@@ -22,14 +22,25 @@ ENDS = "not_ended accepted cancelled no_memory set_up clean_up render read seria
 # the mode of a file that does not exist, and an index that names nothing
 ABSENT = NO_INDEX = ctypes.c_size_t(-1).value
 
-# One side of a file: UNCHANGED, TEXT or BINARY, its mode, and its text as bytes, or None.
-Side = collections.namedtuple("Side", "contents mode text")
+# what a click acts on
+OWNERS = "nobody menu menu_item button file section mark fold dialog added removed context mode binary file_edge".split()
+
+# a text: `str`, or the bytes of UTF-8
+Text = Union[str, bytes]
+
+
+class Side(NamedTuple):
+    """One side of a file: UNCHANGED, TEXT or BINARY, its mode, and its text as bytes, or None."""
+
+    contents: int
+    mode: int
+    text: Optional[bytes]
 
 
 class Error(Exception):
     """A call returned another code than done. `code` is its name."""
 
-    def __init__(self, code):
+    def __init__(self, code: int) -> None:
         self.code = CODES[code]
         super().__init__(words(code))
 
@@ -46,23 +57,47 @@ class SideInfo(ctypes.Structure):
     _fields_ = [("contents", ctypes.c_uint32), ("mode", ctypes.c_size_t), ("length", ctypes.c_size_t)]
 
 
-def library_path():
+def library_path() -> str:
     here = os.path.dirname(os.path.realpath(__file__))
     places = (os.path.join(here, place, "libscm.so.1") for place in ("..", "out"))
     return os.environ.get("LIBSCM") or next(filter(os.path.exists, places), "libscm.so.1")
 
 
-library = ctypes.CDLL(library_path())
-library.scm_words.restype = ctypes.c_size_t
+def open_library(path: str) -> ctypes.CDLL:
+    """Returns the library at `path`. If it is not there, the error says what makes it."""
+    try:
+        return ctypes.CDLL(path)
+    except OSError as error:
+        words = "%s. `tools/build-shared` makes the library in a clone of Gabrosty, `tools/install PREFIX` installs it, and LIBSCM can name it"
+        raise ImportError(words % error) from error
+
+
+# the arguments of each call behind its session: B is a bool, T a text or room for one, N a size or an index, H a number of 16
+# bits, and P a pointer to what the call writes
+CALLS = dict(call.split(":") for call in """
+    state_new:B state_message:TN state_commit: state_file:TNTNN state_context:TN state_changes:BBTN state_line:BBBTN state_section:B
+    state_mode:BN state_binary:BTNTN state_texts:TNTNTNNTNN begin:HH new:TNHH stage: end: type:TN idle: press:TN click:HH answer:TN
+    resize:HH paint:TNP repaint: owner:HHP selected:P symbol:HHTN text:TNP files:P side:NBTNP side_bytes:NBTNP mark:PP marks:NTNP
+    line:PTNP message:NTNP free:""".split())
+TYPES = {"B": ctypes.c_bool, "T": ctypes.c_char_p, "N": ctypes.c_size_t, "H": ctypes.c_uint16, "P": ctypes.c_void_p}
+
+library = open_library(library_path())
+for name, letters in CALLS.items():
+    function = getattr(library, "scm_" + name)
+    function.argtypes = [ctypes.POINTER(Handle), *map(TYPES.get, letters)]
+    function.restype = ctypes.c_uint32
+library.scm_words.argtypes = [ctypes.c_uint32, ctypes.c_char_p, ctypes.c_size_t]
+library.scm_words.restype = library.scm_symbol.restype = ctypes.c_size_t
+library.scm_version.argtypes, library.scm_version.restype = [], ctypes.c_uint32
 library.scm_free.restype = None
 
 
-def words(code):
+def words(code: int) -> str:
     out = ctypes.create_string_buffer(256)
     return out.raw[: library.scm_words(ctypes.c_uint32(code), out, ctypes.c_size_t(256))].decode()
 
 
-def sized(text):
+def sized(text: Text) -> Tuple[bytes, ctypes.c_size_t]:
     """Returns the two arguments of a text: its bytes, and how many they are."""
     data = text if isinstance(text, bytes) else text.encode()
     return data, ctypes.c_size_t(len(data))
@@ -72,32 +107,32 @@ class Session:
     """A session, first over an empty state. It is closed by `close`, and at the end of a `with` block; else its memory leaks.
     Texts are `str` or the bytes of UTF-8. One thread at a time uses a session."""
 
-    def __init__(self, is_read_only=False):
+    def __init__(self, is_read_only: bool = False) -> None:
         self.handle = Handle()
         self.call("state_new", ctypes.c_bool(is_read_only))
 
     @classmethod
-    def of_json(cls, json, width, height):
+    def of_json(cls, json: Text, width: int, height: int) -> "Session":
         session = cls()
         session.call("new", *sized(json), ctypes.c_uint16(width), ctypes.c_uint16(height))
         return session
 
-    def __enter__(self):
+    def __enter__(self) -> "Session":
         return self
 
-    def __exit__(self, *_):
+    def __exit__(self, *_: object) -> None:
         self.close()
 
-    def close(self):
+    def close(self) -> None:
         """Frees the session's memory. A closed session refuses each call."""
         library.scm_free(ctypes.byref(self.handle))
 
-    def call(self, name, *arguments):
+    def call(self, name: str, *arguments: object) -> None:
         code = getattr(library, "scm_" + name)(ctypes.byref(self.handle), *arguments)
         if code:
             raise Error(code)
 
-    def read(self, name, *arguments):
+    def read(self, name: str, *arguments: object) -> bytes:
         """Returns the bytes that a call writes, which also writes their number."""
         length = ctypes.c_size_t(1 << 16)
         while True:  # a paint that had no room is followed by one of every row, which may be longer
@@ -108,22 +143,22 @@ class Session:
 
     # ---- the state
 
-    def add_commit(self, message=None):
+    def add_commit(self, message: Optional[Text] = None) -> None:
         if message is None:
             self.call("state_commit")
         else:
             self.call("state_message", *sized(message))
 
-    def add_file(self, path, mode, old_path=""):
+    def add_file(self, path: Text, mode: int, old_path: Text = "") -> None:
         self.call("state_file", *sized(path), *sized(old_path), ctypes.c_size_t(mode))
 
-    def add_context(self, text):
+    def add_context(self, text: Text) -> None:
         self.call("state_context", *sized(text))
 
-    def add_changes(self, text, is_added, is_checked=False):
+    def add_changes(self, text: Text, is_added: bool, is_checked: bool = False) -> None:
         self.call("state_changes", ctypes.c_bool(is_added), ctypes.c_bool(is_checked), *sized(text))
 
-    def add_line(self, text, is_added=None, is_checked=False):
+    def add_line(self, text: Text, is_added: Optional[bool] = None, is_checked: bool = False) -> None:
         """Adds one line, which is the whole text: an added line, a removed one (`is_added` is false), or a context line."""
         kinds = (is_added is not None, bool(is_added), is_checked)
         self.call("state_line", *map(ctypes.c_bool, kinds), *sized(text))
@@ -133,72 +168,72 @@ class Session:
         versions = (*sized(old), ctypes.c_size_t(old_mode), *sized(new), ctypes.c_size_t(new_mode))
         self.call("state_texts", *sized(path), *sized(old_path), *versions)
 
-    def add_section(self, is_changed):
+    def add_section(self, is_changed: bool) -> None:
         self.call("state_section", ctypes.c_bool(is_changed))
 
-    def add_mode(self, mode, is_checked=False):
+    def add_mode(self, mode: int, is_checked: bool = False) -> None:
         self.call("state_mode", ctypes.c_bool(is_checked), ctypes.c_size_t(mode))
 
-    def add_binary(self, old="", new="", is_checked=False):
+    def add_binary(self, old: Text = "", new: Text = "", is_checked: bool = False) -> None:
         self.call("state_binary", ctypes.c_bool(is_checked), *sized(old), *sized(new))
 
-    def begin(self, width, height):
+    def begin(self, width: int, height: int) -> None:
         self.call("begin", ctypes.c_uint16(width), ctypes.c_uint16(height))
 
     # ---- the user's input, and the screen
 
     @property
-    def stage(self):
+    def stage(self) -> int:
         return library.scm_stage(ctypes.byref(self.handle))
 
     @property
-    def end(self):
+    def end(self) -> str:
         """How the session ended: one of `ENDS`, "not_ended" if it goes on."""
         return ENDS[library.scm_end(ctypes.byref(self.handle))]
 
     @property
-    def selected(self):
+    def selected(self) -> Key:
         """The key of the selected item."""
         key = Key()
         self.call("selected", ctypes.byref(key))
         return key
 
-    def press(self, *words):
+    def press(self, *words: Text) -> None:
         for word in words:
             self.call("press", *sized(word))
 
-    def type(self, data):
+    def type(self, data: Text) -> None:
         self.call("type", *sized(data))
 
-    def idle(self):
+    def idle(self) -> None:
         self.call("idle")
 
-    def click(self, row, column):
+    def click(self, row: int, column: int) -> None:
         self.call("click", ctypes.c_uint16(row), ctypes.c_uint16(column))
 
-    def answer(self, message):
+    def answer(self, message: Text) -> None:
         self.call("answer", *sized(message))
 
-    def resize(self, width, height):
+    def resize(self, width: int, height: int) -> None:
         self.call("resize", ctypes.c_uint16(width), ctypes.c_uint16(height))
 
-    def paint(self):
+    def paint(self) -> bytes:
         return self.read("paint")
 
-    def repaint(self):
+    def repaint(self) -> None:
         self.call("repaint")
 
-    def text(self):
+    def text(self) -> str:
         return self.read("text").decode()
 
     # ---- the answer
 
-    def __len__(self):
+    def __len__(self) -> int:
         count = ctypes.c_size_t()
         self.call("files", ctypes.byref(count))
         return count.value
 
-    def side(self, file, is_selected=True):
+    def side(self, file: int, is_selected: bool = True) -> Side:
         """Returns a side of file `file`, counted from 0: the selected side, or the other one."""
         info, place = SideInfo(), (ctypes.c_size_t(file), ctypes.c_bool(is_selected))
         out = ctypes.create_string_buffer(1 << 16)
@@ -212,18 +247,35 @@ class Session:
         """Returns the bytes of a side, in which no two lines are joined: the file to write of one that `add_texts` added."""
         return self.read("side_bytes", ctypes.c_size_t(file), ctypes.c_bool(is_selected))
 
-    def mark(self, file, section=NO_INDEX, line=NO_INDEX):
+    def mark(self, file: int, section: int = NO_INDEX, line: int = NO_INDEX) -> int:
         mark = ctypes.c_uint32()
         self.call("mark", ctypes.byref(Key(0, file, section, line)), ctypes.byref(mark))
         return mark.value
 
-    def marks(self, file):
+    def marks(self, file: int) -> List[bool]:
         """Returns the marks of all items of a file, in its order."""
         return [mark == 1 for mark in self.read("marks", ctypes.c_size_t(file))]
 
-    def line(self, file, section, line):
+    def line(self, file: int, section: int, line: int) -> bytes:
         """Returns the text of a line, as bytes."""
         return self.read("line", ctypes.byref(Key(0, file, section, line)))
 
-    def message(self, commit=0):
+    def message(self, commit: int = 0) -> str:
         return self.read("message", ctypes.c_size_t(commit)).decode()
+
+    # ---- places of the screen
+
+    def owner(self, row: int, column: int) -> Tuple[str, Key]:
+        """Returns what a click at a place of the screen acts on, one of `OWNERS`, and its key."""
+        key = Key(*[NO_INDEX] * 4)
+        code = library.scm_owner(ctypes.byref(self.handle), row, column, ctypes.byref(key))
+        return OWNERS[code], key
+
+    def symbol(self, row: int, column: int) -> str:
+        """Returns the symbol that begins at a place of the screen, or nothing if none does."""
+        out = ctypes.create_string_buffer(64)
+        length = library.scm_symbol(ctypes.byref(self.handle), row, column, out, len(out))
+        if length > len(out):
+            out = ctypes.create_string_buffer(length)
+            library.scm_symbol(ctypes.byref(self.handle), row, column, out, length)
+        return out.raw[:length].decode()

@@ -1,0 +1,94 @@
+//! Finds the static library for C, and links it.
+//!
+//! The library is `libscm_c.a`, and beside it is `liblibc_c.a`, which asks the C library for memory. They are in the folder
+//! `GABROSTY_LIB_DIR`; or where pkg-config finds `scm`, which `tools/install` of the repository installs; or in a folder above this
+//! crate: of an installation, or of a clone in which `tools/build-c` has built them.
+use std::env;
+use std::path::{Path, PathBuf};
+use std::process::Command;
+
+const LIBRARY: &str = "libscm_c.a";
+const MEMORY: &str = "liblibc_c.a";
+const MISSING: &str = "the library for C is not found. One of these commands makes it, in a clone of Gabrosty:
+
+    tools/build-c            builds it for a crate in that clone
+    tools/install ~/.local   installs it: then set PKG_CONFIG_PATH to ~/.local/lib/pkgconfig, or GABROSTY_LIB_DIR to ~/.local/lib
+
+To check or document the crate without the library, set GABROSTY_LIB_DIR to no text.";
+
+fn main() {
+    for variable in ["GABROSTY_LIB_DIR", "PKG_CONFIG", "PKG_CONFIG_PATH"] {
+        println!("cargo:rerun-if-env-changed={variable}");
+    }
+    match env::var_os("GABROSTY_LIB_DIR") {
+        Some(folder) if folder.is_empty() => {}
+        Some(folder) => link(&PathBuf::from(folder)),
+        None => link(&found_folder().unwrap_or_else(|| fail(MISSING))),
+    }
+}
+
+/// Prints `words` for the user, and ends.
+fn fail(words: &str) -> ! {
+    eprintln!("\ngabrosty: {words}\n");
+    std::process::exit(1);
+}
+
+/// Links the library in `folder`.
+fn link(folder: &Path) {
+    if !folder.join(LIBRARY).exists() {
+        fail(&format!(
+            "there is no {LIBRARY} in {}: {MISSING}",
+            folder.display()
+        ));
+    }
+    let of_memory = [Some(folder.to_owned()), toolchain_folder()];
+    let of_memory = of_memory
+        .into_iter()
+        .flatten()
+        .find(|place| place.join(MEMORY).exists());
+    let of_memory = of_memory.unwrap_or_else(|| {
+        fail(&format!(
+            "there is no {MEMORY} in {}, and no toolchain on the path (`rt doc`) that has it. `tools/install PREFIX` puts it beside {LIBRARY}.",
+            folder.display()
+        ))
+    });
+    println!("cargo:rerun-if-changed={}", folder.join(LIBRARY).display());
+    for (place, name) in [(folder, "scm_c"), (&of_memory, "libc_c")] {
+        println!("cargo:rustc-link-search=native={}", place.display());
+        println!("cargo:rustc-link-lib=static={name}");
+    }
+}
+
+/// Returns the folder of the library: of the installed one, or of one in a folder above this crate.
+fn found_folder() -> Option<PathBuf> {
+    let crate_folder = PathBuf::from(env::var_os("CARGO_MANIFEST_DIR")?);
+    let above = crate_folder
+        .ancestors()
+        .flat_map(|place| [place.join("crates/scm_c/out"), place.to_owned()]);
+    installed_folder()
+        .into_iter()
+        .chain(above)
+        .find(|place| place.join(LIBRARY).exists())
+}
+
+/// Returns the folder that pkg-config names.
+fn installed_folder() -> Option<PathBuf> {
+    let program = env::var_os("PKG_CONFIG").unwrap_or_else(|| "pkg-config".into());
+    answer_of(Command::new(program).args(["--variable=libdir", "scm"])).map(PathBuf::from)
+}
+
+/// Returns the folder of the toolchain that has the functions for memory.
+fn toolchain_folder() -> Option<PathBuf> {
+    let page = answer_of(Command::new("rt").arg("doc"))?;
+    Some(Path::new(&page).parent()?.join("c"))
+}
+
+/// Returns the line that a command prints, if it succeeds.
+fn answer_of(command: &mut Command) -> Option<String> {
+    let output = command
+        .output()
+        .ok()
+        .filter(|output| output.status.success())?;
+    let line = String::from_utf8(output.stdout).ok()?.trim().to_owned();
+    (!line.is_empty()).then_some(line)
+}

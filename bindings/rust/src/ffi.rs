@@ -1,0 +1,91 @@
+//! The library for C, as its header `scm.h` declares it. Only `session.rs` calls it.
+use std::os::raw::{c_char, c_void};
+
+/// Stands for no file in a mode, and for nothing in a key.
+pub const NOTHING: usize = usize::MAX;
+
+/// The most columns of a screen.
+pub const MAX_COLUMNS: u16 = 1000;
+
+/// The most rows of a screen.
+pub const MAX_ROWS: u16 = 1000;
+
+/// A session: all zeros if it is closed. Its members are the library's own.
+#[repr(C)]
+#[derive(Debug)]
+pub struct Handle {
+    is_open: bool,
+    at: *mut c_void,
+}
+
+impl Handle {
+    /// A closed session.
+    pub const CLOSED: Handle = Handle {
+        is_open: false,
+        at: std::ptr::null_mut(),
+    };
+}
+
+/// One side of a file.
+#[repr(C)]
+#[derive(Debug, Default)]
+pub struct SideInfo {
+    pub contents: u32,
+    pub mode: usize,
+    pub length: usize,
+}
+
+/// A commit, a file, a section and a line, counted from 0, or `NOTHING`.
+#[repr(C)]
+#[derive(Clone, Copy, Debug)]
+pub struct Key {
+    pub commit: usize,
+    pub file: usize,
+    pub section: usize,
+    pub line: usize,
+}
+
+type Session = *mut Handle;
+type Bytes = *const c_char;
+type Room = *mut c_char;
+
+#[rustfmt::skip]
+extern "C" {
+    pub fn scm_state_new(session: Session, is_read_only: bool) -> u32;
+    pub fn scm_state_message(session: Session, text: Bytes, length: usize) -> u32;
+    pub fn scm_state_commit(session: Session) -> u32;
+    pub fn scm_state_file(session: Session, path: Bytes, length: usize, old_path: Bytes, old_length: usize, mode: usize) -> u32;
+    pub fn scm_state_context(session: Session, text: Bytes, length: usize) -> u32;
+    pub fn scm_state_changes(session: Session, is_added: bool, is_checked: bool, text: Bytes, length: usize) -> u32;
+    pub fn scm_state_line(session: Session, is_changed: bool, is_added: bool, is_checked: bool, text: Bytes, length: usize) -> u32;
+    pub fn scm_state_section(session: Session, is_changed: bool) -> u32;
+    pub fn scm_state_mode(session: Session, is_checked: bool, mode: usize) -> u32;
+    pub fn scm_state_binary(session: Session, is_checked: bool, old_text: Bytes, old_length: usize, new_text: Bytes, new_length: usize) -> u32;
+    pub fn scm_state_texts(session: Session, path: Bytes, length: usize, old_path: Bytes, old_length: usize, old: Bytes, old_size: usize, old_mode: usize, new: Bytes, new_size: usize, new_mode: usize) -> u32;
+    pub fn scm_begin(session: Session, width: u16, height: u16) -> u32;
+    pub fn scm_new(session: Session, json: Bytes, length: usize, width: u16, height: u16) -> u32;
+    pub fn scm_stage(session: Session) -> u32;
+    pub fn scm_end(session: Session) -> u32;
+    pub fn scm_type(session: Session, bytes: Bytes, length: usize) -> u32;
+    pub fn scm_idle(session: Session) -> u32;
+    pub fn scm_press(session: Session, word: Bytes, length: usize) -> u32;
+    pub fn scm_click(session: Session, row: u16, column: u16) -> u32;
+    pub fn scm_answer(session: Session, text: Bytes, length: usize) -> u32;
+    pub fn scm_resize(session: Session, width: u16, height: u16) -> u32;
+    pub fn scm_paint(session: Session, out: Room, length: usize, written: *mut usize) -> u32;
+    pub fn scm_repaint(session: Session) -> u32;
+    pub fn scm_owner(session: Session, row: u16, column: u16, key: *mut Key) -> u32;
+    pub fn scm_selected(session: Session, key: *mut Key) -> u32;
+    pub fn scm_symbol(session: Session, row: u16, column: u16, out: Room, length: usize) -> usize;
+    pub fn scm_text(session: Session, out: Room, length: usize, written: *mut usize) -> u32;
+    pub fn scm_files(session: Session, count: *mut usize) -> u32;
+    pub fn scm_side(session: Session, file: usize, selected: bool, out: Room, length: usize, side: *mut SideInfo) -> u32;
+    pub fn scm_side_bytes(session: Session, file: usize, selected: bool, out: Room, length: usize, written: *mut usize) -> u32;
+    pub fn scm_mark(session: Session, key: *const Key, mark: *mut u32) -> u32;
+    pub fn scm_marks(session: Session, file: usize, out: Room, length: usize, written: *mut usize) -> u32;
+    pub fn scm_line(session: Session, key: *const Key, out: Room, length: usize, written: *mut usize) -> u32;
+    pub fn scm_message(session: Session, commit: usize, out: Room, length: usize, written: *mut usize) -> u32;
+    pub fn scm_words(code: u32, out: Room, length: usize) -> usize;
+    pub fn scm_version() -> u32;
+    pub fn scm_free(session: Session);
+}

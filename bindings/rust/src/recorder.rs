@@ -1,0 +1,117 @@
+//! A run of the selector.
+use crate::screen::{Screen, TestingScreen};
+use crate::session::{End, Error, Session, Stage};
+use crate::terminal::Terminal;
+use crate::{batch, limits, transfer};
+use crate::{Commit, RecordError, RecordInput, RecordState, TerminalKind};
+use std::{fmt, iter};
+
+/// The selector over a state, with the input that drives it.
+pub struct Recorder<'state, 'input> {
+    state: RecordState<'state>,
+    input: &'input mut dyn RecordInput,
+}
+
+impl fmt::Debug for Recorder<'_, '_> {
+    fn fmt(&self, f: &mut fmt::Formatter<'_>) -> fmt::Result {
+        f.debug_struct("Recorder")
+            .field("state", &self.state)
+            .finish_non_exhaustive()
+    }
+}
+
+impl<'state, 'input> Recorder<'state, 'input> {
+    /// Returns a selector over `state`, with commits without a message added up to two.
+    pub fn new(mut state: RecordState<'state>, input: &'input mut dyn RecordInput) -> Self {
+        let missing = 2_usize.saturating_sub(state.commits.len());
+        state
+            .commits
+            .extend(iter::repeat_with(Commit::default).take(missing));
+        Self { state, input }
+    }
+
+    /// Runs the selector until the user accepts, and returns the state with the marks and messages that were accepted.
+    ///
+    /// Each turn draws a frame, and then handles the events that the input returns. If the input names the program's terminal,
+    /// that is in raw mode meanwhile, and is given back on every way out, a panic too.
+    ///
+    /// # Errors
+    ///
+    /// - [`RecordError::Cancelled`]: the user cancelled.
+    /// - [`RecordError::Other`]: the state, or a message that the input returned, passes a limit of the library; or an
+    ///   allocation failed. A state is refused before anything is drawn.
+    /// - What the input returns, or what the terminal fails with.
+    pub fn run(self) -> Result<RecordState<'state>, RecordError> {
+        #[cfg(feature = "debug")]
+        write_state_if_asked(&self.state)?;
+        limits::check_state(&self.state).map_err(RecordError::Other)?;
+        let session = transfer::session_of_state(&self.state).map_err(failure)?;
+        match self.input.terminal_kind() {
+            TerminalKind::Testing { width, height } => {
+                self.run_session(session, &mut TestingScreen::new(width, height))
+            }
+            TerminalKind::Crossterm => {
+                let mut terminal = Terminal::take()?;
+                let result = self.run_session(session, &mut terminal);
+                terminal.give_back()?;
+                result
+            }
+        }
+    }
+
+    /// Begins `session` on `screen`, and drives it to its end.
+    fn run_session(
+        self,
+        mut session: Session,
+        screen: &mut dyn Screen,
+    ) -> Result<RecordState<'state>, RecordError> {
+        let size = screen.size()?;
+        session.begin(size.width, size.height).map_err(failure)?;
+        while session.stage() == Stage::Waiting {
+            screen.show(&mut session)?;
+            let events = self.input.next_events()?;
+            batch::press_batch(&mut session, self.input, screen.size()?, &events)?;
+        }
+        accepted_state(self.state, &session)
+    }
+}
+
+/// Returns `state` with the marks and messages that `session` ended with, or the error with which it ended.
+fn accepted_state<'a>(
+    mut state: RecordState<'a>,
+    session: &Session,
+) -> Result<RecordState<'a>, RecordError> {
+    match session.end() {
+        Some(End::Accepted) => {
+            transfer::read_back(session, &mut state).map_err(failure)?;
+            Ok(state)
+        }
+        Some(End::Cancelled) => Err(RecordError::Cancelled),
+        Some(End::NoMemory | End::Other) | None => {
+            Err(RecordError::Other(session.text().map_err(failure)?))
+        }
+    }
+}
+
+/// Returns what a refused call means to the caller of a run.
+pub(crate) fn failure(error: Error) -> RecordError {
+    match error {
+        Error::NoMemory => RecordError::Other("out of memory".to_owned()),
+        Error::NotAccepted | Error::TooLong => {
+            RecordError::Other(format!("state not accepted: {error}"))
+        }
+        _ => RecordError::Bug(error.to_string()),
+    }
+}
+
+/// Writes `state` to a file, if the variable of the environment asks for it.
+#[cfg(feature = "debug")]
+fn write_state_if_asked(state: &RecordState<'_>) -> Result<(), RecordError> {
+    use crate::consts::{DUMP_UI_STATE_FILENAME, ENV_VAR_DUMP_UI_STATE};
+    if std::env::var_os(ENV_VAR_DUMP_UI_STATE).is_none() {
+        return Ok(());
+    }
+    let json = serde_json::to_string_pretty(state).map_err(RecordError::SerializeJson)?;
+    let written = std::fs::write(DUMP_UI_STATE_FILENAME, json);
+    written.map_err(|error| RecordError::WriteFile(error.into()))
+}

@@ -1,0 +1,372 @@
+//! Runs: inputs, messages, screenshots and errors.
+mod common;
+
+use common::*;
+use scm_record::helpers::{CrosstermInput, TestingInput};
+use scm_record::{
+    Commit, Event, RecordError, RecordInput, RecordState, Recorder, TerminalKind, TestingScreenshot,
+};
+use std::cell::RefCell;
+use std::error::Error;
+use std::io;
+
+const SIZE: (usize, usize) = (60, 12);
+
+fn with_messages(messages: [Option<&str>; 2]) -> RecordState<'static> {
+    let commits = messages.map(|message| Commit {
+        message: message.map(str::to_owned),
+    });
+    RecordState {
+        commits: commits.into(),
+        ..state(vec![mixed_file()])
+    }
+}
+
+fn messages_of(state: &RecordState<'_>) -> Vec<Option<String>> {
+    state
+        .commits
+        .iter()
+        .map(|commit| commit.message.clone())
+        .collect()
+}
+
+/// An input that returns what closures return, and keeps the messages that are edited.
+struct Scripted<Read, Edit> {
+    read: Read,
+    edit: Edit,
+    edited: Vec<String>,
+}
+
+impl<Read, Edit> RecordInput for Scripted<Read, Edit>
+where
+    Read: FnMut() -> Result<Vec<Event>, RecordError>,
+    Edit: FnMut() -> Result<String, RecordError>,
+{
+    fn terminal_kind(&self) -> TerminalKind {
+        let (width, height) = SIZE;
+        TerminalKind::Testing { width, height }
+    }
+
+    fn next_events(&mut self) -> Result<Vec<Event>, RecordError> {
+        (self.read)()
+    }
+
+    fn edit_commit_message(&mut self, message: &str) -> Result<String, RecordError> {
+        self.edited.push(message.to_owned());
+        (self.edit)()
+    }
+}
+
+#[test]
+fn a_testing_input_returns_its_events_one_by_one() {
+    let mut input = TestingInput::new(80, 24, [Event::QuitCancel, Event::Help]);
+    assert!(matches!(
+        input.terminal_kind(),
+        TerminalKind::Testing {
+            width: 80,
+            height: 24
+        }
+    ));
+    for event in [Event::QuitCancel, Event::Help, Event::None, Event::None] {
+        assert_eq!(input.next_events().unwrap(), [event]);
+    }
+    assert!(input.commit_messages.is_empty());
+    let error = input.edit_commit_message("before").unwrap_err();
+    assert_eq!(error.to_string(), "No more commit messages available");
+}
+
+#[test]
+fn a_terminal_input_keeps_messages() {
+    assert!(matches!(
+        CrosstermInput.terminal_kind(),
+        TerminalKind::Crossterm
+    ));
+    assert_eq!(
+        CrosstermInput.edit_commit_message("as it is").unwrap(),
+        "as it is"
+    );
+}
+
+#[test]
+fn commits_are_added_up_to_two() {
+    let accepted = run(RecordState::default(), SIZE, vec![Event::QuitAccept]).unwrap();
+    assert_eq!(accepted.commits, [Commit::default(), Commit::default()]);
+}
+
+#[test]
+fn a_message_is_edited_by_the_input() {
+    let given = with_messages([Some("one"), Some("two")]);
+    let mut input = TestingInput::new(60, 12, [Event::EditCommitMessage, Event::QuitAccept]);
+    input.commit_messages.push_back("new\nlines\n".to_owned());
+    let accepted = Recorder::new(given, &mut input).run().unwrap();
+    assert_eq!(
+        messages_of(&accepted),
+        [Some("new\nlines\n".to_owned()), Some("two".to_owned())]
+    );
+}
+
+#[test]
+fn without_a_message_the_input_is_not_asked() {
+    let mut input = Scripted {
+        read: {
+            let mut events = [Event::EditCommitMessage, Event::QuitAccept].into_iter();
+            move || Ok(vec![events.next().unwrap()])
+        },
+        edit: || panic!("no message is there to edit"),
+        edited: Vec::new(),
+    };
+    let accepted = Recorder::new(with_messages([None, Some("two")]), &mut input)
+        .run()
+        .unwrap();
+    assert_eq!(messages_of(&accepted), [None, Some("two".to_owned())]);
+}
+
+#[test]
+fn an_edit_within_a_batch_goes_on_with_the_batch() {
+    let shot = TestingScreenshot::default();
+    let batch = vec![
+        Event::EditCommitMessage,
+        Event::ToggleAll,
+        Event::EditCommitMessage,
+        shot.event(),
+        Event::QuitAccept,
+        Event::EditCommitMessage,
+    ];
+    let mut batches = vec![batch].into_iter();
+    let mut answers = ["second", "third"].into_iter();
+    let mut input = Scripted {
+        read: move || Ok(batches.next().unwrap()),
+        edit: move || Ok(answers.next().unwrap().to_owned()),
+        edited: Vec::new(),
+    };
+    let accepted = Recorder::new(with_messages([Some("first"), None]), &mut input)
+        .run()
+        .unwrap();
+    assert_eq!(input.edited, ["first", "second"]);
+    assert_eq!(messages_of(&accepted), [Some("third".to_owned()), None]);
+    assert_eq!(
+        accepted.files[0].sections[1],
+        changed(vec![removed(true, "b\n"), added(false, "c\n")])
+    );
+    // a screenshot keeps the frame before its batch
+    assert!(rows_of(&shot)[2].contains("first"), "{shot}");
+}
+
+#[test]
+fn a_message_that_is_too_long_ends_the_run() {
+    let mut input = TestingInput::new(60, 12, [Event::EditCommitMessage, Event::QuitAccept]);
+    input.commit_messages.push_back("x".repeat(1_000_001));
+    let ended = Recorder::new(with_messages([Some("one"), None]), &mut input).run();
+    assert_eq!(ended.unwrap_err().to_string(), "commit message too long");
+}
+
+#[test]
+fn an_error_of_the_input_ends_the_run() {
+    let mut input = Scripted {
+        read: || Err(RecordError::ReadInput("no hands".into())),
+        edit: || unreachable!(),
+        edited: Vec::new(),
+    };
+    let ended = Recorder::new(state(vec![mixed_file()]), &mut input).run();
+    assert_eq!(
+        ended.unwrap_err().to_string(),
+        "failed to read user input: no hands"
+    );
+
+    let mut input = Scripted {
+        read: || Ok(vec![Event::EditCommitMessage]),
+        edit: || Err(RecordError::Other("no editor".to_owned())),
+        edited: Vec::new(),
+    };
+    let ended = Recorder::new(with_messages([Some("one"), None]), &mut input).run();
+    assert_eq!(ended.unwrap_err().to_string(), "no editor");
+}
+
+#[test]
+fn a_read_may_return_no_events() {
+    let mut count = 0;
+    let mut input = Scripted {
+        read: || {
+            count += 1;
+            Ok(if count > 3 {
+                vec![Event::QuitAccept]
+            } else {
+                Vec::new()
+            })
+        },
+        edit: || unreachable!(),
+        edited: Vec::new(),
+    };
+    let given = with_messages([None, None]);
+    assert_eq!(
+        Recorder::new(given.clone(), &mut input).run().unwrap(),
+        given
+    );
+    assert_eq!(count, 4);
+}
+
+#[test]
+fn events_behind_the_end_are_left() {
+    let shot = TestingScreenshot::default();
+    let batches = vec![vec![Event::QuitAccept, shot.event(), Event::QuitCancel]];
+    let mut input = Batches::new(SIZE, batches);
+    let given = with_messages([None, None]);
+    assert_eq!(
+        Recorder::new(given.clone(), &mut input).run().unwrap(),
+        given
+    );
+    assert_eq!(shot.to_string(), "<this screenshot was never assigned>");
+}
+
+#[test]
+fn a_quit_is_confirmed_by_an_interrupt() {
+    let given = with_messages([Some("words"), None]);
+    let events = vec![
+        Event::QuitInterrupt,
+        Event::ToggleAll,
+        Event::QuitAccept,
+        Event::QuitInterrupt,
+    ];
+    let ended = run(given, SIZE, events);
+    assert!(matches!(ended, Err(RecordError::Cancelled)), "{ended:?}");
+}
+
+#[test]
+fn screenshots_share_what_they_keep() {
+    let shot = TestingScreenshot::default();
+    let same = shot.clone();
+    assert_eq!(shot.event(), Event::TakeScreenshot(same.clone()));
+    rows_after_batches(state(vec![mixed_file()]), (24, 3), vec![vec![shot.event()]]);
+    assert_eq!(same, shot);
+    assert_ne!(same, TestingScreenshot::default());
+    assert_eq!(
+        same.to_string(),
+        "\"[File] [Edit] [Select] [\"\n\"(◐) f                (+)\"\n\"                        \"\n"
+    );
+}
+
+#[test]
+fn a_screen_without_columns_or_rows_runs() {
+    for size in [(0, 0), (0, 5), (5, 0), (1, 1)] {
+        let shot = TestingScreenshot::default();
+        let batches = vec![vec![shot.event()], vec![Event::Redraw, shot.event()]];
+        rows_after_batches(state(vec![mixed_file()]), size, batches);
+        let rows = if size.0 == 0 { 0 } else { size.1 };
+        assert_eq!(shot.to_string().lines().count(), rows);
+    }
+}
+
+#[test]
+fn a_screen_is_drawn_up_to_its_limit() {
+    let shot = TestingScreenshot::default();
+    let size = (70_000, 2);
+    rows_after_batches(state(vec![mixed_file()]), size, vec![vec![shot.event()]]);
+    let widths: Vec<usize> = shot
+        .to_string()
+        .lines()
+        .map(|row| row.chars().count())
+        .collect();
+    assert_eq!(widths, [1002, 1002]);
+}
+
+#[test]
+fn any_text_is_a_line_a_path_and_a_message() {
+    let mut seed = 1_u64;
+    for _ in 0..300 {
+        let mut text = String::new();
+        for _ in 0..20 {
+            seed = seed
+                .wrapping_mul(6_364_136_223_846_793_005)
+                .wrapping_add(1_442_695_040_888_963_407);
+            let limit = [0x80, 0x800, 0x11_0000][(seed >> 60) as usize % 3];
+            text.extend(char::from_u32((seed >> 33) as u32 % limit));
+        }
+        let given = RecordState {
+            commits: vec![
+                Commit {
+                    message: Some(text.clone()),
+                },
+                Commit::default(),
+            ],
+            ..state(vec![file(&text, vec![changed(vec![added(true, &text)])])])
+        };
+        let shot = TestingScreenshot::default();
+        let events = vec![Event::ExpandAll, shot.event(), Event::QuitAccept];
+        assert_eq!(run(given.clone(), SIZE, events).unwrap(), given);
+        assert_eq!(shot.to_string().lines().count(), SIZE.1);
+    }
+}
+
+#[test]
+fn errors_have_texts_and_sources() {
+    let cause = || Box::new(io::Error::new(io::ErrorKind::Other, "the cause"));
+    let texts = [
+        (
+            RecordError::SetUpTerminal(cause()),
+            "failed to set up terminal: the cause",
+        ),
+        (
+            RecordError::CleanUpTerminal(cause()),
+            "failed to clean up terminal: the cause",
+        ),
+        (
+            RecordError::RenderFrame(cause()),
+            "failed to render new frame: the cause",
+        ),
+        (
+            RecordError::ReadInput(cause()),
+            "failed to read user input: the cause",
+        ),
+        (
+            RecordError::WriteFile(cause()),
+            "failed to wrote file: the cause",
+        ),
+    ];
+    for (error, text) in texts {
+        assert_eq!(error.to_string(), text);
+        assert_eq!(error.source().unwrap().to_string(), "the cause");
+        let error: Box<dyn Error + Send + Sync> = error.into();
+        assert!(error.source().unwrap().is::<io::Error>());
+    }
+    let plain = [
+        (RecordError::Cancelled, "cancelled by user"),
+        (RecordError::Other("any".to_owned()), "any"),
+        (RecordError::Bug("one".to_owned()), "bug: one"),
+    ];
+    for (error, text) in plain {
+        assert_eq!(error.to_string(), text);
+        assert!(error.source().is_none());
+    }
+}
+
+thread_local! {
+    static SEEN: RefCell<Vec<String>> = const { RefCell::new(Vec::new()) };
+}
+
+/// A tool may wrap an input: here it counts what is read.
+#[test]
+fn an_input_can_be_wrapped() {
+    struct Counting<Inner>(Inner);
+    impl<Inner: RecordInput> RecordInput for Counting<Inner> {
+        fn terminal_kind(&self) -> TerminalKind {
+            self.0.terminal_kind()
+        }
+        fn next_events(&mut self) -> Result<Vec<Event>, RecordError> {
+            let events = self.0.next_events()?;
+            SEEN.with(|seen| seen.borrow_mut().push(format!("{events:?}")));
+            Ok(events)
+        }
+        fn edit_commit_message(&mut self, message: &str) -> Result<String, RecordError> {
+            self.0.edit_commit_message(message)
+        }
+    }
+    let mut input = Counting(TestingInput::new(
+        60,
+        12,
+        [Event::FocusInner, Event::QuitAccept],
+    ));
+    Recorder::new(state(vec![mixed_file()]), &mut input)
+        .run()
+        .unwrap();
+    SEEN.with(|seen| assert_eq!(*seen.borrow(), ["[FocusInner]", "[QuitAccept]"]));
+}

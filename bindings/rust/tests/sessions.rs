@@ -1,0 +1,239 @@
+//! Sessions that a program drives itself.
+use scm_record::session::{
+    version, End, Error, Key, LineKind, Owner, SectionKind, Session, Side, SideContents, Stage,
+    Version,
+};
+use scm_record::{ChangeType, FileMode, Tristate};
+
+const MODE: FileMode = FileMode::FILE_DEFAULT;
+const ADDED: LineKind = LineKind::Changed {
+    change_type: ChangeType::Added,
+    is_checked: false,
+};
+
+fn begun(words: &[&str]) -> Session {
+    let mut session = Session::new(false).unwrap();
+    session.begin(80, 24).unwrap();
+    words.iter().for_each(|word| session.press(word).unwrap());
+    session
+}
+
+fn key(section: Option<usize>, line: Option<usize>) -> Key {
+    Key {
+        commit: None,
+        file: Some(0),
+        section,
+        line,
+    }
+}
+
+#[test]
+fn a_session_waits_until_it_ends() {
+    let mut session = begun(&["none", "none"]);
+    assert_eq!((session.stage(), session.end()), (Stage::Waiting, None));
+    session.press("q").unwrap();
+    assert_eq!(
+        (session.stage(), session.end()),
+        (Stage::Ended, Some(End::Cancelled))
+    );
+    assert_eq!(session.text().unwrap(), "cancelled by user");
+    assert_eq!(session.press("none"), Err(Error::NotNow));
+}
+
+#[test]
+fn an_accepted_session_has_sides() {
+    let mut session = Session::new(false).unwrap();
+    assert_eq!(session.stage(), Stage::Building);
+    session.add_commit(None).unwrap();
+    session.add_commit(None).unwrap();
+    assert_eq!(session.add_commit(None), Err(Error::NotAccepted));
+    session.add_file("foo/bar", None, MODE).unwrap();
+    session.begin(80, 24).unwrap();
+    session.press("c").unwrap();
+    assert_eq!(
+        (session.stage(), session.end()),
+        (Stage::Accepted, Some(End::Accepted))
+    );
+    assert_eq!(session.file_count(), Ok(1));
+    for side in [Side::Selected, Side::Unselected] {
+        let told = session.side(0, side).unwrap();
+        assert_eq!((told.mode, told.contents), (MODE, SideContents::Unchanged));
+        assert_eq!(session.side(1, side), Err(Error::NoItem));
+    }
+}
+
+#[test]
+fn a_user_at_a_terminal() {
+    let mut session = Session::new(false).unwrap();
+    session.add_commit(Some("before")).unwrap();
+    session.add_file("letter", Some("draft"), MODE).unwrap();
+    session.add_lines(LineKind::Context, "a\n").unwrap();
+    session.add_lines(ADDED, "b\n").unwrap();
+    session.add_section(SectionKind::Changed).unwrap();
+    session
+        .add_lines(LineKind::changed(ChangeType::Added), "c\n")
+        .unwrap();
+    session.add_mode(FileMode::Unix(0o100_755), false).unwrap();
+    session.add_file("image", None, MODE).unwrap();
+    session.add_binary(None, Some("3 bytes"), false).unwrap();
+    session.begin(40, 12).unwrap();
+    assert!(session.paint().unwrap().starts_with(b"\x1b[?2026h"));
+    session.type_bytes(b"ajk").unwrap();
+    assert_eq!(
+        session.selected().unwrap(),
+        Key {
+            commit: Some(0),
+            ..key(None, None)
+        }
+    );
+    assert_eq!(session.marks(0), Ok(vec![true, true, true]));
+    assert_eq!(session.line(key(Some(2), Some(0))).unwrap(), "c\n");
+    session.idle().unwrap();
+    session.resize(60, 20).unwrap();
+    session.click(19, 59).unwrap();
+    session.repaint().unwrap();
+    session.press("e").unwrap();
+    assert_eq!(session.stage(), Stage::Editing);
+    assert_eq!(session.text().unwrap(), "before");
+    session.answer("after").unwrap();
+    assert_eq!(session.message(0).unwrap(), "after");
+    assert_eq!(session.message(1), Err(Error::NoItem));
+    session.press("c").unwrap();
+    assert_eq!(session.end(), Some(End::Accepted));
+    let side = |file, side| session.side(file, side).unwrap();
+    let selected = side(0, Side::Selected);
+    assert_eq!(selected.mode, FileMode::Unix(0o100_755));
+    assert_eq!(
+        selected.contents,
+        SideContents::Text("a\nb\nc\n".to_owned())
+    );
+    assert_eq!(
+        side(0, Side::Unselected).contents,
+        SideContents::Text("a\n".to_owned())
+    );
+    assert_eq!(side(1, Side::Selected).contents, SideContents::Binary);
+}
+
+#[test]
+fn a_place_of_the_screen_has_an_owner_and_a_symbol() {
+    let mut session = Session::new(false).unwrap();
+    session.add_file("日本", None, MODE).unwrap();
+    session.add_lines(ADDED, "b\n").unwrap();
+    session.begin(40, 12).unwrap();
+    session.press("l").unwrap();
+    let of_file = Key {
+        commit: Some(0),
+        ..key(None, None)
+    };
+    assert_eq!(session.owner(0, 0).0, Owner::Menu);
+    assert_eq!(session.owner(1, 0), (Owner::Mark, of_file));
+    assert_eq!(session.owner(1, 4), (Owner::File, of_file));
+    assert_eq!(session.owner(1, 39), (Owner::Fold, of_file));
+    let of_line = Key {
+        commit: Some(0),
+        ..key(Some(0), Some(0))
+    };
+    assert_eq!(session.owner(3, 20), (Owner::Added, of_line));
+    assert_eq!(session.owner(11, 0), (Owner::Nobody, Key::default()));
+    assert_eq!(session.symbol(1, 4), "日");
+    assert_eq!(session.symbol(1, 5), "");
+    assert_eq!(session.symbol(12, 0), "");
+}
+
+#[test]
+fn a_state_in_json() {
+    let json = r#"{"is_read_only":false,"commits":[],"files":[]}"#;
+    let session = Session::of_json(json, 40, 10).unwrap();
+    assert_eq!(
+        (session.stage(), session.file_count()),
+        (Stage::Waiting, Ok(0))
+    );
+    assert_eq!(Session::of_json("{}", 40, 10).unwrap_err(), Error::BadState);
+}
+
+#[test]
+fn lines_and_versions() {
+    let mut session = Session::new(false).unwrap();
+    assert_eq!(session.add_line(ADDED, "a"), Err(Error::NoItem));
+    session.add_file("f", None, MODE).unwrap();
+    session.add_line(LineKind::Context, "").unwrap();
+    let checked = LineKind::Changed {
+        change_type: ChangeType::Removed,
+        is_checked: true,
+    };
+    session.add_line(checked, "a\nb").unwrap();
+    session.add_line(ADDED, "a").unwrap();
+    assert_eq!(session.line(key(Some(0), Some(0))).unwrap(), "");
+    assert_eq!(session.line(key(Some(1), Some(0))).unwrap(), "a\nb");
+    assert_eq!(session.line(key(Some(1), Some(2))), Err(Error::NoItem));
+    assert_eq!(session.marks(0), Ok(vec![true, false]));
+    assert_eq!(session.mark(key(Some(1), None)), Ok(Tristate::Partial));
+    let old = Version {
+        mode: MODE,
+        bytes: b"a\xff\nb",
+    };
+    let new = Version {
+        mode: FileMode::Absent,
+        bytes: b"",
+    };
+    session.add_versions("g", None, old, new).unwrap();
+    assert_eq!(session.side_bytes(1, Side::Selected).unwrap(), b"a\xff\nb");
+    assert_eq!(session.side_bytes(1, Side::Unselected).unwrap(), b"");
+    assert_eq!(
+        session.side(1, Side::Unselected).unwrap().mode,
+        FileMode::Absent
+    );
+}
+
+#[test]
+fn a_refused_call_says_why() {
+    let mut session = begun(&[]);
+    let refused = session.press("no word").unwrap_err();
+    assert_eq!(refused, Error::NoWord);
+    assert!(!refused.to_string().is_empty());
+    assert_eq!(session.add_file("f", None, MODE), Err(Error::NotNow));
+    assert_eq!(session.answer("text"), Err(Error::NotNow));
+    assert_eq!(Session::new(false).unwrap().paint(), Err(Error::NotNow));
+    let errors = [
+        Error::Closed,
+        Error::NotNow,
+        Error::TooLong,
+        Error::NoMemory,
+        Error::NoItem,
+    ];
+    let mut words: Vec<String> = errors.iter().map(ToString::to_string).collect();
+    words.sort();
+    words.dedup();
+    assert_eq!(words.len(), errors.len());
+}
+
+#[test]
+fn a_session_moves_to_another_thread() {
+    let mut session = begun(&[]);
+    let stage = std::thread::spawn(move || {
+        session.press("q").unwrap();
+        session.stage()
+    });
+    assert_eq!(stage.join().unwrap(), Stage::Ended);
+}
+
+#[test]
+fn the_library_is_of_this_version() {
+    let mut numbers = env!("CARGO_PKG_VERSION")
+        .split('.')
+        .map(|it| it.parse::<u32>().unwrap());
+    let mut number = || numbers.next().unwrap();
+    assert_eq!(version(), 10_000 * number() + 100 * number() + number());
+}
+
+#[test]
+fn a_long_text_is_read_whole() {
+    let long = format!("{}\n", "x".repeat(100_000));
+    let mut session = Session::new(false).unwrap();
+    session.add_file("f", None, MODE).unwrap();
+    session.add_lines(ADDED, &long.repeat(3)).unwrap();
+    assert_eq!(session.line(key(Some(0), Some(2))).unwrap(), long);
+    let side = session.side(0, Side::Unselected).unwrap();
+    assert_eq!(side.contents, SideContents::Text(long.repeat(3)));
+    assert_eq!(session.marks(0), Ok(vec![false; 3]));
+}
