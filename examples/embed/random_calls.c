@@ -69,16 +69,37 @@ static uint64_t side_sum(uint64_t sum, size_t file, bool selected) {
     return mixed(sum, out, side.length < ROOM ? side.length : ROOM);
 }
 
+/* All marks of a file at once make the mark of the file. */
+static uint64_t all_marks_sum(uint64_t sum, size_t file, uint32_t mark) {
+    char marks[ROOM];
+    size_t count = 77, checked = 0;
+    memset(marks, GUARD, sizeof marks);
+    uint32_t code = scm_marks(&session, file, marks, sizeof marks, &count);
+    assert(code == SCM_DONE);
+    check_buffer(marks, ROOM, count, true);
+    for (size_t i = 0; i < count && i < sizeof marks; i++) {
+        assert(marks[i] == 0 || marks[i] == 1);
+        checked += marks[i] == 1;
+    }
+    assert(count > sizeof marks || mark == (checked == 0 ? SCM_UNCHECKED : checked == count ? SCM_CHECKED : SCM_PARTLY));
+    return mixed(sum, marks, count < sizeof marks ? count : sizeof marks);
+}
+
 static uint64_t marks_sum(uint64_t sum, size_t file) {
     uint32_t mark = 77;
     scm_key key = {0, file, SCM_NO_INDEX, SCM_NO_INDEX};
     assert(scm_mark(&session, &key, &mark) == SCM_DONE && mark <= SCM_CHECKED);
-    sum = mixed(sum, &mark, sizeof mark);
+    sum = all_marks_sum(mixed(sum, &mark, sizeof mark), file, mark);
     for (key.section = 0; key.section < 4; key.section++) {
         for (key.line = 0; key.line < 4; key.line++) {
             uint32_t code = scm_mark(&session, &key, &mark);
             assert(code == SCM_DONE || code == SCM_NO_ITEM);
             sum = mixed(mixed(sum, &code, sizeof code), &mark, sizeof mark);
+            size_t length = 77;
+            char text[ROOM];
+            uint32_t code_of_line = scm_line(&session, &key, text, sizeof text, &length);
+            assert(code_of_line == SCM_DONE || (code_of_line == SCM_NO_ITEM && length == 77 && code == SCM_NO_ITEM));
+            sum = code_of_line == SCM_DONE ? mixed(sum, text, length < sizeof text ? length : sizeof text) : sum;
         }
     }
     return sum;
@@ -88,6 +109,12 @@ static uint64_t marks_sum(uint64_t sum, size_t file) {
 static uint64_t asked(void) {
     uint32_t stage = scm_stage(&session), code;
     uint64_t sum = mixed(0, &stage, sizeof stage);
+    uint32_t end = scm_end(&session);
+    assert(end <= SCM_END_NO_MEMORY && (end == SCM_END_ACCEPTED) == (stage == SCM_ACCEPTED));
+    assert((end >= SCM_END_CANCELLED) == (stage == SCM_ENDED));
+    scm_key selected;
+    code = scm_selected(&session, &selected);
+    assert(code == (stage == SCM_WAITING ? SCM_DONE : stage == SCM_NONE ? SCM_CLOSED : SCM_NOT_NOW));
     size_t count = 77, length;
     char out[ROOM];
     code = scm_files(&session, &count);
@@ -148,8 +175,10 @@ static uint32_t add_lines(void) {
         given = long_text, length = LONGEST + 1;
     }
     uint32_t wanted = addition_code(is_utf8(given, length), true, is_long);
-    uint32_t code = random_below(2) ? scm_state_context(&session, given, length)
-                                    : scm_state_changes(&session, random_below(2), random_below(2), given, length);
+    uint32_t kind = random_below(3);
+    uint32_t code = kind == 0 ? scm_state_context(&session, given, length)
+        : kind == 1 ? scm_state_line(&session, random_below(2), random_below(2), random_below(2), given, length)
+                    : scm_state_changes(&session, random_below(2), random_below(2), given, length);
     return one_of(code, wanted, wanted, wanted);
 }
 

@@ -17,6 +17,8 @@ CODES = "done closed not_now no_word not_text bad_state not_accepted too_long no
 WAITING, EDITING, ACCEPTED, ENDED, NONE, BUILDING = range(6)
 UNCHANGED, TEXT, BINARY = range(3)
 UNCHECKED, PARTLY, CHECKED = range(3)
+# how a session ended
+ENDS = "not_ended accepted cancelled no_memory set_up clean_up render read serialize write other bug".split()
 # the mode of a file that does not exist, and an index that names nothing
 ABSENT = NO_INDEX = ctypes.c_size_t(-1).value
 
@@ -121,6 +123,16 @@ class Session:
     def add_changes(self, text, is_added, is_checked=False):
         self.call("state_changes", ctypes.c_bool(is_added), ctypes.c_bool(is_checked), *sized(text))
 
+    def add_line(self, text, is_added=None, is_checked=False):
+        """Adds one line, which is the whole text: an added line, a removed one (`is_added` is false), or a context line."""
+        kinds = (is_added is not None, bool(is_added), is_checked)
+        self.call("state_line", *map(ctypes.c_bool, kinds), *sized(text))
+
+    def add_texts(self, path, old, new, old_mode=0o100644, new_mode=0o100644, old_path=""):
+        """Adds a file by its two versions, of which one may be ABSENT by its mode. The library finds the lines that differ."""
+        versions = (*sized(old), ctypes.c_size_t(old_mode), *sized(new), ctypes.c_size_t(new_mode))
+        self.call("state_texts", *sized(path), *sized(old_path), *versions)
+
     def add_section(self, is_changed):
         self.call("state_section", ctypes.c_bool(is_changed))
 
@@ -138,6 +150,18 @@ class Session:
     @property
     def stage(self):
         return library.scm_stage(ctypes.byref(self.handle))
+
+    @property
+    def end(self):
+        """How the session ended: one of `ENDS`, "not_ended" if it goes on."""
+        return ENDS[library.scm_end(ctypes.byref(self.handle))]
+
+    @property
+    def selected(self):
+        """The key of the selected item."""
+        key = Key()
+        self.call("selected", ctypes.byref(key))
+        return key
 
     def press(self, *words):
         for word in words:
@@ -184,10 +208,22 @@ class Session:
             self.call("side", *place, out, ctypes.c_size_t(len(out)), ctypes.byref(info))
         return Side(info.contents, info.mode, out.raw[: info.length] if info.contents == TEXT else None)
 
+    def side_bytes(self, file, is_selected=True):
+        """Returns the bytes of a side, in which no two lines are joined: the file to write of one that `add_texts` added."""
+        return self.read("side_bytes", ctypes.c_size_t(file), ctypes.c_bool(is_selected))
+
     def mark(self, file, section=NO_INDEX, line=NO_INDEX):
         mark = ctypes.c_uint32()
         self.call("mark", ctypes.byref(Key(0, file, section, line)), ctypes.byref(mark))
         return mark.value
+
+    def marks(self, file):
+        """Returns the marks of all items of a file, in its order."""
+        return [mark == 1 for mark in self.read("marks", ctypes.c_size_t(file))]
+
+    def line(self, file, section, line):
+        """Returns the text of a line, as bytes."""
+        return self.read("line", ctypes.byref(Key(0, file, section, line)))
 
     def message(self, commit=0):
         return self.read("message", ctypes.c_size_t(commit)).decode()

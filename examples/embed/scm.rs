@@ -39,14 +39,18 @@ unsafe extern "C" {
     fn scm_state_file(session: *mut Handle, path: *const c_char, length: usize, old: *const c_char, old_length: usize, mode: usize) -> u32;
     fn scm_state_context(session: *mut Handle, text: *const c_char, length: usize) -> u32;
     fn scm_state_changes(session: *mut Handle, is_added: bool, is_checked: bool, text: *const c_char, length: usize) -> u32;
+    fn scm_state_line(session: *mut Handle, is_changed: bool, is_added: bool, is_checked: bool, text: *const c_char, length: usize) -> u32;
     fn scm_state_section(session: *mut Handle, is_changed: bool) -> u32;
     fn scm_state_mode(session: *mut Handle, is_checked: bool, mode: usize) -> u32;
     fn scm_state_binary(session: *mut Handle, is_checked: bool, old: *const c_char, old_length: usize, new: *const c_char, new_length: usize) -> u32;
+    fn scm_state_texts(session: *mut Handle, path: *const c_char, length: usize, old_path: *const c_char, old_path_length: usize, old: *const c_char, old_length: usize, old_mode: usize, new: *const c_char, new_length: usize, new_mode: usize) -> u32;
     fn scm_begin(session: *mut Handle, width: u16, height: u16) -> u32;
     fn scm_new(session: *mut Handle, json: *const c_char, length: usize, width: u16, height: u16) -> u32;
     fn scm_stage(session: *mut Handle) -> u32;
+    fn scm_end(session: *mut Handle) -> u32;
     fn scm_type(session: *mut Handle, bytes: *const c_char, length: usize) -> u32;
     fn scm_idle(session: *mut Handle) -> u32;
+    fn scm_selected(session: *mut Handle, key: *mut Key) -> u32;
     fn scm_press(session: *mut Handle, word: *const c_char, length: usize) -> u32;
     fn scm_click(session: *mut Handle, row: u16, column: u16) -> u32;
     fn scm_answer(session: *mut Handle, text: *const c_char, length: usize) -> u32;
@@ -56,7 +60,10 @@ unsafe extern "C" {
     fn scm_text(session: *mut Handle, out: *mut c_char, length: usize, written: *mut usize) -> u32;
     fn scm_files(session: *mut Handle, count: *mut usize) -> u32;
     fn scm_side(session: *mut Handle, file: usize, selected: bool, out: *mut c_char, length: usize, side: *mut SideInfo) -> u32;
+    fn scm_side_bytes(session: *mut Handle, file: usize, selected: bool, out: *mut c_char, length: usize, written: *mut usize) -> u32;
     fn scm_mark(session: *mut Handle, key: *const Key, mark: *mut u32) -> u32;
+    fn scm_marks(session: *mut Handle, file: usize, out: *mut c_char, length: usize, written: *mut usize) -> u32;
+    fn scm_line(session: *mut Handle, key: *const Key, out: *mut c_char, length: usize, written: *mut usize) -> u32;
     fn scm_message(session: *mut Handle, commit: usize, out: *mut c_char, length: usize, written: *mut usize) -> u32;
     fn scm_free(session: *mut Handle);
 }
@@ -84,6 +91,23 @@ pub enum Stage {
     Ended,
     Closed,
     Building,
+}
+
+/// How a session ended.
+#[derive(Clone, Copy, Debug, PartialEq, Eq)]
+pub enum End {
+    Accepted,
+    Cancelled,
+    NoMemory,
+    Other,
+}
+
+/// What a line is.
+#[derive(Clone, Copy, Debug, PartialEq, Eq)]
+pub enum LineKind {
+    Context,
+    Added,
+    Removed,
 }
 
 /// The contents of a side of a file.
@@ -175,6 +199,12 @@ impl Session {
         done(unsafe { scm_state_changes(&mut self.handle, is_added, is_checked, start(text), text.len()) })
     }
 
+    /// Adds one line, which is the whole of `text`.
+    pub fn add_line(&mut self, kind: LineKind, is_checked: bool, text: &str) -> Result<(), Error> {
+        let (is_changed, is_added) = (kind != LineKind::Context, kind == LineKind::Added);
+        done(unsafe { scm_state_line(&mut self.handle, is_changed, is_added, is_checked, start(text), text.len()) })
+    }
+
     pub fn add_section(&mut self, is_changed: bool) -> Result<(), Error> {
         done(unsafe { scm_state_section(&mut self.handle, is_changed) })
     }
@@ -185,6 +215,15 @@ impl Session {
 
     pub fn add_mode(&mut self, mode: usize, is_checked: bool) -> Result<(), Error> {
         done(unsafe { scm_state_mode(&mut self.handle, is_checked, mode) })
+    }
+
+    /// Adds a file by the bytes of its two versions, each with its mode. `None` is a file that does not exist.
+    pub fn add_texts(&mut self, path: &str, old_path: Option<&str>, old: Option<(&[u8], usize)>, new: Option<(&[u8], usize)>) -> Result<(), Error> {
+        let old_path = old_path.unwrap_or("");
+        let ((old, old_mode), (new, new_mode)) = (old.unwrap_or((b"", ABSENT)), new.unwrap_or((b"", ABSENT)));
+        done(unsafe {
+            scm_state_texts(&mut self.handle, start(path), path.len(), start(old_path), old_path.len(), start(old), old.len(), old_mode, start(new), new.len(), new_mode)
+        })
     }
 
     pub fn begin(&mut self, width: u16, height: u16) -> Result<(), Error> {
@@ -231,6 +270,24 @@ impl Session {
         [Waiting, Editing, Accepted, Ended, Closed, Building][unsafe { scm_stage(&mut self.handle) } as usize]
     }
 
+    /// Returns how the session ended, or `None` if it goes on.
+    pub fn end(&mut self) -> Option<End> {
+        match unsafe { scm_end(&mut self.handle) } {
+            0 => None,
+            1 => Some(End::Accepted),
+            2 => Some(End::Cancelled),
+            3 => Some(End::NoMemory),
+            _ => Some(End::Other),
+        }
+    }
+
+    /// Returns the key of the selected item.
+    pub fn selected(&mut self) -> Result<Key, Error> {
+        let mut key = Key { commit: 0, file: 0, section: 0, line: 0 };
+        done(unsafe { scm_selected(&mut self.handle, &mut key) })?;
+        Ok(key)
+    }
+
     pub fn text(&mut self) -> Result<String, Error> {
         bytes_of(|out, room, length| unsafe { scm_text(&mut self.handle, out, room, length) }).map(text_of)
     }
@@ -252,9 +309,25 @@ impl Session {
         Ok((side.mode, [Contents::Unchanged, Contents::Text(bytes), Contents::Binary][side.contents as usize].clone()))
     }
 
+    /// Returns the bytes of a side of file `file`, in which no two lines are joined: the file to write of one that `add_texts` added.
+    pub fn side_bytes(&mut self, file: usize, is_selected: bool) -> Result<Vec<u8>, Error> {
+        bytes_of(|out, room, length| unsafe { scm_side_bytes(&mut self.handle, file, is_selected, out, room, length) })
+    }
+
     /// Returns the message of commit `commit`, counted from 0.
     pub fn message(&mut self, commit: usize) -> Result<String, Error> {
         bytes_of(|out, room, length| unsafe { scm_message(&mut self.handle, commit, out, room, length) }).map(text_of)
+    }
+
+    /// Returns the marks of all items of file `file`, in its order.
+    pub fn marks(&mut self, file: usize) -> Result<Vec<bool>, Error> {
+        let bytes = bytes_of(|out, room, length| unsafe { scm_marks(&mut self.handle, file, out, room, length) })?;
+        Ok(bytes.iter().map(|mark| *mark == 1).collect())
+    }
+
+    /// Returns the text of the line that `key` names.
+    pub fn line(&mut self, key: Key) -> Result<String, Error> {
+        bytes_of(|out, room, length| unsafe { scm_line(&mut self.handle, &key, out, room, length) }).map(text_of)
     }
 
     /// Returns 0, 1 or 2: none, some or all of what `key` names is checked.
@@ -292,6 +365,7 @@ mod tests {
     fn quit_returns_error() {
         let mut cancelled = begun(&["q"]);
         assert_eq!(cancelled.stage(), Stage::Ended);
+        assert_eq!(cancelled.end(), Some(End::Cancelled));
         assert_eq!(cancelled.text().unwrap(), "cancelled by user");
 
         let mut session = Session::new(false).unwrap();
@@ -321,7 +395,11 @@ mod tests {
         session.add_binary("", "3 bytes", false).unwrap();
         session.begin(40, 12).unwrap();
         assert!(session.paint().unwrap().starts_with(b"\x1b[?2026h"));
-        session.type_bytes(b"a").unwrap();
+        session.type_bytes(b"ajk").unwrap();
+        assert_eq!(session.selected().unwrap().section, usize::MAX);
+        assert_eq!(session.marks(0), Ok(vec![true, true, true]));
+        let line = Key { commit: 0, file: 0, section: 2, line: 0 };
+        assert_eq!(session.line(line).unwrap(), "c\n");
         session.idle().unwrap();
         session.resize(60, 20).unwrap();
         session.click(19, 59).unwrap();
@@ -332,6 +410,7 @@ mod tests {
         session.answer("after").unwrap();
         assert_eq!(session.message(0).unwrap(), "after");
         session.press("c").unwrap();
+        assert_eq!(session.end(), Some(End::Accepted));
         assert_eq!(session.side(0, true), Ok((0o100755, Contents::Text(b"a\nb\nc\n".to_vec()))));
         assert_eq!(session.side(0, false), Ok((0o100644, Contents::Text(b"a\n".to_vec()))));
         assert_eq!(session.side(1, true), Ok((0o100644, Contents::Binary)));
@@ -342,6 +421,22 @@ mod tests {
         let mut session = Session::of_json(r#"{"is_read_only":false,"commits":[],"files":[]}"#, 40, 10).unwrap();
         assert_eq!((session.stage(), session.files()), (Stage::Waiting, Ok(0)));
         assert_eq!(Session::of_json("{}", 40, 10).err(), Some(Error::BadState));
+    }
+
+    #[test]
+    fn lines_as_they_are() {
+        let mut session = Session::new(false).unwrap();
+        session.add_file("f", None, 0o100644).unwrap();
+        session.add_line(LineKind::Context, false, "").unwrap();
+        session.add_line(LineKind::Removed, true, "a\nb").unwrap();
+        session.add_line(LineKind::Added, false, "a").unwrap();
+        assert_eq!(session.line(Key { commit: 0, file: 0, section: 0, line: 0 }).unwrap(), "");
+        assert_eq!(session.line(Key { commit: 0, file: 0, section: 1, line: 0 }).unwrap(), "a\nb");
+        assert_eq!(session.line(Key { commit: 0, file: 0, section: 1, line: 2 }), Err(Error::NoItem));
+        assert_eq!((session.marks(0), session.end()), (Ok(vec![true, false]), None));
+        session.add_texts("g", None, Some((b"a\xff\nb", 0o100644)), None).unwrap();
+        assert_eq!(session.side_bytes(1, true).unwrap(), b"a\xff\nb");
+        assert_eq!(session.side_bytes(1, false).unwrap(), b"");
     }
 
     /// Any text is a line: it is shown, and the side that selects it is that text.

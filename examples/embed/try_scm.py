@@ -70,6 +70,9 @@ def read_answers(session):
     assert (session.mark(0), session.mark(0, 0), session.mark(0, 2), session.mark(0, 2, 1)) == (1, 2, 1, 2)
     assert refused(session.mark, 0, 1, 0) == refused(session.side, 3) == refused(session.message, 1) == "no_item"
     assert session.message() == "first\n"
+    assert session.marks(0) == [True, True, False, False] and session.marks(2) == [False, True]
+    assert session.line(0, 1, 1) == b"\n" and session.line(0, 2, 1) == b"y\n"
+    assert refused(session.marks, 3) == refused(session.line, 0, 0, 0) == "no_item"
 
 
 def main():
@@ -87,17 +90,31 @@ def main():
         assert session.stage == scm.WAITING and session.text().count("\n") == 24
         every_row = session.paint()
         session.click(23, 79)
+        assert session.selected.file == 0 and session.end == "not_ended"
         assert len(session.paint()) < len(every_row)
         session.repaint()
         assert session.paint() == every_row
         read_answers(session)
         session.press("c")
+        assert session.end == "accepted" and refused(lambda: session.selected) == "not_now"
         assert session.stage == scm.ACCEPTED and refused(session.paint) == "not_now"
         read_answers(session)
         assert json.loads(session.text().split("\n")[1]) == WANTED
     session = scm.Session.of_json(json.dumps(WANTED), 80, 24)
     read_answers(session)
+    session.press("ctrl-c", "ctrl-c")
+    assert session.end == "cancelled" and session.text() == "cancelled by user"
     session.close()
+    with scm.Session() as lines:
+        lines.add_file("f", 0o100644)
+        lines.add_line("")
+        lines.add_line("a\nb", is_added=True, is_checked=True)
+        lines.add_texts("g", "a\nb", b"a\nc\n")
+        assert (lines.side_bytes(1), lines.side_bytes(1, False)) == (b"a\nb", b"a\nc\n")
+        lines.add_texts("h", b"\xff\0\n", "\U0010ffff\xe4".encode())
+        assert (lines.side_bytes(2), lines.side_bytes(2, False)) == (b"\xff\0\n", "\U0010ffff\xe4".encode())
+        assert refused(lines.add_texts, b"\xff", "a", "b") == "not_text"
+        assert (lines.line(0, 0, 0), lines.line(0, 1, 0), lines.marks(0)) == (b"", b"a\nb", [True])
     assert session.stage == scm.NONE and refused(session.paint) == "closed"
 
 

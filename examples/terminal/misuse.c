@@ -19,6 +19,7 @@ static const char THREE_COMMITS[] =
 /* All that a session has to say; of a text its beginning. */
 typedef struct {
     uint32_t stage;
+    uint32_t end;
     uint32_t owners[HEIGHT][WIDTH];
     scm_key keys[HEIGHT][WIDTH];
     size_t length;
@@ -38,7 +39,7 @@ void *realloc(void *block, size_t size) { return is_refused ? NULL : __libc_real
 #endif
 
 static standing look(void) {
-    standing now = {.stage = scm_stage(&session)};
+    standing now = {.stage = scm_stage(&session), .end = scm_end(&session)};
     for (uint16_t row = 0; row < HEIGHT; row++) {
         for (uint16_t column = 0; column < WIDTH; column++) {
             now.owners[row][column] = scm_owner(&session, row, column, &now.keys[row][column]);
@@ -50,7 +51,7 @@ static standing look(void) {
 }
 
 static bool is_same(const standing *one, const standing *other) {
-    return one->stage == other->stage && memcmp(one->owners, other->owners, sizeof one->owners) == 0
+    return one->stage == other->stage && one->end == other->end && memcmp(one->owners, other->owners, sizeof one->owners) == 0
         && memcmp(one->keys, other->keys, sizeof one->keys) == 0
         && one->length == other->length && memcmp(one->text, other->text, sizeof one->text) == 0;
 }
@@ -60,6 +61,7 @@ static void done(uint32_t code, uint32_t stage) {
     assert(code == SCM_DONE);
     before = look();
     assert(before.stage == stage);
+    assert((before.end == SCM_NOT_ENDED) == (stage != SCM_ACCEPTED && stage != SCM_ENDED));
 }
 
 /* Looks that a call was refused with this code, and left all as it was. */
@@ -78,6 +80,15 @@ static uint32_t begin(const char *json) { return scm_new(&session, json, strlen(
 static uint32_t press(const char *word) { return scm_press(&session, word, strlen(word)); }
 
 static uint32_t type(const char *bytes) { return scm_type(&session, bytes, strlen(bytes)); }
+
+/* Asks for the selected item, and looks that a refused call wrote nothing. */
+static uint32_t ask_selected(scm_key *key) {
+    scm_key given = {77, 77, 77, 77};
+    *key = given;
+    uint32_t code = scm_selected(&session, key);
+    assert(code == SCM_DONE || memcmp(key, &given, sizeof given) == 0);
+    return code;
+}
 
 static uint32_t answer(const char *message) { return scm_answer(&session, message, strlen(message)); }
 
@@ -100,7 +111,9 @@ static void refuse_paint(uint32_t code_of_repaint) {
 /* Every call that changes a session, where it waits for none of them. */
 static void refuse_calls(uint32_t code) {
     refused(press("j"), code);
+    scm_key key;
     refused(type("j"), code);
+    refused(ask_selected(&key), code);
     refused(scm_idle(&session), code);
     refused(scm_click(&session, 1, 1), code);
     refused(answer("bye"), code);
@@ -238,6 +251,90 @@ static void take_bytes(void) {
     assert(reads("cancelled by user"));
 }
 
+/* A line is as it is handed in, and is read again; marks are those of the file, in its order. */
+static void tell_lines(void) {
+    char text[8] = ".......", marks[8] = ".......";
+    size_t length = 77;
+    scm_key key = {SCM_NO_INDEX, 0, 1, 1}, nowhere = {SCM_NO_INDEX, 0, 0, 2}, header = {SCM_NO_INDEX, 0, 0, SCM_NO_INDEX};
+    done(scm_state_new(&session, false), SCM_BUILDING);
+    refused(scm_state_line(&session, true, true, true, "a", 1), SCM_NO_ITEM);
+    refused(scm_marks(&session, 0, marks, sizeof marks, &length), SCM_NO_ITEM);
+    done(scm_state_file(&session, "f", 1, "", 0, 0100644), SCM_BUILDING);
+    refused(scm_state_line(&session, false, false, false, "\xff", 1), SCM_NOT_TEXT);
+    done(scm_state_line(&session, false, false, false, "", 0), SCM_BUILDING);
+    done(scm_state_line(&session, false, false, false, "a", 1), SCM_BUILDING);
+    done(scm_state_line(&session, true, false, false, "a\n", 2), SCM_BUILDING);
+    done(scm_state_line(&session, true, true, true, "b\nc", 3), SCM_BUILDING);
+    done(scm_state_mode(&session, true, 0100755), SCM_BUILDING);
+    refused(scm_line(&session, &nowhere, text, sizeof text, &length), SCM_NO_ITEM);
+    refused(scm_line(&session, &header, text, sizeof text, &length), SCM_NO_ITEM);
+    refused(scm_marks(&session, 1, marks, sizeof marks, &length), SCM_NO_ITEM);
+    assert(length == 77 && strcmp(text, ".......") == 0 && strcmp(marks, ".......") == 0);
+    done(scm_line(&session, &key, text, 2, &length), SCM_BUILDING);
+    assert(length == 3 && strcmp(text, "b\n.....") == 0);
+    done(scm_marks(&session, 0, marks, sizeof marks, &length), SCM_BUILDING);
+    assert(length == 3 && memcmp(marks, "\0\1\1....", 7) == 0);
+#ifdef __GLIBC__
+    is_refused = true;
+    uint32_t code_of_marks = scm_marks(&session, 0, marks, sizeof marks, &length);
+    uint32_t code_of_line = scm_state_line(&session, true, true, true, "d", 1);
+    is_refused = false;
+    refused(code_of_marks, SCM_NO_MEMORY);
+    refused(code_of_line, SCM_NO_MEMORY);
+#endif
+    close_session();
+    refused(scm_state_line(&session, true, true, true, "a", 1), SCM_CLOSED);
+    refused(scm_marks(&session, 0, marks, sizeof marks, &length), SCM_CLOSED);
+    refused(scm_line(&session, &key, text, sizeof text, &length), SCM_CLOSED);
+    assert(length == 3);
+}
+
+/* A file by its two versions has the lines that differ, and its sides are the two versions, byte for byte. */
+static void take_texts(void) {
+    char text[8] = ".......";
+    static char line[LONGEST_MESSAGE + 1];
+    size_t length = 77;
+    memset(line, 'm', sizeof line);
+    scm_key removed = {SCM_NO_INDEX, 0, 1, 0};
+    done(scm_state_new(&session, false), SCM_BUILDING);
+    refused(scm_state_texts(&session, "\xff", 1, "", 0, "a", 1, 0100644, "b", 1, 0100644), SCM_NOT_TEXT);
+    refused(scm_state_texts(&session, "f", 1, "\xff", 1, "a", 1, 0100644, "b", 1, 0100644), SCM_NOT_TEXT);
+    refused(scm_state_texts(&session, "f", 1, "", 0, "a", 1, 0100644, line, sizeof line, 0100644), SCM_TOO_LONG);
+    refused(scm_side_bytes(&session, 0, true, text, sizeof text, &length), SCM_NO_ITEM);
+    done(scm_state_texts(&session, "f", 1, "e", 1, "a\nb", 3, 0100644, "a\nc\n", 4, 0100644), SCM_BUILDING);
+    done(scm_state_texts(&session, "g", 1, "", 0, "old", 3, SCM_ABSENT, "x\xff\0", 3, 0100644), SCM_BUILDING);
+    done(scm_line(&session, &removed, text, sizeof text, &length), SCM_BUILDING);
+    assert(length == 1 && text[0] == 'b');
+#ifdef __GLIBC__
+    is_refused = true;
+    uint32_t code = scm_state_texts(&session, "h", 1, "", 0, "a", 1, 0100644, "b", 1, 0100644);
+    uint32_t code_of_side = scm_side_bytes(&session, 0, true, text, sizeof text, &length);
+    is_refused = false;
+    refused(code, SCM_NO_MEMORY);
+    refused(code_of_side, SCM_NO_MEMORY);
+#endif
+    done(scm_begin(&session, WIDTH, HEIGHT), SCM_WAITING);
+    refused(scm_state_texts(&session, "h", 1, "", 0, "a", 1, 0100644, "b", 1, 0100644), SCM_NOT_NOW);
+    assert(scm_side_bytes(&session, 0, true, text, sizeof text, &length) == SCM_DONE && length == 3 && memcmp(text, "a\nb", 3) == 0);
+    done(press("a"), SCM_WAITING);
+    assert(scm_side_bytes(&session, 0, true, text, 3, &length) == SCM_DONE && length == 4 && memcmp(text, "a\nc", 3) == 0);
+    assert(scm_side_bytes(&session, 1, true, text, sizeof text, &length) == SCM_DONE && length == 3 && memcmp(text, "x\xff", 3) == 0);
+    assert(scm_side_bytes(&session, 1, false, text, sizeof text, &length) == SCM_DONE && length == 0);
+    close_session();
+    refused(scm_state_texts(&session, "h", 1, "", 0, "a", 1, 0100644, "b", 1, 0100644), SCM_CLOSED);
+    refused(scm_side_bytes(&session, 0, true, text, sizeof text, &length), SCM_CLOSED);
+}
+
+/* Of a window above the limit the screen has the limit. */
+static void cut_window(void) {
+    done(scm_state_new(&session, false), SCM_BUILDING);
+    done(scm_begin(&session, UINT16_MAX, 1), SCM_WAITING);
+    assert(before.length == SCM_MAX_COLUMNS + 3);
+    done(scm_resize(&session, 1, UINT16_MAX), SCM_WAITING);
+    assert(before.length == 4 * SCM_MAX_ROWS);
+    close_session();
+}
+
 /* A paint writes every row, or nothing, or what changed; without room it writes nothing, and every row then. */
 static void paint_rows(void) {
     static char all[1 << 14], again[1 << 14];
@@ -341,13 +438,22 @@ static void refuse_additions(void) {
 /* Once it has ended a session stays so until it is closed. */
 static void refuse_after_the_end(void) {
     done(press("c"), SCM_ACCEPTED);
+    assert(before.end == SCM_END_ACCEPTED);
     assert(before.length > 9 && memcmp(before.text, "accepted\n", 9) == 0);
     refuse_calls(SCM_NOT_NOW);
     done(begin(STATE), SCM_WAITING);
     done(press("ctrl-c"), SCM_WAITING);
     done(press("ctrl-c"), SCM_ENDED);
-    assert(reads("cancelled by user"));
+    assert(before.end == SCM_END_CANCELLED && reads("cancelled by user"));
     refuse_calls(SCM_NOT_NOW);
+#ifdef __GLIBC__
+    done(begin(STATE), SCM_WAITING);
+    is_refused = true;
+    uint32_t code = press("shift-F");
+    is_refused = false;
+    done(code, SCM_ENDED);
+    assert(before.end == SCM_END_NO_MEMORY && reads("out of memory"));
+#endif
     close_session();
 }
 
@@ -360,6 +466,10 @@ int main(void) {
     cut_text();
     tell_owners();
     take_bytes();
+    tell_lines();
+    take_texts();
+    cut_window();
+    done(begin(STATE), SCM_WAITING);
     paint_rows();
     refuse_messages();
     refuse_after_the_end();

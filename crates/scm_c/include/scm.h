@@ -42,8 +42,9 @@
  *     The library neither reads nor writes a terminal. The caller sets it to raw mode, and turns on its reports of clicks and
  *     its marks around pasted text (ESC [ ? 1000 ; 1006 h and ESC [ ? 2004 h), as examples/terminal/terminal.c does.
  *
- *     Rows and columns are places on the screen, counted from 0. A wide symbol has two columns. Texts are UTF-8 with a length,
- *     without a terminating zero. They are copied: the caller may free them after the call.
+ *     Rows and columns are places on the screen, counted from 0. A wide symbol has two columns. A screen has at most
+ *     SCM_MAX_COLUMNS columns and SCM_MAX_ROWS rows: of a larger window the library draws that many, from its top left corner.
+ *     Texts are UTF-8 with a length, without a terminating zero. They are copied: the caller may free them after the call.
  *
  * OWNERSHIP
  *     A session owns its state, and all memory that the library has taken is freed by scm_free. Nothing that a call writes to
@@ -52,8 +53,8 @@
  *     - It is not copied: a call on a copy of an open session may use freed memory.
  *     - A pointer with a length points to `length` bytes, and to at least one byte. No pointer is null: no text is "" with the
  *       length 0, and to ask for a length alone is to pass a byte and the length 0.
- *     - What a call writes to (`out`, `written`, `side`, `key` and so on) overlaps neither the session, nor what the call reads,
- *       nor each other.
+ *     - What a call writes to (`out`, `written`, `side`, `key` and so on) overlaps neither the session, nor what the call
+ *       reads, nor each other.
  *     - A bool is 0 or 1.
  *     - Each open session is closed in the end (scm_free), or its memory leaks. To close a closed session is a no-op.
  *
@@ -67,7 +68,8 @@
  *     session is as it was. The exceptions are said at scm_new, scm_state_new, scm_begin and scm_paint. A failed allocation
  *     always has the code SCM_NO_MEMORY, with one exception: in scm_press, scm_type, scm_click, scm_idle and scm_answer the
  *     user's input is handled, and if an allocation fails in this, the call returns SCM_DONE and the session has ended. Its
- *     stage is SCM_ENDED and its text "out of memory". The changes of such a session are lost.
+ *     stage is SCM_ENDED, scm_end returns SCM_END_NO_MEMORY, and its text is "out of memory". The changes of such a session are
+ *     lost.
  *
  *     A code is never a length. A call that returns a code writes a length to its own parameter (`written`, `count`,
  *     `side->length`), and only if the code is SCM_DONE: ask for the code first, since any call that takes memory may fail.
@@ -99,6 +101,10 @@ extern "C" {
 #define SCM_USE_CODE
 #endif
 
+/* The most columns and rows of a screen. */
+#define SCM_MAX_COLUMNS 1000
+#define SCM_MAX_ROWS 1000
+
 /* A session. All zeros if it is closed. Its members are the library's own. */
 typedef struct scm_session {
     bool is_open;
@@ -127,6 +133,22 @@ enum {
     SCM_ENDED = 3,    /* nothing, since an error ended the session, or the user cancelled it */
     SCM_NONE = 4,     /* nothing, since the session is closed */
     SCM_BUILDING = 5, /* additions to its state, and `scm_begin` */
+};
+
+/* How a session ended. The codes from SCM_END_SET_UP on are of a recorder that owns a terminal: no call leads to them. */
+enum {
+    SCM_NOT_ENDED = 0,     /* it has not ended, or is closed */
+    SCM_END_ACCEPTED = 1,  /* the changes are accepted */
+    SCM_END_CANCELLED = 2, /* the user cancelled */
+    SCM_END_NO_MEMORY = 3, /* an allocation failed */
+    SCM_END_SET_UP = 4,    /* the terminal could not be set up */
+    SCM_END_CLEAN_UP = 5,  /* the terminal could not be cleaned up */
+    SCM_END_RENDER = 6,    /* a frame could not be drawn */
+    SCM_END_READ = 7,      /* the input failed */
+    SCM_END_SERIALIZE = 8, /* the state could not be written as JSON */
+    SCM_END_WRITE = 9,     /* a file could not be written */
+    SCM_END_OTHER = 10,    /* any other failure */
+    SCM_END_BUG = 11,      /* a bug of the selector */
 };
 
 /* The owner of a place on the screen: the component that a click there acts on. */
@@ -189,7 +211,7 @@ typedef struct scm_side_info {
  * After `scm_state_new` the stage is SCM_BUILDING. Each of the calls below adds at the end of the state: commits, files, and
  * the sections of the last file. Give all lines of a file, also those far from its changes: the sides are made of these lines.
  * If its contents are not UTF-8, add them as binary (`scm_state_binary`). A file that is created or deleted also needs a
- * change of its mode (`scm_state_mode`).
+ * change of its mode (`scm_state_mode`). `scm_state_texts` does all this by the bytes of the two versions.
  *
  * The calls return SCM_DONE, or the first of these that applies, and then the state is as it was:
  *
@@ -229,6 +251,13 @@ uint32_t scm_state_context(scm_session *session, const char *text, size_t length
  * a section. */
 uint32_t scm_state_changes(scm_session *session, bool is_added, bool is_checked, const char *text, size_t length);
 
+/* Adds one line to the last file, which is the whole of `text`: it may be empty, have line feeds inside, or lack one at its
+ * end. It is a changed line if `is_changed`, an added one if `is_added` or else a removed one, and checked if `is_checked`. If
+ * not `is_changed`, it is a context line, and the two others do not matter. It goes where `scm_state_changes` or
+ * `scm_state_context` would put it. */
+uint32_t scm_state_line(scm_session *session, bool is_changed, bool is_added, bool is_checked, const char *text,
+                        size_t length);
+
 /* Begins a section of the last file: of changed lines if `is_changed`, or else of context lines. It has no lines yet. Call this
  * only between lines of one kind that are to be in two sections. */
 uint32_t scm_state_section(scm_session *session, bool is_changed);
@@ -242,6 +271,21 @@ uint32_t scm_state_mode(scm_session *session, bool is_checked, size_t mode);
  * user. One of length 0 is none. */
 uint32_t scm_state_binary(scm_session *session, bool is_checked, const char *old_text, size_t old_length,
                           const char *new_text, size_t new_length);
+
+/* Adds a file by its two versions, whatever their bytes are: the library finds the lines that differ. `old` has the bytes before
+ * the changes, `old_size` of them, with the mode `old_mode`, and `new_bytes` those after them. A mode SCM_ABSENT says that the
+ * file does not exist in that version; then its bytes do not matter. The path before a rename or a copy has `old_length` bytes,
+ * none if that is 0. Nothing is checked. The file has a change of the mode if the modes differ, and all lines of both versions.
+ *
+ * Read the sides of such a file by `scm_side_bytes`: with nothing checked the selected side is the old version, byte for byte,
+ * and with all checked the new one. A last line without a line end differs from the same line with one. A byte that is not UTF-8
+ * is shown as one symbol, and comes back as it was; in `scm_line`, and for the limit of a line, it is a character of four bytes.
+ *
+ * Only the paths have to be UTF-8: else the call returns SCM_NOT_TEXT. A file with a NUL is taken as text, too. A caller who
+ * shows such files as binary, as git does, looks for a NUL (memchr), and adds them by `scm_state_file` and `scm_state_binary`. */
+uint32_t scm_state_texts(scm_session *session, const char *path, size_t length, const char *old_path, size_t old_length,
+                         const char *old, size_t old_size, size_t old_mode, const char *new_bytes, size_t new_size,
+                         size_t new_mode);
 
 /* Begins the session with the state that is made, on a screen of `width` columns and `height` rows. The session takes the state
  * over, and nothing is copied.
@@ -264,11 +308,15 @@ uint32_t scm_new(scm_session *session, const char *json, size_t length, uint16_t
 /* Returns the stage: SCM_WAITING to SCM_BUILDING. */
 uint32_t scm_stage(scm_session *session);
 
+/* Returns how the session ended: SCM_NOT_ENDED to SCM_END_BUG. */
+uint32_t scm_end(scm_session *session);
+
 /* Handles `length` bytes from a terminal. They may be any part of its output: a key or a click may be cut between two
  * calls. Handles each key, click and turn of the wheel in order, as long as the session waits for an event. The input after
  * that is dropped, since the user typed it at another screen. Pasted text acts as no key.
  *
- * Returns SCM_DONE, SCM_CLOSED or SCM_NOT_NOW. After SCM_DONE, `scm_stage` returns whether an error ended the session. */
+ * Returns SCM_DONE, SCM_CLOSED or SCM_NOT_NOW. After SCM_DONE, `scm_stage` returns whether the session has ended, and `scm_end`
+ * how. */
 uint32_t scm_type(scm_session *session, const char *bytes, size_t length);
 
 /* Handles the silence of the terminal. Call this if no byte came for about 50 milliseconds. If the last byte was an ESC, it
@@ -335,6 +383,12 @@ uint32_t scm_repaint(scm_session *session);
  * Returns the owner: SCM_NOBODY to SCM_FILE_EDGE. Returns SCM_NOBODY while the session waits for no event. */
 uint32_t scm_owner(scm_session *session, uint16_t row, uint16_t column, scm_key *key);
 
+/* Writes the key of the selected item to `key`. Each index that it has not is SCM_NO_INDEX: of a file the section and the line,
+ * of a section the line, and all if nothing is selected.
+ *
+ * Returns SCM_DONE, SCM_CLOSED, or SCM_NOT_NOW if the session waits for no event. */
+SCM_USE_CODE uint32_t scm_selected(scm_session *session, scm_key *key);
+
 /* Writes the symbol that begins at `row`, `column` of the screen to `out`, clipped to `length` bytes.
  *
  * Returns the whole length in bytes. Returns 0 at the second column of a wide symbol, outside the screen, and while the
@@ -370,12 +424,33 @@ SCM_USE_CODE uint32_t scm_files(scm_session *session, size_t *count);
  *
  * May also return SCM_NO_MEMORY. */
 SCM_USE_CODE uint32_t scm_side(scm_session *session, size_t file, bool selected, char *out, size_t length,
-                               scm_side_info *side);
+                              scm_side_info *side);
+
+/* Writes the bytes of a side of file `file`, counted from 0, to `out`, clipped to `length` bytes, and the whole length to
+ * `written`: of the selected side if `selected`, or of the other side. This is the file to write of a file that
+ * `scm_state_texts` added. It has the lines of the side, and no two are joined: a line without a line end gets one where another
+ * line follows. A character from U+10FF80 to U+10FFFF stands for one byte, in other files too. `scm_side` has the mode of the
+ * side, and the kind of its contents.
+ *
+ * May also return SCM_NO_MEMORY. */
+SCM_USE_CODE uint32_t scm_side_bytes(scm_session *session, size_t file, bool selected, char *out, size_t length,
+                                     size_t *written);
 
 /* Writes the mark of the line that `key` names to `mark`: SCM_UNCHECKED to SCM_CHECKED. If its line is SCM_NO_INDEX, that of
  * the section; if its section is SCM_NO_INDEX too, that of the file. The commit of the key does not matter. A context line has
  * no mark: SCM_NO_ITEM. */
 SCM_USE_CODE uint32_t scm_mark(scm_session *session, const scm_key *key, uint32_t *mark);
+
+/* Writes the marks of file `file`, counted from 0, to `out`, clipped to `length` bytes, and their number to `written`. Each
+ * mark is a byte, 1 if it is checked and 0 if not. They have the order of the file: of a section of changed lines one for each
+ * line, of a change of the mode or of binary contents one, and of context lines none.
+ *
+ * May also return SCM_NO_MEMORY. */
+SCM_USE_CODE uint32_t scm_marks(scm_session *session, size_t file, char *out, size_t length, size_t *written);
+
+/* Writes the text of the line that `key` names, a changed line or a context line, to `out`, clipped to `length` bytes, and the
+ * whole length in bytes to `written`. The commit of the key does not matter. */
+SCM_USE_CODE uint32_t scm_line(scm_session *session, const scm_key *key, char *out, size_t length, size_t *written);
 
 /* Writes the message of commit `commit`, counted from 0, to `out`, clipped to `length` bytes, and the whole length in bytes to
  * `written`. Returns SCM_NO_ITEM for a commit without a message too. */

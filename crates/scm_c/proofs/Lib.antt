@@ -4,13 +4,3 @@ pub mod Beside
 pub mod RawBoxes
 -- a session's pointer
 pub mod SessionPtrs
--- how calls change a session
-pub mod StageLemmas
--- return codes, and the texts that calls write
-pub mod ResultLemmas
--- what `scm_paint` writes
-pub mod PaintLemmas
--- states that grow by calls
-pub mod BuildLemmas
--- what calls tell of a state
-pub mod QuestionLemmas

@@ -17,8 +17,8 @@ use Rattle.std.specs.contracts.alloc.Global.{the_row as Heap}
 use Rattle.std.proofs.alloc.Global.TheLaws.{the_row_laws as heap_laws}
 use Rattle.std.specs.contracts.impls.GlobalAllocator.TheImpl.{ghosts}
 use Rattle.scm_c.specs.Ownership.{pointer_owns}
-use Rattle.scm_c.specs.declared.open_session.OpenSession.{OpenSession}
-use Rattle.scm_c.specs.contracts.open_session.OpenSession.{the_row as Value}
+use Rattle.scm_open_session.specs.declared.open_session.OpenSession.{OpenSession}
+use Rattle.scm_open_session.specs.contracts.open_session.OpenSession.{the_row as Value}
 use Rattle.scm_c.specs.contracts.c_session.SessionPtr as pointer
 use Rattle.scm_c.proofs.Beside.{word, beside_out, beside_in}
 use Rattle.scm_c.proofs.RawBoxes as raw_box

@@ -1,16 +1,2 @@
 -- what the pointer of a C session owns
 pub mod Ownership
--- the values of boxes
-pub mod Boxes
--- what a session waits for, and how calls change that: begin here
-pub mod Stages
--- return codes, and the texts that calls write
-pub mod Results
--- the owner of a place on the screen: its code and its key
-pub mod Owners
--- what calls add to a state that is made, and how a session begins with it
-pub mod Building
--- what calls tell of a state: sides of files, marks and messages
-pub mod Questions
--- what `scm_paint` writes
-pub mod Paint

@@ -1,10 +1,10 @@
 //! The struct of a session that a C program keeps: a flag, and a pointer that owns the session.
 ghost use Rattle.std.specs.Prelude.{◌≡◌, IsTrue, None, Option, Some, is_some};
-ghost use Rattle.scm_c.specs.declared.open_session.OpenSession.{OpenSession};
-ghost use Rattle.scm_c.specs.Boxes.{box_value};
+ghost use Rattle.scm_open_session.specs.declared.open_session.OpenSession.{OpenSession};
+ghost use Rattle.scm_open_session.specs.Boxes.{box_value};
 
-use crate::open_session::OpenSession;
 use crate::raw_box::RawBox;
+use scm_open_session::OpenSession;
 use std::alloc::Global;
 use std::marker::Model;
 use std::{mem, ptr};
@@ -23,7 +23,7 @@ pub struct SessionPtr {
 
 impl Model for SessionPtr {
     ghost use Rattle.scm_c.specs.Ownership.{pointer_owns};
-    ghost use Rattle.scm_c.specs.contracts.open_session.OpenSession.{the_row};
+    ghost use Rattle.scm_open_session.specs.contracts.open_session.OpenSession.{the_row};
 
     ghost also_owns = { λ h. pointer_owns the_row h.alloc h.at h.value };
 }
@@ -115,7 +115,7 @@ pub(crate) fn take(alloc: Global, session: &mut CSession) -> Option<Box<OpenSess
 }
 
 /// Opens `session` with `inner`. Drops the open session that it owned, if any.
-pub(crate) fn put(alloc: Global, session: &mut CSession, inner: Box<OpenSession>)
+fn put(alloc: Global, session: &mut CSession, inner: Box<OpenSession>)
     ensures { session.new.pointer.value ≡ Some inner.value }
 {
     drop(take(alloc, session));
@@ -124,4 +124,15 @@ pub(crate) fn put(alloc: Global, session: &mut CSession, inner: Box<OpenSession>
         pointer,
     } = mem::replace(session, session_of(inner));
     pointer.discard_null();
+}
+
+/// Opens `session` again with what `take` took.
+pub(crate) fn give_back(alloc: Global, session: &mut CSession, inner: Option<Box<OpenSession>>)
+    requires { session.old.pointer.value ≡ None }
+    ensures { session.new.pointer.value ≡ box_value inner }
+{
+    match inner {
+        Some(inner) => put(alloc, session, inner),
+        None => {}
+    }
 }

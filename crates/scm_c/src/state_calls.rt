@@ -1,18 +1,15 @@
 //! Calls that make a state and begin a session with it. `include/scm.h` documents each function.
-ghost use Rattle.std.specs.Prelude.{◌≡◌, ◌<◌, None, Some, option_map, true};
-ghost use Rattle.scm_input.specs.declared.inputs.TerminalKind.TheVariants.{Testing};
+ghost use Rattle.std.specs.Prelude.{◌≡◌, ◌<◌, None, Some, true};
 ghost use Rattle.scm_embed.specs.declared.addition.Addition.TheVariants as additions;
 ghost use Rattle.scm_embed.specs.declared.addition.Part.TheVariants as parts;
-ghost use Rattle.scm_c.specs.Boxes.{box_value};
-ghost use Rattle.scm_c.specs.Results.{IsCode};
-ghost use Rattle.scm_c.specs.Stages.{ChangesStage, IsOpenAt};
-ghost use Rattle.scm_c.specs.Building.{Adds, BeginsState, Builds, StartsSession, binary_of_bytes, changes_of_bytes, code_at_stage, code_of_addition, context_of_bytes, file_of_bytes, kind_of_change, message_of_bytes, mode_of_bits, text_if_any, text_of_bytes};
+ghost use Rattle.scm_open_session.specs.Boxes.{box_value};
+ghost use Rattle.scm_open_session.specs.Results.{IsCode};
+ghost use Rattle.scm_open_session.specs.Stages.{ChangesStage, IsOpenAt, screen_of};
+ghost use Rattle.scm_open_session.specs.Building.{Adds, BeginsState, Builds, StartsSession, binary_of_bytes, changes_of_bytes, code_of_addition, context_of_bytes, file_of_bytes, line_of_bytes, message_of_bytes, mode_of_bits};
+ghost use Rattle.scm_open_session.specs.Texts.{BuildsChange, code_of_change, given_change};
 
-use crate::c_session::{CSession, put, take};
-use crate::codes;
-use crate::open_session::OpenSession;
-use scm_embed::{Addition, Part};
-use scm_types::{ChangeType, FileMode, Text};
+use crate::c_session::{CSession, give_back, take};
+use scm_open_session::state_calls;
 use std::alloc::Global;
 
 /// Opens `session` over a state without commits and files, which later calls make. If `session` is
@@ -26,70 +23,9 @@ pub extern "C" fn scm_state_new(alloc: Global, session: &mut CSession, is_read_o
     ensures refused { 0 < result → session.new.pointer.value ≡ None }
 {
     drop(take(alloc, session));
-    match OpenSession::building(alloc, is_read_only) {
-        Some(inner) => {
-            put(alloc, session, inner);
-            codes::DONE
-        }
-        None => codes::NO_MEMORY,
-    }
-}
-
-/// Adds `addition` to the state that is made. Returns the code of the call.
-fn add(alloc: Global, session: &mut CSession, addition: Addition<'_>) -> u32
-    ensures code { IsCode true
-        (code_of_addition (Some addition.entry) session.old.pointer.value) result }
-    ensures added { result ≡ 0 → ChangesStage (Builds addition.entry)
-        session.old.pointer.value session.new.pointer.value }
-    ensures kept { 0 < result → session.new.pointer.value ≡ session.old.pointer.value }
-{
-    match take(alloc, session) {
-        Some(mut inner) => {
-            let code = inner.add(alloc, addition);
-            put(alloc, session, inner);
-            code
-        }
-        None => codes::CLOSED,
-    }
-}
-
-/// Adds `addition` to the state that is made. `None` is of bytes that are not UTF-8. Returns the
-/// code of the call.
-fn add_text(alloc: Global, session: &mut CSession, addition: Option<Addition<'_>>) -> u32
-    ensures code { IsCode true
-        (code_of_addition addition.entry session.old.pointer.value) result }
-    ensures added { result ≡ 0
-        → Adds addition.entry session.old.pointer.value session.new.pointer.value }
-    ensures kept { 0 < result → session.new.pointer.value ≡ session.old.pointer.value }
-{
-    match addition {
-        Some(addition) => add(alloc, session, addition),
-        None => codes::NOT_TEXT,
-    }
-}
-
-/// Returns the text of `bytes`, or `None` if they are not UTF-8.
-fn text_of(bytes: &[u8]) -> Option<Text<'_>>
-    ensures { result ≡ text_of_bytes bytes.now }
-{
-    match str::from_utf8(bytes) {
-        Ok(text) => Some(Text::from(text)),
-        Err(_) => None,
-    }
-}
-
-/// Returns the text of `bytes`, or no text if there are no bytes. Returns `None` if they are not
-/// UTF-8.
-fn text_if_any(bytes: &[u8]) -> Option<Option<Text<'_>>>
-    ensures { result ≡ text_if_any bytes.now }
-{
-    if bytes.is_empty() {
-        return Some(None);
-    }
-    match text_of(bytes) {
-        Some(text) => Some(Some(text)),
-        None => None,
-    }
+    let (inner, code) = state_calls::open(alloc, is_read_only);
+    give_back(alloc, session, inner);
+    code
 }
 
 /// Adds a commit without a message. Returns the code of the call.
@@ -101,19 +37,10 @@ pub extern "C" fn scm_state_commit(alloc: Global, session: &mut CSession) -> u32
         session.old.pointer.value session.new.pointer.value }
     ensures kept { 0 < result → session.new.pointer.value ≡ session.old.pointer.value }
 {
-    add(alloc, session, Addition::Commit { message: None })
-}
-
-/// Returns the commit with the message `text`.
-fn message_of(text: &[u8]) -> Option<Addition<'_>>
-    ensures { result ≡ message_of_bytes text.now }
-{
-    match text_of(text) {
-        Some(text) => Some(Addition::Commit {
-            message: Some(text),
-        }),
-        None => None,
-    }
+    let mut inner = take(alloc, session);
+    let code = state_calls::add_commit(alloc, &mut inner);
+    give_back(alloc, session, inner);
+    code
 }
 
 /// Adds a commit with the message `text`. Returns the code of the call.
@@ -125,35 +52,10 @@ pub extern "C" fn scm_state_message(alloc: Global, session: &mut CSession, text:
         session.old.pointer.value session.new.pointer.value }
     ensures kept { 0 < result → session.new.pointer.value ≡ session.old.pointer.value }
 {
-    add_text(alloc, session, message_of(text))
-}
-
-/// Returns the mode with these bits. `usize::MAX` is no file.
-fn mode_of(bits: usize) -> FileMode
-    ensures { result ≡ mode_of_bits bits }
-{
-    if bits == usize::MAX {
-        FileMode::Absent
-    } else {
-        FileMode::Unix(bits)
-    }
-}
-
-/// Returns the file at `path`. Without bytes it has no old path.
-fn file_of<'t>(path: &'t [u8], old_path: &'t [u8], mode: usize) -> Option<Addition<'t>>
-    ensures { result ≡ file_of_bytes path.now old_path.now mode }
-{
-    let Some(path) = text_of(path) else {
-        return None;
-    };
-    match text_if_any(old_path) {
-        Some(old_path) => Some(Addition::File {
-            old_path,
-            path,
-            file_mode: mode_of(mode),
-        }),
-        None => None,
-    }
+    let mut inner = take(alloc, session);
+    let code = state_calls::add_message(alloc, &mut inner, text);
+    give_back(alloc, session, inner);
+    code
 }
 
 /// Adds a file without sections. Returns the code of the call.
@@ -172,19 +74,10 @@ pub extern "C" fn scm_state_file(
         session.old.pointer.value session.new.pointer.value }
     ensures kept { 0 < result → session.new.pointer.value ≡ session.old.pointer.value }
 {
-    add_text(alloc, session, file_of(path, old_path, mode))
-}
-
-/// Returns the context lines of `text`.
-fn context_of(text: &[u8]) -> Option<Addition<'_>>
-    ensures { result ≡ context_of_bytes text.now }
-{
-    match text_of(text) {
-        Some(text) => Some(Addition::Part {
-            part: Part::Context { text },
-        }),
-        None => None,
-    }
+    let mut inner = take(alloc, session);
+    let code = state_calls::add_file(alloc, &mut inner, path, old_path, mode);
+    give_back(alloc, session, inner);
+    code
 }
 
 /// Adds the context lines of `text` to the last file. Returns the code of the call.
@@ -196,34 +89,10 @@ pub extern "C" fn scm_state_context(alloc: Global, session: &mut CSession, text:
         session.old.pointer.value session.new.pointer.value }
     ensures kept { 0 < result → session.new.pointer.value ≡ session.old.pointer.value }
 {
-    add_text(alloc, session, context_of(text))
-}
-
-/// Returns the kind of a change.
-fn change_of(is_added: bool) -> ChangeType
-    ensures { result ≡ kind_of_change is_added }
-{
-    if is_added {
-        ChangeType::Added
-    } else {
-        ChangeType::Removed
-    }
-}
-
-/// Returns the changed lines of `text`.
-fn changes_of(is_added: bool, is_checked: bool, text: &[u8]) -> Option<Addition<'_>>
-    ensures { result ≡ changes_of_bytes is_added is_checked text.now }
-{
-    match text_of(text) {
-        Some(text) => Some(Addition::Part {
-            part: Part::Changes {
-                is_checked,
-                change_type: change_of(is_added),
-                text,
-            },
-        }),
-        None => None,
-    }
+    let mut inner = take(alloc, session);
+    let code = state_calls::add_context(alloc, &mut inner, text);
+    give_back(alloc, session, inner);
+    code
 }
 
 /// Adds the changed lines of `text` to the last file: added ones if `is_added`, or else removed
@@ -243,7 +112,34 @@ pub extern "C" fn scm_state_changes(
         session.old.pointer.value session.new.pointer.value }
     ensures kept { 0 < result → session.new.pointer.value ≡ session.old.pointer.value }
 {
-    add_text(alloc, session, changes_of(is_added, is_checked, text))
+    let mut inner = take(alloc, session);
+    let code = state_calls::add_changes(alloc, &mut inner, is_added, is_checked, text);
+    give_back(alloc, session, inner);
+    code
+}
+
+/// Adds the line that is the whole of `text` to the last file: a changed line if `is_changed`, or else
+/// a context line. Returns the code of the call.
+#[unsafe(no_mangle)]
+pub extern "C" fn scm_state_line(
+    alloc: Global,
+    session: &mut CSession,
+    is_changed: bool,
+    is_added: bool,
+    is_checked: bool,
+    text: &[u8],
+) -> u32
+    ensures code { IsCode true
+        (code_of_addition (line_of_bytes is_changed is_added is_checked text.now)
+        session.old.pointer.value) result }
+    ensures added { result ≡ 0 → Adds (line_of_bytes is_changed is_added is_checked text.now)
+        session.old.pointer.value session.new.pointer.value }
+    ensures kept { 0 < result → session.new.pointer.value ≡ session.old.pointer.value }
+{
+    let mut inner = take(alloc, session);
+    let code = state_calls::add_line(alloc, &mut inner, is_changed, is_added, is_checked, text);
+    give_back(alloc, session, inner);
+    code
 }
 
 /// Adds a section without lines to the last file: of changed lines if `is_changed`, or else of
@@ -257,8 +153,10 @@ pub extern "C" fn scm_state_section(alloc: Global, session: &mut CSession, is_ch
         session.old.pointer.value session.new.pointer.value }
     ensures kept { 0 < result → session.new.pointer.value ≡ session.old.pointer.value }
 {
-    let part = Part::Lines { is_changed };
-    add(alloc, session, Addition::Part { part })
+    let mut inner = take(alloc, session);
+    let code = state_calls::add_section(alloc, &mut inner, is_changed);
+    give_back(alloc, session, inner);
+    code
 }
 
 /// Adds a section that changes the mode of the last file to `mode`. Returns the code of the call.
@@ -277,30 +175,10 @@ pub extern "C" fn scm_state_mode(
         session.old.pointer.value session.new.pointer.value }
     ensures kept { 0 < result → session.new.pointer.value ≡ session.old.pointer.value }
 {
-    let part = Part::Mode {
-        is_checked,
-        mode: mode_of(mode),
-    };
-    add(alloc, session, Addition::Part { part })
-}
-
-/// Returns the change of binary contents. Without bytes there is no description.
-fn binary_of<'t>(is_checked: bool, old: &'t [u8], new: &'t [u8]) -> Option<Addition<'t>>
-    ensures { result ≡ binary_of_bytes is_checked old.now new.now }
-{
-    let Some(old_description) = text_if_any(old) else {
-        return None;
-    };
-    match text_if_any(new) {
-        Some(new_description) => Some(Addition::Part {
-            part: Part::Binary {
-                is_checked,
-                old_description,
-                new_description,
-            },
-        }),
-        None => None,
-    }
+    let mut inner = take(alloc, session);
+    let code = state_calls::add_mode(alloc, &mut inner, is_checked, mode);
+    give_back(alloc, session, inner);
+    code
 }
 
 /// Adds a section that changes the binary contents of the last file. Returns the code of the call.
@@ -319,22 +197,50 @@ pub extern "C" fn scm_state_binary(
         session.old.pointer.value session.new.pointer.value }
     ensures kept { 0 < result → session.new.pointer.value ≡ session.old.pointer.value }
 {
-    add_text(alloc, session, binary_of(is_checked, old, new))
+    let mut inner = take(alloc, session);
+    let code = state_calls::add_binary(alloc, &mut inner, is_checked, old, new);
+    give_back(alloc, session, inner);
+    code
+}
+
+/// Adds the file that shows how the bytes `old` become the bytes `new`. Each mode is that of a version,
+/// `usize::MAX` of a file that does not exist. Returns the code of the call.
+#[unsafe(no_mangle)]
+pub extern "C" fn scm_state_texts(
+    alloc: Global,
+    session: &mut CSession,
+    path: &[u8],
+    old_path: &[u8],
+    old: &[u8],
+    old_mode: usize,
+    new: &[u8],
+    new_mode: usize,
+) -> u32
+    ensures code { IsCode true (code_of_change
+        (given_change path.now old_path.now old.now old_mode new.now new_mode)
+        session.old.pointer.value) result }
+    ensures added { result ≡ 0 → ChangesStage (BuildsChange
+        (given_change path.now old_path.now old.now old_mode new.now new_mode))
+        session.old.pointer.value session.new.pointer.value }
+    ensures kept { 0 < result → session.new.pointer.value ≡ session.old.pointer.value }
+{
+    let mut inner = take(alloc, session);
+    let code = state_calls::add_texts(
+        alloc, &mut inner, path, old_path, old, old_mode, new, new_mode,
+    );
+    give_back(alloc, session, inner);
+    code
 }
 
 /// Begins the session with the state that is made, on a screen of `width` columns and `height` rows.
 /// Returns the code of the call.
 #[unsafe(no_mangle)]
 pub extern "C" fn scm_begin(alloc: Global, session: &mut CSession, width: u16, height: u16) -> u32
-    ensures { StartsSession (Testing width height)
+    ensures { StartsSession (screen_of width height)
         session.old.pointer.value session.new.pointer.value result }
 {
-    match take(alloc, session) {
-        Some(mut inner) => {
-            let code = inner.begin(alloc, width, height);
-            put(alloc, session, inner);
-            code
-        }
-        None => codes::CLOSED,
-    }
+    let mut inner = take(alloc, session);
+    let code = state_calls::begin(alloc, &mut inner, width, height);
+    give_back(alloc, session, inner);
+    code
 }

@@ -110,6 +110,8 @@ after_changes is_checked change_type text ss =
 abbrev pub after_part : Part → List Section → List Section
 after_part (parts.Context text) ss = after_context text ss
 after_part (parts.Changes is_checked change_type text) ss = after_changes is_checked change_type text ss
+after_part (parts.ContextLine line) ss = with_context (line ∷ []) ss
+after_part (parts.ChangedLine is_checked change_type line) ss = with_changes (changed_line is_checked change_type line ∷ []) ss
 after_part (parts.Lines is_changed) ss = ss ++ section_without_lines is_changed ∷ []
 after_part (parts.Mode is_checked mode) ss = ss ++ sections.FileMode is_checked mode ∷ []
 after_part (parts.Binary is_checked old new) ss = ss ++ sections.Binary is_checked old new ∷ []
@@ -125,12 +127,18 @@ after_addition (additions.File old_path path mode) state = record state { files 
 after_addition (additions.Part part) state =
     record state { files = modify (file_after_part part) state.files (length state.files - 1) }
 
+-- the state with one more file, as it is
+abbrev pub with_file : File → RecordState → RecordState
+with_file file state = record state { files = state.files ++ file ∷ [] }
+
 -- ---- why an addition is refused
 
 -- whether each text and line of a part is within the limit
 abbrev pub is_short_part : Part → Bool
 is_short_part (parts.Context text) = list_all is_short_text (lines_of text)
 is_short_part (parts.Changes is_checked change_type text) = list_all is_short_text (lines_of text)
+is_short_part (parts.ContextLine line) = is_short_text line
+is_short_part (parts.ChangedLine is_checked change_type line) = is_short_text line
 is_short_part (parts.Lines is_changed) = true
 is_short_part (parts.Mode is_checked mode) = true
 is_short_part (parts.Binary is_checked old new) = is_short_option old && is_short_option new

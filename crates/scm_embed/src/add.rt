@@ -5,6 +5,7 @@ ghost use Rattle.scm_types.specs.Edits.{modify};
 ghost use Rattle.scm_embed.specs.Lines.{lines_of};
 ghost use Rattle.scm_embed.specs.Additions.{after_addition, after_changes, after_context, after_part, changed_lines, commit_of, ends_in, file_after_part, file_of, is_changed, is_context, section_without_lines, with_changes, with_context, with_more_changes, with_more_context};
 
+use crate::add_line::{add_changed_line, add_context_line};
 use crate::addition::{Addition, Part};
 use crate::lines::{append_changes, append_context, copy_of};
 use crate::lists::push_item;
@@ -87,7 +88,7 @@ fn extend_last_changes(
 }
 
 /// Returns whether the last of `sections` has context lines.
-fn ends_in_context(sections: &[Section<'static>]) -> bool
+pub(crate) fn ends_in_context(sections: &[Section<'static>]) -> bool
     ensures { result ≡ ends_in is_context sections.now }
 {
     match sections.last() {
@@ -98,7 +99,7 @@ fn ends_in_context(sections: &[Section<'static>]) -> bool
 }
 
 /// Returns whether the last of `sections` has changed lines.
-fn ends_in_changes(sections: &[Section<'static>]) -> bool
+pub(crate) fn ends_in_changes(sections: &[Section<'static>]) -> bool
     ensures { result ≡ ends_in is_changed sections.now }
 {
     match sections.last() {
@@ -266,6 +267,12 @@ fn add_part(
             change_type,
             text,
         } => add_changes(alloc, sections, is_checked, change_type, text.as_str()),
+        Part::ContextLine { line } => add_context_line(alloc, sections, line.as_str()),
+        Part::ChangedLine {
+            is_checked,
+            change_type,
+            line,
+        } => add_changed_line(alloc, sections, is_checked, change_type, line.as_str()),
         Part::Lines { is_changed } => {
             push_item(alloc, sections, section_without_lines(alloc, is_changed))
         }

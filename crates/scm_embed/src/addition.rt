@@ -53,6 +53,26 @@ pub enum Part<'t> {
         text: Text<'t>,
     },
 
+    /// One context line, which is the whole text: it may be empty, have line ends inside, or lack one
+    /// at its end. It goes where the lines of `Context` go.
+    ContextLine {
+        /// The line.
+        line: Text<'t>,
+    },
+
+    /// One changed line, which is the whole text, as in `ContextLine`. It goes where the lines of
+    /// `Changes` go.
+    ChangedLine {
+        /// Whether the change is selected.
+        is_checked: bool,
+
+        /// Whether the line was added or removed.
+        change_type: ChangeType,
+
+        /// The line.
+        line: Text<'t>,
+    },
+
     /// A section without lines: of changed lines if `is_changed`, or else of context lines.
     Lines {
         /// Whether later changed lines go to the section, or later context lines.

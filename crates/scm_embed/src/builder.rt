@@ -1,14 +1,15 @@
 //! A state that a program makes by calls.
 ghost use Rattle.std.specs.Prelude.{◌≡◌, IfErr, None, OnErr, OnOk};
 ghost use Rattle.scm_types.specs.Limits.{is_accepted_state};
-ghost use Rattle.scm_embed.specs.Additions.{Refuses, after_addition, empty_state, refusal_of};
+ghost use Rattle.scm_embed.specs.Additions.{Refuses, after_addition, empty_state, refusal_of, with_file};
 
 use crate::add::add_to;
 use crate::addition::{Addition, BuildError};
+use crate::lists::push_item;
 use crate::refusals::refusal_of;
 use crate::trim::trimmed_state;
-use scm_types::{Items, RecordState};
-use std::alloc::Global;
+use scm_types::{File, Items, RecordState};
+use std::alloc::{AllocError, Global};
 use std::marker::Model;
 
 /// A state that a program makes by calls. Contracts see it as the state so far.
@@ -63,6 +64,17 @@ impl StateBuilder {
             Ok(()) => Ok(()),
             Err(_) => Err(BuildError::OutOfMemory),
         }
+    }
+
+    /// Adds `file` as it is, whatever the limits are: a state that passes one is not accepted.
+    ///
+    /// # Errors
+    /// `AllocError`: an allocation failed; the state is unchanged.
+    pub fn push_file(&mut self, alloc: Global, file: File<'static>) -> Result<(), AllocError>
+        ensures ok { OnOk result (self.new ≡ with_file file.entry self.old) }
+        ensures unchanged { OnErr result (self.new ≡ self.old) }
+    {
+        push_item(alloc, &mut self.state.files, file)
     }
 
     /// Returns the state so far.

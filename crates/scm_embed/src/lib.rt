@@ -2,6 +2,7 @@
 #![tactic(auto)]
 
 mod add;
+mod add_line;
 pub mod addition;
 pub mod builder;
 mod lines;
@@ -13,3 +14,4 @@ mod trim;
 
 pub use addition::{Addition, BuildError, Part};
 pub use builder::StateBuilder;
+pub use lines::has_short_lines;

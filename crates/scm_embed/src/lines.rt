@@ -29,7 +29,7 @@ fn is_short_with_end(line: &str) -> bool
 }
 
 /// Returns whether each line of `text` is within the limit.
-pub(crate) fn has_short_lines(text: &str) -> bool
+pub fn has_short_lines(text: &str) -> bool
     ensures { result ≡ list_all is_short_text (lines_of text.now) }
 {
     if text.len() <= RecordState::MAX_TEXT {
@@ -118,7 +118,7 @@ pub(crate) fn append_context(
 }
 
 /// Returns the changed line with `line` as its text.
-fn changed_line(
+pub(crate) fn changed_line(
     is_checked: bool,
     change_type: ChangeType,
     line: Text<'static>,

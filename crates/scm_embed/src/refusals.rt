@@ -31,6 +31,7 @@ fn is_short_part(part: &Part<'_>) -> bool
     match part {
         Part::Context { text } => has_short_lines(text.as_str()),
         Part::Changes { text, .. } => has_short_lines(text.as_str()),
+        Part::ContextLine { line } | Part::ChangedLine { line, .. } => is_short(line),
         Part::Lines { .. } | Part::Mode { .. } => true,
         Part::Binary {
             old_description,

@@ -16,7 +16,7 @@ use Rattle.scm_record.specs.FrameQueries.{shot_of}
 use Rattle.scm_record.specs.Step.{change}
 use Rattle.scm_record.specs.Run.{World, with_session, with_edits, with_text, Point, Before, Drawn, Within, Accepted, Failed, Goes, Breaks, no_such_place, too_long, after_answer, after_edit, outcome_by, step, resume, next_read, batch, after, Reaches, here, on, world_at, IsSameButSession, Stops}
 use Rattle.scm_record.specs.Ending.{IsFew}
-use Rattle.scm_record.proofs.Budget.{rank, rank_of, turns_left, Fits}
+use Rattle.scm_record.proofs.Budget.{rank, rank_of, turns_of, turns_left, Fits}
 use Rattle.scm_record.proofs.StepLemmas.{Pushes, nothing, pushed, leads}
 
 -- an event of lower rank is pushed
@@ -59,6 +59,19 @@ module _ (b r : ℕ) (drawn : Session) (rest : List Event) (left : rank_of rest 
       let scene = scene_of w.kind drawn in
       let c = change scene w.session event in
       outcome-fits scene (with_session w c.session) c.flow fits (pushes-quiet r event w.session.pending c.session.pending (leads scene w.session event).pushes quiet k)
+
+-- events cause a turn
+pub rank_of-some : (list : List Event) → 0 < length list → 1 ≤ rank_of list
+rank_of-some [] k = omega arith
+rank_of-some (event ∷ rest) k = omega arith
+
+-- a live session that goes on takes fewer turns, and one that does not takes none
+pub turns-fall : (flow : Flow) (pending : List Event) (n : ℕ) → (flow ≡ flows.GoOn → rank_of pending < n) → turns_of flow pending < n + 1
+turns-fall flows.GoOn pending n h = let below = h refl in omega (arith, below)
+turns-fall flows.Accept pending n h = omega arith
+turns-fall flows.Cancel pending n h = omega arith
+turns-fall (flows.Edit commit) pending n h = omega arith
+turns-fall (flows.Shoot place) pending n h = omega arith
 
 rank-le : (event : Event) → rank event ≤ 2
 rank-le events.None = omega arith

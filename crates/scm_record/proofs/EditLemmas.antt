@@ -24,7 +24,7 @@ commits-same true s f = refl
 commits-same false s f = refl
 
 -- an event changes no commit
-marks-commits : (s : Session) (state : RecordState) (flow : Flow) → Marks s state flow → state.commits ≡ s.shown.state.commits
+pub marks-commits : (s : Session) (state : RecordState) (flow : Flow) → Marks s state flow → state.commits ≡ s.shown.state.commits
 marks-commits s _ _ (steps.unmarked allowed) = refl
 marks-commits s _ _ toggled = commits-same s.shown.state.is_read_only s (with_key_toggled s.shown.selection)
 marks-commits s _ _ inverted = commits-same s.shown.state.is_read_only s with_all_inverted

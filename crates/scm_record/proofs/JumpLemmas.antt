@@ -1,11 +1,13 @@
 -- A jump to a key is what a batch of moves leads to.
 use Rattle.std.proofs.Common.{◌≡◌, ℕ, zero, suc, ◌+◌, ◌-◌, min, Bool, true, false, cond, List, [], ◌∷◌, ◌++◌, refl, sym, ap, ◌∙◌, subst, Option, Some, None, arith}
-use Rattle.std.specs.Prelude.{is_some, nat_le, nat_lt}
+use Rattle.std.specs.Prelude.{is_some, nat_le, nat_lt, not}
+use Rattle.std.proofs.lemmas.Bool.{and_parts}
 use Rattle.std.proofs.lemmas.Bool.Decides.{nat_tests}
 use Rattle.scm_types.specs.Limits.{max_scroll}
 use Rattle.scm_types.specs.declared.file.File.{File}
 use Rattle.scm_types.specs.declared.keys.SelectionKey.{SelectionKey}
 use Rattle.scm_types.specs.declared.keys.SelectionKey.TheVariants as keys
+use Rattle.scm_overlay.specs.declared.quit_dialog.QuitDialog.{QuitDialog}
 use Rattle.scm_view.specs.Frame.{Frame}
 use Rattle.scm_input.specs.declared.events.Event.{Event}
 use Rattle.scm_input.specs.declared.events.Event.TheVariants as events
@@ -21,8 +23,8 @@ use Rattle.scm_record.specs.Quiet.{after_ensure}
 use Rattle.scm_record.specs.Run.{Setting, World, world_in, Point, Before, Drawn, Within, resume, after_change, Outcome, batch, Reaches, here, on, world_at}
 use Rattle.scm_types.specs.declared.state.RecordState.{RecordState}
 use Rattle.scm_record.specs.Live.{Live}
-use Rattle.scm_record.specs.LiveCalls.{live_setting, fixed_reply, waiting_point, editing_point, Leads, Call, Path, still, press, say, resize}
-use Rattle.scm_record.specs.Jumps.{LeadToKey}
+use Rattle.scm_record.specs.LiveCalls.{live_setting, fixed_reply, waiting_point, editing_point, Leads, BatchLeads, Call, Path, still, press, press_all, say, resize}
+use Rattle.scm_record.specs.Jumps.{LeadToKey, after_jump, after_selecting, can_select}
 use Rattle.scm_record.specs.declared.live.Turn.{Turn}
 use Rattle.scm_record.specs.declared.live.Turn.TheVariants.{Waiting, Editing, Accepted}
 use Rattle.scm_record.proofs.FoldLemmas.{edited-fine, reaches-fine, start-fine}
@@ -165,6 +167,8 @@ path-good : {turn last : Turn} {calls : List Call} → Path turn calls last → 
 path-good still h = h
 path-good (press {l = l} {event = event} {turn = turn} g path) h =
     path-good path (led-good (waiting_point l (Batch (event ∷ []) ∷ []) [] 0) l.kind turn h.0 (g [] [] 0))
+path-good (press_all {l = l} {list = list} {turn = turn} g path) h =
+    path-good path (led-good (waiting_point l (Batch list ∷ []) [] 0) l.kind turn h.0 (g [] [] 0))
 path-good (say {a = a} {text = text} {turn = turn} g path) h =
     let w = world_in (live_setting a.kind [] (fixed_reply text ∷ [])) a.session 0 in
     path-good path
@@ -177,3 +181,21 @@ reached given kind calls l key path closed is =
     let good = path-good path (start-fine given, refl) in
     let way = jumps l key good.1 (ap is_some closed) good.0 is in
     (way.moves, λ reads edits frames. (frames + 1 + 1, refl, refl, way.leads reads edits frames))
+
+closed-by : (dialog : Option QuitDialog) → is_some dialog ≡ false → dialog ≡ None
+closed-by None e = refl
+closed-by (Some dialog) e = cc
+
+not-true : (b : Bool) → not b ≡ true → b ≡ false
+not-true true e = cc
+not-true false e = refl
+
+-- a key that can be selected at once is one that moves reach
+pub jumped : (given : RecordState) (kind : TerminalKind) (calls : List Call) (l : Live) (key : SelectionKey) → Path (Waiting (record { session = start given; kind = kind })) calls (Waiting l)
+    → can_select l key ≡ true → (moves : List Event) × BatchLeads l moves (Waiting (after_selecting l key))
+jumped given kind calls l key path can =
+    let parts = and_parts (not (is_some l.session.shown.quit_dialog)) (is_key_of l.session.shown.state.files key) can in
+    let closed = closed-by l.session.shown.quit_dialog (not-true (is_some l.session.shown.quit_dialog) parts.0) in
+    let way = reached given kind calls l key path closed parts.1 in
+    let same : after_jump l key ≡ after_selecting l key = ap (λ (b : Bool). cond b (after_jump l key) l) (sym can) in
+    (way.0, subst (λ (next : Live). BatchLeads l way.0 (Waiting next)) same way.1)

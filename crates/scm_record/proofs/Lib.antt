@@ -27,7 +27,9 @@ pub mod HeadlineLemmas
 pub mod AcceptedLemmas
 -- turns whose frame nobody sees
 pub mod QuietLemmas
--- a session that a program drives
+-- a session that a program drives: its batches, and its calls
+pub mod AskLemmas
+pub mod HandleLemmas
 pub mod LiveLemmas
 -- paths of its calls
 pub mod PathLemmas

@@ -1,7 +1,6 @@
--- A live session goes by the steps of a run.
-use Rattle.std.proofs.Common.{◌≡◌, ℕ, ◌+◌, ◌<◌, ◌≤◌, Bool, true, false, IsTrue, cond, List, [], ◌∷◌, ◌++◌, length, Option, Some, None, sym, ap, ◌∙◌, refl, subst, arith}
-use Rattle.std.specs.Prelude.{nat_lt, is_some}
-use Rattle.std.specs.Option.{unwrap_or}
+-- A live session goes by the steps of a run. Other crates may use these lemmas.
+use Rattle.std.proofs.Common.{◌≡◌, ℕ, ◌+◌, ◌-◌, ◌*◌, ◌<◌, ◌≤◌, Bool, true, false, IsTrue, cond, List, [], ◌∷◌, ◌++◌, length, Option, Some, None, sym, ap, ◌∙◌, refl, subst, arith}
+use Rattle.std.specs.Prelude.{nat_lt}
 use Rattle.std.proofs.lemmas.Bool.{le-ltb}
 use Rattle.scm_errors.specs.declared.error.RecordError.{RecordError}
 use Rattle.scm_errors.specs.declared.error.RecordError.TheVariants.{OutOfMemory, Cancelled as cancelled}
@@ -12,7 +11,7 @@ use Rattle.scm_input.specs.declared.inputs.TerminalKind.{TerminalKind}
 use Rattle.scm_input.specs.Script.{Read, Batch, Reply, no_events_left}
 use Rattle.scm_record.specs.declared.session.Flow.{Flow}
 use Rattle.scm_record.specs.declared.session.Flow.TheVariants as flows
-use Rattle.scm_record.specs.Session.{Session, IsDrawable, after_frame, message_of, message_text, start, with_message, without_pending}
+use Rattle.scm_record.specs.Session.{Session, IsDrawable, after_frame, start, with_message, without_pending}
 use Rattle.scm_record.specs.declared.frame.DrawnFrame.{DrawnFrame}
 use Rattle.scm_view.specs.Frame.{Frame}
 use Rattle.scm_record.specs.Frames.{HasSize, IsSceneOf, Scene, columns_of, rows_of, scene_of}
@@ -20,10 +19,11 @@ use Rattle.scm_record.specs.FrameQueries.{hit, shot_of}
 use Rattle.scm_record.specs.Step.{Change, change}
 use Rattle.scm_record.specs.Run.{Setting, World, world_in, with_session, Outcome, Goes, Breaks, Point, Before, Drawn, Within, Accepted, no_such_place, too_long, after_screenshot, after_edit, outcome_by, resume, batch, Reaches, here, on, world_at, Stops}
 use Rattle.scm_record.specs.RunContracts.{IsFault}
+use Rattle.scm_record.specs.Batches.{HandlesBatch, is_batch}
 use Rattle.scm_record.specs.Live.{Live, LiveEdit, on_screen}
 use Rattle.scm_record.specs.declared.live.Turn.{Turn}
 use Rattle.scm_record.specs.declared.live.Turn.TheVariants.{Waiting, Editing, Accepted as Done}
-use Rattle.scm_record.specs.LiveCalls.{live_setting, fixed_reply, waiting_point, editing_point, Leads, Fails, EventLeads, MessageLeads, Call, Press, Say, Resize, is_on_one_screen, Path, still, press, say, resize, reads_of, edits_of, beginning, run_of, IsConfirmed, IsRun, AreRuns, last, resized, EndsIn, press_fails, say_fails, IsFailedRun}
+use Rattle.scm_record.specs.LiveCalls.{live_setting, fixed_reply, waiting_point, editing_point, Leads, Fails, BatchLeads, EventLeads, MessageLeads, Call, Press, PressAll, Say, Resize, is_on_one_screen, Path, still, press, press_all, say, resize, reads_of, edits_of, beginning, run_of, IsConfirmed, IsRun, AreRuns, last, resized, EndsIn, press_fails, press_all_fails, say_fails, IsFailedRun}
 use Rattle.scm_record.specs.Headline.{ConfirmsQuit, IsInline, owner_at, window_of}
 use Rattle.scm_record.specs.Keeping.{IsKept}
 use Rattle.scm_record.proofs.BatchLemmas.{batches-are-handled, batches-begin-as-drawn}
@@ -32,58 +32,10 @@ use Rattle.scm_record.proofs.ShotLemmas.{clicks-hit-owners, frame-plain, hit-on_
 use Rattle.scm_record.proofs.QuitLemmas.{accepted-confirmed, failed-unconfirmed, fault-unconfirmed}
 use Rattle.scm_record.proofs.KeepingLemmas.{Kept, is-kept, reaches-kept, start-kept}
 use Rattle.scm_types.specs.Limits.{is_accepted_state, is_short_text, max_scroll}
-use Rattle.scm_record.proofs.Budget.{rank}
-use Rattle.scm_record.proofs.StepLemmas.{Allows, marks-allow, Pushes, nothing, pushed, leads}
+use Rattle.scm_record.proofs.Budget.{rank_of, turns_of}
+use Rattle.scm_record.proofs.BudgetLemmas.{rank_of-some, reaches-fits, turns-fall}
 use Rattle.scm_record.proofs.RunLemmas.{reaches-trans, step-of, stops-fault, stops-memory, stops-after}
-use Rattle.scm_record.proofs.AcceptedLemmas.{change-keeps-drawable, start-drawable}
-
--- ---- what an event leaves pending
-
-pushes-few : (event : Event) (old new : List Event) → Pushes event old new → old ≡ [] → length new ≤ 1
-pushes-few event old _ nothing e = rw e (omega arith)
-pushes-few event old _ (pushed next below) e = rw e (omega arith)
-
--- at most one event, where nothing was pending
-pub few-pending : (scene : Scene) (s : Session) (event : Event) → s.pending ≡ [] → length (change scene s event).session.pending ≤ 1
-few-pending scene s event e = pushes-few event s.pending (change scene s event).session.pending (leads scene s event).pushes e
-
--- the same of the session that the event is known to make
-pub changed-few : (scene : Scene) (s t : Session) (event : Event) (flow : Flow) → change scene s event ≡ record { session = t; flow = flow } → s.pending ≡ [] → length t.pending ≤ 1
-changed-few scene s t event flow is e = subst (λ (c : Change). length c.session.pending ≤ 1) is (few-pending scene s event e)
-
-pub changed-drawable : (scene : Scene) (s t : Session) (event : Event) (flow : Flow) → change scene s event ≡ record { session = t; flow = flow } → IsDrawable s → IsDrawable t
-changed-drawable scene s t event flow is h = subst (λ (c : Change). IsDrawable c.session) is (change-keeps-drawable scene s event h)
-
-said-by : (message : Option (List ℕ)) → is_some message ≡ true → message ≡ Some (unwrap_or message [])
-said-by None e = cc
-said-by (Some text) e = refl
-
--- the commit whose message is to be edited has one
-pub changed-said : (scene : Scene) (s t : Session) (event : Event) (flow : Flow) → change scene s event ≡ record { session = t; flow = flow } → (commit : ℕ) → flow ≡ flows.Edit commit → message_of t commit ≡ Some (message_text t commit)
-changed-said scene s t event flow is commit e =
-    let c = change scene s event in
-    let allowed = marks-allow s c.session c.session.shown.state c.flow (leads scene s event).marks refl in
-    let allows = subst (λ (c : Change). Allows c.session c.flow) is allowed in
-    said-by (message_of t commit) (subst (λ (f : Flow). Allows t f) e allows)
-
-abbrev first-of : (d : Event) → List Event → Event
-first-of d [] = d
-first-of d (event ∷ rest) = event
-
-pushes-lower : (event next : Event) (old new : List Event) → Pushes event old new → old ≡ [] → next ∷ [] ≡ new → rank next < rank event
-pushes-lower event next old _ nothing e f =
-    let none : 1 ≡ 0 = ap length (f ∙ e) in
-    omega (arith, none)
-pushes-lower event next old _ (pushed one below) e f =
-    let same : next ≡ one = ap (first-of next) (f ∙ ap (λ (list : List Event). list ++ one ∷ []) e) in
-    rw same (omega (arith, below))
-
--- of lower rank
-pub falls : (scene : Scene) (s : Session) (event next : Event) → s.pending ≡ [] → next ∷ [] ≡ (change scene s event).session.pending → rank next < rank event
-falls scene s event next e f = pushes-lower event next s.pending (change scene s event).session.pending (leads scene s event).pushes e f
-
-pub changed-falls : (scene : Scene) (s t : Session) (event next : Event) (flow : Flow) → change scene s event ≡ record { session = t; flow = flow } → s.pending ≡ [] → next ∷ [] ≡ t.pending → rank next < rank event
-changed-falls scene s t event next flow is e f = falls scene s event next e (f ∙ ap (λ (c : Change). c.session.pending) (sym is))
+use Rattle.scm_record.proofs.AcceptedLemmas.{start-drawable}
 
 -- a frame of what can be drawn can be drawn
 pub drawn-drawable : (t u : Session) → u ≡ without_pending (after_frame t) → IsDrawable t → IsDrawable u
@@ -112,42 +64,59 @@ fails-after p q error r h = failing error p h.0 (stops-after error p q h.0 r h.1
 pub fails-memory : (p : Point) (error : RecordError) → error ≡ OutOfMemory → Fails p error
 fails-memory p error e = failing error p (world_at p) (stops-memory error p p (world_at p) (ap fault_of e) here (record { reads = refl; edits = refl; texts = refl; frames = refl }))
 
-module _ (a : Setting) (drawn s t : Session) (frames : ℕ) (event : Event) (flow : Flow) (is : change (scene_of a.kind drawn) s event ≡ record { session = t; flow = flow }) where
-  abbrev P : Point
-  P = Within drawn (world_in a s frames) (event ∷ [])
+module _ (a : Setting) (drawn t : Session) (frames : ℕ) (flow : Flow) where
+  abbrev End : Point
+  End = resume drawn [] (outcome_by (scene_of a.kind drawn) (world_in a t frames) flow)
 
-  -- where it is known what follows
-  follows : (known : Flow) → flow ≡ known → Reaches P (resume drawn [] (outcome_by (scene_of a.kind drawn) (world_in a t frames) known))
-  follows known e =
-      subst (λ (o : Outcome). Reaches P (resume drawn [] o)) (step-of (scene_of a.kind drawn) a s t frames event flow known is e) (on here)
+  -- the end of a batch, where it is known what follows
+  follows : (known : Flow) → flow ≡ known → Reaches End (resume drawn [] (outcome_by (scene_of a.kind drawn) (world_in a t frames) known))
+  follows known e = subst (λ (f : Flow). Reaches End (resume drawn [] (outcome_by (scene_of a.kind drawn) (world_in a t frames) f))) e here
 
   -- the point before the next frame
-  pub frames-next : flow ≡ flows.GoOn → Reaches P (Before (world_in a t frames))
+  pub frames-next : flow ≡ flows.GoOn → Reaches End (Before (world_in a t frames))
   frames-next e = on (follows flows.GoOn e)
 
-  -- the next frame
-  pub goes : flow ≡ flows.GoOn → Reaches P (Drawn (world_in a (after_frame t) (frames + 1)))
-  goes e = on (frames-next e)
-
   -- the end
-  pub ends : flow ≡ flows.Accept → Reaches P (Accepted (world_in a t frames))
+  pub ends : flow ≡ flows.Accept → Reaches End (Accepted (world_in a t frames))
   ends e = follows flows.Accept e
 
   -- a message is asked for
-  pub edits : (commit : ℕ) → flow ≡ flows.Edit commit → Reaches P (resume drawn [] (after_edit (world_in a t frames) commit a.edits))
+  pub edits : (commit : ℕ) → flow ≡ flows.Edit commit → Reaches End (resume drawn [] (after_edit (world_in a t frames) commit a.edits))
   edits commit e = follows (flows.Edit commit) e
 
   -- the user gives up
-  pub gives-up : flow ≡ flows.Cancel → Fails P cancelled
-  gives-up e = failing cancelled P (world_in a t frames) (stops-fault cancelled Cancelled P (world_in a t frames) (follows flows.Cancel e) refl)
+  pub gives-up : flow ≡ flows.Cancel → Fails End cancelled
+  gives-up e = failing cancelled End (world_in a t frames) (stops-fault cancelled Cancelled End (world_in a t frames) (follows flows.Cancel e) refl)
 
   -- a screenshot without a store
-  pub lacks-place : (place : ℕ) → flow ≡ flows.Shoot place → a.store.texts ≡ [] → (error : RecordError) → IsFault no_such_place error → Fails P error
+  pub lacks-place : (place : ℕ) → flow ≡ flows.Shoot place → a.store.texts ≡ [] → (error : RecordError) → IsFault no_such_place error → Fails End error
   lacks-place place e none error f =
       let w = world_in a t frames in
       let lacks : nat_lt place (length w.texts) ≡ false = rw none (no-place place) in
       let broken : after_screenshot w place (shot_of (scene_of a.kind drawn) t.cleared) ≡ Breaks no_such_place w = rw lacks refl in
-      failing error P w (stops-fault error no_such_place P w (subst (λ (o : Outcome). Reaches P (resume drawn [] o)) broken (follows (flows.Shoot place) e)) f)
+      failing error End w (stops-fault error no_such_place End w (subst (λ (o : Outcome). Reaches End (resume drawn [] o)) broken (follows (flows.Shoot place) e)) f)
+
+module _ (IsSeen : Scene → Type 0) (list : List Event) (s t : Session) (flow : Flow) (handles : HandlesBatch IsSeen list s flow t) (kind : TerminalKind) (drawn : Session) (seen : IsSeen (scene_of kind drawn)) where
+  -- what it leaves pending takes fewer turns
+  handled-low : flow ≡ flows.GoOn → (r : ℕ) → s.pending ≡ [] → rank_of list ≤ r + 1 → rank_of t.pending ≤ r
+  handled-low e r calm k =
+      let a = live_setting kind [] [] in
+      let none : rank_of s.pending ≡ 0 = ap rank_of calm in
+      let way = reaches-trans (handles.reached a drawn 0 seen refl) (frames-next a drawn t 0 flow e) in
+      let left = reaches-fits r (Within drawn (world_in a s 0) list) way (r, k, omega arith, omega arith) in
+      omega (arith, left)
+
+  pub handled-falls : s.pending ≡ [] → 0 < length list → turns_of flow t.pending < rank_of list + 1
+  handled-falls calm some = turns-fall flow t.pending (rank_of list) (λ e.
+      let low = handled-low e (rank_of list - 1) calm (omega (arith, rank_of-some list some)) in
+      omega (arith, low, rank_of-some list some))
+
+-- the next frame after an event
+module _ (a : Setting) (drawn s t : Session) (frames : ℕ) (event : Event) (flow : Flow) (is : change (scene_of a.kind drawn) s event ≡ record { session = t; flow = flow }) where
+  pub goes : flow ≡ flows.GoOn → Reaches (Within drawn (world_in a s frames) (event ∷ [])) (Drawn (world_in a (after_frame t) (frames + 1)))
+  goes e =
+      let p = Within drawn (world_in a s frames) (event ∷ []) in
+      on (on (subst (λ (o : Outcome). Reaches p (resume drawn [] o)) (step-of (scene_of a.kind drawn) a s t frames event flow flows.GoOn is e) (on here)))
 
 -- a frame has the size of the screen whose scene it shows
 pub shown-sized : (kind : TerminalKind) (drawn : Session) (frame : DrawnFrame) → IsSceneOf (scene_of kind drawn) frame → HasSize kind frame
@@ -163,22 +132,50 @@ pub comes-to-wait : (p : Point) (kind : TerminalKind) (reads : List Read) (edits
 comes-to-wait p kind reads edits t u frames e f r =
     (frames, refl, ap (λ (s : Session). s.pending) f, subst (λ (x : Session). Reaches p (Drawn (world_in (live_setting kind reads edits) x frames))) (calm-session t u e f) r)
 
--- a frame with an event pending: it is handled
+-- the same of the session that is known to wait there
+pub waits-at : (p : Point) (kind : TerminalKind) (reads : List Read) (edits : List Reply) (s : Session) (frames : ℕ) (l : Live)
+    → s.pending ≡ [] → l ≡ record { session = after_frame s; kind = kind } → Reaches p (Before (world_in (live_setting kind reads edits) s frames)) → Leads p kind reads edits (Waiting l)
+waits-at p kind reads edits s frames l calm e r =
+    subst (λ (x : Live). Leads p kind reads edits (Waiting x)) (sym e) (frames + 1, refl, calm, on r)
+
+pub none-pending : (list : List Event) (has : Bool) → (0 < length list → has ≡ true) → has ≡ false → list ≡ []
+none-pending [] has h e = refl
+none-pending (event ∷ rest) has h e = let some : has ≡ true = h (omega arith) in cc
+
+-- what is pending before a frame is the batch after it
+pub batch-after : (t u : Session) (list : List Event) → list ≡ t.pending → u ≡ without_pending (after_frame t) → is_batch t t.pending ≡ true → is_batch u list ≡ true
+batch-after t u list e f h = rw (e, f) h
+
+begins : (p : Point) (w : World) (list : List Event) → 0 < length list → Reaches p (batch w list) → Reaches p (Within w.session (with_session w (without_pending w.session)) list)
+begins p w [] k r = absurd (omega arith)
+begins p w (event ∷ rest) k r = r
+
+-- a frame with events pending: they are handled
+pub comes-to-batch : (p : Point) (a : Setting) (t u : Session) (frames : ℕ) (list : List Event)
+    → list ≡ t.pending → 0 < length list → u ≡ without_pending (after_frame t) → Reaches p (Drawn (world_in a (after_frame t) frames)) → Reaches p (Within (after_frame t) (world_in a u frames) list)
+comes-to-batch p a t u frames list e k f r =
+    let w = world_in a (after_frame t) frames in
+    let begun : Reaches p (batch w list) = subst (λ (events : List Event). Reaches p (batch w events)) (sym e) (on r) in
+    subst (λ (x : Session). Reaches p (Within (after_frame t) (world_in a x frames) list)) (sym f) (begins p w list k begun)
+
+-- the same of one event
 pub comes-to-handle : (p : Point) (a : Setting) (t u : Session) (frames : ℕ) (next : Event)
     → next ∷ [] ≡ t.pending → u ≡ without_pending (after_frame t) → Reaches p (Drawn (world_in a (after_frame t) frames)) → Reaches p (Within (after_frame t) (world_in a u frames) (next ∷ []))
-comes-to-handle p a t u frames next e f r =
-    let w = world_in a (after_frame t) frames in
-    let begun : Reaches p (batch w (next ∷ [])) = subst (λ (list : List Event). Reaches p (batch w list)) (sym e) (on r) in
-    subst (λ (x : Session). Reaches p (Within (after_frame t) (world_in a x frames) (next ∷ []))) (sym f) begun
+comes-to-handle p a t u frames next e f r = comes-to-batch p a t u frames (next ∷ []) e (omega arith) f r
 
 -- ---- calls
+
+-- a batch that is handed in is read
+pub reads-batch : (l : Live) (list : List Event) (reads : List Read) (edits : List Reply) (frames : ℕ) → l.session.pending ≡ []
+    → Reaches (waiting_point l (Batch list ∷ reads) edits frames) (Within l.session (world_in (live_setting l.kind reads edits) l.session frames) list)
+reads-batch l list reads edits frames e =
+    let p = waiting_point l (Batch list ∷ reads) edits frames in
+    subst (λ (pending : List Event). Reaches p (batch (world_in (live_setting l.kind (Batch list ∷ reads) edits) l.session frames) pending)) e (on here)
 
 -- an event that is handed in is read
 pub reads-event : (l : Live) (event : Event) (reads : List Read) (edits : List Reply) (frames : ℕ) → l.session.pending ≡ []
     → Reaches (waiting_point l (Batch (event ∷ []) ∷ reads) edits frames) (Within l.session (world_in (live_setting l.kind reads edits) l.session frames) (event ∷ []))
-reads-event l event reads edits frames e =
-    let p = waiting_point l (Batch (event ∷ []) ∷ reads) edits frames in
-    subst (λ (list : List Event). Reaches p (batch (world_in (live_setting l.kind (Batch (event ∷ []) ∷ reads) edits) l.session frames) list)) e (on here)
+reads-event l event reads edits frames e = reads-batch l (event ∷ []) reads edits frames e
 
 module _ (a : LiveEdit) (text : List ℕ) (drawn : Session) (reads : List Read) (edits : List Reply) (frames : ℕ) where
   abbrev Asked : Point
@@ -187,16 +184,15 @@ module _ (a : LiveEdit) (text : List ℕ) (drawn : Session) (reads : List Read) 
   abbrev said : Session
   said = with_message a.session a.commit text
 
-  -- a message that is handed in is part of the next frame
-  pub says-message : true ≡ is_short_text text → Reaches Asked (Drawn (world_in (live_setting a.kind reads edits) (after_frame said) (frames + 1)))
+  -- a message that is handed in ends its batch
+  says-message : true ≡ is_short_text text → Reaches Asked (Within drawn (world_in (live_setting a.kind reads edits) said frames) [])
   says-message e =
       let w = world_in (live_setting a.kind reads edits) a.session frames in
-      let short : Reaches Asked (resume drawn [] (cond true (Goes (with_session w said)) (Breaks too_long w))) = subst (λ (b : Bool). Reaches Asked (resume drawn [] (cond b (Goes (with_session w said)) (Breaks too_long w)))) (sym e) here in
-      on (on short)
+      subst (λ (b : Bool). Reaches Asked (resume drawn [] (cond b (Goes (with_session w said)) (Breaks too_long w)))) (sym e) here
 
   -- the same of the session that is known to say it
-  pub says-drawn : (t : Session) → t ≡ said → true ≡ is_short_text text → Reaches Asked (Drawn (world_in (live_setting a.kind reads edits) (after_frame t) (frames + 1)))
-  says-drawn t e short = subst (λ (s : Session). Reaches Asked (Drawn (world_in (live_setting a.kind reads edits) (after_frame s) (frames + 1)))) (sym e) (says-message short)
+  pub says-on : (t : Session) → t ≡ said → true ≡ is_short_text text → Reaches Asked (Within drawn (world_in (live_setting a.kind reads edits) t frames) [])
+  says-on t e short = subst (λ (s : Session). Reaches Asked (Within drawn (world_in (live_setting a.kind reads edits) s frames) [])) (sym e) (says-message short)
 
   -- one that is too long is a fault
   pub says-too-long : false ≡ is_short_text text → (error : RecordError) → IsFault too_long error → Fails Asked error
@@ -208,10 +204,10 @@ module _ (a : LiveEdit) (text : List ℕ) (drawn : Session) (reads : List Read) 
 -- ---- any calls
 
 -- from a turn that the steps lead to they lead to the next one
-handles-on : (p : Point) (kind : TerminalKind) (l : Live) (event : Event) (turn : Turn) (reads : List Read) (edits : List Reply)
-    → EventLeads l event turn → Leads p kind (Batch (event ∷ []) ∷ reads) edits (Waiting l) → Leads p kind reads edits turn
-handles-on p kind l event turn reads edits g h =
-    let q = waiting_point l (Batch (event ∷ []) ∷ reads) edits h.0 in
+handles-on : (p : Point) (kind : TerminalKind) (l : Live) (list : List Event) (turn : Turn) (reads : List Read) (edits : List Reply)
+    → BatchLeads l list turn → Leads p kind (Batch list ∷ reads) edits (Waiting l) → Leads p kind reads edits turn
+handles-on p kind l list turn reads edits g h =
+    let q = waiting_point l (Batch list ∷ reads) edits h.0 in
     leads-after p q kind reads edits turn h.3 (subst (λ (k : TerminalKind). Leads q k reads edits turn) h.1 (g reads edits h.0))
 
 answers-on : (p : Point) (kind : TerminalKind) (a : LiveEdit) (text : List ℕ) (turn : Turn) (reads : List Read) (edits : List Reply)
@@ -225,7 +221,9 @@ path-leads : (reads : List Read) (edits : List Reply) (p : Point) (kind : Termin
     → IsTrue (is_on_one_screen calls) → Path turn calls end → Leads p kind (reads_of calls ++ reads) (edits_of calls ++ edits) turn → Leads p kind reads edits end
 path-leads reads edits p kind k still h = h
 path-leads reads edits p kind k (press {l = l} {event = event} {turn = turn} {calls = calls} g path) h =
-    path-leads reads edits p kind k path (handles-on p kind l event turn (reads_of calls ++ reads) (edits_of calls ++ edits) g h)
+    path-leads reads edits p kind k path (handles-on p kind l (event ∷ []) turn (reads_of calls ++ reads) (edits_of calls ++ edits) g h)
+path-leads reads edits p kind k (press_all {l = l} {list = list} {turn = turn} {calls = calls} g path) h =
+    path-leads reads edits p kind k path (handles-on p kind l list turn (reads_of calls ++ reads) (edits_of calls ++ edits) g h)
 path-leads reads edits p kind k (say {a = a} {text = text} {turn = turn} {calls = calls} g path) h =
     path-leads reads edits p kind k path (answers-on p kind a text turn (reads_of calls ++ reads) (edits_of calls ++ edits) g h)
 path-leads reads edits p kind k (resize path) h = cc
@@ -242,25 +240,22 @@ is-confirmed w kind (Done state) h = subst (λ (x : RecordState). ConfirmsQuit (
 reads-last : (calls : List Call) (call : Call) (reads : List Read) → reads_of calls ++ (reads_of (call ∷ []) ++ reads) ≡ reads_of (calls ++ call ∷ []) ++ reads
 reads-last [] call reads = refl
 reads-last (Press event ∷ calls) call reads = ap (λ (list : List Read). Batch (event ∷ []) ∷ list) (reads-last calls call reads)
+reads-last (PressAll events ∷ calls) call reads = ap (λ (list : List Read). Batch events ∷ list) (reads-last calls call reads)
 reads-last (Say text ∷ calls) call reads = reads-last calls call reads
 reads-last (Resize kind ∷ calls) call reads = reads-last calls call reads
 
 edits-last : (calls : List Call) (call : Call) (edits : List Reply) → edits_of calls ++ (edits_of (call ∷ []) ++ edits) ≡ edits_of (calls ++ call ∷ []) ++ edits
 edits-last [] call edits = refl
 edits-last (Press event ∷ calls) call edits = edits-last calls call edits
+edits-last (PressAll events ∷ calls) call edits = edits-last calls call edits
 edits-last (Say text ∷ calls) call edits = ap (λ (list : List Reply). fixed_reply text ∷ list) (edits-last calls call edits)
 edits-last (Resize kind ∷ calls) call edits = edits-last calls call edits
 
 module _ (s : Session) (kind : TerminalKind) (drawable : IsDrawable s) (calm : s.pending ≡ []) where
-  pressed-last : (calls : List Call) (event : Event) (reads : List Read) (edits : List Reply)
-      → beginning s kind calls (Batch (event ∷ []) ∷ reads) edits ≡ beginning s kind (calls ++ Press event ∷ []) reads edits
-  pressed-last calls event reads edits =
-      rw (reads-last calls (Press event) reads) (rw (edits-last calls (Press event) edits) refl)
-
-  said-last : (calls : List Call) (text : List ℕ) (reads : List Read) (edits : List Reply)
-      → beginning s kind calls reads (fixed_reply text ∷ edits) ≡ beginning s kind (calls ++ Say text ∷ []) reads edits
-  said-last calls text reads edits =
-      rw (reads-last calls (Say text) reads) (rw (edits-last calls (Say text) edits) refl)
+  -- with a call more, whose reads and edits come last
+  called-last : (calls : List Call) (call : Call) (reads : List Read) (edits : List Reply)
+      → beginning s kind calls (reads_of (call ∷ []) ++ reads) (edits_of (call ∷ []) ++ edits) ≡ beginning s kind (calls ++ call ∷ []) reads edits
+  called-last calls call reads edits = rw (reads-last calls call reads) (rw (edits-last calls call edits) refl)
 
   -- calls on one screen are a run
   is-run : (calls : List Call) (turn : Turn) → IsTrue (is_on_one_screen calls) → Path (Waiting (record { session = after_frame s; kind = kind })) calls turn → IsRun s kind calls turn
@@ -281,12 +276,17 @@ module _ (s : Session) (kind : TerminalKind) (drawable : IsDrawable s) (calm : s
   is-failed-run calls {error = error} k path (press_fails {l = l} {event = event} g) = λ reads edits.
       let h = (is-run calls (Waiting l) k path).leads (Batch (event ∷ []) ∷ reads) edits in
       let p = beginning s kind calls (Batch (event ∷ []) ∷ reads) edits in
-      subst (λ (q : Point). Fails q error) (pressed-last calls event reads edits)
+      subst (λ (q : Point). Fails q error) (called-last calls (Press event) reads edits)
       (fails-after p (waiting_point l (Batch (event ∷ []) ∷ reads) edits h.0) error h.3 (g reads edits h.0))
+  is-failed-run calls {error = error} k path (press_all_fails {l = l} {list = list} g) = λ reads edits.
+      let h = (is-run calls (Waiting l) k path).leads (Batch list ∷ reads) edits in
+      let p = beginning s kind calls (Batch list ∷ reads) edits in
+      subst (λ (q : Point). Fails q error) (called-last calls (PressAll list) reads edits)
+      (fails-after p (waiting_point l (Batch list ∷ reads) edits h.0) error h.3 (g reads edits h.0))
   is-failed-run calls {error = error} k path (say_fails {a = a} {text = text} g) = λ reads edits.
       let h = (is-run calls (Editing a) k path).leads reads (fixed_reply text ∷ edits) in
       let p = beginning s kind calls reads (fixed_reply text ∷ edits) in
-      subst (λ (q : Point). Fails q error) (said-last calls text reads edits)
+      subst (λ (q : Point). Fails q error) (called-last calls (Say text) reads edits)
       (fails-after p (editing_point h.0 a reads (fixed_reply text ∷ edits) h.1) error h.3 (g h.0 reads edits h.1))
 
 -- ---- screen by screen
@@ -301,6 +301,10 @@ press-first : {l : Live} {event : Event} {turn end : Turn} {calls : List Call} �
 press-first g (one k path) = one k (press g path)
 press-first g (more k path parts) = more k (press g path) parts
 
+press-all-first : {l : Live} {list : List Event} {turn end : Turn} {calls : List Call} → BatchLeads l list turn → Parts turn calls end → Parts (Waiting l) (PressAll list ∷ calls) end
+press-all-first g (one k path) = one k (press_all g path)
+press-all-first g (more k path parts) = more k (press_all g path) parts
+
 say-first : {a : LiveEdit} {text : List ℕ} {turn end : Turn} {calls : List Call} → MessageLeads a text turn → Parts turn calls end → Parts (Editing a) (Say text ∷ calls) end
 say-first g (one k path) = one k (say g path)
 say-first g (more k path parts) = more k (say g path) parts
@@ -308,6 +312,7 @@ say-first g (more k path parts) = more k (say g path) parts
 in-parts : {turn end : Turn} {calls : List Call} → Path turn calls end → Parts turn calls end
 in-parts still = one refl still
 in-parts (press g path) = press-first g (in-parts path)
+in-parts (press_all g path) = press-all-first g (in-parts path)
 in-parts (say g path) = say-first g (in-parts path)
 in-parts (resize {l = l} {kind = kind} path) = more {l = l} {other = kind} refl still (in-parts path)
 

@@ -26,6 +26,8 @@ pub mod Keeping
 pub mod Ending
 -- the headline of a run
 pub mod Headline
+-- which events a live session takes as one batch
+pub mod Batches
 -- a session that a program drives
 pub mod Live
 -- the calls of a live session, as steps of runs

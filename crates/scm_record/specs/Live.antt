@@ -1,7 +1,8 @@
 -- The values of a live session: what a program has of it between two calls.
-use Rattle.std.specs.Prelude.{◌≡◌, ℕ, ◌≤◌, [], length}
+use Rattle.std.specs.Prelude.{◌≡◌, ℕ, IsTrue, []}
 use Rattle.scm_input.specs.declared.inputs.TerminalKind.{TerminalKind}
 use Rattle.scm_record.specs.Session.{Session, IsDrawable, after_frame}
+use Rattle.scm_record.specs.Batches.{asks_at_end}
 
 -- a live session that waits for an event: the value of the code's `LiveSession`
 pub record Live : Type 0 where
@@ -28,7 +29,7 @@ pub record IsCalm (s : Session) : Type 0 where
   pub drawable : IsDrawable s
   pub calm : s.pending ≡ []
 
--- a session that waits for a message can be drawn, and has at most one pending event
+-- a session that waits for a message can be drawn, and no pending event but the last may ask for a message
 pub record IsBusy (s : Session) : Type 0 where
   pub drawable : IsDrawable s
-  pub few : length s.pending ≤ 1
+  pub last : IsTrue (asks_at_end s.pending)

@@ -42,6 +42,12 @@ Fails p error = (w : World) × Stops error p w × AcceptsConfirmedQuits p (Err e
 abbrev pub fixed_reply : List ℕ → Reply
 fixed_reply text = always (Answer text)
 
+-- `list`, handed in to `l` as one batch, leads to `turn`: it is one read
+abbrev pub BatchLeads : Live → List Event → Turn → Type 0
+BatchLeads l list turn =
+    (reads : List Read) (edits : List Reply) (frames : ℕ)
+    → Leads (waiting_point l (Batch list ∷ reads) edits frames) l.kind reads edits turn
+
 -- `event`, handed in to `l`, leads to `turn`: it is a read of this event alone
 abbrev pub EventLeads : Live → Event → Turn → Type 0
 EventLeads l event turn =
@@ -53,6 +59,11 @@ abbrev pub MessageLeads : LiveEdit → List ℕ → Turn → Type 0
 MessageLeads a text turn =
     (drawn : Session) (reads : List Read) (edits : List Reply) (frames : ℕ)
     → Leads (editing_point drawn a reads (fixed_reply text ∷ edits) frames) a.kind reads edits turn
+
+-- `list`, handed in to `l` as one batch, ends the session with `error`
+abbrev pub BatchFails : Live → List Event → RecordError → Type 0
+BatchFails l list error =
+    (reads : List Read) (edits : List Reply) (frames : ℕ) → Fails (waiting_point l (Batch list ∷ reads) edits frames) error
 
 -- `event`, handed in to `l`, ends the session with `error`
 abbrev pub EventFails : Live → Event → RecordError → Type 0
@@ -71,6 +82,8 @@ MessageFails a text error =
 pub data Call : Type 0 where
   -- `handle`: hands in an event
   Press : Event → Call
+  -- `handle_all`: hands in events as one batch
+  PressAll : List Event → Call
   -- `answer`: hands in the message that was asked for
   Say : List ℕ → Call
   -- `resize`: continues on another screen
@@ -80,13 +93,15 @@ pub data Call : Type 0 where
 abbrev pub is_on_one_screen : List Call → Bool
 is_on_one_screen [] = true
 is_on_one_screen (Press event ∷ calls) = is_on_one_screen calls
+is_on_one_screen (PressAll list ∷ calls) = is_on_one_screen calls
 is_on_one_screen (Say text ∷ calls) = is_on_one_screen calls
 is_on_one_screen (Resize kind ∷ calls) = false
 
--- the reads of a run that does the same as the calls: one for each event
+-- the reads of a run that does the same as the calls: one for each event, and one for each batch
 abbrev pub reads_of : List Call → List Read
 reads_of [] = []
 reads_of (Press event ∷ calls) = Batch (event ∷ []) ∷ reads_of calls
+reads_of (PressAll list ∷ calls) = Batch list ∷ reads_of calls
 reads_of (Say text ∷ calls) = reads_of calls
 reads_of (Resize kind ∷ calls) = reads_of calls
 
@@ -94,6 +109,7 @@ reads_of (Resize kind ∷ calls) = reads_of calls
 abbrev pub edits_of : List Call → List Reply
 edits_of [] = []
 edits_of (Press event ∷ calls) = edits_of calls
+edits_of (PressAll list ∷ calls) = edits_of calls
 edits_of (Say text ∷ calls) = fixed_reply text ∷ edits_of calls
 edits_of (Resize kind ∷ calls) = edits_of calls
 
@@ -102,6 +118,8 @@ pub data Path : Turn → List Call → Turn → Type 0 where
   still : {turn : Turn} → Path turn [] turn
   press : {l : Live} {event : Event} {turn last : Turn} {calls : List Call}
       → EventLeads l event turn → Path turn calls last → Path (Waiting l) (Press event ∷ calls) last
+  press_all : {l : Live} {list : List Event} {turn last : Turn} {calls : List Call}
+      → BatchLeads l list turn → Path turn calls last → Path (Waiting l) (PressAll list ∷ calls) last
   say : {a : LiveEdit} {text : List ℕ} {turn last : Turn} {calls : List Call}
       → MessageLeads a text turn → Path turn calls last → Path (Editing a) (Say text ∷ calls) last
   resize : {l : Live} {kind : TerminalKind} {last : Turn} {calls : List Call}
@@ -141,9 +159,10 @@ pub data AreRuns : Session → TerminalKind → List Call → Turn → Type 0 wh
 
 -- ---- sessions that end in an error
 
--- a call that ends the session with `error`, by its contract: an event or a message
+-- a call that ends the session with `error`, by its contract: an event, a batch or a message
 pub data EndsIn (error : RecordError) : Turn → Call → Type 0 where
   press_fails : {l : Live} {event : Event} → EventFails l event error → EndsIn error (Waiting l) (Press event)
+  press_all_fails : {l : Live} {list : List Event} → BatchFails l list error → EndsIn error (Waiting l) (PressAll list)
   say_fails : {a : LiveEdit} {text : List ℕ} → MessageFails a text error → EndsIn error (Editing a) (Say text)
 
 -- the run of `s` with the reads and edits of `calls` fails with `error`, whatever reads and edits come later

@@ -78,11 +78,6 @@ with_ensure s = with_pushed s events.EnsureSelectionInViewport
 abbrev pub without_pending : Session → Session
 without_pending s = record s { pending = [] }
 
--- the pending events, if at most one is pending
-abbrev pub pending_of : Option Event → List Event
-pending_of None = []
-pending_of (Some event) = event ∷ []
-
 -- the session with another quit dialog, or with none
 abbrev pub with_dialog : Session → Option QuitDialog → Session
 with_dialog s dialog = record s { shown = record s.shown { quit_dialog = dialog } }

@@ -1,20 +1,22 @@
-//! A live session: a program hands in one event after the other, and reads the screen after each.
-ghost use Rattle.std.specs.Prelude.{◌≡◌, ℕ, ◌+◌, ◌++◌, ◌<◌, ◌≤◌, List, [], ◌∷◌, IfErr, IfOk, IsTrue, OnErr, OnOk, Some, length, string_bytes};
+//! A live session: a program hands in events, one by one or in batches, and reads the screen after
+//! each call.
+ghost use Rattle.std.specs.Prelude.{◌≡◌, ℕ, ◌+◌, ◌++◌, ◌<◌, List, [], ◌∷◌, IfErr, IfOk, IsTrue, OnErr, OnOk, Some, string_bytes};
 ghost use Rattle.scm_errors.specs.declared.error.RecordError.TheVariants.{OutOfMemory};
 ghost use Rattle.scm_types.specs.Limits.{is_accepted_state};
 ghost use Rattle.scm_input.specs.declared.inputs.TerminalKind.{TerminalKind};
 ghost use Rattle.scm_input.specs.Script.{Read, Reply};
 ghost use Rattle.scm_input.specs.declared.events.Event.TheVariants.{Click};
-ghost use Rattle.scm_record.specs.Session.{IsDrawable, Session, after_frame, pending_of, message_of, message_text, start, without_pending};
+ghost use Rattle.scm_record.specs.Session.{IsDrawable, Session, after_frame, message_of, message_text, start, without_pending};
 ghost use Rattle.scm_record.specs.Live.{on_screen};
-ghost use Rattle.scm_record.specs.LiveView.{IsWaiting};
+ghost use Rattle.scm_record.specs.Batches.{is_batch};
+ghost use Rattle.scm_record.specs.declared.session.Flow.TheVariants.{Edit};
 ghost use Rattle.scm_record.specs.RunContracts.{IsCurrent};
 ghost use Rattle.scm_record.specs.Frames.{HasSize, IsSceneOf, columns_of, rows_of, scene_of};
 ghost use Rattle.scm_record.specs.Step.{change};
 ghost use Rattle.scm_record.specs.Clicks.{after_click};
-ghost use Rattle.scm_record.specs.Run.{Before, Within, world_in};
-ghost use Rattle.scm_record.specs.Quiet.{IsQuiet};
-ghost use Rattle.scm_record.specs.LiveCalls.{AreRuns, Call, EndsIn, EventFails, EventLeads, Fails, IsFailedRun, IsRun, Leads, MessageFails, MessageLeads, Path, is_on_one_screen, live_setting};
+ghost use Rattle.scm_record.specs.Run.{outcome_by, resume, world_in};
+ghost use Rattle.scm_record.specs.Quiet.{IsQuiet, after_ensure};
+ghost use Rattle.scm_record.specs.LiveCalls.{AreRuns, BatchFails, BatchLeads, Call, EndsIn, EventFails, EventLeads, Fails, IsFailedRun, IsRun, Leads, MessageFails, MessageLeads, Path, is_on_one_screen, live_setting};
 ghost use Rattle.scm_record.specs.declared.live.Turn.{Turn};
 ghost use Rattle.scm_record.specs.declared.live.Turn.TheVariants.{Accepted, Waiting};
 ghost use Rattle.scm_record.specs.Headline.{IsInline, owner_at, window_of};
@@ -22,10 +24,13 @@ ghost use Rattle.scm_record.specs.Keeping.{IsKept};
 ghost use Rattle.scm_record.specs.FrameQueries.{hit};
 ghost use Rattle.scm_types.specs.declared.state.RecordState.{RecordState};
 
+pub mod batches;
 pub mod jumps;
+mod keys;
 mod painted;
 pub mod typed;
 
+use self::batches::{BatchEnd, asks_at_end, handle_each, has_any_message};
 use crate::frame::DrawnFrame;
 use crate::runs::{draw_anew, is_short, no_such_place, too_long};
 use crate::session::{ActiveSession, Flow};
@@ -98,101 +103,107 @@ pub enum Turn<'state> {
     Accepted(RecordState<'state>),
 }
 
-/// Returns the session as one that waits for an event.
-fn waiting<'state>(
-    session: ActiveSession<'state>,
-    frame: DrawnFrame,
-    kind: TerminalKind,
-) -> LiveSession<'state>
-    requires { IsWaiting kind session frame }
-    ensures { result ≡ record { session = session.entry; kind = kind } }
-{
-    LiveSession {
-        session,
-        frame,
-        kind,
-    }
-}
-
-/// Draws the session on `frame`, unless `is_current`, and takes the pending event, if any.
+/// Draws the session on `frame`, and takes the pending events.
 fn advance(
     session: &mut ActiveSession<'_>,
     frame: &mut DrawnFrame,
-    is_current: bool,
-) -> Result<Option<Event>, RecordError>
+) -> Result<Vec<Event>, RecordError>
     requires drawable { IsDrawable session.now }
-    requires current { IsTrue is_current → IsCurrent session.now frame.now }
-    requires few { length session.now.pending ≤ 1 }
     ensures shown { OnOk result ((kind : TerminalKind) → HasSize kind frame.old
         → IsSceneOf (scene_of kind (after_frame session.old)) frame.new) }
-    ensures taken { IfOk result (λ next. pending_of next ≡ session.old.pending) }
+    ensures taken { IfOk result (λ pending. pending.items ≡ session.old.pending) }
     ensures rest { OnOk result (session.new ≡ without_pending (after_frame session.old)) }
     ensures err { IfErr result (λ e. e ≡ OutOfMemory) }
 {
-    draw_anew(session, frame, is_current)?;
+    draw_anew(session, frame, false)?;
     session.begin_frame();
-    let next = session.take_next();
-    Ok(next)
+    Ok(session.take_pending())
+}
+
+/// Draws the session on `frame`, unless `is_current`, and returns it as one that waits for an event.
+fn wait<'state>(
+    session: ActiveSession<'state>,
+    frame: DrawnFrame,
+    kind: TerminalKind,
+    is_current: bool,
+) -> Result<LiveSession<'state>, RecordError>
+    requires drawable { IsDrawable session }
+    requires calm { session.pending ≡ [] }
+    requires sized { HasSize kind frame }
+    requires current { IsTrue is_current → IsCurrent session frame }
+    ensures ok { IfOk result (λ l. l
+        ≡ record { session = after_frame session.entry; kind = kind }) }
+    ensures err { IfErr result (λ e. e ≡ OutOfMemory) }
+{
+    let mut session = session;
+    let mut frame = frame;
+    draw_anew(&mut session, &mut frame, is_current)?;
+    session.begin_frame();
+    Ok(LiveSession {
+        session,
+        frame,
+        kind,
+    })
 }
 
 /// Handles the pending `EnsureSelectionInViewport` without its frame, which nobody sees, and draws the
 /// session.
-fn settle_unseen<'state>(
+fn wait_unseen<'state>(
     session: ActiveSession<'state>,
     frame: DrawnFrame,
     kind: TerminalKind,
-) -> Result<Turn<'state>, RecordError>
+) -> Result<LiveSession<'state>, RecordError>
     requires drawable { IsDrawable session }
     requires quiet { IsQuiet session frame }
     requires sized { HasSize kind frame }
-    ensures ok { IfOk result (λ turn. (reads : List Read) (edits : List Reply) (frames : ℕ)
-        → Leads (Before (world_in (live_setting kind reads edits) session.entry frames))
-        kind reads edits turn) }
+    ensures ok { IfOk result (λ l. l ≡ record {
+      session = after_frame (after_ensure kind (after_frame session.entry));
+      kind = kind;
+    }) }
     ensures err { IfErr result (λ e. e ≡ OutOfMemory) }
 {
     let mut session = session;
-    let mut frame = frame;
     session.pass_unseen(&frame);
-    advance(&mut session, &mut frame, false)?;
-    Ok(Turn::Waiting(waiting(session, frame, kind)))
+    wait(session, frame, kind, false)
 }
 
-/// Handles `event`, and then each event that it leaves pending after a frame of its own. A frame that
-/// nobody sees is not painted.
-fn settle<'state>(
+/// Returns the turn to which a batch leads that ended as `end` says. If the session goes on, handles
+/// what is pending after a frame of its own, until nothing is. A frame that nobody sees is not painted.
+fn turn_after<'state>(
     session: ActiveSession<'state>,
     frame: DrawnFrame,
     kind: TerminalKind,
-    event: Event,
+    end: BatchEnd,
 ) -> Result<Turn<'state>, RecordError>
     requires drawable { IsDrawable session }
-    requires calm { session.pending ≡ [] }
-    requires shown { (drawn : Session) × IsSceneOf (scene_of kind drawn) frame }
-    requires current { IsCurrent session frame }
+    requires batch { IsTrue (is_batch session session.pending) }
+    requires said { (commit : ℕ) → end.flow ≡ Edit commit
+        → message_of session commit ≡ Some (message_text session commit) }
+    requires sized { HasSize kind frame }
+    requires current { IsTrue end.is_kept → IsCurrent session frame }
     ensures ok { IfOk result (λ turn.
         (drawn : Session) (reads : List Read) (edits : List Reply) (frames : ℕ)
-        → IsSceneOf (scene_of kind drawn) frame
-        → Leads (Within drawn
-        (world_in (live_setting kind reads edits) session.entry frames) (event ∷ []))
+        → Leads (resume drawn [] (outcome_by (scene_of kind drawn)
+        (world_in (live_setting kind reads edits) session.entry frames) end.flow))
         kind reads edits turn) }
     ensures err { IfErr result (λ e.
         (drawn : Session) (reads : List Read) (edits : List Reply) (frames : ℕ)
-        → IsSceneOf (scene_of kind drawn) frame
-        → Fails (Within drawn
-        (world_in (live_setting kind reads edits) session.entry frames) (event ∷ [])) e) }
+        → Fails (resume drawn [] (outcome_by (scene_of kind drawn)
+        (world_in (live_setting kind reads edits) session.entry frames) end.flow)) e) }
 {
     let mut session = session;
     let mut frame = frame;
-    let is_current = session.is_kept_by(&frame, event);
-    match session.change(&frame, event)? {
+    match end.flow {
         Flow::GoOn => {
             if session.is_quiet(&frame) {
-                return settle_unseen(session, frame, kind);
+                return Ok(Turn::Waiting(wait_unseen(session, frame, kind)?));
             }
-            match advance(&mut session, &mut frame, is_current)? {
-                None => Ok(Turn::Waiting(waiting(session, frame, kind))),
-                Some(next) => settle(session, frame, kind, next),
+            if !session.has_pending() {
+                return Ok(Turn::Waiting(wait(session, frame, kind, end.is_kept)?));
             }
+            let pending = advance(&mut session, &mut frame)?;
+            let next = handle_each(&mut session, &frame, &pending)?;
+            turn_after(session, frame, kind, next)
         }
         Flow::Accept => Ok(Turn::Accepted(session.into_state())),
         Flow::Cancel => Err(RecordError::Cancelled),
@@ -232,10 +243,9 @@ impl<'state> LiveSession<'state> {
         ensures ok { IfOk result (λ l. l ≡ record { session = start state.entry; kind = kind }) }
         ensures err { IfErr result (λ e. e ≡ OutOfMemory) }
     {
-        let mut session = ActiveSession::new(alloc, state)?;
-        let mut frame = DrawnFrame::new(alloc, kind)?;
-        advance(&mut session, &mut frame, false)?;
-        Ok(waiting(session, frame, kind))
+        let session = ActiveSession::new(alloc, state)?;
+        let frame = DrawnFrame::new(alloc, kind)?;
+        wait(session, frame, kind, false)
     }
 
     /// Handles `event`, and the events that it leaves pending, and returns what they lead to.
@@ -251,12 +261,43 @@ impl<'state> LiveSession<'state> {
         ensures ok { IfOk result (λ turn. EventLeads self.entry event turn) }
         ensures err { IfErr result (λ e. EventFails self.entry event e) }
     {
+        self.handle_all(&[event])
+    }
+
+    /// Handles `events` as one batch, and the events that they leave pending, and returns what they
+    /// lead to. The events have to be a batch of the session, as [`LiveSession::is_batch`] says.
+    ///
+    /// A batch is one read of [`Recorder::run`](crate::Recorder::run). It has one frame: a click acts on
+    /// what was drawn before the batch, and the session is drawn when all its events are handled. If an
+    /// event ends the session, the later ones are dropped.
+    ///
+    /// # Errors
+    ///
+    /// An error ends the session: the errors are those of [`LiveSession::handle`].
+    pub fn handle_all(self, events: &[Event]) -> Result<Turn<'state>, RecordError>
+        requires { IsTrue (is_batch self.session events.now) }
+        ensures ok { IfOk result (λ turn. BatchLeads self.entry events.now turn) }
+        ensures err { IfErr result (λ e. BatchFails self.entry events.now e) }
+    {
         let LiveSession {
             session,
             frame,
             kind,
         } = self;
-        settle(session, frame, kind, event)
+        let mut session = session;
+        let end = handle_each(&mut session, &frame, events)?;
+        turn_after(session, frame, kind, end)
+    }
+
+    /// Returns whether the session takes `events` as one batch: no commit has a message, or no event but
+    /// the last may ask for one, by `Click` or `EditCommitMessage`.
+    ///
+    /// Other events have to be handed in as several batches. While a message is edited, no event of a
+    /// batch can be left.
+    pub fn is_batch(&self, events: &[Event]) -> bool
+        ensures { result ≡ is_batch self.now.session events.now }
+    {
+        !has_any_message(self.state().commits.as_slice()) || asks_at_end(events)
     }
 
     /// Draws the session on a screen of size `kind`.
@@ -386,24 +427,24 @@ impl<'state> Editing<'state> {
             commit,
         } = self;
         let mut session = session;
-        let mut frame = frame;
         if !is_short(&text) {
             return Err(too_long(session.allocator()));
         }
         session.set_message(commit, text);
-        match advance(&mut session, &mut frame, false)? {
-            None => Ok(Turn::Waiting(waiting(session, frame, kind))),
-            Some(next) => settle(session, frame, kind, next),
-        }
+        let end = BatchEnd {
+            flow: Flow::GoOn,
+            is_kept: false,
+        };
+        turn_after(session, frame, kind, end)
     }
 }
 
 /// Proves that driving a session is the same as [`Recorder::run`](crate::Recorder::run) on the same
 /// events.
 ///
-/// Each `resize` starts a new run from the current session. In each run, an event that the program
-/// hands in is a read of its own, and a message is an edit. The steps of the run lead to the turn
-/// that the program got, and batches, clicks and confirmed quits are as in any run. An accepted
+/// Each `resize` starts a new run from the current session. In each run, an event or a batch that the
+/// program hands in is a read of its own, and a message is an edit. The steps of the run lead to the
+/// turn that the program got, and batches, clicks and confirmed quits are as in any run. An accepted
 /// state is that of a confirmed quit. It differs from the given state only in marks and messages.
 ///
 /// This is a law: the function does nothing, and is there for its contract.
@@ -413,7 +454,7 @@ pub fn sessions_are_runs()
         → IsTrue (is_accepted_state given)
         → Path (Waiting (record { session = start given; kind = kind })) calls turn
         → IsTrue (is_on_one_screen calls) → IsRun (start given) kind calls turn }
-    // on one screen, up to the event or message that ends the session in an error
+    // on one screen, up to the event, batch or message that ends the session in an error
     ensures failed { (given : RecordState) (kind : TerminalKind) (calls : List Call) (turn : Turn)
         (call : Call) (error : RecordError) → IsTrue (is_accepted_state given)
         → Path (Waiting (record { session = start given; kind = kind })) calls turn

@@ -83,7 +83,7 @@ impl<'state> ActiveSession<'state> {
     ghost use Rattle.scm_layout.specs.Layouts.{layout_of};
     ghost use Rattle.scm_layout_index.specs.LayoutIndex.{AreRowsOf};
     ghost use Rattle.scm_record.specs.Frames.{IsSceneOf, Scene};
-    ghost use Rattle.scm_record.specs.Session.{after_frame, after_redraw, after_select, at_key, pending_of, start, with_ensure, with_keys_above, with_pushed, without_pending};
+    ghost use Rattle.scm_record.specs.Session.{after_frame, after_redraw, after_select, at_key, start, with_ensure, with_keys_above, with_pushed, without_pending};
     ghost use Rattle.scm_record.specs.SessionView.{with_expanded};
     ghost use Rattle.scm_record.specs.Step.{change};
 
@@ -228,7 +228,7 @@ impl<'state> ActiveSession<'state> {
     }
 
     /// Selects `key` as `go_to` does, and pushes `EnsureSelectionInViewport`.
-    fn select(&mut self, key: SelectionKey) -> Result<(), RecordError>
+    pub(crate) fn select(&mut self, key: SelectionKey) -> Result<(), RecordError>
         ensures ok { OnOk result (self.new ≡ after_select self.old key) }
         ensures err { IfErr result (λ e. e ≡ OutOfMemory) }
     {
@@ -310,15 +310,6 @@ impl<'state> ActiveSession<'state> {
     {
         let nothing = Vec::new(self.allocator());
         mem::replace(&mut self.pending, nothing)
-    }
-
-    /// Takes the pending event, if any; at most one event may be pending.
-    pub(crate) fn take_next(&mut self) -> Option<Event>
-        requires few { length self.old.pending ≤ 1 }
-        ensures taken { pending_of result ≡ self.old.pending }
-        ensures rest { self.new ≡ without_pending self.old }
-    {
-        self.pending.pop()
     }
 
     /// Returns the state, with its current marks and messages.

@@ -24,7 +24,7 @@ pub(crate) fn file(alloc: Global) -> Result<File<'static>, RecordError> {
 }
 
 /// Returns a state of a commit with `message` and of `file`.
-fn state(
+pub(crate) fn state(
     alloc: Global,
     message: Option<&'static str>,
 ) -> Result<RecordState<'static>, RecordError> {
@@ -68,7 +68,7 @@ fn push_message(text: &mut String, commit: &Commit) -> Result<(), AllocError> {
 }
 
 /// Returns the marks and the messages of an accepted state, or the text of the error.
-fn words(
+pub(crate) fn words(
     alloc: Global,
     outcome: &Result<RecordState<'static>, RecordError>,
 ) -> Result<String, AllocError> {
@@ -102,14 +102,14 @@ pub(crate) fn run_words(
 
 /// A read of a script, as a constant.
 #[derive(Clone, Copy)]
-enum Read {
+pub(crate) enum Read {
     Batch(&'static [Event]),
     Fault(&'static str),
 }
 
 /// Returns an input of the reads `given`, and of two edits: the answer `bye`, and then the fault
 /// `gone`.
-fn script(alloc: Global, given: &[Read]) -> Result<ScriptInput, RecordError> {
+pub(crate) fn script(alloc: Global, given: &[Read]) -> Result<ScriptInput, RecordError> {
     let mut reads = Vec::new(alloc);
     for read in given {
         reads.push(read_of(alloc, *read)?)?;
@@ -153,22 +153,22 @@ type Row = (
 );
 
 /// Edits the message.
-const EDIT: Event = Event::EditCommitMessage;
+pub(crate) const EDIT: Event = Event::EditCommitMessage;
 
 /// Accepts, while no dialog is open.
-const ACCEPT: Event = Event::QuitAccept;
+pub(crate) const ACCEPT: Event = Event::QuitAccept;
 
 /// Toggles the selection.
-const TOGGLE: Event = Event::ToggleItem;
+pub(crate) const TOGGLE: Event = Event::ToggleItem;
 
 /// A message.
-const HELLO: Option<&'static str> = Some("hello");
+pub(crate) const HELLO: Option<&'static str> = Some("hello");
 
 /// The error of an input without more reads.
 const NO_EVENTS: &'static str = "failed to read user input: no events left";
 
 /// A click outside every screen.
-const FAR: Event = Event::Click {
+pub(crate) const FAR: Event = Event::Click {
     row: usize::MAX,
     column: usize::MAX,
 };

@@ -11,7 +11,7 @@ impl<'state> ActiveSession<'state> {
     ghost use Rattle.scm_record.specs.Dialogs.{after_quit_request, button_of, dialog_closed_or, with_focus, help_closed_or, is_quit_dialog_open, after_press};
 
     /// Returns whether the quit dialog is open.
-    pub(super) fn is_quit_dialog_open(&self) -> bool
+    pub(crate) fn is_quit_dialog_open(&self) -> bool
         ensures { result ≡ is_quit_dialog_open self.now }
     {
         self.view_state.quit_dialog.is_some()

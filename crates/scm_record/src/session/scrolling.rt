@@ -66,7 +66,7 @@ impl<'state> ActiveSession<'state> {
     }
 
     /// Scrolls so that the selection is on the screen.
-    pub(super) fn show_selection(&mut self, frame: &DrawnFrame)
+    pub(crate) fn show_selection(&mut self, frame: &DrawnFrame)
         ensures { (scene : Scene) → IsSceneOf scene frame.now →
             self.new ≡ with_scroll self.old
             (scroll_to_show scene self.old.scroll self.old.shown.selection) }

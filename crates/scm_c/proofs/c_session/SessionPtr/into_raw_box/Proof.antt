@@ -21,12 +21,12 @@ use Rattle.std.proofs.raw_atomic.Walks.{proved_at, leaves}
 use Rattle.std.specs.contracts.alloc.Global.{the_row as Heap}
 use Rattle.std.proofs.alloc.Global.TheLaws.{the_row_laws as heap_laws}
 use Rattle.std.specs.contracts.impls.GlobalAllocator.TheImpl.{ghosts}
-use Rattle.scm_c.specs.contracts.open_session.OpenSession.{the_row as Value}
+use Rattle.scm_open_session.specs.contracts.open_session.OpenSession.{the_row as Value}
 use Rattle.scm_c.proofs.Beside.{word, word_good, from_word}
 use Rattle.scm_c.proofs.RawBoxes.{placed, raw_box_in}
 use Rattle.scm_c.proofs.SessionPtrs.{SessionPtr, some_value, pointer_out}
 use Rattle.scm_c.specs.Ownership.{pointer_owns}
-use Rattle.scm_c.specs.declared.open_session.OpenSession.{OpenSession}
+use Rattle.scm_open_session.specs.declared.open_session.OpenSession.{OpenSession}
 use Rattle.scm_c.specs.contracts.c_session.SessionPtr.into_raw_box as f
 use Rattle.scm_c.proofs.c_session.SessionPtr.into_raw_box.Statement.{statement}
 use Rattle.scm_c.proofs.c_session.SessionPtr.into_raw_box.Code as code

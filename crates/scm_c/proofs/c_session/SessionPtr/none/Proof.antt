@@ -23,7 +23,7 @@ use Rattle.std.proofs.alloc.Global.TheLaws.{the_row_laws as heap_laws}
 use Rattle.std.specs.contracts.impls.GlobalAllocator.TheImpl.{ghosts}
 use Rattle.scm_c.proofs.Beside.{allocator, word, from_word}
 use Rattle.scm_c.proofs.SessionPtrs.{null_good, pointer_in}
-use Rattle.scm_c.specs.declared.open_session.OpenSession.{OpenSession}
+use Rattle.scm_open_session.specs.declared.open_session.OpenSession.{OpenSession}
 use Rattle.scm_c.specs.contracts.c_session.SessionPtr.none as f
 use Rattle.scm_c.proofs.c_session.SessionPtr.none.Statement.{statement}
 use Rattle.scm_c.proofs.c_session.SessionPtr.none.Code as code

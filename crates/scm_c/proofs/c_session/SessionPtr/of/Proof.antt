@@ -21,7 +21,7 @@ use Rattle.std.proofs.raw_atomic.Walks.{proved_at, leaves}
 use Rattle.std.specs.contracts.alloc.Global.{the_row as Heap}
 use Rattle.std.proofs.alloc.Global.TheLaws.{the_row_laws as heap_laws}
 use Rattle.std.specs.contracts.impls.GlobalAllocator.TheImpl.{ghosts}
-use Rattle.scm_c.specs.contracts.open_session.OpenSession.{the_row as Value}
+use Rattle.scm_open_session.specs.contracts.open_session.OpenSession.{the_row as Value}
 use Rattle.scm_c.proofs.Beside.{word, word_good, from_word}
 use Rattle.scm_c.proofs.RawBoxes.{raw_box_out}
 use Rattle.scm_c.proofs.SessionPtrs.{RawBox, pointer_in}

@@ -1,8 +1,0 @@
-use Rattle.scm_c.specs.Results.{IsCode}
-use Rattle.scm_c.proofs.open_session.OpenSession.new.Goals as goal
-
-pub returns-in_default-clause-err : goal.returns-in_default-clause-err
-returns-in_default-clause-err c = IsCode.no_memory c.in_ok-state.ensures.text
-
-pub returns-in_default-new-clause-err : goal.returns-in_default-new-clause-err
-returns-in_default-new-clause-err c = IsCode.no_memory c.in_ok-state.ensures.text

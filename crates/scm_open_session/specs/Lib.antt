@@ -1,0 +1,16 @@
+-- the values of boxes
+pub mod Boxes
+-- what a session waits for, and how calls change that: begin here
+pub mod Stages
+-- return codes, and the texts that calls write
+pub mod Results
+-- the owner of a place on the screen: its code and its key
+pub mod Owners
+-- what calls add to a state that is made, and how a session begins with it
+pub mod Building
+-- a file of its old and its new text, and the text of a side
+pub mod Texts
+-- what calls tell of a state: sides of files, marks and messages
+pub mod Questions
+-- what `scm_paint` writes
+pub mod Paint

@@ -1,0 +1,335 @@
+//! Calls on a session, open or closed. Each returns its code.
+ghost use Rattle.std.specs.Prelude.{◌≡◌, ℕ, ◌<◌, IfErr, IfOk, IsTrue, None, Some, false, is_some, length, string_bytes};
+ghost use Rattle.scm_input.specs.declared.events.Event.TheVariants as events;
+ghost use Rattle.std.specs.Str.{is_utf8};
+ghost use Rattle.scm_open_session.specs.Boxes.{box_value};
+ghost use Rattle.scm_open_session.specs.Stages.{Begins, ChangesStage, HandsIn, Idles, IsOpenAt, ChangesDecoder, Presses, Resizes, Says, Types, code_of_session, end_of_session, screen_of};
+ghost use Rattle.scm_open_session.specs.Results.{IsCode, Writes, code_of_answer, code_of_call, code_of_json, code_of_message, code_of_press, code_of_repaint, done_code, event_of_bytes, is_message, over, symbol_of_session, is_session_waiting, words_of_code};
+ghost use Rattle.scm_open_session.specs.Owners.{key_of_session, owner_of_session, selected_of_session};
+ghost use Rattle.scm_open_session.specs.Paint.{Fills, Forgets, PaintsOpenSession, PaintsSession};
+
+use crate::buffers::write_text;
+use crate::codes;
+use crate::open_session::{OpenSession, Session};
+use crate::owners::Key;
+use scm_record::{Event, RecordState};
+use scm_script::read_event;
+use std::alloc::Global;
+
+/// Returns a session over the state with the JSON form `json`, and the code of the call. Its screen has `width` columns and
+/// `height` rows. A failed call returns a closed session.
+pub fn open(alloc: Global, json: &[u8], width: u16, height: u16) -> (Session, u32)
+    ensures code { IsCode (is_utf8 json.now) (code_of_json json.now) result.1 }
+    ensures begun { result.1 ≡ 0 → IsOpenAt (Begins json.now width height) (box_value result.0) }
+    ensures refused { 0 < result.1 → box_value result.0 ≡ None }
+{
+    match OpenSession::new(alloc, json, width, height) {
+        Ok(inner) => (Some(inner), codes::DONE),
+        Err(code) => (None, code),
+    }
+}
+
+/// Returns the stage of `session`: the code of what it waits for, or of how it ended.
+pub fn stage(session: &Session) -> u32
+    ensures { result ≡ code_of_session (box_value session.now) }
+{
+    match session {
+        Some(inner) => inner.stage(),
+        None => codes::NONE,
+    }
+}
+
+/// Returns the code of how `session` ended, or `NOT_ENDED`.
+pub fn end(session: &Session) -> u32
+    ensures { result ≡ end_of_session (box_value session.now) }
+{
+    match session {
+        Some(inner) => inner.end(),
+        None => codes::NOT_ENDED,
+    }
+}
+
+/// Handles `bytes`, which a terminal sent. Returns the code of the call.
+pub fn type_bytes(session: &mut Session, bytes: &[u8]) -> u32
+    ensures code { result ≡ code_of_call (box_value session.old) }
+    ensures typed { result ≡ 0
+        → ChangesDecoder (Types bytes.now) (box_value session.old) (box_value session.new) }
+    ensures kept { 0 < result → box_value session.new ≡ box_value session.old }
+{
+    match session {
+        Some(inner) => done_or_not_now(inner.hear(bytes)),
+        None => codes::CLOSED,
+    }
+}
+
+/// Handles the silence of the terminal. Returns the code of the call.
+pub fn idle(session: &mut Session) -> u32
+    ensures code { result ≡ code_of_call (box_value session.old) }
+    ensures silent { result ≡ 0
+        → ChangesDecoder Idles (box_value session.old) (box_value session.new) }
+    ensures kept { 0 < result → box_value session.new ≡ box_value session.old }
+{
+    match session {
+        Some(inner) => done_or_not_now(inner.idle()),
+        None => codes::CLOSED,
+    }
+}
+
+/// Handles the event of `word`, a word of scripts. Returns the code of the call.
+pub fn press(session: &mut Session, word: &[u8]) -> u32
+    ensures code { result ≡ code_of_press (event_of_bytes word.now) (box_value session.old) }
+    ensures pressed { result ≡ 0
+        → HandsIn (event_of_bytes word.now) (box_value session.old) (box_value session.new) }
+    ensures kept { 0 < result → box_value session.new ≡ box_value session.old }
+{
+    match event_of(word) {
+        Some(event) => hand_in(session, event),
+        None => codes::NO_WORD,
+    }
+}
+
+/// Handles a click at `row`, `column` of the screen, both counted from 0. Returns the code of the
+/// call.
+pub fn click(session: &mut Session, row: u16, column: u16) -> u32
+    ensures code { result ≡ code_of_call (box_value session.old) }
+    ensures clicked { result ≡ 0
+        → ChangesStage (Presses (events.Click row column)) (box_value session.old)
+        (box_value session.new) }
+    ensures kept { 0 < result → box_value session.new ≡ box_value session.old }
+{
+    let click = Event::Click {
+        row: row as usize,
+        column: column as usize,
+    };
+    hand_in(session, click)
+}
+
+/// Handles `event`. Returns the code of the call.
+fn hand_in(session: &mut Session, event: Event) -> u32
+    ensures code { result ≡ code_of_call (box_value session.old) }
+    ensures pressed { result ≡ 0
+        → ChangesStage (Presses event) (box_value session.old) (box_value session.new) }
+    ensures kept { 0 < result → box_value session.new ≡ box_value session.old }
+{
+    match session {
+        Some(inner) => done_or_not_now(inner.press(event)),
+        None => codes::CLOSED,
+    }
+}
+
+/// Returns the event of a script's word, or `None` if the bytes are not such a word.
+fn event_of(word: &[u8]) -> Option<Event>
+    ensures { result ≡ event_of_bytes word.now }
+{
+    match str::from_utf8(word) {
+        Ok(word) => read_event(word),
+        Err(_) => None,
+    }
+}
+
+/// Returns the code of a call that was done, or that the session doesn't wait for.
+fn done_or_not_now(is_done: bool) -> u32
+    ensures code { result ≡ done_code is_done }
+    ensures done { result ≡ 0 → IsTrue is_done }
+    ensures not_now { 0 < result → is_done ≡ false }
+{
+    if is_done { codes::DONE } else { codes::NOT_NOW }
+}
+
+/// Answers with the message `text`, if the session waits for a message. Returns the code of the
+/// call.
+pub fn answer(alloc: Global, session: &mut Session, text: &[u8]) -> u32
+    ensures code { IsCode (is_message text.now)
+        (code_of_answer text.now (box_value session.old)) result }
+    ensures said { result ≡ 0
+        → ChangesStage (Says text.now) (box_value session.old) (box_value session.new) }
+    ensures kept { 0 < result → box_value session.new ≡ box_value session.old }
+{
+    let message = match message_of(alloc, text) {
+        Ok(message) => message,
+        Err(code) => return code,
+    };
+    match session {
+        Some(inner) => done_or_not_now(inner.answer(message)),
+        None => codes::CLOSED,
+    }
+}
+
+/// Returns `text` as a message.
+///
+/// # Errors
+/// The code of the failure: `TOO_LONG`, `NOT_TEXT` or `NO_MEMORY`.
+fn message_of(alloc: Global, text: &[u8]) -> Result<String, u32>
+    ensures ok { IfOk result (λ message. string_bytes message ≡ text.now) }
+    ensures good { IfOk result (λ message. IsTrue (is_message text.now)) }
+    ensures err { IfErr result (λ code. (otherwise : ℕ)
+        → IsCode (is_message text.now) (code_of_message text.now otherwise) code) }
+    ensures refused { IfErr result (λ code. 0 < code) }
+{
+    if text.len() > RecordState::MAX_TEXT {
+        return Err(codes::TOO_LONG);
+    }
+    let Ok(text) = str::from_utf8(text) else {
+        return Err(codes::NOT_TEXT);
+    };
+    let Ok(message) = String::from_str(alloc, text) else {
+        return Err(codes::NO_MEMORY);
+    };
+    Ok(message)
+}
+
+/// Resizes the screen to `width` columns and `height` rows. Returns the code of the call.
+pub fn resize(session: &mut Session, width: u16, height: u16) -> u32
+    ensures code { IsCode (is_session_waiting (box_value session.old))
+        (code_of_call (box_value session.old)) result }
+    ensures resized { result ≡ 0
+        → ChangesStage (Resizes (screen_of width height)) (box_value session.old)
+        (box_value session.new) }
+    ensures kept { 0 < result → box_value session.new ≡ box_value session.old }
+{
+    match session {
+        Some(inner) => inner.resize(width, height),
+        None => codes::CLOSED,
+    }
+}
+
+/// Writes to `out` the update that makes the terminal show the session, if it fits, and its length
+/// in bytes to `written`. Returns the code of the call.
+pub fn paint(alloc: Global, session: &mut Session, out: &mut [u8], written: &mut usize) -> u32
+    ensures { PaintsSession (box_value session.old) (box_value session.new)
+        out.old out.new result written.old written.new }
+{
+    match session {
+        Some(inner) => match paint_open_session(alloc, inner, out) {
+            Ok(len) => {
+                *written = len;
+                codes::DONE
+            }
+            Err(code) => code,
+        },
+        None => codes::CLOSED,
+    }
+}
+
+/// Writes the update that makes the terminal show `inner` to `out`, if it fits. Returns the length
+/// of the update in bytes.
+///
+/// # Errors
+/// The code of the failure: `NOT_NOW` or `NO_MEMORY`.
+fn paint_open_session(alloc: Global, inner: &mut OpenSession, out: &mut [u8]) -> Result<usize, u32>
+    ensures { PaintsOpenSession inner.old inner.new out.old out.new result }
+{
+    match inner.paint(alloc) {
+        Ok(update) => Ok(write_update(inner, update.as_bytes(), out)),
+        Err(code) => Err(code),
+    }
+}
+
+/// Writes `update` to `out` if it fits, or else makes the next update have every row. Returns the
+/// length of `update` in bytes.
+fn write_update(inner: &mut OpenSession, update: &[u8], out: &mut [u8]) -> usize
+    ensures len { result ≡ length update.now }
+    ensures filled { Fills inner.old inner.new update.now out.old out.new }
+{
+    if update.len() <= out.len() {
+        write_text(update, out)
+    } else {
+        inner.repaint();
+        update.len()
+    }
+}
+
+/// Makes the next update write every row. Returns the code of the call.
+pub fn repaint(session: &mut Session) -> u32
+    ensures code { result ≡ code_of_repaint (box_value session.old) }
+    ensures forgotten { Forgets (box_value session.old) (box_value session.new) }
+{
+    match session {
+        Some(inner) => {
+            inner.repaint();
+            codes::DONE
+        }
+        None => codes::CLOSED,
+    }
+}
+
+/// Writes to `out` the text of the stage, clipped to the length of `out`, and its whole length in
+/// bytes to `written`: the screen's rows, the message to edit, the accepted state and its sides, or
+/// the error. Returns the code of the call.
+pub fn text(alloc: Global, session: &Session, out: &mut [u8], written: &mut usize) -> u32
+    ensures code { IsCode (is_some (box_value session.now))
+        (code_of_repaint (box_value session.now)) result }
+    ensures text { result ≡ 0
+        → Writes (box_value session.now) out.old out.new written.new }
+    ensures unwritten { 0 < result → (out.new ≡ out.old) × (written.new ≡ written.old) }
+{
+    match session {
+        Some(inner) => match inner.text(alloc) {
+            Some(text) => {
+                *written = write_text(text.as_bytes(), out);
+                codes::DONE
+            }
+            None => codes::NO_MEMORY,
+        },
+        None => codes::CLOSED,
+    }
+}
+
+/// Returns the code of the owner at `row` and `column` of the screen, both counted from 0. Writes
+/// to `key` the indices of the item that the place belongs to.
+pub fn owner(session: &Session, row: u16, column: u16, key: &mut Key) -> u32
+    ensures owner { result ≡ owner_of_session (box_value session.now) row column }
+    ensures key { key.new ≡ key_of_session (box_value session.now) row column }
+{
+    match session {
+        Some(inner) => {
+            let (owner, owner_key) = inner.owner(row, column);
+            *key = owner_key;
+            owner
+        }
+        None => {
+            *key = Key::none();
+            codes::NOBODY
+        }
+    }
+}
+
+/// Writes the key of the selected item to `key`. Returns the code of the call.
+pub fn selected(session: &Session, key: &mut Key) -> u32
+    ensures code { result ≡ code_of_call (box_value session.now) }
+    ensures key { result ≡ 0 → selected_of_session (box_value session.now) ≡ Some key.new }
+    ensures unwritten { 0 < result → key.new ≡ key.old }
+{
+    match session {
+        Some(inner) => match inner.selected() {
+            Some(selected) => {
+                *key = selected;
+                codes::DONE
+            }
+            None => codes::NOT_NOW,
+        },
+        None => codes::CLOSED,
+    }
+}
+
+/// Writes to `out` the symbol that begins at `row` and `column` of the screen, both counted from 0,
+/// clipped to the length of `out`. Returns the whole length, in bytes.
+pub fn symbol(session: &Session, row: u16, column: u16, out: &mut [u8]) -> usize
+    ensures len { result ≡ length (symbol_of_session (box_value session.now) row column) }
+    ensures written { out.new
+        ≡ over (symbol_of_session (box_value session.now) row column) out.old }
+{
+    match session {
+        Some(inner) => write_text(inner.symbol(row, column).as_bytes(), out),
+        None => write_text(&[], out),
+    }
+}
+
+/// Writes to `out` the sentence of `code`, clipped to the length of `out`. Returns the whole
+/// length, in bytes.
+pub fn words(code: u32, out: &mut [u8]) -> usize
+    ensures len { result ≡ length (words_of_code code) }
+    ensures written { out.new ≡ over (words_of_code code) out.old }
+{
+    write_text(codes::words(code).as_bytes(), out)
+}

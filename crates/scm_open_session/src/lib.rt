@@ -1,0 +1,18 @@
+//! A session as a C program calls it: what it waits for, and what each call does to it. The functions here take values, slices
+//! and references; the library for C, `scm_c`, has the pointers.
+#![tactic(auto)]
+
+pub mod buffers;
+pub mod calls;
+pub mod codes;
+pub mod ends;
+pub mod items;
+pub mod laws;
+pub mod open_session;
+pub mod owners;
+pub mod question_calls;
+pub mod sides;
+pub mod state_calls;
+pub mod texts;
+
+pub use crate::open_session::{OpenSession, Session};

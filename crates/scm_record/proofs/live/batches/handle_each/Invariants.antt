@@ -1,0 +1,10 @@
+use Rattle.std.proofs.Common.{◌≡◌, IsTrue}
+use Rattle.scm_record.specs.Frames.{IsSceneOf, Scene}
+use Rattle.scm_record.proofs.HandleLemmas.{LeadsTo}
+use Rattle.scm_record.proofs.live.batches.handle_each.Given as goal
+
+-- the events so far lead here
+abbrev pub invariant-loop-event : goal.invariant-loop-event
+invariant-loop-event l =
+    (IsTrue l.is_kept → l.session ≡ l.fn.session)
+    × LeadsTo (λ (scene : Scene). IsSceneOf scene l.frame) l.events l.fn.session l.session l.event-index
