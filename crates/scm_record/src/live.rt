@@ -157,7 +157,9 @@ fn wait_unseen<'state>(
     requires quiet { IsQuiet session frame }
     requires sized { HasSize kind frame }
     ensures ok { IfOk result (λ l. l ≡ record {
-        session = after_frame (after_ensure kind (after_frame session.entry)); kind = kind }) }
+      session = after_frame (after_ensure kind (after_frame session.entry));
+      kind = kind;
+    }) }
     ensures err { IfErr result (λ e. e ≡ OutOfMemory) }
 {
     let mut session = session;

@@ -65,11 +65,7 @@ const ACCEPTED: [Row; 12] = [
     // without a message nothing can be asked for: any events are a batch
     (None, &[&[EDIT, FAR, TOGGLE], &[ACCEPT]], "accepted 11"),
     // a click acts on the frame before its batch, where the menu is closed
-    (
-        None,
-        &[&[MENU_EDIT, ITEM_TOGGLE], &[ACCEPT]],
-        "accepted 00",
-    ),
+    (None, &[&[MENU_EDIT, ITEM_TOGGLE], &[ACCEPT]], "accepted 00"),
     (
         None,
         &[&[MENU_EDIT], &[ITEM_TOGGLE], &[ACCEPT]],

@@ -32,7 +32,9 @@ fn show_selection<'state>(
     requires pending { session.pending ≡ EnsureSelectionInViewport ∷ [] }
     requires sized { HasSize kind frame }
     ensures ok { IfOk result (λ l. l ≡ record {
-        session = after_frame (after_ensure kind (after_frame session.entry)); kind = kind }) }
+      session = after_frame (after_ensure kind (after_frame session.entry));
+      kind = kind;
+    }) }
     ensures err { IfErr result (λ e. e ≡ OutOfMemory) }
 {
     if session.is_quiet(&frame) {
