@@ -1,5 +1,5 @@
 -- A live session goes by the steps of a run. Other crates may use these lemmas.
-use Rattle.std.proofs.Common.{◌≡◌, ℕ, ◌+◌, ◌-◌, ◌*◌, ◌<◌, ◌≤◌, Bool, true, false, IsTrue, cond, List, [], ◌∷◌, ◌++◌, length, Option, Some, None, sym, ap, ◌∙◌, refl, subst, arith}
+use Rattle.std.proofs.Common.{◌≡◌, ℕ, ◌+◌, ◌-◌, ◌<◌, ◌≤◌, Bool, true, false, IsTrue, cond, List, [], ◌∷◌, ◌++◌, length, sym, ap, ◌∙◌, refl, subst, arith}
 use Rattle.std.specs.Prelude.{nat_lt}
 use Rattle.std.proofs.lemmas.Bool.{le-ltb}
 use Rattle.scm_errors.specs.declared.error.RecordError.{RecordError}
@@ -16,7 +16,7 @@ use Rattle.scm_record.specs.declared.frame.DrawnFrame.{DrawnFrame}
 use Rattle.scm_view.specs.Frame.{Frame}
 use Rattle.scm_record.specs.Frames.{HasSize, IsSceneOf, Scene, columns_of, rows_of, scene_of}
 use Rattle.scm_record.specs.FrameQueries.{hit, shot_of}
-use Rattle.scm_record.specs.Step.{Change, change}
+use Rattle.scm_record.specs.Step.{change}
 use Rattle.scm_record.specs.Run.{Setting, World, world_in, with_session, Outcome, Goes, Breaks, Point, Before, Drawn, Within, Accepted, no_such_place, too_long, after_screenshot, after_edit, outcome_by, resume, batch, Reaches, here, on, world_at, Stops}
 use Rattle.scm_record.specs.RunContracts.{IsFault}
 use Rattle.scm_record.specs.Batches.{HandlesBatch, is_batch}

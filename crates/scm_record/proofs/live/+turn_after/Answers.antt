@@ -1,13 +1,11 @@
-use Rattle.std.proofs.Common.{◌≡◌, ℕ, ◌+◌, ◌<◌, true, List, [], length, sym, ap, ◌∙◌, refl, subst, arith}
+use Rattle.std.proofs.Common.{◌≡◌, ℕ, ◌+◌, ◌<◌, List, [], length, sym, ap, ◌∙◌, refl, subst}
 use Rattle.std.proofs.lemmas.Result.{err_from_is_err_and, IfOk-weaker, IfErr-weaker}
 use Rattle.scm_input.specs.declared.events.Event.{Event}
 use Rattle.scm_input.specs.Script.{Read, Reply}
 use Rattle.scm_record.specs.declared.session.Flow.{Flow}
-use Rattle.scm_record.specs.declared.session.Flow.TheVariants as flows
-use Rattle.scm_record.specs.Session.{Session, IsDrawable, after_frame, without_pending}
+use Rattle.scm_record.specs.Session.{Session, after_frame}
 use Rattle.scm_record.specs.Frames.{IsSceneOf, Scene, scene_of}
 use Rattle.scm_record.specs.Quiet.{after_ensure}
-use Rattle.scm_record.specs.Batches.{is_batch}
 use Rattle.scm_record.specs.Run.{world_in, Reaches, on, resume, outcome_by}
 use Rattle.scm_record.specs.RunContracts.{IsCurrent}
 use Rattle.scm_record.specs.LiveCalls.{live_setting}

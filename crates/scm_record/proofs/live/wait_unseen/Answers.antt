@@ -1,7 +1,5 @@
-use Rattle.std.proofs.Common.{ap, sym, subst}
-use Rattle.std.proofs.lemmas.Result.{IfOk-weaker}
-use Rattle.scm_record.specs.Session.{Session, after_frame}
-use Rattle.scm_record.specs.Live.{Live}
+use Rattle.std.proofs.Common.{ap}
+use Rattle.scm_record.specs.Session.{Session}
 use Rattle.scm_record.proofs.live.wait_unseen.Goals as goal
 
 pub wait-requires-clause-calm : goal.wait-requires-clause-calm

@@ -1,8 +1,7 @@
-use Rattle.std.proofs.Common.{◌≡◌, IsTrue, List, sym, ap, refl, subst}
+use Rattle.std.proofs.Common.{sym, refl, subst}
 use Rattle.std.proofs.lemmas.Result.{err_from_is_err_and, IfOk-weaker, IfErr-weaker}
 use Rattle.scm_record.specs.Session.{Session}
-use Rattle.scm_record.specs.Frames.{IsSceneOf, scene_of}
-use Rattle.scm_record.specs.Run.{Reaches, world_in, Within, resume, outcome_by}
+use Rattle.scm_record.specs.Frames.{scene_of}
 use Rattle.scm_record.specs.RunContracts.{IsCurrent}
 use Rattle.scm_record.specs.LiveCalls.{live_setting}
 use Rattle.scm_record.specs.Live.{Live}

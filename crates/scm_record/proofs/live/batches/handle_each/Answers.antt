@@ -1,4 +1,4 @@
-use Rattle.std.proofs.Common.{◌≡◌, refl, ◌∙◌}
+use Rattle.std.proofs.Common.{refl, ◌∙◌}
 use Rattle.std.proofs.lemmas.Bool.{and_parts}
 use Rattle.scm_input.specs.declared.events.Event.TheVariants.{None}
 use Rattle.scm_record.specs.Frames.{IsSceneOf, Scene}
