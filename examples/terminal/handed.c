@@ -135,14 +135,24 @@ uint32_t open_commits(scm_session *session, const handed *handed) {
     return code;
 }
 
+/* Returns how many files there are up to the last one with marks. */
+static size_t count_marked(const handed *handed) {
+    size_t count = handed->count;
+    while (count > 0 && handed->changes[count - 1].marks.length == 0) {
+        count--;
+    }
+    return count;
+}
+
 bool mark_handed(scm_session *session, const handed *handed) {
+    size_t count = count_marked(handed);
     bool is_fit = true;
-    for (size_t i = 0; i < handed->count; i++) {
+    for (size_t i = 0; i < count; i++) {
         piece marks = handed->changes[i].marks;
         is_fit = (marks.length == 0 || set_marks(session, i, marks)) && is_fit;
         select_next(session);
     }
-    for (size_t i = 0; i < handed->count; i++) {
+    for (size_t i = 0; i < count; i++) {
         select_previous(session);
     }
     if (handed->is_all_marked) {

@@ -156,9 +156,12 @@ static void open_handed(scm_session *session, task *task) {
     }
 }
 
+/* A screen before that of the terminal. On one of fewer than ten columns each word would draw the whole document. */
+enum { WIDTH = 80, HEIGHT = 24 };
+
 /* Begins a session over the state that was made. */
 static void begin(scm_session *session, task *task) {
-    uint32_t code = scm_begin(session, 0, 0);
+    uint32_t code = scm_begin(session, WIDTH, HEIGHT);
     check(code != SCM_NOT_ACCEPTED, task->to, "there are too many lines to be shown: hand in fewer files");
     check_code(code, task->to);
     if (task->form == HANDED_IN) {
