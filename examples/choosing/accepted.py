@@ -1,82 +1,96 @@
-"""What a front end wrote of an accepted choice: the sides of each file, the marks, and the message."""
+"""What a front end wrote of an accepted choice: the sides of each file, the marks, and the messages. And marks that are kept."""
 import json
 
-from .change import path_of
+from .change import ABSENT
+from .files import digest_of
+from .records import records_in
 from .words import Stop, shown
 
 
-def read_lines(path):
-    with open(path, encoding="utf-8", newline="") as file:
-        return file.read().split("\n")
+SIDES = "selected", "unselected"
 
 
-def side_of(line):
-    """Returns the side that a line is of: its mode, what its contents are, and their text if they are one."""
-    _, mode, kind, *rest = line.split(" ", 3)
-    return mode, kind, json.loads(rest[0]) if kind == "text" else None
+class Accepted:
+    """An accepted choice among `changes`, with the messages of `count` commits, in the file `path`."""
+
+    def __init__(self, path, changes, count):
+        self.changes, self.messages = changes, []
+        with open(path, "rb") as file:
+            data = file.read()
+        try:
+            files = self.files_in(data)
+            self.marks = [file["marks"].decode() for file in files]
+            self.found = [{side: side_in(file, side, change) for side in SIDES} for file, change in zip(files, changes)]
+            is_whole = data.startswith(b"accepted ") and (len(self.messages), len(files)) == (count, len(changes))
+        except (ValueError, LookupError):
+            is_whole = False
+        if not is_whole:
+            raise Stop("the front end did not write the sides of %d files" % len(changes))
+
+    def files_in(self, data):
+        """Returns the records of each file, by their words, and keeps the messages."""
+        files = []
+        for word, value in records_in(data):
+            if word == "message":
+                self.messages.append(value.decode())
+            elif word == "marks":
+                files.append({word: value})
+            elif word != "accepted":
+                files[-1][word] = value
+        return files
+
+    def sides(self, side):
+        """Yields each change with the mode and the bytes that it has on a side: `selected` or `unselected`."""
+        return ((change, *found[side]) for change, found in zip(self.changes, self.found))
+
+    def kept(self):
+        """Returns the marks as they are kept: what has to be the same for them to be taken up is with them."""
+        files = [{"path": shown(it.path), "sides": sides_of(it), "marks": marks} for it, marks in zip(self.changes, self.marks)]
+        return json.dumps({"messages": self.messages, "files": files})
 
 
-def sides_in(path, word, count):
-    """Returns the side that `word` names (`selected` or `unselected`) of each of `count` files."""
+def side_in(file, side, change):
+    """Returns the mode and the bytes of a side, by the records of its file. Contents that are one item are those of a version."""
+    mode = file.get(side + "-mode", ABSENT.encode()).decode("ascii")
+    versions = {b"old": change.old_data, b"new": change.new_data}
+    return mode, file[side] if side in file else versions[file[side + "-is"]]
+
+
+def sides_of(change):
+    """Returns by what a change is known again."""
+    return [digest_of((change.old.mode, change.old_data)), digest_of((change.new.mode, change.new_data))]
+
+
+def kept_in(path):
+    """Returns the marks that are kept in a file."""
     try:
-        sides = [side_of(line) for line in read_lines(path) if line.startswith(word + " ")]
-    except (ValueError, LookupError):
-        sides = []
-    if len(sides) != count:
-        raise Stop("the front end did not write the sides of %d files" % count)
-    return sides
-
-
-def state_in(path):
-    """Returns the state that was accepted."""
-    try:
-        state = json.loads(read_lines(path)[1])
-        is_well = is_state(state)
+        with open(path, encoding="utf-8") as file:
+            kept = json.load(file)
+        is_well = is_kept(kept)
     except (ValueError, LookupError, RecursionError):
         is_well = False
     if not is_well:
         raise Stop("%s has no marks that were kept" % shown(path))
-    return state
+    return kept
 
 
-def is_state(state):
-    """Whether this has what is read of a state: files with paths and marks, and commits with messages or none."""
-    if not isinstance(state, dict):
+def is_kept(kept):
+    """Whether this has what is read of kept marks."""
+    if not isinstance(kept, dict) or not all(isinstance(kept.get(name), list) for name in ("messages", "files")):
         return False
-    files, commits = state.get("files"), state.get("commits", [])
-    if not all(isinstance(parts, list) and all(isinstance(part, dict) for part in parts) for parts in (files, commits)):
+    files = kept["files"]
+    if not all(isinstance(file, dict) for file in files):
         return False
-    has_messages = all(isinstance(commit.get("message"), (str, type(None))) for commit in commits)
-    return has_messages and all(isinstance(file.get("path"), str) and has_marks(file) for file in files)
+    texts = [*kept["messages"], *(file.get(name) for file in files for name in ("path", "marks"))]
+    return all(isinstance(text, str) for text in texts) and all(set(file["marks"]) <= {"0", "1"} for file in files)
 
 
-def has_marks(value):
-    """Whether each mark in a part of a state is one."""
-    if isinstance(value, dict):
-        return all(isinstance(part, bool) if name == "is_checked" else has_marks(part) for name, part in value.items())
-    return all(map(has_marks, value)) if isinstance(value, list) else True
-
-
-def messages_in(state, count):
-    """Returns the messages of the first `count` commits of a state, each empty if there is none."""
-    messages = [commit.get("message") or "" for commit in state.get("commits", [])]
-    return [*messages, *[""] * count][:count]
-
-
-def message_in(state):
-    """Returns the message of a state's first commit, or an empty one."""
-    return messages_in(state, 1)[0]
-
-
-def unmarked(value):
-    """Returns the same part of a state without a mark."""
-    if isinstance(value, dict):
-        return {name: False if name == "is_checked" else unmarked(part) for name, part in value.items()}
-    return [unmarked(part) for part in value] if isinstance(value, list) else value
-
-
-def with_marks(files, state):
-    """Returns `files` with the marks that `state` has on the same files, and the paths of files that changed since."""
-    marked = {path_of(file): file for file in state["files"]}
-    taken = [marked[path_of(file)] if unmarked(marked.get(path_of(file))) == file else file for file in files]
-    return taken, [path for path, file in marked.items() if file != unmarked(file) and file not in taken]
+def take_up(changes, kept):
+    """Gives changes the marks that were kept of the same ones. Returns the paths of marked ones that changed since."""
+    marked = {file["path"]: file for file in kept["files"] if "1" in file["marks"]}
+    for change in changes:
+        file = marked.get(shown(change.path))
+        if file and file.get("sides") == sides_of(change):
+            change.marks = file["marks"]
+            del marked[file["path"]]
+    return list(marked)

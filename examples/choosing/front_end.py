@@ -1,15 +1,14 @@
 """How a program has the user choose in the front end, says what is wrong, and ends."""
-import json
 import os
 import shlex
-import shutil
 import signal
 import sys
 import tempfile
 
-from .accepted import sides_in
+from .accepted import Accepted
 from .change import ABSENT, Choice
 from .git import run_in_terminal
+from .records import record
 from .signals import SIGNALS, Stopped, ignore, stop_on_signals
 from .waiting import erase
 from .words import Stop, shown, words_of
@@ -38,7 +37,8 @@ KEYS = """Keys:
 """
 # end of keys
 EPILOGUE = KEYS + """
-SELECT names another front end: a command that takes the file of a state, and a file to write to what was accepted."""
+SELECT names another front end: a command that takes --changes, a file of changes, and a file to write to what was accepted. The
+man page of scm-select has their form."""
 
 
 def say(text):
@@ -53,34 +53,41 @@ def front_end():
         raise Stop("SELECT has no such form: %s" % error) from None
 
 
-def ask(files, folder, task, commits=(), environment=None, is_read_only=False):
-    """Has the user choose in the front end, whose title says the `task`. Returns its status, and the path of what it wrote."""
-    state, accepted = os.path.join(folder, "state.json"), os.path.join(folder, "accepted")
-    with open(state, "w", encoding="utf-8") as file:
-        # json.dump would go through the state in Python, and takes ten times as long
-        file.write(json.dumps({"is_read_only": is_read_only, "commits": list(commits), "files": files}))
+def records_of(changes, messages, settings):
+    """Yields the records that hand in changes, with the messages of commits and the names of settings."""
+    yield from (record("message", message) for message in messages)
+    yield from (record(name) for name in settings)
+    for change in changes:
+        yield from change.records()
+
+
+def ask(changes, folder, task, messages=(), environment=None, settings=()):
+    """Has the user choose in the front end, whose title says the `task`. `settings` may have `read-only` and `mark-all`. Returns the
+    front end's status, and the path of what it wrote."""
+    handed, accepted = os.path.join(folder, "changes"), os.path.join(folder, "accepted")
+    with open(handed, "wb") as file:
+        file.writelines(records_of(changes, messages, settings))
     open(accepted, "w").close()
     try:
         more = {"SELECT_TITLE": "%s: %s" % (os.path.basename(sys.argv[0]), task), **(environment or {})}
-        return run_in_terminal([*front_end(), state, accepted], {**os.environ, **more}), accepted
+        return run_in_terminal([*front_end(), "--changes", handed, accepted], {**os.environ, **more}), accepted
     except OSError as error:
         raise Stop("the front end cannot be run: " + words_of(error)) from None
 
 
-def choose(files, folder, given_up, task, commits=(), environment=None):
-    """Has the user choose as `ask` does. Returns the path of what the front end wrote. Stops with the words `given_up` if the
-    user gives up."""
-    status, accepted = ask(files, folder, task, commits, environment)
+def choose(changes, folder, given_up, task, messages=(), **more):
+    """Has the user choose as `ask` does. Returns what was accepted. Stops with the words `given_up` if the user gives up."""
+    status, accepted = ask(changes, folder, task, messages, **more)
     if status:
         raise Stop(given_up)
-    return accepted
+    return Accepted(accepted, changes, len(messages))
 
 
-def choices_in(accepted, changes, side, now):
-    """Returns what is to be of each change by the sides that were accepted, if it is not so now. `side` is `selected` or
-    `unselected`, and `now` says which side of a change is in place: `old` or `new`."""
+def choices_in(accepted, side, now):
+    """Returns what is to be of each change by what was accepted, if it is not so now. `side` is `selected` or `unselected`, and `now`
+    says which side of a change is in place: `old` or `new`."""
     choices = []
-    for whole, found in zip(changes, sides_in(accepted, side, len(changes))):
+    for whole, *found in accepted.sides(side):
         for change, *wanted in whole.chosen(side, *found):
             if wanted != [getattr(change, now).mode, getattr(change, now + "_data")]:
                 choices.append(Choice(change, *wanted))
@@ -88,11 +95,10 @@ def choices_in(accepted, changes, side, now):
 
 
 def keep(accepted, words):
-    """Keeps what was accepted in a file that stays, and says where. `words` are the command that takes it up."""
+    """Keeps the marks that were accepted in a file, and says where. `words` are the command that takes them up."""
     handle, kept = tempfile.mkstemp(prefix=words[0] + "-", suffix=".marks")
-    os.close(handle)
-    os.chmod(accepted, 0o600)
-    shutil.move(accepted, kept)
+    with open(handle, "w", encoding="utf-8") as file:
+        file.write(accepted.kept())
     say("your marks are kept; to take them up: %s --marks %s" % (" ".join(words), shlex.quote(kept)))
 
 

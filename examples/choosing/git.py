@@ -34,11 +34,6 @@ def split_by_zeros(output):
     return os.fsdecode(output).split("\0")[:-1]
 
 
-# the words by which git stores quickly what need not last, and takes many objects as one file
-FOR_NOW = "-c", "core.fsync=none", "-c", "core.compression=0"
-AS_ONE_FILE = "index-pack", "--stdin"
-
-
 def run_in_terminal(command, environment, **settings):
     """Runs a command that has the terminal meanwhile, so what Ctrl-C does then is its matter. Returns its status."""
     before = signal.signal(signal.SIGINT, lambda *_: None)
@@ -95,18 +90,3 @@ class Git:
         """Returns the name of an object for each of `contents`: bytes, with the name of an object that has them, or None."""
         stored = iter(self.store([data for data, name in contents if not name]))
         return [name or next(stored) for _, name in contents]
-
-    def trees(self, lists):
-        """Stores for each list of names a folder whose files are these objects, called 0, 1 and so on. Returns their names."""
-        lines = [["100644 blob %s\t%d\n" % (name, number) for number, name in enumerate(names)] for names in lists]
-        given = "\n".join("".join(each) for each in lines)
-        return self.git("mktree", "--batch", given=given.encode()).decode().split()
-
-
-def temporary_store(folder):
-    """Returns git on a store of objects of its own, in `folder`, for what lies in no repository."""
-    environment = {name: value for name, value in os.environ.items() if not name.startswith("GIT_")}
-    git = Git(folder, {**environment, "GIT_DIR": os.path.join(folder, "git")})
-    git.options, git.taking = FOR_NOW, AS_ONE_FILE
-    git.git("init", "--quiet", "--bare", "--template=", git.environment["GIT_DIR"])
-    return git

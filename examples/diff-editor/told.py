@@ -37,13 +37,3 @@ def conflict_note(change):
         if found:
             return "%s has conflict markers in %s, lines %d to %d: choose all of them, or none" % (shown(change.path), name, *found)
     raise ValueError(change.path)
-
-
-def mark_all(value):
-    """Marks each change in a part of a state."""
-    if isinstance(value, dict):
-        if "is_checked" in value:
-            value["is_checked"] = True
-        value = list(value.values())
-    for part in value if isinstance(value, list) else ():
-        mark_all(part)

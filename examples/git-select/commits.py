@@ -1,7 +1,6 @@
 """What git-select does with a choice in commits: commits it, adds it to the last commit, or makes two of that one."""
 import os
 
-from choosing.accepted import message_in, messages_in, state_in
 from choosing.front_end import say
 from choosing.signals import status_of
 from choosing.waiting import counted
@@ -36,13 +35,13 @@ class Commit(Stage):
         count = self.staged()
         return self.does + (", with %s staged before" % counted(count, "file") if count else "")
 
-    def commits(self, kept):
+    def messages(self, kept):
         given = self.options.message
         self.begun = "" if given else self.read_message()
         if not can_be_shown(self.begun):
             say("the message to begin with is too long to be shown: " + self.too_long)
             self.begun = ""
-        return [{"message": given or kept or self.begun}]
+        return [given or kept or self.begun]
 
     def read_message(self):
         """Returns the message to begin with: the template that the user has set."""
@@ -61,7 +60,7 @@ class Commit(Stage):
         """Commits the index with `choices`, which the index then has."""
         self.repository.update(self.stored(self.all_of(choices), self.now), GIT_INDEX_FILE=lock.copy)
         asked, before = self.tree_of(lock), self.repository.last_commit()
-        status = status_of(lambda: self.commit(message_in(state_in(accepted)), lock.copy))
+        status = status_of(lambda: self.commit("".join(accepted.messages), lock.copy))
         self.check_made(status, before, lock)
         self.keep(asked, lock)
         return self.reports(choices), False
@@ -161,7 +160,7 @@ class Fixup(Commit):
         self.does = "commits what is marked as a fixup of " + self.fixed[:10]
         self.words = "git-select", "--fixup", self.fixed[:10]
 
-    def commits(self, kept):
+    def messages(self, kept):
         return []
 
     def commit(self, message, index):
@@ -189,11 +188,11 @@ class Split(Stage):
     def read(self, scratch):
         return changed_between(self.repository, self.tree_before(), self.last, self.options.paths, self.start)
 
-    def commits(self, kept):
+    def messages(self, kept):
         begun = self.repository.message_of(self.last)
         if begun is None or not can_be_shown(begun):
             raise Stop("the message of the last commit is too long to be shown, or no text")
-        return [{"message": self.options.message or kept or begun}, {"message": begun}]
+        return [self.options.message or kept or begun, begun]
 
     environment = Commit.environment
 
@@ -202,7 +201,7 @@ class Split(Stage):
 
     def write(self, choices, scratch, accepted, lock):
         """Makes the two commits, and has HEAD name the second one. The index and the working tree stay."""
-        first, second = messages_in(state_in(accepted), 2)
+        first, second = accepted.messages
         if not first.strip() or not second.strip():
             raise Stop("a commit has no message")
         tree = self.repository.tree_with(self.tree_before(), self.stored(self.all_of(choices), self.now), self.folder)

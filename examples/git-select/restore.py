@@ -84,7 +84,7 @@ class Stash(Restore):
     def write(self, choices, scratch, accepted, lock):
         """Takes files of the working tree back, as Restore does, once git has what is marked as a stash."""
         entries = self.entries(choices, scratch)
-        stashed = self.stored(choices_in(accepted, self.changes, "selected", "old"), "old")
+        stashed = self.stored(choices_in(accepted, "selected", "old"), "old")
         stash = self.repository.store_stash(stashed, self.options.message, self.folder)
         try:
             self.files.change(entries)

@@ -6,10 +6,12 @@ import shutil
 import tempfile
 
 from choosing.change import ABSENT, Side
-from choosing.git import AS_ONE_FILE, FOR_NOW, Git, reason_in, split_by_zeros
+from choosing.git import Git, reason_in, split_by_zeros
 from choosing.words import Stop
 from repository import index_lines
 
+# the words by which git stores quickly what need not last
+FOR_NOW = "-c", "core.fsync=none", "-c", "core.compression=0"
 # of how many files that come and go git compares each with each, to find those that have another path
 MOST_COMPARED = 200
 
@@ -20,7 +22,8 @@ class Scratch(Git):
 
     # an index in two parts would leave one of them beside the repository's index
     options = "-c", "core.splitIndex=false", *FOR_NOW
-    taking = AS_ONE_FILE
+    # many objects are taken as one file
+    taking = "index-pack", "--stdin"
 
     def __init__(self, repository, folder):
         self.folder = folder

@@ -41,8 +41,8 @@ class Way:
         """Returns what the key `c` does, for the title."""
         return self.does
 
-    def commits(self, kept):
-        """Returns the commits of the state that is shown. `kept` is the message of kept marks."""
+    def messages(self, kept):
+        """Returns the messages of commits that the user can edit. `kept` is that of kept marks."""
         return []
 
     def environment(self):

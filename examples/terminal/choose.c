@@ -1,4 +1,4 @@
-/* Asks a user for lines of a state, and prints the two sides of each file: the tool of docs/TUTORIAL.md. No proof covers this file.
+/* Asks a user which changes of a file to take, and prints the file with these: the tool of docs/TUTORIAL.md. No proof covers this file.
  *
  * It is the least front end. `run.c` beside it also follows new sizes, stops and signals, and starts an editor. */
 #define _GNU_SOURCE
@@ -6,28 +6,41 @@
 
 #include <poll.h>
 #include <stdio.h>
-#include <stdlib.h>
 #include <string.h>
 #include <sys/ioctl.h>
 #include <termios.h>
 #include <unistd.h>
 
-enum { GIVEN_UP = 1, FAILED = 2, SILENCE = 50 /* milliseconds */ };
+enum { GIVEN_UP = 1, FAILED = 2, SILENCE = 50 /* milliseconds */, MODE = 0100644, ROOM = 1 << 20 };
 
-static char buffer[1 << 20];
+/* A file. */
+typedef struct contents {
+    char bytes[ROOM];
+    size_t length;
+} contents;
 
-/* Opens a session over the state in a file, on a screen of the terminal's size. */
+static contents old, new;
+static char buffer[2 * ROOM];
+
+/* Reads a file whole. Returns false if it cannot be read, or is too large. */
+static bool read_file(const char *path, contents *into) {
+    FILE *file = fopen(path, "rb");
+    into->length = file ? fread(into->bytes, 1, ROOM, file) : 0;
+    bool is_whole = file && !ferror(file) && into->length < ROOM;
+    return file && fclose(file) == 0 && is_whole;
+}
+
+/* Opens a session that shows how the old file becomes the new one, on a screen of the terminal's size. */
 static uint32_t open_session(scm_session *session, const char *path) {
-    FILE *file = fopen(path, "rb"); /* a file that is not there is read as one without a byte, which is no state */
-    size_t length = file ? fread(buffer, 1, sizeof buffer, file) : 0;
     struct winsize size = {0};
-    if (file) {
-        fclose(file);
-    }
     if (ioctl(STDERR_FILENO, TIOCGWINSZ, &size) != 0 || size.ws_col == 0 || size.ws_row == 0) {
         size = (struct winsize){.ws_col = 80, .ws_row = 24};
     }
-    return scm_new(session, buffer, length, size.ws_col, size.ws_row);
+    uint32_t code = scm_state_new(session, false);
+    if (code == SCM_DONE) {
+        code = scm_state_texts(session, path, strlen(path), "", 0, old.bytes, old.length, MODE, new.bytes, new.length, MODE);
+    }
+    return code == SCM_DONE ? scm_begin(session, size.ws_col, size.ws_row) : code;
 }
 
 /* Shows the session, and handles what the user types next, or the silence. Returns whether the terminal is still there. */
@@ -48,17 +61,9 @@ static bool take_turn(scm_session *session) {
     return count > 0;
 }
 
-/* Answers with the message that the session asks to edit, as it is. */
-static bool keep_message(scm_session *session) {
-    size_t length;
-    return scm_text(session, buffer, sizeof buffer, &length) == SCM_DONE && scm_answer(session, buffer, length) == SCM_DONE;
-}
-
 /* Takes turns until the changes are accepted or the session has ended. */
 static void ask(scm_session *session) {
-    bool goes_on = true;
-    while (goes_on && scm_stage(session) <= SCM_EDITING) {
-        goes_on = scm_stage(session) == SCM_WAITING ? take_turn(session) : keep_message(session);
+    while (scm_stage(session) == SCM_WAITING && take_turn(session)) {
     }
 }
 
@@ -77,39 +82,28 @@ static void ask_in_terminal(scm_session *session) {
     tcsetattr(STDIN_FILENO, TCSAFLUSH, &before);
 }
 
-/* Prints the two sides of each file: the text of accepted changes, without its first two lines. */
-static bool print_sides(scm_session *session) {
-    char none;
+/* Prints the file with the selected changes. */
+static bool print_selected(scm_session *session) {
     size_t length = 0;
-    uint32_t code = scm_text(session, &none, 0, &length);
-    char *text = malloc(length + 1);
-    bool is_read = text && code == SCM_DONE && scm_text(session, text, length, &length) == SCM_DONE;
-    char *end = is_read ? text + length : NULL;
-    char *line = text;
-    for (int skipped = 0; skipped < 2 && line && end; skipped++) {
-        line = memchr(line, '\n', (size_t)(end - line));
-        line = line ? line + 1 : NULL;
-    }
-    bool is_printed = end && line && fwrite(line, 1, (size_t)(end - line), stdout) == (size_t)(end - line);
-    free(text);
-    return is_printed && fflush(stdout) == 0;
+    uint32_t code = scm_side_bytes(session, 0, true, buffer, sizeof buffer, &length);
+    return code == SCM_DONE && length <= sizeof buffer && fwrite(buffer, 1, length, stdout) == length && fflush(stdout) == 0;
 }
 
 int main(int argc, char **argv) {
     scm_session session = {0};
-    if (argc != 2) {
-        fputs("usage: choose STATE.json\n", stderr);
+    if (argc != 3 || !read_file(argv[1], &old) || !read_file(argv[2], &new)) {
+        fputs("usage: choose OLD NEW, two files of less than a mebibyte\n", stderr);
         return FAILED;
     }
-    uint32_t code = open_session(&session, argv[1]);
+    uint32_t code = open_session(&session, argv[2]);
     if (code != SCM_DONE) {
         size_t length = scm_words(code, buffer, sizeof buffer);
-        fprintf(stderr, "choose: %s: %.*s\n", argv[1], (int)length, buffer);
+        fprintf(stderr, "choose: %s: %.*s\n", argv[2], (int)length, buffer);
         return FAILED;
     }
     ask_in_terminal(&session);
     bool is_accepted = scm_stage(&session) == SCM_ACCEPTED;
-    bool is_printed = is_accepted && print_sides(&session);
+    bool is_printed = is_accepted && print_selected(&session);
     scm_free(&session);
     return is_printed ? 0 : is_accepted ? FAILED : GIVEN_UP;
 }

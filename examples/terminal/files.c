@@ -5,6 +5,7 @@
 #include <errno.h>
 #include <fcntl.h>
 #include <libgen.h>
+#include <stdarg.h>
 #include <stdio.h>
 #include <stdlib.h>
 #include <string.h>
@@ -13,8 +14,7 @@
 
 enum { FIRST_ROOM = 1 << 15, MORE_ROOM = 1 << 20, PERMISSIONS = 0777, ALL_MAY_WRITE = 0666 };
 
-/* Gives a text room for `room` bytes and the zero behind them. Returns false if that fails; the text is as it was. */
-static bool make_room(text *text, size_t room) {
+bool make_room(text *text, size_t room) {
     if (text->bytes && text->room >= room) {
         return true;
     }
@@ -26,11 +26,36 @@ static bool make_room(text *text, size_t room) {
     return larger;
 }
 
-static void end_at(text *text, size_t length) {
+void end_at(text *text, size_t length) {
     text->length = length;
     if (text->bytes) {
         text->bytes[length] = 0;
     }
+}
+
+bool append(text *text, const char *bytes, size_t length) {
+    size_t end = text->length + length;
+    if ((!text->bytes || text->room < end) && !make_room(text, end < FIRST_ROOM ? FIRST_ROOM : end + end / 2)) {
+        return false;
+    }
+    if (length > 0) {
+        memcpy(text->bytes + text->length, bytes, length);
+    }
+    end_at(text, end);
+    return true;
+}
+
+bool append_words(text *text, const char *form, ...) {
+    va_list words;
+    char *made = NULL;
+    va_start(words, form);
+    int length = vasprintf(&made, form, words);
+    va_end(words);
+    bool is_added = length >= 0 && append(text, made, (size_t)length);
+    if (length >= 0) {
+        free(made);
+    }
+    return is_added;
 }
 
 uint32_t read_session(scm_session *session, reader *read, text *into) {
@@ -96,11 +121,20 @@ static bool close_written(int file, bool is_written) {
     return is_written && is_closed;
 }
 
-/* Returns the permissions of the file that takes the place of `old`, or of a new file if `old` is NULL. */
-static mode_t permissions_like(const struct stat *old) {
+mode_t new_file_mask(void) {
     mode_t mask = umask(0);
     umask(mask);
-    return old ? old->st_mode & PERMISSIONS : ALL_MAY_WRITE & ~mask;
+    return mask;
+}
+
+bool write_new_file(const char *path, mode_t mode, const char *bytes, size_t length) {
+    int file = open(path, O_WRONLY | O_CREAT | O_EXCL | O_CLOEXEC, mode);
+    return file >= 0 && close_written(file, write_bytes(file, bytes, length) && fchmod(file, mode) == 0 && fsync(file) == 0);
+}
+
+/* Returns the permissions of the file that takes the place of `old`, or of a new file if `old` is NULL. */
+static mode_t permissions_like(const struct stat *old) {
+    return old ? old->st_mode & PERMISSIONS : ALL_MAY_WRITE & ~new_file_mask();
 }
 
 /* Makes a file in the folder of `target`, and sets `path` to its path, which the caller frees. Returns -1 with errno set if that

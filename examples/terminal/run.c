@@ -176,7 +176,8 @@ static void follow_size(run *run) {
     if (ioctl(run->terminal, TIOCGWINSZ, &size) != 0 || size.ws_col == 0 || size.ws_row == 0) {
         size = (struct winsize){.ws_col = 80, .ws_row = 24};
     }
-    uint16_t width = size.ws_col < WIDEST ? size.ws_col : WIDEST, height = size.ws_row < TALLEST ? size.ws_row : TALLEST;
+    uint16_t width = size.ws_col < SCM_MAX_COLUMNS ? size.ws_col : SCM_MAX_COLUMNS;
+    uint16_t height = size.ws_row < SCM_MAX_ROWS ? size.ws_row : SCM_MAX_ROWS;
     bool is_first = run->width == 0;
     if (width != size.ws_col || height != size.ws_row) {
         write_terminal(run, CLEAR, sizeof CLEAR - 1);

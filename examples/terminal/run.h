@@ -4,11 +4,9 @@
 
 #include "scm.h"
 
-/* The largest screen, in columns and rows: a session takes some 100 bytes for each place. A larger terminal shows it at its top left. */
-enum { WIDEST = 1000, TALLEST = 1000 };
-
 /* Shows an open session on a terminal, and hands in what the user types, until the session waits no more. The window's title is
- * `title`, in ASCII. The terminal and the handlers of signals are as before when it returns. One run at a time is in a process.
+ * `title`, in ASCII. A terminal of more than SCM_MAX_COLUMNS or SCM_MAX_ROWS shows the screen at its top left. The terminal and the
+ * handlers of signals are as before when it returns. One run at a time is in a process.
  *
  * Returns 0 if the session waits no more (scm_stage says why); the number of a signal that asked the process to end; or -1 with
  * errno set: EIO if the terminal is gone, ENOMEM if an allocation failed, and that of tcgetattr if `terminal` is no terminal. */

@@ -1,23 +1,27 @@
-/* Selects changes in a terminal, over the library for C: reads a state, runs it, and writes what was accepted. No proof covers this
- * file, nor `run.c` and `files.c`, of which it is made. */
+/* Selects changes in a terminal, over the library for C: reads files, folders or a state, runs it, and writes what was accepted. No
+ * proof covers this file, nor those beside it, of which it is made. */
 #define _GNU_SOURCE
-#include "files.h"
+#include "folders.h"
+#include "handed.h"
 #include "run.h"
 
 #include <errno.h>
 #include <fcntl.h>
+#include <getopt.h>
 #include <signal.h>
 #include <stdio.h>
 #include <stdlib.h>
 #include <string.h>
 #include <unistd.h>
 
-#ifndef NAME
-#define NAME "terminal"
-#endif
-
 static const char HELP[] =
-    "usage: " NAME " STATE.json [ACCEPTED]\n\nShows changes, and writes what you accept to ACCEPTED or to standard output.\n"
+    "usage: " NAME " [-o FILE] OLD NEW\n"
+    "       " NAME " -d LEFT RIGHT\n"
+    "       " NAME " [-o FILE] STATE.json\n"
+    "       " NAME " --changes CHANGES ACCEPTED\n\n"
+    "Shows how the file NEW differs from OLD, and writes OLD with the changes that you mark to FILE, or to standard output.\n"
+    "With -d, LEFT and RIGHT are folders, and RIGHT then has what LEFT has with the changes that you mark.\n"
+    "A state has changes as JSON. With --json, what you accept is written in that form, also of files and folders.\n\n"
     "The status is 0 for accepted changes, 1 if you gave up, and 2 for an error.\n\n"
     /* keys: made by tools/make-keys */
     "Keys:\n"
@@ -78,13 +82,119 @@ static void fill_standard_files(void) {
     close(file);
 }
 
-/* Opens a session over the state in a file. */
-static void open_session(scm_session *session, const char *path) {
-    text json = {0};
-    check(read_file(path, &json), path, NULL);
-    check_code(scm_new(session, json.bytes, json.length, 0, 0), path);
-    free(json.bytes);
+/* ---- What is shown ---- */
+
+/* The forms in which changes come. */
+typedef enum form { A_STATE, TWO_FILES, TWO_FOLDERS, HANDED_IN } form;
+
+/* What the arguments ask for, and what was read for it. */
+typedef struct task {
+    form form;
+    bool is_as_json;
+    const char *from, *to; /* the paths of what is shown; `to` is NULL for a state */
+    const char *output;    /* the file to write to, or NULL for standard output */
+    text bytes;            /* of the state, or of what was handed in */
+    differing file;
+    folders folders;
+    handed handed;
+} task;
+
+/* How many bytes of a file take so long to be compared that the user is told. */
+enum { MANY_BYTES = 1 << 22 };
+
+/* Adds a change to the state. On a terminal it says meanwhile what takes long. If a line is too long to be shown, says so. */
+static void add(scm_session *session, change *change) {
+    bool had_lines = change->has_lines;
+    bool is_long = change->old.bytes.length + change->new.bytes.length > MANY_BYTES && isatty(STDERR_FILENO);
+    if (is_long) {
+        fprintf(stderr, "comparing %.*s ..", (int)change->path.length, change->path.bytes);
+    }
+    check_code(add_change(session, change), "the changes cannot be shown");
+    if (is_long) {
+        fputs("\r\x1b[K", stderr);
+    }
+    if (had_lines && !change->has_lines) {
+        int length = (int)change->path.length;
+        fprintf(stderr, NAME ": %.*s has a line that is too long to be shown: its changes are one item\n", length, change->path.bytes);
+    }
 }
+
+static void open_state(scm_session *session, task *task) {
+    check(read_file(task->from, &task->bytes), task->from, NULL);
+    check_code(scm_new(session, task->bytes.bytes, task->bytes.length, 0, 0), task->from);
+}
+
+static void open_files(scm_session *session, task *task) {
+    differing *file = &task->file;
+    check(read_contents(task->from, &file->old), task->from, NULL);
+    check(read_contents(task->to, &file->new), task->to, NULL);
+    file->path = task->to;
+    check(show_difference(file), task->to, NULL);
+    check_code(scm_state_new(session, false), task->to);
+    add(session, &file->change);
+}
+
+static void open_folders(scm_session *session, task *task) {
+    char *path = NULL;
+    task->folders.left = task->from;
+    task->folders.right = task->to;
+    bool is_read = read_folders(&task->folders, &path);
+    check(is_read, path ? path : task->to, NULL);
+    check_code(scm_state_new(session, false), task->to);
+    for (size_t i = 0; i < task->folders.differ; i++) {
+        add(session, &task->folders.files[i].change);
+    }
+}
+
+static void open_handed(scm_session *session, task *task) {
+    check(read_file(task->from, &task->bytes), task->from, NULL);
+    const char *why = read_handed((piece){task->bytes.bytes, task->bytes.length}, &task->handed);
+    check(!why, task->from, why);
+    check_code(open_commits(session, &task->handed), task->from);
+    for (size_t i = 0; i < task->handed.count; i++) {
+        add(session, &task->handed.changes[i].change);
+    }
+}
+
+/* Begins a session over the state that was made. */
+static void begin(scm_session *session, task *task) {
+    uint32_t code = scm_begin(session, 0, 0);
+    check(code != SCM_NOT_ACCEPTED, task->to, "there are too many lines to be shown: hand in fewer files");
+    check_code(code, task->to);
+    if (task->form == HANDED_IN) {
+        check(mark_handed(session, &task->handed), task->from, "its marks do not fit its changes");
+    }
+}
+
+typedef void opener(scm_session *session, task *task);
+
+/* Opens a session over what the arguments name. */
+static void open_session(scm_session *session, task *task) {
+    static opener *const opens[] = {open_state, open_files, open_folders, open_handed};
+    opens[task->form](session, task);
+    if (task->form != A_STATE) {
+        begin(session, task);
+    }
+}
+
+/* Returns whether a task has two versions that are equal, so that there is nothing to choose, and says so. */
+static bool has_nothing(const task *task) {
+    bool is_equal = task->form == TWO_FILES && is_same(&task->file.change.old, &task->file.change.new);
+    bool has_none = is_equal || (task->form == TWO_FOLDERS && task->folders.differ == 0);
+    if (has_none) {
+        fprintf(stderr, NAME ": %s and %s are equal: there is nothing to choose\n", task->from, task->to);
+    }
+    return has_none;
+}
+
+static void free_task(task *task) {
+    free(task->bytes.bytes);
+    free_difference(&task->file);
+    free_folders(&task->folders);
+    free_handed(&task->handed);
+}
+
+/* ---- The run, and what is written ---- */
 
 /* Runs the session on the terminal. If a signal asks for it, ends as that does. Returns whether the terminal is still there. */
 static bool run_in_terminal(scm_session *session, int terminal) {
@@ -98,47 +208,136 @@ static bool run_in_terminal(scm_session *session, int terminal) {
 }
 
 /* Says how a session without accepted changes has ended. Returns the status. */
-static int give_up(bool is_there, const char *words) {
-    bool is_cancelled = strcmp(words, "cancelled by user") == 0;
-    fprintf(stderr, NAME ": %s\n", is_there ? words : "the terminal is gone");
+static int give_up(scm_session *session, bool is_there) {
+    bool is_cancelled = scm_end(session) == SCM_END_CANCELLED;
+    text words = {0};
+    check_code(read_session(session, scm_text, &words), "cannot go on");
+    fprintf(stderr, NAME ": %s\n", is_there ? words.bytes : "the terminal is gone");
+    free(words.bytes);
     return !is_there || is_cancelled ? GIVEN_UP : FAILED;
 }
 
-/* Writes the accepted text to a file, or to standard output. */
-static void write_accepted(const char *path, const text *accepted) {
-    bool is_written = path ? replace_file(path, accepted->bytes, accepted->length)
-                           : write_bytes(STDOUT_FILENO, accepted->bytes, accepted->length) && close(STDOUT_FILENO) == 0;
+/* Writes bytes to a file, or to standard output. */
+static void write_output(const char *path, piece bytes) {
+    bool is_written = path ? replace_file(path, bytes.bytes, bytes.length)
+                           : write_bytes(STDOUT_FILENO, bytes.bytes, bytes.length) && close(STDOUT_FILENO) == 0;
     check(is_written, path ? path : "standard output", NULL);
 }
+
+/* Writes the text of accepted changes, or the records of those that were handed in. */
+static void write_text(scm_session *session, const task *task) {
+    text accepted = {0};
+    bool is_handed = task->form == HANDED_IN && !task->is_as_json;
+    uint32_t code = is_handed ? write_accepted_sides(session, &task->handed, &accepted) : read_session(session, scm_text, &accepted);
+    check_code(code, "cannot go on");
+    write_output(task->output, (piece){accepted.bytes, accepted.length});
+    free(accepted.bytes);
+}
+
+/* Writes the selected side of the file. */
+static void write_file(scm_session *session, const task *task) {
+    text bytes = {0};
+    side side;
+    check_code(read_side(session, 0, &task->file.change, true, &bytes, &side), "cannot go on");
+    write_output(task->output, side.bytes);
+    free(bytes.bytes);
+}
+
+/* Has the right folder hold the selected sides. */
+static void write_folder(scm_session *session, const task *task) {
+    char *path = NULL;
+    const char *why = NULL;
+    int end = write_right(session, &task->folders, &path, &why);
+    if (end != WRITTEN) {
+        const char *left = end == HALF_WRITTEN ? "a part is written" : "nothing was written";
+        fprintf(stderr, NAME ": %s: %s: %s\n", path ? path : task->to, why, left);
+        exit(FAILED);
+    }
+}
+
+static void write_accepted(scm_session *session, const task *task) {
+    if (task->form == A_STATE || task->form == HANDED_IN || task->is_as_json) {
+        write_text(session, task);
+    } else if (task->form == TWO_FILES) {
+        write_file(session, task);
+    } else {
+        write_folder(session, task);
+    }
+}
+
+/* Has the user choose, and writes what is accepted. Returns the status. */
+static int select_changes(scm_session *session, const task *task) {
+    int terminal = open("/dev/tty", O_RDWR | O_CLOEXEC);
+    check(terminal >= 0, "there is no terminal", NULL);
+    bool is_there = run_in_terminal(session, terminal);
+    if (scm_stage(session) != SCM_ACCEPTED) {
+        return give_up(session, is_there);
+    }
+    write_accepted(session, task);
+    return 0;
+}
+
+/* ---- The arguments ---- */
 
 /* Prints a text, and returns the status. */
 static int print(const char *words) {
     return fputs(words, stdout) >= 0 && fclose(stdout) == 0 ? 0 : FAILED;
 }
 
-int main(int argc, char **argv) {
-    bool asks_version = argc == 2 && strcmp(argv[1], "--version") == 0;
-    if (asks_version || (argc == 2 && strcmp(argv[1], "--help") == 0)) {
-        return print(asks_version ? NAME " " SCM_VERSION_TEXT "\n" : HELP);
+/* Reads the options into `task`. Returns the letter of one that asks for a text, or 0. */
+static int read_options(int argc, char **argv, task *task) {
+    static const struct option options[] = {
+        {"dir-diff", no_argument, NULL, 'd'}, {"output", required_argument, NULL, 'o'}, {"json", no_argument, NULL, 'j'},
+        {"changes", no_argument, NULL, 'c'},  {"help", no_argument, NULL, 'h'},         {"version", no_argument, NULL, 'v'},
+        {0},
+    };
+    int letter;
+    opterr = 0;
+    task->form = TWO_FILES;
+    while ((letter = getopt_long(argc, argv, "do:h", options, NULL)) != -1) {
+        check(letter != '?', "wrong arguments", "try " NAME " --help");
+        switch (letter) {
+        case 'd': task->form = TWO_FOLDERS; break;
+        case 'c': task->form = HANDED_IN; break;
+        case 'j': task->is_as_json = true; break;
+        case 'o': task->output = optarg; break;
+        default: return letter;
+        }
     }
-    check(argc == 2 || argc == 3, "wrong arguments", "try " NAME " --help");
-    const char *path = argc > 2 ? argv[2] : NULL;
-    check(path || fcntl(STDOUT_FILENO, F_GETFD) >= 0, "standard output", NULL);
+    return 0;
+}
+
+/* Reads the paths behind the options into `task`. */
+static void read_paths(int count, char **paths, task *task) {
+    bool is_state = task->form == TWO_FILES && count == 1;
+    bool has_output = task->form == TWO_FOLDERS && !task->is_as_json && task->output;
+    check((count == 2 || is_state) && !has_output, "wrong arguments", "try " NAME " --help");
+    task->form = is_state ? A_STATE : task->form;
+    task->from = paths[0];
+    task->to = is_state ? NULL : paths[1];
+    if (task->form == HANDED_IN) {
+        task->output = paths[1];
+    }
+}
+
+int main(int argc, char **argv) {
+    task task = {0};
+    scm_session session = {0};
+    int asked = read_options(argc, argv, &task);
+    if (asked) {
+        return print(asked == 'v' ? NAME " " SCM_VERSION_TEXT "\n" : HELP);
+    }
+    read_paths(argc - optind, argv + optind, &task);
+    check(task.output || task.form == TWO_FOLDERS || fcntl(STDOUT_FILENO, F_GETFD) >= 0, "standard output", NULL);
     fill_standard_files();
     signal(SIGCHLD, SIG_DFL); /* else the editor's status would be lost */
-    scm_session session = {0};
-    text ending = {0};
-    open_session(&session, argv[1]);
-    int terminal = open("/dev/tty", O_RDWR | O_CLOEXEC);
-    check(terminal >= 0, "there is no terminal", NULL);
-    bool is_there = run_in_terminal(&session, terminal);
-    check_code(read_session(&session, scm_text, &ending), "cannot go on");
-    bool is_accepted = scm_stage(&session) == SCM_ACCEPTED;
-    scm_free(&session);
-    if (is_accepted) {
-        write_accepted(path, &ending);
+    open_session(&session, &task);
+    bool is_chosen = !has_nothing(&task);
+    int status = is_chosen ? select_changes(&session, &task) : 0;
+    if (!is_chosen && task.form == TWO_FILES) {
+        write_output(task.output, task.file.change.new.bytes);
     }
-    int status = is_accepted ? 0 : give_up(is_there, ending.bytes);
-    free(ending.bytes);
+    scm_free(&session);
+    free_task(&task);
     return status;
 }

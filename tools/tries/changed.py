@@ -5,6 +5,7 @@ import shutil
 import stat
 
 NUMBERS = b"".join(b"%d\n" % number for number in range(1, 10))
+MARKER = b"\\ No newline at end of file"
 # the two before the last would be shown alike if a backslash were not doubled
 NAMES = "with space", 'with "quotes"', "it's", "\udcff\t\n\\", "日本", "\udcff", "\\xff", "-x"
 
@@ -20,6 +21,9 @@ CASES = {
     "a link to a folder": ({"a/b": b"1\n"}, {"a/b": b"1\n2\n", "c": ("link", "a")}),
     "bytes": ({"a": b"\0\1", "b": b"\0", "c": b"text\n"}, {"a": b"\0\2", "c": b"\xff\n", "d": b"\0"}),
     "no line end": ({"a": b"1\n2", "b": b"1\n2\n", "c": b"1"}, {"a": b"1\n2\n", "b": b"0\n2", "c": b""}),
+    "bytes of Latin-1": ({"a": b"caf\xe9\n1\n2", "b": b"\xff", "c": b"\xc3\xa4\n"}, {"a": b"caf\xe8\n1\n2\n", "b": b"\xfe\n", "c": b"\xe4\n"}),
+    "lines like git's marker": ({"a": b"1\n" + MARKER + b"\n2", "b": MARKER}, {"a": b"0\n" + MARKER + b"\n2\n", "b": b"", "c": MARKER}),
+    "CR alone": ({"a": b"1\r2\r3", "b": b""}, {"a": b"1\r2\n3\r", "b": b"\r", "c": b""}),
     "CR and LF": ({"a": b"1\r\n2\r\n3\r\n", "b": b"1\n2\n"}, {"a": b"1\r\ntwo\r\n3\r\n", "b": b"1\r\n2\n"}),
     "names": tuple(dict.fromkeys(NAMES, data) for data in (b"1\n", b"2\n")),
     "a folder that becomes a file": ({"a/b": b"1\n", "a/c": b"2\n"}, {"a": b"3\n"}),

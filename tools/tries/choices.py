@@ -2,6 +2,7 @@
 
 gabrosty-diff-editor has a commit's parent and the commit itself as LEFT and RIGHT. git-select has the parent's files in the last
 commit and the commit's own in the working tree. What each one writes is what a splitter makes of the marks, in here."""
+import io
 import json
 import os
 import random
@@ -9,7 +10,6 @@ import subprocess
 
 import changed
 import trying
-from choosing.change import path_of
 from choosing.words import shown
 from options import content_of, edit_folders
 from places import Repository
@@ -43,9 +43,18 @@ def what_of(kind, data):
 
 
 def lines_in(data):
-    """Returns the lines of a file, of which the last one is followed by None if it has no line end."""
-    lines = data.split(b"\n")
-    return [line + b"\n" for line in lines[:-1]] + ([lines[-1] + b"\n", None] if lines[-1] else [])
+    """Returns the lines of a file with their line ends. Only the last one may have none."""
+    return list(io.BytesIO(data))
+
+
+def joined(lines):
+    """Returns the text of lines. One without a line end gets it where another follows."""
+    return b"".join(line if line.endswith(b"\n") else line + b"\n" for line in lines[:-1]) + b"".join(lines[-1:])
+
+
+def path_of(file):
+    """Returns the path of a file of a state, as it is shown, without what is said of it."""
+    return file["path"].split("\N{NO-BREAK SPACE}")[0]
 
 
 def split(file, old, new):
@@ -63,8 +72,7 @@ def split(file, old, new):
         for line in part.get("lines", ()):
             step(line, sides, place, lines)
     if has_lines:
-        data = b"".join(line for line in lines if line)
-        data = data[:-1] if lines[-1:] == [None] else data
+        data = joined(lines)
         # where lines stay, the file stays too
         kind = kind or (kind_and_data(old)[0] or new_kind if data else None)
     return None if kind is None else what_of(kind, data)
@@ -103,7 +111,7 @@ def marked_at_random(place, command, seed, folder=None, refused=None):
     """Runs a command with marks that `seed` chooses. Returns the files that it showed, with their marks, by path. If it refuses
     them, it says `refused`."""
     marked, front = os.path.join(place.top, "marked"), os.path.join(place.prefix, "bin", "scm-select")
-    status, said = place.type(command, ["c"], folder, SELECT=MARKER, FRONT=front, MARKED=marked, SEED=str(seed))
+    status, said = place.type(command, ["c", "c"], folder, SELECT=MARKER, FRONT=front, MARKED=marked, SEED=str(seed))
     if status and not (refused and refused in said):
         raise RuntimeError(said)
     if not os.path.exists(marked):
@@ -122,7 +130,7 @@ def chosen(files, old, new):
         if before is None:
             made[path] = split(file, old.get(path), new.get(path))
         else:
-            # as a new file, whose old side is the file with the old path
+            # its path is an item, that of a mode
             is_new = any(part["is_checked"] for word, part in parts_of(file) if word == "FileMode")
             made[path if is_new else before] = split(file, old[before], new[path])
             made[before if is_new else path] = None

@@ -1,4 +1,4 @@
-"""git-select and gabrosty-diff-editor on a disk that is full, for tools/try-tools."""
+"""git-select, gabrosty-diff-editor and scm-select on a disk that is full, for tools/try-tools."""
 import contextlib
 import os
 import random
@@ -66,14 +66,14 @@ def is_refused(place, folder, words):
     return is_refused and is_left
 
 
-def is_left_by_the_diff_editor(place, folder):
-    """Whether RIGHT stays as it was where the disk has room for one of two files of LEFT."""
+def is_left_by_an_editor(place, folder, command, failed, words):
+    """Whether RIGHT stays as it was where the disk has room for one of two files of LEFT. `failed` is the status then."""
     left, new = place.folder("left", {"a": text_of(1), "b": text_of(2)}), {"a": b"1\n", "b": b"2\n"}
     right = place.folder(os.path.join("disk", "right"), new)
     fill(folder, FILE * 3 // 2)
-    status, said = place.type(["gabrosty-diff-editor", left, right], ["c"])
+    status, said = place.type([*command, left, right], ["c"])
     os.unlink(os.path.join(folder, "fill"))
-    is_named = status == 1 and "b cannot be written: No space left on device: nothing was written\n" in said
+    is_named = status == failed and words + "No space left on device: nothing was written\n" in said
     return is_named and changed.read(right) == new and sorted(os.listdir(right)) == ["a", "b"]
 
 
@@ -97,7 +97,9 @@ def a_full_disk(place):
         if folder is None:
             return None
         ends = [is_refused(place, folder, words) for words in WORDS]
-        return all(ends) and is_told_half_done(place, folder) and is_left_by_the_diff_editor(place, folder)
+        ends.append(is_left_by_an_editor(place, folder, ["gabrosty-diff-editor"], 1, "b cannot be written: "))
+        ends.append(is_left_by_an_editor(place, folder, ["scm-select", "-d"], 2, "right/b: "))
+        return all(ends) and is_told_half_done(place, folder)
 
 
 ALL = a_full_disk,

@@ -1,12 +1,13 @@
 """gabrosty-diff-editor as jj, git difftool and hg extdiff call it, and with each of its options, for tools/try-tools."""
-import json
 import os
 import shutil
 import signal
 import stat
 import subprocess
+import sys
 
 import changed
+from choosing.records import records_in
 from faults import ACCEPTS, END_AT, MEND_PLACES
 from places import Repository
 
@@ -187,16 +188,25 @@ def everything_is_marked_first(place):
 
 
 def shown_to(place, command):
-    """Returns the status and what a command says, with a front end that keeps what it gets, the title that it got, and the names
-    in its state."""
-    front = file_in(place.top, "front", b'#!/bin/sh\nprintf %s "$SELECT_TITLE" > "$TITLE"\ncp "$1" "$STATE"\nexit 1\n', 0o755)
-    kept = {name: os.path.join(place.top, name.lower()) for name in ("TITLE", "STATE")}
+    """Returns the status and what a command says, with a front end that keeps what it gets, the title that it got, and the paths and
+    notes of its changes."""
+    front = file_in(place.top, "front", b'#!/bin/sh\nprintf %s "$SELECT_TITLE" > "$TITLE"\ncp "$2" "$CHANGES"\nexit 1\n', 0o755)
+    kept = {name: os.path.join(place.top, name.lower()) for name in ("TITLE", "CHANGES")}
     before = dict(place.environment)
     place.environment.update(kept, SELECT=front)
     end = place.call(*command)
     place.environment = before
-    state = json.loads(read_data(kept["STATE"]))
-    return end, read_data(kept["TITLE"]).decode(), [file["path"] for file in state["files"]]
+    shown = [(word, data.decode()) for word, data in records_in(read_data(kept["CHANGES"])) if word in ("path", "note")]
+    return end, read_data(kept["TITLE"]).decode(), shown
+
+
+def without_git(place):
+    """It needs no git."""
+    left, right = place.folder("left", {"a": OLD}), place.folder("right", {"a": NEW})
+    programs = place.folder("programs")
+    os.symlink(sys.executable, os.path.join(programs, "python3"))
+    status, _ = place.type([os.path.join(place.prefix, "bin", NAME), left, right], FIRST, PATH=programs)
+    return status == 0 and changed.read(right) == {"a": b"one\n2\n3\n"}
 
 
 def the_words_of_jj(place):
@@ -206,8 +216,8 @@ def the_words_of_jj(place):
     title = NAME + ": You are splitting a commit into two: qpvuntsm 230dd059 caf\\xe9 The diff initially shows the changes in"
     ends = []
     for command in ([NAME, left, right], [NAME, "--output", output, left, right]):
-        end, found, paths = shown_to(place, command)
-        ends.append(end == (1, NAME + ": nothing was written\n") and found.startswith(title) and paths == ["a"])
+        end, found, shown = shown_to(place, command)
+        ends.append(end == (1, NAME + ": nothing was written\n") and found.startswith(title) and shown == [("path", "a")])
     changed.write_file(os.path.join(right, "JJ-INSTRUCTIONS"), b"x" * 1000 + b"\n\x1b]2;y\x07\n")
     is_cut = shown_to(place, [NAME, left, right])[1] == NAME + ": " + "x" * 237 + "..."
     os.unlink(os.path.join(right, "JJ-INSTRUCTIONS"))
@@ -220,13 +230,14 @@ def lines_of_a_conflict(place):
     old = {"a": OLD, "b": CONFLICT, "c": OLD, "d": b"\0"}
     new = {"a": CONFLICT, "b": OLD, "c": b"<<<<<<\n>>>>>>> x\n<<<<<<< x\n=======\n", "d": b"\0" + CONFLICT}
     left, right = place.folder("left", old), place.folder("right", new)
-    (status, said), _, paths = shown_to(place, [NAME, left, right])
+    (status, said), _, shown = shown_to(place, [NAME, left, right])
     words = "%s: %s has conflict markers in %s, lines %s: choose all of them, or none\n"
     lines = [("a", "RIGHT", "2 to 6"), ("b", "LEFT", "2 to 6"), ("d", "RIGHT", "2 to 6")]
     is_named = status == 1 and said == "".join(words % (NAME, *line) for line in lines) + NAME + ": nothing was written\n"
     is_chosen = place.type([NAME, left, right], ["space", "c"])[0] == 0
     is_written = changed.read(right) == {"a": CONFLICT, "b": CONFLICT, "c": OLD, "d": b"\0"}
-    return is_named and paths == [name + " (conflict markers)" * (name != "c") for name in "abcd"] and is_chosen and is_written
+    notes = [[("path", name), ("note", "conflict markers")][: 1 + (name != "c")] for name in "abcd"]
+    return is_named and shown == sum(notes, []) and is_chosen and is_written
 
 
 def killed_at(place, point, command):
@@ -272,6 +283,6 @@ def writing_that_is_killed(place):
 
 ALL = (
     two_files, a_file_that_comes_or_goes, what_are_not_two_of_a_kind, a_file_that_changed_meanwhile, git_difftool_on_one_file,
-    hg_extdiff, a_third_folder, a_third_file, nothing_is_written, everything_is_marked_first, the_words_of_jj, lines_of_a_conflict,
-    writing_that_is_killed,
+    hg_extdiff, a_third_folder, a_third_file, nothing_is_written, everything_is_marked_first, without_git, the_words_of_jj,
+    lines_of_a_conflict, writing_that_is_killed,
 )

@@ -347,11 +347,12 @@ def an_index_behind_a_link(place):
 
 
 MALFORMED = (
-    "", "\n", "\n[]", "\n{}", '\n{"files": 1}', '\n{"files": [1]}', '\n{"files": [{}]}', '\n{"files": [{"path": 1}]}',
-    '\n{"files": [{"path": []}]}', '\n{"files": [{"path": "a", "sections": [{"FileMode": {"is_checked": 1}}]}]}',
-    '\n{"files": [], "commits": 1}', '\n{"files": [], "commits": {"a": 1}}', '\n{"files": [], "commits": [1]}',
-    '\n{"files": [], "commits": [{"message": 1}]}', '\n{"files": {"path": 1}}', "\n" + "[" * 100_000,
-    '\n{"files": [{"path": "a", "b": %s}]}' % ("[" * 900 + "]" * 900), "\n\0", "\n\udcff",
+    "", "\n", "[]", "{}", '{"files": 1}', '{"files": []}', '{"files": [], "messages": 1}', '{"files": [1], "messages": []}',
+    '{"files": [{}], "messages": []}', '{"files": [{"path": 1, "marks": ""}], "messages": []}',
+    '{"files": [{"path": [], "marks": ""}], "messages": []}', '{"files": [{"path": "a", "marks": 1}], "messages": []}',
+    '{"files": [{"path": "a", "marks": "2"}], "messages": []}', '{"files": [{"path": "a"}], "messages": []}',
+    '{"files": [], "messages": [1]}', '{"files": [], "messages": {"a": 1}}', '{"files": {"path": 1}, "messages": []}', "[" * 100_000,
+    '{"files": [], "messages": [], "more": %s]' % ("[" * 900 + "]" * 900), "\0", "\udcff",
 )
 
 
@@ -430,13 +431,12 @@ def what_each_file_is(place):
         "empty": b"",
     }
     repository = Repository(place, old, new)
-    state = os.path.join(place.top, "state")
-    script = os.path.join(place.top, "keep")
-    changed.write_file(script, b'#!/bin/sh\ncp "$1" "$STATE"\nexit 1\n')
+    state, script = os.path.join(place.top, "state"), os.path.join(place.top, "keep")
+    changed.write_file(script, b'#!/bin/sh\nscm-select --json --changes "$2" "$STATE"\nexit 1\n')
     os.chmod(script, 0o755)
-    select(repository, SELECT=script, STATE=state)
+    repository.select(keys=["c"], SELECT=script, STATE=state)
     with open(state) as file:
-        files = json.load(file)["files"]
+        files = json.loads(file.readlines()[1])["files"]
     found = dict(file["path"].split("\N{NO-BREAK SPACE}") for file in files)
     renamed = {file["path"].split("\N{NO-BREAK SPACE}")[0]: file["old_path"] for file in files if file["old_path"]}
     is_renamed = renamed == {"moved": "from", "moved+": "from+"}

@@ -131,21 +131,25 @@ def the_first_commit_in_two(place):
 
 
 def a_renamed_file(place):
-    """It is one file: its path alone, its path with a line, and all of it, staged and taken out of the index."""
+    """It is one file: its path alone, a line alone, its path with a line, and all of it, staged and taken out of the index."""
     text = b"".join(b"line %d\n" % number for number in range(20))
     new = {"b": text.replace(b"line 3\n", b"three\n").replace(b"line 17\n", b"seventeen\n")}
     repository = Repository(place, {"a": text}, new)
     # the file, and under it its path, two sections
     is_path = repository.select(keys=["shift-F", "j", "space", "c"])[0] == 0 and repository.index_files() == {"b": text}
     repository.git("reset", "--quiet")
-    keys = ["shift-F", *["j"] * 2, "space", "c"]
-    some = {"b": text.replace(b"line 3\n", b"three\n")}
-    is_some = repository.select(keys=keys)[0] == 0 and repository.index_files() == some
+    line, both = (["shift-F", "j", *mark, "j", "space", "c"] for mark in ([], ["space"]))
+    three, seventeen = text.replace(b"line 3\n", b"three\n"), text.replace(b"line 17\n", b"seventeen\n")
+    # a line alone goes into the file with the old path
+    is_line = repository.select(keys=line)[0] == 0 and repository.index_files() == {"a": three}
+    repository.git("reset", "--quiet")
+    is_some = is_line and repository.select(keys=both)[0] == 0 and repository.index_files() == {"b": three}
     repository.git("reset", "--quiet")
     is_all = repository.select(keys=["space", "c"])[0] == 0 and repository.index_files() == new
+    is_line = repository.select("--unstage", keys=line)[0] == 0 and repository.index_files() == {"b": seventeen}
+    repository.git("add", "--all")
     # a line leaves the index with the path, and the others stay in the old one
-    is_out = repository.select("--unstage", keys=keys)[0] == 0
-    is_out = is_out and repository.index_files() == {"a": text.replace(b"line 17\n", b"seventeen\n")}
+    is_out = is_line and repository.select("--unstage", keys=both)[0] == 0 and repository.index_files() == {"a": seventeen}
     repository.git("add", "--all")
     repository.git("config", "diff.renames", "false")
     # two files, of which the first one is gone

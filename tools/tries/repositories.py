@@ -277,14 +277,15 @@ def marks_that_are_taken_up(place):
     """What was marked when something was refused is marked again, with the message."""
     repository = Repository(place, {"a": b"1\n2\n"}, {"a": b"one\ntwo\n"})
     lock = os.path.join(repository.folder, ".git", "index.lock")
-    keys = ["shift-F", "j", "j", "space", "j", "j", "space", "c"]
+    # the first line, old and new
+    keys = ["shift-F", "j", "j", "space", "j", "space", "c"]
     repository.select("--commit", "-m", "Kept", keys=keys, before_last=lambda: open(lock, "w").close())
     os.unlink(lock)
     kept = [os.path.join(place.temporary, name) for name in os.listdir(place.temporary)]
     status, _ = repository.select("--commit", "--marks", *kept, keys=["c"])
     place.forget_marks()
     is_committed = status == 0 and repository.git("log", "-1", "--format=%s") == "Kept\n"
-    return is_committed and repository.git("show", "HEAD:a") == "2\none\n" and repository.is_sound()
+    return is_committed and repository.git("show", "HEAD:a") == "one\n2\n" and repository.is_sound()
 
 
 def a_file_that_changed(place):

@@ -10,31 +10,29 @@
  *     `tools/install PREFIX` of the repository installs these files, and PREFIX/lib/pkgconfig/scm.pc.
  *
  * DESCRIPTION
- *     A program makes a state by calls (scm_state_new, scm_state_file, scm_state_context, scm_state_changes), and begins a
+ *     A program makes a state by calls (scm_state_new, and scm_state_texts for the two versions of each file), and begins a
  *     session with it (scm_begin). Or it opens a session over a state in its JSON form (scm_new). Then it passes the bytes that
  *     a terminal sent to scm_type, and writes the bytes of scm_paint to that terminal. It can also pass words of scripts to
- *     scm_press ("j", "space", "ctrl-d", "click:3:7") and draw the screen itself. Once scm_stage returns SCM_ACCEPTED, scm_side
- *     writes the two sides of each file. While it returns SCM_EDITING, the user edits the message of a commit: scm_text writes
- *     the message, and scm_answer hands in the new one.
+ *     scm_press ("j", "space", "ctrl-d", "click:3:7") and draw the screen itself. Once scm_stage returns SCM_ACCEPTED,
+ *     scm_side_bytes writes the two sides of each file. While it returns SCM_EDITING, the user edits the message of a commit:
+ *     scm_text writes the message, and scm_answer hands in the new one.
  *
  *         scm_session session = {0};
- *         scm_side_info side;
+ *         const char old[] = "Dear all,\nold\n", new[] = "Dear all,\nnew\n";
  *         static char bytes[1 << 20];
+ *         size_t length;
  *         scm_state_new(&session, false);
- *         scm_state_file(&session, "letter", 6, "", 0, 0100644);
- *         scm_state_context(&session, "Dear all,\n", 10);
- *         scm_state_changes(&session, false, false, "old\n", 4);
- *         scm_state_changes(&session, true, false, "new\n", 4);
+ *         scm_state_texts(&session, "letter", 6, "", 0, old, sizeof old - 1, 0100644, new, sizeof new - 1, 0100644);
  *         scm_begin(&session, 80, 24);
  *         scm_press(&session, "a", 1);
  *         scm_press(&session, "c", 1);
  *         if (scm_stage(&session) == SCM_ACCEPTED
- *             && scm_side(&session, 0, true, bytes, sizeof bytes, &side) == SCM_DONE && side.contents == SCM_SIDE_TEXT) {
- *             fwrite(bytes, 1, side.length, stdout);
+ *             && scm_side_bytes(&session, 0, true, bytes, sizeof bytes, &length) == SCM_DONE) {
+ *             fwrite(bytes, 1, length, stdout);
  *         }
  *         scm_free(&session);
  *
- *     scm_side also answers while the state is made and while it is shown: ask scm_stage first. The words "l" and "h" move
+ *     scm_side_bytes also answers while the state is made and while it is shown: ask scm_stage first. The words "l" and "h" move
  *     inwards (from a file to its sections, and on to their lines) and outwards, "j" and "k" to the next and the previous item
  *     that is shown, from the first file on. "space" checks or unchecks the selected item, "a" inverts every mark, "c"
  *     accepts, and "q" cancels. docs/RULES.md of the repository lists all words, under "Words", and all keys.

@@ -32,6 +32,30 @@ const REPLACED: &[(&str, &str, &str, &str)] = &[
     ),
 ];
 
+/// Ten lines, each with the line that replaces it.
+const TEN: &[(&str, &str)] = &[
+    ("zero\n", "0\n"),
+    ("one\n", "1\n"),
+    ("two\n", "2\n"),
+    ("three\n", "3\n"),
+    ("four\n", "4\n"),
+    ("five\n", "5\n"),
+    ("six\n", "6\n"),
+    ("seven\n", "7\n"),
+    ("eight\n", "8\n"),
+    ("nine\n", "9\n"),
+];
+
+/// Returns the text of the ten lines, where those from line `start` to `end`, exclusive, are new.
+fn ten_lines(alloc: Global, start: usize, end: usize) -> Result<String, AllocError> {
+    let mut text = String::new(alloc);
+    for (i, row) in TEN.iter().enumerate() {
+        let line = if start <= i && i < end { row.1 } else { row.0 };
+        text.push_str(line)?;
+    }
+    Ok(text)
+}
+
 /// Returns the file of two texts.
 fn file_of<'a>(alloc: Global, old: &'a str, new: &'a str) -> Result<File<'a>, AllocError> {
     let old = Version {
@@ -107,6 +131,26 @@ fn check_replaced(
 fn lines_stand_in_pairs(rt: HostRuntime) -> Result<(), Fail> {
     for order in ORDERS {
         check_order(&rt, rt.alloc(), *order)?;
+    }
+    Ok(())
+}
+
+/// Checks that pair `i` of ten replaces line `i` in its place.
+fn check_one_of_ten(rt: &impl Abort, alloc: Global, i: usize) -> Result<(), AllocError> {
+    let old = ten_lines(alloc, 0, 0)?;
+    let new = ten_lines(alloc, 0, TEN.len())?;
+    let wanted = ten_lines(alloc, i, i.wrapping_add(1))?;
+    let mut file = file_of(alloc, old.as_str(), new.as_str())?;
+    check_pair(&mut file, i.wrapping_mul(2));
+    let side = side_text(alloc, &file, true)?;
+    assert!(rt; side.as_str() == wanted.as_str());
+    Ok(())
+}
+
+#[test]
+fn each_of_ten_pairs_replaces_its_line(rt: HostRuntime) -> Result<(), Fail> {
+    for i in 0..TEN.len() {
+        check_one_of_ten(&rt, rt.alloc(), i)?;
     }
     Ok(())
 }

@@ -1025,6 +1025,44 @@ size 24 4 | «MESSAGES_NO_SECTIONS "m" null» | script | answer "new" | batch sh
 | accepted
 | «MESSAGES_NO_SECTIONS "new" null»…
 
+# In one batch: into a file of each kind of section, a screenshot, which is of the frame before, and the end.
+24 3 «NO_SECTIONS» l,shot,c => 0
+| screen 0
+| "[File] [Edit] [Select] [
+| "( ) foo/bar          (+)
+| accepted
+| «NO_SECTIONS»…
+24 3 «FILE_OF_1 CONTEXT_0» l,shot,c => 0
+| screen 0
+| "[File] [Edit] [Select] [
+| "( ) f                (+)
+| accepted
+| «FILE_OF_1 CONTEXT_0»…
+24 3 «FILE_OF_1 NO_LINES» l,shot,c => 0
+| screen 0
+| "[File] [Edit] [Select] [
+| "( ) f                (+)
+| accepted
+| «FILE_OF_1 NO_LINES»…
+24 3 «FILE_OF_1 {"Binary":{"is_checked":true,"old_description":"old","new_description":null}}» l,shot,c => 0
+| screen 0
+| "[File] [Edit] [Select] [
+| "(●) f                (+)
+| accepted
+| «FILE_OF_1 {"Binary":{"is_checked":true,"old_description":"old","new_description":null}}»…
+24 3 «FILE_OF_1 DELETION» l,shot,c => 0
+| screen 0
+| "[File] [Edit] [Select] [
+| "(●) f                (+)
+| accepted
+| «FILE_OF_1 DELETION»…
+24 3 «FILE_OF_3 CONTEXT_1 ADDED BINARY_OLD» l,shot,c => 0
+| screen 0
+| "[File] [Edit] [Select] [
+| "( ) f                (+)
+| accepted
+| «FILE_OF_3 CONTEXT_1 ADDED BINARY_OLD»…
+
 # Context: nothing, one to six lines, or more, as the first, a middle, the last and the only section.
 24 5 «FILE_OF_2 CONTEXT_0 ADDED» l shot c => 0
 | screen 0
@@ -1551,6 +1589,21 @@ size 24 4 | «MESSAGES_NO_SECTIONS "m" null» | script | answer "new" | batch sh
 | "[-]
 | "(-)
 | accepted…
+3 3 «TWO_ADDED_LINES 0 0» l shot ctrl-down,ctrl-down,ctrl-down shot c => 0
+| screen 0
+| "[Fi
+| "[-]
+| "(-)
+| screen 1
+| "[Fi
+| "[-]
+| accepted
+| «TWO_ADDED_LINES 0 0»…
+3 3 «TWO_ADDED_LINES 0 0» l ctrl-down,ctrl-down,ctrl-down,ctrl-down,ctrl-down,ctrl-down,ctrl-down,ctrl-down shot c => 0
+| screen 0
+| "[Fi
+| accepted
+| «TWO_ADDED_LINES 0 0»…
 5 4 «FILE_OF_1 CHECKED» l shot c => 0
 | screen 0
 | "[File

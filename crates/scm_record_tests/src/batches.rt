@@ -1,5 +1,6 @@
 //! Batches of events that a program hands in to a live session, and jumps to a key.
-use crate::record::{ACCEPT, EDIT, FAR, HELLO, Read, TOGGLE, run_words, script, state, words};
+use crate::given::{run, state_of};
+use crate::scripts::{ACCEPT, EDIT, FAR, HELLO, INNER, Read, TOGGLE, script, words};
 use scm_record::{
     Event, FileKey, LineKey, LiveSession, RecordError, Screens, SectionKey, SelectionKey,
     TerminalKind, Turn,
@@ -13,9 +14,6 @@ type Row = (
     &'static [&'static [Event]],
     &'static str,
 );
-
-/// Goes to the first item inside the selection.
-const INNER: Event = Event::FocusInner;
 
 /// Opens the menu Edit.
 const MENU_EDIT: Event = Event::Click { row: 0, column: 8 };
@@ -105,7 +103,7 @@ fn session_of(
     alloc: Global,
     message: Option<&'static str>,
 ) -> Result<LiveSession<'static>, RecordError> {
-    let state = state(alloc, message)?;
+    let state = state_of(alloc, (message, None))?;
     if !state.is_accepted() {
         return Err(RecordError::Other(String::from_str(alloc, "not accepted")?));
     }
@@ -182,9 +180,10 @@ fn check_run(rt: &impl Abort, alloc: Global, row: Row) -> Result<(), RecordError
     for batch in batches {
         reads.push(Read::Batch(batch))?;
     }
-    let mut input = script(alloc, &reads)?;
+    let mut input = script(alloc, 80, 24, &reads)?;
     let mut screens = Screens::new(alloc);
-    let text = run_words(alloc, message, &mut input, &mut screens)?;
+    let outcome = run(rt, alloc, (message, None), &mut input, &mut screens);
+    let text = words(alloc, &outcome)?;
     assert_eq!(rt; text.as_str(), wanted);
     Ok(())
 }

@@ -1,15 +1,22 @@
-//! Tests of the recorder, its inputs and its store, in a crate of their own.
+//! Tests of the recorder, of its inputs and its store, and of sessions that a program drives, where a
+//! script of the program cannot test them.
 #![tactic(auto)]
 
 #[cfg(test)]
 mod batches;
 #[cfg(test)]
-mod faults;
+mod copying;
 #[cfg(test)]
-mod memory;
+mod frames;
 #[cfg(test)]
-mod record;
+mod given;
 #[cfg(test)]
-mod repairs;
+mod live;
 #[cfg(test)]
-mod worked;
+mod own_input;
+#[cfg(test)]
+mod scripts;
+#[cfg(test)]
+mod sessions;
+#[cfg(test)]
+mod shots;

@@ -1,6 +1,9 @@
 //! Sample states: texts, lines, sections and files, made from tables.
 #![tactic(auto)]
 
+mod letters;
+
+pub use letters::{number_of, state_of_letters};
 use scm_types::{
     ChangeType, Commit, File, FileMode, Items, OwnedText, RecordError, Section, SectionChangedLine,
     Text,

@@ -1,4 +1,4 @@
-//! Tests of the views, in a crate of their own.
+//! Tests of the views and their indexes, in a crate of their own.
 #![tactic(auto)]
 
 #[cfg(test)]
@@ -6,6 +6,16 @@ mod alone;
 #[cfg(test)]
 mod apps;
 #[cfg(test)]
+mod index;
+#[cfg(test)]
 mod over_letters;
 #[cfg(test)]
+mod painted;
+#[cfg(test)]
+mod same_answers;
+#[cfg(test)]
+mod shown;
+#[cfg(test)]
 mod views;
+#[cfg(test)]
+mod visible;

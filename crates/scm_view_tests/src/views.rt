@@ -12,8 +12,8 @@ use scm_types::{
     ChangeType, Commit, File, Items, RecordError, Section, SectionChangedLine, Text, Tristate,
 };
 use scm_view::{
-    CommitMessageView, CommitView, ComponentId, FileKey, FileView, FileViewHeader, SectionKey,
-    SectionSelection, SectionView, SelectionKey, TristateBox, TristateIconStyle, laws,
+    CommitMessageView, CommitView, ComponentId, FileKey, FileView, SectionKey, SectionSelection,
+    SectionView, SelectionKey, TristateBox, TristateIconStyle, laws,
 };
 use std::alloc::{AllocError, Global};
 use std::process::Abort;
@@ -136,21 +136,6 @@ fn draw_section(
     view: &SectionView<'_>,
 ) -> Result<DrawnRects<ComponentId>, RecordError> {
     check_section(rt, view);
-    assert!(rt; grid.width() <= 100);
-    assert!(rt; grid.height() <= 100);
-    laws::components_are_in_range();
-    scm_render::laws::parts_are_in_range::<ComponentId>();
-    Viewport::render_top_level(alloc, grid, 0, 0, view)
-}
-
-/// Draws the header of a file on `grid`.
-fn draw_header(
-    rt: &impl Abort,
-    alloc: Global,
-    grid: &mut Grid,
-    view: &FileViewHeader<'_>,
-) -> Result<DrawnRects<ComponentId>, RecordError> {
-    assert!(rt; has_short_path(view.old_path, view.path));
     assert!(rt; grid.width() <= 100);
     assert!(rt; grid.height() <= 100);
     laws::components_are_in_range();
@@ -494,39 +479,6 @@ fn documents_are_drawn_alone(rt: HostRuntime) -> Result<(), RecordError> {
     Ok(())
 }
 
-/// Returns one file of `count` added lines.
-fn long_file(alloc: Global, count: usize) -> Result<Vec<File<'static>>, RecordError> {
-    let mut lines = Items::new(alloc);
-    for _ in 0..count {
-        lines.push(SectionChangedLine {
-            is_checked: false,
-            change_type: ADDED,
-            line: Text::from("0\n"),
-        })?;
-    }
-    let sections = vec![in alloc; Section::Changed { lines }]?;
-    Ok(vec![in alloc; file_of(DEFAULT, sections)]?)
-}
-
-/// Returns how many rows and calls a screen of 24 by 8 takes that shows `long_file` from row 1 on.
-fn counts_of(rt: &impl Abort, alloc: Global, count: usize) -> Result<(usize, usize), RecordError> {
-    let look = Look {
-        use_unicode: true,
-        selection: SelectionKey::None,
-    };
-    let files = long_file(alloc, count)?;
-    let mut grid = Grid::new(alloc, 24, 8)?;
-    draw_files(rt, alloc, look, files.as_slice(), &mut grid, 1)?;
-    Ok((grid.rows_drawn(), grid.calls()))
-}
-
-#[test]
-fn long_files_take_no_more_calls(rt: HostRuntime) -> Result<(), RecordError> {
-    assert_eq!(rt; counts_of(&rt, rt.alloc(), 10)?, (9, 22));
-    assert_eq!(rt; counts_of(&rt, rt.alloc(), 900)?, (9, 22));
-    Ok(())
-}
-
 /// Draws a document without files, and checks the screen.
 fn check_no_files(
     rt: &impl Abort,
@@ -647,43 +599,7 @@ fn lines_of_context_are_left_out(rt: HostRuntime) -> Result<(), RecordError> {
     Ok(())
 }
 
-// ---- headers and boxes
-
-/// Draws the header of a folded file on `width` columns, and checks the screen.
-fn check_header(
-    rt: &impl Abort,
-    alloc: Global,
-    width: u16,
-    wanted: &str,
-) -> Result<(), RecordError> {
-    let key = SelectionKey::File(FILE_KEY);
-    let look = Look {
-        use_unicode: true,
-        selection: key,
-    };
-    let header = FileViewHeader {
-        file_key: FILE_KEY,
-        path: "日本語",
-        old_path: None,
-        is_selected: true,
-        toggle_box: look.toggle_box(key, Tristate::False),
-        expand_box: TristateBox {
-            tristate: Tristate::False,
-            ..look.expand_box(key)
-        },
-    };
-    let mut grid = Grid::new(alloc, width, 1)?;
-    let _ = draw_header(rt, alloc, &mut grid, &header)?;
-    check_rows(rt, alloc, &grid, wanted)
-}
-
-#[test]
-fn headers_are_drawn_alone(rt: HostRuntime) -> Result<(), RecordError> {
-    let alloc = rt.alloc();
-    check_header(&rt, alloc, 13, "( ) 日本語(+)\n")?;
-    check_header(&rt, alloc, 12, "( ) 日本…(+)\n")?;
-    check_header(&rt, alloc, 11, "( ) 日 …(+)\n")
-}
+// ---- boxes
 
 /// Draws a box, and checks the screen.
 fn check_box(

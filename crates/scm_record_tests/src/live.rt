@@ -1,0 +1,150 @@
+//! A session call by call: its screen, a new size, an edited message, and ends in an error.
+use crate::sessions::{session_of, waiting_of};
+use scm_record::{
+    Commit, ComponentId, Editing, Event, FileKey, LiveSession, RecordError, RecordState,
+    SelectionKey, TerminalKind, TestingScreenshot, Turn,
+};
+use std::alloc::Global;
+use std::process::Abort;
+
+/// The size of the first screen.
+const NARROW: TerminalKind = TerminalKind::Testing {
+    width: 12,
+    height: 3,
+};
+
+/// The size of the second screen.
+const WIDE: TerminalKind = TerminalKind::Testing {
+    width: 14,
+    height: 2,
+};
+
+/// The file of the states.
+const FILE: FileKey = FileKey {
+    commit_idx: 0,
+    file_idx: 0,
+};
+
+/// Checks that `owner` owns the place at `row` and `column` of the screen.
+fn check_owner(
+    rt: &impl Abort,
+    session: &LiveSession<'_>,
+    row: usize,
+    column: usize,
+    owner: Option<ComponentId>,
+) {
+    assert!(rt;
+        session.owner(row, column) == owner,
+        "row {row}, column {column}"
+    );
+}
+
+/// Checks owners on the first screen. Below the menu bar is the header of a folded file, with its
+/// toggle box and its expand box.
+fn check_owners(rt: &impl Abort, session: &LiveSession<'_>) {
+    let file = SelectionKey::File(FILE);
+    check_owner(rt, session, 0, 0, Some(ComponentId::Menu(0)));
+    check_owner(rt, session, 1, 2, Some(ComponentId::ToggleBox(file)));
+    check_owner(rt, session, 1, 4, Some(ComponentId::FileViewHeader(FILE)));
+    check_owner(rt, session, 1, 9, Some(ComponentId::ExpandBox(file)));
+    check_owner(rt, session, 1, 12, None);
+    check_owner(rt, session, 2, 0, None);
+    check_owner(rt, session, 3, 0, None);
+}
+
+/// Checks the screen and its size.
+fn check_screen(
+    rt: &impl Abort,
+    session: &LiveSession<'_>,
+    kind: TerminalKind,
+    screen: &str,
+) -> Result<(), RecordError> {
+    assert!(rt; session.kind() == kind);
+    assert_eq!(rt; session.grid().view()?.as_str(), screen);
+    Ok(())
+}
+
+/// The first screen.
+const NARROW_SCREEN: &str = r#""[File] [Edit"
+"( ) f    (+)"
+"            "
+"#;
+
+/// The second screen.
+const WIDE_SCREEN: &str = r#""[File] [Edit] "
+"( ) f      (+)"
+"#;
+
+#[test]
+fn a_session_is_shown_on_each_size(rt: HostRuntime) -> Result<(), RecordError> {
+    let mut session = session_of(&rt, rt.alloc(), NARROW, "x", "")?;
+    check_screen(&rt, &session, NARROW, NARROW_SCREEN)?;
+    check_owners(&rt, &session);
+    session.resize(WIDE)?;
+    check_screen(&rt, &session, WIDE, WIDE_SCREEN)?;
+    Ok(())
+}
+
+/// Returns the message of the first commit, or an empty text.
+fn message_in<'a>(state: &'a RecordState<'_>) -> &'a str {
+    match state.commits.as_slice().first() {
+        Some(
+            Commit {
+                message: Some(message),
+            },
+        ) => message.as_str(),
+        _ => "",
+    }
+}
+
+/// Asks for an edit of the first commit's message, which is `message`.
+fn editing_of<'a>(
+    rt: &impl Abort,
+    session: LiveSession<'a>,
+    message: &str,
+) -> Result<Editing<'a>, RecordError> {
+    assert_eq!(rt; message_in(session.state()), message);
+    let Turn::Editing(editing) = session.handle(Event::EditCommitMessage)? else {
+        panic!(rt; "no message is asked for");
+    };
+    assert_eq!(rt; editing.commit(), 0);
+    assert_eq!(rt; editing.message(), message);
+    Ok(editing)
+}
+
+#[test]
+fn a_message_is_edited(rt: HostRuntime) -> Result<(), RecordError> {
+    let alloc = rt.alloc();
+    let session = session_of(&rt, alloc, NARROW, "!x", "")?;
+    assert_eq!(rt; session.state().commits.len(), 2);
+    let editing = editing_of(&rt, session, "hello")?;
+    let answer = String::from_str(alloc, "bye")?;
+    let session = waiting_of(&rt, editing.answer(answer)?);
+    let editing = editing_of(&rt, session, "bye")?;
+    let session = waiting_of(&rt, editing.keep()?);
+    assert_eq!(rt; message_in(session.state()), "bye");
+    Ok(())
+}
+
+/// Returns the error that ends a session on a file of one unchecked line at `event`.
+fn error_of(rt: &impl Abort, alloc: Global, event: Event) -> Result<RecordError, RecordError> {
+    let session = session_of(rt, alloc, NARROW, "x", "")?;
+    match session.handle(event) {
+        Err(error) => Ok(error),
+        Ok(_) => panic!(rt; "the session goes on"),
+    }
+}
+
+/// A screenshot. A session that a program drives has no place for one.
+const SHOT: Event = Event::TakeScreenshot(TestingScreenshot { place: 0 });
+
+#[test]
+fn a_session_ends_in_an_error(rt: HostRuntime) -> Result<(), RecordError> {
+    let error = error_of(&rt, rt.alloc(), Event::QuitCancel)?;
+    assert!(rt; matches!(error, RecordError::Cancelled));
+    let error = error_of(&rt, rt.alloc(), SHOT)?;
+    assert!(rt;
+        matches!(&error, RecordError::Other(text) if text.as_str() == "no such screenshot place")
+    );
+    Ok(())
+}

@@ -1,0 +1,314 @@
+//! Runs over scripts: what is left of the script after a run, and how many frames it draws.
+use crate::given::run;
+use scm_record::{
+    Commit, Event, RecordError, RecordInput, RecordState, Screens, ScriptEdit, ScriptInput,
+    ScriptRead, Section,
+};
+use std::alloc::{AllocError, Global};
+use std::process::Abort;
+
+/// A read of a script, as a constant.
+#[derive(Clone, Copy)]
+pub(crate) enum Read {
+    Batch(&'static [Event]),
+    Fault(&'static str),
+}
+
+/// Returns the read of a script for the constant `read`.
+fn read_of(alloc: Global, read: Read) -> Result<ScriptRead, RecordError> {
+    Ok(match read {
+        Read::Batch(events) => ScriptRead::Batch(Vec::from_slice(alloc, events)?),
+        Read::Fault(text) => ScriptRead::Fault(String::from_str(alloc, text)?),
+    })
+}
+
+/// Returns the reads of a script for the constants `given`.
+fn reads_of(alloc: Global, given: &[Read]) -> Result<Vec<ScriptRead>, RecordError> {
+    let mut reads = Vec::new(alloc);
+    for read in given {
+        reads.push(read_of(alloc, *read)?)?;
+    }
+    Ok(reads)
+}
+
+/// Returns an input of the reads `given`, and of two edits: the answer `bye`, and then the fault
+/// `gone`.
+pub(crate) fn script(
+    alloc: Global,
+    width: usize,
+    height: usize,
+    given: &[Read],
+) -> Result<ScriptInput, RecordError> {
+    let mut edits = Vec::new(alloc);
+    edits.push(ScriptEdit::Answer(String::from_str(alloc, "bye")?))?;
+    edits.push(ScriptEdit::Fault(String::from_str(alloc, "gone")?))?;
+    ScriptInput::new(alloc, width, height, reads_of(alloc, given)?, edits)
+}
+
+/// Adds the marks of a section's lines to `text`: `1` for a checked line, else `0`.
+fn push_marks(text: &mut String, section: &Section<'_>) -> Result<(), AllocError> {
+    if let Section::Changed { lines } = section {
+        for line in lines.as_slice() {
+            text.push(if line.is_checked { '1' } else { '0' })?;
+        }
+    }
+    Ok(())
+}
+
+/// Adds a space and the commit's message to `text`, if it has one.
+fn push_message(text: &mut String, commit: &Commit) -> Result<(), AllocError> {
+    if let Some(message) = &commit.message {
+        text.push(' ')?;
+        text.push_str(message.as_str())?;
+    }
+    Ok(())
+}
+
+/// Returns the marks and the messages of an accepted state, or the text of the error.
+pub(crate) fn words(
+    alloc: Global,
+    outcome: &Result<RecordState<'static>, RecordError>,
+) -> Result<String, AllocError> {
+    match outcome {
+        Ok(state) => {
+            let mut text = String::from_str(alloc, "accepted ")?;
+            for file in state.files.as_slice() {
+                for section in file.sections.as_slice() {
+                    push_marks(&mut text, section)?;
+                }
+            }
+            for commit in state.commits.as_slice() {
+                push_message(&mut text, commit)?;
+            }
+            Ok(text)
+        }
+        Err(error) => format!(in alloc; "{error}"),
+    }
+}
+
+/// Returns the answer of the next edit, or the text of its error.
+fn edit_words(alloc: Global, input: &mut dyn RecordInput) -> Result<String, AllocError> {
+    match input.edit_commit_message("hello") {
+        Ok(answer) => Ok(answer),
+        Err(error) => format!(in alloc; "{error}"),
+    }
+}
+
+/// A run: the first commit's message, the reads, the outcome, the number of frames, the number of
+/// reads left, and the outcome of the next edit.
+type Row = (
+    Option<&'static str>,
+    &'static [Read],
+    &'static str,
+    usize,
+    usize,
+    &'static str,
+);
+
+/// Edits the message.
+pub(crate) const EDIT: Event = Event::EditCommitMessage;
+
+/// Accepts, while no dialog is open.
+pub(crate) const ACCEPT: Event = Event::QuitAccept;
+
+/// Selects the first key inside the selected one.
+pub(crate) const INNER: Event = Event::FocusInner;
+
+/// Toggles the selection.
+pub(crate) const TOGGLE: Event = Event::ToggleItem;
+
+/// A message.
+pub(crate) const HELLO: Option<&'static str> = Some("hello");
+
+/// The error of an input without more reads.
+const NO_EVENTS: &'static str = "failed to read user input: no events left";
+
+/// The error of a read that fails.
+const GONE: &'static str = "failed to read user input: gone";
+
+/// A click outside every screen.
+pub(crate) const FAR: Event = Event::Click {
+    row: usize::MAX,
+    column: usize::MAX,
+};
+
+/// Opens the menu Select.
+const MENU: Event = Event::Click { row: 0, column: 15 };
+
+/// Chooses the second item of the menu Select.
+const ITEM: Event = Event::Click { row: 2, column: 15 };
+
+/// The rows of the table.
+const ROWS: [Row; 13] = [
+    // events after the accepting one are not handled, and the next read is left
+    (
+        HELLO,
+        &[Read::Batch(&[TOGGLE, ACCEPT, EDIT]), Read::Batch(&[TOGGLE])],
+        "accepted 11 hello",
+        1,
+        1,
+        "bye",
+    ),
+    (
+        HELLO,
+        &[Read::Batch(&[EDIT, ACCEPT])],
+        "accepted 00 bye",
+        1,
+        0,
+        "gone",
+    ),
+    // there is no message to edit: the answers are left, and yet the screen is drawn again
+    (
+        None,
+        &[Read::Batch(&[EDIT]), Read::Batch(&[ACCEPT])],
+        "accepted 00",
+        3,
+        0,
+        "bye",
+    ),
+    // a fault of an edit ends the run
+    (
+        HELLO,
+        &[Read::Batch(&[EDIT, EDIT, EDIT]), Read::Batch(&[ACCEPT])],
+        "gone",
+        1,
+        1,
+        "No more commit messages available",
+    ),
+    // so does a fault of a read, wherever it is; an event that moves has a second frame
+    (
+        HELLO,
+        &[
+            Read::Fault("gone"),
+            Read::Batch(&[INNER]),
+            Read::Batch(&[TOGGLE]),
+            Read::Batch(&[ACCEPT]),
+        ],
+        GONE,
+        1,
+        3,
+        "bye",
+    ),
+    (
+        HELLO,
+        &[
+            Read::Batch(&[INNER]),
+            Read::Fault("gone"),
+            Read::Batch(&[TOGGLE]),
+            Read::Batch(&[ACCEPT]),
+        ],
+        GONE,
+        3,
+        2,
+        "bye",
+    ),
+    (
+        HELLO,
+        &[
+            Read::Batch(&[INNER]),
+            Read::Batch(&[TOGGLE]),
+            Read::Fault("gone"),
+            Read::Batch(&[ACCEPT]),
+        ],
+        GONE,
+        4,
+        1,
+        "bye",
+    ),
+    (
+        HELLO,
+        &[
+            Read::Batch(&[INNER]),
+            Read::Batch(&[INNER]),
+            Read::Batch(&[TOGGLE]),
+            Read::Fault("gone"),
+        ],
+        GONE,
+        6,
+        0,
+        "bye",
+    ),
+    (
+        HELLO,
+        &[
+            Read::Batch(&[TOGGLE]),
+            Read::Fault("disk gone"),
+            Read::Batch(&[ACCEPT]),
+        ],
+        "failed to read user input: disk gone",
+        2,
+        1,
+        "bye",
+    ),
+    // a batch may be empty
+    (HELLO, &[Read::Batch(&[])], NO_EVENTS, 2, 0, "bye"),
+    (HELLO, &[], NO_EVENTS, 1, 0, "bye"),
+    // a click as far away as possible hits nothing: the toggle acts on the selection from before it
+    (
+        HELLO,
+        &[Read::Batch(&[FAR, TOGGLE, FAR, ACCEPT])],
+        "accepted 11 hello",
+        1,
+        0,
+        "bye",
+    ),
+    // events that a move and a click on a menu item leave for later have frames of their own
+    (
+        None,
+        &[
+            Read::Batch(&[INNER]),
+            Read::Batch(&[MENU]),
+            Read::Batch(&[ITEM]),
+        ],
+        NO_EVENTS,
+        7,
+        0,
+        "bye",
+    ),
+];
+
+/// Checks that the next edit of `input` returns `next`.
+fn check_next(
+    rt: &impl Abort,
+    alloc: Global,
+    input: &mut dyn RecordInput,
+    next: &str,
+) -> Result<(), AllocError> {
+    let edit = edit_words(alloc, input)?;
+    assert_eq!(rt; edit.as_str(), next);
+    Ok(())
+}
+
+/// Checks that the outcome of a run, in words, and its number of frames are `wanted`.
+fn check_outcome(
+    rt: &impl Abort,
+    alloc: Global,
+    message: Option<&'static str>,
+    input: &mut dyn RecordInput,
+    wanted: (&str, usize),
+) -> Result<(), AllocError> {
+    let mut screens = Screens::new(alloc);
+    let outcome = run(rt, alloc, (message, None), input, &mut screens);
+    let text = words(alloc, &outcome)?;
+    assert_eq!(rt; (text.as_str(), screens.frames()), wanted);
+    Ok(())
+}
+
+/// Runs `row` and checks it.
+fn check_row(rt: &impl Abort, alloc: Global, row: Row) -> Result<(), RecordError> {
+    let (message, reads, wanted, frames, left, next) = row;
+    let mut input = script(alloc, 80, 24, reads)?;
+    assert_eq!(rt; input.batches_left(), reads.len());
+    check_outcome(rt, alloc, message, &mut input, (wanted, frames))?;
+    assert_eq!(rt; input.batches_left(), left, "to {wanted}");
+    check_next(rt, alloc, &mut input, next)?;
+    Ok(())
+}
+
+#[test]
+fn a_script_keeps_what_is_left(rt: HostRuntime) -> Result<(), RecordError> {
+    for row in ROWS {
+        check_row(&rt, rt.alloc(), row)?;
+    }
+    Ok(())
+}

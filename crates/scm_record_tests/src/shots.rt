@@ -1,0 +1,75 @@
+//! Runs over one store: each keeps its screenshot at the place that it names, if the store has it.
+use crate::given::run;
+use crate::scripts::{FAR, Read, script, words};
+use scm_record::{Event, RecordError, Screens, TestingScreenshot};
+use std::alloc::Global;
+use std::process::Abort;
+
+/// Opens the file.
+const OPEN: Read = Read::Batch(&[Event::FocusInner]);
+
+/// Takes a screenshot to the first place.
+const SHOT: Read = Read::Batch(&[Event::TakeScreenshot(TestingScreenshot { place: 0 })]);
+
+/// Takes a screenshot to a place that a store of one place lacks.
+const NOWHERE: Read = Read::Batch(&[Event::TakeScreenshot(TestingScreenshot { place: 3 })]);
+
+/// Accepts.
+const ACCEPT: Read = Read::Batch(&[Event::QuitAccept]);
+
+/// Scrolls down by a row.
+const DOWN: Event = Event::ScrollDown;
+
+/// The reads of a run on three columns and three rows, its outcome, and the text that the store has
+/// after it.
+type Row = (&'static [Read], &'static str, &'static str);
+
+/// The runs, all over one store.
+const ROWS: [Row; 4] = [
+    (
+        &[OPEN, Read::Batch(&[]), SHOT, ACCEPT],
+        "accepted 00",
+        "\"[Fi\"\n\"[-]\"\n\"(-)\"\n",
+    ),
+    (
+        &[OPEN, Read::Batch(&[DOWN, DOWN, DOWN]), SHOT, ACCEPT],
+        "accepted 00",
+        "\"[Fi\"\n\"[-]\"\n\"   \"\n",
+    ),
+    // a click as far away as possible changes no screen
+    (
+        &[OPEN, Read::Batch(&[FAR]), SHOT, ACCEPT],
+        "accepted 00",
+        "\"[Fi\"\n\"[-]\"\n\"(-)\"\n",
+    ),
+    (
+        &[OPEN, Read::Batch(&[DOWN]), NOWHERE, ACCEPT],
+        "no such screenshot place",
+        "\"[Fi\"\n\"[-]\"\n\"(-)\"\n",
+    ),
+];
+
+/// Returns the outcome of a run of `reads` over `screens`, in words.
+fn outcome_of(
+    rt: &impl Abort,
+    alloc: Global,
+    reads: &[Read],
+    screens: &mut Screens,
+) -> Result<String, RecordError> {
+    let mut input = script(alloc, 3, 3, reads)?;
+    let outcome = run(rt, alloc, (None, None), &mut input, screens);
+    Ok(words(alloc, &outcome)?)
+}
+
+#[test]
+fn screenshots_are_kept_at_their_places(rt: HostRuntime) -> Result<(), RecordError> {
+    let mut screens = Screens::new(rt.alloc());
+    let first = screens.place()?;
+    for (reads, wanted, text) in ROWS {
+        let outcome = outcome_of(&rt, rt.alloc(), reads, &mut screens)?;
+        assert_eq!(rt; (outcome.as_str(), screens.text(first)), (wanted, text));
+    }
+    // a move has two frames, each other read one
+    assert_eq!(rt; screens.frames(), 5 + 5 + 5 + 4);
+    Ok(())
+}

@@ -1,9 +1,0 @@
-use Rattle.std.proofs.Common.{◌≤◌, arith, rules}
-use Rattle.scm_view_tests.proofs.CornerLemmas.{corner, whole-here}
-use Rattle.scm_view_tests.proofs.views.draw_header.Goals as goal
-
-pub render_top_level-requires-clause-picture : goal.render_top_level-requires-clause-picture
-render_top_level-requires-clause-picture g c =
-    let w : c.args.grid.now.width ≤ 100 = omega (arith, c.width.ensures.value) in
-    c.parts_are_in_range.ensures.whole _ _
-    (c.components_are_in_range.ensures.headers c.args.view.now _ _ _ (whole-here c.args.grid.now 0 w (omega arith)) corner corner (c.has_short_path.ensures.old_path (search rules)) (c.has_short_path.ensures.path (search rules)))

@@ -1,0 +1,47 @@
+/* A changed file: two versions of it as a file of a state, and its sides as versions. */
+#ifndef CHANGE_H
+#define CHANGE_H
+
+#include "files.h"
+
+/* A version of a file. If it does not exist, its mode is SCM_ABSENT, and it has no bytes. */
+typedef struct version {
+    size_t mode;
+    piece bytes;
+    piece words; /* describe contents that are no text */
+} version;
+
+/* A changed file. Its paths are as the user is to see them. */
+typedef struct change {
+    piece path;
+    piece old_path; /* before a rename, or empty */
+    piece note;     /* more words behind the path, or empty */
+    version old, new;
+    bool has_lines; /* its contents are shown by lines */
+} change;
+
+/* A side of a changed file. Without lines its contents are those of the new version if `is_new`, and else of the old one. */
+typedef struct side {
+    size_t mode;
+    piece bytes;
+    bool is_new;
+} side;
+
+/* Returns whether a version is a link. */
+bool is_link(const version *version);
+
+/* Returns whether two versions have the same mode and bytes. */
+bool is_same(const version *one, const version *other);
+
+/* Decides whether the contents of a change are shown by lines: no version is a link, and none has a NUL. */
+void look_into(change *change);
+
+/* Adds a change to the state of `session`. Behind its path it says what the file is, and how many lines come and go. If a line is
+ * too long, the contents are one item, and `change->has_lines` says so. Returns the code of the call. */
+uint32_t add_change(scm_session *session, change *change);
+
+/* Sets `side` to a side of file `file`, counted from 0, which shows `change`: to the selected one if `is_selected`. Its bytes lie
+ * in `into`, or are those of a version of the change. Returns the code of the call. */
+uint32_t read_side(scm_session *session, size_t file, const change *change, bool is_selected, text *into, side *side);
+
+#endif

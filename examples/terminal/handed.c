@@ -1,0 +1,232 @@
+/* Changes that another program hands in as records, and what it gets back. No proof covers this file. */
+#include "handed.h"
+#include "marks.h"
+
+#include <stdlib.h>
+#include <string.h>
+
+enum { FIRST_CHANGES = 64, LONGEST_NUMBER = 19, EIGHT = 8, TEN = 10 };
+
+static const char NO_ROOM[] = "not enough memory", BAD_FORM[] = "it has no records of changes: see the man page";
+
+/* A record: a word, the number of its bytes, and these. */
+typedef struct record {
+    piece word;
+    piece bytes;
+} record;
+
+/* ---- Records that are read ---- */
+
+static bool is_word(piece piece, const char *word) {
+    return piece.length == strlen(word) && memcmp(piece.bytes, word, piece.length) == 0;
+}
+
+/* Sets `number` to the number that digits of `base` write. Returns false if they are none. */
+static bool read_number(piece digits, size_t base, size_t *number) {
+    *number = 0;
+    for (size_t i = 0; i < digits.length; i++) {
+        size_t digit = (size_t)(digits.bytes[i] - '0');
+        if (digits.bytes[i] < '0' || digit >= base) {
+            return false;
+        }
+        *number = *number * base + digit;
+    }
+    return digits.length > 0 && digits.length < LONGEST_NUMBER;
+}
+
+static piece skip(piece bytes, size_t count) { return (piece){bytes.bytes + count, bytes.length - count}; }
+
+/* Takes what is before the next `end` off `rest`, with that end. Returns false if there is no such end. */
+static bool take_up_to(piece *rest, char end, piece *taken) {
+    const char *found = rest->length > 0 ? memchr(rest->bytes, end, rest->length) : NULL;
+    if (found) {
+        *taken = (piece){rest->bytes, (size_t)(found - rest->bytes)};
+        *rest = skip(*rest, taken->length + 1);
+    }
+    return found;
+}
+
+/* Takes the next record off `rest`. Returns false if it is malformed. */
+static bool take_record(piece *rest, record *record) {
+    piece digits;
+    size_t length;
+    if (!take_up_to(rest, ' ', &record->word) || !take_up_to(rest, '\n', &digits) || !read_number(digits, TEN, &length)
+        || length >= rest->length || rest->bytes[length] != '\n') {
+        return false;
+    }
+    record->bytes = (piece){rest->bytes, length};
+    *rest = skip(*rest, length + 1);
+    return true;
+}
+
+/* Begins a changed file with its path. Returns false if there is no memory for it. */
+static bool begin_change(handed *handed, piece path) {
+    static const piece none = {"", 0};
+    static const version absent = {SCM_ABSENT, {"", 0}, {"", 0}};
+    if (handed->count == handed->room) {
+        size_t room = handed->room > 0 ? 2 * handed->room : FIRST_CHANGES;
+        handed_change *larger = realloc(handed->changes, room * sizeof *larger);
+        if (!larger) {
+            return false;
+        }
+        handed->changes = larger;
+        handed->room = room;
+    }
+    change begun = {.path = path, .old_path = none, .note = none, .old = absent, .new = absent};
+    handed->changes[handed->count++] = (handed_change){begun, none};
+    return true;
+}
+
+/* Follows a record of the last changed file. Returns false if it is none. */
+static bool follow_part(handed_change *last, const record *record) {
+    change *change = &last->change;
+    struct { const char *word; piece *part; } parts[] = {
+        {"old-path", &change->old_path}, {"note", &change->note}, {"old", &change->old.bytes}, {"new", &change->new.bytes},
+        {"old-words", &change->old.words}, {"new-words", &change->new.words}, {"marks", &last->marks},
+    };
+    if (is_word(record->word, "old-mode") || is_word(record->word, "new-mode")) {
+        return read_number(record->bytes, EIGHT, *record->word.bytes == 'o' ? &change->old.mode : &change->new.mode);
+    }
+    change->has_lines = change->has_lines || is_word(record->word, "old") || is_word(record->word, "new");
+    for (size_t i = 0; i < sizeof parts / sizeof *parts; i++) {
+        if (is_word(record->word, parts[i].word)) {
+            *parts[i].part = record->bytes;
+            return true;
+        }
+    }
+    return false;
+}
+
+/* Follows a record. Returns why that failed, or NULL. */
+static const char *follow(handed *handed, const record *record) {
+    if (is_word(record->word, "path")) {
+        return begin_change(handed, record->bytes) ? NULL : NO_ROOM;
+    }
+    if (is_word(record->word, "message") && handed->commits < MOST_COMMITS) {
+        handed->messages[handed->commits++] = record->bytes;
+    } else if (is_word(record->word, "read-only")) {
+        handed->is_read_only = true;
+    } else if (is_word(record->word, "mark-all")) {
+        handed->is_all_marked = true;
+    } else if (handed->count == 0 || !follow_part(&handed->changes[handed->count - 1], record)) {
+        return BAD_FORM;
+    }
+    return NULL;
+}
+
+const char *read_handed(piece bytes, handed *handed) {
+    const char *why = NULL;
+    record record;
+    while (bytes.length > 0 && !why) {
+        why = take_record(&bytes, &record) ? follow(handed, &record) : BAD_FORM;
+    }
+    return why;
+}
+
+void free_handed(handed *handed) { free(handed->changes); }
+
+/* ---- To a session ---- */
+
+uint32_t open_commits(scm_session *session, const handed *handed) {
+    uint32_t code = scm_state_new(session, handed->is_read_only);
+    for (size_t i = 0; i < handed->commits && code == SCM_DONE; i++) {
+        code = scm_state_message(session, handed->messages[i].bytes, handed->messages[i].length);
+    }
+    return code;
+}
+
+bool mark_handed(scm_session *session, const handed *handed) {
+    bool is_fit = true;
+    for (size_t i = 0; i < handed->count; i++) {
+        piece marks = handed->changes[i].marks;
+        is_fit = (marks.length == 0 || set_marks(session, i, marks)) && is_fit;
+        select_next(session);
+    }
+    for (size_t i = 0; i < handed->count; i++) {
+        select_previous(session);
+    }
+    if (handed->is_all_marked) {
+        mark_all(session);
+    }
+    return is_fit;
+}
+
+/* ---- Records that are written ---- */
+
+static bool add_record(text *into, const char *word, piece bytes) {
+    return append_words(into, "%s %zu\n", word, bytes.length) && append(into, bytes.bytes, bytes.length) && append(into, "\n", 1);
+}
+
+/* Adds the mode of a side, unless the file does not exist on it. */
+static bool add_mode(text *into, const char *word, size_t mode) {
+    text digits = {0};
+    bool is_added = mode == SCM_ABSENT
+                    || (append_words(&digits, "%zo", mode) && add_record(into, word, (piece){digits.bytes, digits.length}));
+    free(digits.bytes);
+    return is_added;
+}
+
+/* Adds a side of file `file`: its mode, and its bytes, or which version has them if they were not handed in. */
+static uint32_t add_side(scm_session *session, const change *change, size_t file, bool is_selected, text *into) {
+    static const piece old = {"old", 3}, new = {"new", 3};
+    text bytes = {0};
+    side side;
+    uint32_t code = read_side(session, file, change, is_selected, &bytes, &side);
+    if (code == SCM_DONE) {
+        const char *word = is_selected ? "selected" : "unselected";
+        bool is_added = add_mode(into, is_selected ? "selected-mode" : "unselected-mode", side.mode)
+                        && (change->has_lines ? add_record(into, word, side.bytes)
+                                              : add_record(into, is_selected ? "selected-is" : "unselected-is", side.is_new ? new : old));
+        code = is_added ? SCM_DONE : SCM_NO_MEMORY;
+    }
+    free(bytes.bytes);
+    return code;
+}
+
+/* Adds the marks of file `file`: '1' for each item that is marked, and else '0'. */
+static uint32_t add_marks(scm_session *session, size_t file, text *into) {
+    size_t count = 0;
+    char none;
+    uint32_t code = scm_marks(session, file, &none, 0, &count);
+    if (code != SCM_DONE) {
+        return code;
+    }
+    if (!append_words(into, "marks %zu\n", count) || !make_room(into, into->length + count + 1)) {
+        return SCM_NO_MEMORY;
+    }
+    char *marks = into->bytes + into->length;
+    code = scm_marks(session, file, marks, count + 1, &count);
+    for (size_t i = 0; i < count && code == SCM_DONE; i++) {
+        marks[i] = marks[i] == 1 ? '1' : '0';
+    }
+    end_at(into, into->length + count);
+    return code != SCM_DONE ? code : append(into, "\n", 1) ? SCM_DONE : SCM_NO_MEMORY;
+}
+
+static uint32_t add_message(scm_session *session, size_t commit, text *into) {
+    text message = {0};
+    size_t length = 0;
+    uint32_t code = SCM_DONE;
+    do {
+        bool has_room = make_room(&message, length);
+        code = has_room ? scm_message(session, commit, message.bytes, message.room, &length) : SCM_NO_MEMORY;
+    } while (code == SCM_DONE && length > message.room);
+    if (code == SCM_DONE && !add_record(into, "message", (piece){message.bytes, length})) {
+        code = SCM_NO_MEMORY;
+    }
+    free(message.bytes);
+    return code;
+}
+
+uint32_t write_accepted_sides(scm_session *session, const handed *handed, text *into) {
+    uint32_t code = append(into, "accepted 0\n\n", 12) ? SCM_DONE : SCM_NO_MEMORY;
+    for (size_t i = 0; i < handed->commits && code == SCM_DONE; i++) {
+        code = add_message(session, i, into);
+    }
+    for (size_t i = 0; i < handed->count && code == SCM_DONE; i++) {
+        code = add_marks(session, i, into);
+        code = code == SCM_DONE ? add_side(session, &handed->changes[i].change, i, true, into) : code;
+        code = code == SCM_DONE ? add_side(session, &handed->changes[i].change, i, false, into) : code;
+    }
+    return code;
+}

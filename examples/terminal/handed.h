@@ -1,0 +1,42 @@
+/* Changes that another program hands in as records, and what it gets back: the man page of scm-select has their form. */
+#ifndef HANDED_H
+#define HANDED_H
+
+#include "change.h"
+
+enum { MOST_COMMITS = 2 };
+
+/* A changed file with its marks: a character for each item, '1' if it is marked, or nothing. */
+typedef struct handed_change {
+    change change;
+    piece marks;
+} handed_change;
+
+/* What was handed in. Its pieces lie in the bytes that were read. */
+typedef struct handed {
+    bool is_read_only;
+    bool is_all_marked;
+    piece messages[MOST_COMMITS];
+    size_t commits;
+    handed_change *changes;
+    size_t count;
+    size_t room;
+} handed;
+
+/* Reads `bytes` into `handed`, which is all zeros. Returns why that failed, or NULL. The caller frees it by `free_handed`. */
+const char *read_handed(piece bytes, handed *handed);
+
+void free_handed(handed *handed);
+
+/* Opens a session over a state that has the messages that were handed in, and no files yet. Returns the code of the call that failed,
+ * or SCM_DONE. */
+uint32_t open_commits(scm_session *session, const handed *handed);
+
+/* Sets the marks that were handed in, in a session that has begun. Returns whether they fit the items of their files. */
+bool mark_handed(scm_session *session, const handed *handed);
+
+/* Sets `into` to what was accepted: messages, and of each change the marks and both sides. Returns the code of the call that failed,
+ * or SCM_DONE. */
+uint32_t write_accepted_sides(scm_session *session, const handed *handed, text *into);
+
+#endif
