@@ -89,9 +89,9 @@ def main():
         assert refused(session.add_context, "a") == refused(session.begin, 1, 1) == "not_now"
         assert session.stage == scm.WAITING and session.text().count("\n") == 24
         every_row = session.paint()
-        owner, key = session.owner(1, 0)
+        owner, key = session.owner(4, 0)
         assert (owner, key.file, key.section) == ("mark", 0, scm.NO_INDEX) and session.owner(23, 0)[0] == "nobody"
-        assert session.symbol(0, 1) == "F" and session.symbol(1, 1) == "\u25d0" and session.symbol(24, 0) == ""
+        assert session.symbol(0, 1) == "F" and session.symbol(4, 1) == "\u25d0" and session.symbol(24, 0) == ""
         session.click(23, 79)
         assert session.selected.file == 0 and session.end == "not_ended"
         assert len(session.paint()) < len(every_row)

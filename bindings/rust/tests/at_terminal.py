@@ -61,7 +61,7 @@ class Terminal:
         return os.waitid(os.P_PID, self.program, os.WEXITED | os.WNOHANG | os.WNOWAIT) is not None
 
     def wait_for_silence(self):
-        while self.read(0.15):
+        while self.read(0.25):
             pass
 
     def type(self, *texts):
