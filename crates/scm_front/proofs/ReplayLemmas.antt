@@ -3,7 +3,7 @@ use Rattle.std.proofs.Common.{◌≡◌, true, false, List, [], ◌∷◌, ◌++
 use Rattle.std.proofs.lemmas.List.{append-nil}
 use Rattle.scm_input.specs.declared.events.Event.{Event}
 use Rattle.scm_record.specs.Live.{Live}
-use Rattle.scm_record.specs.LiveCalls.{Call, Press, Path, still, press, say, resize, EventLeads}
+use Rattle.scm_record.specs.LiveCalls.{Call, Press, Path, still, press, press_all, say, resize, EventLeads}
 use Rattle.scm_record.specs.Typed.{is_waiting}
 use Rattle.scm_record.specs.declared.live.Turn.{Turn}
 use Rattle.scm_record.specs.declared.live.Turn.TheVariants.{Waiting, Editing, Accepted}
@@ -14,6 +14,7 @@ use Rattle.scm_front.proofs.TurnLemmas.{one-live}
 stuck : {t u : Turn} {calls : List Call} (es : List Event) → Path t calls u → calls ≡ calls_of es → is_waiting t ≡ false → is_waiting u ≡ true → ⊥
 stuck es still e f h = cc
 stuck es (press g p) e f h = cc
+stuck es (press_all g p) e f h = cc
 stuck [] (say g p) e f h = cc
 stuck (x ∷ es) (say g p) e f h = cc
 stuck es (resize p) e f h = cc
@@ -21,6 +22,7 @@ stuck es (resize p) e f h = cc
 none : {t u : Turn} {calls : List Call} → Path t calls u → calls ≡ [] → t ≡ u
 none still e = refl
 none (press g p) e = cc
+none (press_all g p) e = cc
 none (say g p) e = cc
 none (resize p) e = cc
 
@@ -45,6 +47,7 @@ first-press (press {l = k} {event = d} {turn = turn} {last = last} {calls = more
     let g2 = subst (λ (x : Event). EventLeads l x turn) event g1 in
     let p1 = subst (λ (x : List Call). Path turn x last) rest p in
     by-turn l a e es turn g2 (subst (λ (x : Turn). Path turn (calls_of es) x) w p1)
+first-press (press_all g p) l e es s c a w = let no-press : ⊥ = cc in absurd no-press
 first-press (say g p) l e es s c a w = let no-wait : ⊥ = cc in absurd no-wait
 first-press (resize p) l e es s c a w = let no-press : ⊥ = cc in absurd no-press
 
