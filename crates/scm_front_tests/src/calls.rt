@@ -1,20 +1,31 @@
 //! The calls of a front, each once.
-use crate::sessions::state_of_three_files;
+use crate::sessions::{front_of, tell_turn};
+use crate::states::state_of_three_files;
 use scm_front::{Action, Front, FrontTurn, Typing, action_of, item_towards};
 use scm_record::key_lists::{file_key, line_key};
 use scm_record::keys::is_key;
 use scm_record::{
-    Commit, Event, KeyCode, KeyEvent, KeyEventKind, KeyModifiers, OwnedText, SelectionKey,
-    TerminalEvent, TerminalKind, Way,
+    Commit, Event, KeyCode, KeyEvent, KeyEventKind, KeyModifiers, OwnedText, RecordError,
+    SelectionKey, TerminalEvent, TerminalKind, Way,
 };
 use std::alloc::Global;
 use std::test::Fail;
 
-/// A screen of the tests.
-const KIND: TerminalKind = TerminalKind::Testing {
-    width: 40,
-    height: 12,
-};
+/// A call of a front.
+#[derive(Clone, Copy)]
+enum Call {
+    Handle(Event),
+    PressAll(&'static [Event]),
+    ClickSideways(usize, usize, usize),
+    Edit(Typing),
+    Search(Way),
+    Seek,
+    Hear(char),
+    HearAll(char, char),
+    Resize(usize),
+    Answer(&'static str),
+    Keep,
+}
 
 /// Returns the event of pressing the key of `character`.
 fn pressed(character: char) -> TerminalEvent {
@@ -25,109 +36,156 @@ fn pressed(character: char) -> TerminalEvent {
     })
 }
 
-/// Returns a front over the state of the table, whose commit has the message `old`.
-fn front_of(alloc: Global) -> Result<Front<'static>, Fail> {
-    let mut state = state_of_three_files(alloc)?;
-    let message = OwnedText::from(String::from_str(alloc, "old")?);
-    state.commits.push(Commit {
-        message: Some(message),
-    })?;
-    if !state.is_accepted() {
-        return Err(Fail::new("the state is not accepted"));
-    }
-    Ok(Front::new(alloc, KIND, state)?)
+/// Returns `front` on a screen of `width` columns.
+fn resized(front: Front<'static>, width: usize) -> Result<FrontTurn<'static>, RecordError> {
+    let mut front = front;
+    front.resize(TerminalKind::Testing { width, height: 12 })?;
+    Ok(FrontTurn::Waiting(front))
 }
 
-/// Returns the front of `turn`, which waits.
-fn waiting(turn: FrontTurn<'static>) -> Result<Front<'static>, Fail> {
+/// Returns the turn after `call` of a front.
+fn after_call(front: Front<'static>, call: Call) -> Result<FrontTurn<'static>, RecordError> {
+    match call {
+        Call::Handle(event) => front.handle(event),
+        Call::PressAll(events) => front.press_all(events),
+        Call::ClickSideways(x, row, column) => front.click_sideways(x, row, column),
+        Call::Edit(typing) => front.edit(typing),
+        Call::Search(way) => front.search(way),
+        Call::Seek => front.seek(),
+        Call::Hear(character) => front.hear(pressed(character)),
+        Call::HearAll(first, second) => front.hear_all(&[pressed(first), pressed(second)]),
+        Call::Resize(width) => resized(front, width),
+        Call::Answer(_) | Call::Keep => Ok(FrontTurn::Waiting(front)),
+    }
+}
+
+/// Returns the turn after `call`. A turn that edits a message takes only `Answer` and `Keep`.
+fn after(
+    alloc: Global,
+    turn: FrontTurn<'static>,
+    call: Call,
+) -> Result<FrontTurn<'static>, RecordError> {
     match turn {
-        FrontTurn::Waiting(front) => Ok(front),
-        FrontTurn::Editing(_) | FrontTurn::Accepted(_) => Err(Fail::new("does not wait")),
+        FrontTurn::Waiting(front) => after_call(front, call),
+        FrontTurn::Editing(editing) => match call {
+            Call::Answer(text) => editing.answer(String::from_str(alloc, text)?),
+            _ => editing.keep(),
+        },
+        FrontTurn::Accepted(state) => Ok(FrontTurn::Accepted(state)),
     }
 }
 
-/// Returns whether `key` is selected.
-fn is_at(front: &Front<'_>, key: SelectionKey) -> bool {
-    is_key(front.beneath().view_state().selection, key)
-}
-
-#[test]
-fn events_go_to_the_session(rt: HostRuntime) -> Result<(), Fail> {
-    let alloc = rt.alloc();
-    let front = waiting(front_of(alloc)?.handle(Event::FocusNext)?)?;
-    assert!(rt; is_at(&front, file_key(1)));
-    let front = waiting(front.press_all(&[Event::FocusNext, Event::FocusPrev])?)?;
-    assert!(rt; is_at(&front, file_key(1)));
-    let front = waiting(front.hear(pressed('k'))?)?;
-    assert!(rt; is_at(&front, file_key(0)));
-    let mut front = waiting(front.hear_all(&[pressed('j'), pressed('j')])?)?;
-    assert!(rt; is_at(&front, file_key(2)));
-    front.resize(TerminalKind::Testing {
-        width: 60,
-        height: 12,
+/// Returns a front over the state of the table, whose commit has the message `old`.
+fn first_turn(alloc: Global) -> Result<FrontTurn<'static>, RecordError> {
+    let mut state = state_of_three_files(alloc)?;
+    state.commits.push(Commit {
+        message: Some(OwnedText::from(String::from_str(alloc, "old")?)),
     })?;
-    assert_eq!(rt; front.beneath().grid().width(), 60);
-    // file 0 stands on row 1 of a document with a message on row 0
-    let front = waiting(front.click_sideways(20, 4, 3)?)?;
-    assert!(rt; is_at(&front, file_key(0)));
+    Ok(FrontTurn::Waiting(front_of(alloc, state)?))
+}
+
+/// Returns the turn after `calls`.
+fn after_all(alloc: Global, calls: &[Call]) -> Result<FrontTurn<'static>, RecordError> {
+    let mut turn = first_turn(alloc)?;
+    for call in calls {
+        turn = after(alloc, turn, *call)?;
+    }
+    Ok(turn)
+}
+
+/// Returns what `calls` lead to.
+fn told(alloc: Global, calls: &[Call]) -> Result<String, RecordError> {
+    let mut told = String::new(alloc);
+    let turn = after_all(alloc, calls)?;
+    tell_turn(&mut told, alloc, &turn)?;
+    Ok(told)
+}
+
+/// Calls, and what they lead to. File 0 stands on row 4, below the message.
+const CALLS: &[(&[Call], &str)] = &[
+    (&[Call::Handle(Event::FocusNext)], "file 1"),
+    (
+        &[Call::PressAll(&[Event::FocusNext, Event::FocusNext, Event::FocusPrev])],
+        "file 1",
+    ),
+    (&[Call::Hear('j')], "file 1"),
+    (&[Call::HearAll('j', 'j')], "file 2"),
+    (
+        &[
+            Call::Hear('j'),
+            Call::Resize(60),
+            Call::ClickSideways(20, 4, 3),
+        ],
+        "file 0",
+    ),
+    (
+        &[Call::Edit(Typing::Ask), Call::Edit(Typing::Add('o'))],
+        "file 0, asks o",
+    ),
+    (
+        &[
+            Call::Edit(Typing::Ask),
+            Call::Edit(Typing::Add('o')),
+            Call::Seek,
+        ],
+        "line 0.1.0",
+    ),
+    (
+        &[
+            Call::Edit(Typing::Ask),
+            Call::Edit(Typing::Add('o')),
+            Call::Seek,
+            Call::Search(Way::Down),
+        ],
+        "line 0.1.1",
+    ),
+    (
+        &[
+            Call::Edit(Typing::Ask),
+            Call::Edit(Typing::Add('o')),
+            Call::Seek,
+            Call::Search(Way::Down),
+            Call::Search(Way::Up),
+        ],
+        "line 0.1.0",
+    ),
+    (&[Call::Hear('e')], "edits old"),
+    (&[Call::Hear('e'), Call::Keep], "file 0"),
+    (
+        &[Call::Hear('e'), Call::Answer("new"), Call::Hear('e')],
+        "edits new",
+    ),
+];
+
+#[test]
+fn calls_lead_where_the_table_says(rt: HostRuntime) -> Result<(), Fail> {
+    for (calls, wanted) in CALLS {
+        let told = told(rt.alloc(), *calls)?;
+        assert_eq!(rt; told.as_str(), *wanted);
+    }
     Ok(())
 }
 
 #[test]
-fn a_search_is_typed_by_calls(rt: HostRuntime) -> Result<(), Fail> {
-    let alloc = rt.alloc();
-    let front = waiting(front_of(alloc)?.edit(Typing::Ask)?)?;
-    let front = waiting(front.edit(Typing::Add('o'))?)?;
-    assert!(rt; front.query().is_asking);
-    assert_eq!(rt; front.query().typed.as_str(), "o");
-    let front = waiting(front.seek()?)?;
-    assert!(rt; !front.query().is_asking);
-    assert_eq!(rt; front.query().sought.as_str(), "o");
-    assert!(rt; is_at(&front, line_key(0, 1, 0)));
-    let front = waiting(front.search(Way::Down)?)?;
-    assert!(rt; is_at(&front, line_key(0, 1, 1)));
-    let front = waiting(front.search(Way::Up)?)?;
-    assert!(rt; is_at(&front, line_key(0, 1, 0)));
-    assert!(rt; !front.query().is_missing);
+fn keys_are_known_without_a_session(rt: HostRuntime) -> Result<(), Fail> {
+    let again = action_of(false, true, pressed('n'));
+    assert!(rt; matches!(again, Action::Again(Way::Down)));
+    let typed = action_of(true, true, pressed('n'));
+    assert!(rt; matches!(typed, Action::Edit(Typing::Add('n'))));
     Ok(())
 }
 
-#[test]
-fn a_message_is_edited_beneath(rt: HostRuntime) -> Result<(), Fail> {
-    let alloc = rt.alloc();
-    let FrontTurn::Editing(editing) = front_of(alloc)?.hear(pressed('e'))? else {
-        return Err(Fail::new("no message is asked for"));
-    };
-    assert_eq!(rt; editing.beneath().message(), "old");
-    let front = waiting(editing.answer(String::from_str(alloc, "new")?)?)?;
-    let FrontTurn::Editing(editing) = front.hear(pressed('e'))? else {
-        return Err(Fail::new("no message is asked for"));
-    };
-    assert_eq!(rt; editing.beneath().message(), "new");
-    let front = waiting(editing.keep()?)?;
-    assert!(rt; is_at(&front, file_key(0)));
-    Ok(())
-}
-
-#[test]
-fn keys_and_items_are_found_without_a_session(rt: HostRuntime) -> Result<(), Fail> {
-    let alloc = rt.alloc();
-    assert!(rt;
-        matches!(
-            action_of(false, true, pressed('n')),
-            Action::Again(Way::Down)
-        )
-    );
-    assert!(rt;
-        matches!(
-            action_of(true, true, pressed('n')),
-            Action::Edit(Typing::Add('n'))
-        )
-    );
+/// Returns the item that a search for `pattern` finds from file 0.
+fn found(alloc: Global, way: Way, pattern: &str) -> Result<Option<SelectionKey>, RecordError> {
     let state = state_of_three_files(alloc)?;
-    let files = state.files.as_slice();
-    let found = item_towards(Way::Down, "two", files, file_key(0));
-    assert!(rt; matches!(found, Some(key) if is_key(key, line_key(0, 1, 1))));
-    assert!(rt; item_towards(Way::Up, "two", files, file_key(0)).is_none());
+    Ok(item_towards(way, pattern, state.files.as_slice(), file_key(0)))
+}
+
+#[test]
+fn items_are_found_without_a_session(rt: HostRuntime) -> Result<(), Fail> {
+    let below = found(rt.alloc(), Way::Down, "two")?;
+    assert!(rt; matches!(below, Some(key) if is_key(key, line_key(0, 1, 1))));
+    let above = found(rt.alloc(), Way::Up, "two")?;
+    assert!(rt; above.is_none());
     Ok(())
 }

@@ -7,3 +7,5 @@ mod calls;
 mod rows;
 #[cfg(test)]
 mod sessions;
+#[cfg(test)]
+mod states;

@@ -1,57 +1,13 @@
 //! Typed sessions of the table, and what they mark.
 use crate::rows::ROWS;
+use crate::states::state_of_three_files;
 use scm_front::{Front, FrontTurn};
-use scm_record::{
-    Decoder, File, FileMode, Items, RecordState, Section, SelectionKey, TerminalKind, Text,
-};
-use scm_samples::{ADDED, DEFAULT, REMOVED, changed, context};
+use scm_record::{Decoder, File, RecordError, RecordState, Section, SelectionKey, TerminalKind};
 use std::alloc::Global;
 use std::test::Fail;
 
-/// Returns a file of `sections`.
-fn file(path: &'static str, sections: Vec<Section<'static>>) -> File<'static> {
-    File {
-        old_path: None,
-        path: Text::from(path),
-        file_mode: DEFAULT,
-        sections: Items::from(sections),
-    }
-}
-
-/// Returns the state of the table.
-pub(crate) fn state_of_three_files(alloc: Global) -> Result<RecordState<'static>, Fail> {
-    let mut alpha = Vec::new(alloc);
-    alpha.push(context(alloc, &["two\n"])?)?;
-    alpha.push(changed(
-        alloc,
-        &[
-            (false, REMOVED, "one\n"),
-            (false, ADDED, "Two\n"),
-            (false, ADDED, "three\n"),
-        ],
-    )?)?;
-    let mut beta = Vec::new(alloc);
-    beta.push(changed(alloc, &[(false, ADDED, "a\n")])?)?;
-    beta.push(changed(alloc, &[(false, ADDED, "two words\n")])?)?;
-    let mut gamma = Vec::new(alloc);
-    gamma.push(Section::FileMode {
-        is_checked: false,
-        mode: FileMode::Unix(0o100755),
-    })?;
-    gamma.push(changed(alloc, &[(false, ADDED, "naïve\n")])?)?;
-    let mut files = Vec::new(alloc);
-    files.push(file("alpha", alpha))?;
-    files.push(file("beta", beta))?;
-    files.push(file("Gamma", gamma))?;
-    Ok(RecordState {
-        is_read_only: false,
-        commits: Items::new(alloc),
-        files: Items::from(files),
-    })
-}
-
-/// Returns the name of `key`: its kind and indexes.
-fn name_of(alloc: Global, key: SelectionKey) -> Result<String, Fail> {
+/// Adds the name of `key` to `told`: its kind and indexes.
+fn tell_key(told: &mut String, alloc: Global, key: SelectionKey) -> Result<(), RecordError> {
     let name = match key {
         SelectionKey::None => String::from_str(alloc, "nothing")?,
         SelectionKey::File(key) => format!(in alloc; "file {}", key.file_idx)?,
@@ -65,80 +21,118 @@ fn name_of(alloc: Global, key: SelectionKey) -> Result<String, Fail> {
             )?
         }
     };
-    Ok(name)
+    told.push_str(name.as_str())?;
+    Ok(())
 }
 
-/// Returns what the layer says.
-fn word_of(alloc: Global, front: &Front<'_>) -> Result<String, Fail> {
+/// Adds what the layer says to `told`.
+fn tell_query(told: &mut String, front: &Front<'_>) -> Result<(), RecordError> {
     let query = front.query();
-    let word = if query.is_asking {
-        format!(in alloc; "asks {}", query.typed)?
+    if query.is_asking {
+        told.push_str(", asks ")?;
+        told.push_str(query.typed.as_str())?;
     } else if query.is_missing {
-        format!(in alloc; "not found {}", query.sought)?
-    } else {
-        String::new(alloc)
-    };
-    Ok(word)
+        told.push_str(", not found ")?;
+        told.push_str(query.sought.as_str())?;
+    }
+    Ok(())
 }
 
-/// Returns the turn after `bytes` and a silence.
-pub(crate) fn typed(alloc: Global, bytes: &str) -> Result<FrontTurn<'static>, Fail> {
-    let state = state_of_three_files(alloc)?;
-    if !state.is_accepted() {
-        return Err(Fail::new("the state is not accepted"));
-    }
-    let kind = TerminalKind::Testing {
-        width: 40,
-        height: 12,
-    };
-    let front = Front::new(alloc, kind, state)?;
-    let mut decoder = Decoder::new();
-    let turn = front.typed(alloc, &mut decoder, bytes.as_bytes())?;
-    match turn {
-        FrontTurn::Waiting(front) => Ok(front.idle(&mut decoder)?),
-        ended => Ok(ended),
-    }
-}
-
-#[test]
-fn typed_sessions_lead_where_the_table_says(rt: HostRuntime) -> Result<(), Fail> {
-    let alloc = rt.alloc();
-    for (bytes, selected, said) in ROWS {
-        match typed(alloc, *bytes)? {
-            FrontTurn::Waiting(front) => {
-                let name = name_of(alloc, front.beneath().view_state().selection)?;
-                let word = word_of(alloc, &front)?;
-                assert_eq!(rt; name.as_str(), *selected, "typed {}", *bytes);
-                assert_eq!(rt; word.as_str(), *said, "typed {}", *bytes);
-            }
-            FrontTurn::Editing(_) | FrontTurn::Accepted(_) => {
-                assert!(rt; false, "typed {}", *bytes);
+/// Adds a letter to `told` for each changed line: `x` if it is checked.
+fn tell_marks(told: &mut String, files: &[File<'_>]) -> Result<(), RecordError> {
+    for file in files {
+        for section in file.sections.as_slice() {
+            if let Section::Changed { lines } = section {
+                for line in lines.as_slice() {
+                    told.push(if line.is_checked { 'x' } else { '.' })?;
+                }
             }
         }
     }
     Ok(())
 }
 
+/// Adds to `told` what `turn` is.
+pub(crate) fn tell_turn(
+    told: &mut String,
+    alloc: Global,
+    turn: &FrontTurn<'_>,
+) -> Result<(), RecordError> {
+    match turn {
+        FrontTurn::Waiting(front) => {
+            tell_key(told, alloc, front.beneath().view_state().selection)?;
+            tell_query(told, front)
+        }
+        FrontTurn::Editing(editing) => {
+            told.push_str("edits ")?;
+            told.push_str(editing.beneath().message())?;
+            Ok(())
+        }
+        FrontTurn::Accepted(state) => {
+            told.push_str("accepted ")?;
+            tell_marks(told, state.files.as_slice())
+        }
+    }
+}
+
+/// Returns a front over `state`, or an error if it is not within the limits.
+pub(crate) fn front_of(
+    alloc: Global,
+    state: RecordState<'static>,
+) -> Result<Front<'static>, RecordError> {
+    if !state.is_accepted() {
+        return Err(RecordError::Cancelled);
+    }
+    let kind = TerminalKind::Testing {
+        width: 40,
+        height: 12,
+    };
+    Front::new(alloc, kind, state)
+}
+
+/// Returns the turn after `bytes`.
+fn after_bytes(
+    front: Front<'static>,
+    alloc: Global,
+    decoder: &mut Decoder,
+    bytes: &str,
+) -> Result<FrontTurn<'static>, RecordError> {
+    front.typed(alloc, decoder, bytes.as_bytes())
+}
+
+/// Returns the turn after a silence.
+fn after_silence(
+    turn: FrontTurn<'static>,
+    decoder: &mut Decoder,
+) -> Result<FrontTurn<'static>, RecordError> {
+    match turn {
+        FrontTurn::Waiting(front) => front.idle(decoder),
+        FrontTurn::Editing(editing) => Ok(FrontTurn::Editing(editing)),
+        FrontTurn::Accepted(state) => Ok(FrontTurn::Accepted(state)),
+    }
+}
+
+/// Returns the turn after `bytes` and a silence.
+fn typed(alloc: Global, bytes: &str) -> Result<FrontTurn<'static>, RecordError> {
+    let front = front_of(alloc, state_of_three_files(alloc)?)?;
+    let mut decoder = Decoder::new();
+    let turn = after_bytes(front, alloc, &mut decoder, bytes)?;
+    after_silence(turn, &mut decoder)
+}
+
+/// Returns what `bytes` and a silence lead to.
+fn told(alloc: Global, bytes: &str) -> Result<String, RecordError> {
+    let mut told = String::new(alloc);
+    let turn = typed(alloc, bytes)?;
+    tell_turn(&mut told, alloc, &turn)?;
+    Ok(told)
+}
+
 #[test]
-fn a_found_line_is_marked(rt: HostRuntime) -> Result<(), Fail> {
-    let alloc = rt.alloc();
-    match typed(alloc, "/three\r c")? {
-        FrontTurn::Accepted(marked) => {
-            let mut text = String::new(alloc);
-            for file in marked.files.as_slice() {
-                for section in file.sections.as_slice() {
-                    if let Section::Changed { lines } = section {
-                        for line in lines.as_slice() {
-                            text.push(if line.is_checked { 'x' } else { '.' })?;
-                        }
-                    }
-                }
-            }
-            assert_eq!(rt; text.as_str(), "..x...");
-        }
-        FrontTurn::Waiting(_) | FrontTurn::Editing(_) => {
-            assert!(rt; false);
-        }
+fn typed_sessions_lead_where_the_table_says(rt: HostRuntime) -> Result<(), Fail> {
+    for (bytes, wanted) in ROWS {
+        let told = told(rt.alloc(), *bytes)?;
+        assert_eq!(rt; told.as_str(), *wanted, "typed {}", *bytes);
     }
     Ok(())
 }
