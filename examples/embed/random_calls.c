@@ -140,7 +140,7 @@ static uint32_t one_of(uint32_t code, uint32_t a, uint32_t b, uint32_t c) {
 
 /* A text of up to eight pieces, some of which are no UTF-8. */
 static size_t random_text(char *text) {
-    static const char *const pieces[] = {"a", "line\n", "\n", "wide \xe6\x97\xa5\n", "\xff", "\t", "e\xcc\x81", "\x1b[31m", "x y z\n", "+", "\xf0\x9f\x98\x80\n"};
+    static const char *const pieces[] = {"a", "line\n", "\n", "wide \xe6\x97\xa5\n", "\xff", "\t", "e\xcc\x81", "\x1b[31m", "x y z\n", "+", "\xf0\x9f\x98\x80\n", "\xf4\x8f\xbf\xbf"};
     size_t length = 0;
     for (uint32_t i = random_below(8); i > 0; i--) {
         const char *piece = pieces[random_below(sizeof pieces / sizeof *pieces)];
@@ -182,13 +182,36 @@ static uint32_t add_lines(void) {
     return one_of(code, wanted, wanted, wanted);
 }
 
+/* Looks that a side of the last file has these bytes. */
+static void check_bytes(bool selected, const char *bytes, size_t length) {
+    static char out[ROOM];
+    size_t count = 0, written = 77;
+    assert(scm_files(&session, &count) == SCM_DONE && count > 0);
+    memset(out, GUARD, sizeof out);
+    assert(scm_side_bytes(&session, count - 1, selected, out, ROOM, &written) == SCM_DONE);
+    assert(written == length && memcmp(out, bytes, length) == 0);
+    check_buffer(out, ROOM, length, true);
+}
+
+/* Adds a file by its two versions. Its sides are their bytes. */
+static uint32_t add_versions(const char *old, size_t old_size, const char *new_bytes, size_t new_size, size_t old_mode) {
+    uint32_t wanted = addition_code(true, false, false);
+    uint32_t code = scm_state_texts(&session, "p", 1, "", 0, old, old_size, old_mode, new_bytes, new_size, 0100644);
+    if (code == SCM_DONE) {
+        refused_after = 0;
+        check_bytes(true, old, old_mode == SCM_ABSENT ? 0 : old_size);
+        check_bytes(false, new_bytes, new_size);
+    }
+    return one_of(code, wanted, wanted, wanted);
+}
+
 static uint32_t add_other(void) {
     char one[ROOM], two[ROOM];
     size_t first = random_text(one), second = random_text(two);
     bool both = is_utf8(one, first) && is_utf8(two, second);
     uint32_t wanted = addition_code(true, true, false);
     size_t mode = random_below(4) ? 0100644 + random_below(2) * 0111 : SCM_ABSENT;
-    switch (random_below(6)) {
+    switch (random_below(7)) {
     case 0: return one_of(scm_state_section(&session, random_below(2)), wanted, wanted, wanted);
     case 1: return one_of(scm_state_mode(&session, random_below(2), mode), wanted, wanted, wanted);
     case 2:
@@ -200,6 +223,7 @@ static uint32_t add_other(void) {
     case 4:
         wanted = addition_code(true, false, false);
         return one_of(scm_state_commit(&session), wanted, wanted == SCM_DONE ? SCM_NOT_ACCEPTED : wanted, wanted);
+    case 5: return add_versions(one, first, two, second, mode);
     default:
         wanted = addition_code(both, false, false);
         return one_of(scm_state_file(&session, one, first, two, second, mode), wanted, wanted, wanted);

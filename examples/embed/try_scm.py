@@ -70,7 +70,7 @@ def read_answers(session):
     assert (session.mark(0), session.mark(0, 0), session.mark(0, 2), session.mark(0, 2, 1)) == (1, 2, 1, 2)
     assert refused(session.mark, 0, 1, 0) == refused(session.side, 3) == refused(session.message, 1) == "no_item"
     assert session.message() == "first\n"
-    assert session.marks(0) == [True, True, False, False] and session.marks(2) == [False, True]
+    assert session.marks(0) == [True, True, True, False, False] and session.marks(2) == [False, True]
     assert session.line(0, 1, 1) == b"\n" and session.line(0, 2, 1) == b"y\n"
     assert refused(session.marks, 3) == refused(session.line, 0, 0, 0) == "no_item"
 

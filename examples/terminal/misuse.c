@@ -331,7 +331,9 @@ static void cut_window(void) {
     done(scm_begin(&session, UINT16_MAX, 1), SCM_WAITING);
     assert(before.length == SCM_MAX_COLUMNS + 3);
     done(scm_resize(&session, 1, UINT16_MAX), SCM_WAITING);
-    assert(before.length == 4 * SCM_MAX_ROWS);
+    char symbol[4];
+    assert(scm_symbol(&session, SCM_MAX_ROWS - 1, 0, symbol, sizeof symbol) == 1);
+    assert(scm_symbol(&session, SCM_MAX_ROWS, 0, symbol, sizeof symbol) == 0);
     close_session();
 }
 
