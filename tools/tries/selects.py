@@ -31,7 +31,7 @@ def data_of(path):
         return file.read()
 
 
-def two_files(place):
+def two_files_alone(place):
     """The selected side goes to standard output, or to the file of -o, and both files stay but for one that -o names."""
     old, new = two(place)
     output, ends = os.path.join(place.top, "output"), []
@@ -129,6 +129,6 @@ def folders_with_more(place):
 
 
 ALL = (
-    two_files, contents_of_all_kinds, two_equal_files, what_is_wrong, as_json, folders_with_more,
+    two_files_alone, contents_of_all_kinds, two_equal_files, what_is_wrong, as_json, folders_with_more,
 )
 EACH = folders_of_each_kind,
