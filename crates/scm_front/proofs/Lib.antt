@@ -16,6 +16,12 @@ pub mod HearLemmas
 pub mod DoLemmas
 -- paths of a front
 pub mod FrontLemmas
+-- commands that stay on some rows of a terminal
+pub mod PartLemmas
+-- the session's rows and the status row below them
+pub mod BelowLemmas
+-- what the status row says
+pub mod StatusLemmas
 -- views sideways
 pub mod SidewaysLemmas
 -- examples, computed

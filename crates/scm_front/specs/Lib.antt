@@ -12,5 +12,9 @@ pub mod Search
 pub mod Jump
 -- fronts: what they do with what they hear, and the calls of the session beneath
 pub mod Fronts
+-- the status row: what it says, and what it shows
+pub mod Status
+-- the session's rows and the status row below them on a terminal
+pub mod Below
 -- a view sideways, of a session that is wider than the terminal
 pub mod Sideways

@@ -12,11 +12,14 @@ mod jump;
 pub mod laws;
 pub mod layer;
 mod occurs;
+mod painter;
 mod presses;
 pub mod sideways;
+mod status;
 mod typed;
 
 pub use actions::{Action, action_of};
 pub use asking::{Query, Typing};
 pub use items::item_towards;
 pub use layer::{Front, FrontEditing, FrontTurn};
+pub use painter::FrontPainter;
