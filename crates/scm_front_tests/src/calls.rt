@@ -16,7 +16,7 @@ use std::test::Fail;
 enum Call {
     Handle(Event),
     PressAll(&'static [Event]),
-    ClickSideways(usize, usize, usize),
+    ClickSideways(u8, usize, u8),
     Edit(Typing),
     Search(Way),
     Seek,
@@ -48,7 +48,9 @@ fn after_call(front: Front<'static>, call: Call) -> Result<FrontTurn<'static>, R
     match call {
         Call::Handle(event) => front.handle(event),
         Call::PressAll(events) => front.press_all(events),
-        Call::ClickSideways(x, row, column) => front.click_sideways(x, row, column),
+        Call::ClickSideways(x, row, column) => {
+            front.click_sideways(x as usize, row, column as usize)
+        }
         Call::Edit(typing) => front.edit(typing),
         Call::Search(way) => front.search(way),
         Call::Seek => front.seek(),
