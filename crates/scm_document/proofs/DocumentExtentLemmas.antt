@@ -23,7 +23,8 @@ use Rattle.scm_widgets.specs.Layers.{end_of}
 use Rattle.scm_widgets.specs.Texts.{button_text}
 use Rattle.scm_document.specs.Texts.{divider_text, message_text, no_files_text}
 use Rattle.scm_document.proofs.FilesOf.{IsFileOf, AreFilesOf, HasItsIds}
-use Rattle.scm_document.specs.Rows.{file_id, HeaderRow, ShownFile, Document, file_rows, message_height}
+use Rattle.scm_rows.specs.Heights.{message_height}
+use Rattle.scm_document.specs.Rows.{file_id, HeaderRow, ShownFile, Document, file_rows}
 use Rattle.scm_document.specs.FilesRows.{files_rows}
 use Rattle.scm_document.specs.Pictures.{edit_button, beside_button, message_picture, shown_file_picture, file_mask, mask_row, pinned_header, pinned_mask, pinned_picture, one_file_picture, files_picture, no_files_picture, document_picture, button_row_picture}
 use Rattle.scm_widgets.specs.Pictures.{button_picture, blank_rest}

@@ -24,7 +24,9 @@ use Rattle.scm_document.specs.OpenSights.{IsOpen}
 use Rattle.scm_widgets.specs.Layers.{Strip, clear, shown_by}
 use Rattle.scm_widgets.specs.Texts.{button_text}
 use Rattle.scm_document.specs.Texts.{divider_text, message_text, dots_text, no_files_text}
-use Rattle.scm_document.specs.Rows.{DocRow, DotsRow, BlankRow, HeaderRow, ShownSection, ShownFile, Document, is_open, is_first_open, is_section_visible, has_dots, first_below, lines_above, shown_lines, rows_below, context_rows, changed_rows, numbered_rows, rows_of, section_rows, shown_section, shown_sections, shown_file, document_of, file_rows, message_height}
+use Rattle.scm_rows.specs.Context.{first_below, has_dots, lines_above}
+use Rattle.scm_rows.specs.Heights.{is_section_visible, message_height}
+use Rattle.scm_document.specs.Rows.{DocRow, DotsRow, BlankRow, HeaderRow, ShownSection, ShownFile, Document, is_open, is_first_open, shown_lines, rows_below, context_rows, changed_rows, numbered_rows, rows_of, section_rows, shown_section, shown_sections, shown_file, document_of, file_rows, place_of}
 use Rattle.scm_widgets.specs.Boxes.{is_fold_open}
 use Rattle.scm_document.specs.Pictures.{shown_file_picture, file_mask, mask_row, is_pinned, pinned_header, pinned_picture, one_file_picture, files_picture, edit_button, beside_button, message_picture, no_files_picture, document_picture, commit_picture, button_row_picture}
 use Rattle.scm_widgets.specs.Pictures.{button_picture, blank_rest}
@@ -239,13 +241,13 @@ unfolding context_rows
 context-inner v ls = go (length ls == 0)
   where
     n : ℕ
-    n = first_below v (length ls)
+    n = first_below (place_of v) (length ls)
 
     go : (b : Bool) → AreInner (if b then BlankRow ∷ [] else shown_lines v ls)
     go true = (refl, tt)
     go false =
-        inner-append (numbered_rows v 0 (take (lines_above v (length ls)) ls)) (rows_below v ls) (numbered-inner v 0 (take (lines_above v (length ls)) ls))
-        (inner-append (if has_dots v (length ls) then DotsRow (dots_text v.use_unicode) ∷ [] else []) (numbered_rows v n (drop n ls)) (some-inner (has_dots v (length ls)) (DotsRow (dots_text v.use_unicode) ∷ []) (refl, tt)) (numbered-inner v n (drop n ls)))
+        inner-append (numbered_rows v 0 (take (lines_above (place_of v) (length ls)) ls)) (rows_below v ls) (numbered-inner v 0 (take (lines_above (place_of v) (length ls)) ls))
+        (inner-append (if has_dots (place_of v) (length ls) then DotsRow (dots_text v.use_unicode) ∷ [] else []) (numbered_rows v n (drop n ls)) (some-inner (has_dots (place_of v) (length ls)) (DotsRow (dots_text v.use_unicode) ∷ []) (refl, tt)) (numbered-inner v n (drop n ls)))
 
 rows-inner : (v : SectionView) (section : Section) → AreInner (rows_of v section)
 rows-inner v (Unchanged ls) = context-inner v ls
@@ -256,7 +258,7 @@ rows-inner v (Binary checked old new) = (refl, tt)
 sections-inner : (before : Bool) (vs : List SectionView) → AreInnerSections (shown_sections before vs)
 unfolding shown_sections section_rows
 sections-inner before [] = tt
-sections-inner before (v ∷ vs) = go (is_section_visible before v (is_first_open vs)) (sections-inner (is_open v) vs)
+sections-inner before (v ∷ vs) = go (is_section_visible before v.section.now (is_first_open vs)) (sections-inner (is_open v) vs)
   where
     go : (b : Bool) → AreInnerSections (shown_sections (is_open v) vs) → AreInnerSections (shown_section b v ++ shown_sections (is_open v) vs)
     go true h = (rows-inner v v.section.now, h)

@@ -12,6 +12,8 @@ pub mod NearLemmas
 pub mod StripLemmas
 -- Rows off the screen, which drawing passes over where no boxes are kept.
 pub mod PassLemmas
+-- Texts that are cut behind the last column in sight.
+mod VisibleLemmas
 pub mod DocumentLemmas
 pub mod AppShapeLemmas
 pub mod BoxLemmas

@@ -21,7 +21,8 @@ use Rattle.scm_document.proofs.Near.{SightIsNear, IsNarrow, IsNarrowBox, IsNarro
 use Rattle.scm_widgets.specs.Texts.{box_text, button_text}
 use Rattle.scm_document.specs.Texts.{divider_text, message_text, no_files_text}
 use Rattle.scm_widgets.specs.Boxes.{IdBox}
-use Rattle.scm_document.specs.Rows.{Heading, DocRow, HeaderRow, SectionRow, LineRow, MarkRow, ContextRow, DotsRow, BlankRow, ShownSection, ShownFile, Document, sections_rows, file_rows, message_height}
+use Rattle.scm_rows.specs.Heights.{message_height}
+use Rattle.scm_document.specs.Rows.{Heading, DocRow, HeaderRow, SectionRow, LineRow, MarkRow, ContextRow, DotsRow, BlankRow, ShownSection, ShownFile, Document, sections_rows, file_rows}
 use Rattle.scm_document.specs.FilesRows.{files_rows}
 use Rattle.scm_widgets.specs.Pictures.{to_end, rest_of_row, whole_row, box_picture, box_part, fold_column, highlight, button_picture}
 use Rattle.scm_document.specs.Pictures.{heading_width, heading_mask, title_picture, heading_picture, changed_picture, context_picture, row_picture, rows_picture, sections_picture, shown_file_picture, file_mask, pinned_mask, mask_row, is_pinned, pinned_picture, one_file_picture, files_picture, edit_button, beside_button, button_row_picture, message_picture, no_files_picture, document_picture}

@@ -17,13 +17,16 @@ use Rattle.scm_document.specs.declared.index_pieces.SectionPiece.{SectionPiece}
 use Rattle.scm_document.specs.declared.index_pieces.RowKinds.TheVariants as kinds
 use Rattle.scm_document.specs.declared.index_pieces.Piece.{Piece}
 use Rattle.scm_document.specs.declared.index_pieces.Piece.TheVariants as pieces
-use Rattle.scm_document.specs.Rows.{DocRow, SectionRow, DotsRow, BlankRow, is_selected, section_heading, are_all_shown, is_first, is_last, lines_above, has_dots, dots_height, first_below, changed_rows, numbered_rows, rows_below, shown_lines, context_rows, lines_height, section_height, rows_of, section_rows, shown_of_view, shown_sections, shown_file, file_rows}
+use Rattle.scm_rows.specs.Context.{are_all_shown, dots_height, first_below, has_dots, is_first, is_last, lines_above, lines_height}
+use Rattle.scm_document.specs.Rows.{DocRow, SectionRow, DotsRow, BlankRow, is_selected, section_heading, changed_rows, numbered_rows, rows_below, shown_lines, context_rows, section_height, rows_of, section_rows, shown_of_view, shown_sections, shown_file, file_rows, place_of}
 use Rattle.scm_widgets.specs.Boxes.{is_fold_open}
 use Rattle.scm_types.specs.Keys.{line_key_of}
 use Rattle.scm_document.specs.Places.{Place, line_places, rows_places, sections_places, files_places}
 use Rattle.scm_document.specs.RowIndex.{section_parts, sections_parts, files_parts}
 use Rattle.scm_document.specs.SectionWalk.{visible_views}
-use Rattle.scm_document.specs.ViewPieces.{kinds_of, section_piece_of, section_piece_list, file_height, sections_in_file, file_piece_of, file_piece_list, sections_in_files}
+use Rattle.scm_rows.specs.Heights.{shape_of}
+use Rattle.scm_document.specs.SectionPieces.{kinds_of}
+use Rattle.scm_document.specs.ViewPieces.{section_piece_of, section_piece_list, file_height, sections_in_file, file_piece_of, file_piece_list, sections_in_files}
 use Rattle.scm_document.specs.Pieces.{file_pieces, files_pieces, files_of, sections_of, run_places, lines_places, section_places, piece_places, piece_parts}
 use Rattle.scm_document.proofs.RowsLemmas.{length-numbered, length-taken}
 use Rattle.scm_document.proofs.SectionsLemmas.{at_most, most-below, section-size, shown-visible}
@@ -86,20 +89,20 @@ two-runs k top a d b n h =
     rw (above, below, first, row) refl
 
 context-places : (v : SectionView) (top : ℕ) (ls : List (List ℕ)) → let n = length ls in
-    rows_places top (shown_lines v ls) ≡ lines_places v.section_key (kinds.Context (lines_above v n) (lines_above v n + dots_height v n) n) top (top + lines_height v n) (lines_height v n)
+    rows_places top (shown_lines v ls) ≡ lines_places v.section_key (kinds.Context (lines_above (place_of v) n) (lines_above (place_of v) n + dots_height (place_of v) n) n) top (top + lines_height (place_of v) n) (lines_height (place_of v) n)
 context-places v top ls =
     let n = length ls in
-    let above = lines_above v n in
-    let size : length (numbered_rows v 0 (take above ls)) ≡ above = length-taken v above ls (at_most (are_all_shown v n) (is_first v) n) in
+    let above = lines_above (place_of v) n in
+    let size : length (numbered_rows v 0 (take above ls)) ≡ above = length-taken v above ls (at_most (are_all_shown (place_of v) n) (is_first (place_of v)) n) in
     let few : length (take above ls) ≡ above = sym (length-numbered v 0 (take above ls)) ∙ size in
     rows_places-append top (numbered_rows v 0 (take above ls)) (rows_below v ls)
     ∙ ap (λ w. w ++ rows_places (top + length (numbered_rows v 0 (take above ls))) (rows_below v ls)) (numbered-run v top 0 (take above ls) ∙ ap (run_places v.section_key top 0) few)
     ∙ ap (λ m. run_places v.section_key top 0 above ++ rows_places (top + m) (rows_below v ls)) size
     ∙ ap (λ w. run_places v.section_key top 0 above ++ w)
-    (dots-places (has_dots v n) _ (top + above) (numbered_rows v (first_below v n) (drop (first_below v n) ls))
-    ∙ numbered-run v ((top + above) + dots_height v n) (first_below v n) (drop (first_below v n) ls)
-    ∙ ap (run_places v.section_key ((top + above) + dots_height v n) (first_below v n)) (length-drop (first_below v n) ls))
-    ∙ two-runs v.section_key top above (dots_height v n) (first_below v n) n (most-below (are_all_shown v n) (is_last v) n)
+    (dots-places (has_dots (place_of v) n) _ (top + above) (numbered_rows v (first_below (place_of v) n) (drop (first_below (place_of v) n) ls))
+    ∙ numbered-run v ((top + above) + dots_height (place_of v) n) (first_below (place_of v) n) (drop (first_below (place_of v) n) ls)
+    ∙ ap (run_places v.section_key ((top + above) + dots_height (place_of v) n) (first_below (place_of v) n)) (length-drop (first_below (place_of v) n) ls))
+    ∙ two-runs v.section_key top above (dots_height (place_of v) n) (first_below (place_of v) n) n (most-below (are_all_shown (place_of v) n) (is_last (place_of v)) n)
 
 blank-places : (k : SectionKey) (top : ℕ) → rows_places top (BlankRow ∷ []) ≡ lines_places k (kinds.Context 0 1 0) top (top + 1) 1
 unfolding rows_places run_places
@@ -125,13 +128,13 @@ changed-below k top n =
     let row : top + (1 + n) - n ≡ suc top = omega arith in
     rw (size, row) refl
 
-lines-places : (v : SectionView) (top : ℕ) (s : Section) → rows_places top (rows_of v s) ≡ lines_places v.section_key (kinds_of v s) top (top + section_height v s) (section_height v s)
+lines-places : (v : SectionView) (top : ℕ) (s : Section) → rows_places top (rows_of v s) ≡ lines_places v.section_key (kinds_of (place_of v) (shape_of s)) top (top + section_height v s) (section_height v s)
 unfolding context_rows
 lines-places v top (Unchanged ls) = go (length ls == 0)
   where
     go : (b : Bool) → rows_places top (if b then BlankRow ∷ [] else shown_lines v ls)
-        ≡ lines_places v.section_key (if b then kinds.Context 0 1 0 else kinds.Context (lines_above v (length ls)) (lines_above v (length ls) + dots_height v (length ls)) (length ls)) top
-        (top + (if b then 1 else lines_height v (length ls))) (if b then 1 else lines_height v (length ls))
+        ≡ lines_places v.section_key (if b then kinds.Context 0 1 0 else kinds.Context (lines_above (place_of v) (length ls)) (lines_above (place_of v) (length ls) + dots_height (place_of v) (length ls)) (length ls)) top
+        (top + (if b then 1 else lines_height (place_of v) (length ls))) (if b then 1 else lines_height (place_of v) (length ls))
     go true = blank-places v.section_key top
     go false = context-places v top ls
 lines-places v top (Changed ls) = go (is_fold_open v.expand_box)
@@ -150,7 +153,7 @@ unfolding section_rows
 section-is v top =
     let h = section_height v v.section.now in
     let size : top + h - top ≡ h = omega arith in
-    ap (λ r. record { key = selection.Section v.section_key; top = top; rows = r } ∷ lines_places v.section_key (kinds_of v v.section.now) top (top + h) r) size
+    ap (λ r. record { key = selection.Section v.section_key; top = top; rows = r } ∷ lines_places v.section_key (kinds_of (place_of v) (shape_of v.section.now)) top (top + h) r) size
     ∙ ap₂ (λ (r : ℕ) (ps : List Place). record { key = selection.Section v.section_key; top = top; rows = r } ∷ ps) (sym (section-size v)) (sym (lines-places v top v.section.now))
 
 sections-places : (top : ℕ) (vs : List SectionView) → flat_map piece_places (map pieces.Section (section_piece_list top vs)) ≡ sections_places top (map shown_of_view vs)

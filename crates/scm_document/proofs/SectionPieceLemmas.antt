@@ -20,12 +20,15 @@ use Rattle.scm_document.specs.declared.index_pieces.RowKinds.TheVariants as kind
 use Rattle.scm_widgets.specs.Layers.{Strip, clear, owned, is_among}
 use Rattle.scm_document.specs.Owners.{AreRowsOf}
 use Rattle.scm_document.specs.Texts.{dots_text}
-use Rattle.scm_document.specs.Rows.{DocRow, SectionRow, DotsRow, BlankRow, line_id, changed_rows, numbered_rows, context_rows, shown_lines, rows_below, rows_of, section_heading, is_selected, lines_above, first_below, has_dots, dots_height, lines_height, context_height, section_height, section_rows, section_id, is_first, is_last, are_all_shown, shown_of_view}
+use Rattle.scm_rows.specs.Context.{are_all_shown, context_height, dots_height, first_below, has_dots, is_first, is_last, lines_above, lines_height}
+use Rattle.scm_document.specs.Rows.{DocRow, SectionRow, DotsRow, BlankRow, line_id, changed_rows, numbered_rows, context_rows, shown_lines, rows_below, rows_of, section_heading, is_selected, section_height, section_rows, section_id, shown_of_view, place_of}
 use Rattle.scm_widgets.specs.Boxes.{is_fold_open}
 use Rattle.scm_types.specs.Keys.{line_key_of}
 use Rattle.scm_document.specs.Strips.{row_strip, is_whole, is_wide, is_of_section, section_strips}
 use Rattle.scm_document.specs.PieceOwners.{box_owner, line_owner, context_line, part_owner, section_owner}
-use Rattle.scm_document.specs.ViewPieces.{context_kinds, kinds_of, is_wide_of, section_piece_of}
+use Rattle.scm_rows.specs.Heights.{shape_of}
+use Rattle.scm_document.specs.SectionPieces.{context_kinds, is_wide_section, kinds_of}
+use Rattle.scm_document.specs.ViewPieces.{section_piece_of}
 use Rattle.scm_document.proofs.RowsLemmas.{length-numbered, length-taken}
 use Rattle.scm_document.proofs.SectionsLemmas.{at_most, most-below, height-of, section-size}
 use Rattle.scm_widgets.proofs.DrawsStrips.{line-owned}
@@ -113,35 +116,35 @@ dots-owner w x v true zero h = refl
 dots-owner w x v true (suc k) h = absurd (omega (arith, h))
 dots-owner w x v false k h = absurd (omega (arith, h))
 
-shown-part : (w x j : ℕ) (v : SectionView) (ls : List (List ℕ)) → j < lines_height v (length ls)
+shown-part : (w x j : ℕ) (v : SectionView) (ls : List (List ℕ)) → j < lines_height (place_of v) (length ls)
     → (get_or (map (row_strip w) (shown_lines v ls)) j clear).owner x
-    ≡ option_map (λ n. line_id (line_key_of v.section_key n)) (context_line (lines_above v (length ls)) (lines_above v (length ls) + dots_height v (length ls)) (length ls) (lines_height v (length ls)) j)
+    ≡ option_map (λ n. line_id (line_key_of v.section_key n)) (context_line (lines_above (place_of v) (length ls)) (lines_above (place_of v) (length ls) + dots_height (place_of v) (length ls)) (length ls) (lines_height (place_of v) (length ls)) j)
 shown-part w x j v ls within =
     let n = length ls in
-    let most = at_most (are_all_shown v n) (is_first v) n in
-    let low = most-below (are_all_shown v n) (is_last v) n in
-    let top : List DocRow = numbered_rows v 0 (take (lines_above v n) ls) in
-    let end : List DocRow = numbered_rows v (first_below v n) (drop (first_below v n) ls) in
-    let all : map (row_strip w) (shown_lines v ls) ≡ map (row_strip w) top ++ (map (row_strip w) (dots_rows v (has_dots v n)) ++ map (row_strip w) end) =
-    map-append (row_strip w) top (rows_below v ls) ∙ ap (λ r. map (row_strip w) top ++ r) (map-append (row_strip w) (dots_rows v (has_dots v n)) end) in
-    let first : length (map (row_strip w) top) ≡ lines_above v n = length-map top (row_strip w) ∙ length-taken v (lines_above v n) ls most in
-    let last : length (map (row_strip w) end) ≡ n - first_below v n = length-map end (row_strip w) ∙ length-numbered v (first_below v n) (drop (first_below v n) ls) ∙ length-drop (first_below v n) ls in
+    let most = at_most (are_all_shown (place_of v) n) (is_first (place_of v)) n in
+    let low = most-below (are_all_shown (place_of v) n) (is_last (place_of v)) n in
+    let top : List DocRow = numbered_rows v 0 (take (lines_above (place_of v) n) ls) in
+    let end : List DocRow = numbered_rows v (first_below (place_of v) n) (drop (first_below (place_of v) n) ls) in
+    let all : map (row_strip w) (shown_lines v ls) ≡ map (row_strip w) top ++ (map (row_strip w) (dots_rows v (has_dots (place_of v) n)) ++ map (row_strip w) end) =
+    map-append (row_strip w) top (rows_below v ls) ∙ ap (λ r. map (row_strip w) top ++ r) (map-append (row_strip w) (dots_rows v (has_dots (place_of v) n)) end) in
+    let first : length (map (row_strip w) top) ≡ lines_above (place_of v) n = length-map top (row_strip w) ∙ length-taken v (lines_above (place_of v) n) ls most in
+    let last : length (map (row_strip w) end) ≡ n - first_below (place_of v) n = length-map end (row_strip w) ∙ length-numbered v (first_below (place_of v) n) (drop (first_below (place_of v) n) ls) ∙ length-drop (first_below (place_of v) n) ls in
     ap (λ (ss : List (Strip ComponentId)). (get_or ss j clear).owner x) all
-    ∙ three-at (λ k. line_id (line_key_of v.section_key k)) x (map (row_strip w) top) (map (row_strip w) (dots_rows v (has_dots v n))) (map (row_strip w) end)
-    (lines_above v n) (dots_height v n) n (first_below v n) j first (dots-length w v (has_dots v n)) last low
-    (λ k h. numbered-at w v x 0 k (take (lines_above v n) ls) (omega (arith, h, first, most, length-take (lines_above v n) ls)))
-    (dots-owner w x v (has_dots v n))
-    (λ k h. numbered-at w v x (first_below v n) k (drop (first_below v n) ls) (omega (arith, h, last, length-drop (first_below v n) ls)))
+    ∙ three-at (λ k. line_id (line_key_of v.section_key k)) x (map (row_strip w) top) (map (row_strip w) (dots_rows v (has_dots (place_of v) n))) (map (row_strip w) end)
+    (lines_above (place_of v) n) (dots_height (place_of v) n) n (first_below (place_of v) n) j first (dots-length w v (has_dots (place_of v) n)) last low
+    (λ k h. numbered-at w v x 0 k (take (lines_above (place_of v) n) ls) (omega (arith, h, first, most, length-take (lines_above (place_of v) n) ls)))
+    (dots-owner w x v (has_dots (place_of v) n))
+    (λ k h. numbered-at w v x (first_below (place_of v) n) k (drop (first_below (place_of v) n) ls) (omega (arith, h, last, length-drop (first_below (place_of v) n) ls)))
     within
 
-context-part : (w x j : ℕ) (v : SectionView) (ls : List (List ℕ)) → j < context_height v (length ls)
-    → (get_or (map (row_strip w) (context_rows v ls)) j clear).owner x ≡ part_owner w (context_kinds v (length ls)) v.section_key (context_height v (length ls)) j x
+context-part : (w x j : ℕ) (v : SectionView) (ls : List (List ℕ)) → j < context_height (place_of v) (length ls)
+    → (get_or (map (row_strip w) (context_rows v ls)) j clear).owner x ≡ part_owner w (context_kinds (place_of v) (length ls)) v.section_key (context_height (place_of v) (length ls)) j x
 unfolding context_rows part_owner row_strip
 context-part w x j v ls = go (length ls == 0) j
   where
-    go : (b : Bool) (j : ℕ) → j < (if b then 1 else lines_height v (length ls))
+    go : (b : Bool) (j : ℕ) → j < (if b then 1 else lines_height (place_of v) (length ls))
         → (get_or (map (row_strip w) (if b then BlankRow ∷ [] else shown_lines v ls)) j clear).owner x
-        ≡ part_owner w (if b then kinds.Context 0 1 0 else kinds.Context (lines_above v (length ls)) (lines_above v (length ls) + dots_height v (length ls)) (length ls)) v.section_key (if b then 1 else lines_height v (length ls)) j x
+        ≡ part_owner w (if b then kinds.Context 0 1 0 else kinds.Context (lines_above (place_of v) (length ls)) (lines_above (place_of v) (length ls) + dots_height (place_of v) (length ls)) (length ls)) v.section_key (if b then 1 else lines_height (place_of v) (length ls)) j x
     go true zero h = refl
     go true (suc j) h = absurd (omega (arith, h))
     go false j h = shown-part w x j v ls h
@@ -159,7 +162,7 @@ unfolding row_strip
 heading-part w x v sel t f = rw (t, f) (two_boxes (is_among 2 3 x) (is_among (w - 3) 3 x) (ids.ToggleBox (selection.Section v.section_key)) (ids.ExpandBox (selection.Section v.section_key)))
 
 part-at : (w x j : ℕ) (v : SectionView) (section : Section) → AreRowsOf v.section_key 0 (rows_of v section) → j < section_height v section
-    → (get_or (map (row_strip w) (rows_of v section)) j clear).owner x ≡ part_owner w (kinds_of v section) v.section_key (section_height v section) j x
+    → (get_or (map (row_strip w) (rows_of v section)) j clear).owner x ≡ part_owner w (kinds_of (place_of v) (shape_of section)) v.section_key (section_height v section) j x
 unfolding part_owner row_strip
 part-at w x j v (Unchanged ls) e h = context-part w x j v ls h
 part-at w x zero v (Changed ls) e h = heading-part w x v (is_selected v) e.0.1 e.0.2
@@ -199,29 +202,41 @@ some-left a b n e = go (nat_lt b n) refl
     go true h = let less : b < n = grind (arith, nat_tests) in let some : 0 < a = omega (arith, e, less) in grind (arith, nat_tests, some)
     go false h = let more : n ≤ b = grind (arith, nat_tests) in let none : a ≡ 0 = omega (arith, e, more) in rw none refl
 
-any-shown : (v : SectionView) (ls : List (List ℕ)) → list_any is_whole (shown_lines v ls) ≡ (nat_lt 0 (lines_above v (length ls)) || nat_lt (first_below v (length ls)) (length ls))
+any-shown : (v : SectionView) (ls : List (List ℕ)) → list_any is_whole (shown_lines v ls) ≡ (nat_lt 0 (lines_above (place_of v) (length ls)) || nat_lt (first_below (place_of v) (length ls)) (length ls))
 any-shown v ls =
     let n = length ls in
-    let most = at_most (are_all_shown v n) (is_first v) n in
-    let taken : length (take (lines_above v n) ls) ≡ lines_above v n = omega (arith, most, length-take (lines_above v n) ls) in
-    let top : List DocRow = numbered_rows v 0 (take (lines_above v n) ls) in
-    let end : List DocRow = numbered_rows v (first_below v n) (drop (first_below v n) ls) in
+    let most = at_most (are_all_shown (place_of v) n) (is_first (place_of v)) n in
+    let taken : length (take (lines_above (place_of v) n) ls) ≡ lines_above (place_of v) n = omega (arith, most, length-take (lines_above (place_of v) n) ls) in
+    let top : List DocRow = numbered_rows v 0 (take (lines_above (place_of v) n) ls) in
+    let end : List DocRow = numbered_rows v (first_below (place_of v) n) (drop (first_below (place_of v) n) ls) in
     list_any-append is_whole top (rows_below v ls)
-    ∙ ap₂ (λ a b. a || b) (any-numbered v 0 (take (lines_above v n) ls) ∙ ap (nat_lt 0) taken)
-    (list_any-append is_whole (dots_rows v (has_dots v n)) end
-    ∙ ap₂ (λ a b. a || b) (any-dots v (has_dots v n)) (any-numbered v (first_below v n) (drop (first_below v n) ls) ∙ some-left (length (drop (first_below v n) ls)) (first_below v n) n (length-drop (first_below v n) ls)))
+    ∙ ap₂ (λ a b. a || b) (any-numbered v 0 (take (lines_above (place_of v) n) ls) ∙ ap (nat_lt 0) taken)
+    (list_any-append is_whole (dots_rows v (has_dots (place_of v) n)) end
+    ∙ ap₂ (λ a b. a || b) (any-dots v (has_dots (place_of v) n)) (any-numbered v (first_below (place_of v) n) (drop (first_below (place_of v) n) ls) ∙ some-left (length (drop (first_below (place_of v) n) ls)) (first_below (place_of v) n) n (length-drop (first_below (place_of v) n) ls)))
 
-wide-is : (v : SectionView) (section : Section) → is_wide (rows_of v section) ≡ is_wide_of v section
+-- more rows than the dots have lines
+more-than-dots : (a d b n : ℕ) → (nat_lt 0 a || nat_lt b n) ≡ nat_lt d (a + (d + (n - b)))
+more-than-dots a d b n = go (nat_lt 0 a) (nat_lt b n) refl refl
+  where
+    go : (p q : Bool) → nat_lt 0 a ≡ p → nat_lt b n ≡ q → (p || q) ≡ nat_lt d (a + (d + (n - b)))
+    go true q e f = grind (arith, nat_tests, e)
+    go false true e f = grind (arith, nat_tests, f)
+    go false false e f = grind (arith, nat_tests, e, f)
+
+wide-is : (v : SectionView) (section : Section) → is_wide (rows_of v section) ≡ is_wide_section (is_selected v) (place_of v) (section_height v section) (shape_of section)
 unfolding context_rows
 wide-is v (Unchanged ls) = go (length ls == 0)
   where
-    go : (b : Bool) → list_any is_whole (if b then BlankRow ∷ [] else shown_lines v ls) ≡ (not b && (nat_lt 0 (lines_above v (length ls)) || nat_lt (first_below v (length ls)) (length ls)))
+    n : ℕ
+    n = length ls
+
+    go : (b : Bool) → list_any is_whole (if b then BlankRow ∷ [] else shown_lines v ls) ≡ (not b && nat_lt (dots_height (place_of v) n) (if b then 1 else lines_height (place_of v) n))
     go true = refl
-    go false = any-shown v ls
+    go false = any-shown v ls ∙ more-than-dots (lines_above (place_of v) n) (dots_height (place_of v) n) (first_below (place_of v) n) n
 wide-is v (Changed ls) = ap (λ b. is_selected v || b) (go (is_fold_open v.expand_box))
   where
-    go : (b : Bool) → list_any is_whole (if b then changed_rows v 0 ls else []) ≡ (b && nat_lt 0 (length ls))
-    go true = any-changed v 0 ls
+    go : (b : Bool) → list_any is_whole (if b then changed_rows v 0 ls else []) ≡ nat_lt 1 (if b then 1 + length ls else 1)
+    go true = let more : nat_lt 0 (length ls) ≡ nat_lt 1 (1 + length ls) = grind (arith, nat_tests) in any-changed v 0 ls ∙ more
     go false = refl
 wide-is v (FileMode checked mode) = or_false (is_selected v)
 wide-is v (Binary checked old new) = or_false (is_selected v)
@@ -253,5 +268,5 @@ section-owner w x top j v e h =
     let size : (top + section_height v v.section.now) - top ≡ section_height v v.section.now = omega arith in
     sym (line-owned (section_id v.section_key) (is_of_section rows) ss (pos top) (pos (top + j)) x)
     ∙ ap₂ first_of_two
-    (ap (λ (s : Strip ComponentId). s.owner x) (line-get clear ss top j) ∙ part-at w x j v v.section.now e h ∙ ap (λ k. part_owner w (kinds_of v v.section.now) v.section_key k j x) (sym size))
-    (if_wide _ _ _ (section_id v.section_key) (row-within top j (length ss) (omega (arith, h, n))) (ap (λ b. b || nat_le 2 x) (wide-is v v.section.now)))
+    (ap (λ (s : Strip ComponentId). s.owner x) (line-get clear ss top j) ∙ part-at w x j v v.section.now e h ∙ ap (λ k. part_owner w (kinds_of (place_of v) (shape_of v.section.now)) v.section_key k j x) (sym size))
+    (if_wide _ _ _ (section_id v.section_key) (row-within top j (length ss) (omega (arith, h, n))) (ap (λ b. b || nat_le 2 x) (wide-is v v.section.now ∙ ap (λ n. is_wide_section (is_selected v) (place_of v) n (shape_of v.section.now)) (sym size))))

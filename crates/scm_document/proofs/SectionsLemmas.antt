@@ -11,7 +11,9 @@ use Rattle.scm_render.specs.Picture.{PictureInRange, nothing, followed_by, part}
 use Rattle.scm_render.specs.Canvas.{Sight}
 use Rattle.scm_render.proofs.PictureLemmas.{PictureInRange-left, PictureInRange-right, PictureInRange-part}
 use Rattle.scm_document.specs.declared.section_view.SectionView.{SectionView}
-use Rattle.scm_document.specs.Rows.{DocRow, DotsRow, BlankRow, HeaderRow, ShownSection, ShownFile, file_rows, section_id, is_first, is_open, is_first_open, is_section_visible, are_all_shown, lines_above, has_dots, first_below, rows_below, shown_lines, context_rows, lines_height, section_height, changed_rows, numbered_rows, rows_of, section_rows, shown_of_view, shown_section, shown_sections, sections_rows}
+use Rattle.scm_rows.specs.Context.{are_all_shown, first_below, has_dots, is_first, lines_above, lines_height}
+use Rattle.scm_rows.specs.Heights.{is_section_visible}
+use Rattle.scm_document.specs.Rows.{DocRow, DotsRow, BlankRow, HeaderRow, ShownSection, ShownFile, file_rows, section_id, is_open, is_first_open, rows_below, shown_lines, context_rows, section_height, changed_rows, numbered_rows, rows_of, section_rows, shown_of_view, shown_section, shown_sections, sections_rows, place_of}
 use Rattle.scm_document.specs.SectionWalk.{visible_views}
 use Rattle.scm_widgets.specs.Boxes.{is_fold_open}
 use Rattle.scm_document.specs.Pictures.{row_picture, rows_picture, section_picture, sections_picture, shown_file_picture}
@@ -37,15 +39,15 @@ one_or_none false r = refl
 sum-of : (a b c d e f : ℕ) → a ≡ d → b ≡ e → c ≡ f → a + (b + c) ≡ d + (e + f)
 sum-of a b c d e f p q r = rw (p, q, r) refl
 
-lines-height : (v : SectionView) (ls : List (List ℕ)) → length (shown_lines v ls) ≡ lines_height v (length ls)
+lines-height : (v : SectionView) (ls : List (List ℕ)) → length (shown_lines v ls) ≡ lines_height (place_of v) (length ls)
 lines-height v ls =
     let n = length ls in
-    let f = first_below v n in
+    let f = first_below (place_of v) n in
     let below = numbered_rows v f (drop f ls) in
-    let dots = if has_dots v n then DotsRow _ ∷ [] else [] in
-    length-append (numbered_rows v 0 (take (lines_above v n) ls)) (rows_below v ls)
-    ∙ ap (λ k. length (numbered_rows v 0 (take (lines_above v n) ls)) + k) (length-append dots below)
-    ∙ sum-of _ _ _ _ _ _ (length-taken v (lines_above v n) ls (at_most (are_all_shown v n) (is_first v) n)) (one_or_none (has_dots v n) _) (length-numbered v f (drop f ls) ∙ length-drop f ls)
+    let dots = if has_dots (place_of v) n then DotsRow _ ∷ [] else [] in
+    length-append (numbered_rows v 0 (take (lines_above (place_of v) n) ls)) (rows_below v ls)
+    ∙ ap (λ k. length (numbered_rows v 0 (take (lines_above (place_of v) n) ls)) + k) (length-append dots below)
+    ∙ sum-of _ _ _ _ _ _ (length-taken v (lines_above (place_of v) n) ls (at_most (are_all_shown (place_of v) n) (is_first (place_of v)) n)) (one_or_none (has_dots (place_of v) n) _) (length-numbered v f (drop f ls) ∙ length-drop f ls)
 
 pub length-changed : (v : SectionView) (i : ℕ) (ls : List SectionChangedLine) → length (changed_rows v i ls) ≡ length ls
 unfolding changed_rows
@@ -56,7 +58,7 @@ pub height-of : (v : SectionView) (s : Section) → length (rows_of v s) ≡ sec
 unfolding context_rows
 height-of v (Unchanged ls) = go (length ls == 0)
   where
-    go : (b : Bool) → length (if b then BlankRow ∷ [] else shown_lines v ls) ≡ (if b then 1 else lines_height v (length ls))
+    go : (b : Bool) → length (if b then BlankRow ∷ [] else shown_lines v ls) ≡ (if b then 1 else lines_height (place_of v) (length ls))
     go true = refl
     go false = lines-height v ls
 height-of v (Changed ls) = go (is_fold_open v.expand_box)
@@ -101,7 +103,7 @@ section-in v s x y f r = rw (section-size v) at (rows-in (section_rows v) s x y 
 pub shown-visible : (before : Bool) (vs : List SectionView) → shown_sections before vs ≡ map shown_of_view (visible_views before vs)
 unfolding shown_sections
 shown-visible before [] = refl
-shown-visible before (v ∷ vs) = go (is_section_visible before v (is_first_open vs)) (shown-visible (is_open v) vs)
+shown-visible before (v ∷ vs) = go (is_section_visible before v.section.now (is_first_open vs)) (shown-visible (is_open v) vs)
   where
     go : (b : Bool) → shown_sections (is_open v) vs ≡ map shown_of_view (visible_views (is_open v) vs)
         → shown_section b v ++ shown_sections (is_open v) vs ≡ map shown_of_view (if b then v ∷ visible_views (is_open v) vs else visible_views (is_open v) vs)
@@ -110,7 +112,7 @@ shown-visible before (v ∷ vs) = go (is_section_visible before v (is_first_open
 
 pub visible-more : (before : Bool) (vs : List SectionView) (i : ℕ) (d : SectionView) → i < length vs
     → visible_views before (drop i vs)
-    ≡ (if is_section_visible before (get_or vs i d) (is_first_open (drop (i + 1) vs)) then get_or vs i d ∷ visible_views (is_open (get_or vs i d)) (drop (i + 1) vs)
+    ≡ (if is_section_visible before (get_or vs i d).section.now (is_first_open (drop (i + 1) vs)) then get_or vs i d ∷ visible_views (is_open (get_or vs i d)) (drop (i + 1) vs)
     else visible_views (is_open (get_or vs i d)) (drop (i + 1) vs))
 visible-more before vs i d h = rw (add-one, drop-cons vs i d h) refl
 

@@ -36,9 +36,13 @@ pub mod DocumentRows
 pub mod PieceOwners
 -- The sections of a file that have rows.
 pub mod SectionWalk
+-- The pieces of files and sections, from their rows.
+pub mod SectionPieces
 -- The pieces of files and sections, from the views that show them.
 pub mod ViewPieces
 -- The overlay rectangles of a message's button and of the headers of files.
 pub mod HeaderRects
 -- Parts of a list of files: what is left out before a part, and the rows that it lacks.
 pub mod DocumentParts
+-- Texts that are cut behind the last column in sight.
+pub mod Visible

@@ -20,7 +20,8 @@ use Rattle.scm_document.specs.declared.commit_message_view.CommitMessageView.{Co
 use Rattle.scm_document.specs.declared.commit_view.CommitView.{CommitView}
 use Rattle.scm_document.specs.Texts.{number_text, sign_text, message_text, divider_text, no_files_text}
 use Rattle.scm_widgets.specs.Boxes.{IdBox}
-use Rattle.scm_document.specs.Rows.{file_id, section_id, line_id, Heading, DocRow, HeaderRow, SectionRow, LineRow, MarkRow, ContextRow, DotsRow, BlankRow, ShownSection, ShownFile, Document, line_texts, header_heading, section_rows, shown_file, file_rows, document_of, message_height}
+use Rattle.scm_rows.specs.Heights.{message_height}
+use Rattle.scm_document.specs.Rows.{file_id, section_id, line_id, Heading, DocRow, HeaderRow, SectionRow, LineRow, MarkRow, ContextRow, DotsRow, BlankRow, ShownSection, ShownFile, Document, line_texts, header_heading, section_rows, shown_file, file_rows, document_of}
 use Rattle.scm_widgets.specs.Pictures.{IdPicture, to_end, rest_of_row, blank_rest, whole_row, button_picture, box_part, fold_column, highlight}
 
 -- how many columns there are from column x to the fold box

@@ -4,7 +4,8 @@ use Rattle.scm_types.specs.declared.keys.SectionKey.{SectionKey}
 use Rattle.scm_types.specs.declared.keys.SelectionKey.{SelectionKey}
 use Rattle.scm_document.specs.declared.row_place.RowPlace.{RowPlace}
 use Rattle.scm_document.specs.declared.row_place.RowPlace.TheVariants as part
-use Rattle.scm_document.specs.Rows.{ShownSection, ShownFile, Document, message_height}
+use Rattle.scm_rows.specs.Heights.{message_height}
+use Rattle.scm_document.specs.Rows.{ShownSection, ShownFile, Document}
 use Rattle.scm_document.specs.Places.{Place, places}
 use Rattle.scm_document.specs.DocumentRows.{rows_of_key}
 

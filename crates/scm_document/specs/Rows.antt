@@ -1,5 +1,5 @@
 -- The rows of the document: what each row of a section, of a file and of a commit shows.
-use Rattle.std.specs.Prelude.{ℕ, suc, ◌+◌, ◌-◌, ◌^◌, min, ◌==◌, nat_le, nat_lt, List, [], ◌∷◌, ◌++◌, length, take, drop, map, Bool, true, false, not, ◌&&◌, ◌||◌, if◌then◌else◌, Option, Some, None, option_map}
+use Rattle.std.specs.Prelude.{ℕ, suc, ◌+◌, ◌-◌, ◌^◌, min, ◌==◌, List, [], ◌∷◌, ◌++◌, length, take, drop, map, Bool, true, false, if◌then◌else◌, Option, Some, None, option_map}
 use denote.Ref.{Bor}
 use Rattle.scm_types.specs.declared.line.SectionChangedLine.{SectionChangedLine}
 use Rattle.scm_types.specs.declared.section.Section.{Section}
@@ -7,7 +7,6 @@ use Rattle.scm_types.specs.declared.section.Section.TheVariants.{Unchanged, Chan
 use Rattle.scm_types.specs.declared.tristate.Tristate.{Tristate}
 use Rattle.scm_types.specs.declared.tristate.Tristate.TheVariants as tristate
 use Rattle.scm_types.specs.Keys.{line_key_of}
-use Rattle.scm_types.specs.Marks.{is_editable_section}
 use Rattle.scm_cells.specs.Replaced.{line_pieces}
 use Rattle.scm_types.specs.declared.keys.FileKey.{FileKey}
 use Rattle.scm_types.specs.declared.keys.SectionKey.{SectionKey}
@@ -27,6 +26,9 @@ use Rattle.scm_document.specs.declared.section_line_view.SectionLineViewInner.{S
 use Rattle.scm_document.specs.declared.section_line_view.SectionLineViewInner.TheVariants as inner
 use Rattle.scm_document.specs.declared.file_view.FileView.{FileView}
 use Rattle.scm_document.specs.declared.commit_view.CommitView.{CommitView}
+use Rattle.scm_rows.specs.declared.section_place.SectionPlace.{SectionPlace}
+use Rattle.scm_rows.specs.Context.{first_below, has_dots, lines_above, place}
+use Rattle.scm_rows.specs.Heights.{height_of, is_section_open, is_section_visible}
 use Rattle.scm_document.specs.Texts.{path_text, section_text, mode_change_text, binary_text, number_text, sign_text, dots_text}
 use Rattle.scm_widgets.specs.Boxes.{IdBox, is_fold_open}
 
@@ -161,39 +163,19 @@ view_row w = inner_row w.line_key w.inner
     inner_row k (inner.Unchanged l number) = ContextRow k (line_texts (number_text number) l.now)
     inner_row k (inner.Changed b change l) = LineRow k b (line_texts (sign_text change) l.now)
 
--- whether v is the first section of its file
-abbrev pub is_first : SectionView → Bool
-is_first v = v.section_key.section_idx == 0
-
--- whether v is the last section of its file
-abbrev pub is_last : SectionView → Bool
-is_last v = v.section_key.section_idx + 1 == v.total_num_sections
-
--- whether all of n lines of context are shown: at most 6, between two sections
-abbrev pub are_all_shown : SectionView → ℕ → Bool
-are_all_shown v n = not (is_first v) && (not (is_last v) && nat_le n 6)
-
--- how many of n lines of context are shown above the dots: at most 3, unless all are shown
-abbrev pub lines_above : SectionView → ℕ → ℕ
-lines_above v n = if are_all_shown v n then n else if is_first v then 0 else min n 3
-
--- whether n lines of context have a row of dots
-abbrev pub has_dots : SectionView → ℕ → Bool
-has_dots v n = not (are_all_shown v n) && nat_lt 3 n
-
--- the index of the first line shown below the dots, of which at most 3 are; n if there is none
-abbrev pub first_below : SectionView → ℕ → ℕ
-first_below v n = if are_all_shown v n then n else if is_last v then n else n - 3
+-- the place of section v among the sections of its file
+abbrev pub place_of : SectionView → SectionPlace
+place_of v = place v.total_num_sections v.section_key.section_idx
 
 -- the row of dots, if there is one, and the rows below it
 abbrev pub rows_below : SectionView → List (List ℕ) → List DocRow
 rows_below v lines =
-    (if has_dots v (length lines) then DotsRow (dots_text v.use_unicode) ∷ [] else [])
-    ++ numbered_rows v (first_below v (length lines)) (drop (first_below v (length lines)) lines)
+    (if has_dots (place_of v) (length lines) then DotsRow (dots_text v.use_unicode) ∷ [] else [])
+    ++ numbered_rows v (first_below (place_of v) (length lines)) (drop (first_below (place_of v) (length lines)) lines)
 
 -- the rows of lines of context: those above the dots, the dots, and those below them
 abbrev pub shown_lines : SectionView → List (List ℕ) → List DocRow
-shown_lines v lines = numbered_rows v 0 (take (lines_above v (length lines)) lines) ++ rows_below v lines
+shown_lines v lines = numbered_rows v 0 (take (lines_above (place_of v) (length lines)) lines) ++ rows_below v lines
 
 -- the rows of a section of context; one blank row if it has no lines
 unfoldable pub context_rows : SectionView → List (List ℕ) → List DocRow
@@ -215,28 +197,9 @@ rows_of v (Changed lines) =
 rows_of v (FileMode checked mode) = MarkRow (is_selected v) (section_box v checked) (mode_change_text mode) ∷ []
 rows_of v (Binary checked old new) = MarkRow (is_selected v) (section_box v checked) (binary_text old new) ∷ []
 
--- how many rows the dots have: 0 or 1
-abbrev pub dots_height : SectionView → ℕ → ℕ
-dots_height v n = if has_dots v n then 1 else 0
-
--- how many rows n lines of context have, if there are any
-abbrev pub lines_height : SectionView → ℕ → ℕ
-lines_height v n = lines_above v n + (dots_height v n + (n - first_below v n))
-
--- how many rows a section of n lines of context has
-abbrev pub context_height : SectionView → ℕ → ℕ
-context_height v n = if n == 0 then 1 else lines_height v n
-
--- how many rows a section of n changed lines has, with its header
-abbrev pub changed_height : SectionView → ℕ → ℕ
-changed_height v n = if is_fold_open v.expand_box then 1 + n else 1
-
 -- how many rows view v shows of a section
 abbrev pub section_height : SectionView → Section → ℕ
-section_height v (Unchanged lines) = context_height v (length lines)
-section_height v (Changed lines) = changed_height v (length lines)
-section_height v (FileMode checked mode) = 1
-section_height v (Binary checked old new) = 1
+section_height v section = height_of (place_of v) (is_fold_open v.expand_box) section
 
 -- the rows of section v
 unfoldable pub section_rows : SectionView → List DocRow
@@ -262,16 +225,12 @@ pub record ShownFile : Type 0 where
 
 -- whether section v is editable and unfolded
 abbrev pub is_open : SectionView → Bool
-is_open v = is_editable_section v.section.now && is_fold_open v.expand_box
+is_open v = is_section_open (is_fold_open v.expand_box) v.section.now
 
 -- whether there is a first section and it is open
 abbrev pub is_first_open : List SectionView → Bool
 is_first_open [] = false
 is_first_open (v ∷ vs) = is_open v
-
--- whether section v has rows: it is editable, or the section before or after it is open
-abbrev pub is_section_visible : Bool → SectionView → Bool → Bool
-is_section_visible before v after = is_editable_section v.section.now || (before || after)
 
 -- what section v shows
 abbrev pub shown_of_view : SectionView → ShownSection
@@ -284,7 +243,7 @@ shown_section shown v = if shown then shown_of_view v ∷ [] else []
 -- the sections that have rows; `before` says whether the section above the first is open
 unfoldable pub shown_sections : Bool → List SectionView → List ShownSection
 shown_sections before [] = []
-shown_sections before (v ∷ vs) = shown_section (is_section_visible before v (is_first_open vs)) v ++ shown_sections (is_open v) vs
+shown_sections before (v ∷ vs) = shown_section (is_section_visible before v.section.now (is_first_open vs)) v ++ shown_sections (is_open v) vs
 
 -- the text of an optional reference
 abbrev pub lent_text : Option (Bor (List ℕ)) → Option (List ℕ)
@@ -312,11 +271,6 @@ unfoldable pub file_rows : ShownFile → List DocRow
 file_rows f = HeaderRow f.key f.heading ∷ sections_rows f.sections
 
 -- ---- the rows of a commit
-
--- how many rows a message has: 3, or 0 if there is none
-abbrev pub message_height : Option (List ℕ) → ℕ
-message_height None = 0
-message_height (Some message) = 3
 
 -- what is shown of a commit
 pub record Document : Type 0 where

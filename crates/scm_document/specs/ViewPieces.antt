@@ -1,48 +1,19 @@
 -- The pieces of files and sections, from the views that show them.
-use Rattle.std.specs.Prelude.{ℕ, ◌+◌, ◌==◌, nat_lt, List, [], ◌∷◌, ◌++◌, length, Bool, false, not, ◌&&◌, ◌||◌, if◌then◌else◌}
-use Rattle.scm_types.specs.declared.section.Section.{Section}
-use Rattle.scm_types.specs.declared.section.Section.TheVariants as sections
+use Rattle.std.specs.Prelude.{ℕ, ◌+◌, List, [], ◌∷◌, ◌++◌, false, if◌then◌else◌}
 use Rattle.scm_document.specs.declared.section_view.SectionView.{SectionView}
 use Rattle.scm_document.specs.declared.file_view.FileView.{FileView}
 use Rattle.scm_document.specs.declared.index_pieces.FilePiece.{FilePiece}
 use Rattle.scm_document.specs.declared.index_pieces.SectionPiece.{SectionPiece}
-use Rattle.scm_document.specs.declared.index_pieces.RowKinds.{RowKinds}
-use Rattle.scm_document.specs.declared.index_pieces.RowKinds.TheVariants as kinds
-use Rattle.scm_document.specs.Rows.{is_selected, lines_above, first_below, dots_height, section_height}
+use Rattle.scm_rows.specs.Heights.{shape_of}
+use Rattle.scm_document.specs.Rows.{is_selected, section_height}
+use Rattle.scm_document.specs.SectionPieces.{file_piece, section_piece}
 use Rattle.scm_document.specs.SectionWalk.{visible_views}
 use Rattle.scm_widgets.specs.Boxes.{is_fold_open}
 
--- the row kinds of a section of n lines of context
-abbrev pub context_kinds : SectionView → ℕ → RowKinds
-context_kinds v n = if n == 0 then kinds.Context 0 1 0 else kinds.Context (lines_above v n) (lines_above v n + dots_height v n) n
-
--- whether any of n lines of context is shown
-abbrev pub has_context_row : SectionView → ℕ → Bool
-has_context_row v n = not (n == 0) && (nat_lt 0 (lines_above v n) || nat_lt (first_below v n) n)
-
--- the row kinds of a section
-abbrev pub kinds_of : SectionView → Section → RowKinds
-kinds_of v (sections.Unchanged lines) = context_kinds v (length lines)
-kinds_of v (sections.Changed lines) = kinds.Changed
-kinds_of v (sections.FileMode checked mode) = kinds.Mark
-kinds_of v (sections.Binary checked old new) = kinds.Mark
-
--- whether a section owns columns 0 and 1 of its rows
-abbrev pub is_wide_of : SectionView → Section → Bool
-is_wide_of v (sections.Unchanged lines) = has_context_row v (length lines)
-is_wide_of v (sections.Changed lines) = is_selected v || (is_fold_open v.expand_box && nat_lt 0 (length lines))
-is_wide_of v (sections.FileMode checked mode) = is_selected v
-is_wide_of v (sections.Binary checked old new) = is_selected v
-
 -- the piece of section v, if its first row is `top`
 abbrev pub section_piece_of : SectionView → ℕ → SectionPiece
-section_piece_of v top = record {
-  key = v.section_key;
-  top = top;
-  end = top + section_height v v.section.now;
-  is_wide = is_wide_of v v.section.now;
-  kinds = kinds_of v v.section.now;
-}
+section_piece_of v top =
+    section_piece (is_selected v) v.total_num_sections v.section_key top (top + section_height v v.section.now) (shape_of v.section.now)
 
 -- how many rows sections have
 abbrev pub sections_height : List SectionView → ℕ
@@ -64,12 +35,7 @@ sections_in_file top v = if is_fold_open v.expand_box then section_piece_list (t
 
 -- the piece of file v, if its first row is `top` and a header may be pinned to row m
 abbrev pub file_piece_of : ℕ → ℕ → FileView → FilePiece
-file_piece_of m top v = record {
-  key = v.file_key;
-  top = top;
-  end = top + file_height v;
-  is_pinned = nat_lt top m && nat_lt m (top + file_height v);
-}
+file_piece_of m top v = file_piece m v.file_key top (top + file_height v)
 
 -- how many rows files have
 abbrev pub files_height : List FileView → ℕ

@@ -3,7 +3,7 @@ ghost use Rattle.std.specs.Prelude.{◌≡◌, ◌++◌, is_some, Some, OnOk};
 ghost use Rattle.scm_document.specs.Counts.{message_counts};
 ghost use Rattle.scm_document.specs.DocumentCalls.{beside_button_call, button_row_call, message_call};
 ghost use Rattle.scm_document.specs.Pictures.{edit_button};
-ghost use Rattle.scm_document.specs.Rows.{message_height};
+ghost use Rattle.scm_rows.specs.Heights.{message_height};
 ghost use Rattle.scm_document.specs.HeaderRects.{message_rects};
 ghost use Rattle.scm_document.specs.Texts.{divider_text, message_text};
 ghost use Rattle.scm_render.specs.Draws.{CanDraw, HasDrawn};
@@ -11,6 +11,7 @@ ghost use Rattle.scm_render.specs.Draws.{CanDraw, HasDrawn};
 use crate::texts::{divider_text, message_text};
 use scm_cells::Span;
 use scm_render::{Component, Viewport};
+use scm_rows::message_rows::message_height;
 use scm_types::{Commit, RecordError, Text};
 use scm_widgets::button::Button;
 use scm_widgets::clipped_drawing::{begin_row, show_blank_rest, show_button, show_span, show_text};
@@ -119,10 +120,7 @@ impl<'a> CommitMessageView<'a> {
     pub fn height(&self) -> usize
         ensures { result ≡ message_height self.now.commit.now.message }
     {
-        match self.commit.message {
-            None => 0,
-            Some(_) => 3,
-        }
+        message_height(self.commit)
     }
 }
 

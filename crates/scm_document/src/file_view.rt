@@ -13,6 +13,7 @@ ghost use Rattle.scm_document.specs.declared.index_pieces.Piece.TheVariants.{Sec
 
 use crate::file_view_header::FileViewHeader;
 use crate::index_pieces::{FilePiece, Piece};
+use crate::section_pieces::file_piece;
 use crate::section_view::SectionView;
 use crate::section_walk::SectionWalk;
 use scm_render::{Component, Viewport};
@@ -114,13 +115,7 @@ impl<'a> FileView<'a> {
         ensures { result ≡ file_piece_of pinned top self.now }
     {
         let end = top + self.height();
-        // `&`: one branch for the prover
-        FilePiece {
-            key: self.file_key,
-            top,
-            end,
-            is_pinned: (top < pinned) & (pinned < end),
-        }
+        file_piece(pinned, self.file_key, top, end)
     }
 
     /// Adds the pieces of the file and its sections, and returns the row below the file. The file

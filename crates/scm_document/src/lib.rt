@@ -20,6 +20,7 @@ pub mod key_rows;
 mod no_files;
 pub mod row_place;
 mod section_line_view;
+pub mod section_pieces;
 mod section_rows;
 mod section_view;
 mod section_walk;

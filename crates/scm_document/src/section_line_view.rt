@@ -1,18 +1,21 @@
 //! The view of a line of a section.
-ghost use Rattle.std.specs.Prelude.{◌≡◌, ◌+◌};
+ghost use Rattle.std.specs.Prelude.{◌≡◌, ◌+◌, OnOk, IfErr};
 ghost use Rattle.scm_render.specs.Picture.{PictureInRange};
 ghost use Rattle.scm_render.specs.Canvas.{with_picture};
 ghost use Rattle.scm_render.specs.Drawing.{texts_width};
 ghost use Rattle.scm_cells.specs.Replaced.{line_pieces};
+ghost use Rattle.scm_cells.specs.Spans.{span_texts};
 ghost use Rattle.scm_widgets.specs.Covers.{texts_cover};
 ghost use Rattle.scm_document.specs.DocumentCalls.{line_texts_call, context_line_call, changed_line_call};
 ghost use Rattle.scm_document.specs.Rows.{line_texts};
 ghost use Rattle.scm_document.specs.Texts.{number_text, sign_text};
+ghost use Rattle.scm_document.specs.Visible.{AddsVisible};
+ghost use Rattle.scm_errors.specs.declared.error.RecordError.TheVariants.{OutOfMemory};
 ghost use Rattle.scm_render.specs.Draws.{CanDraw, HasDrawn};
 
 use crate::texts::{number_text, sign_text};
 use crate::widths::{number_width, pieces_width};
-use scm_cells::{Span, push_spans_from_line, text_width};
+use scm_cells::{Span, gap, push_first_spans, push_spans_from_line, text_width};
 use scm_render::{Component, Viewport};
 use scm_types::{ChangeType, LineKey, RecordError, SelectionKey};
 use scm_widgets::clipped_drawing::{begin_row, cover_texts, is_on_screen, show_box, show_text};
@@ -64,6 +67,26 @@ fn cover_line(viewport: &mut Viewport<ComponentId>, x: isize, y: isize, front: u
     cover_texts(viewport, x, y, front + pieces_width(line));
 }
 
+/// Adds the spans of `line` to `spans`. If `viewport` keeps no boxes, adds only those that show
+/// from column `x` to the end of its mask. They still exceed the mask if all of them do.
+fn push_visible_spans<'a>(
+    viewport: &Viewport<ComponentId>,
+    x: isize,
+    line: &'a str,
+    spans: &mut Vec<Span<'a>>,
+) -> Result<(), RecordError>
+    ensures ok { OnOk result (AddsVisible viewport.now.canvas x
+        (span_texts spans.old.items) (span_texts spans.new.items) (line_pieces line.now)) }
+    ensures err { IfErr result (λ e. e ≡ OutOfMemory) }
+{
+    if viewport.keeps_boxes() {
+        push_spans_from_line(line, spans)
+    } else {
+        let end = viewport.mask_rect().end_x();
+        push_first_spans(line, gap(x, end), spans)
+    }
+}
+
 /// Draws `front`, a line's number or sign, and the text of `line` as a screen can show it.
 fn draw_line_texts(
     alloc: Global,
@@ -80,7 +103,7 @@ fn draw_line_texts(
     if is_on_screen(viewport, y) {
         let mut spans = Vec::new(alloc);
         spans.push(Span(front))?;
-        push_spans_from_line(line, &mut spans)?;
+        push_visible_spans(viewport, x, line, &mut spans)?;
         show_text(viewport, x, y, spans.as_slice())?;
         Ok(())
     } else {

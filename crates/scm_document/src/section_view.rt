@@ -316,9 +316,10 @@ impl<'a> SectionView<'a> {
         ensures { HasDrawn viewport.old viewport.new result
             (rows_call (rows_below self.now lines.now) x y) }
     {
-        let first = self.first_below(lines.len());
+        let place = self.place();
+        let first = place.first_below(lines.len());
         let below = Lines::Context(&lines[first..]);
-        if self.has_dots(lines.len()) {
+        if place.has_dots(lines.len()) {
             self.draw_dots(viewport, x, y)?;
             self.draw_lines(viewport, x, y + 1, first, below)
         } else {
@@ -338,7 +339,8 @@ impl<'a> SectionView<'a> {
         ensures { HasDrawn viewport.old viewport.new result
             (rows_call (shown_lines self.now lines.now) x y) }
     {
-        let above = self.lines_above(lines.len());
+        let place = self.place();
+        let above = place.lines_above(lines.len());
         self.draw_lines(viewport, x, y, 0, Lines::Context(&lines[..above]))?;
         self.draw_below(viewport, x, y.strict_add_unsigned(above), lines)
     }

@@ -1,10 +1,11 @@
 //! The walk over the sections of a file that have rows. Drawing, measuring and indexing take it.
 ghost use Rattle.std.specs.Prelude.{◌≡◌, [], drop, false, MatchOption};
 ghost use Rattle.std.specs.Iterator.{YieldsFirstRef};
-ghost use Rattle.scm_document.specs.Rows.{is_first_open, is_section_visible};
+ghost use Rattle.scm_document.specs.Rows.{is_first_open};
 ghost use Rattle.scm_document.specs.SectionWalk.{IsFirstVisible, sections_left, visible_views};
 
 use crate::section_view::SectionView;
+use scm_rows::section_heights::is_section_visible;
 
 /// Returns whether there is a section at `index` and it is open.
 fn is_open_at(views: &[SectionView<'_>], index: usize) -> bool
@@ -14,15 +15,6 @@ fn is_open_at(views: &[SectionView<'_>], index: usize) -> bool
         Some(view) => view.is_open(),
         None => false,
     }
-}
-
-/// Returns whether `view` has rows: it is editable, or the section before or after it is open.
-fn is_section_visible(before: bool, view: &SectionView<'_>, after: bool) -> bool
-    ensures { result ≡ is_section_visible before view.now after }
-{
-    // `|`: one branch for the prover
-    let is_editable = view.section.is_editable();
-    is_editable | (before | after)
 }
 
 /// Returns the index of the first section that has rows, and its view. `before` says whether the
@@ -36,7 +28,7 @@ fn first_visible<'v, 'a>(
 {
     let mut is_above_open = before;
     for (index, view) in views.iter().enumerate() {
-        if is_section_visible(is_above_open, view, is_open_at(views, index + 1)) {
+        if is_section_visible(is_above_open, view.section, is_open_at(views, index + 1)) {
             return Some((index, view));
         }
         is_above_open = view.is_open();

@@ -5,8 +5,10 @@ use Rattle.scm_types.specs.declared.keys.FileKey.{FileKey}
 use Rattle.scm_types.specs.declared.keys.SelectionKey.{SelectionKey}
 use Rattle.scm_types.specs.declared.section.Section.{Section}
 use Rattle.scm_types.specs.Marks.{is_editable_section}
-use Rattle.scm_layout.specs.Lines.{is_changed}
-use Rattle.scm_layout.specs.Rows.{fold_count, folded_count, height_of, is_expanded, is_first_open, is_open, rows_at, sections_height, sections_rows, shape_of, visible_height}
+use Rattle.scm_rows.specs.Lines.{is_changed}
+use Rattle.scm_rows.specs.Context.{place}
+use Rattle.scm_rows.specs.Heights.{height_of, shape_of}
+use Rattle.scm_layout.specs.Rows.{fold_count, folded_count, is_expanded, is_first_open, is_open, rows_at, sections_height, sections_rows, visible_height}
 use Rattle.scm_layout.specs.Refolds.{folded_after, is_open_above, last_end}
 
 -- the last row of sections ends where they do
@@ -32,8 +34,8 @@ module _ (ks ls : List SelectionKey) (k : FileKey) where
 
   visible-agree : (total i : ℕ) (before : Bool) (s : Section) (after after' : Bool) → is_expanded ks k i ≡ is_expanded ls k i → after ≡ after' → visible_height ks k total i before s after ≡ visible_height ls k total i before s after'
   visible-agree total i before s after after' h e =
-      ap (λ b. if is_editable_section s || (before || b) then height_of total i (is_expanded ks k i) s else 0) e
-      ∙ ap (λ b. if is_editable_section s || (before || after') then height_of total i b s else 0) h
+      ap (λ b. if is_editable_section s || (before || b) then height_of (place total i) (is_expanded ks k i) s else 0) e
+      ∙ ap (λ b. if is_editable_section s || (before || after') then height_of (place total i) b s else 0) h
 
   -- sections, the first of which has the same rows
   module _ (total i : ℕ) (before : Bool) (s : Section) (ss : List Section) (here : is_expanded ks k i ≡ is_expanded ls k i) (next : 0 < length ss → is_expanded ks k (suc i) ≡ is_expanded ls k (suc i)) where

@@ -16,7 +16,7 @@ use Rattle.scm_types.proofs.EditLemmas.{map-modify-same}
 use Rattle.std.proofs.lemmas.List.{length-map}
 use Rattle.std.proofs.lemmas.List.Sums.{sum_by-cons}
 use Rattle.scm_selection.specs.Toggle.{mark_after, with_changed_set, after_lines, after_mode, after_section, with_file_toggled, with_section_set, with_this_section_toggled, with_section_toggled, with_line_inverted, line_mark, with_this_line_toggled, with_line_toggled, with_key_toggled, with_all_inverted, with_all_set}
-use Rattle.scm_layout.specs.Lines.{is_removed, old_lines}
+use Rattle.scm_rows.specs.Lines.{is_removed, old_lines}
 use Rattle.scm_layout.specs.Counts.{is_mode, items_in}
 
 -- what a change leaves as it was under a view

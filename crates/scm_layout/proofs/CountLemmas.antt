@@ -16,7 +16,7 @@ use Rattle.scm_types.specs.Mode.{is_absent}
 use Rattle.scm_types.specs.Repair.{with_deletion_unchecked, with_mode_checked}
 use Rattle.scm_types.proofs.EditLemmas.{map-modify-same}
 use Rattle.scm_selection.specs.Toggle.{after_lines, line_mark, with_line_inverted, with_line_toggled}
-use Rattle.scm_layout.specs.Lines.{is_removed, old_lines}
+use Rattle.scm_rows.specs.Lines.{is_removed, old_lines}
 use Rattle.scm_layout.specs.declared.section_counts.SectionCounts.{SectionCounts}
 use Rattle.scm_layout.specs.declared.file_counts.FileCounts.{FileCounts}
 use Rattle.scm_layout.specs.Counts.{checked_in, editable_after, file_counts, items_in, modes_in, section_counts, sections_counts}

@@ -15,8 +15,8 @@ use Rattle.scm_layout.specs.declared.file_counts.FileCounts.{FileCounts}
 use Rattle.scm_layout.specs.declared.file_rows.FileRows.{FileRows}
 use Rattle.scm_layout.specs.declared.section_counts.SectionCounts.{SectionCounts}
 use Rattle.scm_layout.specs.declared.section_rows.SectionRows.{SectionRows}
-use Rattle.scm_layout.specs.declared.section_rows.SectionShape.{SectionShape}
-use Rattle.scm_layout.specs.declared.section_rows.SectionShape.TheVariants as shapes
+use Rattle.scm_rows.specs.declared.section_shape.SectionShape.{SectionShape}
+use Rattle.scm_rows.specs.declared.section_shape.SectionShape.TheVariants as shapes
 use Rattle.scm_layout.specs.Counts.{file_counts, sections_counts}
 use Rattle.scm_layout.specs.Rows.{each_file_rows, file_rows, folded_count, sections_height, sections_rows, stacked}
 

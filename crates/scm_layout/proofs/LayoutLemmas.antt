@@ -12,7 +12,8 @@ use Rattle.scm_layout.specs.declared.state_counts.StateCounts.{StateCounts}
 use Rattle.scm_layout.specs.declared.state_rows.StateRows.{StateRows}
 use Rattle.scm_layout.specs.declared.state_layout.Layout.{Layout}
 use Rattle.scm_layout.specs.Counts.{counts_of}
-use Rattle.scm_layout.specs.Layouts.{files_top, layout_of, message_height, IsLayoutBut, IsLayoutButCommits}
+use Rattle.scm_rows.specs.Heights.{message_height}
+use Rattle.scm_layout.specs.Layouts.{files_top, layout_of, IsLayoutBut, IsLayoutButCommits}
 use Rattle.scm_layout.specs.Refolds.{AreFilesButKey, AreRowsOfFiles, total_height}
 use Rattle.scm_layout.specs.Rows.{each_file_rows, restacked, rows_of, stacked}
 use Rattle.scm_layout.proofs.FoldLemmas.{again-agrees, each-agree, other-added, other-flipped, other-removed, same-agree, stacked-again, total-stacked}

@@ -13,18 +13,20 @@ use Rattle.scm_types.specs.declared.state.RecordState.{RecordState}
 use Rattle.scm_types.specs.Keys.{has_key}
 use Rattle.scm_types.specs.Limits.{file_size, state_size}
 use Rattle.scm_types.specs.Marks.{is_editable_section, line_with_mark}
-use Rattle.scm_layout.specs.Lines.{is_changed}
+use Rattle.scm_rows.specs.Lines.{is_changed}
 use Rattle.scm_layout.specs.declared.file_rows.FileRows.{FileRows}
 use Rattle.scm_layout.specs.declared.section_rows.SectionRows.{SectionRows}
 use Rattle.scm_layout.specs.declared.state_counts.StateCounts.{StateCounts}
 use Rattle.scm_layout.specs.declared.state_layout.Layout.{Layout}
 use Rattle.scm_layout.specs.Counts.{counts_of}
 use Rattle.scm_layout.specs.Layouts.{files_top, layout_of}
-use Rattle.scm_layout.specs.Rows.{each_file_rows, file_height, file_key_of, file_rows, fold_count, folded_count, height_of, is_expanded, is_first_open, is_open, rows_at, sections_height, sections_rows, shape_of, stacked, visible_height}
+use Rattle.scm_rows.specs.Context.{place}
+use Rattle.scm_rows.specs.Heights.{height_of, shape_of}
+use Rattle.scm_layout.specs.Rows.{each_file_rows, file_height, file_key_of, file_rows, fold_count, folded_count, is_expanded, is_first_open, is_open, rows_at, sections_height, sections_rows, stacked, visible_height}
 use Rattle.scm_layout.proofs.BareLemmas.{bare, bare_file, bare_section, editable-same}
 use Rattle.scm_layout.proofs.CountLemmas.{file_length-same, file_size-same, head-same, none-same, sections-same, tail-same}
 
-height-bare : (total i : ℕ) (b : Bool) (s : Section) → height_of total i b (bare_section s) ≡ height_of total i b s
+height-bare : (total i : ℕ) (b : Bool) (s : Section) → height_of (place total i) b (bare_section s) ≡ height_of (place total i) b s
 height-bare total i b (Unchanged lines) = refl
 height-bare total i b (Changed lines) = ap (λ n. if b then 1 + n else 1) (length-map lines (line_with_mark (λ _. false)))
 height-bare total i b (FileMode is_checked mode) = refl
@@ -55,14 +57,14 @@ module _ (ks : List SelectionKey) (k : FileKey) where
   first_open-same i (s ∷ ss) [] e = none-same bare_section s ss (sym e)
   first_open-same i (s ∷ ss) (t ∷ ts) e = open-same i s t (head-same bare_section s t ss ts e)
 
-  height-same : (total i : ℕ) (b : Bool) (s t : Section) → bare_section s ≡ bare_section t → height_of total i b s ≡ height_of total i b t
-  height-same total i b s t e = sym (height-bare total i b s) ∙ ap (λ u. height_of total i b u) e ∙ height-bare total i b t
+  height-same : (total i : ℕ) (b : Bool) (s t : Section) → bare_section s ≡ bare_section t → height_of (place total i) b s ≡ height_of (place total i) b t
+  height-same total i b s t e = sym (height-bare total i b s) ∙ ap (λ u. height_of (place total i) b u) e ∙ height-bare total i b t
 
   visible-same : (total i : ℕ) (before : Bool) (s t : Section) (after after' : Bool) → bare_section s ≡ bare_section t → after ≡ after'
       → visible_height ks k total i before s after ≡ visible_height ks k total i before t after'
   visible-same total i before s t after after' e f =
-      ap (λ b. if b || (before || after) then height_of total i (is_expanded ks k i) s else 0) (editable-same s t e)
-      ∙ ap (λ b. if is_editable_section t || (before || b) then height_of total i (is_expanded ks k i) s else 0) f
+      ap (λ b. if b || (before || after) then height_of (place total i) (is_expanded ks k i) s else 0) (editable-same s t e)
+      ∙ ap (λ b. if is_editable_section t || (before || b) then height_of (place total i) (is_expanded ks k i) s else 0) f
       ∙ ap (λ n. if is_editable_section t || (before || after') then n else 0) (height-same total i (is_expanded ks k i) s t e)
 
   rows-same : (total i top : ℕ) (before : Bool) (ss ts : List Section) → bare ss ≡ bare ts → sections_rows ks k total i top before ss ≡ sections_rows ks k total i top before ts

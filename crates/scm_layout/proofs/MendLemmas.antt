@@ -7,8 +7,9 @@ use Rattle.scm_types.specs.declared.keys.FileKey.{FileKey}
 use Rattle.scm_types.specs.declared.keys.SelectionKey.{SelectionKey}
 use Rattle.scm_types.specs.declared.section.Section.{Section}
 use Rattle.scm_layout.specs.declared.section_rows.SectionRows.{SectionRows}
-use Rattle.scm_layout.specs.declared.section_rows.SectionShape.{SectionShape}
-use Rattle.scm_layout.specs.Rows.{is_expanded, is_first_open, is_open, rows_at, sections_height, sections_rows, shape_of, visible_height}
+use Rattle.scm_rows.specs.declared.section_shape.SectionShape.{SectionShape}
+use Rattle.scm_rows.specs.Heights.{shape_of}
+use Rattle.scm_layout.specs.Rows.{is_expanded, is_first_open, is_open, rows_at, sections_height, sections_rows, visible_height}
 use Rattle.scm_layout.specs.Refolds.{AreWithin, height_from, is_open_above, moved_rows, rows_from}
 use Rattle.scm_layout.proofs.ZipLemmas.{cut-at}
 use Rattle.scm_layout.proofs.AgreeLemmas.{above-agree, first-heights, first-rows, rows-agree}

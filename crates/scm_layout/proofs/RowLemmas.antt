@@ -1,6 +1,6 @@
 -- The rows of sections and files: how many there are at most, and the loops that find them.
-use Rattle.std.proofs.Common.{◌≡◌, ℕ, suc, ◌+◌, ◌*◌, ◌<◌, ◌≤◌, Bool, true, false, not, ◌&&◌, ◌||◌, List, [], ◌∷◌, ◌++◌, length, take, drop, get_or, set, refl, ap, ◌∙◌, append_assoc, arith}
-use Rattle.std.specs.Prelude.{min, nat_eq, nat_lt, sum_by, if◌then◌else◌}
+use Rattle.std.proofs.Common.{◌≡◌, ℕ, suc, ◌+◌, ◌*◌, ◌<◌, ◌≤◌, Bool, true, false, ◌||◌, List, [], ◌∷◌, ◌++◌, length, take, drop, get_or, set, refl, ap, ◌∙◌, append_assoc, arith}
+use Rattle.std.specs.Prelude.{min, nat_eq, sum_by, if◌then◌else◌}
 use Rattle.std.proofs.lemmas.List.{drop_all, take_more_set}
 use Rattle.std.proofs.lemmas.List.Sums.{sum_by-cons}
 use Rattle.scm_types.specs.declared.file.File.{File}
@@ -13,7 +13,10 @@ use Rattle.scm_types.specs.Keys.{has_key}
 use Rattle.scm_types.specs.Limits.{file_size, section_size}
 use Rattle.scm_types.specs.Marks.{is_editable_section}
 use Rattle.scm_layout.proofs.ZipLemmas.{cut-at}
-use Rattle.scm_layout.specs.Rows.{are_all_shown, context_height, dots_height, file_height, fold_count, folded_count, height_of, is_expanded, is_first_open, is_open, lines_above, lines_below, rows_at, sections_height, sections_rows, shape_of, visible_height}
+use Rattle.scm_rows.specs.declared.section_place.SectionPlace.{SectionPlace}
+use Rattle.scm_rows.specs.Context.{are_all_shown, context_height, dots_height, has_dots, is_first, lines_above, lines_height, place}
+use Rattle.scm_rows.specs.Heights.{height_of, shape_of}
+use Rattle.scm_layout.specs.Rows.{file_height, fold_count, folded_count, is_expanded, is_first_open, is_open, rows_at, sections_height, sections_rows, visible_height}
 
 -- ---- how many rows there are at most
 
@@ -30,22 +33,21 @@ blank-le : (b : Bool) (n m : ℕ) → m ≤ n → 1 ≤ n → (if b then 1 else 
 blank-le true n m h k = k
 blank-le false n m h k = h
 
-context-le : (total i n : ℕ) → context_height total i n ≤ 1 + 2 * n
-context-le total i n =
-    let above : lines_above total i n ≤ n = above-le (are_all_shown total i n) (nat_eq i 0) n in
-    let dots : dots_height total i n ≤ 1 = one-le (not (are_all_shown total i n) && nat_lt 3 n) in
-    let below : lines_below total i n ≤ n = omega arith in
-    blank-le (nat_eq n 0) (1 + 2 * n) (lines_above total i n + (dots_height total i n + lines_below total i n)) (omega arith) (omega arith)
+context-le : (p : SectionPlace) (n : ℕ) → context_height p n ≤ 1 + 2 * n
+context-le p n =
+    let above : lines_above p n ≤ n = above-le (are_all_shown p n) (is_first p) n in
+    let dots : dots_height p n ≤ 1 = one-le (has_dots p n) in
+    blank-le (nat_eq n 0) (1 + 2 * n) (lines_height p n) (omega arith) (omega arith)
 
 changed-le : (b : Bool) (n : ℕ) → (if b then 1 + n else 1) ≤ 1 + 2 * n
 changed-le true n = omega arith
 changed-le false n = omega arith
 
-height-le : (total i : ℕ) (b : Bool) (s : Section) → height_of total i b s ≤ 1 + 2 * section_size s
-height-le total i b (Unchanged lines) = context-le total i (length lines)
-height-le total i b (Changed lines) = changed-le b (length lines)
-height-le total i b (FileMode is_checked mode) = omega arith
-height-le total i b (Binary is_checked old new) = omega arith
+pub height-le : (p : SectionPlace) (b : Bool) (s : Section) → height_of p b s ≤ 1 + 2 * section_size s
+height-le p b (Unchanged lines) = context-le p (length lines)
+height-le p b (Changed lines) = changed-le b (length lines)
+height-le p b (FileMode is_checked mode) = omega arith
+height-le p b (Binary is_checked old new) = omega arith
 
 none-le : (b : Bool) (n m : ℕ) → m ≤ n → (if b then m else 0) ≤ n
 none-le true n m h = h
@@ -53,7 +55,7 @@ none-le false n m h = omega arith
 
 visible-le : (ks : List SelectionKey) (k : FileKey) (total i : ℕ) (before : Bool) (s : Section) (after : Bool) → visible_height ks k total i before s after ≤ 1 + 2 * section_size s
 visible-le ks k total i before s after =
-    none-le (is_editable_section s || (before || after)) (1 + 2 * section_size s) (height_of total i (is_expanded ks k i) s) (height-le total i (is_expanded ks k i) s)
+    none-le (is_editable_section s || (before || after)) (1 + 2 * section_size s) (height_of (place total i) (is_expanded ks k i) s) (height-le (place total i) (is_expanded ks k i) s)
 
 sections-le : (ks : List SelectionKey) (k : FileKey) (total i : ℕ) (before : Bool) (ss : List Section) → sections_height ks k total i before ss ≤ length ss + 2 * sum_by section_size ss
 unfolding sections_height

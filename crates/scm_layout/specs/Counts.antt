@@ -4,7 +4,7 @@ use Rattle.scm_types.specs.declared.file.File.{File}
 use Rattle.scm_types.specs.declared.section.Section.{Section}
 use Rattle.scm_types.specs.declared.section.Section.TheVariants.{Unchanged, Changed, FileMode, Binary}
 use Rattle.scm_types.specs.Marks.{checked_count, file_marks, is_editable_section, section_marks}
-use Rattle.scm_layout.specs.Lines.{old_lines}
+use Rattle.scm_rows.specs.Lines.{old_lines}
 use Rattle.scm_layout.specs.declared.section_counts.SectionCounts.{SectionCounts}
 use Rattle.scm_layout.specs.declared.file_counts.FileCounts.{FileCounts}
 use Rattle.scm_layout.specs.declared.state_counts.StateCounts.{StateCounts}

@@ -1,17 +1,13 @@
 -- The layout of a state: its counts, and its rows where some files and sections are unfolded.
-use Rattle.std.specs.Prelude.{◌≡◌, ℕ, ◌+◌, List, [], ◌∷◌, Bool, false, Option, Some, None}
+use Rattle.std.specs.Prelude.{◌≡◌, ℕ, ◌+◌, List, [], ◌∷◌, Bool, false}
 use Rattle.scm_types.specs.declared.keys.SelectionKey.{SelectionKey}
 use Rattle.scm_types.specs.declared.state.Commit.{Commit}
 use Rattle.scm_types.specs.declared.state.RecordState.{RecordState}
 use Rattle.scm_types.specs.Keys.{has_key, is_key}
+use Rattle.scm_rows.specs.Heights.{message_height}
 use Rattle.scm_layout.specs.declared.state_layout.Layout.{Layout}
 use Rattle.scm_layout.specs.Counts.{counts_of}
 use Rattle.scm_layout.specs.Rows.{rows_of}
-
--- how many rows a message has: 3, or 0 if there is none
-abbrev pub message_height : Option (List ℕ) → ℕ
-message_height None = 0
-message_height (Some message) = 3
 
 -- the first row of the files, below the message of the first commit, which begins on row 1
 abbrev pub files_top : List Commit → ℕ

@@ -1,5 +1,3 @@
--- what the lines of a section count for
-pub mod Lines
 -- the counts of a state
 pub mod Counts
 -- what a toggle changes of them

@@ -5,9 +5,9 @@ use Rattle.scm_types.specs.declared.keys.FileKey.{FileKey}
 use Rattle.scm_types.specs.declared.keys.SelectionKey.{SelectionKey}
 use Rattle.scm_types.specs.declared.keys.SelectionKey.TheVariants as keys
 use Rattle.scm_types.specs.declared.section.Section.{Section}
-use Rattle.scm_types.specs.Keys.{file_of, has_key, is_key}
+use Rattle.scm_types.specs.Keys.{file_of, file_of_section, has_key, is_key}
 use Rattle.scm_types.specs.Limits.{file_size, max_items}
-use Rattle.scm_layout.specs.Lines.{is_changed}
+use Rattle.scm_rows.specs.Lines.{is_changed}
 use Rattle.scm_layout.specs.declared.section_rows.SectionRows.{SectionRows}
 use Rattle.scm_layout.specs.declared.file_rows.FileRows.{FileRows}
 use Rattle.scm_layout.specs.Rows.{each_file_rows, folded_count, is_expanded, is_first_open, sections_height, sections_rows, stacked}
@@ -70,11 +70,15 @@ pub record AreRowsButKey (r : FileRows) (set : List SelectionKey) (k : FileKey) 
   pub within : file_of key ≡ keys.File k
   pub fits : file_size f ≤ max_items
 
+-- the index of file k, if it is of this commit
+abbrev pub index_in : ℕ → FileKey → Option ℕ
+index_in commit k = if k.commit_idx == commit then Some k.file_idx else None
+
 -- the index of the file of a commit whose rows the fold of a key changes: that of a file or of a section
 abbrev pub file_index : ℕ → SelectionKey → Option ℕ
 file_index commit keys.None = None
-file_index commit (keys.File key) = if key.commit_idx == commit then Some key.file_idx else None
-file_index commit (keys.Section key) = if key.commit_idx == commit then Some key.file_idx else None
+file_index commit (keys.File key) = index_in commit key
+file_index commit (keys.Section key) = index_in commit (file_of_section key)
 file_index commit (keys.Line key) = None
 
 -- ---- the rows of files

@@ -1,49 +1,18 @@
 -- The rows of the files and sections of a state, from the keys that are unfolded. Indexes count from 0.
-use Rattle.std.specs.Prelude.{ℕ, suc, ◌+◌, ◌-◌, ◌==◌, min, nat_le, nat_lt, List, [], ◌∷◌, length, Bool, false, not, ◌&&◌, ◌||◌, if◌then◌else◌}
+use Rattle.std.specs.Prelude.{ℕ, suc, ◌+◌, ◌-◌, List, [], ◌∷◌, length, Bool, false, not, ◌&&◌, if◌then◌else◌}
 use Rattle.scm_types.specs.declared.file.File.{File}
 use Rattle.scm_types.specs.declared.keys.FileKey.{FileKey}
 use Rattle.scm_types.specs.declared.keys.SelectionKey.{SelectionKey}
 use Rattle.scm_types.specs.declared.keys.SelectionKey.TheVariants as keys
 use Rattle.scm_types.specs.declared.section.Section.{Section}
-use Rattle.scm_types.specs.declared.section.Section.TheVariants.{Unchanged, Changed, FileMode, Binary}
 use Rattle.scm_types.specs.Keys.{has_key, section_key_of}
-use Rattle.scm_types.specs.Marks.{is_editable_section}
-use Rattle.scm_layout.specs.Lines.{is_changed}
+use Rattle.scm_rows.specs.declared.section_shape.SectionShape.{SectionShape}
+use Rattle.scm_rows.specs.Context.{place}
+use Rattle.scm_rows.specs.Heights.{is_section_open, shape_of, shown_height}
+use Rattle.scm_rows.specs.Lines.{is_changed}
 use Rattle.scm_layout.specs.declared.section_rows.SectionRows.{SectionRows}
-use Rattle.scm_layout.specs.declared.section_rows.SectionShape.{SectionShape}
-use Rattle.scm_layout.specs.declared.section_rows.SectionShape.TheVariants as shapes
 use Rattle.scm_layout.specs.declared.file_rows.FileRows.{FileRows}
 use Rattle.scm_layout.specs.declared.state_rows.StateRows.{StateRows}
-
--- ---- the rows of a section
-
--- whether all of n lines of context are shown: at most 6, between two sections; the section has index i of `total`
-abbrev pub are_all_shown : ℕ → ℕ → ℕ → Bool
-are_all_shown total i n = not (i == 0) && (not (i + 1 == total) && nat_le n 6)
-
--- how many of n lines of context are shown above the dots: at most 3, unless all are shown
-abbrev pub lines_above : ℕ → ℕ → ℕ → ℕ
-lines_above total i n = if are_all_shown total i n then n else if i == 0 then 0 else min n 3
-
--- how many rows of dots n lines of context have: 0 or 1
-abbrev pub dots_height : ℕ → ℕ → ℕ → ℕ
-dots_height total i n = if not (are_all_shown total i n) && nat_lt 3 n then 1 else 0
-
--- how many of n lines of context are shown below the dots, of which at most 3 are
-abbrev pub lines_below : ℕ → ℕ → ℕ → ℕ
-lines_below total i n = n - (if are_all_shown total i n then n else if i + 1 == total then n else n - 3)
-
--- how many rows n lines of context have: one blank row if there are none
-abbrev pub context_height : ℕ → ℕ → ℕ → ℕ
-context_height total i n =
-    if n == 0 then 1 else lines_above total i n + (dots_height total i n + lines_below total i n)
-
--- how many rows section i of `total` has if it is shown
-abbrev pub height_of : ℕ → ℕ → Bool → Section → ℕ
-height_of total i is_expanded (Unchanged lines) = context_height total i (length lines)
-height_of total i is_expanded (Changed lines) = if is_expanded then 1 + length lines else 1
-height_of total i is_expanded (FileMode is_checked mode) = 1
-height_of total i is_expanded (Binary is_checked old new) = 1
 
 -- ---- the rows of the sections of a file
 
@@ -53,7 +22,7 @@ is_expanded set k i = has_key set (keys.Section (section_key_of k i))
 
 -- whether section i of file k is open: editable and unfolded
 abbrev pub is_open : List SelectionKey → FileKey → ℕ → Section → Bool
-is_open set k i section = is_editable_section section && is_expanded set k i
+is_open set k i section = is_section_open (is_expanded set k i) section
 
 -- whether there is a section, which has index i, and it is open
 abbrev pub is_first_open : List SelectionKey → FileKey → ℕ → List Section → Bool
@@ -62,15 +31,7 @@ is_first_open set k i (section ∷ more) = is_open set k i section
 
 -- how many rows section i of file k has: 0 if it is context and no open section is before or after it
 abbrev pub visible_height : List SelectionKey → FileKey → ℕ → ℕ → Bool → Section → Bool → ℕ
-visible_height set k total i before section after =
-    if is_editable_section section || (before || after) then height_of total i (is_expanded set k i) section else 0
-
--- what a section is, whatever its marks
-abbrev pub shape_of : Section → SectionShape
-shape_of (Unchanged lines) = shapes.Context (length lines)
-shape_of (Changed lines) = shapes.Changed
-shape_of (FileMode is_checked mode) = shapes.Mark
-shape_of (Binary is_checked old new) = shapes.Mark
+visible_height set k total i before section after = shown_height (place total i) (is_expanded set k i) before section after
 
 -- the rows of a section of shape `shape`, which has `height` rows from row `top` on
 abbrev pub rows_at : ℕ → ℕ → SectionShape → SectionRows

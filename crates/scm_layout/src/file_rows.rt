@@ -7,7 +7,8 @@ ghost use Rattle.scm_layout.specs.Refolds.{AreRowsButKey};
 ghost use Rattle.scm_layout.specs.Rows.{file_rows, folded_count, sections_rows};
 
 use crate::section_folds::{folded_after, last_end, refold_section};
-use crate::section_rows::{SectionRows, SectionShape, folded_count, is_expanded, refold_sections};
+use crate::section_rows::{SectionRows, folded_count, is_expanded, refold_sections};
+use scm_rows::SectionShape;
 use scm_selection::key_set::KeySet;
 use scm_types::keys::FileKey;
 use scm_types::{File, Items, SelectionKey};

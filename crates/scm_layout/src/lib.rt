@@ -17,8 +17,9 @@ pub mod state_rows;
 
 pub use file_counts::FileCounts;
 pub use file_rows::FileRows;
+pub use scm_rows::SectionShape;
 pub use section_counts::SectionCounts;
-pub use section_rows::{SectionRows, SectionShape};
+pub use section_rows::SectionRows;
 pub use state_counts::StateCounts;
 pub use state_layout::Layout;
 pub use state_rows::StateRows;

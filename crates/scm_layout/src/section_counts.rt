@@ -2,7 +2,7 @@
 ghost use Rattle.std.specs.Prelude.{◌≡◌, ◌+◌, ◌≤◌, ◌<◌, ◌^◌, count_by, length, sum_by, IfOk, if◌then◌else◌};
 ghost use Rattle.scm_types.specs.Limits.{max_items};
 ghost use Rattle.scm_types.specs.Marks.{is_editable_section};
-ghost use Rattle.scm_layout.specs.Lines.{is_removed, old_lines};
+ghost use Rattle.scm_rows.specs.Lines.{is_removed, old_lines};
 ghost use Rattle.scm_layout.specs.Counts.{checked_in, editable_after, items_in, section_counts, sections_counts};
 ghost use Rattle.scm_layout.specs.Recounts.{checked_after_mark, recounted, remarked, zipped};
 

@@ -4,7 +4,8 @@ ghost use Rattle.scm_types.specs.Limits.{max_items, section_size};
 ghost use Rattle.scm_layout.specs.Refolds.{AreRowsButSection, AreWithin, folded_after, last_end, moved_rows};
 ghost use Rattle.scm_layout.specs.Rows.{sections_rows};
 
-use crate::section_rows::{SectionRows, is_changed, refold_range};
+use crate::section_rows::{SectionRows, refold_range};
+use scm_rows::section_shape::is_changed;
 use scm_selection::key_set::KeySet;
 use scm_types::Section;
 use scm_types::keys::FileKey;

@@ -1,27 +1,15 @@
 //! The rows of the sections of a file.
-ghost use Rattle.std.specs.Prelude.{◌≡◌, ◌+◌, ◌*◌, ◌≤◌, ◌<◌, ◌^◌, ◌++◌, take, drop, false, length, sum_by, if◌then◌else◌};
+ghost use Rattle.std.specs.Prelude.{◌≡◌, ◌+◌, ◌*◌, ◌≤◌, ◌++◌, take, drop, false, length, sum_by};
 ghost use Rattle.scm_types.specs.Limits.{max_items, section_size};
-ghost use Rattle.scm_layout.specs.Lines.{is_changed};
-ghost use Rattle.scm_layout.specs.Rows.{are_all_shown, context_height, dots_height, fold_count, folded_count, height_of, is_expanded, is_first_open, is_open, lines_above, lines_below, sections_height, sections_rows, shape_of, visible_height};
+ghost use Rattle.scm_layout.specs.Rows.{fold_count, folded_count, is_expanded, is_first_open, is_open, sections_height, sections_rows, visible_height};
 ghost use Rattle.scm_layout.specs.Refolds.{height_from, is_open_above, rows_from};
 
+use scm_rows::section_heights::{is_section_open, shown_height};
+use scm_rows::section_shape::{is_changed, shape_of};
+use scm_rows::{SectionPlace, SectionShape};
 use scm_selection::key_set::KeySet;
 use scm_types::keys::FileKey;
 use scm_types::{Section, SelectionKey};
-
-/// What a section is, whatever its marks.
-#[derive(Clone, Copy, Debug)]
-pub enum SectionShape {
-    /// Lines of context.
-    Context {
-        /// The number of lines.
-        lines: usize,
-    },
-    /// Changed lines.
-    Changed,
-    /// A mark: a mode or a binary.
-    Mark,
-}
 
 /// The rows of a section, counted from the row below the header of its file as if the file were
 /// unfolded.
@@ -35,87 +23,6 @@ pub struct SectionRows {
     pub shape: SectionShape,
 }
 
-/// Returns whether all of `count` lines of context are shown in section `index` of `total`.
-fn are_all_shown(total: usize, index: usize, count: usize) -> bool
-    requires { index + 1 < 2 ^ 64 }
-    ensures { result ≡ are_all_shown total index count }
-{
-    let is_first = index == 0;
-    let is_last = index + 1 == total;
-    // `&`: one branch for the prover
-    !is_first & (!is_last & (count <= 6))
-}
-
-/// Returns how many of `count` lines of context are shown above the dots of section `index` of `total`.
-pub fn lines_above(total: usize, index: usize, count: usize) -> usize
-    requires { index + 1 < 2 ^ 64 }
-    ensures lines { result ≡ lines_above total index count }
-    ensures most { result ≤ count }
-{
-    if are_all_shown(total, index, count) {
-        count
-    } else if index == 0 {
-        0
-    } else {
-        count.min(3)
-    }
-}
-
-/// Returns how many rows of dots `count` lines of context have in section `index` of `total`: 0 or 1.
-pub fn dots_height(total: usize, index: usize, count: usize) -> usize
-    requires { index + 1 < 2 ^ 64 }
-    ensures rows { result ≡ dots_height total index count }
-    ensures most { result ≤ 1 }
-{
-    let is_whole = are_all_shown(total, index, count);
-    // `&`: one branch for the prover
-    let has_dots = !is_whole & (count > 3);
-    if has_dots { 1 } else { 0 }
-}
-
-/// Returns how many of `count` lines of context are shown below the dots of section `index` of `total`.
-fn lines_below(total: usize, index: usize, count: usize) -> usize
-    requires { index + 1 < 2 ^ 64 }
-    ensures lines { result ≡ lines_below total index count }
-    ensures most { result ≤ count }
-{
-    if are_all_shown(total, index, count) {
-        0
-    } else if index + 1 == total {
-        0
-    } else {
-        count.min(3)
-    }
-}
-
-/// Returns how many rows `count` lines of context have in section `index` of `total`.
-fn context_height(total: usize, index: usize, count: usize) -> usize
-    requires index { index + 1 < 2 ^ 64 }
-    requires count { count ≤ max_items }
-    ensures { result ≡ context_height total index count }
-{
-    if count == 0 {
-        1
-    } else {
-        let above = lines_above(total, index, count);
-        let dots = dots_height(total, index, count);
-        above + (dots + lines_below(total, index, count))
-    }
-}
-
-/// Returns how many rows section `index` of `total` has if it is shown.
-fn height_of(total: usize, index: usize, is_expanded: bool, section: &Section<'_>) -> usize
-    requires index { index + 1 < 2 ^ 64 }
-    requires size { section_size section.now ≤ max_items }
-    ensures { result ≡ height_of total index is_expanded section.now }
-{
-    match section {
-        Section::Unchanged { lines } => context_height(total, index, lines.len()),
-        Section::Changed { lines } => { if is_expanded { 1 + lines.len() } else { 1 } }
-        Section::FileMode { .. } | Section::Binary { .. } => 1,
-    }
-}
-
 /// Returns whether section `index` of file `key` is unfolded.
 pub(crate) fn is_expanded(set: &KeySet, key: FileKey, index: usize) -> bool
     ensures { result ≡ is_expanded set.now key index }
@@ -127,9 +34,7 @@ pub(crate) fn is_expanded(set: &KeySet, key: FileKey, index: usize) -> bool
 fn is_open(set: &KeySet, key: FileKey, index: usize, section: &Section<'_>) -> bool
     ensures { result ≡ is_open set.now key index section.now }
 {
-    let is_editable = section.is_editable();
-    // `&`: one branch for the prover
-    is_editable & is_expanded(set, key, index)
+    is_section_open(is_expanded(set, key, index), section)
 }
 
 /// Returns whether there is section `index` of `sections` and it is open.
@@ -154,29 +59,12 @@ fn visible_height(
     section: &Section<'_>,
     after: bool,
 ) -> usize
-    requires index { index + 1 < 2 ^ 64 }
-    requires size { section_size section.now ≤ max_items }
+    requires { section_size section.now ≤ max_items }
     ensures { result ≡ visible_height set.now key total index before section.now after }
 {
-    let is_editable = section.is_editable();
-    // `|`: one branch for the prover
-    let is_visible = is_editable | (before | after);
-    if is_visible {
-        height_of(total, index, is_expanded(set, key, index), section)
-    } else {
-        0
-    }
-}
-
-/// Returns what `section` is.
-fn shape_of(section: &Section<'_>) -> SectionShape
-    ensures { result ≡ shape_of section.now }
-{
-    match section {
-        Section::Unchanged { lines } => SectionShape::Context { lines: lines.len() },
-        Section::Changed { .. } => SectionShape::Changed,
-        Section::FileMode { .. } | Section::Binary { .. } => SectionShape::Mark,
-    }
+    let place = SectionPlace { index, total };
+    let is_unfolded = is_expanded(set, key, index);
+    shown_height(place, is_unfolded, before, section, after)
 }
 
 /// Returns whether there is a section above section `index` of `sections`, all sections of file `key`,
@@ -245,16 +133,6 @@ pub(crate) fn refold_sections(
         ≡ sections_height set.now key (length sections.now) 0 false sections.now }
 {
     refold_range(rows, set, key, sections, 0, sections.len(), 0)
-}
-
-/// Returns whether `section` has changed lines.
-pub(crate) fn is_changed(section: &Section<'_>) -> bool
-    ensures { result ≡ is_changed section.now }
-{
-    match section {
-        Section::Changed { .. } => true,
-        Section::Unchanged { .. } | Section::FileMode { .. } | Section::Binary { .. } => false,
-    }
 }
 
 /// Returns 1 if `section`, which has index `index` in file `key`, has changed lines and is folded, else 0.

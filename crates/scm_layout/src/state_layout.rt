@@ -7,10 +7,11 @@ ghost use Rattle.scm_types.specs.declared.state.Commit.{Commit};
 ghost use Rattle.scm_types.specs.Keys.{has_key};
 ghost use Rattle.scm_types.specs.Limits.{max_items, state_size};
 ghost use Rattle.scm_selection.specs.Toggle.{with_all_inverted, with_all_set, with_key_toggled};
-ghost use Rattle.scm_layout.specs.Layouts.{files_top, layout_of, message_height, IsLayoutBut, IsLayoutButCommits, IsLayoutOf};
+ghost use Rattle.scm_layout.specs.Layouts.{files_top, layout_of, IsLayoutBut, IsLayoutButCommits, IsLayoutOf};
 
 use crate::state_counts::StateCounts;
 use crate::state_rows::StateRows;
+use scm_rows::message_rows::message_height;
 use scm_selection::key_set::KeySet;
 use scm_types::{Commit, RecordError, RecordState, SelectionKey};
 use std::alloc::{AllocError, Global};
@@ -24,22 +25,12 @@ pub struct Layout {
     pub rows: StateRows,
 }
 
-/// Returns how many rows the message of `commit` has: 3, or 0 if there is none.
-fn message_rows(commit: &Commit) -> usize
-    ensures { result ≡ message_height commit.now.message }
-{
-    match &commit.message {
-        Some(_) => 3,
-        None => 0,
-    }
-}
-
 /// Returns the first row of the files, if the message of the first of `commits` is above them.
 fn files_top(commits: &[Commit]) -> usize
     ensures { result ≡ files_top commits.now }
 {
     match commits.get(0) {
-        Some(commit) => 1 + message_rows(commit),
+        Some(commit) => 1 + message_height(commit),
         None => 1,
     }
 }

@@ -2,7 +2,7 @@
 ghost use Rattle.std.specs.Prelude.{◌≡◌, ℕ, ◌+◌, ◌-◌, ◌≤◌, ◌<◌, ◌^◌, length, sum_by, IfOk};
 ghost use Rattle.scm_types.specs.Limits.{file_size, max_items};
 ghost use Rattle.scm_layout.specs.Rows.{each_file_rows, restacked, rows_of, stacked};
-ghost use Rattle.scm_layout.specs.Refolds.{AreFilesButKey, AreRowsOfFiles, file_index, total_height};
+ghost use Rattle.scm_layout.specs.Refolds.{AreFilesButKey, AreRowsOfFiles, file_index, index_in, total_height};
 
 use crate::file_rows::FileRows;
 use scm_selection::key_set::KeySet;
@@ -47,13 +47,20 @@ fn refold_files(rows: &mut [FileRows], set: &KeySet, commit_idx: usize, files: &
     }
 }
 
+/// Returns the index of file `key`, if it is a file of commit `commit_idx`.
+fn index_in(commit_idx: usize, key: FileKey) -> Option<usize>
+    ensures { result ≡ index_in commit_idx key }
+{
+    (key.commit_idx == commit_idx).then_some(key.file_idx)
+}
+
 /// Returns the index of the file of commit `commit_idx` whose rows the fold of `key` changes, if any.
 fn file_index(commit_idx: usize, key: SelectionKey) -> Option<usize>
     ensures { result ≡ file_index commit_idx key }
 {
     match key {
-        SelectionKey::File(key) => (key.commit_idx == commit_idx).then_some(key.file_idx),
-        SelectionKey::Section(key) => (key.commit_idx == commit_idx).then_some(key.file_idx),
+        SelectionKey::File(key) => index_in(commit_idx, key),
+        SelectionKey::Section(key) => index_in(commit_idx, key.file()),
         SelectionKey::None | SelectionKey::Line(_) => None,
     }
 }

@@ -26,7 +26,8 @@ use Rattle.scm_document.specs.DocumentRows.{rows_of_key}
 use Rattle.scm_document.specs.HeaderRects.{message_rects, pinned_rects}
 use Rattle.scm_document.specs.PieceOwners.{rows_owner}
 use Rattle.scm_document.specs.Pieces.{files_of, files_pieces, piece_places, sections_of}
-use Rattle.scm_document.specs.Rows.{message_height, shown_file}
+use Rattle.scm_rows.specs.Heights.{message_height}
+use Rattle.scm_document.specs.Rows.{shown_file}
 use Rattle.scm_document.specs.SectionWalk.{visible_views}
 use Rattle.scm_document.specs.ViewPieces.{file_height, file_piece_list, file_piece_of, files_height, section_piece_list, sections_height, sections_in_file, sections_in_files}
 use Rattle.scm_document.proofs.FilesOf.{AreFilesOf as HaveIds}
@@ -39,14 +40,14 @@ use Rattle.scm_view.proofs.AlikeLemmas.{view-shows}
 use Rattle.scm_view.proofs.SessionLemmas.{session-ids}
 use Rattle.scm_layout.specs.declared.file_rows.FileRows.{FileRows}
 use Rattle.scm_layout.specs.declared.state_rows.StateRows.{StateRows}
-use Rattle.scm_layout.specs.Layouts.{files_top, message_height as message_rows}
+use Rattle.scm_layout.specs.Layouts.{files_top}
 use Rattle.scm_layout.specs.Rows.{file_key_of, rows_of}
 use Rattle.scm_layout.specs.Searches.{FilesFollow}
-use Rattle.scm_layout_laws.specs.ViewRows.{HaveRowsOf}
-use Rattle.scm_layout_laws.proofs.ViewLemmas.{rows-of-views}
+use Rattle.scm_view_state.specs.ViewRows.{HaveRowsOf}
+use Rattle.scm_view_state.proofs.ViewRowLemmas.{rows-of-views}
 use Rattle.scm_layout_index.specs.declared.row_pieces.RowPieces.{RowPieces}
 use Rattle.scm_layout_index.specs.LayoutIndex.{AreRowsOf, IsInline}
-use Rattle.scm_layout_index.specs.RowPieces.{end_of_files, file_piece, found_list, piece_list, piece_of_key, pieces_on, pinned_piece}
+use Rattle.scm_layout_index.specs.RowPieces.{end_of_files, file_of_rows, found_list, piece_list, piece_of_key, pieces_on, pinned_piece}
 use Rattle.scm_layout_index.proofs.PieceLists.{all_pieces, section_pieces}
 use Rattle.scm_layout_index.proofs.FileLemmas.{end-is, file-heights, owners-are, pinned-are, unfolded-pieces}
 use Rattle.scm_layout_index.proofs.FitLemmas.{rows-fit}
@@ -80,11 +81,7 @@ commit-lacks (d ∷ ds) e = absurd cc
 message-is : (commits : List Commit) → files_top commits ≡ 1 + message_height (commit_at 0 commits).message
 unfolding commit_at
 message-is [] = refl
-message-is (c ∷ cs) = ap (λ n. 1 + n) (same c.message)
-  where
-    same : (m : Option (List ℕ)) → message_rows m ≡ message_height m
-    same None = refl
-    same (Some t) = refl
+message-is (c ∷ cs) = refl
 
 abbrev top_of : ViewState → ℕ
 top_of shown = 1 + message_height (commit_at 0 shown.state.commits).message
@@ -124,7 +121,7 @@ all-are s m i n top (f ∷ fs) (r ∷ rs) ids h =
     own : List SectionPiece
     own = if nat_lt (r.top + 1) r.end then section_pieces s.selection (length r.sections) (file_key_of 0 i) (r.top + 1) 0 r.sections else []
 
-    head : file_piece_of m top v ≡ file_piece m i r
+    head : file_piece_of m top v ≡ file_of_rows m i r
     head = rw (h.0, h.1) refl
 
     sections : (b : Bool) → is_fold_open v.expand_box ≡ b → sections_in_file top v ≡ own

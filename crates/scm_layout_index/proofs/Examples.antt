@@ -9,7 +9,7 @@ use Rattle.scm_document.specs.declared.index_pieces.RowKinds.{RowKinds}
 use Rattle.scm_document.specs.declared.index_pieces.RowKinds.TheVariants as kinds
 use Rattle.scm_document.specs.declared.index_pieces.Piece.TheVariants as pieces
 use Rattle.scm_layout.specs.declared.file_rows.FileRows.{FileRows}
-use Rattle.scm_layout.specs.declared.section_rows.SectionShape.TheVariants as shapes
+use Rattle.scm_rows.specs.declared.section_shape.SectionShape.TheVariants as shapes
 use Rattle.scm_layout.specs.Rows.{file_key_of, rows_at}
 use Rattle.scm_layout_index.specs.declared.row_pieces.RowPieces.{RowPieces}
 use Rattle.scm_layout_index.specs.RowPieces.{end_of_files, piece_of_key, pieces_on, pinned_piece}

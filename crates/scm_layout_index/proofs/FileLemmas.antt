@@ -25,9 +25,9 @@ use Rattle.scm_view.specs.ViewState.{Totals, ViewState, file_view_of, file_views
 use Rattle.scm_layout.specs.declared.file_rows.FileRows.{FileRows}
 use Rattle.scm_layout.specs.declared.section_rows.SectionRows.{SectionRows}
 use Rattle.scm_layout.specs.Rows.{file_key_of}
-use Rattle.scm_layout_laws.specs.ViewRows.{HaveRowsOf, section_views_rows}
+use Rattle.scm_view_state.specs.ViewRows.{HaveRowsOf, section_views_rows}
 use Rattle.scm_layout_index.specs.declared.row_pieces.RowPieces.{RowPieces}
-use Rattle.scm_layout_index.specs.RowPieces.{end_of_files, file_piece, found_list, section_in, section_list}
+use Rattle.scm_layout_index.specs.RowPieces.{end_of_files, file_of_rows, found_list, section_in, section_list}
 use Rattle.scm_layout_index.proofs.PieceLists.{section_pieces}
 use Rattle.scm_layout_index.proofs.SectionLemmas.{owner-on, pieces_from, pinned_from, section-found, section_from}
 use Rattle.scm_layout_index.proofs.SectionViewLemmas.{HaveHeights, pieces-are}
@@ -167,7 +167,7 @@ module _ (s : ViewState) (m w y c : ℕ) where
       go false e h = absurd (differ (omega (arith, h, low)))
 
   piece-is : (i top : ℕ) (f : File) (r : FileRows) → let v = file_view_of s (file_key_of 0 i) f in
-      r.top ≡ top → r.end ≡ top + file_height v → file_piece_of m top v ≡ file_piece m i r
+      r.top ≡ top → r.end ≡ top + file_height v → file_piece_of m top v ≡ file_of_rows m i r
   piece-is i top f r at to = rw (at, to) refl
 
   -- a file that has the row
@@ -175,7 +175,7 @@ module _ (s : ViewState) (m w y c : ℕ) where
       HaveRows (shown_file v).sections → r.top ≡ top → r.end ≡ top + file_height v → r.sections ≡ section_views_rows 0 false v.section_views → sections_owner w rest y c ≡ None
       → is_from top (top + file_height v) y ≡ true
       → file_owner w (file_piece_of m top v) (sections_owner w (sections_in_file top v ++ rest) y c) y c
-      ≡ list_owner (Some (record { file = file_piece m i r; section = section_in s.selection i r y }))
+      ≡ list_owner (Some (record { file = file_of_rows m i r; section = section_in s.selection i r y }))
   here i top f r rest some at to is none e =
       let v = file_view_of s (file_key_of 0 i) f in
       let within = from-true top (top + file_height v) y e in
@@ -211,7 +211,7 @@ module _ (s : ViewState) (m w y c : ℕ) where
           → (top + file_height v ≤ y → rows_owner w (file_piece_list m (top + file_height v) vs) rest y c ≡ list_owner (pieces_from s.selection m y (suc i) rs))
           → (if b then file_owner w (file_piece_of m top v) (sections_owner w (sections_in_file top v ++ rest) y c) y c
           else files_owner w (file_piece_list m (top + file_height v) vs) (sections_owner w (sections_in_file top v ++ rest) y c) y c)
-          ≡ list_owner (if nat_le r.top y && nat_lt y r.end then Some (record { file = file_piece m i r; section = section_in s.selection i r y }) else pieces_from s.selection m y (suc i) rs)
+          ≡ list_owner (if nat_le r.top y && nat_lt y r.end then Some (record { file = file_of_rows m i r; section = section_in s.selection i r y }) else pieces_from s.selection m y (suc i) rs)
       go true e more =
           let within = from-true top (top + file_height v) y e in
           rw (same ∙ e) (here i top f r rest ids.0.rows h.0 h.1 h.2 (files-above w y c (top + file_height v) vs within.1) e)

@@ -16,3 +16,5 @@ pub mod FitLemmas
 pub mod AnswerLemmas
 -- what lies over a row
 pub mod RowOwnerLemmas
+-- where a run of columns ends
+pub mod OwnerRunLemmas

@@ -9,13 +9,13 @@ use Rattle.scm_document.specs.declared.index_pieces.Piece.TheVariants as pieces
 use Rattle.scm_layout.specs.declared.file_rows.FileRows.{FileRows}
 use Rattle.scm_layout.specs.declared.section_rows.SectionRows.{SectionRows}
 use Rattle.scm_layout.specs.Rows.{file_key_of}
-use Rattle.scm_layout_index.specs.RowPieces.{file_piece, section_piece}
+use Rattle.scm_layout_index.specs.RowPieces.{file_of_rows, section_of_rows}
 
 -- the pieces of those sections of file k that have rows, counted from row `first`; the first section has index i of `total`
 abbrev pub section_pieces : SelectionKey → ℕ → FileKey → ℕ → ℕ → List SectionRows → List SectionPiece
 section_pieces selection total k first i [] = []
 section_pieces selection total k first i (r ∷ rs) =
-    if nat_lt r.top r.end then section_piece selection total (section_key_of k i) first r ∷ section_pieces selection total k first (suc i) rs
+    if nat_lt r.top r.end then section_of_rows selection total (section_key_of k i) first r ∷ section_pieces selection total k first (suc i) rs
     else section_pieces selection total k first (suc i) rs
 
 -- those of the sections of file i with rows r, which has none below its header if it is folded
@@ -27,4 +27,4 @@ file_sections selection i r =
 abbrev pub all_pieces : SelectionKey → ℕ → ℕ → List FileRows → List Piece
 all_pieces selection m i [] = []
 all_pieces selection m i (r ∷ rs) =
-    pieces.File (file_piece m i r) ∷ (map pieces.Section (file_sections selection i r) ++ all_pieces selection m (suc i) rs)
+    pieces.File (file_of_rows m i r) ∷ (map pieces.Section (file_sections selection i r) ++ all_pieces selection m (suc i) rs)

@@ -17,7 +17,7 @@ use Rattle.scm_layout.specs.declared.section_rows.SectionRows.{SectionRows}
 use Rattle.scm_layout.specs.Rows.{file_key_of}
 use Rattle.scm_layout.specs.Searches.{file_on, index_on, section_on}
 use Rattle.scm_layout_index.specs.declared.row_pieces.RowPieces.{RowPieces}
-use Rattle.scm_layout_index.specs.RowPieces.{end_of_files, file_piece, piece_at, piece_list, pieces_at, pieces_on, pinned_piece, section_in, section_list, section_piece}
+use Rattle.scm_layout_index.specs.RowPieces.{end_of_files, file_of_rows, piece_at, piece_list, pieces_at, pieces_on, pinned_piece, section_in, section_list, section_of_rows}
 use Rattle.scm_layout_index.proofs.PieceLists.{section_pieces}
 
 -- ---- a search from the front
@@ -26,7 +26,7 @@ use Rattle.scm_layout_index.proofs.PieceLists.{section_pieces}
 abbrev pub section_from : SelectionKey → ℕ → FileKey → ℕ → ℕ → ℕ → List SectionRows → Option SectionPiece
 section_from selection total k first y i [] = None
 section_from selection total k first y i (r ∷ rs) =
-    if nat_le r.top y && nat_lt y r.end then Some (section_piece selection total (section_key_of k i) first r)
+    if nat_le r.top y && nat_lt y r.end then Some (section_of_rows selection total (section_key_of k i) first r)
     else section_from selection total k first y (suc i) rs
 
 -- the pieces that have row y, if any; the first file has index i
@@ -34,14 +34,14 @@ abbrev pub pieces_from : SelectionKey → ℕ → ℕ → ℕ → List FileRows 
 pieces_from selection m y i [] = None
 pieces_from selection m y i (r ∷ rs) =
     if nat_le r.top y && nat_lt y r.end
-    then Some (record { file = file_piece m i r; section = section_in selection i r y })
+    then Some (record { file = file_of_rows m i r; section = section_in selection i r y })
     else pieces_from selection m y (suc i) rs
 
 -- the file that has row m, in a list; the first file has index i
 abbrev pub pinned_from : ℕ → ℕ → List FileRows → List Piece
 pinned_from m i [] = []
 pinned_from m i (r ∷ rs) =
-    if nat_le r.top m && nat_lt m r.end then pieces.File (file_piece m i r) ∷ [] else pinned_from m (suc i) rs
+    if nat_le r.top m && nat_lt m r.end then pieces.File (file_of_rows m i r) ∷ [] else pinned_from m (suc i) rs
 
 -- ---- what an index on a row is the index of
 
@@ -69,13 +69,13 @@ file_end r = r.end
 
 module _ (selection : SelectionKey) (total : ℕ) (k : FileKey) (first row : ℕ) where
   pub found-section : (i j : ℕ) (rs : List SectionRows) (r : SectionRows) → index_on section_top section_end row i rs ≡ Some j → r ≡ get_or rs (j - i) r
-      → section_from selection total k first row i rs ≡ Some (section_piece selection total (section_key_of k j) first r)
+      → section_from selection total k first row i rs ≡ Some (section_of_rows selection total (section_key_of k j) first r)
   found-section i j [] r e p = absurd cc
   found-section i j (a ∷ rs) r e p = go (nat_le a.top row && nat_lt row a.end) e (λ f. found-section (suc i) j rs r f)
     where
       go : (t : Bool) → (if t then Some i else index_on section_top section_end row (suc i) rs) ≡ Some j
-          → (index_on section_top section_end row (suc i) rs ≡ Some j → r ≡ get_or rs (j - suc i) r → section_from selection total k first row (suc i) rs ≡ Some (section_piece selection total (section_key_of k j) first r))
-          → (if t then Some (section_piece selection total (section_key_of k i) first a) else section_from selection total k first row (suc i) rs) ≡ Some (section_piece selection total (section_key_of k j) first r)
+          → (index_on section_top section_end row (suc i) rs ≡ Some j → r ≡ get_or rs (j - suc i) r → section_from selection total k first row (suc i) rs ≡ Some (section_of_rows selection total (section_key_of k j) first r))
+          → (if t then Some (section_of_rows selection total (section_key_of k i) first a) else section_from selection total k first row (suc i) rs) ≡ Some (section_of_rows selection total (section_key_of k j) first r)
       go true e more =
           let same : i ≡ j = cc in
           let zero : j - i ≡ 0 = omega (arith, same) in
@@ -92,19 +92,19 @@ module _ (selection : SelectionKey) (total : ℕ) (k : FileKey) (first row : ℕ
     where
       go : (t : Bool) → (if t then Some i else index_on section_top section_end row (suc i) rs) ≡ None
           → (index_on section_top section_end row (suc i) rs ≡ None → section_from selection total k first row (suc i) rs ≡ None)
-          → (if t then Some (section_piece selection total (section_key_of k i) first a) else section_from selection total k first row (suc i) rs) ≡ None
+          → (if t then Some (section_of_rows selection total (section_key_of k i) first a) else section_from selection total k first row (suc i) rs) ≡ None
       go true e more = absurd cc
       go false e more = more e
 
 module _ (selection : SelectionKey) (m row : ℕ) where
   pub found-file : (i j : ℕ) (rs : List FileRows) (r : FileRows) → index_on file_top file_end row i rs ≡ Some j → r ≡ get_or rs (j - i) r
-      → pieces_from selection m row i rs ≡ Some (record { file = file_piece m j r; section = section_in selection j r row })
+      → pieces_from selection m row i rs ≡ Some (record { file = file_of_rows m j r; section = section_in selection j r row })
   found-file i j [] r e p = absurd cc
   found-file i j (a ∷ rs) r e p = go (nat_le a.top row && nat_lt row a.end) e (λ g. found-file (suc i) j rs r g)
     where
       go : (t : Bool) → (if t then Some i else index_on file_top file_end row (suc i) rs) ≡ Some j
-          → (index_on file_top file_end row (suc i) rs ≡ Some j → r ≡ get_or rs (j - suc i) r → pieces_from selection m row (suc i) rs ≡ Some (record { file = file_piece m j r; section = section_in selection j r row }))
-          → (if t then Some (record { file = file_piece m i a; section = section_in selection i a row }) else pieces_from selection m row (suc i) rs) ≡ Some (record { file = file_piece m j r; section = section_in selection j r row })
+          → (index_on file_top file_end row (suc i) rs ≡ Some j → r ≡ get_or rs (j - suc i) r → pieces_from selection m row (suc i) rs ≡ Some (record { file = file_of_rows m j r; section = section_in selection j r row }))
+          → (if t then Some (record { file = file_of_rows m i a; section = section_in selection i a row }) else pieces_from selection m row (suc i) rs) ≡ Some (record { file = file_of_rows m j r; section = section_in selection j r row })
       go true e more =
           let same : i ≡ j = cc in
           let zero : j - i ≡ 0 = omega (arith, same) in
@@ -121,19 +121,19 @@ module _ (selection : SelectionKey) (m row : ℕ) where
     where
       go : (t : Bool) → (if t then Some i else index_on file_top file_end row (suc i) rs) ≡ None
           → (index_on file_top file_end row (suc i) rs ≡ None → pieces_from selection m row (suc i) rs ≡ None)
-          → (if t then Some (record { file = file_piece m i a; section = section_in selection i a row }) else pieces_from selection m row (suc i) rs) ≡ None
+          → (if t then Some (record { file = file_of_rows m i a; section = section_in selection i a row }) else pieces_from selection m row (suc i) rs) ≡ None
       go true e more = absurd cc
       go false e more = more e
 
 -- the file on the row to which a header may be pinned
 module _ (m : ℕ) where
-  pub found-pinned : (i j : ℕ) (rs : List FileRows) (r : FileRows) → index_on file_top file_end m i rs ≡ Some j → r ≡ get_or rs (j - i) r → pinned_from m i rs ≡ pieces.File (file_piece m j r) ∷ []
+  pub found-pinned : (i j : ℕ) (rs : List FileRows) (r : FileRows) → index_on file_top file_end m i rs ≡ Some j → r ≡ get_or rs (j - i) r → pinned_from m i rs ≡ pieces.File (file_of_rows m j r) ∷ []
   found-pinned i j [] r e p = absurd cc
   found-pinned i j (a ∷ rs) r e p = go (nat_le a.top m && nat_lt m a.end) e (λ g. found-pinned (suc i) j rs r g)
     where
       go : (t : Bool) → (if t then Some i else index_on file_top file_end m (suc i) rs) ≡ Some j
-          → (index_on file_top file_end m (suc i) rs ≡ Some j → r ≡ get_or rs (j - suc i) r → pinned_from m (suc i) rs ≡ pieces.File (file_piece m j r) ∷ [])
-          → (if t then pieces.File (file_piece m i a) ∷ [] else pinned_from m (suc i) rs) ≡ pieces.File (file_piece m j r) ∷ []
+          → (index_on file_top file_end m (suc i) rs ≡ Some j → r ≡ get_or rs (j - suc i) r → pinned_from m (suc i) rs ≡ pieces.File (file_of_rows m j r) ∷ [])
+          → (if t then pieces.File (file_of_rows m i a) ∷ [] else pinned_from m (suc i) rs) ≡ pieces.File (file_of_rows m j r) ∷ []
       go true e more =
           let same : i ≡ j = cc in
           let zero : j - i ≡ 0 = omega (arith, same) in
@@ -150,7 +150,7 @@ module _ (m : ℕ) where
     where
       go : (t : Bool) → (if t then Some i else index_on file_top file_end m (suc i) rs) ≡ None
           → (index_on file_top file_end m (suc i) rs ≡ None → pinned_from m (suc i) rs ≡ [])
-          → (if t then pieces.File (file_piece m i a) ∷ [] else pinned_from m (suc i) rs) ≡ []
+          → (if t then pieces.File (file_of_rows m i a) ∷ [] else pinned_from m (suc i) rs) ≡ []
       go true e more = absurd cc
       go false e more = more e
 
@@ -191,7 +191,7 @@ pieces-found selection m y rs = go (file_on y rs) refl
 pub pinned-found : (m : ℕ) (rs : List FileRows) → piece_list (pinned_piece m rs) ≡ pinned_from m 0 rs
 pinned-found m rs = go (file_on m rs) refl
   where
-    go : (o : Option ℕ) → file_on m rs ≡ o → piece_list (option_and_then (λ i. option_and_then (λ r. Some (pieces.File (file_piece m i r))) (slice_get rs i)) o) ≡ pinned_from m 0 rs
+    go : (o : Option ℕ) → file_on m rs ≡ o → piece_list (option_and_then (λ i. option_and_then (λ r. Some (pieces.File (file_of_rows m i r))) (slice_get rs i)) o) ≡ pinned_from m 0 rs
     go None e = sym (none-pinned m 0 rs e)
     go (Some j) e =
         let within = (bound file_top file_end m 0 j rs e).1 in
@@ -222,7 +222,7 @@ module _ (selection : SelectionKey) (total : ℕ) (k : FileKey) (first : ℕ) wh
       go (nat_le r.top (y - first) && nat_lt (y - first) r.end) (nat_lt r.top r.end) refl refl (owner-on w y c (suc i) rs h)
     where
       p : SectionPiece
-      p = section_piece selection total (section_key_of k i) first r
+      p = section_of_rows selection total (section_key_of k i) first r
 
       go : (b d : Bool) → (nat_le r.top (y - first) && nat_lt (y - first) r.end) ≡ b → nat_lt r.top r.end ≡ d
           → sections_owner w (section_pieces selection total k first (suc i) rs) y c ≡ sections_owner w (sections_of (section_list (section_from selection total k first (y - first) (suc i) rs))) y c

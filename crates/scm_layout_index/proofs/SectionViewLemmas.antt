@@ -1,28 +1,28 @@
 -- The pieces of the sections of a file by their rows are those of its views.
-use Rattle.std.proofs.Common.{◌≡◌, ℕ, suc, ◌+◌, ◌-◌, ◌<◌, Bool, true, false, not, ◌&&◌, ◌||◌, List, [], ◌∷◌, length, Option, Some, None, refl, ap, sym, ◌∙◌, arith}
-use Rattle.std.specs.Prelude.{nat_eq, nat_lt, if◌then◌else◌}
+use Rattle.std.proofs.Common.{◌≡◌, ℕ, suc, ◌+◌, ◌-◌, ◌<◌, Bool, true, false, List, [], ◌∷◌, Option, Some, None, refl, ap, ◌∙◌, arith}
+use Rattle.std.specs.Prelude.{nat_lt, if◌then◌else◌}
 use Rattle.std.proofs.lemmas.Bool.Decides.{nat_tests}
 use Rattle.scm_types.specs.declared.keys.FileKey.{FileKey}
 use Rattle.scm_types.specs.declared.keys.SectionKey.{SectionKey}
 use Rattle.scm_types.specs.declared.keys.SelectionKey.{SelectionKey}
 use Rattle.scm_types.specs.declared.keys.SelectionKey.TheVariants as keys
 use Rattle.scm_types.specs.declared.section.Section.{Section}
-use Rattle.scm_types.specs.declared.section.Section.TheVariants.{Unchanged, Changed, FileMode, Binary}
 use Rattle.scm_types.specs.Keys.{is_key, section_key_of, section_of_line}
 use Rattle.scm_types.specs.Marks.{is_editable_section}
-use Rattle.scm_widgets.specs.Boxes.{is_fold_open}
 use Rattle.scm_document.specs.declared.index_pieces.SectionPiece.{SectionPiece}
-use Rattle.scm_document.specs.declared.index_pieces.RowKinds.{RowKinds}
 use Rattle.scm_document.specs.declared.section_view.SectionView.{SectionView}
 use Rattle.scm_document.specs.declared.section_view.SectionSelection.{SectionSelection}
 use Rattle.scm_document.specs.declared.section_view.SectionSelection.TheVariants.{SectionHeader, ChangedLine}
 use Rattle.scm_document.specs.Rows as views
 use Rattle.scm_document.specs.SectionWalk.{visible_views}
 use Rattle.scm_document.specs.ViewPieces as pieces
-use Rattle.scm_view.specs.ViewState.{Totals, ViewState, old_lines, section_view_of, section_views_of, selected_in}
-use Rattle.scm_layout.specs.Rows.{rows_at, shape_of}
-use Rattle.scm_layout_laws.specs.ViewRows.{section_views_rows}
-use Rattle.scm_layout_index.specs.RowPieces.{is_wide, kinds_of, section_piece}
+use Rattle.scm_rows.specs.Lines.{old_lines}
+use Rattle.scm_view.specs.ViewState.{Totals, ViewState, section_view_of, section_views_of, selected_in}
+use Rattle.scm_rows.specs.Heights.{is_section_visible, shape_of}
+use Rattle.scm_layout.specs.Rows.{rows_at}
+use Rattle.scm_view_state.specs.ViewRows.{section_views_rows}
+use Rattle.scm_document.specs.SectionPieces.{section_piece}
+use Rattle.scm_layout_index.specs.RowPieces.{section_of_rows}
 use Rattle.scm_layout_index.proofs.PieceLists.{section_pieces}
 
 -- ---- the piece of a section
@@ -45,59 +45,19 @@ selected-is k (keys.File f) = refl
 selected-is k (keys.Section s) = when-is (is_key (keys.Section k) (keys.Section s))
 selected-is k (keys.Line l) = when-line (is_key (keys.Section k) (keys.Section (section_of_line l))) l.line_idx
 
--- more rows than the dots have lines
-more-than-dots : (a d b n : ℕ) → (nat_lt 0 a || nat_lt b n) ≡ nat_lt d (a + (d + (n - b)))
-more-than-dots a d b n = go (nat_lt 0 a) (nat_lt b n) refl refl
-  where
-    go : (p q : Bool) → nat_lt 0 a ≡ p → nat_lt b n ≡ q → (p || q) ≡ nat_lt d (a + (d + (n - b)))
-    go true q e f = grind (arith, nat_tests, e)
-    go false true e f = grind (arith, nat_tests, f)
-    go false false e f = grind (arith, nat_tests, e, f)
-
-some-lines : (b : Bool) (a d f n : ℕ) → (not b && (nat_lt 0 a || nat_lt f n)) ≡ (not b && nat_lt d (if b then 1 else a + (d + (n - f))))
-some-lines true a d f n = refl
-some-lines false a d f n = more-than-dots a d f n
-
-open-lines : (b : Bool) (n : ℕ) → (b && nat_lt 0 n) ≡ nat_lt 1 (if b then 1 + n else 1)
-open-lines true n = grind (arith, nat_tests)
-open-lines false n = refl
-
 module _ (s : ViewState) (t : Totals) (k : FileKey) where
   -- the view of section i
   abbrev view : ℕ → ℕ → ℕ → Section → SectionView
   view i editable line x = section_view_of s t (section_key_of k i) editable line x
 
-  wide-is : (i editable line : ℕ) (x : Section) → pieces.is_wide_of (view i editable line x) x ≡ is_wide s.selection t.sections (section_key_of k i) (views.section_height (view i editable line x) x) (shape_of x)
-  wide-is i editable line (Unchanged lines) =
-      let v = view i editable line (Unchanged lines) in
-      let n = length lines in
-      some-lines (nat_eq n 0) (views.lines_above v n) (views.dots_height v n) (views.first_below v n) n
-  wide-is i editable line (Changed lines) =
-      let v = view i editable line (Changed lines) in
-      ap (λ b. b || (is_fold_open v.expand_box && nat_lt 0 (length lines))) (selected-is (section_key_of k i) s.selection)
-      ∙ ap (λ b. is_key (keys.Section (section_key_of k i)) s.selection || b) (open-lines (is_fold_open v.expand_box) (length lines))
-  wide-is i editable line (FileMode is_checked mode) = selected-is (section_key_of k i) s.selection
-  wide-is i editable line (Binary is_checked old new) = selected-is (section_key_of k i) s.selection
-
-  kinds-are : (i editable line : ℕ) (x : Section) → pieces.kinds_of (view i editable line x) x ≡ kinds_of t.sections i (shape_of x)
-  kinds-are i editable line (Unchanged lines) = refl
-  kinds-are i editable line (Changed lines) = refl
-  kinds-are i editable line (FileMode is_checked mode) = refl
-  kinds-are i editable line (Binary is_checked old new) = refl
-
-  abbrev piece-with : ℕ → ℕ → ℕ → Bool → RowKinds → SectionPiece
-  piece-with i top end wide kinds = record { key = section_key_of k i; top = top; end = end; is_wide = wide; kinds = kinds }
-
   piece-is : (i editable line first top : ℕ) (x : Section)
-      → pieces.section_piece_of (view i editable line x) (first + top) ≡ section_piece s.selection t.sections (section_key_of k i) first (rows_at top (views.section_height (view i editable line x) x) (shape_of x))
+      → pieces.section_piece_of (view i editable line x) (first + top) ≡ section_of_rows s.selection t.sections (section_key_of k i) first (rows_at top (views.section_height (view i editable line x) x) (shape_of x))
   piece-is i editable line first top x =
       let h = views.section_height (view i editable line x) x in
+      let key = section_key_of k i in
       let below : (first + top) + h ≡ first + (top + h) = omega arith in
-      let size : (top + h) - top ≡ h = omega arith in
-      ap (λ (e : ℕ). piece-with i (first + top) e (pieces.is_wide_of (view i editable line x) x) (pieces.kinds_of (view i editable line x) x)) below
-      ∙ ap (λ (b : Bool). piece-with i (first + top) (first + (top + h)) b (pieces.kinds_of (view i editable line x) x)) (wide-is i editable line x)
-      ∙ ap (λ (n : ℕ). piece-with i (first + top) (first + (top + h)) (is_wide s.selection t.sections (section_key_of k i) n (shape_of x)) (pieces.kinds_of (view i editable line x) x)) (sym size)
-      ∙ ap (λ (r : RowKinds). piece-with i (first + top) (first + (top + h)) (is_wide s.selection t.sections (section_key_of k i) ((top + h) - top) (shape_of x)) r) (kinds-are i editable line x)
+      ap (λ b. section_piece b t.sections key (first + top) ((first + top) + h) (shape_of x)) (selected-is key s.selection)
+      ∙ ap (λ e. section_piece (is_key (keys.Section key) s.selection) t.sections key (first + top) e (shape_of x)) below
 
 -- ---- the pieces of the sections of a file
 
@@ -113,7 +73,7 @@ module _ (s : ViewState) (totals : Totals) (k : FileKey) (first : ℕ) where
   unfolding section_views_of section_views_rows
   pieces-are i editable line top before [] h = refl
   pieces-are i editable line top before (x ∷ xs) h =
-      go (views.is_section_visible before v (views.is_first_open vs)) h (λ t k. pieces-are (suc i) next below t (views.is_open v) xs k)
+      go (is_section_visible before v.section.now (views.is_first_open vs)) h (λ t k. pieces-are (suc i) next below t (views.is_open v) xs k)
     where
       next : ℕ
       next = if is_editable_section x then editable + 1 else editable

@@ -20,7 +20,7 @@ use Rattle.scm_document.proofs.IndexLemmas.{lines-any}
 use Rattle.scm_layout.specs.declared.file_rows.FileRows.{FileRows}
 use Rattle.scm_layout.specs.declared.section_rows.SectionRows.{SectionRows}
 use Rattle.scm_layout.specs.Rows.{file_key_of}
-use Rattle.scm_layout_index.specs.RowPieces.{file_of_key, file_piece, piece_list, piece_of_key, section_at, section_of_key, section_piece, shown_piece}
+use Rattle.scm_layout_index.specs.RowPieces.{file_of_key, file_of_rows, piece_list, piece_of_key, section_at, section_of_key, section_of_rows, shown_piece}
 use Rattle.scm_layout_index.proofs.PieceLists.{all_pieces, file_sections, section_pieces}
 
 -- ---- a key among places
@@ -77,7 +77,7 @@ module _ (key : SelectionKey) where
   sections-skip selection total k first j (r ∷ rs) rest h = go (nat_lt r.top r.end) (sections-skip selection total k first (suc j) rs rest h)
     where
       p : SectionPiece
-      p = section_piece selection total (section_key_of k j) first r
+      p = section_of_rows selection total (section_key_of k j) first r
 
       go : (b : Bool) → rows_among key (map pieces.Section (section_pieces selection total k first (suc j) rs) ++ rest) ≡ rows_among key rest
           → rows_among key (map pieces.Section (if b then p ∷ section_pieces selection total k first (suc j) rs else section_pieces selection total k first (suc j) rs) ++ rest) ≡ rows_among key rest
@@ -102,8 +102,8 @@ module _ (key : SelectionKey) where
   files-skip selection m i [] own parts = refl
   files-skip selection m i (r ∷ rs) own parts =
       let low : i ≤ i = omega arith in
-      let none : has key (piece_places (pieces.File (file_piece m i r))) ≡ false = rw (own i low) refl in
-      skip-piece key (pieces.File (file_piece m i r)) (map pieces.Section (file_sections selection i r) ++ all_pieces selection m (suc i) rs) none
+      let none : has key (piece_places (pieces.File (file_of_rows m i r))) ≡ false = rw (own i low) refl in
+      skip-piece key (pieces.File (file_of_rows m i r)) (map pieces.Section (file_sections selection i r) ++ all_pieces selection m (suc i) rs) none
       ∙ file-skip selection i r (all_pieces selection m (suc i) rs) (λ j s e. parts i j s low e)
       ∙ files-skip selection m (suc i) rs (λ n h. own n (omega (arith, h))) (λ n j s h e. parts n j s (omega (arith, h)) e)
 
@@ -137,7 +137,7 @@ module _ (k : FileKey) where
 
   file-find : (selection : SelectionKey) (m i : ℕ) (rs : List FileRows) → k.commit_idx ≡ 0 → i ≤ k.file_idx
       → rows_among (keys.File k) (all_pieces selection m i rs)
-      ≡ rows_among (keys.File k) (piece_list (option_and_then (λ r. Some (pieces.File (file_piece 0 k.file_idx r))) (slice_get rs (k.file_idx - i))))
+      ≡ rows_among (keys.File k) (piece_list (option_and_then (λ r. Some (pieces.File (file_of_rows 0 k.file_idx r))) (slice_get rs (k.file_idx - i))))
   unfolding rows_of_key
   file-find selection m i [] c low = refl
   file-find selection m i (r ∷ rs) c low = go (nat_eq k.file_idx i) refl (λ g. file-find selection m (suc i) rs c g)
@@ -147,22 +147,22 @@ module _ (k : FileKey) where
 
       go : (b : Bool) → nat_eq k.file_idx i ≡ b
           → (suc i ≤ k.file_idx → rows_among (keys.File k) (all_pieces selection m (suc i) rs)
-          ≡ rows_among (keys.File k) (piece_list (option_and_then (λ r. Some (pieces.File (file_piece 0 k.file_idx r))) (slice_get rs (k.file_idx - suc i)))))
-          → rows_among (keys.File k) (pieces.File (file_piece m i r) ∷ rest)
-          ≡ rows_among (keys.File k) (piece_list (option_and_then (λ r. Some (pieces.File (file_piece 0 k.file_idx r))) (slice_get (r ∷ rs) (k.file_idx - i))))
+          ≡ rows_among (keys.File k) (piece_list (option_and_then (λ r. Some (pieces.File (file_of_rows 0 k.file_idx r))) (slice_get rs (k.file_idx - suc i)))))
+          → rows_among (keys.File k) (pieces.File (file_of_rows m i r) ∷ rest)
+          ≡ rows_among (keys.File k) (piece_list (option_and_then (λ r. Some (pieces.File (file_of_rows 0 k.file_idx r))) (slice_get (r ∷ rs) (k.file_idx - i))))
       go true q more =
           let same : k.file_idx ≡ i = grind (arith, nat_tests, q) in
           let none : k.file_idx - i ≡ 0 = omega (arith, same) in
           let later : rows_among (keys.File k) rest ≡ None =
           file-skip (keys.File k) selection i r (all_pieces selection m (suc i) rs) (λ j s e. file-parts s)
           ∙ files-skip (keys.File k) selection m (suc i) rs (λ n h. two-false k.commit_idx k.file_idx n (λ d g. omega (arith, same, h, g))) (λ n j s h d. file-parts s) in
-          only-piece (keys.File k) (pieces.File (file_piece m i r)) rest later
+          only-piece (keys.File k) (pieces.File (file_of_rows m i r)) rest later
           ∙ rw (none, same) refl
       go false q more =
           let next : k.file_idx - i ≡ suc (k.file_idx - suc i) = grind (arith, nat_tests, q, low) in
-          let other : has (keys.File k) (piece_places (pieces.File (file_piece m i r))) ≡ false =
+          let other : has (keys.File k) (piece_places (pieces.File (file_of_rows m i r))) ≡ false =
           rw (two-false k.commit_idx k.file_idx i (λ d g. grind (arith, nat_tests, q, g))) refl in
-          skip-piece (keys.File k) (pieces.File (file_piece m i r)) rest other
+          skip-piece (keys.File k) (pieces.File (file_of_rows m i r)) rest other
           ∙ file-skip (keys.File k) selection i r (all_pieces selection m (suc i) rs) (λ j s e. file-parts s)
           ∙ more (grind (arith, nat_tests, q, low))
           ∙ rw next refl
@@ -192,7 +192,7 @@ module _ (key : SelectionKey) (q : SectionKey) (is : IsSectionOf key q) where
   beside : (n j : ℕ) (s : SectionPiece) → (q.section_idx ≡ j → ⊥) → s.key ≡ section_key_of (file_key_of 0 n) j → has key (section_places s) ≡ false
   beside n j s h e = is.other s (rw e (three-false q.commit_idx q.file_idx n q.section_idx j (λ c f x. h x)))
 
-  no-file : (m n : ℕ) (r : FileRows) → has key (piece_places (pieces.File (file_piece m n r))) ≡ false
+  no-file : (m n : ℕ) (r : FileRows) → has key (piece_places (pieces.File (file_of_rows m n r))) ≡ false
   no-file m n r = rw (is.file (file_key_of 0 n)) refl
 
   -- the sections from index j on, all below its own
@@ -202,7 +202,7 @@ module _ (key : SelectionKey) (q : SectionKey) (is : IsSectionOf key q) where
   later selection total n first j (r ∷ rs) rest h none = go (nat_lt r.top r.end) (later selection total n first (suc j) rs rest (omega (arith, h)) none)
     where
       p : SectionPiece
-      p = section_piece selection total (section_key_of (file_key_of 0 n) j) first r
+      p = section_of_rows selection total (section_key_of (file_key_of 0 n) j) first r
 
       go : (b : Bool) → rows_among key (map pieces.Section (section_pieces selection total (file_key_of 0 n) first (suc j) rs) ++ rest) ≡ None
           → rows_among key (map pieces.Section (if b then p ∷ section_pieces selection total (file_key_of 0 n) first (suc j) rs else section_pieces selection total (file_key_of 0 n) first (suc j) rs) ++ rest) ≡ None
@@ -220,14 +220,14 @@ module _ (key : SelectionKey) (q : SectionKey) (is : IsSectionOf key q) where
       k = file_key_of 0 q.file_idx
 
       p : SectionPiece
-      p = section_piece selection total (section_key_of k j) first r
+      p = section_of_rows selection total (section_key_of k j) first r
 
       more : List SectionPiece
       more = section_pieces selection total k first (suc j) rs
 
       -- it is this one
       own : (b : Bool) → q.section_idx ≡ j → rows_among key (map pieces.Section (if b then p ∷ more else more) ++ rest)
-          ≡ rows_among key (piece_list (if b then Some (pieces.Section (section_piece keys.None total (section_key_of k j) first r)) else None))
+          ≡ rows_among key (piece_list (if b then Some (pieces.Section (section_of_rows keys.None total (section_key_of k j) first r)) else None))
       own true e = only-piece key (pieces.Section p) (map pieces.Section more ++ rest) (later selection total q.file_idx first (suc j) rs rest (omega (arith, e)) none)
       own false e = later selection total q.file_idx first (suc j) rs rest (omega (arith, e)) none ∙ no-place key
 
@@ -281,21 +281,21 @@ module _ (key : SelectionKey) (q : SectionKey) (is : IsSectionOf key q) where
 
       split : (b : Bool) → nat_eq q.file_idx i ≡ b
           → (suc i ≤ q.file_idx → rows_among key rest ≡ rows_among key (piece_list (option_and_then (λ r. section_at r q) (slice_get rs (q.file_idx - suc i)))))
-          → rows_among key (pieces.File (file_piece m i r) ∷ (map pieces.Section (file_sections selection i r) ++ rest))
+          → rows_among key (pieces.File (file_of_rows m i r) ∷ (map pieces.Section (file_sections selection i r) ++ rest))
           ≡ rows_among key (piece_list (option_and_then (λ r. section_at r q) (slice_get (r ∷ rs) (q.file_idx - i))))
       split true e further =
           let same : q.file_idx ≡ i = grind (arith, nat_tests, e) in
           let zero : q.file_idx - i ≡ 0 = omega (arith, same) in
           let none : rows_among key rest ≡ None =
           files-skip key selection m (suc i) rs (λ n h. is.file (file_key_of 0 n)) (λ n j s h d. far n j s (λ z g. omega (arith, same, h, g)) d) in
-          skip-piece key (pieces.File (file_piece m i r)) (map pieces.Section (file_sections selection i r) ++ rest) (no-file m i r)
+          skip-piece key (pieces.File (file_of_rows m i r)) (map pieces.Section (file_sections selection i r) ++ rest) (no-file m i r)
           ∙ ap (λ n. rows_among key (map pieces.Section (file_sections selection n r) ++ rest)) (sym same)
           ∙ own-file selection r rest c none
           ∙ rw zero refl
       split false e further =
           let differ : q.file_idx ≡ i → ⊥ = λ g. grind (arith, nat_tests, e, g) in
           let next : q.file_idx - i ≡ suc (q.file_idx - suc i) = grind (arith, low, differ) in
-          skip-piece key (pieces.File (file_piece m i r)) (map pieces.Section (file_sections selection i r) ++ rest) (no-file m i r)
+          skip-piece key (pieces.File (file_of_rows m i r)) (map pieces.Section (file_sections selection i r) ++ rest) (no-file m i r)
           ∙ file-skip key selection i r rest (λ j s d. far i j s (λ z g. differ g) d)
           ∙ further (grind (arith, low, differ))
           ∙ rw next refl
@@ -319,7 +319,7 @@ file-rows : (k : FileKey) (selection : SelectionKey) (m : ℕ) (rs : List FileRo
 file-rows k selection m rs = go (nat_eq k.commit_idx 0) refl
   where
     go : (b : Bool) → nat_eq k.commit_idx 0 ≡ b → rows_among (keys.File k) (all_pieces selection m 0 rs)
-        ≡ rows_among (keys.File k) (piece_list (if b then option_and_then (λ r. Some (pieces.File (file_piece 0 k.file_idx r))) (slice_get rs k.file_idx) else None))
+        ≡ rows_among (keys.File k) (piece_list (if b then option_and_then (λ r. Some (pieces.File (file_of_rows 0 k.file_idx r))) (slice_get rs k.file_idx) else None))
     go true q =
         let same : k.file_idx - 0 ≡ k.file_idx = omega arith in
         file-find k selection m 0 rs (grind (arith, nat_tests, q)) (omega arith) ∙ rw same refl

@@ -2,5 +2,7 @@
 pub mod RowPieces
 -- rows of a layout that several owners share
 pub mod SharedRows
+-- runs of columns that have the same owner
+pub mod OwnerRuns
 -- the index by a layout, and what it answers
 pub mod LayoutIndex

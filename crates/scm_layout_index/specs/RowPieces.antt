@@ -1,5 +1,5 @@
 -- The pieces of files and sections, from the rows that a layout keeps of them. Indexes count from 0; all keys are those of commit 0.
-use Rattle.std.specs.Prelude.{◌≡◌, ℕ, ◌+◌, ◌-◌, ◌<◌, ◌≤◌, ◌^◌, ◌==◌, nat_le, nat_lt, not, ◌&&◌, ◌||◌, Bool, List, [], ◌∷◌, length, slice_get, if◌then◌else◌, Option, Some, None, option_and_then}
+use Rattle.std.specs.Prelude.{◌≡◌, ℕ, ◌+◌, ◌-◌, ◌<◌, ◌≤◌, ◌^◌, ◌==◌, nat_le, nat_lt, List, [], ◌∷◌, length, slice_get, if◌then◌else◌, Option, Some, None, option_and_then}
 use Rattle.scm_types.specs.declared.keys.FileKey.{FileKey}
 use Rattle.scm_types.specs.declared.keys.SectionKey.{SectionKey}
 use Rattle.scm_types.specs.declared.keys.SelectionKey.{SelectionKey}
@@ -7,57 +7,27 @@ use Rattle.scm_types.specs.declared.keys.SelectionKey.TheVariants as keys
 use Rattle.scm_types.specs.Keys.{is_key, section_key_of, section_of_line}
 use Rattle.scm_document.specs.declared.index_pieces.FilePiece.{FilePiece}
 use Rattle.scm_document.specs.declared.index_pieces.SectionPiece.{SectionPiece}
-use Rattle.scm_document.specs.declared.index_pieces.RowKinds.{RowKinds}
-use Rattle.scm_document.specs.declared.index_pieces.RowKinds.TheVariants as kinds
 use Rattle.scm_document.specs.declared.index_pieces.Piece.{Piece}
 use Rattle.scm_document.specs.declared.index_pieces.Piece.TheVariants as pieces
 use Rattle.scm_layout.specs.declared.file_rows.FileRows.{FileRows}
 use Rattle.scm_layout.specs.declared.section_rows.SectionRows.{SectionRows}
-use Rattle.scm_layout.specs.declared.section_rows.SectionShape.{SectionShape}
-use Rattle.scm_layout.specs.declared.section_rows.SectionShape.TheVariants as shapes
-use Rattle.scm_layout.specs.Rows.{dots_height, file_key_of, lines_above}
+use Rattle.scm_layout.specs.Rows.{file_key_of}
 use Rattle.scm_layout.specs.Searches.{FilesFollow, SectionsFollow, file_on, section_on}
+use Rattle.scm_document.specs.SectionPieces.{file_piece, section_piece}
 use Rattle.scm_layout_index.specs.declared.row_pieces.RowPieces.{RowPieces}
 
 -- ---- the piece of a section
 
--- the row kinds of section i of `total`, which has n lines of context
-abbrev pub context_kinds : ℕ → ℕ → ℕ → RowKinds
-context_kinds total i n =
-    if n == 0 then kinds.Context 0 1 0 else kinds.Context (lines_above total i n) (lines_above total i n + dots_height total i n) n
-
--- the row kinds of section i of `total`
-abbrev pub kinds_of : ℕ → ℕ → SectionShape → RowKinds
-kinds_of total i (shapes.Context lines) = context_kinds total i lines
-kinds_of total i shapes.Changed = kinds.Changed
-kinds_of total i shapes.Mark = kinds.Mark
-
--- whether n rows of a section of `count` lines of context have more than dots
-abbrev pub has_lines : ℕ → ℕ → ℕ → ℕ → Bool
-has_lines total i count n = not (count == 0) && nat_lt (dots_height total i count) n
-
--- whether section k of `total` owns columns 0 and 1 of its n rows, if `selection` is selected
-abbrev pub is_wide : SelectionKey → ℕ → SectionKey → ℕ → SectionShape → Bool
-is_wide selection total k n (shapes.Context lines) = has_lines total k.section_idx lines n
-is_wide selection total k n shapes.Changed = is_key (keys.Section k) selection || nat_lt 1 n
-is_wide selection total k n shapes.Mark = is_key (keys.Section k) selection
-
 -- the piece of section k of `total`, whose rows r are counted from row `first`
-abbrev pub section_piece : SelectionKey → ℕ → SectionKey → ℕ → SectionRows → SectionPiece
-section_piece selection total k first r = record {
-  key = k;
-  top = first + r.top;
-  end = first + r.end;
-  is_wide = is_wide selection total k (r.end - r.top) r.shape;
-  kinds = kinds_of total k.section_idx r.shape;
-}
+abbrev pub section_of_rows : SelectionKey → ℕ → SectionKey → ℕ → SectionRows → SectionPiece
+section_of_rows selection total k first r = section_piece (is_key (keys.Section k) selection) total k (first + r.top) (first + r.end) r.shape
 
 -- ---- the pieces that have a row
 
 -- the piece of section j of file i with rows r, if there is one
 abbrev pub piece_at : SelectionKey → ℕ → FileRows → ℕ → Option SectionPiece
 piece_at selection i r j =
-    option_and_then (λ s. Some (section_piece selection (length r.sections) (section_key_of (file_key_of 0 i) j) (r.top + 1) s)) (slice_get r.sections j)
+    option_and_then (λ s. Some (section_of_rows selection (length r.sections) (section_key_of (file_key_of 0 i) j) (r.top + 1) s)) (slice_get r.sections j)
 
 -- the piece of the section of file i with rows r that has row y of the document, if there is one
 abbrev pub section_in : SelectionKey → ℕ → FileRows → ℕ → Option SectionPiece
@@ -65,13 +35,13 @@ section_in selection i r y =
     if nat_le y r.top then None else option_and_then (piece_at selection i r) (section_on (y - (r.top + 1)) r.sections)
 
 -- the piece of file i with rows r, if a header may be pinned to row m
-abbrev pub file_piece : ℕ → ℕ → FileRows → FilePiece
-file_piece m i r = record { key = file_key_of 0 i; top = r.top; end = r.end; is_pinned = nat_lt r.top m && nat_lt m r.end }
+abbrev pub file_of_rows : ℕ → ℕ → FileRows → FilePiece
+file_of_rows m i r = file_piece m (file_key_of 0 i) r.top r.end
 
 -- the pieces of file i and of its section that has row y, if there is such a file
 abbrev pub pieces_at : SelectionKey → ℕ → ℕ → List FileRows → ℕ → Option RowPieces
 pieces_at selection m y rs i =
-    option_and_then (λ r. Some (record { file = file_piece m i r; section = section_in selection i r y })) (slice_get rs i)
+    option_and_then (λ r. Some (record { file = file_of_rows m i r; section = section_in selection i r y })) (slice_get rs i)
 
 -- the pieces that have row y, if any
 abbrev pub pieces_on : SelectionKey → ℕ → ℕ → List FileRows → Option RowPieces
@@ -89,14 +59,14 @@ found_list (Some p) = pieces.File p.file ∷ section_list p.section
 
 -- the piece of the file that has row m, to which a header may be pinned, if there is one
 abbrev pub pinned_piece : ℕ → List FileRows → Option Piece
-pinned_piece m rs = option_and_then (λ i. option_and_then (λ r. Some (pieces.File (file_piece m i r))) (slice_get rs i)) (file_on m rs)
+pinned_piece m rs = option_and_then (λ i. option_and_then (λ r. Some (pieces.File (file_of_rows m i r))) (slice_get rs i)) (file_on m rs)
 
 -- ---- the piece of a key
 
 -- the piece of section k of `total`, whose rows s are counted from row `first`, if it has rows
 abbrev pub shown_piece : ℕ → SectionKey → ℕ → SectionRows → Option Piece
 shown_piece total k first s =
-    if nat_lt s.top s.end then Some (pieces.Section (section_piece keys.None total k first s)) else None
+    if nat_lt s.top s.end then Some (pieces.Section (section_of_rows keys.None total k first s)) else None
 
 -- the piece of section k, unless its file with rows r has no more rows than its header
 abbrev pub section_at : FileRows → SectionKey → Option Piece
@@ -113,7 +83,7 @@ section_of_key rs k =
 -- the piece of file k
 abbrev pub file_of_key : List FileRows → FileKey → Option Piece
 file_of_key rs k =
-    if k.commit_idx == 0 then option_and_then (λ r. Some (pieces.File (file_piece 0 k.file_idx r))) (slice_get rs k.file_idx) else None
+    if k.commit_idx == 0 then option_and_then (λ r. Some (pieces.File (file_of_rows 0 k.file_idx r))) (slice_get rs k.file_idx) else None
 
 -- the piece that has the rows of a key, if any
 abbrev pub piece_of_key : List FileRows → SelectionKey → Option Piece

@@ -2,7 +2,7 @@
 ghost use Rattle.std.specs.Prelude.{◌≡◌, ◌+◌, ◌<◌, ◌^◌};
 ghost use Rattle.scm_layout_index.specs.RowPieces.{file_of_key, piece_of_key, section_at, section_of_key, shown_piece, RowsFit, SectionsFit};
 
-use crate::row_pieces::{file_piece, section_piece};
+use crate::row_pieces::{file_of_rows, section_of_rows};
 use scm_document::index_pieces::Piece;
 use scm_layout::{FileRows, SectionRows};
 use scm_types::{FileKey, SectionKey, SelectionKey};
@@ -10,14 +10,13 @@ use scm_types::{FileKey, SectionKey, SelectionKey};
 /// Returns the piece of section `key` of `total`, whose rows `rows` are counted from row `first`,
 /// if it has rows.
 fn shown_piece(total: usize, key: SectionKey, first: usize, rows: SectionRows) -> Option<Piece>
-    requires index { key.section_idx + 1 < 2 ^ 64 }
-    requires end { first + rows.end < 2 ^ 64 }
+    requires { first + rows.end < 2 ^ 64 }
     ensures { result ≡ shown_piece total key first rows }
 {
     if rows.end <= rows.top {
         return None;
     }
-    Some(Piece::Section(section_piece(SelectionKey::None, total, key, first, rows)))
+    Some(Piece::Section(section_of_rows(SelectionKey::None, total, key, first, rows)))
 }
 
 /// Returns the piece of section `key` of a file with the rows `rows`, unless the file has none below
@@ -55,7 +54,7 @@ fn file_of_key(rows: &[FileRows], key: FileKey) -> Option<Piece>
         return None;
     }
     let file_rows = rows.get(key.file_idx)?;
-    Some(Piece::File(file_piece(0, key.file_idx, file_rows)))
+    Some(Piece::File(file_of_rows(0, key.file_idx, file_rows)))
 }
 
 /// Returns the piece that has the rows of `key`, if any. The files have the rows `rows`.

@@ -4,7 +4,7 @@ ghost use Rattle.std.specs.Prelude.{◌≡◌, ℕ, ◌<◌, ◌≤◌, ◌^◌,
 ghost use Rattle.scm_errors.specs.declared.error.RecordError.TheVariants.{OutOfMemory};
 ghost use Rattle.scm_types.specs.Limits.{is_accepted_state, max_scroll};
 ghost use Rattle.scm_document.specs.HeaderRects.{message_rects};
-ghost use Rattle.scm_document.specs.Rows.{message_height};
+ghost use Rattle.scm_rows.specs.Heights.{message_height};
 ghost use Rattle.scm_overlay.specs.Tables.{menus_with};
 ghost use Rattle.scm_view.specs.ViewState.{ViewState, commit_at};
 ghost use Rattle.scm_view.specs.Window.{extent, owner, span};

@@ -8,11 +8,13 @@
 mod key_pieces;
 pub mod key_spans;
 pub mod layout_index;
+pub mod owner_runs;
 pub mod row_owners;
 mod row_pieces;
 pub mod shared_rows;
 
 pub use key_spans::span_of_key;
 pub use layout_index::LayoutIndex;
+pub use owner_runs::OwnerRun;
 pub use row_owners::RowOwners;
 pub use shared_rows::SharedRows;

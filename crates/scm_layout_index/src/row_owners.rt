@@ -17,11 +17,11 @@ use scm_widgets::overlay_rects::{have_row, overlay_owner};
 #[derive(Clone, Copy)]
 pub struct RowOwners {
     /// The row of the document, counted from 0.
-    row: usize,
+    pub(crate) row: usize,
     /// The file that has the row, and its section, if there is such a file.
-    found: Option<RowPieces>,
+    pub(crate) found: Option<RowPieces>,
     /// Whether something that lies over the document has the row.
-    is_covered: bool,
+    pub(crate) is_covered: bool,
 }
 
 /// Returns the owner of `row` and `column` among the pieces that have the row, if any. The screen
@@ -67,7 +67,7 @@ impl LayoutIndex {
     }
 
     /// Returns the owner of the place at `column` of the row of `owners`, if any.
-    fn owner_in(&self, owners: RowOwners, column: usize) -> Option<ComponentId>
+    pub(crate) fn owner_in(&self, owners: RowOwners, column: usize) -> Option<ComponentId>
         requires { AreRowOwners self.now owners }
         ensures { result ≡ owner_in self.now owners.row column }
     {

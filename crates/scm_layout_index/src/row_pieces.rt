@@ -4,14 +4,12 @@ ghost use Rattle.scm_document.specs.PieceOwners.{rows_owner};
 ghost use Rattle.scm_document.specs.Pieces.{files_of, sections_of};
 ghost use Rattle.scm_document.specs.HeaderRects.{pinned_rects};
 ghost use Rattle.scm_layout.specs.Searches.{FilesFollow};
-ghost use Rattle.scm_layout_index.specs.RowPieces.{context_kinds, end_of_files, file_piece, found_list, has_lines, is_wide, kinds_of, piece_at, piece_list, pieces_at, pieces_on, pinned_piece, section_in, section_piece, RowsFit, SectionsFit};
+ghost use Rattle.scm_layout_index.specs.RowPieces.{end_of_files, file_of_rows, found_list, piece_at, piece_list, pieces_at, pieces_on, pinned_piece, section_in, section_of_rows, RowsFit, SectionsFit};
 
-use scm_document::index_pieces::{
-    FilePiece, Piece, RowKinds, SectionPiece, push_pinned, rows_owner,
-};
+use scm_document::index_pieces::{FilePiece, Piece, SectionPiece, push_pinned, rows_owner};
+use scm_document::section_pieces::{file_piece, section_piece};
 use scm_layout::row_search::{file_on, section_on};
-use scm_layout::section_rows::{dots_height, lines_above};
-use scm_layout::{FileRows, SectionRows, SectionShape};
+use scm_layout::{FileRows, SectionRows};
 use scm_types::keys::is_key;
 use scm_types::{FileKey, Items, SectionKey, SelectionKey};
 use scm_widgets::ids::ComponentId;
@@ -27,94 +25,23 @@ pub struct RowPieces {
     pub section: Option<SectionPiece>,
 }
 
-/// Returns the row kinds of section `index` of `total`, which has `count` lines of context.
-fn context_kinds(total: usize, index: usize, count: usize) -> RowKinds
-    requires { index + 1 < 2 ^ 64 }
-    ensures { result ≡ context_kinds total index count }
-{
-    if count == 0 {
-        RowKinds::Context {
-            above: 0,
-            first: 1,
-            lines: 0,
-        }
-    } else {
-        let above = lines_above(total, index, count);
-        RowKinds::Context {
-            above,
-            first: above + dots_height(total, index, count),
-            lines: count,
-        }
-    }
-}
-
-/// Returns the row kinds of a section of shape `shape`, which has index `index` of `total`.
-fn kinds_of(total: usize, index: usize, shape: SectionShape) -> RowKinds
-    requires { index + 1 < 2 ^ 64 }
-    ensures { result ≡ kinds_of total index shape }
-{
-    match shape {
-        SectionShape::Context { lines } => context_kinds(total, index, lines),
-        SectionShape::Changed => RowKinds::Changed,
-        SectionShape::Mark => RowKinds::Mark,
-    }
-}
-
-/// Returns whether `rows` rows of section `index` of `total`, which has `count` lines of context,
-/// are more than its dots.
-fn has_lines(total: usize, index: usize, count: usize, rows: usize) -> bool
-    requires { index + 1 < 2 ^ 64 }
-    ensures { result ≡ has_lines total index count rows }
-{
-    let is_some = count != 0;
-    let dots = dots_height(total, index, count);
-    // `&`: one branch for the prover
-    is_some & (dots < rows)
-}
-
-/// Returns whether section `key` of `total`, of shape `shape`, owns columns 0 and 1 of its `rows`
-/// rows if `selection` is selected.
-fn is_wide(
-    selection: SelectionKey,
-    total: usize,
-    key: SectionKey,
-    rows: usize,
-    shape: SectionShape,
-) -> bool
-    requires { key.section_idx + 1 < 2 ^ 64 }
-    ensures { result ≡ is_wide selection total key rows shape }
-{
-    let is_selected = is_key(SelectionKey::Section(key), selection);
-    match shape {
-        SectionShape::Context { lines } => has_lines(total, key.section_idx, lines, rows),
-        // `|`: one branch for the prover
-        SectionShape::Changed => is_selected | (1 < rows),
-        SectionShape::Mark => is_selected,
-    }
-}
-
 /// Returns the piece of section `key` of `total`, whose rows `rows` are counted from row `first`,
 /// if `selection` is selected.
-pub(crate) fn section_piece(
+pub(crate) fn section_of_rows(
     selection: SelectionKey,
     total: usize,
     key: SectionKey,
     first: usize,
     rows: SectionRows,
 ) -> SectionPiece
-    requires index { key.section_idx + 1 < 2 ^ 64 }
     requires top { first + rows.top < 2 ^ 64 }
     requires end { first + rows.end < 2 ^ 64 }
-    ensures { result ≡ section_piece selection total key first rows }
+    ensures { result ≡ section_of_rows selection total key first rows }
 {
-    let count = rows.end.saturating_sub(rows.top);
-    SectionPiece {
-        key,
-        top: first + rows.top,
-        end: first + rows.end,
-        is_wide: is_wide(selection, total, key, count, rows.shape),
-        kinds: kinds_of(total, key.section_idx, rows.shape),
-    }
+    let is_selected = is_key(SelectionKey::Section(key), selection);
+    let top = first + rows.top;
+    let end = first + rows.end;
+    section_piece(is_selected, total, key, top, end, rows.shape)
 }
 
 /// Returns the key of file `index` of the first commit.
@@ -129,16 +56,10 @@ fn file_key(index: usize) -> FileKey
 
 /// Returns the piece of file `index`, which has the rows `rows`, if a header may be pinned to row
 /// `pinned`.
-pub(crate) fn file_piece(pinned: usize, index: usize, rows: &FileRows) -> FilePiece
-    ensures { result ≡ file_piece pinned index rows.now }
+pub(crate) fn file_of_rows(pinned: usize, index: usize, rows: &FileRows) -> FilePiece
+    ensures { result ≡ file_of_rows pinned index rows.now }
 {
-    FilePiece {
-        key: file_key(index),
-        top: rows.top,
-        end: rows.end,
-        // `&`: one branch for the prover
-        is_pinned: (rows.top < pinned) & (pinned < rows.end),
-    }
+    file_piece(pinned, file_key(index), rows.top, rows.end)
 }
 
 /// Returns the piece of section `section_idx` of file `index`, if there is one. The file has the rows
@@ -156,7 +77,7 @@ fn piece_at(
     let own = *sections.get(section_idx)?;
     let key = file_key(index).section(section_idx);
     let total = sections.len();
-    Some(section_piece(selection, total, key, rows.top + 1, own))
+    Some(section_of_rows(selection, total, key, rows.top + 1, own))
 }
 
 /// Returns the piece of the section of file `index` that has row `row` of the document, if any. The
@@ -193,7 +114,7 @@ fn pieces_at(
 {
     let file_rows = rows.get(index)?;
     Some(RowPieces {
-        file: file_piece(pinned, index, file_rows),
+        file: file_of_rows(pinned, index, file_rows),
         section: section_in(selection, index, file_rows, row),
     })
 }
@@ -242,7 +163,7 @@ fn pinned_piece(row: usize, files: &[FileRows]) -> Option<Piece>
 {
     let index = file_on(files, row)?;
     let rows = files.get(index)?;
-    Some(Piece::File(file_piece(row, index, rows)))
+    Some(Piece::File(file_of_rows(row, index, rows)))
 }
 
 /// Adds to `rects` the overlay rectangles of the header that is pinned to row `row`, if there is

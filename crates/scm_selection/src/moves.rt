@@ -118,8 +118,8 @@ fn is_editable_at(sections: &[Section<'_>], section: usize) -> bool
     }
 }
 
-/// Returns whether `key` names a file, a section or a line of `files`.
-fn is_key_of(files: &[File<'_>], key: SelectionKey) -> bool
+/// Returns whether `key` names a file, a section that is not context, or a changed line of `files`.
+pub fn is_key_of(files: &[File<'_>], key: SelectionKey) -> bool
     ensures { result ≡ is_key_of files.now key }
 {
     match key {

@@ -38,7 +38,8 @@ use Rattle.scm_view.proofs.AppLemmas.{apply-columns}
 use Rattle.scm_widgets.specs.Texts.{box_text, button_text}
 use Rattle.scm_document.specs.Texts.{number_text, sign_text}
 use Rattle.scm_widgets.specs.Boxes.{IdBox, is_fold_open}
-use Rattle.scm_document.specs.Rows.{line_texts, lent_text, header_heading, rows_of, section_rows, is_section_visible, is_open, is_first_open, shown_section, shown_sections, sections_rows, shown_file, file_rows, document_of}
+use Rattle.scm_rows.specs.Heights.{is_section_visible}
+use Rattle.scm_document.specs.Rows.{line_texts, lent_text, header_heading, rows_of, section_rows, is_open, is_first_open, shown_section, shown_sections, sections_rows, shown_file, file_rows, document_of}
 use Rattle.scm_document.specs.FilesRows.{files_rows}
 use Rattle.scm_widgets.specs.Pictures.{box_picture, button_picture}
 use Rattle.scm_document.specs.Pictures.{header_picture, inner_picture, line_picture, section_picture, file_picture, message_picture, commit_message_picture, commit_picture}
@@ -143,7 +144,7 @@ sections-few : (before : Bool) (vs : List SectionView) → length (sections_rows
 unfolding shown_sections sections_rows
 sections-few before [] = omega arith
 sections-few before (v ∷ vs) =
-    let b = is_section_visible before v (is_first_open vs) in
+    let b = is_section_visible before v.section.now (is_first_open vs) in
     omega (arith, length-sections (shown_section b v) (shown_sections (is_open v) vs), shown-few b v, sections-few (is_open v) vs, sum_by-cons size_of v vs)
 
 file-few : (v : FileView) → IsShortFile v → length (file_rows (shown_file v)) ≤ 2 ^ 42

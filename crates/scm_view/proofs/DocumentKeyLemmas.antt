@@ -18,7 +18,8 @@ use Rattle.scm_document.specs.OpenSights.{IsOpen}
 use Rattle.scm_document.specs.Owners.{IsRowOf, after_row, AreRowsOf, AreSectionsOf}
 use Rattle.scm_document.proofs.FilesOf.{HaveRows, IsFileOf, AreFilesOf, HasItsIds}
 use Rattle.scm_widgets.specs.Boxes.{IdBox}
-use Rattle.scm_document.specs.Rows.{file_id, section_id, line_id, DocRow, HeaderRow, SectionRow, LineRow, MarkRow, ContextRow, DotsRow, BlankRow, ShownSection, ShownFile, Document, file_rows, message_height}
+use Rattle.scm_rows.specs.Heights.{message_height}
+use Rattle.scm_document.specs.Rows.{file_id, section_id, line_id, DocRow, HeaderRow, SectionRow, LineRow, MarkRow, ContextRow, DotsRow, BlankRow, ShownSection, ShownFile, Document, file_rows}
 use Rattle.scm_widgets.specs.Pictures.{IdPicture, box_picture, box_part}
 use Rattle.scm_document.specs.Pictures.{changed_picture, context_picture, row_picture, rows_picture, sections_picture, shown_file_picture, file_mask, mask_row, pinned_header, pinned_picture, one_file_picture, files_picture, message_picture, no_files_picture, body_picture, document_picture}
 use Rattle.scm_document.specs.Strips.{is_over}

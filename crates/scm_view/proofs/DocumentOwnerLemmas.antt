@@ -23,7 +23,8 @@ use Rattle.scm_widgets.specs.Layers.{clear, owned_by}
 use Rattle.scm_widgets.specs.Blanks.{blank_strip}
 use Rattle.scm_document.specs.Texts.{no_files_text, message_text}
 use Rattle.scm_document.proofs.FilesOf.{AreFilesOf, HasItsIds}
-use Rattle.scm_document.specs.Rows.{ShownFile, Document, message_height}
+use Rattle.scm_rows.specs.Heights.{message_height}
+use Rattle.scm_document.specs.Rows.{ShownFile, Document}
 use Rattle.scm_document.specs.Pictures.{mask_row, body_picture, files_picture, beside_button, message_picture, no_files_picture, document_picture, button_row_picture}
 use Rattle.scm_widgets.specs.Pictures.{button_picture}
 use Rattle.scm_document.specs.Strips.{files_strips, pinned_strips, message_strip, message_strips, no_files_gap, no_files_strip, no_files_layers, document_layers, pinned_layer}

@@ -4,7 +4,8 @@ use Rattle.std.specs.Prelude.{Option, Some, None, if◌then◌else◌}
 use Rattle.std.proofs.lemmas.List.{length-map, get_or-append_right}
 use Rattle.scm_render.specs.Canvas.{Row}
 use Rattle.scm_overlay.specs.declared.quit_dialog.QuitDialog.{QuitDialog}
-use Rattle.scm_document.specs.Rows.{ShownFile, Document, message_height}
+use Rattle.scm_rows.specs.Heights.{message_height}
+use Rattle.scm_document.specs.Rows.{ShownFile, Document}
 use Rattle.scm_document.specs.FilesRows.{files_rows}
 use Rattle.scm_view.specs.ViewState.{ViewState}
 use Rattle.scm_document.specs.Strips.{message_strips}

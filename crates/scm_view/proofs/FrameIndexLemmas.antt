@@ -29,7 +29,8 @@ use Rattle.scm_document.specs.declared.index_pieces.FilePiece.{FilePiece}
 use Rattle.scm_document.specs.declared.index_pieces.SectionPiece.{SectionPiece}
 use Rattle.scm_widgets.specs.Layers.{Strip, Layer, clear, is_within, strip_at, owned_by, end_of, rows_around}
 use Rattle.scm_widgets.specs.Screens.{screen}
-use Rattle.scm_document.specs.Rows.{Document, document_of, shown_file, file_rows, message_height}
+use Rattle.scm_rows.specs.Heights.{message_height}
+use Rattle.scm_document.specs.Rows.{Document, document_of, shown_file, file_rows}
 use Rattle.scm_view.specs.ViewState.{ViewState, Shows}
 use Rattle.scm_view.specs.AppView.{ShowInOrder, has_help}
 use Rattle.scm_document.specs.ViewColumns.{view_count}

@@ -37,12 +37,15 @@ use Rattle.scm_document.specs.declared.section_view.SectionView.{SectionView}
 use Rattle.scm_document.specs.declared.commit_view.CommitView.{CommitView}
 use Rattle.scm_widgets.specs.Texts.{icon_text, bracketed, box_text}
 use Rattle.scm_document.specs.Texts.{path_text, section_text, mode_change_text, binary_text, number_text, sign_text, dots_text, message_text}
-use Rattle.scm_document.specs.Rows.{Document, message_height, Heading, DocRow, DotsRow, BlankRow, ShownSection, line_texts, line_box, section_box, is_first, are_all_shown, lines_above, has_dots, first_below, rows_below, shown_lines, context_rows, lines_height, section_height, changed_rows, numbered_rows, rows_of, section_rows, is_section_visible, is_open, is_first_open, shown_section, shown_sections, sections_rows, shown_file, lent_text, file_rows, document_of, line_number, section_heading}
+use Rattle.scm_rows.specs.Context.{are_all_shown, first_below, has_dots, is_first, lines_above, lines_height}
+use Rattle.scm_rows.specs.Heights.{is_section_visible, message_height}
+use Rattle.scm_document.specs.Rows.{Document, Heading, DocRow, DotsRow, BlankRow, ShownSection, line_texts, line_box, section_box, rows_below, shown_lines, context_rows, section_height, changed_rows, numbered_rows, rows_of, section_rows, is_open, is_first_open, shown_section, shown_sections, sections_rows, shown_file, lent_text, file_rows, document_of, line_number, section_heading, place_of}
 use Rattle.scm_widgets.specs.Boxes.{IdBox, is_fold_open}
 use Rattle.scm_document.specs.FilesRows.{files_rows}
 use Rattle.scm_document.specs.Pictures.{commit_picture}
 use Rattle.scm_types.specs.Keys.{section_key_of}
-use Rattle.scm_view.specs.ViewState.{ViewState, Shows, borrow_of, Totals, totals_of, section_view_of, section_views_of, file_view_of, file_views_of, commit_at, commit_view_of, old_lines}
+use Rattle.scm_rows.specs.Lines.{old_lines}
+use Rattle.scm_view.specs.ViewState.{ViewState, Shows, borrow_of, Totals, totals_of, section_view_of, section_views_of, file_view_of, file_views_of, commit_at, commit_view_of}
 use Rattle.scm_document.specs.ScrollBounds.{IsInScrollBounds, SightIsInScrollBounds}
 use Rattle.scm_widgets.specs.DrawBounds.{IsInDrawBounds}
 use Rattle.scm_document.specs.DrawBounds.{SightIsInDrawBounds}
@@ -253,9 +256,9 @@ context-narrow v ls h = go (length ls == 0)
   where
     shown : AreNarrow (shown_lines v ls)
     shown =
-        narrow-append (numbered_rows v 0 (take (lines_above v (length ls)) ls)) (rows_below v ls) (numbered-narrow v 0 (take (lines_above v (length ls)) ls) (all-take is_short_text (lines_above v (length ls)) ls h))
-        (narrow-append (if has_dots v (length ls) then DotsRow (dots_text v.use_unicode) ∷ [] else []) (numbered_rows v (first_below v (length ls)) (drop (first_below v (length ls)) ls)) (dots_row-narrow (has_dots v (length ls)) v)
-        (numbered-narrow v (first_below v (length ls)) (drop (first_below v (length ls)) ls) (all-drop is_short_text (first_below v (length ls)) ls h)))
+        narrow-append (numbered_rows v 0 (take (lines_above (place_of v) (length ls)) ls)) (rows_below v ls) (numbered-narrow v 0 (take (lines_above (place_of v) (length ls)) ls) (all-take is_short_text (lines_above (place_of v) (length ls)) ls h))
+        (narrow-append (if has_dots (place_of v) (length ls) then DotsRow (dots_text v.use_unicode) ∷ [] else []) (numbered_rows v (first_below (place_of v) (length ls)) (drop (first_below (place_of v) (length ls)) ls)) (dots_row-narrow (has_dots (place_of v) (length ls)) v)
+        (numbered-narrow v (first_below (place_of v) (length ls)) (drop (first_below (place_of v) (length ls)) ls) (all-drop is_short_text (first_below (place_of v) (length ls)) ls h)))
 
     go : (b : Bool) → AreNarrow (if b then BlankRow ∷ [] else shown_lines v ls)
     go true = (tt, tt)
@@ -322,8 +325,8 @@ files-narrow s commit i (f ∷ fs) h =
 
 -- ---- numbers of rows
 
-lines-few : (v : SectionView) (n : ℕ) → lines_height v n ≤ 2 * n + 1
-lines-few v n = omega (arith, at_most (are_all_shown v n) (is_first v) n, one (has_dots v n))
+lines-few : (v : SectionView) (n : ℕ) → lines_height (place_of v) n ≤ 2 * n + 1
+lines-few v n = omega (arith, at_most (are_all_shown (place_of v) n) (is_first (place_of v)) n, one (has_dots (place_of v) n))
   where
     one : (b : Bool) → (if b then 1 else 0) ≤ 1
     one true = omega arith
@@ -332,7 +335,7 @@ lines-few v n = omega (arith, at_most (are_all_shown v n) (is_first v) n, one (h
 rows-few : (v : SectionView) (section : Section) → section_height v section ≤ 2 * section_size section + 1
 rows-few v (Unchanged ls) = go (length ls == 0)
   where
-    go : (b : Bool) → (if b then 1 else lines_height v (length ls)) ≤ 2 * length ls + 1
+    go : (b : Bool) → (if b then 1 else lines_height (place_of v) (length ls)) ≤ 2 * length ls + 1
     go true = omega arith
     go false = lines-few v (length ls)
 rows-few v (Changed ls) = go (is_fold_open v.expand_box)
@@ -355,11 +358,11 @@ sections-few s totals k before i editable line [] = omega arith
 sections-few s totals k before i editable line (section ∷ more) =
     let v = section_view_of s totals (section_key_of k i) editable line section in
     let rest = shown_sections (is_open v) (section_views_of s totals k (suc i) (if is_editable_section section then editable + 1 else editable) (line + old_lines section) more) in
-    let first = shown_section (is_section_visible before v (is_first_open (section_views_of s totals k (suc i) (if is_editable_section section then editable + 1 else editable) (line + old_lines section) more))) v in
+    let first = shown_section (is_section_visible before v.section.now (is_first_open (section_views_of s totals k (suc i) (if is_editable_section section then editable + 1 else editable) (line + old_lines section) more))) v in
     omega (
       arith,
       length-sections first rest,
-      shown-few (is_section_visible before v (is_first_open (section_views_of s totals k (suc i) (if is_editable_section section then editable + 1 else editable) (line + old_lines section) more))) v,
+      shown-few (is_section_visible before v.section.now (is_first_open (section_views_of s totals k (suc i) (if is_editable_section section then editable + 1 else editable) (line + old_lines section) more))) v,
       sections-few s totals k (is_open v) (suc i) (if is_editable_section section then editable + 1 else editable) (line + old_lines section) more,
       sum_by-cons section_size section more,
     )

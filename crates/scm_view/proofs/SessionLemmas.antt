@@ -14,10 +14,13 @@ use Rattle.scm_types.specs.declared.keys.SelectionKey.TheVariants as selection
 use Rattle.scm_widgets.specs.declared.ids.ComponentId.TheVariants as ids
 use Rattle.scm_document.specs.declared.section_view.SectionView.{SectionView}
 use Rattle.scm_document.specs.Texts.{dots_text}
-use Rattle.scm_document.specs.Rows.{DocRow, HeaderRow, SectionRow, LineRow, MarkRow, ContextRow, DotsRow, BlankRow, ShownSection, is_open, is_first_open, is_section_visible, is_first, is_last, has_dots, first_below, lines_above, shown_lines, rows_below, context_rows, changed_rows, numbered_rows, rows_of, section_rows, shown_section, shown_sections, shown_file, document_of}
+use Rattle.scm_rows.specs.Context.{first_below, has_dots, is_first, is_last, lines_above}
+use Rattle.scm_rows.specs.Heights.{is_section_visible}
+use Rattle.scm_document.specs.Rows.{DocRow, HeaderRow, SectionRow, LineRow, MarkRow, ContextRow, DotsRow, BlankRow, ShownSection, is_open, is_first_open, shown_lines, rows_below, context_rows, changed_rows, numbered_rows, rows_of, section_rows, shown_section, shown_sections, shown_file, document_of, place_of}
 use Rattle.scm_widgets.specs.Boxes.{is_fold_open}
 use Rattle.scm_types.specs.Keys.{section_key_of}
-use Rattle.scm_view.specs.ViewState.{ViewState, Totals, totals_of, old_lines, section_view_of, section_views_of, file_view_of, file_views_of, commit_view_of}
+use Rattle.scm_rows.specs.Lines.{old_lines}
+use Rattle.scm_view.specs.ViewState.{ViewState, Totals, totals_of, section_view_of, section_views_of, file_view_of, file_views_of, commit_view_of}
 use Rattle.scm_document.specs.Owners.{IsRowOf, after_row, AreRowsOf, AreSectionsOf}
 use Rattle.scm_document.proofs.FilesOf.{HaveRows, IsFileOf, AreFilesOf, HasItsIds}
 
@@ -95,20 +98,20 @@ context-are v ls = go (length ls == 0)
     n = length ls
 
     above : ℕ
-    above = lines_above v n
+    above = lines_above (place_of v) n
 
     taken : length (take above ls) ≡ above
-    taken = let h = above-all (is_first v) (is_last v) (nat_le n 6) n in omega (arith, length-take above ls, h)
+    taken = let h = above-all (is_first (place_of v)) (is_last (place_of v)) (nat_le n 6) n in omega (arith, length-take above ls, h)
 
-    apart : suc (0 + length (take above ls)) ≤ suc (first_below v n)
-    apart = let h = above-below (is_first v) (is_last v) (nat_le n 6) n refl in omega (arith, taken, h)
+    apart : suc (0 + length (take above ls)) ≤ suc (first_below (place_of v) n)
+    apart = let h = above-below (is_first (place_of v)) (is_last (place_of v)) (nat_le n 6) n refl in omega (arith, taken, h)
 
     go : (b : Bool) → AreRowsOf v.section_key 0 (if b then BlankRow ∷ [] else shown_lines v ls)
     go true = (tt, tt)
     go false =
         numbered-are v 0 0 (take above ls) (rows_below v ls) (omega arith)
-        (dots-are v (has_dots v n) (suc (0 + length (take above ls))) (numbered_rows v (first_below v n) (drop (first_below v n) ls))
-        (numbered-alone v (suc (0 + length (take above ls))) (first_below v n) (drop (first_below v n) ls) apart))
+        (dots-are v (has_dots (place_of v) n) (suc (0 + length (take above ls))) (numbered_rows v (first_below (place_of v) n) (drop (first_below (place_of v) n) ls))
+        (numbered-alone v (suc (0 + length (take above ls))) (first_below (place_of v) n) (drop (first_below (place_of v) n) ls) apart))
 
 -- the boxes of a section's view have the ids of its key
 record HasBoxesOf (k : SectionKey) (v : SectionView) : Type 0 where
@@ -148,7 +151,7 @@ lines-shown false true few n e some h = inl (omega (arith, some))
 lines-shown false false true n e some h = inl some
 lines-shown false false false n e some h = inl (omega (arith, some))
 
-context-some : (v : SectionView) (ls : List (List ℕ)) → (is_first v ≡ true → is_last v ≡ false) → 0 < length (context_rows v ls)
+context-some : (v : SectionView) (ls : List (List ℕ)) → (is_first (place_of v) ≡ true → is_last (place_of v) ≡ false) → 0 < length (context_rows v ls)
 unfolding context_rows
 context-some v ls h = go (length ls == 0) refl
   where
@@ -156,17 +159,17 @@ context-some v ls h = go (length ls == 0) refl
     n = length ls
 
     above : ℕ
-    above = lines_above v n
+    above = lines_above (place_of v) n
 
     below : ℕ
-    below = first_below v n
+    below = first_below (place_of v) n
 
     dots : List DocRow
-    dots = if has_dots v n then DotsRow (dots_text v.use_unicode) ∷ [] else []
+    dots = if has_dots (place_of v) n then DotsRow (dots_text v.use_unicode) ∷ [] else []
 
     shown : (0 < above) ⊎ (below < n) → 0 < length (shown_lines v ls)
     shown (inl p) =
-        let all = above-all (is_first v) (is_last v) (nat_le n 6) n in
+        let all = above-all (is_first (place_of v)) (is_last (place_of v)) (nat_le n 6) n in
         some-above (numbered_rows v 0 (take above ls)) (rows_below v ls) (some-lines v 0 (take above ls) (omega (arith, length-take above ls, all, p)))
     shown (inr p) =
         some-below (numbered_rows v 0 (take above ls)) (rows_below v ls)
@@ -174,9 +177,9 @@ context-some v ls h = go (length ls == 0) refl
 
     go : (b : Bool) → (length ls == 0) ≡ b → 0 < length (if b then BlankRow ∷ [] else shown_lines v ls)
     go true e = omega arith
-    go false e = shown (lines-shown (is_first v) (is_last v) (nat_le n 6) n refl (grind (arith, e)) h)
+    go false e = shown (lines-shown (is_first (place_of v)) (is_last (place_of v)) (nat_le n 6) n refl (grind (arith, e)) h)
 
-rows-some : (v : SectionView) (section : Section) → (is_editable_section section ≡ true) ⊎ (is_first v ≡ true → is_last v ≡ false) → 0 < length (rows_of v section)
+rows-some : (v : SectionView) (section : Section) → (is_editable_section section ≡ true) ⊎ (is_first (place_of v) ≡ true → is_last (place_of v) ≡ false) → 0 < length (rows_of v section)
 rows-some v (Unchanged ls) (inl e) = absurd (cc e)
 rows-some v (Unchanged ls) (inr h) = context-some v ls h
 rows-some v (Changed ls) h = omega arith
@@ -190,7 +193,7 @@ sections-of : (s : ViewState) (totals : Totals) (k : FileKey) (before : Bool) (i
 unfolding section_views_of shown_sections section_rows
 sections-of s totals k before i editable line [] = tt
 sections-of s totals k before i editable line (section ∷ more) =
-    go (is_section_visible before v (is_first_open vs)) (sections-of s totals k (is_open v) (suc i) next below more)
+    go (is_section_visible before v.section.now (is_first_open vs)) (sections-of s totals k (is_open v) (suc i) next below more)
   where
     v : SectionView
     v = section_view_of s totals (section_key_of k i) editable line section
@@ -232,7 +235,7 @@ sections-some : (s : ViewState) (totals : Totals) (k : FileKey) (before : Bool) 
 unfolding section_views_of shown_sections section_rows
 sections-some s totals k before i editable line [] e h = tt
 sections-some s totals k before i editable line (section ∷ more) e h =
-    go (is_section_visible before v (is_first_open vs)) refl (sections-some s totals k (is_open v) (suc i) next below more (omega (arith, e)) (λ _. omega arith))
+    go (is_section_visible before v.section.now (is_first_open vs)) refl (sections-some s totals k (is_open v) (suc i) next below more (omega (arith, e)) (λ _. omega arith))
   where
     v : SectionView
     v = section_view_of s totals (section_key_of k i) editable line section
@@ -246,9 +249,9 @@ sections-some s totals k before i editable line (section ∷ more) e h =
     vs : List SectionView
     vs = section_views_of s totals k (suc i) next below more
 
-    go : (b : Bool) → is_section_visible before v (is_first_open vs) ≡ b → HaveRows (shown_sections (is_open v) vs) → HaveRows (shown_section b v ++ shown_sections (is_open v) vs)
+    go : (b : Bool) → is_section_visible before v.section.now (is_first_open vs) ≡ b → HaveRows (shown_sections (is_open v) vs) → HaveRows (shown_section b v ++ shown_sections (is_open v) vs)
     go true shown rest = (
-      rows-some v section (shown-which before (is_editable_section section) (is_first_open vs) (is_first v) (is_last v) shown
+      rows-some v section (shown-which before (is_editable_section section) (is_first_open vs) (is_first (place_of v)) (is_last (place_of v)) shown
           (λ p. not-zero i (h p)) (λ p. not-last i (length more) totals.sections e (open-more s totals k (suc i) next below more p))),
       rest,
     )

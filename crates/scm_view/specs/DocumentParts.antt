@@ -5,7 +5,8 @@ use Rattle.scm_render.specs.Canvas.{Row}
 use Rattle.scm_widgets.specs.declared.ids.ComponentId.{ComponentId}
 use Rattle.scm_overlay.specs.declared.quit_dialog.QuitDialog.{QuitDialog}
 use Rattle.scm_view.specs.declared.document_part.DocumentPart.{DocumentPart}
-use Rattle.scm_document.specs.Rows.{ShownFile, Document, message_height}
+use Rattle.scm_rows.specs.Heights.{message_height}
+use Rattle.scm_document.specs.Rows.{ShownFile, Document}
 use Rattle.scm_document.specs.FilesRows.{files_rows}
 use Rattle.scm_widgets.specs.Layers.{Layer}
 use Rattle.scm_overlay.specs.Overlays.{overlays}

@@ -4,11 +4,7 @@
 use Rattle.std.specs.Prelude.{◌≡◌, ℕ, zero, suc, ◌+◌, List, [], ◌∷◌, length, count_by, Bool, true, false, ◌&&◌, if◌then◌else◌, Option, Some, None, option_map}
 use Rattle.std.specs.Borrow.{Bor}
 use Rattle.scm_types.specs.declared.file.File.{File}
-use Rattle.scm_types.specs.declared.line.ChangeType.{ChangeType}
-use Rattle.scm_types.specs.declared.line.ChangeType.TheVariants.{Added, Removed}
-use Rattle.scm_types.specs.declared.line.SectionChangedLine.{SectionChangedLine}
 use Rattle.scm_types.specs.declared.section.Section.{Section}
-use Rattle.scm_types.specs.declared.section.Section.TheVariants.{Unchanged, Changed, FileMode, Binary}
 use Rattle.scm_types.specs.declared.state.Commit.{Commit}
 use Rattle.scm_types.specs.declared.state.RecordState.{RecordState}
 use Rattle.scm_types.specs.declared.tristate.Tristate.{Tristate}
@@ -29,6 +25,7 @@ use Rattle.scm_document.specs.declared.commit_view.CommitView.{CommitView}
 use Rattle.scm_document.specs.declared.commit_view.CommitViewMode.{CommitViewMode}
 use Rattle.scm_types.specs.Keys.{section_key_of, section_of_line, is_key, has_key}
 use Rattle.scm_widgets.specs.Boxes.{IdBox}
+use Rattle.scm_rows.specs.Lines.{is_changed, old_lines}
 use Rattle.scm_document.specs.Rows.{document_of}
 
 -- A view state.
@@ -82,13 +79,6 @@ expand_box_of s key fold = record {
 abbrev pub section_fold : ViewState → SectionKey → Tristate
 section_fold s k = if has_key s.expanded (keys.Section k) then tristate.True else tristate.False
 
--- Whether the section has changed lines.
-abbrev pub is_changed : Section → Bool
-is_changed (Unchanged lines) = false
-is_changed (Changed lines) = true
-is_changed (FileMode checked mode) = false
-is_changed (Binary checked old new) = false
-
 -- Whether all sections with changed lines are expanded; the first section of the list has index `i`.
 unfoldable pub are_all_expanded : ViewState → FileKey → ℕ → List Section → Bool
 are_all_expanded s k i [] = true
@@ -114,21 +104,6 @@ selected_in k (keys.Line line) =
     if is_key (keys.Section k) (keys.Section (section_of_line line))
     then Some (ChangedLine line.line_idx)
     else None
-
--- Whether the line is removed.
-abbrev pub is_removed : SectionChangedLine → Bool
-is_removed l = removed l.change_type
-  where
-    removed : ChangeType → Bool
-    removed Added = false
-    removed Removed = true
-
--- The number of lines that the section has before the changes.
-abbrev pub old_lines : Section → ℕ
-old_lines (Unchanged lines) = length lines
-old_lines (Changed lines) = count_by is_removed lines
-old_lines (FileMode checked mode) = 0
-old_lines (Binary checked old new) = 0
 
 -- Counts of a file's sections.
 pub record Totals : Type 0 where

@@ -1,31 +1,23 @@
 -- The view of a section of a file, by the counts of the layout.
-use Rattle.std.proofs.Common.{◌≡◌, ℕ, zero, suc, ◌+◌, ◌<◌, ◌≤◌, Bool, true, false, not, ◌&&◌, List, [], ◌∷◌, length, get_or, refl, sym, ap, ap₂, subst, ◌∙◌, arith}
-use Rattle.std.specs.Prelude.{sum_by, map, nat_eq, if◌then◌else◌}
-use Rattle.std.proofs.lemmas.Bool.Decides.{nat_tests}
+use Rattle.std.proofs.Common.{◌≡◌, ℕ, zero, suc, ◌+◌, ◌<◌, ◌≤◌, Bool, true, false, List, [], ◌∷◌, length, get_or, refl, sym, ap, ap₂, subst, ◌∙◌, arith}
+use Rattle.std.specs.Prelude.{sum_by, map, if◌then◌else◌}
 use Rattle.std.proofs.lemmas.List.Sums.{sum_by-cons}
 use Rattle.scm_types.specs.declared.file.File.{File}
 use Rattle.scm_types.specs.declared.keys.FileKey.{FileKey}
 use Rattle.scm_types.specs.declared.section.Section.{Section}
-use Rattle.scm_types.specs.declared.section.Section.TheVariants.{Unchanged, Changed, FileMode, Binary}
 use Rattle.scm_types.specs.Keys.{section_key_of}
 use Rattle.scm_types.specs.Marks.{is_editable_section}
 use Rattle.scm_document.specs.declared.file_view.FileView.{FileView}
 use Rattle.scm_document.specs.declared.section_view.SectionView.{SectionView}
-use Rattle.scm_view.specs.ViewState.{Totals, ViewState, are_all_expanded, is_changed, old_lines, section_view_of, section_views_of}
+use Rattle.scm_rows.specs.Lines.{old_lines}
+use Rattle.scm_view.specs.ViewState.{Totals, ViewState, section_view_of, section_views_of}
 use Rattle.scm_layout.specs.declared.file_counts.FileCounts.{FileCounts}
 use Rattle.scm_layout.specs.declared.section_counts.SectionCounts.{SectionCounts}
 use Rattle.scm_layout.specs.Counts.{file_counts, section_counts, sections_counts}
-use Rattle.scm_layout.specs.Lines.{is_changed as changed, old_lines as lines_of}
-use Rattle.scm_layout.specs.Rows.{file_key_of, folded_count, is_expanded}
+use Rattle.scm_layout.specs.Rows.{file_key_of}
 use Rattle.scm_view_state.specs.declared.stretches.Stretch.{Stretch}
 use Rattle.scm_view_state.specs.Stretches.{file_part_of, file_parts_of, is_unfolded, section_range}
 use Rattle.scm_view_state.proofs.FilePartLemmas.{range_by}
-
-same-lines : (x : Section) → lines_of x ≡ old_lines x
-same-lines (Unchanged lines) = refl
-same-lines (Changed lines) = refl
-same-lines (FileMode is_checked mode) = refl
-same-lines (Binary is_checked old new) = refl
 
 -- section x with index n has the counts c and the view v
 pub record IsCounted (s : ViewState) (t : Totals) (k : FileKey) (editable lines : ℕ) (n : ℕ) (x : Section) (c : SectionCounts) (v : SectionView) : Type 0 where
@@ -52,8 +44,7 @@ counted-at s t k i editable line line' zero dx dc dv (x ∷ xs) e h =
     }
 counted-at s t k i editable line line' (suc n) dx dc dv (x ∷ xs) e h =
     let editable' = if is_editable_section x then editable + 1 else editable in
-    let lines = same-lines x in
-    let rest = counted-at s t k (suc i) editable' (line + old_lines x) (line' + lines_of x) n dx dc dv xs (omega (arith, e, lines)) (omega (arith, h)) in
+    let rest = counted-at s t k (suc i) editable' (line + old_lines x) (line' + old_lines x) n dx dc dv xs (omega (arith, e)) (omega (arith, h)) in
     let next : suc i + n ≡ i + suc n = omega arith in
     let more = editable-more (is_editable_section x) editable in
     let all = sum_by-cons old_lines x xs in
@@ -61,7 +52,7 @@ counted-at s t k i editable line line' (suc n) dx dc dv (x ∷ xs) e h =
     let a = rest.above in
     record {
       counts = rest.counts;
-      view = rest.view ∙ ap (λ j. section_view_of s t (section_key_of k j) (get_or (sections_counts editable' (line' + lines_of x) xs) n dc).editable_before (get_or (sections_counts editable' (line' + lines_of x) xs) n dc).lines_before (get_or xs n dx)) next;
+      view = rest.view ∙ ap (λ j. section_view_of s t (section_key_of k j) (get_or (sections_counts editable' (line' + old_lines x) xs) n dc).editable_before (get_or (sections_counts editable' (line' + old_lines x) xs) n dc).lines_before (get_or xs n dx)) next;
       before = omega (arith, b, more);
       above = omega (arith, a, all);
     }
@@ -84,7 +75,7 @@ section-at s t k n dx dc dv xs h =
 pub counts-length : (editable lines : ℕ) (xs : List Section) → length (sections_counts editable lines xs) ≡ length xs
 unfolding sections_counts
 counts-length editable lines [] = refl
-counts-length editable lines (x ∷ xs) = ap suc (counts-length (if is_editable_section x then editable + 1 else editable) (lines + lines_of x) xs)
+counts-length editable lines (x ∷ xs) = ap suc (counts-length (if is_editable_section x then editable + 1 else editable) (lines + old_lines x) xs)
 
 -- ---- files
 
@@ -109,25 +100,6 @@ pub counts-at : (n : ℕ) (df : File) (dc : FileCounts) (fs : List File) → n <
 counts-at n df dc [] h = absurd (omega (arith, h))
 counts-at zero df dc (f ∷ fs) h = refl
 counts-at (suc n) df dc (f ∷ fs) h = counts-at n df dc fs (omega (arith, h))
-
--- ---- folds
-
-count-step : (changed_lines unfolded more : Bool) (n : ℕ) → more ≡ nat_eq n 0 → ((if changed_lines then unfolded else true) && more) ≡ nat_eq ((if changed_lines && not unfolded then 1 else 0) + n) 0
-count-step true true more n e = grind (arith, nat_tests)
-count-step true false more n e = grind (arith, nat_tests)
-count-step false unfolded more n e = grind (arith, nat_tests)
-
-same-changed : (x : Section) → is_changed x ≡ changed x
-same-changed (Unchanged lines) = refl
-same-changed (Changed lines) = refl
-same-changed (FileMode is_checked mode) = refl
-same-changed (Binary is_checked old new) = refl
-
-pub folds-counted : (s : ViewState) (k : FileKey) (i : ℕ) (xs : List Section) → are_all_expanded s k i xs ≡ nat_eq (folded_count s.expanded k i xs) 0
-unfolding are_all_expanded folded_count
-folds-counted s k i [] = refl
-folds-counted s k i (x ∷ xs) = ap (λ b. (if b then is_expanded s.expanded k i else true) && are_all_expanded s k (suc i) xs) (same-changed x)
-    ∙ count-step (changed x) (is_expanded s.expanded k i) (are_all_expanded s k (suc i) xs) (folded_count s.expanded k (suc i) xs) (folds-counted s k (suc i) xs)
 
 -- an element within a list is the same with any default
 pub get-any : {A : Type 0} (n : ℕ) (d e : A) (xs : List A) → n < length xs → get_or xs n d ≡ get_or xs n e

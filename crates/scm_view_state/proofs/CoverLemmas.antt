@@ -1,6 +1,6 @@
 -- The stretch of files and sections that the layout finds covers the screen.
-use Rattle.std.proofs.Common.{◌≡◌, ℕ, zero, suc, ◌+◌, ◌-◌, ◌<◌, ◌≤◌, ◌⊎◌, inl, inr, ⊎_elim, min, nat_le, nat_lt, Bool, true, false, ◌&&◌, cond, List, [], ◌∷◌, Some, None, length, take, get_or, map, refl, sym, ap, ap₂, subst, ◌∙◌, arith}
-use Rattle.std.specs.Prelude.{nat_eq, if◌then◌else◌, Option}
+use Rattle.std.proofs.Common.{◌≡◌, ℕ, zero, suc, ◌+◌, ◌-◌, ◌<◌, ◌≤◌, ◌⊎◌, inl, inr, ⊎_elim, min, nat_le, nat_lt, Bool, true, false, ◌&&◌, cond, List, [], ◌∷◌, length, take, get_or, map, refl, sym, ap, ap₂, subst, ◌∙◌, arith}
+use Rattle.std.specs.Prelude.{nat_eq, if◌then◌else◌}
 use Rattle.std.proofs.lemmas.Bool.{cases_lt}
 use Rattle.std.proofs.lemmas.Bool.Decides.{nat_tests}
 use Rattle.std.proofs.lemmas.List.{length-append}
@@ -12,24 +12,27 @@ use Rattle.scm_types.specs.declared.state.Commit.{Commit}
 use Rattle.scm_types.specs.Keys.{has_key}
 use Rattle.scm_types.specs.Marks.{is_editable_section}
 use Rattle.scm_document.specs.declared.section_view.SectionView.{SectionView}
-use Rattle.scm_document.specs.Rows.{ShownFile, ShownSection, message_height, shown_file, shown_sections, sections_rows as rows_in}
+use Rattle.scm_rows.specs.Heights.{message_height}
+use Rattle.scm_document.specs.Rows.{ShownFile, ShownSection, shown_file, shown_sections, sections_rows as rows_in}
 use Rattle.scm_document.specs.FilesRows.{files_rows}
 use Rattle.scm_document.specs.DocumentParts.{files_to, header_kept, rows_left_out}
 use Rattle.scm_document.proofs.LeftOutLemmas.{none-out}
 use Rattle.scm_view.specs.declared.document_part.DocumentPart.{DocumentPart}
 use Rattle.scm_view.specs.DocumentParts.{CoversScreen, part_offset}
-use Rattle.scm_view.specs.ViewState.{Totals, ViewState, commit_at, file_view_of, file_views_of, old_lines, section_views_of}
+use Rattle.scm_rows.specs.Lines.{old_lines}
+use Rattle.scm_view.specs.ViewState.{Totals, ViewState, commit_at, file_view_of, file_views_of, section_views_of}
 use Rattle.scm_view.specs.Window.{inline_document}
 use Rattle.scm_layout.specs.declared.file_rows.FileRows.{FileRows}
 use Rattle.scm_layout.specs.declared.section_rows.SectionRows.{SectionRows}
-use Rattle.scm_layout.specs.declared.section_rows.SectionShape.TheVariants as shapes
-use Rattle.scm_layout.specs.Layouts.{files_top, message_height as rows_of_message}
+use Rattle.scm_rows.specs.declared.section_shape.SectionShape.TheVariants as shapes
+use Rattle.scm_layout.specs.Layouts.{files_top}
 use Rattle.scm_layout.specs.Rows.{each_file_rows, file_key_of, file_rows, stacked, sections_rows}
 use Rattle.scm_layout.specs.Searches.{count_to}
 use Rattle.scm_view_state.specs.declared.stretches.Stretch.{Stretch}
 use Rattle.scm_view_state.specs.Stretches.{IsStretch, end_of, files_begun, is_editable_at, sections_begun, start_of, top_at}
 use Rattle.scm_view_state.proofs.SectionPartLemmas.{EndsWell, StartsWell, all-shown, before-more, editable_view_at, ends-after, ends-before, shown_before, starts-after, starts-first, starts-with}
-use Rattle.scm_view_state.proofs.PartRowLemmas.{IsFileAt, file-of, file-box, no-rows, rows-length, section-top, views-length}
+use Rattle.scm_view_state.proofs.ViewRowLemmas.{file-box}
+use Rattle.scm_view_state.proofs.PartRowLemmas.{IsFileAt, file-of, no-rows, rows-length, section-top, views-length}
 
 -- ---- how many elements at the front of a list begin on a row or above
 
@@ -353,14 +356,10 @@ module _ (s : ViewState) (k : FileKey) (f : File) where
 
 -- ---- the files
 
-same-message : (m : Option (List ℕ)) → rows_of_message m ≡ message_height m
-same-message None = refl
-same-message (Some text) = refl
-
 top-message : (cs : List Commit) → files_top cs ≡ 1 + message_height (commit_at 0 cs).message
 unfolding commit_at
 top-message [] = refl
-top-message (c ∷ cs) = ap (λ n. 1 + n) (same-message c.message)
+top-message (c ∷ cs) = refl
 
 kept-most : (n : ℕ) → header_kept n ≤ 1
 kept-most zero = omega arith

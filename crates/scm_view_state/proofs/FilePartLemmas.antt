@@ -14,8 +14,9 @@ use Rattle.scm_view_state.specs.declared.section_views.SectionRange.{SectionRang
 use Rattle.scm_view_state.specs.declared.stretches.Stretch.{Stretch}
 use Rattle.scm_view_state.specs.Stretches.{file_part_of, file_parts_of, is_unfolded, section_range}
 use Rattle.scm_view_state.proofs.SectionPartLemmas.{EndsWell, StartsWell, all-end, all-shown, file-cut, folded-cut, shown_before, starts-first, take-none, with_sections}
-use Rattle.scm_view_state.proofs.PartRowLemmas.{file-box}
+use Rattle.scm_view_state.proofs.ViewRowLemmas.{file-box}
 use Rattle.scm_view_state.proofs.CoverLemmas.{sections-length}
+use Rattle.scm_view_state.proofs.RowlessLemmas.{part-shows}
 
 -- ---- one file
 
@@ -85,7 +86,7 @@ only-file v false a e n opened order start end = folded-cut (shown_before false 
 pub is-same : (m n : ℕ) → n ≡ m → (m == n) ≡ true
 is-same m n e = grind (arith, nat_tests)
 
-is-other : (m n : ℕ) → (n ≡ m → ⊥) → (m == n) ≡ false
+pub is-other : (m n : ℕ) → (n ≡ m → ⊥) → (m == n) ≡ false
 is-other m n e = grind (arith, nat_tests)
 
 module _ (s : ViewState) (st : Stretch) where
@@ -101,7 +102,9 @@ module _ (s : ViewState) (st : Stretch) where
   tests : (m : ℕ) (f : File) (x y : Bool) → (m == st.first_file) ≡ x → (m == st.last_file) ≡ y
       → part m f ≡ kept (view m f) (range_by (is_unfolded s m) x y st.first_section st.end_section (length f.sections))
   unfolding kept
-  tests m f x y p q = ap₂ (λ (b c : Bool). shown_file (file_part_of s (file_key_of 0 m) (range_by (is_unfolded s m) b c st.first_section st.end_section (length f.sections)) f)) p q
+  tests m f x y p q =
+      part-shows s (file_key_of 0 m) (section_range (is_unfolded s m) st m (length f.sections)) f
+      ∙ ap₂ (λ (b c : Bool). kept (view m f) (range_by (is_unfolded s m) b c st.first_section st.end_section (length f.sections))) p q
 
   abbrev before_first : ℕ → File → ℕ
   before_first m f = shown_before false st.first_section (view m f).section_views

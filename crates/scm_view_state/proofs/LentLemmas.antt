@@ -9,7 +9,8 @@ use Rattle.scm_document.specs.declared.section_view.SectionView.{SectionView}
 use Rattle.scm_document.specs.declared.file_view.FileView.{FileView}
 use Rattle.scm_document.specs.declared.commit_view.CommitView.{CommitView}
 use Rattle.scm_view.specs.ViewState.{borrow_of}
-use Rattle.scm_document.specs.Rows.{changed_row, changed_rows, numbered_row, numbered_rows, context_rows, rows_of, section_rows, is_first_open, is_section_visible, is_open, shown_section, shown_sections, lent_text, shown_file, document_of}
+use Rattle.scm_rows.specs.Heights.{is_section_visible}
+use Rattle.scm_document.specs.Rows.{changed_row, changed_rows, numbered_row, numbered_rows, context_rows, rows_of, section_rows, is_first_open, is_open, shown_section, shown_sections, lent_text, shown_file, document_of}
 use Rattle.scm_view_state.specs.Views.{lent_section, lent_sections, lent_path, lent_file, lent_files}
 
 -- the view of a commit without the addresses of what it borrows
@@ -55,7 +56,7 @@ shown_sections-lent : (before : Bool) (vs : List SectionView) → shown_sections
 unfolding shown_sections
 shown_sections-lent before [] = refl
 shown_sections-lent before (v ∷ vs) =
-    rw (first_open-lent vs, shown_section-lent (is_section_visible before v (is_first_open vs)) v, shown_sections-lent (is_open v) vs) refl
+    rw (first_open-lent vs, shown_section-lent (is_section_visible before v.section.now (is_first_open vs)) v, shown_sections-lent (is_open v) vs) refl
 
 path-lent : (path : Option (Bor (List ℕ))) → lent_text (lent_path path) ≡ lent_text path
 path-lent None = refl

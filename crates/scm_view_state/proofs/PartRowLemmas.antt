@@ -1,13 +1,11 @@
 -- The rows of a session's layout are those of its views: the first row of each section and file, and the rows that a part leaves out.
-use Rattle.std.proofs.Common.{◌≡◌, ℕ, zero, suc, ◌+◌, ◌-◌, ◌<◌, ◌≤◌, Bool, true, false, ◌&&◌, ◌||◌, List, [], ◌∷◌, ◌++◌, length, take, get_or, map, refl, sym, ap, subst, ◌∙◌, arith}
+use Rattle.std.proofs.Common.{◌≡◌, ℕ, zero, suc, ◌+◌, ◌-◌, ◌<◌, ◌≤◌, Bool, true, false, List, [], ◌∷◌, ◌++◌, length, take, get_or, map, refl, sym, ap, subst, ◌∙◌, arith}
 use Rattle.std.specs.Prelude.{if◌then◌else◌}
 use Rattle.std.proofs.lemmas.List.{length-append}
 use Rattle.scm_types.specs.declared.file.File.{File}
 use Rattle.scm_types.specs.declared.keys.FileKey.{FileKey}
 use Rattle.scm_types.specs.declared.keys.SelectionKey.TheVariants as keys
 use Rattle.scm_types.specs.declared.section.Section.{Section}
-use Rattle.scm_types.specs.declared.section.Section.TheVariants.{Unchanged, Changed, FileMode, Binary}
-use Rattle.scm_types.specs.declared.tristate.Tristate.TheVariants as tristate
 use Rattle.scm_types.specs.Keys.{has_key, section_key_of}
 use Rattle.scm_types.specs.Marks.{is_editable_section}
 use Rattle.scm_widgets.specs.Boxes.{is_fold_open}
@@ -17,29 +15,16 @@ use Rattle.scm_document.specs.Rows.{ShownFile, ShownSection, section_height, sho
 use Rattle.scm_document.specs.FilesRows.{files_rows}
 use Rattle.scm_document.specs.DocumentParts.{files_to, rows_left_out, with_first}
 use Rattle.scm_document.proofs.SectionsLemmas.{section-size}
-use Rattle.scm_view.specs.ViewState.{Totals, ViewState, are_all_expanded, expand_box_of, file_view_of, file_views_of, old_lines, section_fold, section_view_of, section_views_of, totals_of}
+use Rattle.scm_rows.specs.Lines.{old_lines}
+use Rattle.scm_view.specs.ViewState.{Totals, ViewState, file_view_of, file_views_of, section_view_of, section_views_of, totals_of}
 use Rattle.scm_layout.specs.declared.file_rows.FileRows.{FileRows}
 use Rattle.scm_layout.specs.declared.section_rows.SectionRows.{SectionRows}
-use Rattle.scm_layout.specs.Rows.{each_file_rows, file_height, file_key_of, file_rows, folded_count, height_of, is_expanded, is_first_open, is_open, moved_to, sections_height, sections_rows, stacked, visible_height}
+use Rattle.scm_rows.specs.Heights.{is_section_visible}
+use Rattle.scm_layout.specs.Rows.{each_file_rows, file_height, file_key_of, file_rows, folded_count, is_first_open, is_open, moved_to, sections_height, sections_rows, stacked, visible_height}
+use Rattle.scm_view_state.proofs.ViewRowLemmas.{file-box, open-is, visible-is}
 use Rattle.scm_view_state.proofs.SectionPartLemmas.{counted, shown_before}
 
 -- ---- sections
-
-pub section-box : (s : ViewState) (k : FileKey) (i : ℕ) → is_fold_open (expand_box_of s (keys.Section (section_key_of k i)) (section_fold s (section_key_of k i))) ≡ is_expanded s.expanded k i
-section-box s k i = go (is_expanded s.expanded k i)
-  where
-    go : (b : Bool) → is_fold_open (expand_box_of s (keys.Section (section_key_of k i)) (if b then tristate.True else tristate.False)) ≡ b
-    go true = refl
-    go false = refl
-
--- whether the view of a file is unfolded
-pub file-box : (s : ViewState) (k : FileKey) (f : File) → is_fold_open (file_view_of s k f).expand_box ≡ has_key s.expanded (keys.File k)
-file-box s k f = go (has_key s.expanded (keys.File k)) (are_all_expanded s k 0 f.sections)
-  where
-    go : (b c : Bool) → is_fold_open (expand_box_of s (keys.File k) (if b then (if c then tristate.True else tristate.Partial) else tristate.False)) ≡ b
-    go true true = refl
-    go true false = refl
-    go false c = refl
 
 more-rows : (b : Bool) (v : SectionView) (n : ℕ) (ps : List ShownSection)
     → length (rows_in (take (counted b n) (shown_section b v ++ ps))) ≡ (if b then section_height v v.section.now else 0) + length (rows_in (take n ps))
@@ -60,29 +45,6 @@ module _ (s : ViewState) (t : Totals) (k : FileKey) where
   abbrev view : ℕ → ℕ → ℕ → Section → SectionView
   view i editable line x = section_view_of s t (section_key_of k i) editable line x
 
-  open-is : (i editable line : ℕ) (x : Section) → views.is_open (view i editable line x) ≡ is_open s.expanded k i x
-  open-is i editable line x = ap (λ b. is_editable_section x && b) (section-box s k i)
-
-  first-is : (i editable line : ℕ) (xs : List Section) → views.is_first_open (section_views_of s t k i editable line xs) ≡ is_first_open s.expanded k i xs
-  unfolding section_views_of
-  first-is i editable line [] = refl
-  first-is i editable line (x ∷ xs) = open-is i editable line x
-
-  height-is : (i editable line : ℕ) (x : Section) → section_height (view i editable line x) x ≡ height_of t.sections i (is_expanded s.expanded k i) x
-  height-is i editable line (Unchanged lines) = refl
-  height-is i editable line (Changed lines) = ap (λ b. if b then 1 + length lines else 1) (section-box s k i)
-  height-is i editable line (FileMode is_checked mode) = refl
-  height-is i editable line (Binary is_checked old new) = refl
-
-  -- the rows of section i above the sections xs
-  visible-is : (i editable line : ℕ) (before before' : Bool) (x : Section) (xs : List Section) (editable' line' : ℕ) → before ≡ before'
-      → (if views.is_section_visible before (view i editable line x) (views.is_first_open (section_views_of s t k (suc i) editable' line' xs)) then section_height (view i editable line x) x else 0)
-      ≡ visible_height s.expanded k t.sections i before' x (is_first_open s.expanded k (suc i) xs)
-  visible-is i editable line before before' x xs editable' line' e =
-      ap (λ b. if is_editable_section x || (before || b) then section_height (view i editable line x) x else 0) (first-is (suc i) editable' line' xs)
-      ∙ ap (λ b. if is_editable_section x || (b || is_first_open s.expanded k (suc i) xs) then section_height (view i editable line x) x else 0) e
-      ∙ ap (λ n. if is_editable_section x || (before' || is_first_open s.expanded k (suc i) xs) then n else 0) (height-is i editable line x)
-
   -- the first row of section n
   top-is : (i editable line top : ℕ) (before before' : Bool) (n : ℕ) (d : SectionRows) (xs : List Section) → before ≡ before' → n < length xs
       → (get_or (sections_rows s.expanded k t.sections i top before' xs) n d).top
@@ -96,10 +58,10 @@ module _ (s : ViewState) (t : Totals) (k : FileKey) where
       let line' = line + old_lines x in
       let vs = section_views_of s t k (suc i) editable' line' xs in
       let h' = visible_height s.expanded k t.sections i before' x (is_first_open s.expanded k (suc i) xs) in
-      let b = views.is_section_visible before v (views.is_first_open vs) in
-      let high : (if b then section_height v x else 0) ≡ h' = visible-is i editable line before before' x xs editable' line' e in
+      let b = is_section_visible before v.section.now (views.is_first_open vs) in
+      let high : (if b then section_height v x else 0) ≡ h' = visible-is s t k i editable line before before' x xs editable' line' e in
       let more = more-rows b v (shown_before (views.is_open v) n vs) (shown_sections (views.is_open v) vs) in
-      let rest = top-is (suc i) editable' line' (top + h') (views.is_open v) (is_open s.expanded k i x) n d xs (open-is i editable line x) (omega (arith, h)) in
+      let rest = top-is (suc i) editable' line' (top + h') (views.is_open v) (is_open s.expanded k i x) n d xs (open-is s t k i editable line x) (omega (arith, h)) in
       let same : (get_or (sections_rows s.expanded k t.sections (suc i) (top + h') (is_open s.expanded k i x) xs) n d).top
       ≡ top + length (rows_in (take (counted b (shown_before (views.is_open v) n vs)) (shown_section b v ++ shown_sections (views.is_open v) vs))) = omega (arith, high, more, rest) in
       same
@@ -114,10 +76,10 @@ module _ (s : ViewState) (t : Totals) (k : FileKey) where
       let editable' = if is_editable_section x then editable + 1 else editable in
       let line' = line + old_lines x in
       let vs = section_views_of s t k (suc i) editable' line' xs in
-      let b = views.is_section_visible before v (views.is_first_open vs) in
-      let high = visible-is i editable line before before' x xs editable' line' e in
+      let b = is_section_visible before v.section.now (views.is_first_open vs) in
+      let high = visible-is s t k i editable line before before' x xs editable' line' e in
       let more = all-rows b v (shown_sections (views.is_open v) vs) in
-      let rest = height-all (suc i) editable' line' (views.is_open v) (is_open s.expanded k i x) xs (open-is i editable line x) in
+      let rest = height-all (suc i) editable' line' (views.is_open v) (is_open s.expanded k i x) xs (open-is s t k i editable line x) in
       let same : visible_height s.expanded k t.sections i before' x (is_first_open s.expanded k (suc i) xs) + sections_height s.expanded k t.sections (suc i) (is_open s.expanded k i x) xs
       ≡ length (rows_in (shown_section b v ++ shown_sections (views.is_open v) vs)) = omega (arith, high, more, rest) in
       same
@@ -172,7 +134,7 @@ pub record IsFileAt (s : ViewState) (top : ℕ) (j : ℕ) (k : FileKey) (f : Fil
   pub next : (d : FileRows) → suc j < length rs → (get_or rs (suc j) d).top ≡ r.top + 1 + length (rows_in (shown_file (file_view_of s k f)).sections)
   pub last : length rs ≤ suc j → length (files_rows fs) + top ≡ r.top + 1 + length (rows_in (shown_file (file_view_of s k f)).sections)
 
-stacked-top : (t : ℕ) (d : FileRows) (rs : List FileRows) → 0 < length rs → (get_or (stacked t rs) 0 d).top ≡ t
+pub stacked-top : (t : ℕ) (d : FileRows) (rs : List FileRows) → 0 < length rs → (get_or (stacked t rs) 0 d).top ≡ t
 unfolding stacked
 stacked-top t d [] h = absurd (omega (arith, h))
 stacked-top t d (r ∷ rs) h = refl

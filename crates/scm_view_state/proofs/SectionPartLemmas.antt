@@ -7,7 +7,8 @@ use Rattle.scm_types.specs.Marks.{is_editable_section}
 use Rattle.scm_widgets.specs.Boxes.{is_fold_open}
 use Rattle.scm_document.specs.declared.section_view.SectionView.{SectionView}
 use Rattle.scm_document.specs.declared.file_view.FileView.{FileView}
-use Rattle.scm_document.specs.Rows.{ShownSection, is_first_open, is_open, is_section_visible, shown_section, shown_sections, shown_file}
+use Rattle.scm_rows.specs.Heights.{is_section_visible}
+use Rattle.scm_document.specs.Rows.{ShownSection, is_first_open, is_open, shown_section, shown_sections, shown_file}
 use Rattle.scm_document.specs.DocumentParts.{with_first, without_first}
 
 -- ---- lists
@@ -43,7 +44,7 @@ counted b n = if b then suc n else n
 abbrev pub shown_before : Bool → ℕ → List SectionView → ℕ
 shown_before before zero vs = 0
 shown_before before (suc n) [] = 0
-shown_before before (suc n) (v ∷ vs) = counted (is_section_visible before v (is_first_open vs)) (shown_before (is_open v) n vs)
+shown_before before (suc n) (v ∷ vs) = counted (is_section_visible before v.section.now (is_first_open vs)) (shown_before (is_open v) n vs)
 
 pub before-none : (before : Bool) (n : ℕ) → shown_before before n [] ≡ 0
 before-none before zero = refl
@@ -58,7 +59,7 @@ pub before-more : (before : Bool) (m n : ℕ) (vs : List SectionView) → m ≤ 
 before-more before zero n vs h = omega arith
 before-more before (suc m) zero vs h = absurd (omega (arith, h))
 before-more before (suc m) (suc n) [] h = omega arith
-before-more before (suc m) (suc n) (v ∷ vs) h = counted-more (is_section_visible before v (is_first_open vs)) (shown_before (is_open v) m vs) (shown_before (is_open v) n vs) (before-more (is_open v) m n vs (omega (arith, h)))
+before-more before (suc m) (suc n) (v ∷ vs) h = counted-more (is_section_visible before v.section.now (is_first_open vs)) (shown_before (is_open v) m vs) (shown_before (is_open v) n vs) (before-more (is_open v) m n vs (omega (arith, h)))
 
 -- ---- where a part may end
 
@@ -66,7 +67,7 @@ before-more before (suc m) (suc n) (v ∷ vs) h = counted-more (is_section_visib
 abbrev pub EndsWell : ℕ → List SectionView → Type 0
 EndsWell zero vs = Unit {0}
 EndsWell (suc zero) [] = Unit {0}
-EndsWell (suc zero) (v ∷ vs) = (before : Bool) → is_section_visible before v false ≡ is_section_visible before v (is_first_open vs)
+EndsWell (suc zero) (v ∷ vs) = (before : Bool) → is_section_visible before v.section.now false ≡ is_section_visible before v.section.now (is_first_open vs)
 EndsWell (suc (suc n)) [] = Unit {0}
 EndsWell (suc (suc n)) (v ∷ vs) = EndsWell (suc n) vs
 
@@ -79,9 +80,9 @@ first-taken n [] = refl
 first-taken n (v ∷ vs) = refl
 
 same-visible : (before : Bool) (n : ℕ) (v : SectionView) (vs : List SectionView) → EndsWell (suc n) (v ∷ vs)
-    → is_section_visible before v (is_first_open (take n vs)) ≡ is_section_visible before v (is_first_open vs)
+    → is_section_visible before v.section.now (is_first_open (take n vs)) ≡ is_section_visible before v.section.now (is_first_open vs)
 same-visible before zero v vs w = w before
-same-visible before (suc n) v vs w = ap (is_section_visible before v) (first-taken n vs)
+same-visible before (suc n) v vs w = ap (is_section_visible before v.section.now) (first-taken n vs)
 
 -- the first n sections are shown as among all of them
 take-counted : (b : Bool) (v : SectionView) (n : ℕ) (ps qs : List ShownSection) → ps ≡ take n qs → shown_section b v ++ ps ≡ take (counted b n) (shown_section b v ++ qs)
@@ -94,7 +95,7 @@ first-shown before zero vs w = refl
 first-shown before (suc n) [] w = refl
 first-shown before (suc n) (v ∷ vs) w =
     ap (λ b. shown_section b v ++ shown_sections (is_open v) (take n vs)) (same-visible before n v vs w)
-    ∙ take-counted (is_section_visible before v (is_first_open vs)) v (shown_before (is_open v) n vs) (shown_sections (is_open v) (take n vs)) (shown_sections (is_open v) vs)
+    ∙ take-counted (is_section_visible before v.section.now (is_first_open vs)) v (shown_before (is_open v) n vs) (shown_sections (is_open v) (take n vs)) (shown_sections (is_open v) vs)
     (first-shown (is_open v) n vs (ends-next n v vs w))
 
 -- so are those before section m of them
@@ -135,7 +136,7 @@ pub ends-before : (n : ℕ) (vs : List SectionView) → editable_view_at n vs �
 ends-before zero vs e = tt
 ends-before (suc zero) [] e = tt
 ends-before (suc zero) (v ∷ []) e = λ before. refl
-ends-before (suc zero) (v ∷ (u ∷ vs)) e = λ before. ap (is_section_visible before v) (sym (not-editable (is_editable_view u) (is_fold_open u.expand_box) e))
+ends-before (suc zero) (v ∷ (u ∷ vs)) e = λ before. ap (is_section_visible before v.section.now) (sym (not-editable (is_editable_view u) (is_fold_open u.expand_box) e))
 ends-before (suc (suc n)) [] e = tt
 ends-before (suc (suc n)) (v ∷ vs) e = ends-before (suc n) vs e
 
@@ -171,7 +172,7 @@ unfolding shown_sections
 last-shown before zero vs = refl
 last-shown before (suc n) [] = refl
 last-shown before (suc n) (v ∷ vs) =
-    drop-counted (is_section_visible before v (is_first_open vs)) v (shown_before (is_open v) n vs) (shown_sections (open_before (is_open v) n vs) (drop n vs)) (shown_sections (is_open v) vs) (last-shown (is_open v) n vs)
+    drop-counted (is_section_visible before v.section.now (is_first_open vs)) v (shown_before (is_open v) n vs) (shown_sections (open_before (is_open v) n vs) (drop n vs)) (shown_sections (is_open v) vs) (last-shown (is_open v) n vs)
 
 -- a part may begin after a section that cannot be edited
 closed-before : (before : Bool) (n end : ℕ) (vs : List SectionView) → editable_view_at n vs ≡ false → open_before before (suc n) (take end vs) ≡ false

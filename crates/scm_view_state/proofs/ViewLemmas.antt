@@ -18,7 +18,8 @@ use Rattle.scm_types.specs.Keys.{section_key_of, has_key}
 use Rattle.scm_document.specs.declared.section_view.SectionView.{SectionView}
 use Rattle.scm_view_state.specs.Views.{lent_sections}
 use Rattle.scm_view_state.specs.Folds.{has_no_fold, is_full}
-use Rattle.scm_view.specs.ViewState.{ViewState, Totals, are_all_expanded, commit_at, file_view_of, file_views_of, is_changed, is_removed, old_lines, section_view_of, section_views_of}
+use Rattle.scm_rows.specs.Lines.{is_changed, is_removed, old_lines}
+use Rattle.scm_view.specs.ViewState.{ViewState, Totals, are_all_expanded, commit_at, file_view_of, file_views_of, section_view_of, section_views_of}
 
 -- ---- lists
 

@@ -17,8 +17,9 @@ use Rattle.scm_view_state.specs.declared.stretches.Stretch.{Stretch}
 use Rattle.scm_view_state.specs.declared.visible_views.VisibleView.{VisibleView}
 use Rattle.scm_view_state.specs.Stretches.{IsStretch, document_with, file_parts_of}
 use Rattle.scm_view_state.specs.Views.{lent_files}
-use Rattle.scm_view_state.specs.VisibleViews.{IsViewWith, IsVisibleView, VisibleViewsArePainted, VisibleViewsShowWindows}
+use Rattle.scm_view_state.specs.VisibleViews.{IsViewWith, IsVisibleView, VisibleViewsArePainted, VisibleViewsShowWindows, view_count}
 use Rattle.scm_view_state.proofs.CoverLemmas.{found, rows_of_files, stretch_part}
+use Rattle.scm_view_state.proofs.FewLemmas.{stretch-few}
 use Rattle.scm_view_state.proofs.FilePartLemmas.{from-parts}
 use Rattle.scm_view_state.proofs.LentLemmas.{files-lent}
 use Rattle.scm_view_state.proofs.PartRowLemmas.{rows-length}
@@ -70,6 +71,13 @@ module _ (s : ViewState) (h scroll : ℕ) (st : Stretch) (rs : List FileRows) (f
 
   pub end-within : (f : File) → st.end_section ≤ length (get_or fs st.last_file f).sections
   end-within f = subst (λ (gs : List File). st.end_section ≤ length (get_or gs st.last_file f).sections) (sym same_files) (found s h scroll st f no-rows high some-here is-here).ends.within
+
+  -- the views of what the screen shows are few
+  pub few-some : (vs : List FileView) → lent_files vs ≡ drop st.first_file (take (st.last_file + 1) (file_parts_of s st 0 fs)) → view_count vs ≤ h + 2
+  few-some vs made =
+      any-file (view_count vs ≤ h + 2) s.state.files some-here
+      (λ f. stretch-few s h scroll st f no-rows vs high some-here is-here
+      (made ∙ ap (λ (gs : List File). drop st.first_file (take (st.last_file + 1) (file_parts_of s st 0 gs))) same_files))
 
   pub shown-some : (vs : List FileView) (row : ℕ) → lent_files vs ≡ drop st.first_file (take (st.last_file + 1) (file_parts_of s st 0 fs))
       → row ≡ (if st.has_message then scroll else scroll + 1 - st.top - st.section_top) → (v : VisibleView) → IsViewWith v s st.has_message vs row → IsVisibleView v s h scroll

@@ -2,7 +2,7 @@
 use Rattle.std.specs.Prelude.{Bool, true, false, if◌then◌else◌}
 use Rattle.scm_types.specs.declared.tristate.Tristate.{Tristate}
 use Rattle.scm_types.specs.declared.tristate.Tristate.TheVariants as tristate
-use Rattle.scm_view.specs.ViewState.{is_changed}
+use Rattle.scm_rows.specs.Lines.{is_changed}
 use Rattle.scm_document.specs.declared.section_view.SectionView.{SectionView}
 
 -- whether a fold is wholly open

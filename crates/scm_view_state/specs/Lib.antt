@@ -16,3 +16,7 @@ pub mod Marks
 pub mod Stretches
 -- a view of what a screen shows
 pub mod VisibleViews
+-- the numbers of views, by the counts of a layout
+pub mod ViewCounts
+-- the rows of views, by those of a layout
+pub mod ViewRows

@@ -7,11 +7,12 @@ use Rattle.scm_types.specs.declared.section.Section.{Section}
 use Rattle.scm_types.specs.Keys.{has_key}
 use Rattle.scm_types.specs.Marks.{is_editable_section}
 use Rattle.scm_document.specs.declared.file_view.FileView.{FileView}
+use Rattle.scm_document.specs.declared.section_view.SectionView.{SectionView}
 use Rattle.scm_document.specs.Rows.{Document, shown_file}
 use Rattle.scm_view.specs.ViewState.{ViewState, commit_at, file_view_of}
 use Rattle.scm_layout.specs.declared.file_rows.FileRows.{FileRows}
 use Rattle.scm_layout.specs.declared.section_rows.SectionRows.{SectionRows}
-use Rattle.scm_layout.specs.Rows.{each_file_rows, file_key_of, stacked}
+use Rattle.scm_layout.specs.Rows.{each_file_rows, file_key_of, file_rows, stacked}
 use Rattle.scm_layout.specs.Searches.{count_to}
 use Rattle.scm_view_state.specs.declared.section_views.SectionRange.{SectionRange}
 use Rattle.scm_view_state.specs.declared.stretches.Stretch.{Stretch}
@@ -90,10 +91,28 @@ section_range is_unfolded st i count =
 
 -- ---- views
 
--- the view of file k with the sections of a range alone
+-- whether a section has a row
+abbrev pub has_row : SectionRows → Bool
+has_row r = nat_lt r.top r.end
+
+-- of the views of sections, those of the sections that have a row
+unfoldable pub views_with_rows : List SectionRows → List SectionView → List SectionView
+views_with_rows [] vs = []
+views_with_rows (r ∷ rs) [] = []
+views_with_rows (r ∷ rs) (v ∷ vs) = if has_row r then v ∷ views_with_rows rs vs else views_with_rows rs vs
+
+-- the elements of a list at the indexes of a range
+abbrev pub elements_in : {A : Type 0} → SectionRange → List A → List A
+elements_in range xs = drop range.start (take range.end xs)
+
+-- the view of file k with those sections of a range alone that have a row
 abbrev pub file_part_of : ViewState → FileKey → SectionRange → File → FileView
 file_part_of s k range f =
-    record (file_view_of s k f) { section_views = drop range.start (take range.end (file_view_of s k f).section_views) }
+    record (file_view_of s k f) {
+      section_views =
+          views_with_rows (elements_in range (file_rows s.expanded k f).sections)
+          (elements_in range (file_view_of s k f).section_views);
+    }
 
 -- the views of files, each with the sections that a stretch keeps of it; the first file has index i
 unfoldable pub file_parts_of : ViewState → Stretch → ℕ → List File → List FileView

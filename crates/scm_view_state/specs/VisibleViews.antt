@@ -1,9 +1,11 @@
 -- A view of the files and sections that a screen shows, in the place of a view of all of them.
-use Rattle.std.specs.Prelude.{◌≡◌, ℕ, ◌-◌, ◌≤◌, List, Bool, true}
+use Rattle.std.specs.Prelude.{◌≡◌, ℕ, ◌+◌, ◌-◌, ◌≤◌, List, length, sum_by, Bool, true}
 use Rattle.scm_types.specs.Limits.{is_accepted_state, max_scroll}
 use Rattle.scm_render.specs.Canvas.{Row}
+use Rattle.scm_document.specs.declared.commit_view.CommitView.{CommitView}
 use Rattle.scm_document.specs.declared.commit_view.CommitViewMode.TheVariants.{Inline}
 use Rattle.scm_document.specs.declared.file_view.FileView.{FileView}
+use Rattle.scm_view.specs.declared.app_view.AppView.{AppView}
 use Rattle.scm_view.specs.declared.document_part.DocumentPart.{DocumentPart}
 use Rattle.scm_view.specs.DocumentParts.{CoversScreen, part_offset}
 use Rattle.scm_view.specs.PartViews.{HasWindowOf, IsPlainScreen, ShowsDocument, ShowsPart, ShowsPartInline}
@@ -24,6 +26,14 @@ pub record IsVisibleView (v : VisibleView) (shown : ViewState) (h s : ℕ) : Typ
   pub covers : CoversScreen h s part (inline_document shown)
   pub shows : ShowsPart v.view shown part
   pub scroll : v.scroll ≡ s - part_offset part (inline_document shown)
+
+-- how many views of files and of sections there are
+abbrev pub view_count : List FileView → ℕ
+view_count vs = sum_by (λ (v : FileView). 1 + length v.section_views) vs
+
+-- how many views of files and of sections a view of the screen has
+abbrev pub views_in : AppView → ℕ
+views_in view = sum_by (λ (v : CommitView). view_count v.file_views) view.commit_views
 
 -- such a view may be painted as a part of a document
 abbrev pub VisibleViewsArePainted : Type 0

@@ -9,6 +9,7 @@ mod commit_views;
 mod file_views;
 mod folds;
 pub mod items;
+pub mod layout_laws;
 pub mod menus;
 mod section_views;
 mod stretches;

@@ -90,8 +90,9 @@ pub fn event_of_item(menu: usize, item: usize) -> Option<Event>
 fn menu_of(alloc: Global, menu: usize, label: &'static str) -> Result<Menu<'static>, AllocError>
     ensures { IfOk result (λ m. m ≡ menu_of label.now (items_of_menu menu)) }
 {
-    let mut items = Vec::new(alloc);
-    for (item_label, _) in rows_of_menu(menu) {
+    let rows = rows_of_menu(menu);
+    let mut items = Vec::with_capacity(alloc, rows.len())?;
+    for (item_label, _) in rows {
         items.push(MenuItem {
             label: Text::from(*item_label),
         })?;
@@ -123,7 +124,7 @@ pub(crate) fn menu_bar(
 ) -> Result<MenuBar<'static>, AllocError>
     ensures { IfOk result (λ bar. bar ≡ menus_with open_menu) }
 {
-    let mut menus: Vec<Menu<'static>> = Vec::new(alloc);
+    let mut menus: Vec<Menu<'static>> = Vec::with_capacity(alloc, 4)?;
     push_menu(alloc, &mut menus, 0, "File")?;
     push_menu(alloc, &mut menus, 1, "Edit")?;
     push_menu(alloc, &mut menus, 2, "Select")?;

@@ -1,14 +1,19 @@
 //! The views of the sections of a file.
-ghost use Rattle.std.specs.Prelude.{◌≡◌, ◌+◌, ◌<◌, ◌≤◌, ◌^◌, length, take, drop, IfOk};
+ghost use Rattle.std.specs.Prelude.{◌≡◌, ℕ, ◌+◌, ◌<◌, ◌≤◌, ◌^◌, false, length, get_or, IfOk};
 ghost use Rattle.scm_types.specs.Limits.{file_size, max_items};
 ghost use Rattle.scm_types.specs.Marks.{section_marks, tristate_of};
+ghost use Rattle.scm_document.specs.declared.section_view.SectionView.{SectionView};
+ghost use Rattle.scm_layout.specs.declared.section_rows.SectionRows.{SectionRows};
 ghost use Rattle.scm_layout.specs.Counts.{file_counts, section_counts};
+ghost use Rattle.scm_layout.specs.Searches.{SectionsFollow};
 ghost use Rattle.scm_view.specs.ViewState.{section_view_of, section_views_of, selected_in, totals_of};
 ghost use Rattle.scm_view_state.specs.Marks.{tristate_by};
+ghost use Rattle.scm_view_state.specs.Stretches.{elements_in, has_row, views_with_rows};
 ghost use Rattle.scm_view_state.specs.Views.{lent_section, lent_sections, totals_in};
 
 use crate::view_state::ViewState;
-use scm_layout::{FileCounts, SectionCounts};
+use scm_layout::row_search::sections_begun;
+use scm_layout::{FileCounts, SectionCounts, SectionRows};
 use scm_types::keys::is_key;
 use scm_types::{File, Items, Section, Tristate};
 use scm_view::{FileKey, SectionKey, SectionSelection, SectionView, SelectionKey};
@@ -129,22 +134,20 @@ fn counted_view<'a>(
     section_view(view_state, totals, key, before, mark, section)
 }
 
-/// Returns the views of the sections `range` of `file`, which has the counts `counts`. Reads no line
-/// and no other section.
-pub(crate) fn counted_views<'a>(
+/// Returns the view of section `index`, counted from 0, of `file`, which has the counts `counts`. Reads
+/// no line and no other section.
+fn view_at<'a>(
     view_state: &ViewState<'_>,
-    alloc: Global,
     key: FileKey,
     counts: &FileCounts,
-    range: SectionRange,
+    index: usize,
     file: &'a File<'a>,
-) -> Result<Items<SectionView<'a>>, AllocError>
+) -> SectionView<'a>
     requires counted { counts.now ≡ file_counts file.now }
     requires size { file_size file.now ≤ max_items }
-    requires within { range.end ≤ length file.now.sections }
-    ensures { IfOk result (λ views. lent_sections views ≡ drop range.start (take range.end
-        (section_views_of view_state.now (totals_of file.now.sections) key 0 0 0
-        file.now.sections))) }
+    requires within { index < length file.now.sections }
+    ensures { (d : SectionView) → lent_section result ≡ get_or (section_views_of view_state.now
+        (totals_of file.now.sections) key 0 0 0 file.now.sections) index d }
 {
     let sections = file.sections.as_slice();
     let counted = counts.sections.as_slice();
@@ -152,12 +155,81 @@ pub(crate) fn counted_views<'a>(
         sections: sections.len(),
         editable: counts.editable,
     };
+    let key = key.section(index);
+    let counted_section = &counted[index];
+    let section = &sections[index];
+    counted_view(view_state, totals, key, counted_section, section)
+}
+
+/// Returns the views of all sections of `file`, which has the counts `counts`. Reads no line.
+pub(crate) fn counted_views<'a>(
+    view_state: &ViewState<'_>,
+    alloc: Global,
+    key: FileKey,
+    counts: &FileCounts,
+    file: &'a File<'a>,
+) -> Result<Items<SectionView<'a>>, AllocError>
+    requires counted { counts.now ≡ file_counts file.now }
+    requires size { file_size file.now ≤ max_items }
+    ensures { IfOk result (λ views. lent_sections views ≡ section_views_of view_state.now
+        (totals_of file.now.sections) key 0 0 0 file.now.sections) }
+{
+    let count = file.sections.len();
+    let mut views = Vec::with_capacity(alloc, count)?;
+    for index in 0..count {
+        views.push(view_at(view_state, key, counts, index, file))?;
+    }
+    Ok(Items::from(views))
+}
+
+/// Returns whether a section with the rows `rows` has a row.
+fn has_row(rows: &SectionRows) -> bool
+    ensures { result ≡ has_row rows.now }
+{
+    rows.top < rows.end
+}
+
+/// Returns an index after `index`, so that no section between the two has a row. The sections have the
+/// rows `rows`. It costs a bisection.
+fn next_index(rows: &[SectionRows], index: usize) -> usize
+    requires follow { SectionsFollow rows.now }
+    requires within { index < length rows.now }
+    ensures later { index < result }
+    ensures bare { (i : ℕ) → (d : SectionRows) → index < i → i < result → i < length rows.now
+        → has_row (get_or rows.now i d) ≡ false }
+{
+    let begun = sections_begun(rows, rows[index].end);
+    begun.saturating_sub(1).max(index + 1)
+}
+
+/// Returns the views of those sections of `range` of `file` that have a row. The file has the counts
+/// `counts`, and its sections the rows `rows`. Each view costs a bisection, and other sections cost
+/// nothing.
+pub(crate) fn shown_views<'a>(
+    view_state: &ViewState<'_>,
+    alloc: Global,
+    key: FileKey,
+    counts: &FileCounts,
+    rows: &[SectionRows],
+    range: SectionRange,
+    file: &'a File<'a>,
+) -> Result<Items<SectionView<'a>>, AllocError>
+    requires counted { counts.now ≡ file_counts file.now }
+    requires size { file_size file.now ≤ max_items }
+    requires follow { SectionsFollow rows.now }
+    requires lengths { length rows.now ≡ length file.now.sections }
+    requires within { range.end ≤ length file.now.sections }
+    ensures { IfOk result (λ views. lent_sections views
+        ≡ views_with_rows (elements_in range rows.now) (elements_in range (section_views_of
+        view_state.now (totals_of file.now.sections) key 0 0 0 file.now.sections))) }
+{
     let mut views = Vec::new(alloc);
-    for index in range.start..range.end {
-        let key = key.section(index);
-        let counted_section = &counted[index];
-        let section = &sections[index];
-        views.push(counted_view(view_state, totals, key, counted_section, section))?;
+    let mut index = range.start;
+    'sections: while index < range.end {
+        if has_row(&rows[index]) {
+            views.push(view_at(view_state, key, counts, index, file))?;
+        }
+        index = next_index(rows, index).min(range.end);
     }
     Ok(Items::from(views))
 }

@@ -1,10 +1,10 @@
 //! A view of the files and sections that a screen shows, in the place of a view of all of them.
-ghost use Rattle.std.specs.Prelude.{◌≡◌, ◌≤◌, IfErr, IfOk, IsTrue};
+ghost use Rattle.std.specs.Prelude.{◌≡◌, ◌+◌, ◌≤◌, IfErr, IfOk, IsTrue};
 ghost use Rattle.scm_errors.specs.declared.error.RecordError.TheVariants.{OutOfMemory};
 ghost use Rattle.scm_types.specs.Limits.{is_accepted_state, max_scroll};
 ghost use Rattle.scm_document.specs.declared.commit_view.CommitViewMode.TheVariants.{Inline};
 ghost use Rattle.scm_layout.specs.Layouts.{layout_of};
-ghost use Rattle.scm_view_state.specs.VisibleViews.{IsViewWith, IsVisibleView, VisibleViewsArePainted, VisibleViewsShowWindows};
+ghost use Rattle.scm_view_state.specs.VisibleViews.{IsViewWith, IsVisibleView, VisibleViewsArePainted, VisibleViewsShowWindows, view_count, views_in};
 
 use crate::menus::menu_bar;
 use crate::stretches::{file_parts, visible_stretch};
@@ -36,6 +36,7 @@ impl<'state> ViewState<'state> {
         requires inline { self.now.view_mode ≡ Inline }
         ensures ok { IfOk result
             (λ view. IsViewWith view self.now has_message file_views.entry scroll) }
+        ensures count { IfOk result (λ view. views_in view.view ≡ view_count file_views.entry) }
         ensures err { IfErr result (λ e. e ≡ OutOfMemory) }
     {
         let commit = if has_message {
@@ -66,9 +67,10 @@ impl<'state> ViewState<'state> {
     /// show row `scroll` of the document, and the row of that view that it shows then. The layout is
     /// that of the state and its unfolded keys.
     ///
-    /// It has the files and sections from the first to the last that have a row on the screen below
-    /// the menu bar, those between them without rows included, and the header of the first of these
-    /// files. It may have one section more above them and one below.
+    /// It has the files and sections that have a row on the screen below the menu bar, and the header
+    /// of the first of these files. It may have one section more above them and one below. So it has at
+    /// most `height + 2` views of files and sections, and costs what the screen shows: each view costs a
+    /// bisection, and a section without rows between two others costs nothing.
     ///
     /// # Errors
     /// `OutOfMemory`: an allocation failed.
@@ -86,6 +88,7 @@ impl<'state> ViewState<'state> {
         requires height { height ≤ 65535 }
         requires scroll { scroll ≤ max_scroll }
         ensures ok { IfOk result (λ view. IsVisibleView view self.now height scroll) }
+        ensures few { IfOk result (λ view. views_in view.view ≤ height + 2) }
         ensures err { IfErr result (λ e. e ≡ OutOfMemory) }
     {
         let files = self.state.files.as_slice();

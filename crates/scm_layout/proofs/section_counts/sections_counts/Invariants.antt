@@ -1,6 +1,6 @@
 use Rattle.std.proofs.Common.{◌≡◌, ◌+◌, ◌≤◌, ◌++◌, drop}
 use Rattle.std.specs.Prelude.{sum_by}
-use Rattle.scm_layout.specs.Lines.{old_lines}
+use Rattle.scm_rows.specs.Lines.{old_lines}
 use Rattle.scm_layout.specs.Counts.{sections_counts}
 use Rattle.scm_layout.proofs.section_counts.sections_counts.Given as goal
 

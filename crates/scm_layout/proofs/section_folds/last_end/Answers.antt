@@ -1,6 +1,6 @@
 use Rattle.std.proofs.Common.{◌≡◌, ℕ, zero, suc, ◌-◌, List, [], ◌∷◌, length, get_or, refl, arith}
 use Rattle.scm_layout.specs.declared.section_rows.SectionRows.{SectionRows}
-use Rattle.scm_layout.specs.declared.section_rows.SectionShape.TheVariants as shapes
+use Rattle.scm_rows.specs.declared.section_shape.SectionShape.TheVariants as shapes
 use Rattle.scm_layout.specs.Refolds.{last_end}
 use Rattle.scm_layout.proofs.section_folds.last_end.Goals as goal
 

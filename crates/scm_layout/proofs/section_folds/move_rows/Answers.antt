@@ -3,7 +3,7 @@ use Rattle.std.proofs.lemmas.List.{drop-set-lt, drop_all, take_all}
 use Rattle.scm_types.proofs.LimitLemmas.{items_room}
 use Rattle.scm_types.specs.Limits.{max_items}
 use Rattle.scm_layout.specs.declared.section_rows.SectionRows.{SectionRows}
-use Rattle.scm_layout.specs.declared.section_rows.SectionShape.TheVariants as shapes
+use Rattle.scm_rows.specs.declared.section_shape.SectionShape.TheVariants as shapes
 use Rattle.scm_layout.specs.Refolds.{AreWithin, moved_rows}
 use Rattle.scm_layout.proofs.RowLemmas.{written}
 use Rattle.scm_layout.proofs.ZipLemmas.{cut}

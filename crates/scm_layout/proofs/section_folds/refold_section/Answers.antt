@@ -1,7 +1,7 @@
 use Rattle.std.proofs.Common.{◌≡◌, ◌∙◌, ◌-◌, ◌*◌, ◌<◌, ◌≤◌, false, length, drop, get_or, ap, sym, subst, arith}
 use Rattle.scm_types.specs.Limits.{max_items}
 use Rattle.scm_layout.specs.declared.section_rows.SectionRows.{SectionRows}
-use Rattle.scm_layout.specs.declared.section_rows.SectionShape.TheVariants as shapes
+use Rattle.scm_rows.specs.declared.section_shape.SectionShape.TheVariants as shapes
 use Rattle.scm_layout.specs.Refolds.{AreWithin}
 use Rattle.scm_layout.specs.Rows.{sections_rows}
 use Rattle.scm_layout.proofs.MendLemmas.{front-height, mended, rest-within, row-last, row-top, row_at}

@@ -15,10 +15,7 @@ visible_height-height-requires c =
     let ss = c.args.sections.now in
     let within : c.loop-index.index < length ss = omega arith in
     let size : section_size c.index-sections-index.result ≡ section_size (get_or ss c.loop-index.index c.index-sections-index.result) = ap (λ x. section_size x) c.index-sections-index.is in
-    record {
-      index = omega (arith, items_room);
-      size = omega (arith, get_or-le-sum_by section_size ss c.loop-index.index c.index-sections-index.result within);
-    }
+    omega (arith, get_or-le-sum_by section_size ss c.loop-index.index c.index-sections-index.result within)
 
 pub overflow_add-end : goal.overflow_add-end
 overflow_add-end c =

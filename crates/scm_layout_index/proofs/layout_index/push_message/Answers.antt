@@ -2,7 +2,7 @@ use Rattle.std.proofs.Common.{◌∙◌, ap, sym, append-nil}
 use Rattle.std.specs.Prelude.{◌++◌, is_some}
 use Rattle.scm_types.specs.declared.state.Commit.{Commit}
 use Rattle.scm_document.specs.HeaderRects.{message_rects}
-use Rattle.scm_document.specs.Rows.{message_height}
+use Rattle.scm_rows.specs.Heights.{message_height}
 use Rattle.scm_layout_index.proofs.AnswerLemmas.{commit-is, commit-lacks}
 use Rattle.scm_layout_index.proofs.layout_index.push_message.Goals as goal
 

@@ -19,4 +19,4 @@ returns c =
     let r = c.in_ok-file_rows.file_rows.now in
     let within : i < length rs = grind (arith, c.in_ok-file_rows.ensures.lookup.0) in
     let rows : slice_get rs i ≡ Some r = slice_get-get_or rs i r within ∙ ap Some (sym c.in_ok-file_rows.ensures.lookup.1) in
-    rw (rows, c.file_piece.ensures, c.section_in.ensures) refl
+    rw (rows, c.file_of_rows.ensures, c.section_in.ensures) refl

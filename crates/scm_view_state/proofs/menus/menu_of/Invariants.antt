@@ -7,4 +7,4 @@ use Rattle.scm_view_state.proofs.menus.menu_of.Given as goal
 
 -- the items of the rows so far
 abbrev pub invariant-loop-item_label : goal.invariant-loop-item_label
-invariant-loop-item_label l = l.items.items ≡ map (λ (r : Bor (List ℕ) × Event). item r.0.now) (take l.item_label-index l.item_label-items)
+invariant-loop-item_label l = l.items.items ≡ map (λ (r : Bor (List ℕ) × Event). item r.0.now) (take l.item_label-index l.rows)

@@ -1,4 +1,4 @@
-use Rattle.std.proofs.Common.{◌≡◌, ◌≤◌, ◌⊎◌, take, drop}
+use Rattle.std.proofs.Common.{◌≡◌, take}
 use Rattle.scm_view.specs.ViewState.{section_views_of, totals_of}
 use Rattle.scm_view_state.specs.Views.{lent_sections}
 use Rattle.scm_view_state.proofs.section_views.counted_views.Given as goal
@@ -6,8 +6,4 @@ use Rattle.scm_view_state.proofs.section_views.counted_views.Given as goal
 -- the views so far are those of the sections up to the index
 abbrev pub invariant-loop-index : goal.invariant-loop-index
 invariant-loop-index l =
-    record {
-      views : lent_sections l.views.items ≡ drop l.fn.range.start (take l.index (section_views_of l.view_state (totals_of l.file.sections) l.key 0 0 0 l.file.sections));
-      low : l.fn.range.start ≤ l.index;
-      high : (l.index ≤ l.fn.range.end) ⊎ (l.index ≡ l.fn.range.start);
-    }
+    lent_sections l.views.items ≡ take l.index (section_views_of l.view_state (totals_of l.file.sections) l.key 0 0 0 l.file.sections)

@@ -2,13 +2,13 @@ use Rattle.std.proofs.Common.{◌≡◌, ◌∙◌, ◌+◌, ◌<◌, ◌++◌, 
 use Rattle.std.specs.Prelude.{map}
 use Rattle.std.proofs.lemmas.List.{map-append}
 use Rattle.scm_types.specs.declared.file.File.{File}
-use Rattle.scm_layout.specs.Rows.{file_key_of, folded_count}
+use Rattle.scm_layout.specs.Rows.{file_key_of, file_rows, folded_count}
 use Rattle.scm_layout.specs.declared.file_rows.FileRows.{FileRows}
 use Rattle.scm_view_state.specs.declared.section_views.SectionRange.{SectionRange}
 use Rattle.scm_view_state.specs.Stretches.{file_part_of, file_parts_of, is_unfolded, section_range}
 use Rattle.scm_view_state.specs.Views.{lent_file, lent_files}
 use Rattle.scm_view_state.proofs.CountedLemmas.{part-at, parts-length}
-use Rattle.scm_view_state.proofs.RiseLemmas.{folded-are}
+use Rattle.scm_view_state.proofs.RiseLemmas.{folded-are, sections-are}
 use Rattle.scm_view_state.proofs.SectionPartLemmas.{more-taken}
 use Rattle.scm_view_state.proofs.stretches.file_parts.Goals as goal
 
@@ -21,6 +21,16 @@ file_part-requires-clause-folded c =
     ap (λ (x : FileRows). x.folded) c.index-rows-file_idx.is
     ∙ folded-are c.args.rows.now s c.args.files.now c.requires.rows i r f (omega (arith, c.requires.last, c.loop-file_idx-test.true))
     ∙ ap (λ (x : File). folded_count s.expanded (file_key_of 0 i) 0 x.sections) (sym c.index-files-file_idx.is)
+
+pub file_part-requires-clause-rows : goal.file_part-requires-clause-rows
+file_part-requires-clause-rows c =
+    let s = c.args.view_state.now in
+    let i = c.loop-file_idx.file_idx in
+    let r = c.index-rows-file_idx.result in
+    let f = c.index-files-file_idx.result in
+    ap (λ (x : FileRows). x.sections) c.index-rows-file_idx.is
+    ∙ sections-are c.args.rows.now s c.args.files.now c.requires.rows i r f (omega (arith, c.requires.last, c.loop-file_idx-test.true))
+    ∙ ap (λ (x : File). (file_rows s.expanded (file_key_of 0 i) x).sections) (sym c.index-files-file_idx.is)
 
 pub loop-file_idx-preserved : goal.loop-file_idx-preserved
 loop-file_idx-preserved c =

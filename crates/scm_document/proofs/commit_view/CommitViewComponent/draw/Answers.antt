@@ -3,7 +3,8 @@ use Rattle.std.specs.Prelude.{ℤ, pos, ◌+ℤ◌}
 use Rattle.std.proofs.lemmas.Int.{to_z-of_z}
 use Rattle.scm_render.specs.Canvas.{Sight}
 use Rattle.scm_render.proofs.PictureLemmas.{PictureInRange-left}
-use Rattle.scm_document.specs.Rows.{ShownFile, shown_file, message_height}
+use Rattle.scm_rows.specs.Heights.{message_height}
+use Rattle.scm_document.specs.Rows.{ShownFile, shown_file}
 use Rattle.scm_widgets.specs.Pictures.{IdPicture}
 use Rattle.scm_document.specs.Pictures.{commit_message_picture, body_picture, document_picture, commit_picture}
 use Rattle.scm_render.proofs.StepLemmas.{rest, sight-after, step}

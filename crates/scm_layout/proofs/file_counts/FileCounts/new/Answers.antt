@@ -5,7 +5,7 @@ use Rattle.scm_types.specs.Limits.{max_items}
 use Rattle.scm_types.specs.Marks.{checked_count, file_marks, is_editable_section}
 use Rattle.scm_layout.specs.declared.section_counts.SectionCounts.{SectionCounts}
 use Rattle.scm_layout.specs.Counts.{modes_in, sections_counts}
-use Rattle.scm_layout.specs.Lines.{old_lines}
+use Rattle.scm_rows.specs.Lines.{old_lines}
 use Rattle.scm_layout.specs.Recounts.{total_checked, total_items}
 use Rattle.scm_layout.proofs.CountLemmas.{checked-fit, items-fit, old_lines-fit_file, total_checked-marks, total_items-marks}
 use Rattle.scm_layout.proofs.file_counts.FileCounts.new.Goals as goal

@@ -3,7 +3,7 @@ use Rattle.std.specs.Prelude.{◌++◌, if◌then◌else◌, is_some, None, Some
 use Rattle.scm_types.proofs.LimitLemmas.{scroll_room}
 use Rattle.scm_widgets.specs.Screens.{screen}
 use Rattle.scm_document.specs.HeaderRects.{message_rects}
-use Rattle.scm_document.specs.Rows.{message_height}
+use Rattle.scm_rows.specs.Heights.{message_height}
 use Rattle.scm_overlay.specs.OverlayRects.{dialog_run, help_dialog_rects, quit_dialog_rects}
 use Rattle.scm_overlay.specs.Tables.{help_dialog, quit_dialog}
 use Rattle.scm_view.specs.ViewState.{ViewState, commit_at}

@@ -2,7 +2,8 @@ use Rattle.std.proofs.Common.{◌∙◌, ◌+◌, ap, get_or, List, arith}
 use Rattle.std.specs.List.{flat_map}
 use Rattle.scm_types.proofs.LimitLemmas.{scroll_room}
 use Rattle.scm_document.specs.declared.commit_view.CommitView.{CommitView}
-use Rattle.scm_document.specs.Rows.{document_of, message_height}
+use Rattle.scm_rows.specs.Heights.{message_height}
+use Rattle.scm_document.specs.Rows.{document_of}
 use Rattle.scm_document.specs.DocumentRows.{rows_of_key}
 use Rattle.scm_document.specs.Pieces.{piece_places, files_of, sections_of}
 use Rattle.scm_document.proofs.PieceLemmas.{pieces-files, pieces-sections}

@@ -2,7 +2,8 @@ use Rattle.std.proofs.Common.{◌≡◌, ◌∙◌, ◌+◌, ◌++◌, ap, arith
 use Rattle.std.specs.List.{flat_map}
 use Rattle.scm_document.specs.declared.index_pieces.Piece.{Piece}
 use Rattle.scm_document.specs.declared.commit_view.CommitView.{CommitView}
-use Rattle.scm_document.specs.Rows.{message_height, shown_file, document_of}
+use Rattle.scm_rows.specs.Heights.{message_height}
+use Rattle.scm_document.specs.Rows.{shown_file, document_of}
 use Rattle.scm_document.specs.Places.{files_places}
 use Rattle.scm_document.specs.Pieces.{piece_places, piece_parts, files_pieces}
 use Rattle.scm_document.specs.RowIndex.{Index, message_parts, files_parts, index_of}

@@ -1,13 +1,13 @@
-use Rattle.std.proofs.Common.{◌≡◌, ◌∙◌, length, ap, sym, arith, List, true, subst}
+use Rattle.std.proofs.Common.{◌≡◌, ◌∙◌, ◌+◌, ◌≤◌, length, ap, sym, arith, List, true, subst}
 use Rattle.std.proofs.lemmas.Bool.Decides.{nat_tests}
 use Rattle.scm_types.proofs.LimitLemmas.{scroll_room}
 use Rattle.scm_document.specs.declared.file_view.FileView.{FileView}
 use Rattle.scm_layout.specs.declared.state_layout.Layout.{Layout}
 use Rattle.scm_view.specs.ViewState.{ViewState}
 use Rattle.scm_view_state.specs.declared.visible_views.VisibleView.{VisibleView}
-use Rattle.scm_view_state.specs.VisibleViews.{IsViewWith, IsVisibleView}
+use Rattle.scm_view_state.specs.VisibleViews.{IsViewWith, IsVisibleView, view_count, views_in}
 use Rattle.scm_view_state.proofs.PartRowLemmas.{rows-length}
-use Rattle.scm_view_state.proofs.VisibleLemmas.{end-within, if-ok, last-within, shown-some, visible-none}
+use Rattle.scm_view_state.proofs.VisibleLemmas.{end-within, few-some, if-ok, last-within, shown-some, visible-none}
 use Rattle.scm_view_state.proofs.view_state.ViewState.visible_view.Goals as goal
 
 pub overflow_add-scroll : goal.overflow_add-scroll
@@ -57,6 +57,15 @@ returns-clause-ok c =
     (c.as_slice-rows.ensures ∙ ap (λ (l : Layout). l.rows.files) c.requires.layout) (c.as_slice-files.ensures ∙ ap (λ (v : ViewState). v.state.files) c.self.view_is)
     c.requires.high (grind (arith, nat_tests, c.is_empty.ensures, c.if-is_empty.false)) c.visible_stretch-stretch.ensures
     c.in_ok-file_views.file_views c.scroll_from-scroll.result c.in_ok-file_views.ensures c.scroll_from-scroll.ensures) c.inline_view-2.ensures.ok
+
+pub returns-clause-few : goal.returns-clause-few
+returns-clause-few c =
+    let few = few-some c.args.self.now c.args.height c.args.scroll c.visible_stretch-stretch.result c.as_slice-rows.result.now c.as_slice-files.result.now
+    (c.as_slice-rows.ensures ∙ ap (λ (l : Layout). l.rows.files) c.requires.layout) (c.as_slice-files.ensures ∙ ap (λ (v : ViewState). v.state.files) c.self.view_is)
+    c.requires.high (grind (arith, nat_tests, c.is_empty.ensures, c.if-is_empty.false)) c.visible_stretch-stretch.ensures
+    c.in_ok-file_views.file_views c.in_ok-file_views.ensures in
+    if-ok (λ (v : VisibleView). views_in v.view ≡ view_count c.in_ok-file_views.file_views) (λ (v : VisibleView). views_in v.view ≤ c.args.height + 2) c.inline_view-2.result
+    (λ v is. omega (arith, few, is)) c.inline_view-2.ensures.count
 
 pub scroll_from-scroll-requires : goal.scroll_from-scroll-requires
 scroll_from-scroll-requires c = omega (arith, scroll_room, c.requires.scroll)

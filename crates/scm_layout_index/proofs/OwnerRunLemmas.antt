@@ -1,0 +1,149 @@
+-- Where a run of columns ends: no column between has another owner.
+use Rattle.std.proofs.Common.{◌≡◌, ℕ, ◌+◌, ◌<◌, ◌≤◌, Bool, true, false, ◌==◌, nat_lt, List, [], ◌∷◌, ◌++◌, length, take, get_or, subst, refl, sym, ap₂, arith}
+use Rattle.std.specs.Prelude.{nat_le, if◌then◌else◌, Option, Some, None}
+use Rattle.std.proofs.lemmas.Bool.Decides.{nat_tests}
+use Rattle.std.proofs.lemmas.List.{take_more}
+use Rattle.scm_types.specs.declared.keys.SelectionKey.{SelectionKey}
+use Rattle.scm_types.specs.declared.keys.SelectionKey.TheVariants as keys
+use Rattle.scm_render.specs.Hits.{first_of_two}
+use Rattle.scm_widgets.specs.declared.ids.ComponentId.{ComponentId}
+use Rattle.scm_widgets.specs.declared.overlay_rects.OverlayRect.{OverlayRect}
+use Rattle.scm_widgets.specs.OverlayRects.{have_row, is_at, overlay_owner}
+use Rattle.scm_document.specs.declared.index_pieces.SectionPiece.{SectionPiece}
+use Rattle.scm_document.specs.declared.index_pieces.RowKinds.TheVariants.{Changed, Mark, Context}
+use Rattle.scm_document.specs.PieceOwners.{box_owner, part_owner, rows_owner, section_owner}
+use Rattle.scm_document.specs.Pieces.{files_of, sections_of}
+use Rattle.scm_layout_index.specs.declared.layout_index.LayoutIndex.{LayoutIndex}
+use Rattle.scm_layout_index.specs.declared.row_pieces.RowPieces.{RowPieces}
+use Rattle.scm_layout_index.specs.LayoutIndex.{document_owner, owner_in}
+use Rattle.scm_layout_index.specs.OwnerRuns.{IsRun, end_before}
+use Rattle.scm_layout_index.specs.RowPieces.{found_list}
+use Rattle.scm_layout_index.proofs.RowOwnerLemmas.{not-over}
+
+-- a column of a run lies on the same side of a stop as the first
+record OneSide (c stop e x : ℕ) : Type 0 where
+  below : nat_lt x stop ≡ nat_lt c stop
+  above : nat_le stop x ≡ nat_le stop c
+  within : x < e
+
+one-side : (c stop e x : ℕ) → c ≤ x → x < end_before c stop e → OneSide c stop e x
+one-side c stop e x low high = record {
+  below = grind (arith, nat_tests);
+  above = grind (arith, nat_tests);
+  within = grind (arith, nat_tests);
+}
+
+past-stop : (c stop e : ℕ) → c < e → c < end_before c stop e
+past-stop c stop e h = grind (arith, nat_tests)
+
+most-stop : (c stop e : ℕ) → end_before c stop e ≤ e
+most-stop c stop e = grind (arith, nat_tests)
+
+-- ---- sections
+
+-- the row of a section's heading
+pub heading-row : (w : ℕ) (s : SectionPiece) (j c e : ℕ) → s.kinds ≡ Changed → j ≡ 0 → ((k : SelectionKey) → IsRun (box_owner w 2 k) w c e) → IsRun (nat_le 2) w c e
+    → IsRun (section_owner w s j) w c e
+unfolding part_owner
+heading-row w s j c e kind zero boxes two = record {
+  past = two.past;
+  most = two.most;
+  same = λ x low high.
+      let beyond = two.same x low high in
+      let box = λ (k : SelectionKey). (boxes k).same x low high in
+      rw (kind, zero, box, beyond) refl;
+}
+
+-- the row of a changed line
+pub line-row : (w : ℕ) (s : SectionPiece) (j c : ℕ) → s.kinds ≡ Changed → (j == 0) ≡ false → c < w → IsRun (section_owner w s j) w c (end_before c 4 (end_before c 7 w))
+unfolding part_owner
+line-row w s j c kind some h = record {
+  past = past-stop c 4 _ (past-stop c 7 w h);
+  most = let m0 = most-stop c 4 (end_before c 7 w) in let m1 = most-stop c 7 w in omega arith;
+  same = λ x low high.
+      let s0 = one-side c 4 (end_before c 7 w) x low high in
+      let s1 = one-side c 7 w x low s0.within in
+      rw (kind, some, s0.above, s1.below) refl;
+}
+
+-- the row of a mode or a binary
+pub mark-row : (w : ℕ) (s : SectionPiece) (j c : ℕ) → s.kinds ≡ Mark → c < w → IsRun (section_owner w s j) w c (end_before c 2 (end_before c 5 w))
+unfolding part_owner
+mark-row w s j c kind h = record {
+  past = past-stop c 2 _ (past-stop c 5 w h);
+  most = let m0 = most-stop c 2 (end_before c 5 w) in let m1 = most-stop c 5 w in omega arith;
+  same = λ x low high.
+      let s0 = one-side c 2 (end_before c 5 w) x low high in
+      let s1 = one-side c 5 w x low s0.within in
+      rw (kind, s0.above, s1.below) refl;
+}
+
+-- a row of context
+pub context-row : (w : ℕ) (s : SectionPiece) (j c a f n : ℕ) → s.kinds ≡ Context a f n → c < w → IsRun (section_owner w s j) w c (end_before c 2 w)
+unfolding part_owner
+context-row w s j c a f n kind h = record {
+  past = past-stop c 2 w h;
+  most = most-stop c 2 w;
+  same = λ x low high. let s0 = one-side c 2 w x low high in rw (kind, s0.above) refl;
+}
+
+-- ---- what lies over the document
+
+-- a rectangle has all columns c..e on row y, or none
+abbrev pub HasAllOrNone : ℕ → ℕ → ℕ → OverlayRect → Type 0
+HasAllOrNone y c e r = (x : ℕ) → c ≤ x → x < e → is_at r y x ≡ is_at r y c
+
+abbrev pub HaveAllOrNone : ℕ → ℕ → ℕ → List OverlayRect → Type 0
+HaveAllOrNone y c e [] = Unit {0}
+HaveAllOrNone y c e (r ∷ rs) = HasAllOrNone y c e r × HaveAllOrNone y c e rs
+
+pub one-owner : (rs : List OverlayRect) (y c e x : ℕ) → HaveAllOrNone y c e rs → c ≤ x → x < e → overlay_owner rs y x ≡ overlay_owner rs y c
+one-owner [] y c e x h low high = refl
+one-owner (r ∷ rs) y c e x h low high =
+    ap₂ (λ (o : Option ComponentId) (b : Bool). first_of_two o (if b then Some r.id else None)) (one-owner rs y c e x h.1 low high) (h.0 x low high)
+
+fewer : (rs : List OverlayRect) (y c e d : ℕ) → d ≤ e → HaveAllOrNone y c e rs → HaveAllOrNone y c d rs
+fewer [] y c e d less h = tt
+fewer (r ∷ rs) y c e d less h = (λ x low high. h.0 x low (omega arith), fewer rs y c e d less h.1)
+
+one-more : (rs : List OverlayRect) (r : OverlayRect) (y c e : ℕ) → HaveAllOrNone y c e rs → HasAllOrNone y c e r → HaveAllOrNone y c e (rs ++ r ∷ [])
+one-more [] r y c e h one = (one, tt)
+one-more (s ∷ rs) r y c e h one = (h.0, one-more rs r y c e h.1 one)
+
+pub next-rect : (rs : List OverlayRect) (i : ℕ) (r : OverlayRect) (y c e d : ℕ) → i < length rs → d ≤ e → HaveAllOrNone y c e (take i rs) → HasAllOrNone y c d (get_or rs i r)
+    → HaveAllOrNone y c d (take (i + 1) rs)
+next-rect rs i r y c e d within less h one =
+    subst (HaveAllOrNone y c d) (sym (take_more rs i r within)) (one-more (take i rs) (get_or rs i r) y c d (fewer (take i rs) y c e d less h) one)
+
+-- ---- rows
+
+-- a header's row
+pub header-row : (w : ℕ) (p : RowPieces) (y c e : ℕ) → y ≡ p.file.top → ((k : SelectionKey) → IsRun (box_owner w 0 k) w c e)
+    → IsRun (rows_owner w (files_of (found_list (Some p))) (sections_of (found_list (Some p))) y) w c e
+header-row w p y c e is boxes = record {
+  past = (boxes (keys.File p.file.key)).past;
+  most = (boxes (keys.File p.file.key)).most;
+  same = λ x low high. own x (grind (arith, nat_tests)) ((boxes (keys.File p.file.key)).same x low high) p.section refl;
+}
+  where
+    own : (x : ℕ) → (y == p.file.top) ≡ true → box_owner w 0 (keys.File p.file.key) x ≡ box_owner w 0 (keys.File p.file.key) c → (o : Option SectionPiece) → p.section ≡ o
+        → rows_owner w (files_of (found_list (Some p))) (sections_of (found_list (Some p))) y x ≡ rows_owner w (files_of (found_list (Some p))) (sections_of (found_list (Some p))) y c
+    own x top box None q = rw (q, top, box) refl
+    own x top box (Some s) q = rw (q, top, box) refl
+
+-- a row that nothing lies over
+pub bare-run : (i : LayoutIndex) (y c e : ℕ) → have_row i.rects.items y ≡ false → IsRun (document_owner i y) i.width c e → IsRun (owner_in i y) i.width c e
+bare-run i y c e none run = record {
+  past = run.past;
+  most = run.most;
+  same = λ x low high. own x (run.same x low high) (within x (less high run.most)) (within c (less run.past run.most));
+}
+  where
+    less : {a b d : ℕ} → a < b → b ≤ d → a < d
+    less h g = omega arith
+
+    within : (x : ℕ) → x < i.width → nat_lt x i.width ≡ true
+    within x h = grind (arith, nat_tests)
+
+    own : (x : ℕ) → document_owner i y x ≡ document_owner i y c → nat_lt x i.width ≡ true → nat_lt c i.width ≡ true → owner_in i y x ≡ owner_in i y c
+    own x same left start = rw (left, start, not-over i.rects.items y x none, not-over i.rects.items y c none) same

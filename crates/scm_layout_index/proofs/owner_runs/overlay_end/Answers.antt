@@ -1,0 +1,25 @@
+use Rattle.std.proofs.Common.{◌≡◌, subst, take, take_all, arith}
+use Rattle.scm_layout_index.proofs.OwnerRunLemmas.{HaveAllOrNone, next-rect, one-owner}
+use Rattle.scm_layout_index.proofs.owner_runs.overlay_end.Goals as goal
+
+pub loop-placed-preserved : goal.loop-placed-preserved
+loop-placed-preserved c =
+    let run = c.placed_end-left.ensures in
+    let before = c.loop-placed.invariant in
+    record {
+      past = run.past;
+      most = let fewer = run.most in omega arith;
+      same = next-rect c.args.rects.now c.loop-placed.placed-index _ c.args.row c.args.column c.loop-placed.left c.placed_end-left.result (omega arith) run.most before.same run.same;
+    }
+
+pub returns : goal.returns
+returns c =
+    let rects = c.args.rects.now in
+    let held = c.loop-placed.invariant in
+    let all : take c.loop-placed.placed-index rects ≡ rects = take_all c.loop-placed.placed-index rects (omega arith) in
+    let every = subst (HaveAllOrNone c.args.row c.args.column c.loop-placed.left) all held.same in
+    record {
+      past = held.past;
+      most = held.most;
+      same = λ x low high. one-owner rects c.args.row c.args.column c.loop-placed.left x every low high;
+    }

@@ -1,0 +1,13 @@
+//! The rule for the rows of a section: which lines of context it shows, how many rows it has, and
+//! whether it is shown at all.
+//!
+//! The layout of a state and the views of a document both go by it.
+#![tactic(auto)]
+
+pub mod message_rows;
+pub mod section_heights;
+pub mod section_place;
+pub mod section_shape;
+
+pub use section_place::SectionPlace;
+pub use section_shape::SectionShape;
