@@ -1,5 +1,5 @@
--- A text of printable ASCII and of a frame's lines: each character is a cluster of one column.
-use Rattle.std.proofs.Common.{◌≡◌, ℕ, Bool, true, false, not, ◌||◌, ◌&&◌, ◌==◌, List, [], ◌∷◌, ◌++◌, length, map, refl, sym, ap, ap₂, subst, ◌∙◌, arith, Some, encode_utf8, encode_utf8_all, append-nil, unwrap_or, ⊎_elim, take, drop, take_at, drop_at, length-append}
+-- A text of printable ASCII, a frame's lines and marks: each character is a cluster of one column.
+use Rattle.std.proofs.Common.{◌≡◌, ℕ, Bool, true, false, not, ◌||◌, ◌&&◌, ◌==◌, List, [], ◌∷◌, ◌++◌, length, map, refl, sym, ap, ap₂, subst, ◌∙◌, arith, Some, encode_utf8, encode_utf8_all, append-nil, unwrap_or, ◌⊎◌, ⊎_elim, take, drop, take_at, drop_at, length-append}
 use Rattle.std.specs.Str.{chars, IsUtf8, IsCharBoundary}
 use Rattle.std.proofs.lemmas.Str.{chars-nil, chars_past_char, IsUtf8-past_char, IsCharBoundary-from_drop}
 use Rattle.std.specs.List.{list_all}
@@ -14,51 +14,79 @@ use Rattle.unicode_segmentation.proofs.Computing.{unicode_segmentation}
 use Rattle.unicode_segmentation.proofs.GraphemeLemmas.{is_grapheme_break-inside, is_grapheme_break-others, joins_emoji-not_zwj}
 use Rattle.unicode_width.proofs.Computing.{unicode_width}
 use Rattle.scm_cells.specs.Clusters.{clusters, visible_clusters, visible_width, has_control, with_width}
-use Rattle.scm_cells.specs.FrameText.{is_frame_line, is_frame_char, is_frame_text, chars_as_clusters}
+use Rattle.scm_cells.specs.FrameText.{is_frame_line, is_mark, is_frame_char, is_frame_text, chars_as_clusters}
 use Rattle.scm_cells.proofs.PrintableLemmas.{is_printable_char, printable-ascii, printable-class, printable-kept, printable-encodes}
 
--- ---- a line of a frame
+-- ---- a line of a frame, and a mark
+
+is_it : (P : ℕ → Type 0) (c n : ℕ) → P n → (c == n) ≡ true → P c
+is_it P c n p q = let same : n ≡ c = grind (arith, nat_tests) in subst P same p
+
+one : (P : ℕ → Type 0) (c n : ℕ) (rest : Bool) → P n → (rest ≡ true → P c) → (rest || (c == n)) ≡ true → P c
+one P c n rest p earlier q = ⊎_elim earlier (is_it P c n p) (or_cases rest (c == n) q)
 
 -- what holds of each line holds of a character that is one
 by_line : (P : ℕ → Type 0) → P 0x2500 → P 0x2502 → P 0x250C → P 0x2510 → P 0x2514 → P 0x2518 → (c : ℕ) → is_frame_line c ≡ true → P c
-by_line P a b d e f g c h = one 0x2518 _ g (one 0x2514 _ f (one 0x2510 _ e (one 0x250C _ d (one 0x2502 _ b (is 0x2500 a))))) h
-  where
-    is : (n : ℕ) → P n → (c == n) ≡ true → P c
-    is n p q = let same : n ≡ c = grind (arith, nat_tests) in subst P same p
+by_line P a b d e f g c h = one P c 0x2518 _ g (one P c 0x2514 _ f (one P c 0x2510 _ e (one P c 0x250C _ d (one P c 0x2502 _ b (is_it P c 0x2500 a))))) h
 
-    one : (n : ℕ) (rest : Bool) → P n → (rest ≡ true → P c) → (rest || (c == n)) ≡ true → P c
-    one n rest p earlier q = ⊎_elim earlier (is n p) (or_cases rest (c == n) q)
+-- and of a mark
+by_mark : (P : ℕ → Type 0) → P 0xB1 → P 0x2022 → P 0x2026 → P 0x2190 → P 0x2191 → P 0x2192 → P 0x2193 → P 0x22EE → P 0x23CE → P 0x25CF → P 0x25D0 → (c : ℕ) → is_mark c ≡ true → P c
+by_mark P a b d e f g i j k l m c h =
+    one P c 0x25D0 _ m (one P c 0x25CF _ l (one P c 0x23CE _ k (one P c 0x22EE _ j (one P c 0x2193 _ i (one P c 0x2192 _ g
+    (one P c 0x2191 _ f (one P c 0x2190 _ e (one P c 0x2026 _ d (one P c 0x2022 _ b (is_it P c 0xB1 a)))))))))) h
 
-line-class : (c : ℕ) → is_frame_line c ≡ true → Other ≡ grapheme_cluster_break c
+-- a character that is drawn with printable ASCII
+abbrev is_drawn : ℕ → Bool
+is_drawn c = is_frame_line c || is_mark c
+
+by_drawn : (P : ℕ → Type 0) (c : ℕ) → (is_frame_line c ≡ true → P c) → (is_mark c ≡ true → P c) → is_drawn c ≡ true → P c
+by_drawn P c f g h = ⊎_elim f g (or_cases (is_frame_line c) (is_mark c) h)
+
+line-class : (c : ℕ) → is_drawn c ≡ true → Other ≡ grapheme_cluster_break c
 unfolding ucd_breaks
-line-class = by_line (λ c. Other ≡ grapheme_cluster_break c) refl refl refl refl refl refl
+line-class c = by_drawn (λ d. Other ≡ grapheme_cluster_break d) c (by_line (λ d. Other ≡ grapheme_cluster_break d) refl refl refl refl refl refl c)
+    (by_mark (λ d. Other ≡ grapheme_cluster_break d) refl refl refl refl refl refl refl refl refl refl refl c)
 
-line-conjunct : (before : List ℕ) (c : ℕ) → is_frame_line c ≡ true → joins_conjunct before c ≡ false
+line-conjunct : (before : List ℕ) (c : ℕ) → is_drawn c ≡ true → joins_conjunct before c ≡ false
 unfolding unicode_segmentation
-line-conjunct before = by_line (λ c. joins_conjunct before c ≡ false) (and_right _ _ refl) (and_right _ _ refl) (and_right _ _ refl) (and_right _ _ refl) (and_right _ _ refl) (and_right _ _ refl)
+line-conjunct before c = by_drawn (λ d. joins_conjunct before d ≡ false) c
+    (by_line (λ d. joins_conjunct before d ≡ false) (and_right _ _ refl) (and_right _ _ refl) (and_right _ _ refl) (and_right _ _ refl) (and_right _ _ refl) (and_right _ _ refl) c)
+    (by_mark (λ d. joins_conjunct before d ≡ false) (and_right _ _ refl) (and_right _ _ refl) (and_right _ _ refl) (and_right _ _ refl) (and_right _ _ refl)
+    (and_right _ _ refl) (and_right _ _ refl) (and_right _ _ refl) (and_right _ _ refl) (and_right _ _ refl) (and_right _ _ refl) c)
 
-line-flag : (before : List ℕ) (c : ℕ) → is_frame_line c ≡ true → joins_flag before c ≡ false
+line-flag : (before : List ℕ) (c : ℕ) → is_drawn c ≡ true → joins_flag before c ≡ false
 unfolding ucd_breaks
-line-flag before = by_line (λ c. joins_flag before c ≡ false) (and_right _ _ refl) (and_right _ _ refl) (and_right _ _ refl) (and_right _ _ refl) (and_right _ _ refl) (and_right _ _ refl)
+line-flag before c = by_drawn (λ d. joins_flag before d ≡ false) c
+    (by_line (λ d. joins_flag before d ≡ false) (and_right _ _ refl) (and_right _ _ refl) (and_right _ _ refl) (and_right _ _ refl) (and_right _ _ refl) (and_right _ _ refl) c)
+    (by_mark (λ d. joins_flag before d ≡ false) (and_right _ _ refl) (and_right _ _ refl) (and_right _ _ refl) (and_right _ _ refl) (and_right _ _ refl)
+    (and_right _ _ refl) (and_right _ _ refl) (and_right _ _ refl) (and_right _ _ refl) (and_right _ _ refl) (and_right _ _ refl) c)
 
-line-kept : (c : ℕ) → is_frame_line c ≡ true → with_width (encode_utf8 c) ≡ Some (encode_utf8 c, 1)
+line-kept : (c : ℕ) → is_drawn c ≡ true → with_width (encode_utf8 c) ≡ Some (encode_utf8 c, 1)
 unfolding with_width visible_width has_control unicode_width
-line-kept = by_line (λ c. with_width (encode_utf8 c) ≡ Some (encode_utf8 c, 1)) refl refl refl refl refl refl
+line-kept c = by_drawn (λ d. with_width (encode_utf8 d) ≡ Some (encode_utf8 d, 1)) c (by_line (λ d. with_width (encode_utf8 d) ≡ Some (encode_utf8 d, 1)) refl refl refl refl refl refl c)
+    (by_mark (λ d. with_width (encode_utf8 d) ≡ Some (encode_utf8 d, 1)) refl refl refl refl refl refl refl refl refl refl refl c)
 
 -- ---- a character of a frame's text is a cluster
 
+drawn_or_printable : (c : ℕ) → is_frame_char c ≡ true → (is_printable_char c ≡ true) ⊎ (is_drawn c ≡ true)
+drawn_or_printable c h = or_cases (is_printable_char c) (is_drawn c) (sym (or_assoc (is_printable_char c) (is_frame_line c) (is_mark c)) ∙ h)
+  where
+    or_assoc : (x y z : Bool) → (x || y || z) ≡ (x || (y || z))
+    or_assoc true y z = refl
+    or_assoc false y z = refl
+
 lone-class : (c : ℕ) → is_frame_char c ≡ true → Other ≡ grapheme_cluster_break c
-lone-class c h = ⊎_elim (printable-class c) (line-class c) (or_cases (is_printable_char c) (is_frame_line c) h)
+lone-class c h = ⊎_elim (printable-class c) (line-class c) (drawn_or_printable c h)
 
 lone-kept : (c : ℕ) → is_frame_char c ≡ true → with_width (encode_utf8 c) ≡ Some (encode_utf8 c, 1)
-lone-kept c h = ⊎_elim (λ p. rw (printable-encodes c p) (printable-kept c p)) (line-kept c) (or_cases (is_printable_char c) (is_frame_line c) h)
+lone-kept c h = ⊎_elim (λ p. rw (printable-encodes c p) (printable-kept c p)) (line-kept c) (drawn_or_printable c h)
 
 no_pair : (extended b : Bool) → unwrap_or (break_by_pair extended Other Other) b ≡ b
 no_pair true b = refl
 no_pair false b = refl
 
--- a line begins a cluster after a lone character
-line-begins : (c d : ℕ) (before after : List ℕ) → is_frame_char c ≡ true → is_frame_line d ≡ true → is_grapheme_break true (c ∷ before) (d ∷ after) ≡ true
+-- a line or a mark begins a cluster after a lone character
+line-begins : (c d : ℕ) (before after : List ℕ) → is_frame_char c ≡ true → is_drawn d ≡ true → is_grapheme_break true (c ∷ before) (d ∷ after) ≡ true
 line-begins c d before after h g =
     let left = lone-class c h in
     let right = line-class d g in
@@ -73,7 +101,7 @@ lone-begins c d before after h g =
     ⊎_elim
     (λ p. let small = printable-ascii d p in sym (is_grapheme_break-others true (c ∷ before) d after (omega arith) (omega (arith, small)) (lone-class c h) (printable-class d p)))
     (line-begins c d before after h)
-    (or_cases (is_printable_char d) (is_frame_line d) g)
+    (drawn_or_printable d g)
 
 lone-breaks : (c : ℕ) (before cs : List ℕ) → is_frame_char c ≡ true → list_all is_frame_char cs ≡ true → is_grapheme_break true (c ∷ before) (cs ++ []) ≡ true
 unfolding is_grapheme_break

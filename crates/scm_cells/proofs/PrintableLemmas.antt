@@ -1,5 +1,5 @@
 -- A text of printable ASCII is its own list of clusters: each byte is one, of one column.
-use Rattle.std.proofs.Common.{◌≡◌, ℕ, suc, ◌+◌, ◌<◌, Bool, true, false, not, ◌||◌, ◌==◌, List, [], ◌∷◌, ◌++◌, length, map, refl, sym, ap, ap₂, ◌∙◌, arith, Some, sum_by, encode_utf8, encode_utf8_all, take, take_all, drop, ◌≤◌}
+use Rattle.std.proofs.Common.{◌≡◌, ℕ, suc, ◌+◌, ◌<◌, Bool, true, false, not, ◌||◌, ◌==◌, List, [], ◌∷◌, ◌++◌, length, map, refl, sym, ap, ap₂, ◌∙◌, arith, Some, sum_by, encode_utf8, encode_utf8_all, take, take_all, drop, subst, length-take, ◌≤◌}
 use Rattle.std.specs.Prelude.{nat_lt, position, unwrap_or}
 use Rattle.std.specs.List.{position_or_len}
 use Rattle.std.specs.Int.{is_in_range}
@@ -7,6 +7,7 @@ use Rattle.std.specs.Str.{chars, IsAscii}
 use Rattle.std.proofs.lemmas.Bool.{and_parts}
 use Rattle.std.proofs.lemmas.Bool.Decides.{nat_tests}
 use Rattle.std.proofs.lemmas.Str.{chars-IsAscii, encode_ascii}
+use Rattle.std.proofs.lemmas.List.{take-take}
 use Rattle.std.proofs.lemmas.List.Sums.{sum_by-cons}
 use Rattle.std.proofs.lemmas.Str.Ascii.{IsAscii-nil, IsAscii-cons}
 use Rattle.ucd_table.proofs.Facts.{Stepped-below}
@@ -37,7 +38,7 @@ pub IsAscii-printable : (cs : List ℕ) → is_printable cs ≡ true → IsAscii
 IsAscii-printable [] h = IsAscii-nil
 IsAscii-printable (c ∷ cs) h = let parts = and_parts (is_printable_char c) (is_printable cs) h in IsAscii-cons c cs (printable-ascii c parts.0) (IsAscii-printable cs parts.1)
 
-chars-printable : (text : List ℕ) → is_printable text ≡ true → chars text ≡ text
+pub chars-printable : (text : List ℕ) → is_printable text ≡ true → chars text ≡ text
 chars-printable text h = chars-IsAscii text (IsAscii-printable text h)
 
 -- whether a character is not printable, or this is the class of one that is
@@ -61,7 +62,7 @@ printable-kept c h =
 
 -- ---- a text of printable characters
 
-printable-breaks : (c : ℕ) (before cs : List ℕ) → is_printable_char c ≡ true → is_printable cs ≡ true → is_grapheme_break true (c ∷ before) (cs ++ []) ≡ true
+pub printable-breaks : (c : ℕ) (before cs : List ℕ) → is_printable_char c ≡ true → is_printable cs ≡ true → is_grapheme_break true (c ∷ before) (cs ++ []) ≡ true
 unfolding is_grapheme_break
 printable-breaks c before [] h g = refl
 printable-breaks c before (d ∷ cs) h g =
@@ -134,9 +135,31 @@ printable-front text = by_test (nat_lt (position_or_len is_unprintable text) (le
         let all : length text ≤ position_or_len is_unprintable text = grind (arith, nat_tests) in
         rw (e, take_all (length text) text (omega arith)) (rw (take_all (position_or_len is_unprintable text) text all) at (printable-passed text))
 
+-- all bytes are before it if all are printable
+position-printable : (text : List ℕ) → is_printable text ≡ true → position_or_len is_unprintable text ≡ length text
+position-printable [] h = refl
+position-printable (b ∷ bs) h =
+    let parts = and_parts (is_printable_char b) (is_printable bs) h in
+    let passed : is_unprintable b ≡ false = let first = parts.0 in grind (arith, nat_tests) in
+    rw (passed, position-printable bs parts.1) (one_more (length bs))
+
+pub count-all : (text : List ℕ) → is_printable text ≡ true → length text ≡ unwrap_or (position is_unprintable text) (length text)
+count-all text h =
+    let all = position-printable text h in
+    let none : nat_lt (position_or_len is_unprintable text) (length text) ≡ false = grind (arith, nat_tests) in
+    rw none refl
+
 pub count-le : (text : List ℕ) → unwrap_or (position is_unprintable text) (length text) ≤ length text
 count-le text = by_test (nat_lt (position_or_len is_unprintable text) (length text)) refl
   where
     by_test : (t : Bool) → nat_lt (position_or_len is_unprintable text) (length text) ≡ t → unwrap_or (position is_unprintable text) (length text) ≤ length text
     by_test true e = let before : position_or_len is_unprintable text < length text = grind (arith, nat_tests) in rw e (omega (arith, before))
     by_test false e = rw e (omega arith)
+
+-- the same of the first bytes of a text
+pub printable-first : (text near : List ℕ) (n m : ℕ) → near ≡ take m text → n ≡ unwrap_or (position is_unprintable near) (length near) → is_printable (take n text) ≡ true
+printable-first text near n m e count =
+    let le : n ≤ length near = subst (λ k. k ≤ length near) (sym count) (count-le near) in
+    let within : n ≤ m = omega (arith, le, ap length e, length-take m text) in
+    let same : take n near ≡ take n text = ap (take n) e ∙ take-take n m text within in
+    subst (λ t. is_printable t ≡ true) (ap (λ k. take k near) (sym count) ∙ same) (printable-front near)

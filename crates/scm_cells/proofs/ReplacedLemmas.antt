@@ -34,11 +34,11 @@ unfolding line_pieces
 HasRead-none line rest u e =
     record { read = []; size = refl; utf8 = subst IsUtf8 (sym e) u; parts = sym e; pieces = ap (λ t. pieces_from [] (chars t)) (sym e) }
 
-pieces_from-stays : (piece : List ℕ) (c : ℕ) (cs : List ℕ) → replacement c ≡ None → pieces_from piece (c ∷ cs) ≡ pieces_from (piece ++ encode_utf8 c) cs
+pub pieces_from-stays : (piece : List ℕ) (c : ℕ) (cs : List ℕ) → replacement c ≡ None → pieces_from piece (c ∷ cs) ≡ pieces_from (piece ++ encode_utf8 c) cs
 unfolding pieces_from
 pieces_from-stays piece c cs e = rw e refl
 
-pieces_from-replaced : (piece r : List ℕ) (c : ℕ) (cs : List ℕ) → replacement c ≡ Some r → pieces_from piece (c ∷ cs) ≡ piece ∷ (r ∷ pieces_from [] cs)
+pub pieces_from-replaced : (piece r : List ℕ) (c : ℕ) (cs : List ℕ) → replacement c ≡ Some r → pieces_from piece (c ∷ cs) ≡ piece ∷ (r ∷ pieces_from [] cs)
 unfolding pieces_from
 pieces_from-replaced piece r c cs e = rw e refl
 
@@ -74,12 +74,17 @@ HasRead-printable line (c ∷ cs) rest n m h g e =
     let one = printable-encodes c parts.0 in
     HasRead-printable line cs rest (n + 1) m (HasRead-more line (c ∷ (cs ++ rest)) (cs ++ rest) n (n + 1) c h (ap (λ t. t ++ (cs ++ rest)) (sym one)) (omega (arith, ap length one)) (printable-stays c parts.0)) parts.1 (omega arith)
 
+-- printable bytes were read
+pub HasRead-first : (line rest : List ℕ) (n : ℕ) → IsUtf8 line → n ≤ length line → is_printable (take n line) ≡ true → rest ≡ drop n line → HasRead line n rest
+HasRead-first line rest n u le printable e =
+    HasRead-printable line (take n line) rest 0 n (HasRead-none line (take n line ++ rest) u (ap (λ t. take n line ++ t) e ∙ take-append-drop n line)) printable (omega (arith, length-take-le n line le))
+
 -- the printable bytes before the first other one were read
 pub HasRead-front : (line rest : List ℕ) (n : ℕ) → IsUtf8 line → n ≡ unwrap_or (position is_unprintable line) (length line) → rest ≡ drop n line → HasRead line n rest
 HasRead-front line rest n u count e =
     let le : n ≤ length line = subst (λ k. k ≤ length line) (sym count) (count-le line) in
     let printable : is_printable (take n line) ≡ true = subst (λ k. is_printable (take k line) ≡ true) (sym count) (printable-front line) in
-    HasRead-printable line (take n line) rest 0 n (HasRead-none line (take n line ++ rest) u (ap (λ t. take n line ++ t) e ∙ take-append-drop n line)) printable (omega (arith, length-take-le n line le))
+    HasRead-first line rest n u le printable e
 
 -- a replaced character after the first `n` bytes of the line
 pub pieces-cut : (line rest next r front : List ℕ) (n c : ℕ) → HasRead line n rest → rest ≡ encode_utf8 c ++ next → replacement c ≡ Some r → front ≡ slice_range line 0 n
@@ -91,7 +96,7 @@ pieces-cut line rest next r front n c h first e at =
     h.pieces ∙ ap (pieces_from h.read) (chars_past_char rest next c h.utf8 first) ∙ pieces_from-replaced h.read r c (chars next) e
     ∙ ap (λ t. t ∷ (r ∷ pieces_from [] (chars next))) (sym same)
 
-pieces_from-end : (piece : List ℕ) → pieces_from piece [] ≡ last_piece piece
+pub pieces_from-end : (piece : List ℕ) → pieces_from piece [] ≡ last_piece piece
 unfolding pieces_from
 pieces_from-end piece = refl
 

@@ -48,7 +48,7 @@ abbrev pub IsSingle : List ℕ → Type 0
 IsSingle piece = is_printable piece ≡ true → length piece ≡ 1
 
 -- the first of these pieces begins with a character
-record Begins (c : ℕ) (pieces : List (List ℕ)) : Type 0 where
+pub record Begins (c : ℕ) (pieces : List (List ℕ)) : Type 0 where
   pub first : List ℕ
   pub more : List (List ℕ)
   pub is : pieces ≡ (c ∷ first) ∷ more
@@ -61,7 +61,7 @@ begins-if : (b : Bool) (c : ℕ) (rest : List (List ℕ)) → Begins c (if b the
 begins-if true c rest = record { first = []; more = rest; is = refl }
 begins-if false c rest = begins-prepend c rest
 
-begins-cut : (c : ℕ) (before cs : List ℕ) → Begins c (cut (is_grapheme_break true) before (c ∷ cs) [])
+pub begins-cut : (c : ℕ) (before cs : List ℕ) → Begins c (cut (is_grapheme_break true) before (c ∷ cs) [])
 unfolding cut
 begins-cut c before cs = begins-if (is_grapheme_break true (c ∷ before) (cs ++ [])) c (cut (is_grapheme_break true) (c ∷ before) cs [])
 

@@ -68,7 +68,7 @@ AllKept-pieces : (pieces : List (List ℕ)) → AllKept (filter_map with_width p
 AllKept-pieces [] = tt
 AllKept-pieces (p ∷ ps) = AllKept-cons p ps (visible_width p) refl (AllKept-pieces ps)
 
-AllKept-bytes : (text : List ℕ) → AllKept (bytes_as_clusters text)
+pub AllKept-bytes : (text : List ℕ) → AllKept (bytes_as_clusters text)
 unfolding bytes_as_clusters
 AllKept-bytes [] = tt
 AllKept-bytes (b ∷ bs) = (record { bytes = omega arith; columns = omega arith }, AllKept-bytes bs)
@@ -88,8 +88,9 @@ AllKept-chars [] = tt
 AllKept-chars (c ∷ cs) = (record { bytes = grind (arith, nat_tests, length-encode c); columns = omega arith }, AllKept-chars cs)
 
 pub AllKept-cut : (s : FastClusters) → AllKept (fast_clusters_left s)
+unfolding visible_clusters
 AllKept-cut (cuts.FrameText text) = AllKept-chars _
-AllKept-cut (cuts.Clusters text) = AllKept-left text
+AllKept-cut (cuts.Graphemes pieces) = AllKept-pieces _
 
 pub AllKept-clusters : (text : List ℕ) → AllKept (clusters text)
 unfolding clusters visible_clusters

@@ -1,5 +1,6 @@
 -- One column of a row as a cell.
-use Rattle.std.specs.Prelude.{ℕ, List, [], ◌∷◌, ◌==◌, if◌then◌else◌, string_bytes}
+use Rattle.std.specs.Prelude.{ℕ, List, [], ◌∷◌, ◌==◌, ◌&&◌, if◌then◌else◌, Option, Some, None, string_bytes}
+use Rattle.std.specs.Int.{is_in_range}
 use Rattle.scm_cells.specs.declared.column.Column.TheInside.{Inside}
 
 -- one column of a symbol: its bytes at its first column and [] at a later one, its width, and how many of its columns come before this one
@@ -8,15 +9,26 @@ pub record Cell : Type 0 where
   pub width : ℕ
   pub offset : ℕ
 
+-- the cell of a symbol of one byte, in one column
+abbrev pub byte_cell : ℕ → Cell
+byte_cell b = record { symbol = b ∷ []; width = 1; offset = 0 }
+
 -- the cell of a space
 abbrev pub blank : Cell
 blank = record { symbol = 32 ∷ []; width = 1; offset = 0 }
 
--- the symbol of a column with this offset: a stored empty text is a space at offset 0
-abbrev pub symbol_or_space : List ℕ → ℕ → List ℕ
-symbol_or_space [] k = if k == 0 then 32 ∷ [] else []
-symbol_or_space (b ∷ bs) k = b ∷ bs
+-- the byte of a text that is one printable character of ASCII, from a space to a tilde
+abbrev pub single_byte : List ℕ → Option ℕ
+single_byte [] = None
+single_byte (b ∷ []) = if is_in_range 0x20 0x7E b then Some b else None
+single_byte (b ∷ (c ∷ cs)) = None
 
--- the fields of `Column` as a cell
+-- the byte of a cell whose symbol is one printable character of ASCII, in one column
+abbrev pub ascii_of : Cell → Option ℕ
+ascii_of cell = if (cell.width == 1) && (cell.offset == 0) then single_byte cell.symbol else None
+
+-- the fields of `Column` as a cell: a printable byte stands for its symbol
 abbrev pub cell_of : Inside → Cell
-cell_of c = record { symbol = symbol_or_space (string_bytes c.symbol) c.offset; width = c.width; offset = c.offset }
+cell_of c =
+    if is_in_range 0x20 0x7E c.byte then byte_cell c.byte
+    else record { symbol = string_bytes c.symbol; width = c.width; offset = c.offset }

@@ -1,30 +1,68 @@
 //! One column of a row.
-ghost use Rattle.std.specs.Prelude.{◌≡◌, ◌↔◌, ◌-◌, ◌<◌, ◌∷◌, [], IsTrue, OnOk, length, option_map};
-ghost use Rattle.scm_cells.specs.Cell.{blank};
+ghost use Rattle.std.specs.Prelude.{◌≡◌, ◌-◌, ◌^◌, ◌<◌, ◌∷◌, [], IsTrue, OnOk, length, option_map, slice_index_or};
+ghost use Rattle.std.specs.Int.{is_in_range};
+ghost use Rattle.scm_cells.specs.Cell.{blank, byte_cell, single_byte, ascii_of};
+ghost use Rattle.scm_cells.specs.Cluster.{is_printable};
 ghost use Rattle.scm_cells.specs.Symbols.{symbol_of};
 
 use std::alloc::{AllocError, Global};
 use std::marker::Model;
 
-/// Returns whether the text is a single space.
-fn is_space(text: &str) -> bool
-    ensures { IsTrue result ↔ text.now ≡ 32 ∷ [] }
+/// The printable characters of ASCII, in order.
+const PRINTABLE: &str = " !\"#$%&'()*+,-./0123456789:;<=>?@ABCDEFGHIJKLMNOPQRSTUVWXYZ[\\]^_`\
+    abcdefghijklmnopqrstuvwxyz{|}~";
+
+/// Returns whether the byte is a printable character of ASCII.
+fn is_printable_byte(byte: u8) -> bool
+    ensures { result ≡ is_in_range 0x20 0x7E byte }
 {
-    text.len() == 1 && text.as_bytes()[0] == b' '
+    0x20 <= byte && byte <= 0x7E
 }
 
-/// A column of a symbol, at its offset from the symbol's first column. An empty symbol at offset 0
-/// is a space.
+/// Returns the character at `index` of a printable text.
+fn character_at(text: &str, index: usize) -> &str
+    requires printable { IsTrue (is_printable text.now) }
+    requires index { index < length text.now }
+    ensures { result.now ≡ slice_index_or text.now index 0 ∷ [] }
+{
+    &text[index..index + 1]
+}
+
+/// Returns the text of a printable character of ASCII.
+fn printable_text(byte: u8) -> &'static str
+    requires { IsTrue (is_in_range 0x20 0x7E byte) }
+    ensures { result.now ≡ byte ∷ [] }
+{
+    character_at(PRINTABLE, (byte - 0x20) as usize)
+}
+
+/// Returns the byte of a text that is one printable character of ASCII.
+fn single_byte(text: &str) -> Option<u8>
+    ensures { result ≡ single_byte text.now }
+{
+    let bytes = text.as_bytes();
+    if bytes.len() == 1 && is_printable_byte(bytes[0]) {
+        Some(bytes[0])
+    } else {
+        None
+    }
+}
+
+/// A column of a symbol, at its offset from the symbol's first column.
 #[derive(Drop)]
-pub(crate) struct Column {
-    /// The symbol that begins here, or empty.
-    symbol: String,
+pub struct Column {
+    /// The symbol's byte if it is one printable character of ASCII, in one column. The other
+    /// fields count only if this is no such character.
+    byte: u8,
 
     /// The width of the symbol, in columns.
-    width: usize,
+    width: u16,
 
     /// The number of its columns before this one.
-    offset: usize,
+    offset: u16,
+
+    /// The symbol that begins here, or empty.
+    symbol: String,
 }
 
 impl Model for Column {
@@ -41,9 +79,10 @@ impl Column {
         ensures { result ≡ blank }
     {
         Column {
-            symbol: String::new(alloc),
+            byte: b' ',
             width: 1,
             offset: 0,
+            symbol: String::new(alloc),
         }
     }
 
@@ -51,47 +90,73 @@ impl Column {
     pub(crate) fn clear(&mut self)
         ensures { self.new ≡ blank }
     {
-        self.symbol.clear();
-        self.width = 1;
-        self.offset = 0;
+        self.byte = b' ';
+    }
+
+    /// Makes the column a symbol of one byte. Keeps the memory of its symbol.
+    pub(crate) fn set_byte(&mut self, byte: u8)
+        requires { IsTrue (is_in_range 0x20 0x7E byte) }
+        ensures { self.new ≡ byte_cell byte }
+    {
+        self.byte = byte;
     }
 
     /// Makes the column the first of a symbol of `width` columns. Allocates only if the symbol is
     /// longer than what the column's memory has room for.
     pub(crate) fn set_first(&mut self, symbol: &str, width: usize) -> Result<(), AllocError>
-        requires { 0 < length symbol.now }
+        requires { width < 2 ^ 16 }
         ensures { OnOk result (
             self.new ≡ record { symbol = symbol.now; width = width; offset = 0 }) }
     {
-        self.symbol.clear();
-        self.width = width;
-        self.offset = 0;
-        if is_space(symbol) && width == 1 {
-            return Ok(());
+        if width == 1 {
+            if let Some(byte) = single_byte(symbol) {
+                self.byte = byte;
+                return Ok(());
+            }
         }
+        self.symbol.clear();
         self.symbol.push_str(symbol)?;
+        self.byte = 0;
+        self.width = width as u16;
+        self.offset = 0;
         Ok(())
     }
 
     /// Makes the column a later one of a symbol of `width` columns, `offset` columns after its
     /// first. Keeps the memory of its symbol.
     pub(crate) fn set_later(&mut self, width: usize, offset: usize)
-        requires { 0 < offset }
+        requires width { width < 2 ^ 16 }
+        requires offset { offset < 2 ^ 16 }
         ensures { self.new ≡ record { symbol = []; width = width; offset = offset } }
     {
         self.symbol.clear();
-        self.width = width;
-        self.offset = offset;
+        self.byte = 0;
+        self.width = width as u16;
+        self.offset = offset as u16;
     }
 
     /// Returns the symbol, or the empty text at a later column of one.
-    pub(crate) fn symbol(&self) -> &str
+    pub fn symbol(&self) -> &str
         ensures { result.now ≡ self.now.symbol }
     {
-        if self.symbol.is_empty() && self.offset == 0 {
-            " "
+        if is_printable_byte(self.byte) {
+            printable_text(self.byte)
         } else {
             self.symbol.as_str()
+        }
+    }
+
+    /// Returns the byte of the symbol if that is one printable character of ASCII, from a space to
+    /// a tilde, in one column.
+    pub fn ascii(&self) -> Option<u8>
+        ensures { result ≡ ascii_of self.now }
+    {
+        if is_printable_byte(self.byte) {
+            Some(self.byte)
+        } else if self.width == 1 && self.offset == 0 {
+            single_byte(self.symbol.as_str())
+        } else {
+            None
         }
     }
 
@@ -99,7 +164,7 @@ impl Column {
     pub(crate) fn first_symbol(&self) -> Option<&str>
         ensures { option_map (λ s. s.now) result ≡ symbol_of self.now }
     {
-        if self.offset == 0 {
+        if self.offset() == 0 {
             Some(self.symbol())
         } else {
             None
@@ -110,13 +175,21 @@ impl Column {
     pub(crate) fn columns_left(&self) -> usize
         ensures { result ≡ self.now.width - self.now.offset }
     {
-        self.width.saturating_sub(self.offset)
+        if is_printable_byte(self.byte) {
+            1
+        } else {
+            self.width.saturating_sub(self.offset) as usize
+        }
     }
 
     /// Returns the number of columns of the symbol before this one.
     pub(crate) fn offset(&self) -> usize
         ensures { result ≡ self.now.offset }
     {
-        self.offset
+        if is_printable_byte(self.byte) {
+            0
+        } else {
+            self.offset as usize
+        }
     }
 }

@@ -6,10 +6,11 @@ ghost use Rattle.std.specs.Iterator.{YieldsFirstBy};
 ghost use Rattle.scm_cells.specs.Cluster.{cluster};
 ghost use Rattle.scm_cells.specs.Clusters.{clusters};
 ghost use Rattle.scm_cells.specs.Laying.{columns_of};
-ghost use Rattle.scm_cells.specs.FrameText.{is_frame_line, is_frame_char, is_frame_text, chars_as_clusters, fast_clusters_left};
+ghost use Rattle.scm_cells.specs.FrameText.{is_frame_line, is_mark, is_frame_char, is_frame_text, chars_as_clusters, fast_clusters_left};
 
-use crate::text::{Clusters, NextCluster};
+use crate::text::NextCluster;
 use std::str::Chars;
+use unicode_segmentation::{Graphemes, UnicodeSegmentation};
 
 /// Returns whether the character is an edge or a corner of a frame.
 fn is_frame_line(c: char) -> bool
@@ -18,21 +19,39 @@ fn is_frame_line(c: char) -> bool
     c == '─' || c == '│' || c == '┌' || c == '┐' || c == '└' || c == '┘'
 }
 
-/// Returns whether the character is printable ASCII, or an edge or a corner of a frame.
+/// Returns whether the character is a mark in a box, a mark between texts or for the rest of one,
+/// an arrow, or the mark of a line end.
+fn is_mark(c: char) -> bool
+    ensures { result ≡ is_mark c }
+{
+    c == '±'
+        || c == '•'
+        || c == '…'
+        || c == '←'
+        || c == '↑'
+        || c == '→'
+        || c == '↓'
+        || c == '⋮'
+        || c == '⏎'
+        || c == '●'
+        || c == '◐'
+}
+
+/// Returns whether the character is printable ASCII, an edge or a corner of a frame, or a mark.
 fn is_frame_char(c: char) -> bool
     ensures { result ≡ is_frame_char c }
 {
-    (' ' <= c && c <= '~') || is_frame_line(c)
+    (' ' <= c && c <= '~') || is_frame_line(c) || is_mark(c)
 }
 
-/// Returns whether each character is printable ASCII, or an edge or a corner of a frame.
+/// Returns whether each character is printable ASCII, an edge or a corner of a frame, or a mark.
 fn is_frame_text(text: &str) -> bool
     ensures { result ≡ is_frame_text text.now }
 {
     text.chars().all(|c| is_frame_char(c))
 }
 
-/// A text of printable ASCII and lines of frames. Each character is a cluster of one column.
+/// A text of printable ASCII, lines of frames and marks. Each character is a cluster of one column.
 #[derive(Drop)]
 pub(crate) struct FrameText<'a> {
     pub(crate) chars: Chars<'a>,
@@ -62,27 +81,27 @@ impl<'a> NextCluster<'a> for FrameText<'a> {
     }
 }
 
-/// An iterator over the clusters of a text: character by character in a frame, else by
-/// [`Clusters`].
+/// An iterator over the clusters of a text: character by character in a frame, else by grapheme
+/// clusters.
 #[derive(Drop)]
 pub(crate) enum FastClusters<'a> {
     /// A text of which each character is a cluster.
     FrameText(FrameText<'a>),
     /// Any other text.
-    Clusters(Clusters<'a>),
+    Graphemes(Graphemes<'a>),
 }
 
 impl<'a> FastClusters<'a> {
     /// Returns an iterator over the clusters of `text`.
+    #[tactic(auto, unfolding(crate::specs::Clusters::clusters))]
     pub(crate) fn new(text: &'a str) -> FastClusters<'a>
         ensures { fast_clusters_left result ≡ clusters text.now }
     {
-        let clusters = Clusters::new(text);
-        if !clusters.is_of_bytes() && is_frame_text(text) {
+        if is_frame_text(text) {
             let chars = text.chars();
             return FastClusters::FrameText(FrameText { chars });
         }
-        FastClusters::Clusters(clusters)
+        FastClusters::Graphemes(text.graphemes(true))
     }
 
     /// Returns the next cluster with its width in columns.
@@ -91,7 +110,7 @@ impl<'a> FastClusters<'a> {
     {
         match self {
             FastClusters::FrameText(text) => text.next_cluster(),
-            FastClusters::Clusters(text) => text.next(),
+            FastClusters::Graphemes(pieces) => pieces.next_cluster(),
         }
     }
 
@@ -102,7 +121,7 @@ impl<'a> FastClusters<'a> {
     {
         match self {
             FastClusters::FrameText(text) => text.columns_left(),
-            FastClusters::Clusters(text) => text.columns_left(),
+            FastClusters::Graphemes(pieces) => pieces.columns_left(),
         }
     }
 }

@@ -1,5 +1,6 @@
 //! A grid of cells, the content of a screen.
-ghost use Rattle.std.specs.Prelude.{◌≡◌, ◌+◌, ◌<◌, ◌≤◌, IfOk, IfErr, OnOk, OnErr, length, option_map, replicate, string_bytes};
+ghost use Rattle.std.specs.Prelude.{◌≡◌, ◌+◌, ◌<◌, ◌≤◌, IsTrue, IfOk, IfErr, OnOk, OnErr, length, option_map, replicate, slice_index_or, [], string_bytes};
+ghost use Rattle.scm_cells.specs.Cluster.{is_printable};
 ghost use Rattle.scm_cells.specs.Clusters.{text_width};
 ghost use Rattle.scm_cells.specs.FrameText.{fast_clusters_left};
 ghost use Rattle.scm_cells.specs.Laying.{columns_of};
@@ -10,6 +11,7 @@ ghost use Rattle.scm_errors.specs.declared.error.RecordError.TheVariants.{OutOfM
 
 use crate::column::Column;
 use crate::fast_clusters::FastClusters;
+use crate::printable::is_printable;
 use crate::row;
 use scm_errors::RecordError;
 use std::alloc::{AllocError, Global};
@@ -154,6 +156,10 @@ impl Grid {
         ensures unchanged { OnErr result (self.new ≡ self.old) }
         ensures err { IfErr result (λ e. e ≡ OutOfMemory) }
     {
+        if is_printable(text) {
+            self.put_printable(row, column, text, low, high);
+            return Ok(());
+        }
         self.put_text(row, column, text, low, high)?;
         Ok(())
     }
@@ -178,6 +184,10 @@ impl Grid {
         ensures unchanged { OnErr result (self.new ≡ self.old) }
         ensures err { IfErr result (λ e. e ≡ OutOfMemory) }
     {
+        if is_printable(text) {
+            self.put_printable(row, column, text, low, high);
+            return Ok(text.len());
+        }
         let (rest, before) = self.put_text(row, column, text, low, high)?;
         Ok(before + rest.columns_left())
     }
@@ -191,6 +201,17 @@ impl Grid {
     {
         let cells = &mut self.rows[row];
         row::put_spaces(cells.as_mut_slice(), column, width, low, high);
+    }
+
+    /// Puts a text of printable ASCII like `put`. It does not allocate.
+    fn put_printable(&mut self, row: usize, column: isize, text: &str, low: usize, high: usize)
+        requires printable { IsTrue (is_printable text.now) }
+        requires row { row < length self.old.rows }
+        requires high { high ≤ self.old.width }
+        ensures { self.new ≡ put_on self.old row column text.now low high }
+    {
+        let cells = &mut self.rows[row];
+        row::put_printable(cells.as_mut_slice(), column, text, low, high);
     }
 
     /// Puts a text like `put`. Returns its remaining clusters, and the width of the clusters before
@@ -223,6 +244,16 @@ impl Grid {
     {
         let columns = self.rows.get(row)?;
         row::symbol_in(columns.as_slice(), column)
+    }
+
+    /// Returns the columns of row `row`. Returns none outside the grid.
+    pub fn columns(&self, row: usize) -> &[Column]
+        ensures { result.now ≡ slice_index_or self.now.rows row [] }
+    {
+        match self.rows.get(row) {
+            Some(columns) => columns.as_slice(),
+            None => &[],
+        }
     }
 
     /// Returns the grid as text: for each row a quote, its symbols, a quote and a newline. The text

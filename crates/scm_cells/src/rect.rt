@@ -110,7 +110,7 @@ impl Rect {
         requires { RectInRange self }
         ensures { result ≡ end_x_of self }
     {
-        self.x.strict_add_unsigned(self.width)
+        self.x + self.width as isize
     }
 
     /// Returns the first row below the rectangle.
@@ -118,7 +118,7 @@ impl Rect {
         requires { RectInRange self }
         ensures { result ≡ end_y_of self }
     {
-        self.y.strict_add_unsigned(self.height)
+        self.y + self.height as isize
     }
 
     /// Returns the rows of the rectangle, `y..y + height`.

@@ -79,7 +79,7 @@ pub fn replace_control_character(character: char) -> Option<&'static str>
 
 /// Returns the text before the first replaced character, its replacement, and the text after it.
 /// Returns `None` if no character is replaced. Skips the printable ASCII at the start byte by byte.
-fn cut_at_replaced(line: &str) -> Option<(&str, &'static str, &str)>
+pub(crate) fn cut_at_replaced(line: &str) -> Option<(&str, &'static str, &str)>
     ensures none { IfNone result (line_pieces line.now ≡ last_piece line.now) }
     ensures some { IfSome result (λ cut.
         line_pieces line.now ≡ cut.0.now ∷ (cut.1.now ∷ line_pieces cut.2.now)) }

@@ -1,8 +1,9 @@
 //! A row of the grid as columns, and how a text is put on it.
-ghost use Rattle.std.specs.Prelude.{◌≡◌, IsTrue, is_some, ◌+◌, ◌-◌, ◌^◌, ◌<◌, ◌≤◌, ◌++◌, pos, IfOk, OnOk, OnErr, length, take, drop, slice_range, replicate, min, option_map, string_bytes};
+ghost use Rattle.std.specs.Prelude.{◌≡◌, IsTrue, is_some, ◌+◌, ◌-◌, ◌^◌, ◌<◌, ◌≤◌, ◌++◌, pos, IfOk, OnOk, OnErr, length, take, drop, slice_range, replicate, min, map, option_map, string_bytes};
 ghost use Rattle.std.specs.Int.{int_max};
 ghost use Rattle.scm_cells.specs.Rect.{or_zero};
-ghost use Rattle.scm_cells.specs.Cell.{blank};
+ghost use Rattle.scm_cells.specs.Cell.{blank, byte_cell};
+ghost use Rattle.scm_cells.specs.Cluster.{is_printable};
 ghost use Rattle.scm_cells.specs.Clusters.{text_width};
 ghost use Rattle.scm_cells.specs.Row.{IsWhole, cells_of, later_cells, whole_before, whole_after, overlay, put, row_text};
 ghost use Rattle.scm_cells.specs.FrameText.{fast_clusters_left};
@@ -12,7 +13,7 @@ ghost use Rattle.scm_cells.specs.Laying.{fit, columns_of, IsPassed, IsBegun};
 use crate::column::Column;
 use crate::fast_clusters::FastClusters;
 use crate::rect::gap;
-use crate::text::{NextCluster, Rest};
+use crate::text::NextCluster;
 use std::alloc::{AllocError, Global};
 
 /// Returns a row of `width` spaces.
@@ -69,9 +70,23 @@ fn mend_after(columns: &mut [Column], is_whole: bool)
     }
 }
 
+/// Makes each column the symbol of the byte at its place.
+fn write_bytes(columns: &mut [Column], bytes: &[u8])
+    requires printable { IsTrue (is_printable bytes.now) }
+    requires size { length columns.old ≡ length bytes.now }
+    ensures { columns.new ≡ map byte_cell bytes.now }
+{
+    let mut index = 0;
+    for column in columns.iter_mut() {
+        column.set_byte(bytes[index]);
+        index += 1;
+    }
+}
+
 /// Lays the columns of a symbol of `width` columns after its first.
 fn lay_rest(columns: &mut [Column], width: usize)
-    requires { length columns.old + 1 ≡ width }
+    requires count { length columns.old + 1 ≡ width }
+    requires width { width < 2 ^ 16 }
     ensures { columns.new ≡ later_cells width 1 (length columns.old) }
 {
     let mut offset = 1;
@@ -83,8 +98,8 @@ fn lay_rest(columns: &mut [Column], width: usize)
 
 /// Lays a symbol over all of `columns`.
 fn lay_symbol(columns: &mut [Column], symbol: &str) -> Result<(), AllocError>
-    requires symbol { 0 < length symbol.now }
-    requires width { 0 < length columns.old }
+    requires some { 0 < length columns.old }
+    requires width { length columns.old < 2 ^ 16 }
     ensures { OnOk result (columns.new ≡ cells_of (symbol.now, length columns.old)) }
 {
     let width = columns.len();
@@ -112,6 +127,7 @@ fn lay_each<'a, C: NextCluster<'a>>(
     clusters: &mut C,
     start: usize,
 ) -> Result<Laid, AllocError>
+    requires width { length columns.old < 2 ^ 16 }
     requires start { start ≤ length columns.old }
     requires few { columns_of (C.left clusters.old) < 2 ^ 64 }
     ensures within { IfOk result (λ r. r.end ≤ length columns.old) }
@@ -135,12 +151,12 @@ fn lay_each<'a, C: NextCluster<'a>>(
 
 /// Lays clusters like `lay_each`, with one loop per kind of text. A single loop that chooses at
 /// each cluster is slower.
-#[tactic(auto, unfolding(crate::specs::Clusters::clusters_left))]
 fn lay_clusters(
     columns: &mut [Column],
     clusters: &mut FastClusters<'_>,
     start: usize,
 ) -> Result<Laid, AllocError>
+    requires width { length columns.old < 2 ^ 16 }
     requires start { start ≤ length columns.old }
     requires few { columns_of (fast_clusters_left clusters.old) < 2 ^ 64 }
     ensures within { IfOk result (λ r. r.end ≤ length columns.old) }
@@ -151,10 +167,7 @@ fn lay_clusters(
 {
     match clusters {
         FastClusters::FrameText(text) => lay_each(columns, text, start),
-        FastClusters::Clusters(text) => match &mut text.rest {
-            Rest::Bytes(text) => lay_each(columns, text, start),
-            Rest::Graphemes(pieces) => lay_each(columns, pieces, start),
-        },
+        FastClusters::Graphemes(pieces) => lay_each(columns, pieces, start),
     }
 }
 
@@ -221,7 +234,10 @@ fn begin(clusters: &mut FastClusters<'_>, column: isize, low: usize) -> Start
 fn is_start(columns: &[Column], column: usize) -> bool
     ensures { result ≡ is_some (symbol_in columns.now column) }
 {
-    symbol_in(columns, column).is_some()
+    match columns.get(column) {
+        Some(first) => first.offset() == 0,
+        None => false,
+    }
 }
 
 /// If the columns `from..end` cover a symbol in part, makes its other columns spaces. Reads the
@@ -268,12 +284,27 @@ fn clear_between(columns: &mut [Column], from: usize, end: usize)
     }
 }
 
+/// Writes bytes on the columns from `from` on. The other columns of a symbol that they cover in
+/// part become spaces.
+fn write_over(columns: &mut [Column], from: usize, bytes: &[u8])
+    requires printable { IsTrue (is_printable bytes.now) }
+    requires some { 0 < length bytes.now }
+    requires end { from + length bytes.now ≤ length columns.old }
+    requires whole { IsWhole columns.old }
+    ensures { columns.new ≡ overlay columns.old from (map byte_cell bytes.now) }
+{
+    let after = from + bytes.len();
+    mend_around(columns, from, after);
+    write_bytes(&mut columns[from..after], bytes);
+}
+
 /// Lays `blanks` spaces and then clusters, as far as they fit.
 fn lay(
     columns: &mut [Column],
     blanks: usize,
     clusters: &mut FastClusters<'_>,
 ) -> Result<Laid, AllocError>
+    requires width { length columns.old < 2 ^ 16 }
     requires few { columns_of (fast_clusters_left clusters.old) < 2 ^ 64 }
     ensures within { IfOk result (λ r. r.end ≤ length columns.old) }
     ensures laid { IfOk result (λ r. take r.end columns.new
@@ -297,6 +328,7 @@ pub(crate) fn put_row<'a>(
     low: usize,
     high: usize,
 ) -> Result<(FastClusters<'a>, usize), AllocError>
+    requires width { length columns.old < 2 ^ 16 }
     requires high { high ≤ length columns.old }
     requires laid { length laid.old ≡ length columns.old }
     requires whole { IsWhole columns.old }
@@ -320,6 +352,32 @@ pub(crate) fn put_row<'a>(
         &mut laid[start.from..start.from + outcome.end],
     );
     Ok((clusters, start.passed + outcome.taken))
+}
+
+/// Puts a text of printable ASCII on the row: each byte is a symbol of one column.
+pub(crate) fn put_printable(
+    columns: &mut [Column],
+    column: isize,
+    text: &str,
+    low: usize,
+    high: usize,
+)
+    requires printable { IsTrue (is_printable text.now) }
+    requires width { length columns.old < 2 ^ 16 }
+    requires high { high ≤ length columns.old }
+    requires whole { IsWhole columns.old }
+    ensures { columns.new ≡ put columns.old column text.now low high }
+{
+    let from = low.max(gap(0, column));
+    if from >= high {
+        return;
+    }
+    let bytes = text.as_bytes();
+    let skipped = gap(column, low as isize);
+    if skipped < bytes.len() {
+        let count = (high - from).min(bytes.len() - skipped);
+        write_over(columns, from, &bytes[skipped..skipped + count]);
+    }
 }
 
 /// Puts `width` spaces on the row from `column` on, clipped to the columns `low..high`.

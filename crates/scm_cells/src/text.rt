@@ -7,6 +7,7 @@ ghost use Rattle.scm_cells.specs.Cluster.{Cluster, cluster, bytes_as_clusters};
 ghost use Rattle.scm_cells.specs.Clusters.{has_control, visible_width, visible_clusters, text_width};
 ghost use Rattle.scm_cells.specs.Laying.{columns_of};
 
+use crate::fast_clusters::FastClusters;
 use crate::printable::{Printable, is_printable};
 use unicode_segmentation::{Graphemes, UnicodeSegmentation};
 use unicode_width::UnicodeWidthStr;
@@ -29,7 +30,7 @@ fn has_control(text: &str) -> bool
 
 /// Returns the width of a grapheme cluster in columns, or `None` if the cluster is dropped.
 #[tactic(auto, unfolding(crate::specs::Clusters::visible_width))]
-fn visible_width(piece: &str) -> Option<usize>
+pub(crate) fn visible_width(piece: &str) -> Option<usize>
     ensures value { result ≡ visible_width piece.now }
     ensures bound { IfSome result (λ width. width ≤ 2 * length piece.now) }
 {
@@ -131,26 +132,6 @@ impl<'a> Clusters<'a> {
         };
         Clusters { rest }
     }
-
-    /// Returns whether each remaining byte is known to be a cluster.
-    pub(crate) fn is_of_bytes(&self) -> bool {
-        match self.rest {
-            Rest::Bytes(_) => true,
-            Rest::Graphemes(_) => false,
-        }
-    }
-
-    /// Returns the width of the remaining clusters, in columns.
-    #[tactic(auto, unfolding(crate::specs::Clusters::clusters_left))]
-    pub(crate) fn columns_left(self) -> usize
-        requires { columns_of (clusters_left self) < 2 ^ 64 }
-        ensures { result ≡ columns_of (clusters_left self.entry) }
-    {
-        match self.rest {
-            Rest::Bytes(text) => text.columns_left(),
-            Rest::Graphemes(pieces) => pieces.columns_left(),
-        }
-    }
 }
 
 impl<'a> Iterator for Clusters<'a> {
@@ -177,5 +158,8 @@ pub fn text_width(text: &str) -> usize
     ensures value { result ≡ text_width text.now }
     ensures bound { result ≤ 2 * length text.now }
 {
-    Clusters::new(text).columns_left()
+    if is_printable(text) {
+        return text.len();
+    }
+    FastClusters::new(text).columns_left()
 }

@@ -7,5 +7,5 @@ returns-then-width-eq1 c = one_cell c.args.columns.now c.set_first.new.self c.ar
 
 pub returns : goal.returns
 returns c =
-    first-then_rest c.args.columns.now c.lay_rest.new.columns c.set_first.new.self c.args.symbol.now _ _ c.requires.width refl c.in_ok-set_first.ensures
+    first-then_rest c.args.columns.now c.lay_rest.new.columns c.set_first.new.self c.args.symbol.now _ _ c.requires.some refl c.in_ok-set_first.ensures
     c.lay_rest.ensures (simp (length-take, length-drop, length-set) (omega arith))

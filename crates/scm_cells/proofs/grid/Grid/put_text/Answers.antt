@@ -19,6 +19,14 @@ put_row-requires-clause-high c =
     let size = length-read rows c.args.row c.self.inside.width c.index_mut-columns.result.now c.as_mut_slice.result.now inside c.index_mut-columns.ensures.value c.as_mut_slice.ensures.value c.self.invariant.screen in
     omega (arith, wide, size, c.requires.high)
 
+pub put_row-requires-clause-width : goal.put_row-requires-clause-width
+put_row-requires-clause-width c =
+    let rows = c.self.inside.rows.items in
+    let same = ap (λ (s : Screen). length s.rows) c.self.view_is in
+    let inside : c.args.row < length rows = omega (arith, length-map rows row_of, same) in
+    let size = length-read rows c.args.row c.self.inside.width c.index_mut-columns.result.now c.as_mut_slice.result.now inside c.index_mut-columns.ensures.value c.as_mut_slice.ensures.value c.self.invariant.screen in
+    omega (arith, size, c.self.invariant.screen.width)
+
 pub put_row-requires-clause-laid : goal.put_row-requires-clause-laid
 put_row-requires-clause-laid c =
     let rows = c.self.inside.rows.items in
