@@ -43,3 +43,5 @@ pub mod TearingLemmas
 pub mod GrammarLemmas
 -- the keys of the grammar
 pub mod MeaningLemmas
+-- the first two passes put nothing of a symbol of one byte
+pub mod ByteLemmas

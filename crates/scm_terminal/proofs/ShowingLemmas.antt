@@ -1,10 +1,10 @@
 -- Cells that show a row of a grid, column by column, and rows of a size.
-use Rattle.std.proofs.Common.{◌≡◌, ℕ, ◌+◌, ◌<◌, Bool, true, false, ◌&&◌, ◌==◌, List, [], ◌∷◌, ◌++◌, length, get_or, map, refl, sym, ap, subst, ◌∙◌, arith, IsTrue}
+use Rattle.std.proofs.Common.{◌≡◌, ℕ, ◌+◌, ◌<◌, Bool, true, false, ◌&&◌, ◌==◌, List, [], ◌∷◌, ◌++◌, length, ◌≤◌, get_or, map, refl, sym, ap, subst, ◌∙◌, ⊎_elim, Option, arith, IsTrue}
 use Rattle.std.specs.Prelude.{◌↔◌}
 use Rattle.std.specs.List.{All, range_with_len}
-use Rattle.std.proofs.lemmas.Bool.{and_parts}
+use Rattle.std.proofs.lemmas.Bool.{and_parts, cases_lt}
 use Rattle.std.proofs.lemmas.Bool.Decides.{nat_tests}
-use Rattle.std.proofs.lemmas.List.{get_or-map, length-map, length_push, map_push}
+use Rattle.std.proofs.lemmas.List.{get_or_default, get_or-map, length-map, length_push, map_push}
 use Rattle.std.proofs.lemmas.List.Elements.{All-map, All-append, All-cons, All-nil}
 use Rattle.std.proofs.lemmas.List.FromFn.{get_or-map-range_with_len, length-map-range_with_len, fill_by_all}
 use Rattle.scm_cells.specs.Screen.{Screen}
@@ -23,6 +23,19 @@ differs f cells n column p q b h size read e says not = (
       let yes : b ≡ true = says.1 is in
       absurd (cc),
 )
+
+-- a place before another, or behind it
+pub by-place : {P : Type 0} (k i : ℕ) → (k < i → P) → (i ≤ k → P) → P
+by-place k i before behind = ⊎_elim before behind (cases_lt k i)
+
+-- what a place shows, read from the lists
+pub one-place : (symbol : ℕ → Option (List ℕ)) (cells : List StyledCell) (styles : List Style) (k i : ℕ) (cell : StyledCell) (style : Style) → i ≤ k → i < length cells → i < length styles → k < i + 1
+    → cell ≡ get_or cells i cell → style ≡ get_or styles i style → cell ≡ cell_of (symbol i) style → get_or cells k Later ≡ cell_of (symbol k) (get_or styles k plain_style)
+one-place symbol cells styles k i cell style low within wide high read look shows =
+    let same : k ≡ i = omega arith in
+    let here : get_or cells i Later ≡ cell_of (symbol i) (get_or styles i plain_style) =
+    get_or_default cells i Later cell within ∙ sym read ∙ shows ∙ ap (cell_of (symbol i)) (look ∙ get_or_default styles i style plain_style wide) in
+    subst (λ (n : ℕ). get_or cells n Later ≡ cell_of (symbol n) (get_or styles n plain_style)) (sym same) here
 
 pub all_shown : (f : ℕ → StyledCell) (cells : List StyledCell) (n : ℕ) → length cells ≡ n → ((k : ℕ) → k < n → get_or cells k Later ≡ f k) → cells ≡ map f (range_with_len 0 n)
 all_shown f cells n size shown = fill_by_all f cells n Later size shown

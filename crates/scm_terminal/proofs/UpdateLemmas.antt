@@ -1,10 +1,14 @@
 -- Rows that are updated one after another.
-use Rattle.std.proofs.Common.{◌≡◌, ℕ, ◌+◌, ◌<◌, Bool, List, [], ◌∷◌, ◌++◌, length, take, drop, get_or, set, map, refl, sym, ap, subst, ◌∙◌, arith}
+use Rattle.std.proofs.Common.{◌≡◌, ℕ, ◌+◌, ◌<◌, Bool, true, false, not, ◌&&◌, nat_lt, List, [], ◌∷◌, ◌++◌, length, take, drop, get_or, set, map, refl, sym, ap, subst, ◌∙◌, arith}
+use Rattle.std.specs.Bool.{IsTrue}
 use Rattle.std.specs.List.{AllZip, range_with_len}
+use Rattle.std.proofs.lemmas.Bool.{ltb-true}
 use Rattle.std.proofs.lemmas.List.{length-map, get_or-map, map-set, get_or-drop, drop-drop, drop-set-lt, take_more, take_more_set, take_all}
 use Rattle.std.proofs.lemmas.List.Edits.{fill_by_more}
-use Rattle.std.proofs.lemmas.List.FromFn.{fill_by_all}
-use Rattle.scm_terminal.specs.StyledCell.{StyledCell, HasSize}
+use Rattle.std.proofs.lemmas.List.FromFn.{fill_by_all, get_or-range_with_len, length-map-range_with_len, length-range_with_len}
+use Rattle.scm_cells.specs.Screen.{Screen}
+use Rattle.scm_cells.specs.declared.style.Style.{Style}
+use Rattle.scm_terminal.specs.StyledCell.{AreSameBefore, StyledCell, HasSize, picture, styled_row}
 use Rattle.scm_terminal.specs.Painting.{Line, IsUpdate, AreUpdates}
 use Rattle.scm_terminal.specs.declared.row.Row.{Row}
 use Rattle.scm_terminal.specs.RowView.{line_of}
@@ -79,3 +83,22 @@ line-read rows i row h read =
 
 pub wide-at : (width n i : ℕ) (olds : List (List StyledCell)) → HasSize width n olds → i < n → length (get_or olds i []) ≡ width
 wide-at width n i olds size h = let high = size.high in size.all_wide i [] (omega arith)
+
+-- a row before the first that may differ shows what the picture has there
+pub same-at : (style : ℕ → ℕ → Style) (grid : Screen) (first i : ℕ) (olds : List (List StyledCell)) (cells : List StyledCell) → HasSize grid.width (length grid.rows) olds
+    → AreSameBefore first grid.width olds (picture style grid) → i < first → i < length grid.rows → cells ≡ get_or olds i [] → cells ≡ styled_row style grid i
+same-at style grid first i olds cells size same below within is =
+    let high : length (picture style grid) ≡ length grid.rows = length-map-range_with_len (styled_row style grid) 0 (length grid.rows) in
+    let ranged : i < length (range_with_len 0 (length grid.rows)) = subst (λ (n : ℕ). i < n) (sym (length-range_with_len 0 (length grid.rows))) within in
+    is ∙ same (subst (λ (n : ℕ). HasSize grid.width n olds) (sym high) size) i below (subst (λ (n : ℕ). i < n) (sym high) within)
+    ∙ get_or-map (styled_row style grid) (range_with_len 0 (length grid.rows)) i 0 [] ranged
+    ∙ ap (styled_row style grid) (get_or-range_with_len 0 (length grid.rows) i 0 within ∙ omega arith)
+
+-- as the code asks for it
+pub same-in : (style : ℕ → ℕ → Style) (grid : Screen) (is_all : Bool) (row first i : ℕ) (olds : List (List StyledCell)) (cells : List StyledCell)
+    → HasSize grid.width (length grid.rows) olds → (is_all ≡ false → AreSameBefore first grid.width olds (picture style grid)) → row ≡ i → i < length grid.rows
+    → cells ≡ get_or olds i [] → IsTrue (not is_all && nat_lt row first) → cells ≡ styled_row style grid row
+same-in style grid true row first i olds cells size same at within is t = absurd (cc t)
+same-in style grid false row first i olds cells size same at within is t =
+    let below : row < first = ltb-true row first t in
+    same-at style grid first i olds cells size (same refl) (omega arith) within is ∙ ap (styled_row style grid) (sym at)

@@ -2,6 +2,10 @@
 pub mod Style
 -- the content of one column, and the picture of a grid, in styles
 pub mod StyledCell
+-- the symbol that a text of a column stands for
+pub mod CellText
+-- symbols of one byte in the columns of a row
+pub mod Letters
 -- the cells that are sent for a row
 pub mod Sent
 -- a model terminal, its commands, and their bytes
@@ -14,6 +18,10 @@ pub mod Adding
 pub mod Reading
 -- the commands of a paint: those of the rows that changed
 pub mod Painting
+-- the style that the fields of `NumberedStyle` represent
+pub mod NumberedStyle
+-- cells of which a pass puts nothing
+pub mod PassedOver
 -- the cell that the fields of `StyledCell` represent
 pub mod StyledCellView
 -- the line that the fields of `Row` represent

@@ -12,6 +12,7 @@ use Rattle.ucd_category.specs.GeneralCategoryGroup.{in_group}
 use Rattle.unicode_width.specs.Width.{char_width}
 use Rattle.scm_cells.specs.Clusters.{IsMeasured}
 use Rattle.scm_cells.specs.declared.style.Style.{Style}
+use Rattle.scm_terminal.specs.Letters.{letter_or}
 use Rattle.scm_terminal.specs.declared.sent.Sent.{Sent}
 use Rattle.scm_terminal.specs.StyledCell.{StyledCell, First, Later, cell_of}
 
@@ -116,4 +117,4 @@ sent_picture rows = map sent_row rows
 
 -- the cell that the fields of `Sent` represent
 abbrev pub cell_sent : Sent → StyledCell
-cell_sent sent = cell_of (option_map (λ s. s.now) sent.symbol) sent.style
+cell_sent sent = cell_of (letter_or sent.letter (option_map (λ s. s.now) sent.symbol)) sent.style

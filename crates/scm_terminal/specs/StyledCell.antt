@@ -1,5 +1,5 @@
 -- The content of one column of a screen, and the picture of a grid in styles.
-use Rattle.std.specs.Prelude.{◌≡◌, ℕ, suc, List, [], ◌∷◌, length, map, slice_index_or, Option, Some, None}
+use Rattle.std.specs.Prelude.{◌≡◌, ◌<◌, ℕ, suc, List, [], ◌∷◌, length, map, slice_index_or, Option, Some, None}
 use Rattle.std.specs.List.{All, range_with_len}
 use Rattle.scm_cells.specs.Screen.{Screen}
 use Rattle.scm_cells.specs.Symbols.{symbol_at}
@@ -22,6 +22,12 @@ cell_of (Some symbol) style = First symbol style
 abbrev pub symbol_of_cell : StyledCell → Option (List ℕ)
 symbol_of_cell (First symbol style) = Some symbol
 symbol_of_cell Later = None
+
+-- the byte of a symbol of one byte, and otherwise 0
+abbrev pub letter_of : List ℕ → ℕ
+letter_of [] = 0
+letter_of (b ∷ []) = b
+letter_of (b ∷ (c ∷ bs)) = 0
 
 -- the number of later columns before the next symbol
 abbrev pub laters : List StyledCell → ℕ
@@ -59,3 +65,8 @@ pub record HasSize (width height : ℕ) (rows : List (List StyledCell)) : Type 0
   pub high : length rows ≡ height
   -- the number of columns of each row
   pub all_wide : All (λ row. length row ≡ width) rows
+
+-- if `last` has the size of `next`, of `width` columns, the rows before row `first` are the same in both
+abbrev pub AreSameBefore : ℕ → ℕ → List (List StyledCell) → List (List StyledCell) → Type 0
+AreSameBefore first width last next =
+    HasSize width (length next) last → (k : ℕ) → k < first → k < length next → slice_index_or last k [] ≡ slice_index_or next k []

@@ -6,7 +6,7 @@ use crate::bytes::INTERRUPT;
 use crate::tokenizer::Tokenizer;
 use crate::transitions::{ESCAPE_EVENT, SilenceEffect, State, effect_of_silence};
 use scm_input::{KeyCode, KeyEvent, KeyEventKind, KeyModifiers, TerminalEvent};
-use std::alloc::AllocError;
+use std::alloc::{AllocError, Global};
 
 /// The events of one byte, two at most. A byte that cannot continue a token ends it, and is
 /// decoded again as the first byte of the next token.
@@ -91,7 +91,7 @@ pub struct Decoder {
 }
 
 impl Decoder {
-    ghost use Rattle.std.specs.Prelude.{◌≡◌, ◌++◌, ◌∷◌, [], ℕ, List, false, OnOk, OnErr};
+    ghost use Rattle.std.specs.Prelude.{◌≡◌, ◌++◌, ◌∷◌, [], ℕ, List, false, IfOk, OnOk, OnErr};
     ghost use Rattle.scm_terminal.specs.Silences.{Start};
     ghost use Rattle.scm_terminal.specs.Decoders.{
       Adds,
@@ -144,6 +144,19 @@ impl Decoder {
                 Err(refused)
             }
         }
+    }
+
+    /// Decodes `bytes`, and returns the events that they complete.
+    ///
+    /// # Errors
+    /// `AllocError`: an allocation failed; the decoder is unchanged.
+    pub fn decode(&mut self, alloc: Global, bytes: &[u8]) -> Result<Vec<TerminalEvent>, AllocError>
+        ensures ok { IfOk result (λ found. Adds self.old self.new bytes.now [] found.items) }
+        ensures err { OnErr result (self.new ≡ self.old) }
+    {
+        let mut found = Vec::new(alloc);
+        self.feed(bytes, &mut found)?;
+        Ok(found)
     }
 
     /// Decodes `bytes`, and appends the events that they complete to `events`.

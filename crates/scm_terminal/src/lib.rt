@@ -3,15 +3,18 @@
 #![tactic(auto)]
 
 pub use decoder::{Decoder, EventPair};
+pub use numbered_style::NumberedStyle;
 pub use painter::Painter;
 pub use style::Styles;
 
 mod byte_keys;
 mod bytes;
+mod cell_text;
 mod characters;
 pub mod decoder;
 pub mod laws;
 mod mouse;
+mod numbered_style;
 mod painter;
 mod pen;
 mod row;

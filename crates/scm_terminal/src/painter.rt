@@ -2,16 +2,17 @@
 ghost use Rattle.std.specs.Prelude.{◌≡◌, ◌↔◌, ◌<◌, ◌^◌, ◌++◌, [], ℕ, IsTrue, IfOk, IfErr, OnOk, OnErr, true, false, length, map, slice_index_or, string_bytes};
 ghost use Rattle.std.specs.List.{All, flat_map, list_any};
 ghost use Rattle.scm_errors.specs.declared.error.RecordError.TheVariants.{OutOfMemory};
-ghost use Rattle.scm_terminal.specs.Painting.{AreUpdates, paint_commands, painting};
-ghost use Rattle.scm_terminal.specs.StyledCell.{HasSize, picture};
+ghost use Rattle.scm_terminal.specs.Painting.{AreUpdates, IsUpdate, paint_commands, painting};
+ghost use Rattle.scm_terminal.specs.StyledCell.{AreSameBefore, HasSize, picture, styled_row};
 ghost use Rattle.scm_terminal.specs.RowView.{line_of, sent_line_of};
 ghost use Rattle.scm_terminal.specs.PainterView.{cells_of_row};
 ghost use Rattle.scm_terminal.specs.Promise.{Paints};
 ghost use Rattle.scm_terminal.specs.Terminal.{bytes_of};
 
+use crate::numbered_style::NumberedStyle;
 use crate::row::Row;
 use crate::style::Styles;
-use scm_cells::{Grid, Style};
+use scm_cells::Grid;
 use scm_errors::RecordError;
 use std::alloc::{AllocError, Global};
 use std::marker::Model;
@@ -99,7 +100,29 @@ impl Painter {
         ensures forgotten { OnErr result (self.new ≡ []) }
         ensures err { IfErr result (λ e. e ≡ OutOfMemory) }
     {
-        match self.update_and_push(grid, styles) {
+        self.paint_from(grid, styles, 0)
+    }
+
+    /// Paints as [`Painter::paint`] does, if the rows of `grid` before row `first` are as in the last
+    /// picture. It reads these rows only if the last picture had another size.
+    ///
+    /// # Errors
+    /// `OutOfMemory`: an allocation failed; the painter forgets the last picture.
+    pub fn paint_from<S: Styles>(
+        &mut self,
+        grid: &Grid,
+        styles: &S,
+        first: usize,
+    ) -> Result<String, RecordError>
+        requires { AreSameBefore first grid.now.width self.old
+            (picture (S.styled styles.now) grid.now) }
+        ensures ok { let next = picture (S.styled styles.now) grid.now in
+            IfOk result (λ text. Paints grid.now.width self.old next (string_bytes text)) }
+        ensures painted { OnOk result (self.new ≡ picture (S.styled styles.now) grid.now) }
+        ensures forgotten { OnErr result (self.new ≡ []) }
+        ensures err { IfErr result (λ e. e ≡ OutOfMemory) }
+    {
+        match self.update_and_push(grid, styles, first) {
             Ok(text) => Ok(text),
             Err(_) => {
                 self.rows.clear();
@@ -109,19 +132,27 @@ impl Painter {
     }
 
     /// Updates the rows to `grid` in `styles`, and returns the bytes of the rows that changed.
-    fn update_and_push<S: Styles>(&mut self, grid: &Grid, styles: &S) -> Result<String, AllocError>
+    fn update_and_push<S: Styles>(
+        &mut self,
+        grid: &Grid,
+        styles: &S,
+        first: usize,
+    ) -> Result<String, AllocError>
+        requires { AreSameBefore first grid.now.width self.old
+            (picture (S.styled styles.now) grid.now) }
         ensures ok { let next = picture (S.styled styles.now) grid.now in
             IfOk result (λ text. Paints grid.now.width self.old next (string_bytes text)) }
         ensures painted { OnOk result (self.new ≡ picture (S.styled styles.now) grid.now) }
     {
         let is_all = self.prepare(grid.width(), grid.height())?;
-        let mut room = vec![in self.alloc; Style::PLAIN; grid.width()]?;
+        let mut room = vec![in self.alloc; NumberedStyle::plain(); grid.width()]?;
         update_rows(
             self.rows.as_mut_slice(),
             grid,
             styles,
             room.as_mut_slice(),
             is_all,
+            first,
         )?;
         let mut text = String::new(self.alloc);
         push_paint(&mut text, self.rows.as_slice())?;
@@ -143,17 +174,49 @@ impl Painter {
     }
 }
 
-/// Updates `rows` to `grid` in `styles`. Marks a row as changed if it differs, or if `is_all`. The
-/// styles of a row are asked for at once, in `room`.
+/// Updates `shown` to row `row` of `grid` in `styles`, and marks it as changed if it differs, or if
+/// `is_all`. If it `is_same`, its cells are not read. The styles are asked for at once, in `room`.
+fn update_row<S: Styles>(
+    shown: &mut Row,
+    grid: &Grid,
+    styles: &S,
+    room: &mut [NumberedStyle],
+    row: usize,
+    is_all: bool,
+    is_same: bool,
+) -> Result<(), AllocError>
+    requires cells { length shown.old.cells.items ≡ grid.now.width }
+    requires room { length room.old ≡ grid.now.width }
+    requires all { IsTrue is_same → is_all ≡ false }
+    requires same { IsTrue is_same → shown.old.cells.items
+        ≡ styled_row (S.styled styles.now) grid.now row }
+    ensures cells { OnOk result
+        (shown.new.cells.items ≡ styled_row (S.styled styles.now) grid.now row) }
+    ensures changed { OnOk result (IsUpdate is_all shown.old.cells.items (line_of shown.new)) }
+    ensures room { length room.new ≡ grid.now.width }
+{
+    if is_same {
+        shown.is_changed = false;
+        return Ok(());
+    }
+    styles.row_styles(row, room);
+    shown.update(grid, room, row, is_all)
+}
+
+/// Updates `rows` to `grid` in `styles`. Marks a row as changed if it differs, or if `is_all`. Rows
+/// before row `first` are the same, and are not read unless `is_all`.
 fn update_rows<S: Styles>(
     rows: &mut [Row],
     grid: &Grid,
     styles: &S,
-    room: &mut [Style],
+    room: &mut [NumberedStyle],
     is_all: bool,
+    first: usize,
 ) -> Result<(), AllocError>
     requires rows { HasSize grid.now.width (length grid.now.rows) (map cells_of_row rows.old) }
     requires room { length room.old ≡ grid.now.width }
+    requires same { is_all ≡ false → AreSameBefore first grid.now.width (map cells_of_row rows.old)
+        (picture (S.styled styles.now) grid.now) }
     ensures cells { OnOk result
         (map cells_of_row rows.new ≡ picture (S.styled styles.now) grid.now) }
     ensures changed { OnOk result
@@ -161,8 +224,8 @@ fn update_rows<S: Styles>(
 {
     let mut row = 0;
     for shown in rows.iter_mut() {
-        styles.row_styles(row, room);
-        shown.update(grid, room, row, is_all)?;
+        let is_same = !is_all & (row < first);
+        update_row(shown, grid, styles, room, row, is_all, is_same)?;
         row += 1;
     }
     Ok(())

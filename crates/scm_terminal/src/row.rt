@@ -1,22 +1,30 @@
 //! One row of a painter's last picture, and the bytes that write it.
-ghost use Rattle.std.specs.Prelude.{◌≡◌, ◌↔◌, ◌<◌, ◌≤◌, ◌^◌, ◌++◌, IsTrue, IfOk, OnOk, true, false, length, string_bytes};
+ghost use Rattle.std.specs.Prelude.{◌≡◌, ℕ, ◌↔◌, ◌<◌, ◌≤◌, ◌^◌, ◌++◌, [], IsTrue, IfOk, IfSome, OnOk, true, false, length, slice_index_or, string_bytes};
 ghost use Rattle.std.specs.List.{flat_map};
 ghost use Rattle.scm_terminal.specs.Painting.{
   IsUpdate,
+  cell_commands,
   line_commands,
   new_pen,
   pass_commands,
+  passed,
+  pen_after,
   sent_line,
 };
-ghost use Rattle.scm_terminal.specs.Sent.{sent_row};
-ghost use Rattle.scm_terminal.specs.StyledCell.{row_in};
+ghost use Rattle.scm_terminal.specs.Sent.{blank_after, sent_cell, sent_row};
+ghost use Rattle.scm_cells.specs.Symbols.{symbol_at, symbol_in};
+ghost use Rattle.scm_terminal.specs.Letters.{IsLetterAt};
+ghost use Rattle.scm_terminal.specs.PassedOver.{IsPassedOver};
+ghost use Rattle.scm_terminal.specs.Style.{plain_style};
+ghost use Rattle.scm_terminal.specs.StyledCell.{Later, cell_of, row_in};
 ghost use Rattle.scm_terminal.specs.RowView.{line_of};
 ghost use Rattle.scm_terminal.specs.Terminal.{bytes_of};
 
+use crate::numbered_style::NumberedStyle;
 use crate::pen::{Pass, Pen};
 use crate::sent::Sent;
 use crate::styled_cell::StyledCell;
-use scm_cells::{Grid, Style};
+use scm_cells::{Column, Grid};
 use std::alloc::{AllocError, Global};
 
 /// One row of a painter's last picture.
@@ -29,17 +37,111 @@ pub(crate) struct Row {
     pub(crate) is_changed: bool,
 }
 
+/// Returns the byte of the symbol at `index` of `columns`, if it is one printable character of ASCII.
+fn letter_at(columns: &[Column], index: usize) -> Option<u8>
+    ensures { IfSome result (λ b. IsLetterAt columns.now index b) }
+{
+    match columns.get(index) {
+        Some(column) => column.ascii(),
+        None => None,
+    }
+}
+
+/// Returns whether `cell` shows the place of `grid` at `row` and `column` in `style`. `columns` are
+/// those of the row.
+fn is_place(
+    cell: &StyledCell,
+    grid: &Grid,
+    columns: &[Column],
+    row: usize,
+    column: usize,
+    style: NumberedStyle,
+) -> bool
+    requires { columns.now ≡ slice_index_or grid.now.rows row [] }
+    ensures { IsTrue result ↔ (cell.now ≡ cell_of (symbol_at grid.now.rows row column) style) }
+{
+    match letter_at(columns, column) {
+        Some(byte) => cell.is_letter(byte, style),
+        None => cell.is_showing(grid.symbol(row, column), style),
+    }
+}
+
+/// Sets `cell` to the place of `grid` at `row` and `column` in `style`. `columns` are those of the
+/// row.
+fn show_place(
+    cell: &mut StyledCell,
+    grid: &Grid,
+    columns: &[Column],
+    row: usize,
+    column: usize,
+    style: NumberedStyle,
+) -> Result<(), AllocError>
+    requires { columns.now ≡ slice_index_or grid.now.rows row [] }
+    ensures { OnOk result (cell.new ≡ cell_of (symbol_at grid.now.rows row column) style) }
+{
+    match letter_at(columns, column) {
+        Some(byte) => {
+            cell.show_letter(byte, style);
+            Ok(())
+        }
+        None => cell.show(grid.symbol(row, column), style),
+    }
+}
+
+/// Returns whether `cell` is known to show the symbol at `column` of `columns` in `style`, without a look
+/// at its text.
+fn is_same_letter(
+    cell: &StyledCell,
+    columns: &[Column],
+    column: usize,
+    style: NumberedStyle,
+) -> bool
+    ensures { IsTrue result → cell.now ≡ cell_of (symbol_in columns.now column) style }
+{
+    match letter_at(columns, column) {
+        Some(byte) => cell.is_same_byte(byte, style),
+        None => false,
+    }
+}
+
+/// Returns the first column from `from` on where `cells` are not known to show `columns` in `styles`
+/// without a look at their texts, or the number of columns if there is none.
+fn end_of_letters(
+    cells: &[StyledCell],
+    columns: &[Column],
+    styles: &[NumberedStyle],
+    from: usize,
+) -> usize
+    requires styles { length styles.now ≡ length cells.now }
+    requires from { from ≤ length cells.now }
+    ensures low { from ≤ result }
+    ensures high { result ≤ length cells.now }
+    ensures shown { (k : ℕ) → from ≤ k → k < result → slice_index_or cells.now k Later
+        ≡ cell_of (symbol_in columns.now k) (slice_index_or styles.now k plain_style) }
+{
+    let mut column = from;
+    'letters: while column < cells.len() {
+        if !is_same_letter(&cells[column], columns, column, styles[column]) {
+            return column;
+        }
+        column += 1;
+    }
+    column
+}
+
 /// Returns whether `cells` show row `row` of `grid` in `styles`, one for each column.
-fn is_showing(cells: &[StyledCell], grid: &Grid, styles: &[Style], row: usize) -> bool
+fn is_showing(cells: &[StyledCell], grid: &Grid, styles: &[NumberedStyle], row: usize) -> bool
     requires cells { length cells.now ≡ grid.now.width }
     requires styles { length styles.now ≡ grid.now.width }
     ensures { IsTrue result ↔ (cells.now ≡ row_in styles.now grid.now row) }
 {
-    for (column, cell) in cells.iter().enumerate() {
-        let style = styles[column];
-        if !cell.is_showing(grid.symbol(row, column), style) {
+    let columns = grid.columns(row);
+    let mut column = end_of_letters(cells, columns, styles, 0);
+    'places: while column < cells.len() {
+        if !is_place(&cells[column], grid, columns, row, column, styles[column]) {
             return false;
         }
+        column = end_of_letters(cells, columns, styles, column + 1);
     }
     true
 }
@@ -48,19 +150,77 @@ fn is_showing(cells: &[StyledCell], grid: &Grid, styles: &[Style], row: usize) -
 fn show(
     cells: &mut [StyledCell],
     grid: &Grid,
-    styles: &[Style],
+    styles: &[NumberedStyle],
     row: usize,
 ) -> Result<(), AllocError>
     requires cells { length cells.old ≡ grid.now.width }
     requires styles { length styles.now ≡ grid.now.width }
     ensures { OnOk result (cells.new ≡ row_in styles.now grid.now row) }
 {
+    let columns = grid.columns(row);
     let mut column = 0;
     for cell in cells.iter_mut() {
-        cell.show(grid.symbol(row, column), styles[column])?;
+        show_place(cell, grid, columns, row, column, styles[column])?;
         column += 1;
     }
     Ok(())
+}
+
+/// What is known after a cell was written.
+#[derive(Clone, Copy)]
+struct Written {
+    /// The pen.
+    pen: Pen,
+
+    /// The style of the blanks at the later columns that follow, if their symbol is replaced.
+    blank: Option<NumberedStyle>,
+}
+
+/// Returns whether `pass` puts nothing of `cell`, as is known without a look at its text.
+fn is_passed_over(cell: &StyledCell, pass: Pass) -> bool
+    ensures { IsTrue result → IsPassedOver pass cell.now }
+{
+    match pass {
+        Pass::Blanks => cell.is_byte(),
+        Pass::Symbols => cell.is_byte(),
+        Pass::Letters => false,
+    }
+}
+
+/// Appends the bytes that write what `pass` puts of `cell`, which is at `row` and `column` of a row of
+/// `width` columns, both counted from 0. `pen` and `blank` are known from the cell before it.
+fn push_place(
+    text: &mut String,
+    row: usize,
+    column: usize,
+    width: usize,
+    cell: &StyledCell,
+    pass: Pass,
+    pen: Pen,
+    blank: Option<NumberedStyle>,
+) -> Result<Written, AllocError>
+    requires row { row < 2 ^ 16 }
+    requires column { column < 2 ^ 16 }
+    requires width { column ≤ width }
+    ensures pen { IfOk result (λ after. after.pen ≡ pen_after pen
+        (passed pass pen.is_there (sent_cell width column blank cell.now))) }
+    ensures blank { IfOk result
+        (λ after. after.blank ≡ blank_after width column blank cell.now) }
+    ensures bytes { let put = passed pass pen.is_there
+        (sent_cell width column blank cell.now) in
+        let commands = cell_commands row column pen put 0 in OnOk result
+        (string_bytes text.new ≡ string_bytes text.old ++ flat_map bytes_of commands) }
+{
+    if is_passed_over(cell, pass) {
+        return Ok(Written {
+            pen: pen.past(),
+            blank: None,
+        });
+    }
+    let sent = Sent::new(cell, blank, column, width);
+    let blank = sent.blank;
+    let pen = pen.push_cell(text, row, column, sent, pass)?;
+    Ok(Written { pen, blank })
 }
 
 /// Appends the bytes that write what `pass` puts of `cells`, the cells of row `row`. `row` is
@@ -79,9 +239,9 @@ fn push_pass(
     let mut pen = Pen::new();
     let mut blank = None;
     for (column, cell) in cells.iter().enumerate() {
-        let sent = Sent::new(cell, blank, column, cells.len());
-        pen = pen.push_cell(text, row, column, sent, pass)?;
-        blank = sent.blank;
+        let after = push_place(text, row, column, cells.len(), cell, pass, pen, blank)?;
+        pen = after.pen;
+        blank = after.blank;
     }
     Ok(())
 }
@@ -106,7 +266,7 @@ impl Row {
     pub(crate) fn update(
         &mut self,
         grid: &Grid,
-        styles: &[Style],
+        styles: &[NumberedStyle],
         row: usize,
         is_all: bool,
     ) -> Result<(), AllocError>

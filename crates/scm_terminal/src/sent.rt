@@ -1,6 +1,7 @@
 //! The symbols that are sent for those of a row. One that could leave its row at some terminal is
 //! replaced.
 ghost use Rattle.std.specs.Prelude.{◌≡◌, ◌≤◌, ◌==◌, ◌&&◌, nat_le, chars};
+ghost use Rattle.scm_terminal.specs.Letters.{HasAscii};
 ghost use Rattle.scm_terminal.specs.Sent.{
   char_columns,
   added_columns,
@@ -13,8 +14,9 @@ ghost use Rattle.scm_terminal.specs.Sent.{
   cell_sent,
 };
 
+use crate::cell_text::CellText;
+use crate::numbered_style::NumberedStyle;
 use crate::styled_cell::StyledCell;
-use scm_cells::Style;
 use ucd_breaks::GraphemeClusterBreak;
 use ucd_category::{GeneralCategory, GeneralCategoryGroup};
 use unicode_width::UnicodeWidthChar;
@@ -115,14 +117,17 @@ fn stays_on_row(symbol: &str, column: usize, width: usize) -> bool
 /// What is sent for a cell.
 #[derive(Clone, Copy)]
 pub(crate) struct Sent<'a> {
-    /// The symbol that is put, or `None` at a later column of a symbol.
+    /// The symbol that is put if it is one character of ASCII.
+    pub(crate) letter: Option<u8>,
+
+    /// Any other symbol that is put, or `None` at a later column of a symbol.
     pub(crate) symbol: Option<&'a str>,
 
     /// The style of the symbol.
-    pub(crate) style: Style,
+    pub(crate) style: NumberedStyle,
 
     /// The style of the blanks at the later columns that follow, if their symbol is replaced.
-    pub(crate) blank: Option<Style>,
+    pub(crate) blank: Option<NumberedStyle>,
 }
 
 impl<'a> Sent<'a> {
@@ -130,38 +135,49 @@ impl<'a> Sent<'a> {
     /// columns. `blank` is that of the cell before it.
     pub(crate) fn new(
         cell: &'a StyledCell,
-        blank: Option<Style>,
+        blank: Option<NumberedStyle>,
         column: usize,
         width: usize,
     ) -> Sent<'a>
         requires { column ≤ width }
         ensures cell { cell_sent result ≡ sent_cell width column blank cell.now }
         ensures blank { result.blank ≡ blank_after width column blank cell.now }
+        ensures ascii { HasAscii result.letter }
     {
-        match cell.symbol() {
-            None => match blank {
+        match cell.text() {
+            CellText::Nothing => match blank {
                 None => Sent {
+                    letter: None,
                     symbol: None,
-                    style: Style::PLAIN,
+                    style: NumberedStyle::plain(),
                     blank: None,
                 },
                 Some(style) => Sent {
-                    symbol: Some(" "),
+                    letter: Some(b' '),
+                    symbol: None,
                     style,
                     blank: Some(style),
                 },
             },
-            Some(symbol) => {
+            CellText::Letter(byte) => Sent {
+                letter: Some(byte),
+                symbol: None,
+                style: cell.style(),
+                blank: None,
+            },
+            CellText::Symbol(symbol) => {
                 let style = cell.style();
                 if stays_on_row(symbol, column, width) {
                     return Sent {
+                        letter: None,
                         symbol: Some(symbol),
                         style,
                         blank: None,
                     };
                 }
                 Sent {
-                    symbol: Some("?"),
+                    letter: Some(b'?'),
+                    symbol: None,
                     style,
                     blank: Some(style),
                 }

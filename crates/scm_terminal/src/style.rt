@@ -12,6 +12,7 @@ ghost use Rattle.scm_terminal.specs.Style.{
   style_bytes,
 };
 
+use crate::numbered_style::NumberedStyle;
 use scm_cells::{Colour, Style};
 use std::alloc::AllocError;
 
@@ -27,12 +28,12 @@ pub trait Styles {
 
     /// Sets `styles` to the styles of the places of row `row`, counted from 0: one for each column,
     /// from column 0 on.
-    fn row_styles(&self, row: usize, styles: &mut [Style])
+    fn row_styles(&self, row: usize, styles: &mut [NumberedStyle])
         ensures { styles.new ≡ row_of_styles (styled self.now) row (length styles.old) }
     {
         let mut column = 0;
         for style in styles.iter_mut() {
-            *style = self.style(row, column);
+            *style = NumberedStyle::new(self.style(row, column));
             column += 1;
         }
     }

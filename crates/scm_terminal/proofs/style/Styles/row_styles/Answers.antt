@@ -15,7 +15,7 @@ loop-style-preserved g c =
     record {
       column = omega arith;
       shown = λ k h.
-          ap (λ (x : Style). get_or (set styles i x) k plain_style) (c.style.ensures ∙ ap f at)
+          ap (λ (x : Style). get_or (set styles i x) k plain_style) (c.new.ensures ∙ c.style.ensures ∙ ap f at)
           ∙ fill_by_more f styles i plain_style (omega arith) c.loop-style.invariant.shown k h;
     }
 

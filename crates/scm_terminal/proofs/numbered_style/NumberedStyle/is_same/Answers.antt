@@ -1,0 +1,7 @@
+use Rattle.std.proofs.Common.{◌≡◌, ◌∙◌, ℕ, sym}
+use Rattle.std.proofs.lemmas.Bool.{eqb-true}
+use Rattle.scm_terminal.proofs.StyleLemmas.{style-same}
+use Rattle.scm_terminal.proofs.numbered_style.NumberedStyle.is_same.Goals as goal
+
+pub returns : goal.returns
+returns c = λ same. style-same c.args.self c.args.other (sym c.code.ensures ∙ eqb-true c.code.result c.code-2.result same ∙ c.code-2.ensures)

@@ -1,0 +1,73 @@
+//! A style with its number, which compares it at once.
+ghost use Rattle.std.specs.Prelude.{◌≡◌, IsTrue};
+ghost use Rattle.scm_terminal.specs.Style.{plain_style, style_code};
+
+use crate::style::code_of;
+use scm_cells::Style;
+use std::marker::Model;
+
+/// A style that is compared by its number. Contracts see the style.
+#[derive(Clone, Copy)]
+pub struct NumberedStyle {
+    /// The style.
+    style: Style,
+
+    /// The number of the style.
+    code: u8,
+}
+
+impl Model for NumberedStyle {
+    ghost use Rattle.scm_cells.specs.declared.style.Style.{Style};
+
+    ghost Value = { Style };
+
+    ghost use Rattle.scm_terminal.specs.NumberedStyle.{has_own_number, own_style, with_number, with_number_of};
+
+    ghost view = { own_style };
+
+    ghost invariant = { has_own_number };
+
+    ghost inverse = { with_number };
+
+    ghost inverse_ok = { with_number_of };
+}
+
+impl NumberedStyle {
+    /// Returns `style` with its number.
+    pub fn new(style: Style) -> NumberedStyle
+        ensures { result ≡ style }
+    {
+        NumberedStyle {
+            style,
+            code: code_of(style),
+        }
+    }
+
+    /// Returns the plain style with its number.
+    pub(crate) fn plain() -> NumberedStyle
+        ensures { result ≡ plain_style }
+    {
+        NumberedStyle::new(Style::PLAIN)
+    }
+
+    /// Returns the style.
+    pub fn style(self) -> Style
+        ensures { result ≡ self }
+    {
+        self.style
+    }
+
+    /// Returns whether both styles are the same.
+    pub fn is_same(self, other: NumberedStyle) -> bool
+        ensures { IsTrue result → self ≡ other }
+    {
+        self.code() == other.code()
+    }
+
+    /// Returns the number of the style. Two styles with the same number are equal.
+    pub(crate) fn code(self) -> u8
+        ensures { result ≡ style_code self }
+    {
+        self.code
+    }
+}
