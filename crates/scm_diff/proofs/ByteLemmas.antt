@@ -128,12 +128,12 @@ coded-scalar b h k =
 
 coded-test : (b : ℕ) → 128 ≤ b → b < 256 → is_reserved (reserved_char b) ≡ true
 coded-test b h k =
-    let low : nat_le 0x10FF80 (0x10FF00 + b) ≡ true = grind (arith, nat_tests) in
-    let high : nat_le (0x10FF00 + b) 0x10FFFF ≡ true = grind (arith, nat_tests) in
+    let low : nat_le 0xE0080 (0xE0000 + b) ≡ true = grind (arith, nat_tests) in
+    let high : nat_le (0xE0000 + b) 0xE00FF ≡ true = grind (arith, nat_tests) in
     rw (low, high) refl
 
 coded-bytes : (b : ℕ) → 128 ≤ b → b < 256 → bytes_of_char (reserved_char b) ≡ b ∷ []
-coded-bytes b h k = let same : reserved_char b - 0x10FF00 ≡ b = omega arith in rw (coded-test b h k) (ap (λ x. x ∷ []) same)
+coded-bytes b h k = let same : reserved_char b - 0xE0000 ≡ b = omega arith in rw (coded-test b h k) (ap (λ x. x ∷ []) same)
 
 coded-back : (b : ℕ) (t : List ℕ) → 128 ≤ b → b < 256 → bytes_of_text (encode_utf8 (reserved_char b) ++ t) ≡ b ∷ bytes_of_text t
 coded-back b t h k =
@@ -150,7 +150,7 @@ byte-ascii b h (suc i) = omega arith
 
 byte-plain : (b : ℕ) → b < 128 → is_plain (b ∷ []) ≡ true
 byte-plain b h =
-    let low : nat_le 0x10FF80 b ≡ false = grind (arith, nat_tests) in
+    let low : nat_le 0xE0080 b ≡ false = grind (arith, nat_tests) in
     let not-reserved : is_reserved b ≡ false = rw low refl in
     is-plain (b ∷ []) (IsUtf8-from_ascii (b ∷ []) (byte-ascii b h)) (ap (list_any is_reserved) (chars-IsAscii (b ∷ []) (byte-ascii b h)) ∙ ap (λ t. t || false) not-reserved)
 

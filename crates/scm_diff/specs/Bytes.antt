@@ -6,13 +6,13 @@ use Rattle.std.specs.Str.{chars, is_utf8}
 use Rattle.scm_types.specs.declared.file.File.{File}
 use Rattle.scm_diff.specs.Sides.{side_text}
 
--- the reserved character that stands for the byte `b`, of 128 to 255: one of the last private ones
+-- the reserved character that stands for the byte `b`, of 128 to 255: one that Unicode gives no meaning, and no column
 abbrev pub reserved_char : ℕ → ℕ
-reserved_char b = 0x10FF00 + b
+reserved_char b = 0xE0000 + b
 
 -- whether the character is reserved
 abbrev pub is_reserved : ℕ → Bool
-is_reserved c = nat_le 0x10FF80 c && nat_le c 0x10FFFF
+is_reserved c = nat_le 0xE0080 c && nat_le c 0xE00FF
 
 -- whether the bytes are UTF-8 and have no reserved character
 abbrev pub is_plain : List ℕ → Bool
@@ -40,7 +40,7 @@ text_of_bytes bs = text_after 0 bs
 
 -- the bytes that the character stands for
 abbrev pub bytes_of_char : ℕ → List ℕ
-bytes_of_char c = if is_reserved c then (c - 0x10FF00) ∷ [] else encode_utf8 c
+bytes_of_char c = if is_reserved c then (c - 0xE0000) ∷ [] else encode_utf8 c
 
 -- the bytes that the text stands for
 abbrev pub bytes_of_text : List ℕ → List ℕ

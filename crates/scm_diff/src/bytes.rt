@@ -14,7 +14,7 @@ fn is_reserved(c: char) -> bool
 {
     let code = u32::from(c);
     // `&`: one branch for the prover
-    (0x0010_FF80 <= code) & (code <= 0x0010_FFFF)
+    (0x000E_0080 <= code) & (code <= 0x000E_00FF)
 }
 
 /// Returns whether the text has a reserved character.
@@ -28,7 +28,7 @@ fn has_reserved(text: &str) -> bool
 fn reserved_char(byte: u8) -> char
     ensures { result ≡ reserved_char byte }
 {
-    match char::from_u32(0x0010_FF00 + u32::from(byte)) {
+    match char::from_u32(0x000E_0000 + u32::from(byte)) {
         Some(c) => c,
         None => '\u{FFFD}',
     }
@@ -137,7 +137,8 @@ fn coded_text(alloc: Global, bytes: &[u8]) -> Result<String, AllocError>
 }
 
 /// Returns a text that stands for the bytes, for [`Version`](crate::Version): UTF-8 as it is, and for
-/// each byte that is not part of it, of 128 to 255, the reserved character U+10FF00 plus that byte.
+/// each byte that is not part of it, of 128 to 255, the reserved character U+E0000 plus that byte. A
+/// line on the screen shows U+FFFD for a reserved character.
 ///
 /// A reserved character that the bytes themselves have is replaced byte by byte. So each text stands
 /// for one list of bytes, which [`bytes_of_text`] gives back. Line ends stay.
@@ -170,7 +171,7 @@ fn push_char(bytes: &mut Vec<u8>, c: char) -> Result<(), AllocError>
     ensures { OnOk result (bytes.new.items ≡ bytes.old.items ++ bytes_of_char c) }
 {
     if is_reserved(c) {
-        let byte = (u32::from(c) - 0x0010_FF00) as u8;
+        let byte = (u32::from(c) - 0x000E_0000) as u8;
         bytes.push(byte)?;
         Ok(())
     } else {
