@@ -118,6 +118,15 @@ binary_of d =
     (member_of as_bool (codes "is_checked") d)
     else None
 
+-- the section of the kind called `kind`
+abbrev pub fields_of : List ℕ → Data → Option Section
+fields_of kind d =
+    if bytes_eq kind (codes "Unchanged") then unchanged_of d
+    else if bytes_eq kind (codes "Changed") then changed_of d
+    else if bytes_eq kind (codes "FileMode") then file_mode_of d
+    else if bytes_eq kind (codes "Binary") then binary_of d
+    else None
+
 -- `{"KIND":FORM}`, where KIND is the kind of section and FORM one of the four above
 abbrev pub section_of : Data → Option Section
 section_of d =
