@@ -37,8 +37,9 @@
  *     that is shown, from the first file on. "space" checks or unchecks the selected item, "a" inverts every mark, "c"
  *     accepts, and "q" cancels. docs/RULES.md of the repository lists all words, under "Words", and all keys.
  *
- *     The library neither reads nor writes a terminal. The caller sets it to raw mode, and turns on its reports of clicks and
- *     its marks around pasted text (ESC [ ? 1000 ; 1006 h and ESC [ ? 2004 h), as examples/terminal/terminal.c does.
+ *     A program that only wants the answer has the user choose by one call, scm_run, which does all that a terminal needs. No
+ *     other call reads or writes a terminal: then the caller sets it to raw mode, and turns on its reports of clicks and its marks
+ *     around pasted text (ESC [ ? 1000 ; 1006 h and ESC [ ? 2004 h).
  *
  *     Rows and columns are places on the screen, counted from 0. A wide symbol has two columns. A screen has at most
  *     SCM_MAX_COLUMNS columns and SCM_MAX_ROWS rows: of a larger window the library draws that many, from its top left corner.
@@ -54,6 +55,8 @@
  *     - What a call writes to (`out`, `written`, `side`, `key` and so on) overlaps neither the session, nor what the call
  *       reads, nor each other.
  *     - A bool is 0 or 1.
+ *     - A call that takes a `const` session leaves it as it is. But the session itself is no constant: within the call its members
+ *       may be written.
  *     - Each open session is closed in the end (scm_free), or its memory leaks. To close a closed session is a no-op.
  *
  * THREADS
@@ -121,6 +124,7 @@ enum {
     SCM_TOO_LONG = 7,     /* a text or a line has more than 1,000,000 bytes */
     SCM_NO_MEMORY = 8,    /* an allocation failed */
     SCM_NO_ITEM = 9,      /* the state has no such file, section, line or commit */
+    SCM_NO_BATCH = 10,    /* an event of the batch before its last one may ask for a message */
 };
 
 /* The stage of a session: what it waits for. */
@@ -277,7 +281,7 @@ uint32_t scm_state_binary(scm_session *session, bool is_checked, const char *old
  *
  * Read the sides of such a file by `scm_side_bytes`: with nothing checked the selected side is the old version, byte for byte,
  * and with all checked the new one. A last line without a line end differs from the same line with one. A byte that is not UTF-8
- * is shown as one symbol, and comes back as it was; in `scm_line`, and for the limit of a line, it is a character of four bytes.
+ * is shown as U+FFFD, and comes back as it was; in `scm_line`, and for the limit of a line, it is a character of four bytes.
  *
  * Only the paths have to be UTF-8: else the call returns SCM_NOT_TEXT. A file with a NUL is taken as text, too. A caller who
  * shows such files as binary, as git does, looks for a NUL (memchr), and adds them by `scm_state_file` and `scm_state_binary`. */
@@ -304,10 +308,10 @@ uint32_t scm_new(scm_session *session, const char *json, size_t length, uint16_t
 /* ---- The user's input ---- */
 
 /* Returns the stage: SCM_WAITING to SCM_BUILDING. */
-uint32_t scm_stage(scm_session *session);
+uint32_t scm_stage(const scm_session *session);
 
 /* Returns how the session ended: SCM_NOT_ENDED to SCM_END_BUG. */
-uint32_t scm_end(scm_session *session);
+uint32_t scm_end(const scm_session *session);
 
 /* Handles `length` bytes from a terminal. They may be any part of its output: a key or a click may be cut between two
  * calls. Handles each key, click and turn of the wheel in order, as long as the session waits for an event. The input after
@@ -317,6 +321,15 @@ uint32_t scm_end(scm_session *session);
  * how. */
 uint32_t scm_type(scm_session *session, const char *bytes, size_t length);
 
+/* Handles `length` bytes from a terminal as `scm_type` does, up to the first key that means nothing to a session, so that a front
+ * end can have keys of its own. Writes the number of bytes that it took to `taken`, and that key to `key`: its character (9 for
+ * Tab), or of a small letter with Ctrl 1 to 26. Call it again with the other bytes then. If they have no such key, it takes all
+ * bytes, and `key` is 0; so it does if the session waits for no event after those that it took. A key without a character, or
+ * with other modifiers, is not told.
+ *
+ * Returns the same codes as `scm_type`. */
+SCM_USE_CODE uint32_t scm_type_to_key(scm_session *session, const char *bytes, size_t length, size_t *taken, uint32_t *key);
+
 /* Handles the silence of the terminal. Call this if no byte came for about 50 milliseconds. If the last byte was an ESC, it
  * is now the Esc key, not the beginning of another key. The rest of any other unfinished sequence may still come. Within a
  * paste, call it too: Ctrl-C between two silences ends the paste and is the key. To call it again for the same silence is a
@@ -325,10 +338,35 @@ uint32_t scm_type(scm_session *session, const char *bytes, size_t length);
  * Returns the same codes as `scm_type`. */
 uint32_t scm_idle(scm_session *session);
 
+/* Writes the words of what `length` bytes from a terminal mean to `out`, if they fit into its `room` bytes, and their length to
+ * `written`. Each word has a space behind it. A key that means nothing has the word "none". Nothing is handled: a program that
+ * only wants to know what was typed makes a session for that (scm_state_new), which it need not begin. The bytes may be any part
+ * of a terminal's output, as for scm_type, and `scm_press_all` takes the words.
+ *
+ * Returns SCM_DONE, SCM_CLOSED or SCM_NO_MEMORY. If `written` is more than `room` after SCM_DONE, no byte was written and none was
+ * heard: call again with a larger buffer. */
+SCM_USE_CODE uint32_t scm_decode(scm_session *session, const char *bytes, size_t length, char *out, size_t room,
+                                 size_t *written);
+
+/* Writes the word of what a silence of the terminal means, if anything, as `scm_decode` does. Call this when you would call
+ * `scm_idle`. */
+SCM_USE_CODE uint32_t scm_decode_idle(scm_session *session, char *out, size_t room, size_t *written);
+
 /* Handles the event of a script's word, which has `length` bytes. The word "shot" is not the word of an event.
  *
  * Returns SCM_DONE, or the first of SCM_NO_WORD, SCM_CLOSED and SCM_NOT_NOW that applies. */
 uint32_t scm_press(scm_session *session, const char *word, size_t length);
+
+/* Handles the events of words, `length` bytes of text, as one batch. The words are separated by one or more spaces, and there may
+ * be none. A batch has one frame: each click acts on what was drawn before the batch, and the screen is drawn behind the last
+ * event. So a program that reads several events at once hands them in as the recorder of docs/RULES.md does. If an event ends the
+ * session, the later ones are dropped.
+ *
+ * If a commit has a message, only the last event may ask for it (a click, or the word "e"): hand in the others behind it as a
+ * batch of their own.
+ *
+ * Returns SCM_DONE, or the first of SCM_NO_WORD, SCM_CLOSED, SCM_NOT_NOW and SCM_NO_BATCH that applies, or SCM_NO_MEMORY. */
+uint32_t scm_press_all(scm_session *session, const char *words, size_t length);
 
 /* Handles a click at `row`, `column` of the screen.
  *
@@ -379,19 +417,19 @@ uint32_t scm_repaint(scm_session *session);
 /* Writes the key of the owner at `row`, `column` of the screen to `key`. An index that the owner has not is SCM_NO_INDEX.
  *
  * Returns the owner: SCM_NOBODY to SCM_FILE_EDGE. Returns SCM_NOBODY while the session waits for no event. */
-uint32_t scm_owner(scm_session *session, uint16_t row, uint16_t column, scm_key *key);
+uint32_t scm_owner(const scm_session *session, uint16_t row, uint16_t column, scm_key *key);
 
 /* Writes the key of the selected item to `key`. Each index that it has not is SCM_NO_INDEX: of a file the section and the line,
  * of a section the line, and all if nothing is selected.
  *
  * Returns SCM_DONE, SCM_CLOSED, or SCM_NOT_NOW if the session waits for no event. */
-SCM_USE_CODE uint32_t scm_selected(scm_session *session, scm_key *key);
+SCM_USE_CODE uint32_t scm_selected(const scm_session *session, scm_key *key);
 
 /* Writes the symbol that begins at `row`, `column` of the screen to `out`, clipped to `length` bytes.
  *
  * Returns the whole length in bytes. Returns 0 at the second column of a wide symbol, outside the screen, and while the
  * session waits for no event. */
-size_t scm_symbol(scm_session *session, uint16_t row, uint16_t column, char *out, size_t length);
+size_t scm_symbol(const scm_session *session, uint16_t row, uint16_t column, char *out, size_t length);
 
 /* Writes the text of the session's stage to `out`, clipped to `length` bytes, and the whole length in bytes to `written`.
  *
@@ -403,7 +441,7 @@ size_t scm_symbol(scm_session *session, uint16_t row, uint16_t column, char *out
  * or `null`.
  *
  * Returns SCM_DONE, SCM_CLOSED or SCM_NO_MEMORY. */
-SCM_USE_CODE uint32_t scm_text(scm_session *session, char *out, size_t length, size_t *written);
+SCM_USE_CODE uint32_t scm_text(const scm_session *session, char *out, size_t length, size_t *written);
 
 /* ---- The answer ----
  *
@@ -411,7 +449,7 @@ SCM_USE_CODE uint32_t scm_text(scm_session *session, char *out, size_t length, s
  * return SCM_DONE, or the first of SCM_CLOSED, SCM_NOT_NOW (at any other stage) and SCM_NO_ITEM that applies. */
 
 /* Writes the number of files to `count`. */
-SCM_USE_CODE uint32_t scm_files(scm_session *session, size_t *count);
+SCM_USE_CODE uint32_t scm_files(const scm_session *session, size_t *count);
 
 /* Writes a side of file `file`, counted from 0: the selected side if `selected`, or the other side. Its kind of contents, its
  * mode and the number of its bytes go to `side`, and its bytes to `out`, clipped to `length`. If `side->length` is more than
@@ -421,40 +459,40 @@ SCM_USE_CODE uint32_t scm_files(scm_session *session, size_t *count);
  * docs/RULES.md says it in full, under "The split of a file". If the mode is SCM_ABSENT, the file does not exist on that side.
  *
  * May also return SCM_NO_MEMORY. */
-SCM_USE_CODE uint32_t scm_side(scm_session *session, size_t file, bool selected, char *out, size_t length,
+SCM_USE_CODE uint32_t scm_side(const scm_session *session, size_t file, bool selected, char *out, size_t length,
                               scm_side_info *side);
 
 /* Writes the bytes of a side of file `file`, counted from 0, to `out`, clipped to `length` bytes, and the whole length to
  * `written`: of the selected side if `selected`, or of the other side. This is the file to write of a file that
  * `scm_state_texts` added. It has the lines of the side, and no two are joined: a line without a line end gets one where another
- * line follows. A character from U+10FF80 to U+10FFFF stands for one byte, in other files too. `scm_side` has the mode of the
+ * line follows. A character from U+E0080 to U+E00FF stands for one byte, in other files too. `scm_side` has the mode of the
  * side, and the kind of its contents.
  *
  * May also return SCM_NO_MEMORY. */
-SCM_USE_CODE uint32_t scm_side_bytes(scm_session *session, size_t file, bool selected, char *out, size_t length,
+SCM_USE_CODE uint32_t scm_side_bytes(const scm_session *session, size_t file, bool selected, char *out, size_t length,
                                      size_t *written);
 
 /* Writes the mark of the line that `key` names to `mark`: SCM_UNCHECKED to SCM_CHECKED. If its line is SCM_NO_INDEX, that of
  * the section; if its section is SCM_NO_INDEX too, that of the file. The commit of the key does not matter. A context line has
  * no mark: SCM_NO_ITEM. */
-SCM_USE_CODE uint32_t scm_mark(scm_session *session, const scm_key *key, uint32_t *mark);
+SCM_USE_CODE uint32_t scm_mark(const scm_session *session, const scm_key *key, uint32_t *mark);
 
 /* Writes the marks of file `file`, counted from 0, to `out`, clipped to `length` bytes, and their number to `written`. Each
  * mark is a byte, 1 if it is checked and 0 if not. They have the order of the file: of a section of changed lines one for each
  * line, of a change of the mode or of binary contents one, and of context lines none.
  *
  * May also return SCM_NO_MEMORY. */
-SCM_USE_CODE uint32_t scm_marks(scm_session *session, size_t file, char *out, size_t length, size_t *written);
+SCM_USE_CODE uint32_t scm_marks(const scm_session *session, size_t file, char *out, size_t length, size_t *written);
 
 /* Writes the text of the line that `key` names, a changed line or a context line, to `out`, clipped to `length` bytes, and the
  * whole length in bytes to `written`. The commit of the key does not matter. */
-SCM_USE_CODE uint32_t scm_line(scm_session *session, const scm_key *key, char *out, size_t length, size_t *written);
+SCM_USE_CODE uint32_t scm_line(const scm_session *session, const scm_key *key, char *out, size_t length, size_t *written);
 
 /* Writes the message of commit `commit`, counted from 0, to `out`, clipped to `length` bytes, and the whole length in bytes to
  * `written`. Returns SCM_NO_ITEM for a commit without a message too. */
-SCM_USE_CODE uint32_t scm_message(scm_session *session, size_t commit, char *out, size_t length, size_t *written);
+SCM_USE_CODE uint32_t scm_message(const scm_session *session, size_t commit, char *out, size_t length, size_t *written);
 
-/* ---- The rest ---- */
+/* ---- Codes ---- */
 
 /* Writes the sentence of a return code to `out`, clipped to `length` bytes. It is ASCII.
  *
@@ -463,6 +501,27 @@ size_t scm_words(uint32_t code, char *out, size_t length);
 
 /* Returns the version of the library, as SCM_VERSION is that of the header. */
 uint32_t scm_version(void);
+
+/* ---- At a terminal ---- */
+
+/* Shows a session that has begun on the terminal `terminal`, an open file, and hands in what the user types, until the session
+ * waits no more: `scm_end` returns how it ended. Sets raw mode, takes the second screen, the mouse and marks around pasted text,
+ * follows new sizes, and stops at ctrl-z. Tab presses the word "view", and ctrl-l draws every row. A message is edited by the
+ * program VISUAL, EDITOR or vi, in a file of the folder TMPDIR or /tmp; if that fails, the user hears why, and the message stays.
+ * The window's title is `title`, in ASCII without controls, or another one if it is NULL. A terminal of more than SCM_MAX_COLUMNS
+ * or SCM_MAX_ROWS shows the screen at its top left.
+ *
+ * When it returns, the terminal and the handlers of signals are as before. Meanwhile it hears the signals SIGTSTP, SIGCONT,
+ * SIGWINCH, SIGINT, SIGQUIT, SIGHUP and SIGTERM. One run at a time is in a process.
+ *
+ * This call is written in C, over the others (crates/scm_c/terminal/run.c): no proof covers it.
+ *
+ * Returns 0 if the session waits no more, or did not wait; the number of a signal that asked the process to end, which the caller
+ * then raises; or -1 with errno set: EIO if the terminal is gone, ENOMEM if an allocation failed, or the error of tcgetattr or
+ * pipe2. If it does not return 0, the session has not ended. */
+SCM_USE_CODE int scm_run(scm_session *session, int terminal, const char *title);
+
+/* ---- The rest ---- */
 
 /* Closes the session and frees its memory. If it is closed, this is a no-op. */
 void scm_free(scm_session *session);

@@ -2,14 +2,17 @@
 //! the pointer of a C program.
 #![tactic(auto)]
 
-ghost use Rattle.std.specs.Prelude.{◌≡◌, ℕ, ◌<◌, None, Some, is_some, length};
+ghost use Rattle.std.specs.Prelude.{◌≡◌, ℕ, ◌<◌, None, Some, is_some, length, true};
 ghost use Rattle.std.specs.Str.{is_utf8};
 ghost use Rattle.scm_input.specs.declared.events.Event.TheVariants as events;
 ghost use Rattle.scm_open_session.specs.Boxes.{box_value};
 ghost use Rattle.scm_open_session.specs.Stages.{Begins, ChangesDecoder, ChangesStage, HandsIn, Idles, IsOpenAt, Presses, Resizes, Says, Types, code_of_session, end_of_session, screen_of};
 ghost use Rattle.scm_open_session.specs.Results.{IsCode, Writes, code_of_answer, code_of_call, code_of_json, code_of_press, code_of_repaint, event_of_bytes, is_message, is_session_waiting, over, symbol_of_session, words_of_code};
 ghost use Rattle.scm_open_session.specs.Owners.{key_of_session, owner_of_session, selected_of_session};
+ghost use Rattle.scm_open_session.specs.Batches.{HandsInAll, code_of_batch, events_of_bytes};
+ghost use Rattle.scm_open_session.specs.Decoding.{Decodes, HearsBytes, HearsSilence};
 ghost use Rattle.scm_open_session.specs.Paint.{Forgets, PaintsSession};
+ghost use Rattle.scm_open_session.specs.FrontKeys.{ChangesToKey};
 
 pub mod c_session;
 pub mod question_calls;
@@ -81,6 +84,29 @@ pub extern "C" fn scm_type(alloc: Global, session: &mut CSession, bytes: &[u8]) 
     code
 }
 
+/// Handles `bytes`, which a terminal sent, up to the first key that the table lacks. Writes the number
+/// of bytes that it took to `taken`, and the code of that key to `key`, 0 without one. Returns the code
+/// of the call.
+#[unsafe(no_mangle)]
+pub extern "C" fn scm_type_to_key(
+    alloc: Global,
+    session: &mut CSession,
+    bytes: &[u8],
+    taken: &mut usize,
+    key: &mut u32,
+) -> u32
+    ensures code { result ≡ code_of_call session.old.pointer.value }
+    ensures typed { result ≡ 0 → ChangesToKey bytes.now
+        session.old.pointer.value session.new.pointer.value taken.new key.new }
+    ensures kept { 0 < result → session.new.pointer.value ≡ session.old.pointer.value }
+    ensures unwritten { 0 < result → (taken.new ≡ taken.old) × (key.new ≡ key.old) }
+{
+    let mut inner = take(alloc, session);
+    let code = calls::type_to_key(&mut inner, bytes, taken, key);
+    give_back(alloc, session, inner);
+    code
+}
+
 /// Handles the silence of the terminal. Returns the code of the call.
 #[unsafe(no_mangle)]
 pub extern "C" fn scm_idle(alloc: Global, session: &mut CSession) -> u32
@@ -105,6 +131,59 @@ pub extern "C" fn scm_press(alloc: Global, session: &mut CSession, word: &[u8]) 
 {
     let mut inner = take(alloc, session);
     let code = calls::press(&mut inner, word);
+    give_back(alloc, session, inner);
+    code
+}
+
+/// Handles the events of `words`, which are separated by spaces, as one batch. Returns the code of the
+/// call.
+#[unsafe(no_mangle)]
+pub extern "C" fn scm_press_all(alloc: Global, session: &mut CSession, words: &[u8]) -> u32
+    ensures code { IsCode true
+        (code_of_batch (events_of_bytes words.now) session.old.pointer.value) result }
+    ensures pressed { result ≡ 0 → HandsInAll (events_of_bytes words.now)
+        session.old.pointer.value session.new.pointer.value }
+    ensures kept { 0 < result → session.new.pointer.value ≡ session.old.pointer.value }
+{
+    let mut inner = take(alloc, session);
+    let code = calls::press_all(alloc, &mut inner, words);
+    give_back(alloc, session, inner);
+    code
+}
+
+/// Writes to `out` the words of the events that `bytes` of a terminal complete, if they fit, and their
+/// length to `written`. No event is handled. Returns the code of the call.
+#[unsafe(no_mangle)]
+pub extern "C" fn scm_decode(
+    alloc: Global,
+    session: &mut CSession,
+    bytes: &[u8],
+    out: &mut [u8],
+    written: &mut usize,
+) -> u32
+    ensures { Decodes (HearsBytes bytes.now) session.old.pointer.value session.new.pointer.value
+        out.old out.new result written.old written.new }
+{
+    let mut inner = take(alloc, session);
+    let code = calls::decode(alloc, &mut inner, bytes, out, written);
+    give_back(alloc, session, inner);
+    code
+}
+
+/// Writes to `out` the word of the event that a silence of the terminal completes, if it fits, and its
+/// length to `written`. No event is handled. Returns the code of the call.
+#[unsafe(no_mangle)]
+pub extern "C" fn scm_decode_idle(
+    alloc: Global,
+    session: &mut CSession,
+    out: &mut [u8],
+    written: &mut usize,
+) -> u32
+    ensures { Decodes HearsSilence session.old.pointer.value session.new.pointer.value
+        out.old out.new result written.old written.new }
+{
+    let mut inner = take(alloc, session);
+    let code = calls::decode_silence(alloc, &mut inner, out, written);
     give_back(alloc, session, inner);
     code
 }

@@ -10,3 +10,9 @@ pub mod BuildLemmas
 pub mod QuestionLemmas
 -- the bytes of a file that shows a change
 pub mod TextLemmas
+-- words that are handed in as one batch
+pub mod BatchLemmas
+-- the words of what a terminal sends
+pub mod DecodeLemmas
+-- the first key for a front end among the events of bytes
+pub mod KeyLemmas

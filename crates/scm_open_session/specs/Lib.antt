@@ -12,5 +12,11 @@ pub mod Building
 pub mod Texts
 -- what calls tell of a state: sides of files, marks and messages
 pub mod Questions
+-- keys that the key table lacks, for a front end
+pub mod FrontKeys
 -- what `scm_paint` writes
 pub mod Paint
+-- words that are handed in as one batch
+pub mod Batches
+-- the words of what a terminal sends
+pub mod Decoding

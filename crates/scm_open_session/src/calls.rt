@@ -1,13 +1,17 @@
 //! Calls on a session, open or closed. Each returns its code.
-ghost use Rattle.std.specs.Prelude.{◌≡◌, ℕ, ◌<◌, IfErr, IfOk, IsTrue, None, Some, false, is_some, length, string_bytes};
+ghost use Rattle.std.specs.Prelude.{◌≡◌, ℕ, ◌<◌, IfErr, IfOk, IsTrue, None, Some, false, is_some, length, string_bytes, true};
 ghost use Rattle.scm_input.specs.declared.events.Event.TheVariants as events;
 ghost use Rattle.std.specs.Str.{is_utf8};
 ghost use Rattle.scm_open_session.specs.Boxes.{box_value};
 ghost use Rattle.scm_open_session.specs.Stages.{Begins, ChangesStage, HandsIn, Idles, IsOpenAt, ChangesDecoder, Presses, Resizes, Says, Types, code_of_session, end_of_session, screen_of};
 ghost use Rattle.scm_open_session.specs.Results.{IsCode, Writes, code_of_answer, code_of_call, code_of_json, code_of_message, code_of_press, code_of_repaint, done_code, event_of_bytes, is_message, over, symbol_of_session, is_session_waiting, words_of_code};
 ghost use Rattle.scm_open_session.specs.Owners.{key_of_session, owner_of_session, selected_of_session};
+ghost use Rattle.scm_open_session.specs.Batches.{HandsInAll, PressesAll, code_of_batch, code_of_events, events_of_bytes};
+ghost use Rattle.scm_open_session.specs.Decoding.{Decodes, HearsBytes, HearsSilence};
 ghost use Rattle.scm_open_session.specs.Paint.{Fills, Forgets, PaintsOpenSession, PaintsSession};
+ghost use Rattle.scm_open_session.specs.FrontKeys.{ChangesToKey};
 
+use crate::batches::events_of;
 use crate::buffers::write_text;
 use crate::codes;
 use crate::open_session::{OpenSession, Session};
@@ -58,6 +62,29 @@ pub fn type_bytes(session: &mut Session, bytes: &[u8]) -> u32
 {
     match session {
         Some(inner) => done_or_not_now(inner.hear(bytes)),
+        None => codes::CLOSED,
+    }
+}
+
+/// Handles `bytes`, which a terminal sent, up to the first key that the table lacks. Writes the number
+/// of bytes that it took to `taken`, and the code of that key to `key`, 0 without one. Returns the code
+/// of the call.
+pub fn type_to_key(session: &mut Session, bytes: &[u8], taken: &mut usize, key: &mut u32) -> u32
+    ensures code { result ≡ code_of_call (box_value session.old) }
+    ensures typed { result ≡ 0 → ChangesToKey bytes.now
+        (box_value session.old) (box_value session.new) taken.new key.new }
+    ensures kept { 0 < result → box_value session.new ≡ box_value session.old }
+    ensures unwritten { 0 < result → (taken.new ≡ taken.old) × (key.new ≡ key.old) }
+{
+    match session {
+        Some(inner) => match inner.hear_to_key(bytes) {
+            Some((sent, found)) => {
+                *taken = sent;
+                *key = found;
+                codes::DONE
+            }
+            None => codes::NOT_NOW,
+        },
         None => codes::CLOSED,
     }
 }
@@ -113,6 +140,80 @@ fn hand_in(session: &mut Session, event: Event) -> u32
 {
     match session {
         Some(inner) => done_or_not_now(inner.press(event)),
+        None => codes::CLOSED,
+    }
+}
+
+/// Handles the events of `words`, which are separated by spaces, as one batch. Returns the code of the call.
+pub fn press_all(alloc: Global, session: &mut Session, words: &[u8]) -> u32
+    ensures code { IsCode true
+        (code_of_batch (events_of_bytes words.now) (box_value session.old)) result }
+    ensures pressed { result ≡ 0 → HandsInAll (events_of_bytes words.now)
+        (box_value session.old) (box_value session.new) }
+    ensures kept { 0 < result → box_value session.new ≡ box_value session.old }
+{
+    match events_of(alloc, words) {
+        Ok(events) => hand_in_all(session, events.as_slice()),
+        Err(code) => code,
+    }
+}
+
+/// Handles `events` as one batch. Returns the code of the call.
+fn hand_in_all(session: &mut Session, events: &[Event]) -> u32
+    ensures code { result ≡ code_of_events events.now (box_value session.old) }
+    ensures pressed { result ≡ 0 → ChangesStage (PressesAll events.now)
+        (box_value session.old) (box_value session.new) }
+    ensures kept { 0 < result → box_value session.new ≡ box_value session.old }
+{
+    match session {
+        Some(inner) => inner.press_all(events),
+        None => codes::CLOSED,
+    }
+}
+
+/// Writes to `out` the words of the events that `bytes` of a terminal complete, if they fit, and their
+/// length to `written`. No event is handled. Returns the code of the call.
+pub fn decode(
+    alloc: Global,
+    session: &mut Session,
+    bytes: &[u8],
+    out: &mut [u8],
+    written: &mut usize,
+) -> u32
+    ensures { Decodes (HearsBytes bytes.now) (box_value session.old) (box_value session.new)
+        out.old out.new result written.old written.new }
+{
+    match session {
+        Some(inner) => match inner.decode(alloc, bytes, out) {
+            Some(len) => {
+                *written = len;
+                codes::DONE
+            }
+            None => codes::NO_MEMORY,
+        },
+        None => codes::CLOSED,
+    }
+}
+
+/// Writes to `out` the word of the event that a silence of the terminal completes, if it fits, and its
+/// length to `written`. No event is handled. Returns the code of the call.
+pub fn decode_silence(
+    alloc: Global,
+    session: &mut Session,
+    out: &mut [u8],
+    written: &mut usize,
+) -> u32
+    ensures { Decodes HearsSilence (box_value session.old) (box_value session.new)
+        out.old out.new result written.old written.new }
+{
+    match session {
+        Some(inner) => match inner.decode_silence(alloc, out) {
+            Some(len) => {
+                *written = len;
+                codes::DONE
+            }
+            None => codes::NO_MEMORY,
+        },
         None => codes::CLOSED,
     }
 }

@@ -2,10 +2,13 @@
 //! and references; the library for C, `scm_c`, has the pointers.
 #![tactic(auto)]
 
+pub mod batches;
 pub mod buffers;
 pub mod calls;
 pub mod codes;
 pub mod ends;
+pub mod event_words;
+mod front_keys;
 pub mod items;
 pub mod laws;
 pub mod open_session;

@@ -1,10 +1,10 @@
 //! An open session of a C program, and what each call does to it.
-ghost use Rattle.std.specs.Prelude.{◌≡◌, ◌<◌, [], IfErr, IfNone, IfOk, IfSome, IsTrue, OnSome, Some, false, if◌then◌else◌, is_some, ok_or, option_and_then, string_bytes, true};
+ghost use Rattle.std.specs.Prelude.{◌≡◌, ◌<◌, [], IfErr, IfNone, IfOk, IfSome, IsTrue, OnSome, Some, false, if◌then◌else◌, is_some, length, ok_or, option_and_then, string_bytes, true};
 ghost use Rattle.std.specs.Str.{is_utf8};
 ghost use Rattle.serde_json.specs.Read.{read};
 ghost use Rattle.scm_types.specs.Limits.{is_accepted_state};
 ghost use Rattle.scm_json.specs.Form as form_of;
-ghost use Rattle.scm_open_session.specs.declared.open_session.Stage.TheVariants.{Building};
+ghost use Rattle.scm_open_session.specs.declared.open_session.Stage.TheVariants.{Building, Waiting};
 ghost use Rattle.scm_open_session.specs.Stages.{Begins, Idles, Presses, Resizes, Says, Types, is_editing, code_of_stage, end_of_stage, screen_of, stage_after, is_waiting};
 ghost use Rattle.scm_record.specs.Live.{on_screen};
 ghost use Rattle.scm_open_session.specs.Results.{IsCode, IsText, code_of_json, done_code, symbol_of_stage};
@@ -16,16 +16,24 @@ ghost use Rattle.std.specs.Result.{result_map_both};
 ghost use Rattle.scm_embed.specs.Additions.{after_addition, refusal_of};
 ghost use Rattle.scm_open_session.specs.Building.{BeginsState, Builds, Starts, code_at_stage, code_of_error, code_of_refusal};
 ghost use Rattle.scm_open_session.specs.Questions.{state_of_stage};
+ghost use Rattle.scm_open_session.specs.FrontKeys.{StopsAt, TypesToKey};
+ghost use Rattle.scm_open_session.specs.Batches.{PressesAll, code_of_events_at};
+ghost use Rattle.scm_open_session.specs.Decoding.{DecodesOpen, HearsBytes, HearsSilence, Tells, TellsEvents};
+ghost use Rattle.scm_record.specs.Batches.{is_batch};
 ghost use Rattle.scm_open_session.specs.Texts.{BuildsChange, code_of_change_at, seen_change};
 
+use crate::buffers::write_text;
 use crate::codes;
 use crate::ends::{failure_code, sentence};
+use crate::event_words::words_of;
+use crate::front_keys::stop;
 use crate::owners::{Key, owner_code};
 use crate::texts::{TextChange, add_change};
 use scm_embed::{Addition, BuildError, StateBuilder};
 use scm_json::read_state;
 use scm_record::{
-    Decoder, Editing, Event, LiveSession, Painter, RecordError, RecordState, TerminalKind, Turn,
+    Decoder, Editing, Event, LiveSession, Painter, RecordError, RecordState, TerminalEvent,
+    TerminalKind, Turn,
 };
 use scm_script::accepted_text;
 use std::alloc::Global;
@@ -271,6 +279,31 @@ fn pressed(stage: Stage, event: Event) -> (Stage, bool)
     }
 }
 
+/// Returns the stage after `events` as one batch of `session`, and the code of the call.
+fn after_batch(session: LiveSession<'static>, events: &[Event]) -> (Stage, u32)
+    ensures code { result.1 ≡ code_of_events_at events.now (Waiting session.entry) }
+    ensures pressed { result.1 ≡ 0 → PressesAll events.now (Waiting session.entry) result.0 }
+    ensures kept { 0 < result.1 → result.0 ≡ Waiting session.entry }
+{
+    if session.is_batch(events) {
+        (stage_of(session.handle_all(events)), codes::DONE)
+    } else {
+        (Stage::Waiting(session), codes::NO_BATCH)
+    }
+}
+
+/// Returns the stage after `events` as one batch, and the code of the call.
+fn pressed_all(stage: Stage, events: &[Event]) -> (Stage, u32)
+    ensures code { result.1 ≡ code_of_events_at events.now stage }
+    ensures pressed { result.1 ≡ 0 → PressesAll events.now stage result.0 }
+    ensures kept { 0 < result.1 → result.0 ≡ stage }
+{
+    match stage {
+        Stage::Waiting(session) => after_batch(session, events),
+        other => (other, codes::NOT_NOW),
+    }
+}
+
 /// Returns the stage after `bytes` from a terminal, and whether the session waited for an event.
 fn heard(stage: Stage, decoder: &mut Decoder, bytes: &[u8]) -> (Stage, bool)
     ensures is_waiting { result.1 ≡ is_waiting stage }
@@ -458,6 +491,74 @@ impl OpenSession {
         is_done
     }
 
+    /// Handles `events` as one batch if the session waits for an event. Returns the code of the call.
+    pub fn press_all(&mut self, events: &[Event]) -> u32
+        ensures code { result ≡ code_of_events_at events.now self.old.stage }
+        ensures pressed { result ≡ 0 → PressesAll events.now self.old.stage self.new.stage }
+        ensures decoder { self.new.decoder ≡ self.old.decoder }
+        ensures painter { self.new.painter ≡ self.old.painter }
+        ensures kept { 0 < result → self.new ≡ self.old }
+    {
+        let (stage, code) = pressed_all(self.take_stage(), events);
+        self.stage = stage;
+        code
+    }
+
+    /// Writes to `out` the words of the events that `bytes` of a terminal complete, if they fit. Returns
+    /// their length in bytes, or `None` if an allocation failed. No event is handled.
+    pub fn decode(&mut self, alloc: Global, bytes: &[u8], out: &mut [u8]) -> Option<usize>
+        ensures { DecodesOpen (HearsBytes bytes.now) self.old out.old self.new out.new result }
+    {
+        let mut decoder = self.decoder;
+        let mut events = Vec::new(alloc);
+        match decoder.feed(bytes, &mut events) {
+            Ok(()) => self.tell_events(alloc, decoder, events.as_slice(), out),
+            Err(_) => None,
+        }
+    }
+
+    /// Writes to `out` the word of the event that a silence of the terminal completes, if it fits. Returns
+    /// its length in bytes, or `None` if an allocation failed. No event is handled.
+    pub fn decode_silence(&mut self, alloc: Global, out: &mut [u8]) -> Option<usize>
+        ensures { DecodesOpen HearsSilence self.old out.old self.new out.new result }
+    {
+        let mut decoder = self.decoder;
+        match decoder.idle() {
+            Some(event) => self.tell_events(alloc, decoder, &[event], out),
+            None => self.tell_events(alloc, decoder, &[], out),
+        }
+    }
+
+    /// Writes the words of `events` to `out`, and keeps `decoder`, if they fit. Returns their length in
+    /// bytes, or `None` if an allocation failed.
+    fn tell_events(
+        &mut self,
+        alloc: Global,
+        decoder: Decoder,
+        events: &[TerminalEvent],
+        out: &mut [u8],
+    ) -> Option<usize>
+        ensures { TellsEvents self.old decoder events.now out.old self.new out.new result }
+    {
+        match words_of(alloc, events) {
+            Ok(words) => Some(self.tell(decoder, words.as_bytes(), out)),
+            Err(_) => None,
+        }
+    }
+
+    /// Writes `words` to `out`, and keeps `decoder`, if they fit. Returns their length in bytes.
+    fn tell(&mut self, decoder: Decoder, words: &[u8], out: &mut [u8]) -> usize
+        ensures len { result ≡ length words.now }
+        ensures told { Tells self.old decoder words.now out.old self.new out.new }
+    {
+        if words.len() <= out.len() {
+            self.decoder = decoder;
+            write_text(words, out)
+        } else {
+            words.len()
+        }
+    }
+
     /// Handles `bytes` from a terminal if the session waits for an event, and returns whether it
     /// does.
     pub fn hear(&mut self, bytes: &[u8]) -> bool
@@ -470,6 +571,36 @@ impl OpenSession {
         let (stage, is_done) = heard(self.take_stage(), &mut self.decoder, bytes);
         self.stage = stage;
         is_done
+    }
+
+    /// Handles `bytes` from a terminal up to the first key that a front end may want, if the session
+    /// waits for an event. Returns how many bytes it took, and the code of that key, 0 without one. If
+    /// the session waits for no event then, the other bytes are dropped, and there is no such key.
+    pub fn hear_to_key(&mut self, bytes: &[u8]) -> Option<(usize, u32)>
+        ensures waits { is_some result ≡ is_waiting self.old.stage }
+        ensures typed { IfSome result
+            (λ told. TypesToKey bytes.now self.old self.new told.0 told.1) }
+        ensures kept { IfNone result (self.new ≡ self.old) }
+    {
+        let (taken, key) = stop(self.decoder, bytes);
+        if !self.hear(&bytes[..taken]) {
+            return None;
+        }
+        if self.is_waiting() {
+            Some((taken, key))
+        } else {
+            Some((bytes.len(), 0))
+        }
+    }
+
+    /// Returns whether the session waits for an event.
+    fn is_waiting(&self) -> bool
+        ensures { result ≡ is_waiting self.now.stage }
+    {
+        match &self.stage {
+            Stage::Waiting(_) => true,
+            Stage::Building(_) | Stage::Editing(_) | Stage::Accepted(_) | Stage::Ended(_) => false,
+        }
     }
 
     /// Handles the silence of the terminal if the session waits for an event, and returns whether

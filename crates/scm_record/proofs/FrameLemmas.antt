@@ -1,7 +1,8 @@
 -- What drawing a view returns is its frame.
-use Rattle.std.proofs.Common.{◌≡◌, ℕ, ◌≤◌, true, false, replicate, refl, sym, ap, subst, ◌∙◌, arith}
+use Rattle.std.proofs.Common.{◌≡◌, ℕ, ◌+◌, ◌≤◌, Bool, true, false, replicate, Option, None, refl, sym, ap, subst, ◌∙◌, arith}
+use Rattle.std.proofs.lemmas.Bool.{and_parts}
 use Rattle.std.proofs.lemmas.Bool.Decides.{nat_tests}
-use Rattle.std.specs.Prelude.{ℤ, pos, option_map, List}
+use Rattle.std.specs.Prelude.{ℤ, pos, option_map, List, ◌&&◌, nat_le, nat_lt, if◌then◌else◌}
 use Rattle.std.specs.HashMap.{HashMap, IsFromIterResult}
 use Rattle.scm_types.specs.Limits.{is_accepted_state, max_scroll}
 use Rattle.scm_cells.specs.Screen.{Screen, blank_screen}
@@ -18,16 +19,18 @@ use Rattle.scm_view.specs.Laws.{ClearedGridsAreScreens}
 use Rattle.scm_widgets.specs.SameIds.{same_id}
 use Rattle.scm_widgets.specs.Screens.{screen, sight}
 use Rattle.scm_view.specs.ViewState.{ViewState}
-use Rattle.scm_view.specs.Window.{rows_of_box, height_of_box, window}
+use Rattle.scm_view.specs.Window.{owner, rows_of_box, height_of_box, window}
 use Rattle.scm_view.specs.declared.app_view.AppView.{AppView}
 use Rattle.scm_document.specs.declared.commit_view.CommitViewMode.{CommitViewMode}
 use Rattle.scm_document.specs.declared.commit_view.CommitViewMode.TheVariants.{Inline, Adjacent}
 use Rattle.scm_widgets.specs.declared.ids.ComponentId.{ComponentId}
 use Rattle.scm_widgets.specs.declared.ids.ComponentId.TheVariants as ids
 use Rattle.scm_input.specs.declared.inputs.TerminalKind.{TerminalKind}
-use Rattle.scm_layout_index.specs.LayoutIndex.{IsInline}
+use Rattle.scm_layout_index.specs.declared.layout_index.LayoutIndex.{LayoutIndex}
+use Rattle.scm_layout_index.specs.LayoutIndex.{IsInline, IsLayoutIndexOf}
 use Rattle.scm_record.specs.declared.frame.Places.{Places}
-use Rattle.scm_record.specs.Frames.{IsMapOf, KnowsPlaces, columns_of, rows_of, scene_of, frame_of}
+use Rattle.scm_record.specs.FrameQueries.{hit}
+use Rattle.scm_record.specs.Frames.{IsIndexFor, IsMapOf, KnowsPlaces, Scene, columns_of, rows_of, scene_of, frame_of}
 use Rattle.scm_record.specs.Session.{Session}
 
 -- a cleared grid is the screen
@@ -135,3 +138,19 @@ free-shows kind s shown scroll w h rows places ew eh same place free drawn kept 
     (subst (λ n. Answers (columns_of kind) (frame_of_view (columns_of kind) n scroll (app_view_of shown)) rows places) eh
     (subst (λ n. Answers n (frame_of_view n h scroll (app_view_of shown)) rows places) ew here))) in
     subst (λ frame. Answers (columns_of kind) frame rows places) (sym (free-is (columns_of kind) (rows_of kind) s mode)) there
+
+-- what an index answers on a row of the screen is what a click there hits
+pub run-hit : (scene : Scene) (index : LayoutIndex) (s row x y : ℕ) (o : Option ComponentId) → IsIndexFor scene.width scene.frame index → y ≡ s + row → (nat_lt row scene.height && nat_le s max_scroll) ≡ true
+    → ((w h t : ℕ) (shown : ViewState) → IsLayoutIndexOf w h t shown index → o ≡ (if nat_lt x w then owner w h t shown y x else None))
+    → o ≡ hit scene s row x
+run-hit scene index s row x y o is e there owned =
+    let parts = and_parts (nat_lt row scene.height) (nat_le s max_scroll) there in
+    let own : Option ComponentId = owner scene.width is.height is.scroll is.shown (s + row) x in
+    let frame : scene.frame.owner (s + row) x ≡ own = ap (λ (f : Frame). f.owner (s + row) x) is.is_frame in
+    owned scene.width is.height is.scroll is.shown is.is_index
+    ∙ ap (λ (n : ℕ). if nat_lt x scene.width then owner scene.width is.height is.scroll is.shown n x else None) e
+    ∙ go (nat_lt x scene.width) (nat_lt row scene.height) (nat_le s max_scroll) own (scene.frame.owner (s + row) x) parts.0 parts.1 (sym frame)
+  where
+    go : (b c d : Bool) (p q : Option ComponentId) → c ≡ true → d ≡ true → p ≡ q → ◌≡◌ {A = Option ComponentId} (if b then p else None) (if (b && c) && d then q else None)
+    go true c d p q is_row is_low same = rw (is_row, is_low) same
+    go false c d p q is_row is_low same = refl

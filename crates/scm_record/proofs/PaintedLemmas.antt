@@ -1,5 +1,7 @@
 -- Inline the screen of a session in its styles is the window in its styles.
-use Rattle.std.proofs.Common.{◌≡◌, ℕ, zero, suc, ◌+◌, ◌<◌, ◌≤◌, List, ◌∷◌, map, length, Option, sym, ap, ◌∙◌, refl, arith}
+use Rattle.std.proofs.Common.{◌≡◌, ℕ, zero, suc, ◌+◌, ◌<◌, ◌≤◌, List, ◌∷◌, map, length, set, get_or, Option, sym, ap, ◌∙◌, ⊎_elim, refl, arith}
+use Rattle.std.proofs.lemmas.Bool.{cases_eq, cases_lt}
+use Rattle.std.proofs.lemmas.List.{get_or-set_same, get_or-set_other}
 use Rattle.std.specs.List.{range_with_len}
 use Rattle.scm_cells.specs.Cell.{Cell}
 use Rattle.scm_cells.specs.Counts.{no_counts}
@@ -15,6 +17,26 @@ use Rattle.scm_record.specs.Headline.{IsInline}
 use Rattle.scm_record.specs.Live.{Live}
 use Rattle.scm_record.specs.Painted.{style_at, screen_of, picture_of, window_style_at, window_picture_of}
 use Rattle.scm_record.proofs.LiveLemmas.{inline-owner, inline-window}
+
+-- ---- styles of a row, run by run
+
+pub fill-more : (xs : List Style) (from i : ℕ) (s d : Style) → i < length xs → ((k : ℕ) → from ≤ k → k < i → get_or xs k d ≡ s) → (k : ℕ) → from ≤ k → k < i + 1 → get_or (set xs i s) k d ≡ s
+fill-more xs from i s d within h k low high = ⊎_elim
+    (λ e. ap (λ n. get_or (set xs i s) n d) e ∙ get_or-set_same xs i s d within)
+    (λ n. get_or-set_other xs i k s d n ∙ h k low (omega arith))
+    (cases_eq k i)
+
+pub fill-keeps : (xs : List Style) (from i : ℕ) (s d : Style) → from ≤ i → (k : ℕ) → k < from → get_or (set xs i s) k d ≡ get_or xs k d
+fill-keeps xs from i s d low k before = ⊎_elim
+    (λ e. absurd (omega arith))
+    (λ n. get_or-set_other xs i k s d n)
+    (cases_eq k i)
+
+-- a place before another, or behind it
+pub by-place : {P : Type 0} (k i : ℕ) → (k < i → P) → (i ≤ k → P) → P
+by-place k i before behind = ⊎_elim before behind (cases_lt k i)
+
+-- ---- pictures
 
 -- a function of numbers depends on what it is of these
 map-same : {X : Type 0} (f g : ℕ → X) (a n : ℕ) → ((i : ℕ) → a ≤ i → i < a + n → f i ≡ g i) → map f (range_with_len a n) ≡ map g (range_with_len a n)

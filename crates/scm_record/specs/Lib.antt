@@ -36,6 +36,8 @@ pub mod LiveCalls
 pub mod Jumps
 -- what the code of a live session keeps of its screen
 pub mod LiveView
+-- how many lines of a state are marked
+pub mod Marked
 -- the picture of a live session: its screen and the styles
 pub mod Painted
 -- a live session that is driven by bytes of a terminal

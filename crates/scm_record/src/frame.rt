@@ -1,5 +1,5 @@
 //! The frame last drawn: the screen, and where each component was drawn on it.
-ghost use Rattle.std.specs.Prelude.{◌≡◌, ℕ, ◌<◌, ◌≤◌, ◌+◌, ◌^◌, true, false, IfErr, IfOk, IsTrue, OnOk, length, min, string_bytes};
+ghost use Rattle.std.specs.Prelude.{◌≡◌, ℕ, ◌<◌, ◌≤◌, ◌+◌, ◌^◌, ◌&&◌, nat_le, nat_lt, true, false, IfErr, IfOk, IsTrue, OnOk, length, min, string_bytes};
 ghost use Rattle.scm_render.specs.Picture.{PictureInRange, part};
 ghost use Rattle.scm_errors.specs.declared.error.RecordError.TheVariants.{OutOfMemory};
 ghost use Rattle.scm_types.specs.Limits.{is_accepted_state, max_scroll};
@@ -17,7 +17,7 @@ ghost use Rattle.scm_record.specs.FrameQueries.{scroll_to_show, limited_scroll, 
 use scm_cells::{Grid, Rect};
 use scm_input::TerminalKind;
 use scm_layout::{Layout, StateRows};
-use scm_layout_index::{LayoutIndex, RowOwners, SharedRows, span_of_key};
+use scm_layout_index::{LayoutIndex, OwnerRun, RowOwners, SharedRows, span_of_key};
 use scm_render::{DrawnRects, Viewport, find_target};
 use scm_types::{RecordError, RecordState};
 use scm_view::{AppView, CommitViewMode, ComponentId, SelectionKey, laws};
@@ -354,6 +354,66 @@ impl DrawnFrame {
             self.owner(owners, scroll + row, column)
         } else {
             None
+        }
+    }
+
+    /// Returns whether `row` is on the screen, and `scroll` is at most the maximum scroll.
+    #[tactic(auto, unfolding(scm_types::specs::Limits::max_items, scm_types::specs::Limits::max_scroll))]
+    fn has_row(&self, scroll: usize, row: usize) -> bool
+        ensures { result
+            ≡ (nat_lt row (length self.now.grid.rows) && nat_le scroll max_scroll) }
+    {
+        row < self.grid.height() && scroll <= RecordState::MAX_SCROLL
+    }
+
+    /// Returns what a click at `row` and `column` of the screen hits, as a run of that column alone.
+    fn one_place(
+        &self,
+        owners: Option<RowOwners>,
+        scroll: usize,
+        row: usize,
+        column: usize,
+    ) -> OwnerRun
+        requires owners { KnowsRow owners self.now.places (scroll + row) }
+        requires column { column + 1 < 2 ^ 64 }
+        ensures past { column < result.end }
+        ensures owner { (scene : Scene) → IsSceneOf scene self.now
+            → (x : ℕ) → column ≤ x → x < result.end → result.owner ≡ hit scene scroll row x }
+    {
+        OwnerRun {
+            owner: self.hit_among(owners, scroll, row, column),
+            end: column + 1,
+        }
+    }
+
+    /// Returns the component that a click at `row` and `column` of the screen hits, if any, and the end
+    /// of a run of columns from there on where a click hits the same, while the screen is scrolled to
+    /// row `scroll` of the document. All are counted from 0. `owners` are those of the row, if they
+    /// were found; else the run is that column alone.
+    pub(crate) fn run_among(
+        &self,
+        owners: Option<RowOwners>,
+        scroll: usize,
+        row: usize,
+        column: usize,
+    ) -> OwnerRun
+        requires owners { KnowsRow owners self.now.places (scroll + row) }
+        requires column { column + 1 < 2 ^ 64 }
+        ensures past { column < result.end }
+        ensures owner { (scene : Scene) → IsSceneOf scene self.now
+            → (x : ℕ) → column ≤ x → x < result.end → result.owner ≡ hit scene scroll row x }
+    {
+        match &self.places {
+            Places::Plain(index) => match owners {
+                Some(found) => {
+                    if self.has_row(scroll, row) {
+                        return index.run_on(found, column);
+                    }
+                    self.one_place(owners, scroll, row, column)
+                }
+                None => self.one_place(owners, scroll, row, column),
+            },
+            Places::Free(_) => self.one_place(owners, scroll, row, column),
         }
     }
 

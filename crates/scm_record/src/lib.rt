@@ -70,6 +70,7 @@ pub use scm_selection::moves;
 pub use scm_selection::toggles;
 pub use scm_terminal::Decoder;
 pub use scm_terminal::EventPair;
+pub use scm_terminal::NumberedStyle;
 pub use scm_terminal::Painter;
 pub use scm_terminal::Styles;
 pub use scm_types::ChangeType;

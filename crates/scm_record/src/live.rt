@@ -5,7 +5,7 @@ ghost use Rattle.scm_errors.specs.declared.error.RecordError.TheVariants.{OutOfM
 ghost use Rattle.scm_types.specs.Limits.{is_accepted_state};
 ghost use Rattle.scm_input.specs.declared.inputs.TerminalKind.{TerminalKind};
 ghost use Rattle.scm_input.specs.Script.{Read, Reply};
-ghost use Rattle.scm_input.specs.declared.events.Event.TheVariants.{Click};
+ghost use Rattle.scm_input.specs.declared.events.Event.TheVariants.{Click, EnsureSelectionInViewport};
 ghost use Rattle.scm_record.specs.Session.{IsDrawable, Session, after_frame, message_of, message_text, start, without_pending};
 ghost use Rattle.scm_record.specs.Live.{on_screen};
 ghost use Rattle.scm_record.specs.Batches.{is_batch};
@@ -15,7 +15,7 @@ ghost use Rattle.scm_record.specs.Frames.{HasSize, IsSceneOf, columns_of, rows_o
 ghost use Rattle.scm_record.specs.Step.{change};
 ghost use Rattle.scm_record.specs.Clicks.{after_click};
 ghost use Rattle.scm_record.specs.Run.{outcome_by, resume, world_in};
-ghost use Rattle.scm_record.specs.Quiet.{IsQuiet, after_ensure};
+ghost use Rattle.scm_record.specs.Quiet.{after_ensure};
 ghost use Rattle.scm_record.specs.LiveCalls.{AreRuns, BatchFails, BatchLeads, Call, EndsIn, EventFails, EventLeads, Fails, IsFailedRun, IsRun, Leads, MessageFails, MessageLeads, Path, is_on_one_screen, live_setting};
 ghost use Rattle.scm_record.specs.declared.live.Turn.{Turn};
 ghost use Rattle.scm_record.specs.declared.live.Turn.TheVariants.{Accepted, Waiting};
@@ -26,7 +26,7 @@ ghost use Rattle.scm_types.specs.declared.state.RecordState.{RecordState};
 
 pub mod batches;
 pub mod jumps;
-mod keys;
+mod marked;
 mod painted;
 pub mod typed;
 
@@ -146,15 +146,15 @@ fn wait<'state>(
     })
 }
 
-/// Handles the pending `EnsureSelectionInViewport` without its frame, which nobody sees, and draws the
-/// session.
-fn wait_unseen<'state>(
+/// Handles the pending `EnsureSelectionInViewport` after a frame, and draws the session. A frame that
+/// nobody sees is not painted.
+fn show_selection<'state>(
     session: ActiveSession<'state>,
     frame: DrawnFrame,
     kind: TerminalKind,
 ) -> Result<LiveSession<'state>, RecordError>
     requires drawable { IsDrawable session }
-    requires quiet { IsQuiet session frame }
+    requires pending { session.pending ≡ EnsureSelectionInViewport ∷ [] }
     requires sized { HasSize kind frame }
     ensures ok { IfOk result (λ l. l ≡ record {
       session = after_frame (after_ensure kind (after_frame session.entry));
@@ -163,8 +163,15 @@ fn wait_unseen<'state>(
     ensures err { IfErr result (λ e. e ≡ OutOfMemory) }
 {
     let mut session = session;
-    session.pass_unseen(&frame);
-    wait(session, frame, kind, false)
+    let mut frame = frame;
+    if session.is_quiet(&frame) {
+        session.pass_unseen(&frame);
+        return wait(session, frame, kind, false);
+    }
+    advance(&mut session, &mut frame)?;
+    let is_kept = session.is_kept_by(&frame, Event::EnsureSelectionInViewport);
+    session.show_selection(&frame);
+    wait(session, frame, kind, is_kept)
 }
 
 /// Returns the turn to which a batch leads that ended as `end` says. If the session goes on, handles
@@ -195,8 +202,8 @@ fn turn_after<'state>(
     let mut frame = frame;
     match end.flow {
         Flow::GoOn => {
-            if session.is_quiet(&frame) {
-                return Ok(Turn::Waiting(wait_unseen(session, frame, kind)?));
+            if session.has_ensure_alone() {
+                return Ok(Turn::Waiting(show_selection(session, frame, kind)?));
             }
             if !session.has_pending() {
                 return Ok(Turn::Waiting(wait(session, frame, kind, end.is_kept)?));

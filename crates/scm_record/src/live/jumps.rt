@@ -1,51 +1,20 @@
 //! Jumps to a key: it is selected at once, as moves of the selection would select it.
-ghost use Rattle.std.specs.Prelude.{◌≡◌, ◌∷◌, [], IfErr, IfOk, IsTrue, List, None};
+ghost use Rattle.std.specs.Prelude.{◌≡◌, IfErr, IfOk, IsTrue, List, None};
 ghost use Rattle.scm_errors.specs.declared.error.RecordError.TheVariants.{OutOfMemory};
 ghost use Rattle.scm_types.specs.declared.keys.SelectionKey.{SelectionKey};
 ghost use Rattle.scm_types.specs.declared.state.RecordState.{RecordState};
 ghost use Rattle.scm_input.specs.declared.events.Event.{Event};
-ghost use Rattle.scm_input.specs.declared.events.Event.TheVariants.{EnsureSelectionInViewport};
 ghost use Rattle.scm_input.specs.declared.inputs.TerminalKind.{TerminalKind};
 ghost use Rattle.scm_selection.specs.KeysAround.{is_key_of};
-ghost use Rattle.scm_record.specs.Session.{IsDrawable, after_frame, start};
-ghost use Rattle.scm_record.specs.Frames.{HasSize};
-ghost use Rattle.scm_record.specs.Quiet.{after_ensure};
+ghost use Rattle.scm_record.specs.Session.{start};
 ghost use Rattle.scm_record.specs.Live.{Live};
 ghost use Rattle.scm_record.specs.LiveCalls.{BatchLeads, Call, Path};
 ghost use Rattle.scm_record.specs.Jumps.{LeadToKey, after_selecting, can_select};
 ghost use Rattle.scm_record.specs.declared.live.Turn.TheVariants.{Waiting};
 
-use crate::frame::DrawnFrame;
-use crate::live::keys::is_key_of;
-use crate::live::{LiveSession, advance, wait, wait_unseen};
-use crate::session::ActiveSession;
-use scm_input::TerminalKind;
+use crate::live::{LiveSession, show_selection};
+use scm_selection::moves::is_key_of;
 use scm_types::{RecordError, SelectionKey};
-
-/// Handles the pending `EnsureSelectionInViewport` after a frame, and draws the session.
-fn show_selection<'state>(
-    session: ActiveSession<'state>,
-    frame: DrawnFrame,
-    kind: TerminalKind,
-) -> Result<LiveSession<'state>, RecordError>
-    requires drawable { IsDrawable session }
-    requires pending { session.pending ≡ EnsureSelectionInViewport ∷ [] }
-    requires sized { HasSize kind frame }
-    ensures ok { IfOk result (λ l. l ≡ record {
-      session = after_frame (after_ensure kind (after_frame session.entry));
-      kind = kind;
-    }) }
-    ensures err { IfErr result (λ e. e ≡ OutOfMemory) }
-{
-    if session.is_quiet(&frame) {
-        return wait_unseen(session, frame, kind);
-    }
-    let mut session = session;
-    let mut frame = frame;
-    advance(&mut session, &mut frame)?;
-    session.show_selection(&frame);
-    wait(session, frame, kind, false)
-}
 
 impl<'state> LiveSession<'state> {
     /// Returns whether `key` can be selected at once: the quit dialog is closed, and `key` names a file, a

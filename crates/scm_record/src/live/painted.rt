@@ -1,7 +1,8 @@
 //! Painting a live session on a terminal.
-ghost use Rattle.std.specs.Prelude.{◌≡◌, ◌+◌, ◌<◌, [], IfErr, IfOk, OnErr, OnOk, length, string_bytes};
+ghost use Rattle.std.specs.Prelude.{◌≡◌, ℕ, ◌+◌, ◌<◌, ◌≤◌, [], IfErr, IfOk, OnErr, OnOk, length, slice_index_or, string_bytes};
 ghost use Rattle.scm_errors.specs.declared.error.RecordError.TheVariants.{OutOfMemory};
 ghost use Rattle.scm_terminal.specs.Promise.{Paints};
+ghost use Rattle.scm_terminal.specs.Style.{plain_style};
 ghost use Rattle.scm_terminal.specs.StyledCell.{row_of_styles};
 ghost use Rattle.scm_record.specs.Frames.{columns_of, rows_of, IsSceneOf, Scene};
 ghost use Rattle.scm_record.specs.Headline.{IsInline};
@@ -10,9 +11,26 @@ ghost use Rattle.scm_record.specs.Painted.{picture_of, style_at, style_in, windo
 use crate::frame::DrawnFrame;
 use crate::live::LiveSession;
 use scm_cells::Style;
-use scm_terminal::{Painter, Styles};
+use scm_terminal::{NumberedStyle, Painter, Styles};
 use scm_types::RecordError;
 use scm_view_state::ViewState;
+
+/// Sets the styles `from..end` of `styles` to `style`.
+fn fill_run(styles: &mut [NumberedStyle], from: usize, end: usize, style: NumberedStyle)
+    requires from { from ≤ end }
+    requires end { end ≤ length styles.old }
+    ensures length { length styles.new ≡ length styles.old }
+    ensures before { (k : ℕ) → k < from
+        → slice_index_or styles.new k plain_style ≡ slice_index_or styles.old k plain_style }
+    ensures within { (k : ℕ) → from ≤ k → k < end
+        → slice_index_or styles.new k plain_style ≡ style }
+{
+    let mut place = from;
+    'places: while place < end {
+        styles[place] = style;
+        place += 1;
+    }
+}
 
 /// Sets `styles` to the styles of the places of row `row` of the screen, counted from 0, while the
 /// screen shows `frame` of `view_state`, scrolled to row `scroll` of the document.
@@ -21,16 +39,19 @@ fn set_row_styles(
     view_state: &ViewState<'_>,
     scroll: usize,
     row: usize,
-    styles: &mut [Style],
+    styles: &mut [NumberedStyle],
 )
     ensures { (scene : Scene) → IsSceneOf scene frame.now → styles.new
         ≡ row_of_styles (style_in scene view_state.now scroll) row (length styles.old) }
 {
     let owners = frame.row_owners(scroll, row);
     let mut column = 0;
-    for style in styles.iter_mut() {
-        *style = view_state.style(row, frame.hit_among(owners, scroll, row, column));
-        column += 1;
+    'runs: while column < styles.len() {
+        let run = frame.run_among(owners, scroll, row, column);
+        let end = run.end.min(styles.len());
+        let style = NumberedStyle::new(view_state.style(row, run.owner));
+        fill_run(styles, column, end, style);
+        column = end;
     }
 }
 
@@ -48,7 +69,7 @@ impl<'state> Styles for LiveSession<'state> {
     }
 
     /// Sets `styles` to the styles of the places of row `row` of the screen, counted from 0.
-    fn row_styles(&self, row: usize, styles: &mut [Style])
+    fn row_styles(&self, row: usize, styles: &mut [NumberedStyle])
         ensures { styles.new ≡ row_of_styles (style_at self.now) row (length styles.old) }
     {
         let scroll = self.session.scroll();

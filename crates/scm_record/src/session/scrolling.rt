@@ -14,7 +14,8 @@ fn is_ensure_alone(events: &[Event]) -> bool
 }
 
 impl<'state> ActiveSession<'state> {
-    ghost use Rattle.std.specs.Prelude.{◌≡◌, ◌↔◌, ◌+◌, ◌-◌, IsTrue};
+    ghost use Rattle.std.specs.Prelude.{◌≡◌, ◌↔◌, ◌+◌, ◌-◌, IsTrue, [], ◌∷◌};
+    ghost use Rattle.scm_input.specs.declared.events.Event.TheVariants.{EnsureSelectionInViewport};
     ghost use Rattle.scm_input.specs.declared.inputs.TerminalKind.{TerminalKind};
     ghost use Rattle.scm_record.specs.Frames.{HasSize, IsSceneOf, Scene};
     ghost use Rattle.scm_record.specs.FrameQueries.{scroll_to_show};
@@ -87,6 +88,13 @@ impl<'state> ActiveSession<'state> {
             }
             _ => false,
         }
+    }
+
+    /// Returns whether `EnsureSelectionInViewport` alone is pending.
+    pub(crate) fn has_ensure_alone(&self) -> bool
+        ensures { IsTrue result ↔ self.now.pending ≡ EnsureSelectionInViewport ∷ [] }
+    {
+        is_ensure_alone(self.pending.as_slice())
     }
 
     /// Returns whether the next turn is quiet: it has a plain frame, and then shows the selection, and

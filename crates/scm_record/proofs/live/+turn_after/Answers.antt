@@ -17,23 +17,23 @@ use Rattle.scm_record.proofs.CurrentLemmas.{current-after}
 use Rattle.scm_record.proofs.LiveLemmas.{drawn-drawable, leads-after, fails-after, fails-memory, frames-next, ends, edits, gives-up, lacks-place, waits-at, comes-to-batch, handled-falls, none-pending, batch-after}
 use Rattle.scm_record.proofs.live.+turn_after.Goals as goal
 
--- ---- a quiet turn
+-- ---- only the selection is to be shown
 
-pub wait_unseen-requires-clause-quiet : goal.wait_unseen-requires-clause-quiet
-wait_unseen-requires-clause-quiet t c = c.is_quiet.ensures.0 c.if-is_quiet.true
+pub show_selection-requires-clause-pending : goal.show_selection-requires-clause-pending
+show_selection-requires-clause-pending t c = c.has_ensure_alone.ensures.0 c.if-has_ensure_alone.true
 
-pub returns-in_err-wait_unseen-in-GoOn-clause-err : goal.returns-in_err-wait_unseen-in-GoOn-clause-err
-returns-in_err-wait_unseen-in-GoOn-clause-err t c =
+pub returns-in_err-show_selection-in-GoOn-clause-err : goal.returns-in_err-show_selection-in-GoOn-clause-err
+returns-in_err-show_selection-in-GoOn-clause-err t c =
     let p = err_from_is_err_and c.from_residual.result c.from_residual.ensures.1 in
-    rw (p.1, p.2) (λ drawn reads edits frames. fails-memory _ c.in_err-wait_unseen-in-GoOn.field-0.0 c.in_err-wait_unseen-in-GoOn.ensures.err)
+    rw (p.1, p.2) (λ drawn reads edits frames. fails-memory _ c.in_err-show_selection-in-GoOn.field-0.0 c.in_err-show_selection-in-GoOn.ensures.err)
 
-pub returns-then-is_quiet-clause-ok : goal.returns-then-is_quiet-clause-ok
-returns-then-is_quiet-clause-ok t c = λ drawn reads edits frames.
+pub returns-then-has_ensure_alone-clause-ok : goal.returns-then-has_ensure_alone-clause-ok
+returns-then-has_ensure_alone-clause-ok t c = λ drawn reads edits frames.
     let a = live_setting c.args.kind reads edits in
     let s = c.args.session in
-    let quiet = c.is_quiet.ensures.0 c.if-is_quiet.true in
-    waits-at _ c.args.kind reads edits (after_ensure c.args.kind (after_frame s)) (frames + 1) c.in_ok-wait_unseen-in-GoOn.field-0 refl c.in_ok-wait_unseen-in-GoOn.ensures.ok
-    (reaches-trans (frames-next a drawn s frames c.args.end.flow c.in-GoOn.is) (quiet-steps a s frames quiet.pending))
+    let pending = c.has_ensure_alone.ensures.0 c.if-has_ensure_alone.true in
+    waits-at _ c.args.kind reads edits (after_ensure c.args.kind (after_frame s)) (frames + 1) c.in_ok-show_selection-in-GoOn.field-0 refl c.in_ok-show_selection-in-GoOn.ensures.ok
+    (reaches-trans (frames-next a drawn s frames c.args.end.flow c.in-GoOn.is) (quiet-steps a s frames pending))
 
 -- ---- nothing is pending
 

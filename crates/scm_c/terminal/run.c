@@ -1,0 +1,414 @@
+/* scm_run, a session at a terminal: raw mode, new sizes, signals, and the editor of a message. It is a part of the library for C that
+ * is written in C, over the other calls. No proof covers this file. */
+#define _GNU_SOURCE
+#include "bytes.h"
+
+#include <limits.h>
+#include <poll.h>
+#include <signal.h>
+#include <stdio.h>
+#include <string.h>
+#include <sys/ioctl.h>
+#include <sys/wait.h>
+#include <termios.h>
+
+/* Keeps the title; takes the second screen, a title, the mouse, and marks around what is pasted; and gives the terminal back, also
+ * where a paint was cut off: an update ends, and symbols wrap. */
+static const char KEEP_TITLE[] = "\x1b[22;2t";
+static const char TAKE[] = "\x1b]2;%s (? for help)\x1b\\\x1b[?1049h\x1b[?25l\x1b[?1000;1006h\x1b[?2004h";
+static const char GIVE_BACK[] = "\x1b[?2026l\x1b[?7h\x1b[0m\x1b[?2004l\x1b[?1000;1006l\x1b[?25h\x1b[?1049l\x1b[23;2t";
+static const char CLEAR[] = "\x1b[0m\x1b[2J";
+
+enum { TAB = 9, CONTROL_L = 12, CONTROL_Z = 26, ESC = 27, SILENCE = 50 /* milliseconds */ };
+
+typedef struct run {
+    scm_session *session;
+    int terminal;
+    const char *title;
+    struct termios settings_before;
+    bool is_taken;
+    uint16_t width, height; /* of the session's screen; 0 before the first turn */
+    text frame;
+    int error; /* an errno that ends the run, or 0 */
+} run;
+
+/* ---- Signals ---- */
+
+enum { STOP, CONTINUE, NEW_SIZE, INTERRUPT, QUIT, HANG_UP, TERMINATE, SIGNALS };
+static const int NUMBERS[SIGNALS] = {SIGTSTP, SIGCONT, SIGWINCH, SIGINT, SIGQUIT, SIGHUP, SIGTERM};
+
+static struct sigaction actions_before[SIGNALS];
+/* What handlers have seen. */
+static volatile sig_atomic_t ended_by, is_stopped, is_continued, is_resized;
+/* A pipe, to which handlers write. So a wait ends if a signal comes, whichever thread of the process it comes to. */
+static int wake[2];
+
+static void on_signal(int number) {
+    int error = errno;
+    *(number == SIGTSTP ? &is_stopped : number == SIGCONT ? &is_continued : number == SIGWINCH ? &is_resized : &ended_by) = number;
+    ssize_t count = write(wake[1], "", 1); /* a pipe that is full wakes too */
+    (void)count;
+    errno = error;
+}
+
+/* Sets the action of a signal, unless the program was begun with it ignored, as under nohup. */
+static void handle(int signal, void (*handler)(int)) {
+    bool ends_run = signal > NEW_SIZE;
+    /* a write that waits goes on after a signal, unless that ends the run */
+    struct sigaction action = {.sa_handler = handler, .sa_flags = ends_run ? 0 : SA_RESTART};
+    if (actions_before[signal].sa_handler != SIG_IGN || signal == CONTINUE || signal == NEW_SIZE) {
+        sigaction(NUMBERS[signal], &action, NULL);
+    }
+}
+
+static void hear_signals(void) {
+    for (int i = 0; i < SIGNALS; i++) {
+        handle(i, on_signal);
+    }
+}
+
+static void restore_signals(void) {
+    for (int i = 0; i < SIGNALS; i++) {
+        sigaction(NUMBERS[i], &actions_before[i], NULL);
+    }
+}
+
+/* Keeps the actions of signals. Returns false with errno set if that fails. */
+static bool keep_signals(void) {
+    ended_by = is_stopped = is_continued = is_resized = 0;
+    for (int i = 0; i < SIGNALS; i++) {
+        sigaction(NUMBERS[i], NULL, &actions_before[i]);
+    }
+    return pipe2(wake, O_CLOEXEC | O_NONBLOCK) == 0;
+}
+
+static void forget_signals(void) {
+    restore_signals();
+    close(wake[0]);
+    close(wake[1]);
+}
+
+/* Waits for something typed, a signal, or the silence of `milliseconds` (without an end if that is -1). Returns whether there is
+ * something to read. */
+static bool wait_for_input(int terminal, int milliseconds, bool *is_silent) {
+    struct pollfd files[] = {{.fd = terminal, .events = POLLIN}, {.fd = wake[0], .events = POLLIN}};
+    char bytes[64];
+    int count = poll(files, 2, milliseconds);
+    while (files[1].revents && read(wake[0], bytes, sizeof bytes) > 0) {
+    }
+    *is_silent = count == 0;
+    return count > 0 && files[0].revents;
+}
+
+/* Has the interrupt keys do nothing to this program, while they belong to the editor, or ends that. */
+static void ignore_keys_of_signals(bool is_ignored) {
+    handle(INTERRUPT, is_ignored ? SIG_IGN : on_signal);
+    handle(QUIT, is_ignored ? SIG_IGN : on_signal);
+}
+
+/* ---- The terminal ---- */
+
+/* Returns whether the terminal has these settings now. In the background this stops until the program is in the foreground. */
+static bool set_terminal(const run *run, const struct termios *settings) {
+    int status;
+    do {
+        status = tcsetattr(run->terminal, TCSAFLUSH, settings);
+    } while (status != 0 && errno == EINTR && !ended_by);
+    return status == 0;
+}
+
+/* Returns whether the terminal is another program's, which has set it as it likes. */
+static bool is_in_background(const run *run) {
+    pid_t group = tcgetpgrp(run->terminal);
+    return group >= 0 && group != getpgrp();
+}
+
+static void write_terminal(run *run, const char *bytes, size_t length) {
+    if (!write_bytes(run->terminal, bytes, length) && !run->error) {
+        run->error = EIO;
+    }
+}
+
+/* Takes the terminal: each key and click comes as it is typed, and the next frame has every row. */
+static void take(run *run) {
+    struct termios settings = run->settings_before;
+    cfmakeraw(&settings);
+    if (!set_terminal(run, &settings)) {
+        run->error = EIO;
+        return;
+    }
+    if (!run->is_taken) {
+        write_terminal(run, KEEP_TITLE, sizeof KEEP_TITLE - 1);
+    }
+    run->is_taken = true;
+    if (dprintf(run->terminal, TAKE, run->title) < 0) {
+        run->error = EIO;
+    }
+}
+
+static void give_back(run *run) {
+    if (run->is_taken) {
+        write_terminal(run, GIVE_BACK, sizeof GIVE_BACK - 1);
+        if (!is_in_background(run)) {
+            set_terminal(run, &run->settings_before);
+        }
+        run->is_taken = false;
+    }
+}
+
+/* Stops the whole job with the terminal given back, and comes back when it goes on. */
+static void stop(run *run) {
+    is_stopped = 0;
+    if (actions_before[STOP].sa_handler == SIG_IGN) {
+        return;
+    }
+    give_back(run);
+    handle(STOP, SIG_DFL);
+    kill(0, SIGTSTP);
+    handle(STOP, on_signal);
+    is_continued = 1;
+}
+
+/* Gives the session the terminal's size, or the largest. From another size the screen scrolls to what is selected. If memory for
+ * it fails, the next turn tries again. */
+static void follow_size(run *run) {
+    struct winsize size = {0};
+    if (ioctl(run->terminal, TIOCGWINSZ, &size) != 0 || size.ws_col == 0 || size.ws_row == 0) {
+        size = (struct winsize){.ws_col = 80, .ws_row = 24};
+    }
+    uint16_t width = size.ws_col < SCM_MAX_COLUMNS ? size.ws_col : SCM_MAX_COLUMNS;
+    uint16_t height = size.ws_row < SCM_MAX_ROWS ? size.ws_row : SCM_MAX_ROWS;
+    bool is_first = run->width == 0;
+    if (width != size.ws_col || height != size.ws_row) {
+        write_terminal(run, CLEAR, sizeof CLEAR - 1);
+    }
+    scm_repaint(run->session);
+    if (width == run->width && height == run->height) {
+        return;
+    }
+    if (scm_resize(run->session, width, height) != SCM_DONE) {
+        is_resized = 1;
+        return;
+    }
+    run->width = width, run->height = height;
+    scm_press(run->session, is_first ? "none" : "ensure", is_first ? 4 : 6);
+}
+
+/* Does what signals asked for. Returns whether every row is to be drawn. */
+static bool follow_terminal(run *run) {
+    if (is_stopped) {
+        stop(run);
+    }
+    if (is_continued) {
+        is_continued = 0;
+        take(run);
+        is_resized = 1;
+    }
+    if (!is_resized) {
+        return false;
+    }
+    is_resized = 0;
+    follow_size(run);
+    return true;
+}
+
+/* Draws what has changed. Returns whether the terminal shows the session; if memory fails, the next turn tries again. */
+static bool draw(run *run) {
+    if (is_resized || read_session(run->session, scm_paint, &run->frame) != SCM_DONE) {
+        return false;
+    }
+    write_terminal(run, run->frame.bytes, run->frame.length);
+    return true;
+}
+
+/* ---- The editor of a message ---- */
+
+/* Returns whether the user's editor has edited the file at `path`. It has the terminal, and the signals as they were before. */
+static bool run_editor(const run *run, const char *path) {
+    pid_t editor = fork();
+    if (editor == 0) {
+        restore_signals();
+        for (int file = 0; file <= STDERR_FILENO; file++) {
+            dup2(run->terminal, file);
+        }
+        execl("/bin/sh", "sh", "-c", "eval \"${VISUAL:-${EDITOR:-vi}} \\\"\\$1\\\"\"", "sh", path, (char *)NULL);
+        _exit(EXIT_FAILURE);
+    }
+    int status = EXIT_FAILURE;
+    while (editor > 0 && waitpid(editor, &status, 0) < 0 && errno == EINTR) {
+    }
+    return editor > 0 && WIFEXITED(status) && WEXITSTATUS(status) == 0;
+}
+
+/* Makes the file in which a message is edited, in the folder TMPDIR or /tmp. Returns false with errno set if that fails. */
+static bool make_message(char *path, size_t room, const text *message) {
+    const char *folder = getenv("TMPDIR");
+    if (snprintf(path, room, "%s/message-XXXXXX", folder && *folder ? folder : "/tmp") >= (int)room) {
+        errno = ENAMETOOLONG;
+        return false;
+    }
+    int file = mkstemp(path);
+    bool is_written = file >= 0 && write_bytes(file, message->bytes, message->length);
+    int error = errno;
+    if (file >= 0) {
+        close(file);
+    }
+    if (file >= 0 && !is_written) {
+        unlink(path);
+    }
+    errno = error;
+    return is_written;
+}
+
+/* Has the user edit a message, and sets `edited` to the new one. Returns why that failed, or NULL. */
+static const char *edit_text(const run *run, const text *message, text *edited) {
+    char path[PATH_MAX];
+    if (!make_message(path, sizeof path, message)) {
+        return strerror(errno);
+    }
+    bool is_edited = run_editor(run, path) && read_file(path, edited);
+    unlink(path);
+    return is_edited ? NULL : "the editor failed";
+}
+
+/* Says on the main screen that the message stays, and waits for Enter. */
+static void tell(const run *run, const char *why) {
+    char byte = 0;
+    bool is_silent;
+    dprintf(run->terminal, "the message stays: %s\nPress Enter: ", why);
+    while (byte != '\n' && !ended_by) {
+        if (wait_for_input(run->terminal, -1, &is_silent) && read(run->terminal, &byte, 1) <= 0) {
+            return;
+        }
+    }
+}
+
+/* Returns what a code says, until the next call. */
+static const char *words_of(uint32_t code) {
+    static char words[256];
+    words[scm_words(code, words, sizeof words - 1)] = 0;
+    return words;
+}
+
+/* Answers with what the user made of the message. If that fails, says why, and answers with the message as it was. */
+static void answer(run *run, const text *message) {
+    text edited = {0};
+    ignore_keys_of_signals(true);
+    const char *why = edit_text(run, message, &edited);
+    ignore_keys_of_signals(false);
+    uint32_t code = why ? SCM_NOT_NOW : scm_answer(run->session, edited.bytes, edited.length);
+    free(edited.bytes);
+    if (code != SCM_DONE) {
+        tell(run, why ? why : words_of(code));
+        code = scm_answer(run->session, message->bytes, message->length);
+    }
+    if (code != SCM_DONE) {
+        run->error = ENOMEM;
+    }
+}
+
+/* Lets the user edit the message that the session waits for, on the main screen. A stop there stops this program too. */
+static void edit_message(run *run) {
+    text message = {0};
+    if (read_text(run->session, &message) == SCM_DONE) {
+        give_back(run);
+        handle(STOP, SIG_DFL);
+        answer(run, &message);
+        handle(STOP, on_signal);
+        is_continued = 1;
+    } else {
+        run->error = ENOMEM;
+    }
+    free(message.bytes);
+}
+
+/* ---- What is typed ---- */
+
+/* Handles a key of this program's own, by its code: Tab shows both commits, ctrl-l draws every row, and ctrl-z stops. */
+static void press_own_key(run *run, uint32_t key) {
+    if (key == TAB) {
+        scm_press(run->session, "view", 4);
+    } else if (key == CONTROL_L) {
+        scm_repaint(run->session);
+    } else if (key == CONTROL_Z) {
+        stop(run);
+    }
+}
+
+/* Hands in what was typed up to a key that means nothing to the session, if there is one, and handles it if it is one of this
+ * program's own. Returns how many bytes that were. */
+static size_t hear_to_key(run *run, const char *bytes, size_t count) {
+    size_t taken = count;
+    uint32_t key = 0;
+    if (scm_type_to_key(run->session, bytes, count, &taken, &key) != SCM_DONE) {
+        return count;
+    }
+    press_own_key(run, key);
+    return taken;
+}
+
+/* Hands in what was typed, in order. What comes after the key that opens the editor, or ends the session, is dropped. */
+static void hear(run *run, const char *bytes, size_t count) {
+    for (size_t heard = 0; heard < count && scm_stage(run->session) == SCM_WAITING;) {
+        heard += hear_to_key(run, bytes + heard, count - heard);
+    }
+    while (scm_stage(run->session) == SCM_EDITING && !run->error) {
+        edit_message(run);
+    }
+}
+
+/* ---- The run ---- */
+
+/* Draws and takes keys until the session waits no more. What comes last as an ESC is drawn once more comes, or silence. After a silence
+ * it waits until something is typed, or a signal comes. */
+static void take_turns(run *run) {
+    char bytes[4096];
+    bool is_drawn = false, is_cut = false, was_silent = true;
+    while (scm_stage(run->session) == SCM_WAITING && !ended_by && !run->error) {
+        bool is_silent;
+        is_drawn = !follow_terminal(run) && is_drawn;
+        is_drawn = is_drawn || draw(run);
+        if (wait_for_input(run->terminal, was_silent ? -1 : SILENCE, &is_silent)) {
+            ssize_t count = read(run->terminal, bytes, sizeof bytes);
+            if (count <= 0) {
+                run->error = EIO;
+                return;
+            }
+            hear(run, bytes, (size_t)count);
+            is_drawn = is_cut = bytes[count - 1] == ESC;
+            was_silent = false;
+        } else if (is_silent) {
+            scm_idle(run->session);
+            is_drawn = is_drawn && !is_cut;
+            is_cut = false;
+            was_silent = true;
+        }
+    }
+}
+
+/* Returns `asked`, or another title if the terminal could take a byte of it for a command. */
+static const char *title_of(const char *asked) {
+    for (const char *byte = asked; byte && *byte; byte++) {
+        if (*byte < ' ' || *byte > '~') {
+            asked = NULL;
+            break;
+        }
+    }
+    return asked ? asked : "Select changes";
+}
+
+int scm_run(scm_session *session, int terminal, const char *title) {
+    run run = {.session = session, .terminal = terminal, .title = title_of(title)};
+    if (tcgetattr(terminal, &run.settings_before) != 0 || !keep_signals()) {
+        return -1;
+    }
+    hear_signals();
+    is_continued = 1;  /* the first turn takes the terminal */
+    hear(&run, "", 0); /* a message may be waited for */
+    take_turns(&run);
+    give_back(&run);
+    forget_signals();
+    free(run.frame.bytes);
+    errno = run.error;
+    return ended_by ? ended_by : run.error ? -1 : 0;
+}
