@@ -1,55 +1,167 @@
 -- What each call of a front does.
-use Rattle.std.proofs.Common.{◌≡◌, Bool, true, false, List, [], ◌∷◌, sym, ap, ◌∙◌, subst, Some, None}
+use Rattle.std.proofs.Common.{◌≡◌, Bool, true, false, List, [], ◌∷◌, ◌++◌, refl, sym, ap, ◌∙◌, subst, Option, Some, None}
+use Rattle.std.specs.Prelude.{IsTrue, option_to_list, if◌then◌else◌}
 use Rattle.scm_errors.specs.declared.error.RecordError.{RecordError}
 use Rattle.scm_types.specs.declared.keys.SelectionKey.{SelectionKey}
+use Rattle.scm_types.specs.declared.keys.SelectionKey.TheVariants as keys
 use Rattle.scm_input.specs.declared.events.Event.{Event}
 use Rattle.scm_input.specs.declared.terminal.TerminalEvent.{TerminalEvent}
-use Rattle.scm_record.specs.LiveCalls.{still, EventLeads, EventFails}
-use Rattle.scm_record.specs.declared.pages.Way.{Way}
-use Rattle.scm_record.specs.declared.pages.Way.TheVariants.{Down}
+use Rattle.scm_record.specs.Live.{Live}
+use Rattle.scm_record.specs.LiveCalls.{Call, Press, EventLeads}
 use Rattle.scm_record.specs.declared.live.Turn.{Turn}
+use Rattle.scm_front_items.specs.declared.items.Way.{Way}
+use Rattle.scm_front_items.specs.declared.items.Way.TheVariants.{Up, Down}
+use Rattle.scm_front_items.specs.declared.runs.Step.{Step}
+use Rattle.scm_front_items.specs.declared.history.History.{History}
+use Rattle.scm_front_items.specs.declared.targets.Deed.{Deed}
+use Rattle.scm_front_items.specs.Runs.{marks_of_files, marks_with}
 use Rattle.scm_front.specs.declared.asking.Query.{Query}
 use Rattle.scm_front.specs.declared.asking.Typing.{Typing}
 use Rattle.scm_front.specs.declared.asking.Typing.TheVariants.{Finish}
 use Rattle.scm_front.specs.declared.actions.Action.{Action}
-use Rattle.scm_front.specs.declared.actions.Action.TheVariants.{Pass, Edit, Seek, Again}
+use Rattle.scm_front.specs.declared.actions.Action.TheVariants.{Pass, Edit, Seek, Again, Range, Mark, Undo, Redo}
+use Rattle.scm_front.specs.declared.kept.Kept.{Kept}
+use Rattle.scm_front.specs.declared.kept.Notice.{Notice}
+use Rattle.scm_front.specs.declared.kept.Notice.TheVariants as notices
 use Rattle.scm_front.specs.declared.layer.Front.{Front}
 use Rattle.scm_front.specs.declared.layer.FrontTurn.{FrontTurn}
 use Rattle.scm_front.specs.declared.layer.FrontTurn.TheVariants.{Waiting}
 use Rattle.scm_front.specs.Asking.{after_typing, with_word}
-use Rattle.scm_front.specs.Jump.{JumpLeads, JumpFails, is_elsewhere}
-use Rattle.scm_front.specs.Fronts.{Does, passes, types, misses, jumps, seeks, FrontFails, failed, front, front_of, found, heard}
+use Rattle.scm_front.specs.Begun.{JumpLeads}
+use Rattle.scm_front.specs.Deeds.{RoundLeads}
+use Rattle.scm_front.specs.Keeping.{KeepsAs, saying, anchored, after_range, steps_of, done_word, nothing_left}
+use Rattle.scm_front.specs.Restoring.{RestoresTo}
+use Rattle.scm_front.specs.Fronts.{Does, passes, types, misses, jumps, seeks, ranges, marks, lacks, restores, front, front_of, found, heard, is_elsewhere, HasMarks, files_of, selection_of, range_deeds, restoring}
+
+-- what is kept with a word is kept as that
+pub saying-keeps : (old mid : Kept) (anchor : SelectionKey) (word other : Notice) → KeepsAs old anchor other mid → KeepsAs old anchor word (saying mid word)
+saying-keeps old mid anchor word other k = record { anchor = k.anchor; word = refl; keys = k.keys }
+
+-- with other marks kept, and a word
+pub said-keeps : (old : Kept) (history : History) (word : Notice) (new : Kept) → new ≡ saying (record old { history = history }) word → KeepsAs old old.anchor word new
+said-keeps old history word new e = subst (KeepsAs old old.anchor word) (sym e) (record { anchor = refl; word = refl; keys = refl })
+
+-- what is kept has its own word
+pub own-word : (old new : Kept) (anchor : SelectionKey) (word : Notice) → KeepsAs old anchor word new → KeepsAs old anchor new.word new
+own-word old new anchor word k = record { anchor = k.anchor; word = refl; keys = k.keys }
 
 module _ (f : Front) where
-  pub passed : (event : Event) (turn : Turn) (q : Query) (result : FrontTurn) → result ≡ front_of turn q → q ≡ with_word f.query false
-      → EventLeads f.beneath event turn → Does f (Pass event) (event ∷ []) result
-  passed event turn q result e word leads =
-      subst (λ (t : FrontTurn). Does f (Pass event) (event ∷ []) t) (sym (e ∙ ap (λ (x : Query). front_of turn x) word)) (passes turn leads)
+  pub passed : (event : Event) (turn : Turn) (q : Query) (mid kept : Kept) (result : FrontTurn) → result ≡ front_of turn q kept
+      → q ≡ with_word f.query false → kept ≡ saying mid notices.Nothing → KeepsAs f.kept f.kept.anchor f.kept.word mid
+      → EventLeads f.beneath event turn → Does f (Pass event) (Press event ∷ []) result
+  passed event turn q mid kept result e word says keeps leads =
+      let kept_as : KeepsAs f.kept f.kept.anchor notices.Nothing kept =
+      subst (KeepsAs f.kept f.kept.anchor notices.Nothing) (sym says) (saying-keeps f.kept mid f.kept.anchor notices.Nothing f.kept.word keeps) in
+      subst (λ (t : FrontTurn). Does f (Pass event) (Press event ∷ []) t) (sym (e ∙ ap (λ (x : Query). front_of turn x kept) word)) (passes turn kept leads kept_as)
 
-  pub typed : (typing : Typing) (q : Query) → q ≡ after_typing typing f.query → Does f (Edit typing) [] (Waiting (front f.beneath q))
-  typed typing q e = subst (λ (x : Query). Does f (Edit typing) [] (Waiting (front f.beneath x))) (sym e) types
+  pub typed : (typing : Typing) (q : Query) (kept : Kept) → q ≡ after_typing typing f.query → kept ≡ saying f.kept notices.Nothing
+      → Does f (Edit typing) [] (Waiting (front f.beneath q kept))
+  typed typing q kept e says =
+      subst (λ (k : Kept). Does f (Edit typing) [] (Waiting (front f.beneath q k))) (sym says)
+      (subst (λ (x : Query). Does f (Edit typing) [] (Waiting (front f.beneath x (saying f.kept notices.Nothing)))) (sym e) types)
 
   pub missed : (way : Way) (q : Query) → None ≡ found way f → q ≡ with_word f.query true
-      → (events : List Event) × Does f (Again way) events (Waiting (front f.beneath q))
-  missed way q e word = ([], subst (λ (x : Query). Does f (Again way) [] (Waiting (front f.beneath x))) (sym word) (misses (sym e)))
+      → (calls : List Call) × Does f (Again way) calls (Waiting (front f.beneath q f.kept))
+  missed way q e word = ([], subst (λ (x : Query). Does f (Again way) [] (Waiting (front f.beneath x f.kept))) (sym word) (misses (sym e)))
 
-  pub jumped : (way : Way) (key : SelectionKey) (turn : Turn) (q : Query) (b : Bool) (result : FrontTurn) → result ≡ front_of turn q → q ≡ with_word f.query b
-      → b ≡ is_elsewhere key turn → found way f ≡ Some key → ((events : List Event) × JumpLeads f.beneath events turn)
-      → (events : List Event) × Does f (Again way) events result
-  jumped way key turn q b result e word away is leads =
-      let same : result ≡ front_of turn (with_word f.query (is_elsewhere key turn)) =
-      e ∙ ap (λ (x : Query). front_of turn x) word ∙ ap (λ (x : Bool). front_of turn (with_word f.query x)) away in
-      (leads.0, subst (λ (t : FrontTurn). Does f (Again way) leads.0 t) (sym same) (jumps is leads.1))
+  pub jumped : (way : Way) (key : SelectionKey) (next : Live) (q : Query) (b : Bool) (kept : Kept) → q ≡ with_word f.query b
+      → b ≡ is_elsewhere key next → kept ≡ saying f.kept notices.Nothing → found way f ≡ Some key → ((calls : List Call) × JumpLeads f.beneath key calls next)
+      → (calls : List Call) × Does f (Again way) calls (Waiting (front next q kept))
+  jumped way key next q b kept word away says is leads =
+      let same : q ≡ with_word f.query (is_elsewhere key next) = word ∙ ap (λ (x : Bool). with_word f.query x) away in (
+        leads.0,
+        subst (λ (k : Kept). Does f (Again way) leads.0 (Waiting (front next q k))) (sym says)
+            (subst (λ (x : Query). Does f (Again way) leads.0 (Waiting (front next x (saying f.kept notices.Nothing)))) (sym same) (jumps is leads.1)),
+      )
 
-  pub sought : (q : Query) (turn : FrontTurn) → q ≡ after_typing Finish f.query → ((events : List Event) × Does (front f.beneath q) (Again Down) events turn)
-      → (events : List Event) × Does f Seek events turn
-  sought q turn e does = (does.0, seeks (subst (λ (x : Query). Does (front f.beneath x) (Again Down) does.0 turn) e does.1))
+  pub sought : (q : Query) (turn : FrontTurn) → q ≡ after_typing Finish f.query → ((calls : List Call) × Does (front f.beneath q f.kept) (Again Down) calls turn)
+      → (calls : List Call) × Does f Seek calls turn
+  sought q turn e does = (does.0, seeks (subst (λ (x : Query). Does (front f.beneath x f.kept) (Again Down) does.0 turn) e does.1))
 
-  pub as-heard : (event : TerminalEvent) (action : Action) (events : List Event) (turn : FrontTurn) → action ≡ heard f event → Does f action events turn → Does f (heard f event) events turn
-  as-heard event action events turn e does = subst (λ (a : Action). Does f a events turn) e does
+  pub ranged : (q : Query) (kept : Kept) → q ≡ with_word f.query false → kept ≡ after_range f.kept (selection_of f.beneath)
+      → Does f Range [] (Waiting (front f.beneath q kept))
+  ranged q kept word says =
+      subst (λ (k : Kept). Does f Range [] (Waiting (front f.beneath q k))) (sym says)
+      (subst (λ (x : Query). Does f Range [] (Waiting (front f.beneath x (after_range f.kept (selection_of f.beneath))))) (sym word) ranges)
 
-  pub pass-fails : (event : Event) (error : RecordError) → EventFails f.beneath event error → FrontFails f error
-  pass-fails event error h = failed [] f.beneath event still h
+  pub marked : (deeds : List Deed) (turn : Turn) (q : Query) (mid kept : Kept) (result : FrontTurn) → result ≡ front_of turn q kept
+      → q ≡ with_word f.query false → kept ≡ saying (anchored mid keys.None) notices.Nothing → KeepsAs f.kept f.kept.anchor f.kept.word mid
+      → deeds ≡ range_deeds f.beneath f.kept.anchor → ((calls : List Call) × RoundLeads f.beneath deeds (selection_of f.beneath) calls turn)
+      → (calls : List Call) × Does f Mark calls result
+  marked deeds turn q mid kept result e word says keeps same leads =
+      let after : KeepsAs f.kept keys.None notices.Nothing (saying (anchored mid keys.None) notices.Nothing) = record { anchor = refl; word = refl; keys = keeps.keys } in
+      let kept_as : KeepsAs f.kept keys.None notices.Nothing kept = subst (KeepsAs f.kept keys.None notices.Nothing) (sym says) after in
+      let round = subst (λ (list : List Deed). RoundLeads f.beneath list (selection_of f.beneath) leads.0 turn) same leads.1 in
+      (leads.0, subst (λ (t : FrontTurn). Does f Mark leads.0 t) (sym (e ∙ ap (λ (x : Query). front_of turn x kept) word)) (marks turn kept round kept_as))
 
-  pub jump-fails : (error : RecordError) → JumpFails f.beneath error → FrontFails f error
-  jump-fails error j = failed j.events j.last j.event j.path j.fails
+  pub lacked : (way : Way) (q : Query) (mid kept : Kept) → q ≡ with_word f.query false → kept ≡ saying mid (nothing_left way)
+      → KeepsAs (anchored f.kept keys.None) keys.None f.kept.word mid → steps_of way f.kept.history ≡ []
+      → (calls : List Call) × Does f (restoring way) calls (Waiting (front f.beneath q kept))
+  lacked way q mid kept word says keeps none =
+      let after : KeepsAs f.kept keys.None (nothing_left way) (saying mid (nothing_left way)) = record { anchor = keeps.anchor; word = refl; keys = keeps.keys } in
+      let kept_as = subst (KeepsAs f.kept keys.None (nothing_left way)) (sym says) after in
+      ([], subst (λ (x : Query). Does f (restoring way) [] (Waiting (front f.beneath x kept))) (sym word) (lacks way kept none kept_as))
+
+  pub restored : (way : Way) (q : Query) (mid : Kept) (rest : List Step) (step : Step) (wanted : List (List (List Bool))) (result : FrontTurn)
+      → q ≡ with_word f.query false → steps_of way f.kept.history ≡ rest ++ step ∷ [] → mid.anchor ≡ keys.None → mid.keys ≡ f.kept.keys
+      → wanted ≡ marks_with step (marks_of_files (files_of f.beneath)) → RestoresTo f.beneath q mid way wanted result
+      → (calls : List Call) × Does f (restoring way) calls result
+  restored way q mid rest step wanted result word steps none own same r =
+      let keeps : KeepsAs f.kept keys.None r.new.word r.new = record { anchor = r.keeps.anchor ∙ none; word = refl; keys = r.keeps.keys ∙ own } in
+      let does = restores way rest step r.turn r.new steps r.leads keeps (λ e. subst (λ (m : List (List (List Bool))). HasMarks r.turn m) same (r.done e)) in
+      (r.calls, subst (λ (t : FrontTurn). Does f (restoring way) r.calls t) (sym (r.is ∙ ap (λ (x : Query). front_of r.turn x r.new) word)) does)
+
+  pub as-heard : (event : TerminalEvent) (action : Action) (calls : List Call) (turn : FrontTurn) → action ≡ heard f event → Does f action calls turn → Does f (heard f event) calls turn
+  as-heard event action calls turn e does = subst (λ (a : Action). Does f a calls turn) e does
+
+-- a round by other names of its deeds and of the key that it goes back to
+pub same-round : (l : Live) (turn : Turn) (deeds other : List Deed) (back key : SelectionKey) → other ≡ deeds → back ≡ key
+    → ((calls : List Call) × RoundLeads l other back calls turn) → (calls : List Call) × RoundLeads l deeds key calls turn
+same-round l turn deeds other back key e same r =
+    (r.0, subst (λ (k : SelectionKey). RoundLeads l deeds k r.0 turn) same (subst (λ (list : List Deed). RoundLeads l list back r.0 turn) e r.1))
+
+-- ---- marks that are restored
+
+not-done : (way : Way) → notices.NotRestored ≡ done_word way → ⊥
+not-done Up e = cc
+not-done Down e = cc
+
+-- the word says that it is done only if it is
+told-done : (b : Bool) (way : Way) (word : Notice) → word ≡ (if b then done_word way else notices.NotRestored) → word ≡ done_word way → IsTrue b
+told-done true way word e f = refl
+told-done false way word e f = absurd (not-done way (sym e ∙ f))
+
+pub restores-to : (l : Live) (query : Query) (kept new : Kept) (way : Way) (wanted : List (List (List Bool))) (turn : Turn) (b : Bool) (result : FrontTurn)
+    → result ≡ front_of turn query new → KeepsAs kept kept.anchor (if b then done_word way else notices.NotRestored) new
+    → (IsTrue b → HasMarks turn wanted) → ((deeds : List Deed) × ((calls : List Call) × RoundLeads l deeds (selection_of l) calls turn))
+    → RestoresTo l query kept way wanted result
+restores-to l query kept new way wanted turn b result e keeps has r = record {
+  deeds = r.0;
+  calls = r.1.0;
+  turn = turn;
+  new = new;
+  is = e;
+  leads = r.1.1;
+  keeps = own-word kept new kept.anchor _ keeps;
+  done = λ said. has (told-done b way new.word keeps.word said);
+}
+
+-- nothing is restored
+pub gives-up : (l : Live) (query : Query) (kept new : Kept) (way : Way) (wanted : List (List (List Bool))) (turn : Turn) (deeds : List Deed) (back : SelectionKey) (result : FrontTurn)
+    → result ≡ front_of turn query new → KeepsAs kept kept.anchor notices.NotRestored new → back ≡ selection_of l
+    → ((calls : List Call) × RoundLeads l deeds back calls turn) → RestoresTo l query kept way wanted result
+gives-up l query kept new way wanted turn deeds back result e keeps same r = record {
+  deeds = deeds;
+  calls = r.0;
+  turn = turn;
+  new = new;
+  is = e;
+  leads = subst (λ (k : SelectionKey). RoundLeads l deeds k r.0 turn) same r.1;
+  keeps = own-word kept new kept.anchor notices.NotRestored keeps;
+  done = λ said. absurd (not-done way (sym keeps.word ∙ said));
+}
+
+-- ---- the steps of a history
+
+pub newest : (rest : List Step) (steps : List Step) (step : Step) (result : Option Step) → steps ≡ rest ++ option_to_list result → result ≡ Some step → steps ≡ rest ++ step ∷ []
+newest rest steps step result e is = e ∙ ap (λ (o : Option Step). rest ++ option_to_list o) is

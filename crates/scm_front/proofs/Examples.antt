@@ -5,19 +5,25 @@ use Rattle.scm_types.specs.declared.file_mode.FileMode.TheVariants.{Unix}
 use Rattle.scm_types.specs.declared.line.SectionChangedLine.{SectionChangedLine}
 use Rattle.scm_types.specs.declared.line.ChangeType.TheVariants.{Added}
 use Rattle.scm_types.specs.declared.section.Section.TheVariants.{Unchanged, Changed}
-use Rattle.scm_input.specs.KeyTable.{none, control, char}
+use Rattle.scm_input.specs.KeyTable.{none, control, char, event_of}
 use Rattle.scm_input.specs.declared.events.Event.TheVariants.{ToggleItem, FocusPrevPage}
 use Rattle.scm_input.specs.declared.terminal.KeyModifiers.{KeyModifiers}
 use Rattle.scm_input.specs.declared.terminal.KeyCode.{KeyCode}
+use Rattle.scm_input.specs.declared.terminal.KeyCode.TheVariants.{Esc}
 use Rattle.scm_input.specs.declared.terminal.KeyEventKind.TheVariants.{Press}
 use Rattle.scm_input.specs.declared.terminal.TerminalEvent.{TerminalEvent}
 use Rattle.scm_input.specs.declared.terminal.TerminalEvent.TheVariants.{Key}
 use Rattle.scm_selection.specs.KeyLists.{file_key, section_key, line_key}
-use Rattle.scm_record.specs.declared.pages.Way.TheVariants.{Up, Down}
+use Rattle.scm_front_items.specs.declared.items.Way.TheVariants.{Up, Down}
 use Rattle.scm_front.specs.declared.asking.Typing.TheVariants.{Add, Erase}
-use Rattle.scm_front.specs.declared.actions.Action.TheVariants.{Pass, Edit, Again}
+use Rattle.scm_front.specs.declared.actions.Action.{Action}
+use Rattle.scm_front.specs.declared.actions.Action.TheVariants.{Pass, Edit, Again, Range, Mark, Undo, Redo}
+use Rattle.scm_front.specs.declared.actions.Mode.TheVariants as modes
+use Rattle.scm_front.specs.declared.actions.OwnKey.{OwnKey}
 use Rattle.scm_front.specs.Actions.{action_of}
-use Rattle.scm_front.specs.Search.{item_towards}
+use Rattle.scm_front_items.specs.Search.{item_towards}
+use Rattle.scm_front_items.specs.Ranges.{lines_between, mark_for}
+use Rattle.scm_front_items.specs.Runs.{marks_of_files, marks_with}
 
 -- ---- a search in one file `f`: context `two`, then the lines `one`, `Two`, `three`
 
@@ -73,22 +79,69 @@ abbrev pressed : KeyModifiers → KeyCode → TerminalEvent
 pressed modifiers code = Key (record { code = code; modifiers = modifiers; kind = Press })
 
 -- `n` is the layer's, but is typed while a text is asked for, and is the session's while a dialog is open
-again : action_of false true (pressed none (char "n")) ≡ Again Down
+again : action_of modes.Free [] (pressed none (char "n")) ≡ Again Down
 again = refl
 
 -- space toggles in the session, and is typed while a text is asked for
-space : action_of false true (pressed none (char " ")) ≡ Pass ToggleItem
+space : action_of modes.Free [] (pressed none (char " ")) ≡ Pass ToggleItem
 space = refl
 
 -- control and `u` is a page in the session, and empties a text that is asked for
-page : action_of false true (pressed control (char "u")) ≡ Pass FocusPrevPage
+page : action_of modes.Free [] (pressed control (char "u")) ≡ Pass FocusPrevPage
 page = refl
 
-typed_n : action_of true true (pressed none (char "n")) ≡ Edit (Add 110)
+typed_n : action_of modes.Asking [] (pressed none (char "n")) ≡ Edit (Add 110)
 typed_n = refl
 
-typed_space : action_of true true (pressed none (char " ")) ≡ Edit (Add 32)
+typed_space : action_of modes.Asking [] (pressed none (char " ")) ≡ Edit (Add 32)
 typed_space = refl
 
-emptied : action_of true true (pressed control (char "u")) ≡ Edit Erase
+emptied : action_of modes.Asking [] (pressed control (char "u")) ≡ Edit Erase
 emptied = refl
+
+-- while a range is begun, space marks its lines, and esc ends it; else both are the session's
+range_space : action_of modes.Ranging [] (pressed none (char " ")) ≡ Mark
+range_space = refl
+
+range_esc : action_of modes.Ranging [] (pressed none Esc) ≡ Range
+range_esc = refl
+
+undo_u : action_of modes.Ranging [] (pressed none (char "u")) ≡ Undo
+undo_u = refl
+
+redo_r : action_of modes.Free [] (pressed control (char "r")) ≡ Redo
+redo_r = refl
+
+-- a key of the user's own comes before the layer's, and of two that are equal the last one counts
+abbrev own : KeyCode → Action → OwnKey
+own code action = record { code = code; modifiers = none; action = action }
+
+own_n : action_of modes.Free (own (char "n") Undo ∷ []) (pressed none (char "n")) ≡ Undo
+own_n = refl
+
+last_n : action_of modes.Free (own (char "n") Undo ∷ own (char "n") Redo ∷ []) (pressed none (char "n")) ≡ Redo
+last_n = refl
+
+-- under a dialog a key of the user's own counts if it is an event, and else is the session's
+dialog_event : action_of modes.Dialog (own (char "z") (Pass ToggleItem) ∷ []) (pressed none (char "z")) ≡ Pass ToggleItem
+dialog_event = refl
+
+dialog_undo : action_of modes.Dialog (own (char "z") Undo ∷ []) (pressed none (char "z")) ≡ Pass (event_of (pressed none (char "z")))
+dialog_undo = refl
+
+-- ---- ranges, and marks that were
+
+-- a range has both ends, upwards as downwards, and gets the other mark than its first line has
+range_down : lines_between (line_key 0 1 0) (line_key 0 1 1) files ≡ line_key 0 1 0 ∷ line_key 0 1 1 ∷ []
+range_down = refl
+
+range_up : lines_between (line_key 0 1 2) (line_key 0 1 1) files ≡ line_key 0 1 1 ∷ line_key 0 1 2 ∷ []
+range_up = refl
+
+range_mark : mark_for files (line_key 0 1 0 ∷ line_key 0 1 1 ∷ []) ≡ true
+range_mark = refl
+
+-- a step with the mark of line 1 alone changes that mark alone
+restored_line : marks_with (record { runs = record { file = 0; section = 1; first = 1; marks = true ∷ [] } ∷ []; bytes = 65 }) (marks_of_files files)
+    ≡ ([] ∷ (false ∷ true ∷ false ∷ []) ∷ []) ∷ []
+restored_line = refl

@@ -4,25 +4,17 @@ pub mod PressLemmas
 pub mod TurnLemmas
 -- the same events lead to the same session
 pub mod ReplayLemmas
--- a pattern in a text
-pub mod OccursLemmas
--- the item that a search finds
-pub mod SearchLemmas
--- moves towards an item
-pub mod JumpLemmas
+-- sessions that have begun, and jumps of them
+pub mod BegunLemmas
+-- deeds that are done one after another
+pub mod DeedLemmas
+-- what deeds do with the files of a session
+pub mod RangeLemmas
 -- events of a terminal that are heard one after another
 pub mod HearLemmas
 -- what each call of a front does
 pub mod DoLemmas
 -- paths of a front
 pub mod FrontLemmas
--- commands that stay on some rows of a terminal
-pub mod PartLemmas
--- the session's rows and the status row below them
-pub mod BelowLemmas
--- what the status row says
-pub mod StatusLemmas
--- views sideways
-pub mod SidewaysLemmas
 -- examples, computed
 mod Examples

@@ -1,5 +1,5 @@
 -- The key table of the layer: what it does with each event of a terminal.
-use Rattle.std.specs.Prelude.{Bool, List, [], ◌∷◌, ◌&&◌, if◌then◌else◌}
+use Rattle.std.specs.Prelude.{Bool, true, false, List, [], ◌∷◌, ◌&&◌, if◌then◌else◌}
 use Rattle.scm_input.specs.KeyTable.{none, shift, control, char, same_modifiers, same_key, event_of}
 use Rattle.scm_input.specs.declared.terminal.KeyModifiers.{KeyModifiers}
 use Rattle.scm_input.specs.declared.terminal.KeyCode.{KeyCode}
@@ -9,10 +9,13 @@ use Rattle.scm_input.specs.declared.terminal.KeyEventKind.{KeyEventKind}
 use Rattle.scm_input.specs.declared.terminal.KeyEventKind.TheVariants.{Press, Repeat, Release}
 use Rattle.scm_input.specs.declared.terminal.TerminalEvent.{TerminalEvent}
 use Rattle.scm_input.specs.declared.terminal.TerminalEvent.TheVariants as terminal
-use Rattle.scm_record.specs.declared.pages.Way.TheVariants.{Up, Down}
+use Rattle.scm_front_items.specs.declared.items.Way.TheVariants.{Up, Down}
 use Rattle.scm_front.specs.declared.asking.Typing.TheVariants.{Ask, Add, Erase, Leave}
 use Rattle.scm_front.specs.declared.actions.Action.{Action}
-use Rattle.scm_front.specs.declared.actions.Action.TheVariants.{Pass, Edit, Seek, Again, Ignore}
+use Rattle.scm_front.specs.declared.actions.Action.TheVariants.{Pass, Edit, Seek, Again, Range, Mark, Undo, Redo, Ignore}
+use Rattle.scm_front.specs.declared.actions.OwnKey.{OwnKey}
+use Rattle.scm_front.specs.declared.actions.Mode.{Mode}
+use Rattle.scm_front.specs.declared.actions.Mode.TheVariants as modes
 
 -- a row of the table: with exactly these modifiers, this key is this action
 pub record ActionRow : Type 0 where
@@ -26,7 +29,18 @@ by modifiers code action = record { modifiers = modifiers; code = code; action =
 
 -- the layer's own keys
 abbrev pub own_keys : List ActionRow
-own_keys = by none (char "/") (Edit Ask) ∷ by none (char "n") (Again Down) ∷ by shift (char "N") (Again Up) ∷ []
+own_keys =
+    by none (char "/") (Edit Ask)
+    ∷ by none (char "n") (Again Down)
+    ∷ by shift (char "N") (Again Up)
+    ∷ by none (char "v") Range
+    ∷ by none (char "u") Undo
+    ∷ by control (char "r") Redo
+    ∷ []
+
+-- the keys that come before these while a range is begun
+abbrev pub ranging_keys : List ActionRow
+ranging_keys = by none (char " ") Mark ∷ by none key.Esc Range ∷ []
 
 -- the keys that type no character while a text is asked for
 abbrev pub asking_keys : List ActionRow
@@ -68,22 +82,71 @@ asking_key Press modifiers code = asking_action modifiers code
 asking_key Repeat modifiers code = Ignore
 asking_key Release modifiers code = Ignore
 
--- the action of a key that the session may hear too: `event` is what it means to the session
-abbrev pub own_key : KeyEventKind → KeyModifiers → KeyCode → Action → Action
-own_key Press modifiers code pass = first_action own_keys modifiers code pass
-own_key Repeat modifiers code pass = pass
-own_key Release modifiers code pass = pass
+-- the action of pressing one of the layer's own keys, or `pass`
+abbrev pub own_action : KeyModifiers → KeyCode → Action → Action
+own_action modifiers code pass = first_action own_keys modifiers code pass
 
--- The action of a key. While a text is asked for, the session hears no key. Otherwise it hears all but the layer's own keys, and those
--- too unless it is free: a dialog is open.
-abbrev pub key_action : Bool → Bool → KeyEvent → Action
-key_action is_asking is_free e =
-    if is_asking then asking_key e.kind e.modifiers e.code
-    else if is_free then own_key e.kind e.modifiers e.code (Pass (event_of (terminal.Key e)))
-    else Pass (event_of (terminal.Key e))
+-- the same while a range is begun
+abbrev pub ranging_action : KeyModifiers → KeyCode → Action → Action
+ranging_action modifiers code pass = first_action ranging_keys modifiers code (own_action modifiers code pass)
+
+-- the action of one of the user's own keys, or else `otherwise`
+abbrev pub action_by : OwnKey → KeyModifiers → KeyCode → Action → Action
+action_by k modifiers code otherwise =
+    if same_modifiers k.modifiers modifiers && same_key k.code code then k.action else otherwise
+
+-- the action of the last of the user's own keys that matches, or else `otherwise`
+abbrev pub last_action : List OwnKey → KeyModifiers → KeyCode → Action → Action
+last_action [] modifiers code otherwise = otherwise
+last_action (k ∷ ks) modifiers code otherwise = last_action ks modifiers code (action_by k modifiers code otherwise)
+
+-- the action of the layer's own keys, with or without a range
+abbrev pub built_in : Bool → KeyModifiers → KeyCode → Action → Action
+built_in is_ranging modifiers code pass = if is_ranging then ranging_action modifiers code pass else own_action modifiers code pass
+
+-- the action of pressing a key that the layer hears first: the user's own keys come before the layer's
+abbrev pub free_press : Bool → List OwnKey → KeyModifiers → KeyCode → Action → Action
+free_press is_ranging ks modifiers code pass = last_action ks modifiers code (built_in is_ranging modifiers code pass)
+
+abbrev pub free_by : KeyEventKind → Bool → List OwnKey → KeyModifiers → KeyCode → Action → Action
+free_by Press is_ranging ks modifiers code pass = free_press is_ranging ks modifiers code pass
+free_by Repeat is_ranging ks modifiers code pass = pass
+free_by Release is_ranging ks modifiers code pass = pass
+
+-- by the kind of the key event: only a press is a key of the layer's
+abbrev pub free_key : Bool → List OwnKey → KeyEvent → Action → Action
+free_key is_ranging ks e pass = free_by e.kind is_ranging ks e.modifiers e.code pass
+
+-- the action if it is an event of the session, or else `pass`
+abbrev pub session_action : Action → Action → Action
+session_action (Pass event) pass = Pass event
+session_action (Edit typing) pass = pass
+session_action Seek pass = pass
+session_action (Again way) pass = pass
+session_action Range pass = pass
+session_action Mark pass = pass
+session_action Undo pass = pass
+session_action Redo pass = pass
+session_action Ignore pass = pass
+
+abbrev pub dialog_by : KeyEventKind → List OwnKey → KeyModifiers → KeyCode → Action → Action
+dialog_by Press ks modifiers code pass = session_action (last_action ks modifiers code pass) pass
+dialog_by Repeat ks modifiers code pass = pass
+dialog_by Release ks modifiers code pass = pass
+
+-- the action of a key while a dialog is open: of the user's own keys only those count that are events of the session
+abbrev pub dialog_key : List OwnKey → KeyEvent → Action → Action
+dialog_key ks e pass = dialog_by e.kind ks e.modifiers e.code pass
+
+-- The action of a key. While a text is asked for, the session hears no key. While a dialog is open, the layer has no keys of its own.
+abbrev pub key_action : Mode → List OwnKey → KeyEvent → Action
+key_action modes.Asking ks e = asking_key e.kind e.modifiers e.code
+key_action modes.Dialog ks e = dialog_key ks e (Pass (event_of (terminal.Key e)))
+key_action modes.Ranging ks e = free_key true ks e (Pass (event_of (terminal.Key e)))
+key_action modes.Free ks e = free_key false ks e (Pass (event_of (terminal.Key e)))
 
 -- the action of an event of the terminal: the session hears the mouse always
-abbrev pub action_of : Bool → Bool → TerminalEvent → Action
-action_of is_asking is_free (terminal.Key e) = key_action is_asking is_free e
-action_of is_asking is_free (terminal.Mouse e) = Pass (event_of (terminal.Mouse e))
-action_of is_asking is_free terminal.Other = Pass (event_of terminal.Other)
+abbrev pub action_of : Mode → List OwnKey → TerminalEvent → Action
+action_of mode ks (terminal.Key e) = key_action mode ks e
+action_of mode ks (terminal.Mouse e) = Pass (event_of (terminal.Mouse e))
+action_of mode ks terminal.Other = Pass (event_of terminal.Other)

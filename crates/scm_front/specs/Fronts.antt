@@ -1,34 +1,49 @@
 -- A layer over a live session: what it does with what it hears, and the calls of the session beneath.
-use Rattle.std.specs.Prelude.{◌≡◌, ℕ, Bool, true, false, ◌&&◌, not, List, [], ◌∷◌, ◌++◌, Option, Some, None, is_some, option_to_list}
+use Rattle.std.specs.Prelude.{◌≡◌, ℕ, Bool, true, false, not, ◌||◌, List, [], ◌∷◌, ◌++◌, Option, Some, None, is_some, option_to_list, if◌then◌else◌}
 use Rattle.scm_errors.specs.declared.error.RecordError.{RecordError}
-use Rattle.scm_errors.specs.declared.error.RecordError.TheVariants.{OutOfMemory}
+use Rattle.scm_types.specs.declared.file.File.{File}
 use Rattle.scm_types.specs.declared.keys.SelectionKey.{SelectionKey}
+use Rattle.scm_types.specs.declared.keys.SelectionKey.TheVariants as keys
+use Rattle.scm_types.specs.Keys.{is_key}
 use Rattle.scm_input.specs.declared.events.Event.{Event}
 use Rattle.scm_input.specs.declared.inputs.TerminalKind.{TerminalKind}
 use Rattle.scm_input.specs.declared.terminal.TerminalEvent.{TerminalEvent}
 use Rattle.scm_terminal.specs.declared.decoder.Decoder.{Decoder}
 use Rattle.scm_terminal.specs.Decoders.{Adds}
 use Rattle.scm_record.specs.Live.{Live, on_screen}
-use Rattle.scm_record.specs.LiveCalls.{Call, Say, Resize, Path, EventLeads, EventFails, MessageLeads}
+use Rattle.scm_record.specs.LiveCalls.{Call, Press, PressAll, Say, Resize, Path, EventLeads, BatchLeads, MessageLeads}
 use Rattle.scm_record.specs.Typed.{is_waiting, SilenceMeans}
-use Rattle.scm_record.specs.declared.pages.Way.{Way}
-use Rattle.scm_record.specs.declared.pages.Way.TheVariants.{Down}
 use Rattle.scm_record.specs.declared.live.Turn.{Turn}
 use Rattle.scm_record.specs.declared.live.Turn.TheVariants as turns
+use Rattle.scm_front_items.specs.declared.items.Way.{Way}
+use Rattle.scm_front_items.specs.declared.items.Way.TheVariants.{Up, Down}
+use Rattle.scm_front_items.specs.declared.runs.Step.{Step}
+use Rattle.scm_front_items.specs.declared.targets.Deed.{Deed}
+use Rattle.scm_front_items.specs.Search.{item_towards}
+use Rattle.scm_front_items.specs.Ranges.{lines_between, mark_for, marking}
+use Rattle.scm_front_items.specs.Plans.{section_folds, file_folds}
+use Rattle.scm_front_items.specs.Runs.{marks_of_files, marks_with}
 use Rattle.scm_front.specs.declared.asking.Query.{Query}
 use Rattle.scm_front.specs.declared.asking.Typing.{Typing}
 use Rattle.scm_front.specs.declared.asking.Typing.TheVariants.{Finish}
 use Rattle.scm_front.specs.declared.actions.Action.{Action}
-use Rattle.scm_front.specs.declared.actions.Action.TheVariants.{Pass, Edit, Seek, Again, Ignore}
+use Rattle.scm_front.specs.declared.actions.Action.TheVariants.{Pass, Edit, Seek, Again, Range, Mark, Undo, Redo, Ignore}
+use Rattle.scm_front.specs.declared.actions.Mode.{Mode}
+use Rattle.scm_front.specs.declared.actions.Mode.TheVariants as modes
+use Rattle.scm_front.specs.declared.kept.Kept.{Kept}
+use Rattle.scm_front.specs.declared.kept.Notice.{Notice}
+use Rattle.scm_front.specs.declared.kept.Notice.TheVariants as notices
 use Rattle.scm_front.specs.declared.layer.Front.{Front}
 use Rattle.scm_front.specs.declared.layer.FrontEditing.{FrontEditing}
 use Rattle.scm_front.specs.declared.layer.FrontTurn.{FrontTurn}
 use Rattle.scm_front.specs.declared.layer.FrontTurn.TheVariants.{Waiting, Editing, Accepted}
 use Rattle.scm_front.specs.Actions.{action_of}
 use Rattle.scm_front.specs.Asking.{after_typing, with_word}
-use Rattle.scm_front.specs.Jump.{JumpLeads, is_elsewhere}
+use Rattle.scm_front.specs.Begun.{JumpLeads}
+use Rattle.scm_front.specs.Deeds.{RoundLeads}
+use Rattle.scm_front.specs.Failing.{SessionFails}
+use Rattle.scm_front.specs.Keeping.{IsNew, KeepsAs, saying, anchored, after_range, is_none, steps_of, done_word, nothing_left}
 use Rattle.scm_front.specs.Presses.{PressesLead, calls_of}
-use Rattle.scm_front.specs.Search.{item_towards}
 
 -- the turn of the session beneath
 abbrev pub beneath_of : FrontTurn → Turn
@@ -36,86 +51,167 @@ beneath_of (Waiting front) = turns.Waiting front.beneath
 beneath_of (Editing editing) = turns.Editing editing.beneath
 beneath_of (Accepted state) = turns.Accepted state
 
--- a front by its two fields
-abbrev pub front : Live → Query → Front
-front l query = record { beneath = l; query = query }
+-- a front by its fields
+abbrev pub front : Live → Query → Kept → Front
+front l query kept = record { beneath = l; query = query; kept = kept }
 
 -- a turn of the session beneath, with what the layer keeps
-abbrev pub front_of : Turn → Query → FrontTurn
-front_of (turns.Waiting l) query = Waiting (front l query)
-front_of (turns.Editing a) query = Editing (record { beneath = a; query = query })
-front_of (turns.Accepted state) query = Accepted state
+abbrev pub front_of : Turn → Query → Kept → FrontTurn
+front_of (turns.Waiting l) query kept = Waiting (front l query kept)
+front_of (turns.Editing a) query kept = Editing (record { beneath = a; query = query; kept = kept })
+front_of (turns.Accepted state) query kept = Accepted state
 
--- whether no dialog is open: then the layer has keys of its own
-abbrev pub is_free : Live → Bool
-is_free l = not (is_some l.session.shown.quit_dialog) && not l.session.shown.is_help_open
+-- whether a dialog is open: then the layer has no keys of its own
+abbrev pub has_dialog : Live → Bool
+has_dialog l = is_some l.session.shown.quit_dialog || l.session.shown.is_help_open
+
+-- who hears a key, unless a text is asked for
+abbrev pub mode_beneath : Live → SelectionKey → Mode
+mode_beneath l anchor = if has_dialog l then modes.Dialog else if is_none anchor then modes.Free else modes.Ranging
+
+-- who hears a key
+abbrev pub mode_of : Front → Mode
+mode_of f = if f.query.is_asking then modes.Asking else mode_beneath f.beneath f.kept.anchor
+
+-- what the layer says, unless it says something of a search
+abbrev pub said_word : Kept → Notice
+said_word kept = if is_none kept.anchor then kept.word else notices.Range
+
+-- what the layer says until the next key
+abbrev pub notice_of : Front → Notice
+notice_of f =
+    if f.query.is_asking then notices.Asking
+    else if f.query.is_missing then notices.NotFound
+    else said_word f.kept
 
 -- the item that a search finds from the selection
 abbrev pub found : Way → Front → Option SelectionKey
 found way f = item_towards way f.query.sought f.beneath.session.shown.state.files f.beneath.session.shown.selection
 
+-- whether something else than the item is selected
+abbrev pub is_elsewhere : SelectionKey → Live → Bool
+is_elsewhere key l = not (is_key l.session.shown.selection key)
+
+-- the files of a session, and its selection
+abbrev pub files_of : Live → List File
+files_of l = l.session.shown.state.files
+
+abbrev pub selection_of : Live → SelectionKey
+selection_of l = l.session.shown.selection
+
+-- the lines of the range from `anchor` to the selection
+abbrev pub range_lines : Live → SelectionKey → List SelectionKey
+range_lines l anchor = lines_between anchor (selection_of l) (files_of l)
+
+-- The deeds of a range: each of its lines gets the mark that the first one gets, and then what that unfolded is folded again. In a
+-- read-only state there are none.
+abbrev pub range_deeds : Live → SelectionKey → List Deed
+range_deeds l anchor =
+    let lines = range_lines l anchor in
+    if l.session.shown.state.is_read_only then []
+    else
+    (marking (mark_for (files_of l) lines) lines ++ section_folds l.session.shown.expanded lines)
+    ++ file_folds l.session.shown.expanded lines
+
+-- the marks of the session's files, if it waits for an event
+abbrev pub HasMarks : Turn → List (List (List Bool)) → Type 0
+HasMarks (turns.Waiting l) marks = marks_of_files (files_of l) ≡ marks
+HasMarks (turns.Editing a) marks = ⊥
+HasMarks (turns.Accepted state) marks = ⊥
+
+-- the action that restores marks in a direction
+abbrev pub restoring : Way → Action
+restoring Up = Undo
+restoring Down = Redo
+
 -- ---- what is heard
 
--- An action leads from a front to a turn, and the session beneath handles these events.
-pub data Does : Front → Action → List Event → FrontTurn → Type 0 where
+-- An action leads from a front to a turn, and the session beneath handles these calls.
+pub data Does : Front → Action → List Call → FrontTurn → Type 0 where
   -- the session handles an event
-  passes : {f : Front} {event : Event} (turn : Turn) → EventLeads f.beneath event turn
-      → Does f (Pass event) (event ∷ []) (front_of turn (with_word f.query false))
+  passes : {f : Front} {event : Event} (turn : Turn) (kept : Kept) → EventLeads f.beneath event turn
+      → KeepsAs f.kept f.kept.anchor notices.Nothing kept
+      → Does f (Pass event) (Press event ∷ []) (front_of turn (with_word f.query false) kept)
   -- a key that types the text to search for changes only that text
-  types : {f : Front} {typing : Typing} → Does f (Edit typing) [] (Waiting (front f.beneath (after_typing typing f.query)))
+  types : {f : Front} {typing : Typing}
+      → Does f (Edit typing) [] (Waiting (front f.beneath (after_typing typing f.query) (saying f.kept notices.Nothing)))
   -- a search that finds no item leaves the session as it was, and says so
   misses : {f : Front} {way : Way} → found way f ≡ None
-      → Does f (Again way) [] (Waiting (front f.beneath (with_word f.query true)))
-  -- a search that finds an item moves the selection towards it, and says whether something else is selected then
-  jumps : {f : Front} {way : Way} {key : SelectionKey} {events : List Event} {turn : Turn} → found way f ≡ Some key
-      → JumpLeads f.beneath events turn → Does f (Again way) events (front_of turn (with_word f.query (is_elsewhere key turn)))
+      → Does f (Again way) [] (Waiting (front f.beneath (with_word f.query true) f.kept))
+  -- a search that finds an item selects it by a jump, and says whether something else is selected then
+  jumps : {f : Front} {way : Way} {key : SelectionKey} {calls : List Call} {next : Live} → found way f ≡ Some key
+      → JumpLeads f.beneath key calls next
+      → Does f (Again way) calls (Waiting (front next (with_word f.query (is_elsewhere key next)) (saying f.kept notices.Nothing)))
   -- the end of a question is a search downwards for its text
-  seeks : {f : Front} {events : List Event} {turn : FrontTurn}
-      → Does (front f.beneath (after_typing Finish f.query)) (Again Down) events turn → Does f Seek events turn
+  seeks : {f : Front} {calls : List Call} {turn : FrontTurn}
+      → Does (front f.beneath (after_typing Finish f.query) f.kept) (Again Down) calls turn → Does f Seek calls turn
+  -- a range begins or ends, and the session is as it was
+  ranges : {f : Front}
+      → Does f Range [] (Waiting (front f.beneath (with_word f.query false) (after_range f.kept (selection_of f.beneath))))
+  -- the lines of a range are set, what was selected is selected again, and the range ends
+  marks : {f : Front} {calls : List Call} (turn : Turn) (kept : Kept)
+      → RoundLeads f.beneath (range_deeds f.beneath f.kept.anchor) (selection_of f.beneath) calls turn
+      → KeepsAs f.kept keys.None notices.Nothing kept
+      → Does f Mark calls (front_of turn (with_word f.query false) kept)
+  -- there is nothing to undo, or to do again
+  lacks : {f : Front} (way : Way) (kept : Kept) → steps_of way f.kept.history ≡ [] → KeepsAs f.kept keys.None (nothing_left way) kept
+      → Does f (restoring way) [] (Waiting (front f.beneath (with_word f.query false) kept))
+  -- Marks are restored, by toggles and jumps, and what was selected is selected again. If the word says so, all marks are those that the
+  -- newest step keeps, and the other ones as before.
+  restores : {f : Front} {calls : List Call} {deeds : List Deed} (way : Way) (rest : List Step) (step : Step) (turn : Turn) (kept : Kept)
+      → steps_of way f.kept.history ≡ rest ++ step ∷ []
+      → RoundLeads f.beneath deeds (selection_of f.beneath) calls turn
+      → KeepsAs f.kept keys.None kept.word kept
+      → (kept.word ≡ done_word way → HasMarks turn (marks_with step (marks_of_files (files_of f.beneath))))
+      → Does f (restoring way) calls (front_of turn (with_word f.query false) kept)
   -- nothing is done
   ignores : {f : Front} → Does f Ignore [] (Waiting f)
 
--- an event of the session beneath ends the session with `error`, or an allocation failed
-pub data FrontFails : Front → RecordError → Type 0 where
-  refused : {f : Front} {error : RecordError} → error ≡ OutOfMemory → FrontFails f error
-  failed : {f : Front} {error : RecordError} (events : List Event) (last : Live) (event : Event)
-      → Path (turns.Waiting f.beneath) (calls_of events) (turns.Waiting last) → EventFails last event error → FrontFails f error
+-- a call of the session beneath ends the session with `error`, or an allocation failed
+abbrev pub FrontFails : Front → RecordError → Type 0
+FrontFails f error = SessionFails f.beneath error
 
 -- the action that an event of the terminal is
 abbrev pub heard : Front → TerminalEvent → Action
-heard f event = action_of f.query.is_asking (is_free f.beneath) event
+heard f event = action_of (mode_of f) f.kept.keys event
 
--- Events of the terminal lead from a front to a turn, each by its action, and the session beneath handles these events. After the
+-- Events of the terminal lead from a front to a turn, each by its action, and the session beneath handles these calls. After the
 -- first that ends the session or asks for a message, the rest is dropped.
-pub data Hears : Front → List TerminalEvent → List Event → FrontTurn → Type 0 where
+pub data Hears : Front → List TerminalEvent → List Call → FrontTurn → Type 0 where
   no_more : {f : Front} → Hears f [] [] (Waiting f)
-  ends : {f : Front} {event : TerminalEvent} {dropped : List TerminalEvent} {events : List Event} {turn : FrontTurn}
-      → Does f (heard f event) events turn → is_waiting (beneath_of turn) ≡ false → Hears f (event ∷ dropped) events turn
-  goes_on : {f next : Front} {event : TerminalEvent} {later : List TerminalEvent} {events more : List Event} {turn : FrontTurn}
-      → Does f (heard f event) events (Waiting next) → Hears next later more turn → Hears f (event ∷ later) (events ++ more) turn
+  ends : {f : Front} {event : TerminalEvent} {dropped : List TerminalEvent} {calls : List Call} {turn : FrontTurn}
+      → Does f (heard f event) calls turn → is_waiting (beneath_of turn) ≡ false → Hears f (event ∷ dropped) calls turn
+  goes_on : {f next : Front} {event : TerminalEvent} {later : List TerminalEvent} {calls more : List Call} {turn : FrontTurn}
+      → Does f (heard f event) calls (Waiting next) → Hears next later more turn → Hears f (event ∷ later) (calls ++ more) turn
 
 -- bytes lead to a turn: the decoder reads them all, and the events that it finds are heard
 pub record BytesHeard (f : Front) (old new : Decoder) (bytes : List ℕ) (turn : FrontTurn) : Type 0 where
   pub found : List TerminalEvent
   pub adds : Adds old new bytes [] found
-  pub events : List Event
-  pub hears : Hears f found events turn
+  pub calls : List Call
+  pub hears : Hears f found calls turn
 
 -- a silence leads to a turn: the event that it means, if any, is heard
 pub record SilenceHeard (f : Front) (old new : Decoder) (turn : FrontTurn) : Type 0 where
   pub event : Option TerminalEvent
   pub means : SilenceMeans old new event
-  pub events : List Event
-  pub hears : Hears f (option_to_list event) events turn
+  pub calls : List Call
+  pub hears : Hears f (option_to_list event) calls turn
 
 -- ---- sequences
 
 -- an input of a program to a front
 pub data Input : Type 0 where
+  -- `begin`: folds, and a selection to begin with
+  Begins : Input
   -- `hear`, `typed`, `idle`: the layer hears events of a terminal
   Heard : List TerminalEvent → Input
+  -- `handle`, `edit`, `search`, `range`, `mark`, `restore`: the layer does an action
+  Done : Action → Input
   -- `press_all`: hands in events of the session
   Pressed : List Event → Input
+  -- `handle_all`: hands in events of the session as one batch
+  Batched : List Event → Input
   -- `answer`, `keep`: hands in the message that was asked for
   Said : List ℕ → Input
   -- `resize`: continues on another screen
@@ -125,12 +221,21 @@ pub data Input : Type 0 where
 -- makes no difference here.
 pub data FrontPath : FrontTurn → List Input → List Call → FrontTurn → Type 0 where
   at_end : {turn : FrontTurn} → FrontPath turn [] [] turn
-  by_hearing : {f : Front} {heard : List TerminalEvent} {events : List Event} {turn last : FrontTurn} {inputs : List Input} {calls : List Call}
-      → Hears f heard events turn → FrontPath turn inputs calls last
-      → FrontPath (Waiting f) (Heard heard ∷ inputs) (calls_of events ++ calls) last
+  by_beginning : {f : Front} {first : List Call} {turn last : FrontTurn} {inputs : List Input} {calls : List Call}
+      → Path (turns.Waiting f.beneath) first (beneath_of turn) → FrontPath turn inputs calls last
+      → FrontPath (Waiting f) (Begins ∷ inputs) (first ++ calls) last
+  by_hearing : {f : Front} {heard : List TerminalEvent} {first : List Call} {turn last : FrontTurn} {inputs : List Input} {calls : List Call}
+      → Hears f heard first turn → FrontPath turn inputs calls last
+      → FrontPath (Waiting f) (Heard heard ∷ inputs) (first ++ calls) last
+  by_action : {f : Front} {action : Action} {first : List Call} {turn last : FrontTurn} {inputs : List Input} {calls : List Call}
+      → Does f action first turn → FrontPath turn inputs calls last
+      → FrontPath (Waiting f) (Done action ∷ inputs) (first ++ calls) last
   by_presses : {f : Front} {events : List Event} {turn last : FrontTurn} {inputs : List Input} {calls : List Call}
       → (leads : PressesLead f.beneath events (beneath_of turn)) → FrontPath turn inputs calls last
       → FrontPath (Waiting f) (Pressed events ∷ inputs) (calls_of leads.handled ++ calls) last
+  by_batch : {f : Front} {events : List Event} {turn last : FrontTurn} {inputs : List Input} {calls : List Call}
+      → BatchLeads f.beneath events (beneath_of turn) → FrontPath turn inputs calls last
+      → FrontPath (Waiting f) (Batched events ∷ inputs) (PressAll events ∷ calls) last
   by_answer : {editing : FrontEditing} {text : List ℕ} {turn last : FrontTurn} {inputs : List Input} {calls : List Call}
       → MessageLeads editing.beneath text (beneath_of turn) → FrontPath turn inputs calls last
       → FrontPath (Editing editing) (Said text ∷ inputs) (Say text ∷ calls) last

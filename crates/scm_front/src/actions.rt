@@ -1,10 +1,11 @@
 //! The key table of the layer: what it does with each event of a terminal.
 ghost use Rattle.std.specs.Prelude.{◌≡◌};
-ghost use Rattle.scm_front.specs.Actions.{action_of, adding, asking_action, asking_key, first_action, own_key, own_keys};
-ghost use Rattle.scm_front.specs.declared.actions.Action.TheVariants.{Pass};
+ghost use Rattle.scm_input.specs.KeyTable.{same_key, same_modifiers};
+ghost use Rattle.scm_front.specs.Actions.{action_by, action_of, adding, asking_action, asking_key, dialog_key, free_key, last_action, own_action, ranging_action, session_action};
 
 use crate::asking::Typing;
-use scm_record::{Event, KeyCode, KeyEvent, KeyEventKind, KeyModifiers, TerminalEvent, Way};
+use scm_front_items::Way;
+use scm_record::{Event, KeyCode, KeyEvent, KeyEventKind, KeyModifiers, TerminalEvent};
 
 /// No modifier is held.
 const NONE: KeyModifiers = KeyModifiers::NONE;
@@ -26,8 +27,40 @@ pub enum Action {
     Seek,
     /// Searches for the last text again.
     Again(Way),
+    /// Begins a range at the selected line, or ends the range.
+    Range,
+    /// Sets the marks of the lines of the range, and ends it.
+    Mark,
+    /// Undoes the last change of marks.
+    Undo,
+    /// Does again what was undone last.
+    Redo,
     /// Does nothing.
     Ignore,
+}
+
+/// A key of the user's own.
+#[derive(Clone, Copy)]
+pub struct OwnKey {
+    /// The key.
+    pub code: KeyCode,
+    /// The modifiers that are held with it.
+    pub modifiers: KeyModifiers,
+    /// What it does.
+    pub action: Action,
+}
+
+/// Who hears a key.
+#[derive(Clone, Copy, Debug, PartialEq, Eq)]
+pub enum Mode {
+    /// The layer alone: a text is being typed.
+    Asking,
+    /// The session: a dialog is open.
+    Dialog,
+    /// The layer first: a range is begun.
+    Ranging,
+    /// The layer first.
+    Free,
 }
 
 /// Returns the action of pressing a key that may type a character.
@@ -62,47 +95,136 @@ fn asking_key(key: KeyEvent) -> Action
     }
 }
 
+/// Returns whether the two have the same modifiers.
+fn is_same(held: KeyModifiers, modifiers: KeyModifiers) -> bool
+    ensures { result ≡ same_modifiers held modifiers }
+{
+    held == modifiers
+}
+
+/// Returns whether the two keys are equal.
+fn is_same_key(key: KeyCode, code: KeyCode) -> bool
+    ensures { result ≡ same_key key code }
+{
+    code == key
+}
+
+/// Returns the action of `key` if it is `code` with exactly `modifiers`, and else `otherwise`.
+fn action_by(key: OwnKey, modifiers: KeyModifiers, code: KeyCode, otherwise: Action) -> Action
+    ensures { result ≡ action_by key modifiers code otherwise }
+{
+    let is_held = is_same(key.modifiers, modifiers);
+    let is_code = is_same_key(key.code, code);
+    if is_held & is_code {
+        key.action
+    } else {
+        otherwise
+    }
+}
+
+/// Returns the action of the last of `keys` that is `code` with exactly `modifiers`, or `otherwise` if
+/// there is none.
+fn last_action(keys: &[OwnKey], modifiers: KeyModifiers, code: KeyCode, otherwise: Action) -> Action
+    ensures { result ≡ last_action keys.now modifiers code otherwise }
+{
+    let mut action = otherwise;
+    for key in keys {
+        action = action_by(*key, modifiers, code, action);
+    }
+    action
+}
+
 /// Returns the action of pressing the key `code` with exactly `modifiers`: `pass` if the layer has no
 /// such key.
 fn own_action(modifiers: KeyModifiers, code: KeyCode, pass: Action) -> Action
-    ensures { result ≡ first_action own_keys modifiers code pass }
+    ensures { result ≡ own_action modifiers code pass }
 {
     match (modifiers, code) {
         (NONE, KeyCode::Char('/')) => Action::Edit(Typing::Ask),
         (NONE, KeyCode::Char('n')) => Action::Again(Way::Down),
         (SHIFT, KeyCode::Char('N')) => Action::Again(Way::Up),
+        (NONE, KeyCode::Char('v')) => Action::Range,
+        (NONE, KeyCode::Char('u')) => Action::Undo,
+        (CONTROL, KeyCode::Char('r')) => Action::Redo,
         _ => pass,
     }
 }
 
-/// Returns the action of a key that the session may hear too: `pass` if the layer has no such key.
-fn own_key(key: KeyEvent, pass: Action) -> Action
-    ensures { result ≡ own_key key.kind key.modifiers key.code pass }
+/// Returns the action of pressing the key `code` with exactly `modifiers` while a range is begun.
+fn ranging_action(modifiers: KeyModifiers, code: KeyCode, pass: Action) -> Action
+    ensures { result ≡ ranging_action modifiers code pass }
+{
+    match (modifiers, code) {
+        (NONE, KeyCode::Char(' ')) => Action::Mark,
+        (NONE, KeyCode::Esc) => Action::Range,
+        _ => own_action(modifiers, code, pass),
+    }
+}
+
+/// Returns the action of a key that the layer hears first: of the user's own `keys`, then of the layer's,
+/// and else `pass`.
+fn free_key(is_ranging: bool, keys: &[OwnKey], key: KeyEvent, pass: Action) -> Action
+    ensures { result ≡ free_key is_ranging keys.now key pass }
 {
     match key.kind {
-        KeyEventKind::Press => own_action(key.modifiers, key.code, pass),
+        KeyEventKind::Press => {
+            let built_in = if is_ranging {
+                ranging_action(key.modifiers, key.code, pass)
+            } else {
+                own_action(key.modifiers, key.code, pass)
+            };
+            last_action(keys, key.modifiers, key.code, built_in)
+        }
+        KeyEventKind::Repeat | KeyEventKind::Release => pass,
+    }
+}
+
+/// Returns `action` if it is an event of the session, and else `pass`.
+fn session_action(action: Action, pass: Action) -> Action
+    ensures { result ≡ session_action action pass }
+{
+    match action {
+        Action::Pass(event) => Action::Pass(event),
+        Action::Edit(_)
+        | Action::Seek
+        | Action::Again(_)
+        | Action::Range
+        | Action::Mark
+        | Action::Undo
+        | Action::Redo
+        | Action::Ignore => pass,
+    }
+}
+
+/// Returns the action of a key while a dialog is open: of the user's own `keys`, if that is an event of
+/// the session, and else `pass`.
+fn dialog_key(keys: &[OwnKey], key: KeyEvent, pass: Action) -> Action
+    ensures { result ≡ dialog_key keys.now key pass }
+{
+    match key.kind {
+        KeyEventKind::Press => {
+            session_action(last_action(keys, key.modifiers, key.code, pass), pass)
+        }
         KeyEventKind::Repeat | KeyEventKind::Release => pass,
     }
 }
 
 /// Returns what the layer does with `event`.
 ///
-/// `is_asking` says that a text is asked for: then the session hears no key. `is_free` says that no
-/// dialog is open: otherwise the layer has no keys of its own. The session hears the mouse always.
-pub fn action_of(is_asking: bool, is_free: bool, event: TerminalEvent) -> Action
-    ensures { result ≡ action_of is_asking is_free event }
+/// While a text is asked for, the session hears no key. While a dialog is open, the layer has no keys of
+/// its own, and of the user's `keys` those alone that are events of the session. The session hears the
+/// mouse always. Of two keys of `keys` that are equal the last one counts.
+pub fn action_of(mode: Mode, keys: &[OwnKey], event: TerminalEvent) -> Action
+    ensures { result ≡ action_of mode keys.now event }
 {
     let pass = Action::Pass(Event::from(event));
     match event {
-        TerminalEvent::Key(key) => {
-            if is_asking {
-                asking_key(key)
-            } else if is_free {
-                own_key(key, pass)
-            } else {
-                pass
-            }
-        }
+        TerminalEvent::Key(key) => match mode {
+            Mode::Asking => asking_key(key),
+            Mode::Dialog => dialog_key(keys, key, pass),
+            Mode::Ranging => free_key(true, keys, key, pass),
+            Mode::Free => free_key(false, keys, key, pass),
+        },
         TerminalEvent::Mouse(_) | TerminalEvent::Other => pass,
     }
 }

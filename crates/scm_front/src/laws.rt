@@ -18,12 +18,11 @@ ghost use Rattle.scm_record.specs.Keeping.{IsKept};
 ghost use Rattle.scm_record.specs.LiveCalls.{AreRuns, Call, Path};
 ghost use Rattle.scm_record.specs.declared.live.Turn.TheVariants.{Waiting, Accepted};
 ghost use Rattle.scm_front.specs.Presses.{PressesLead};
-ghost use Rattle.scm_front.specs.Fronts.{FrontPath, Input, beneath_of};
-ghost use Rattle.std.specs.List.{flat_map};
-ghost use Rattle.scm_terminal.specs.Terminal.{Terminal, bytes_of};
-ghost use Rattle.scm_record.specs.Frames.{columns_of};
-ghost use Rattle.scm_front.specs.declared.layer.Front.{Front};
-ghost use Rattle.scm_front.specs.Below.{AreWhole, Before, LeadsToBoth, PaintsBoth, Pictures, StayApart, commands_of, front_pictures, rows_shown};
+ghost use Rattle.scm_types.specs.declared.keys.SelectionKey.{SelectionKey};
+ghost use Rattle.scm_front_items.specs.Targets.{after_deeds};
+ghost use Rattle.scm_front.specs.Deeds.{RoundLeads};
+ghost use Rattle.scm_front.specs.Free.{IsFree};
+ghost use Rattle.scm_front.specs.Fronts.{FrontPath, Input, beneath_of, files_of, range_deeds, selection_of};
 ghost use Rattle.scm_front.specs.declared.layer.FrontTurn.{FrontTurn};
 
 use scm_record::live::sessions_are_runs;
@@ -55,28 +54,16 @@ pub fn fronts_are_runs()
     sessions_are_runs();
 }
 
-/// Proves that the session's rows and the status row below them are painted apart.
+/// Proves what a range marks.
 ///
-/// A model terminal has as many columns as the session's screen, and one row more. If nothing is known of
-/// it, or if it shows what a [`FrontPainter`](crate::FrontPainter) painted last, then after the bytes of
-/// the next paint its first rows show the session, and its last row the status row. If the size is that of
-/// the last paint, the status row's commands stay on its row, and the session's commands above it.
+/// While the session hears the layer's keys, its files after a range are those before it with each line
+/// toggled, in order, whose mark is not as it is to be. So all rules of a toggle are true of a range.
 ///
 /// This is a law: the function does nothing, and is there for its contract.
-pub fn status_rows_stand_below()
-    ensures shows { (width height : ℕ) (known new : Pictures) (bytes : List ℕ) (t : Terminal)
-        (p : PaintsBoth width known new bytes) → AreWhole width height new
-        → Before width height known t → LeadsToBoth width height (commands_of p) t new }
-    // the bytes are those of the commands
-    ensures written { (width : ℕ) (known new : Pictures) (bytes : List ℕ)
-        (p : PaintsBoth width known new bytes) → bytes ≡ flat_map bytes_of (commands_of p) }
-    // the row below the session is the status row, and those above it are blank
-    ensures whole { (f : Front) (accept : List ℕ) → AreWhole (columns_of f.beneath.kind)
-        (rows_shown f.beneath) (front_pictures f accept) }
-    // once both are shown, each stays on its rows
-    ensures apart { (width height : ℕ) (known new : Pictures) (bytes : List ℕ)
-        (p : PaintsBoth width known new bytes) → AreWhole width height known
-        → AreWhole width height new → StayApart height p }
+pub fn ranges_are_toggles()
+    ensures { (l last : Live) (anchor : SelectionKey) (calls : List Call) → IsFree l
+        → RoundLeads l (range_deeds l anchor) (selection_of l) calls (Waiting last)
+        → files_of last ≡ after_deeds (files_of l) (range_deeds l anchor) }
 {}
 
 /// Proves which session an event leads to.

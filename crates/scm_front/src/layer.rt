@@ -1,26 +1,43 @@
 //! A layer over a live session.
-ghost use Rattle.std.specs.Prelude.{◌≡◌, ◌+◌, ◌≤◌, [], ◌∷◌, List, Some, IfErr, IfOk, IsTrue, OnErr, OnOk, string_bytes};
+ghost use Rattle.std.specs.Prelude.{◌≡◌, ◌+◌, ◌≤◌, [], ◌∷◌, ◌++◌, Bool, List, Some, IfErr, IfNone, IfOk, IsTrue, OnErr, OnOk, option_to_list, string_bytes, if◌then◌else◌};
 ghost use Rattle.scm_errors.specs.declared.error.RecordError.TheVariants.{OutOfMemory};
 ghost use Rattle.scm_types.specs.Limits.{is_accepted_state};
-ghost use Rattle.scm_input.specs.declared.events.Event.{Event as Happening};
+ghost use Rattle.scm_types.specs.Keys.{is_key};
+ghost use Rattle.scm_selection.specs.KeyLists.{is_line};
 ghost use Rattle.scm_record.specs.Session.{message_text, start};
-ghost use Rattle.scm_record.specs.declared.pages.Way.{Way as Direction};
+ghost use Rattle.scm_record.specs.Batches.{is_batch};
 ghost use Rattle.scm_record.specs.Live.{on_screen};
-ghost use Rattle.scm_record.specs.LiveCalls.{EventFails, MessageFails, MessageLeads};
-ghost use Rattle.scm_front.specs.declared.actions.Action.TheVariants.{Again, Edit, Pass, Seek};
+ghost use Rattle.scm_record.specs.LiveCalls.{BatchFails, BatchLeads, Call, EventFails, MessageFails, MessageLeads, Path, Press};
+ghost use Rattle.scm_record.specs.declared.live.Turn.TheVariants.{Waiting};
+ghost use Rattle.scm_front_items.specs.declared.items.Way.{Way as Direction};
+ghost use Rattle.scm_front.specs.declared.kept.Notice.TheVariants.{NotRestored};
+ghost use Rattle.scm_front.specs.declared.actions.Action.TheVariants.{Again, Edit, Mark, Pass, Range, Seek};
 ghost use Rattle.scm_front.specs.Asking.{new_query};
 ghost use Rattle.scm_front.specs.Sideways.{sideways_click};
+ghost use Rattle.scm_front.specs.Driving.{turn_of};
+ghost use Rattle.scm_front.specs.Keeping.{IsNew, KeepsAs, after_range, anchored, done_word, is_none, nothing_left, saying, steps_of};
 ghost use Rattle.scm_front.specs.Presses.{PressesFail, PressesLead};
-ghost use Rattle.scm_front.specs.Fronts.{Does, FrontFails, beneath_of, front, front_of, found, heard, is_free};
+ghost use Rattle.scm_front.specs.Failing.{SessionFails};
+ghost use Rattle.scm_front.specs.Restoring.{RestoresTo};
+ghost use Rattle.scm_front_items.specs.Runs.{marks_of_files, marks_with};
+ghost use Rattle.scm_front.specs.Fronts.{Does, FrontFails, beneath_of, files_of, front, front_of, found, heard, is_elsewhere, mode_of, notice_of, restoring};
 
-use crate::actions::{Action, action_of};
+use crate::actions::{Action, Mode, OwnKey, action_of};
 use crate::asking::{Query, Typing, after_typing, new_query, with_word};
-use crate::items::item_towards;
-use crate::jump::{is_elsewhere, jump_towards};
+use crate::begun::{Begun, BegunEdit, BegunTurn};
+use crate::deeds::do_round;
+use crate::kept::{Kept, Notice};
+use crate::marking::{
+    Restoring, is_restored, range_deeds, restore, runs_of_range, selection_of, what_to_restore,
+};
 use crate::presses::press_each;
+use crate::recording::{history_after, runs_before, runs_before_all};
+use crate::starting::{Folds, fold_at_start, select_first};
+use scm_front_items::{History, Run, Step, Way, item_towards};
+use scm_record::keys::is_key;
 use scm_record::{
-    Editing, Event, LiveSession, RecordError, RecordState, SelectionKey, TerminalEvent,
-    TerminalKind, Turn, Way,
+    Editing, Event, Items, LiveSession, RecordError, RecordState, SelectionKey, TerminalEvent,
+    TerminalKind,
 };
 use std::alloc::Global;
 
@@ -28,18 +45,22 @@ use std::alloc::Global;
 #[derive(Drop)]
 pub struct Front<'state> {
     /// The session beneath.
-    beneath: LiveSession<'state>,
+    beneath: Begun<'state>,
     /// The text that is searched for.
     query: Query,
+    /// What else the layer keeps.
+    kept: Kept,
 }
 
 /// A live session that waits for the message of a commit, with what the layer keeps.
 #[derive(Drop)]
 pub struct FrontEditing<'state> {
     /// The session beneath.
-    beneath: Editing<'state>,
+    beneath: BegunEdit<'state>,
     /// The text that is searched for.
     query: Query,
+    /// What else the layer keeps.
+    kept: Kept,
 }
 
 /// What a call of a front leads to.
@@ -54,14 +75,232 @@ pub enum FrontTurn<'state> {
 }
 
 /// Returns `turn` of the session beneath with what the layer keeps.
-fn with_query<'state>(turn: Turn<'state>, query: Query) -> FrontTurn<'state>
-    ensures value { result ≡ front_of turn.entry query }
-    ensures beneath { beneath_of result ≡ turn.entry }
+fn front_turn<'state>(turn: BegunTurn<'state>, query: Query, kept: Kept) -> FrontTurn<'state>
+    ensures value { result ≡ front_of (turn_of turn.entry) query kept }
+    ensures beneath { beneath_of result ≡ turn_of turn.entry }
 {
     match turn {
-        Turn::Waiting(beneath) => FrontTurn::Waiting(Front { beneath, query }),
-        Turn::Editing(beneath) => FrontTurn::Editing(FrontEditing { beneath, query }),
-        Turn::Accepted(state) => FrontTurn::Accepted(state),
+        BegunTurn::Waiting(beneath) => FrontTurn::Waiting(Front {
+            beneath,
+            query,
+            kept,
+        }),
+        BegunTurn::Editing(beneath) => FrontTurn::Editing(FrontEditing {
+            beneath,
+            query,
+            kept,
+        }),
+        BegunTurn::Accepted(state) => FrontTurn::Accepted(state),
+    }
+}
+
+/// Returns what the layer keeps at first: no range, no keys and no history.
+fn new_kept(alloc: Global) -> Kept
+    ensures { IsNew result }
+{
+    Kept {
+        anchor: SelectionKey::None,
+        word: Notice::Nothing,
+        keys: Items::new(alloc),
+        history: History::new(alloc),
+        alloc,
+    }
+}
+
+/// Returns `kept` with `word` as what the layer says.
+fn saying(kept: Kept, word: Notice) -> Kept
+    ensures { result ≡ saying kept word }
+{
+    let mut kept = kept;
+    kept.word = word;
+    kept
+}
+
+/// Returns `kept` with a range begun at `anchor`, or without one.
+fn anchored(kept: Kept, anchor: SelectionKey) -> Kept
+    ensures { result ≡ anchored kept anchor }
+{
+    let mut kept = kept;
+    kept.anchor = anchor;
+    kept
+}
+
+/// Returns `kept` after an action that led to `turn`, if the marks `before` it are these.
+fn recorded(kept: Kept, before: Option<Items<Run>>, turn: &BegunTurn<'_>) -> Kept
+    ensures { KeepsAs kept kept.anchor kept.word result }
+{
+    let Kept {
+        anchor,
+        word,
+        keys,
+        history,
+        alloc,
+    } = kept;
+    let history = history_after(history, alloc, before, turn);
+    Kept {
+        anchor,
+        word,
+        keys,
+        history,
+        alloc,
+    }
+}
+
+/// Returns whether another item than `key` is selected.
+fn is_elsewhere(key: SelectionKey, session: &Begun<'_>) -> bool
+    ensures { result ≡ is_elsewhere key session.now }
+{
+    !is_key(session.live().view_state().selection, key)
+}
+
+/// Returns whether `key` is that of a line.
+fn is_line(key: SelectionKey) -> bool
+    ensures { result ≡ is_line key }
+{
+    match key {
+        SelectionKey::Line(_) => true,
+        SelectionKey::None | SelectionKey::File(_) | SelectionKey::Section(_) => false,
+    }
+}
+
+/// Returns whether `key` names nothing.
+fn is_none(key: SelectionKey) -> bool
+    ensures { result ≡ is_none key }
+{
+    match key {
+        SelectionKey::None => true,
+        SelectionKey::File(_) | SelectionKey::Section(_) | SelectionKey::Line(_) => false,
+    }
+}
+
+/// Returns `kept` after a range was begun at `selection` or ended.
+fn after_range(kept: Kept, selection: SelectionKey) -> Kept
+    ensures { result ≡ after_range kept selection }
+{
+    if is_none(kept.anchor) {
+        if is_line(selection) {
+            saying(anchored(kept, selection), Notice::Nothing)
+        } else {
+            saying(kept, Notice::NoLine)
+        }
+    } else {
+        saying(anchored(kept, SelectionKey::None), Notice::Nothing)
+    }
+}
+
+/// Takes the step to restore from the history of `kept`: upwards the last change, downwards what was undone
+/// last.
+fn take_step(kept: &mut Kept, way: Way) -> Option<Step>
+    ensures step { steps_of way kept.old.history
+        ≡ steps_of way kept.new.history ++ option_to_list result }
+    ensures none { IfNone result (steps_of way kept.old.history ≡ []) }
+    ensures kept { KeepsAs kept.old kept.old.anchor kept.old.word kept.new }
+{
+    match way {
+        Way::Up => kept.history.take_undo(),
+        Way::Down => kept.history.take_redo(),
+    }
+}
+
+/// Returns `kept` with `back` to go back from a restoring in direction `way`, and with the word that it is
+/// done.
+fn with_back(kept: Kept, way: Way, back: Step) -> Kept
+    ensures { KeepsAs kept kept.anchor (done_word way) result }
+{
+    let mut kept = kept;
+    match way {
+        Way::Up => {
+            kept.history.keep_redo(kept.alloc, back);
+            saying(kept, Notice::Undone)
+        }
+        Way::Down => {
+            kept.history.keep_undo(kept.alloc, back);
+            saying(kept, Notice::Redone)
+        }
+    }
+}
+
+/// Returns `kept` without steps, and with the word that marks are not restored.
+fn without_steps(kept: Kept) -> Kept
+    ensures { KeepsAs kept kept.anchor NotRestored result }
+{
+    let mut kept = kept;
+    kept.history.forget(kept.alloc);
+    saying(kept, Notice::NotRestored)
+}
+
+/// Returns `kept` after marks were to be restored: if they are, with `back` to go back.
+fn after_restoring(kept: Kept, way: Way, is_restored: bool, back: Step) -> Kept
+    ensures { KeepsAs kept kept.anchor
+        (if is_restored then done_word way else NotRestored) result }
+{
+    if is_restored {
+        with_back(kept, way, back)
+    } else {
+        without_steps(kept)
+    }
+}
+
+/// Restores marks in direction `way`, as `what` says.
+fn restored<'state>(
+    beneath: Begun<'state>,
+    query: Query,
+    kept: Kept,
+    way: Way,
+    what: Restoring,
+) -> Result<FrontTurn<'state>, RecordError>
+    ensures ok { IfOk result (λ turn.
+        RestoresTo beneath.entry query kept way what.wanted turn) }
+    ensures err { IfErr result (λ e. SessionFails beneath.entry e) }
+{
+    let Restoring { wanted, back } = what;
+    let turn = restore(kept.alloc, beneath, &wanted)?;
+    let is_done = is_restored(&turn, &wanted);
+    let kept = after_restoring(kept, way, is_done, back);
+    Ok(front_turn(turn, query, kept))
+}
+
+/// Restores no marks, since an allocation failed, and drops all steps.
+fn given_up<'state>(
+    beneath: Begun<'state>,
+    query: Query,
+    kept: Kept,
+) -> Result<FrontTurn<'state>, RecordError>
+    ensures ok { (way : Direction) → (wanted : List (List (List Bool))) → IfOk result (λ turn.
+        RestoresTo beneath.entry query kept way wanted turn) }
+    ensures err { IfErr result (λ e. SessionFails beneath.entry e) }
+{
+    let kept = without_steps(kept);
+    let back = selection_of(&beneath);
+    let turn = do_round(beneath, &[], back)?;
+    Ok(front_turn(turn, query, kept))
+}
+
+/// Restores the marks of `step` in direction `way`.
+fn restore_step<'state>(
+    beneath: Begun<'state>,
+    query: Query,
+    kept: Kept,
+    way: Way,
+    step: Step,
+) -> Result<FrontTurn<'state>, RecordError>
+    ensures ok { IfOk result (λ turn. RestoresTo beneath.entry query kept way
+        (marks_with step (marks_of_files (files_of beneath.entry))) turn) }
+    ensures err { IfErr result (λ e. SessionFails beneath.entry e) }
+{
+    match what_to_restore(kept.alloc, &beneath, &step) {
+        Ok(what) => restored(beneath, query, kept, way, what),
+        Err(_) => given_up(beneath, query, kept),
+    }
+}
+
+/// Returns the word that says that nothing is left to restore in direction `way`.
+fn nothing_left(way: Way) -> Notice
+    ensures { result ≡ nothing_left way }
+{
+    match way {
+        Way::Up => Notice::NothingToUndo,
+        Way::Down => Notice::NothingToRedo,
     }
 }
 
@@ -77,13 +316,51 @@ impl<'state> Front<'state> {
         state: RecordState<'state>,
     ) -> Result<Front<'state>, RecordError>
         requires { IsTrue (is_accepted_state state) }
-        ensures ok { IfOk result (λ f.
-            f ≡ front (record { session = start state.entry; kind = kind }) new_query) }
+        ensures beneath { IfOk result (λ f.
+            f.beneath ≡ record { session = start state.entry; kind = kind }) }
+        ensures query { IfOk result (λ f. f.query ≡ new_query) }
+        ensures kept { IfOk result (λ f. IsNew f.kept) }
         ensures err { IfErr result (λ e. e ≡ OutOfMemory) }
     {
-        let beneath = LiveSession::new(alloc, kind, state)?;
+        let beneath = Begun::new(alloc, kind, state)?;
         let query = new_query(alloc);
-        Ok(Front { beneath, query })
+        let kept = new_kept(alloc);
+        Ok(Front {
+            beneath,
+            query,
+            kept,
+        })
+    }
+
+    /// Unfolds what `folds` says, and selects `first`. If there is no such item, the selection stays.
+    ///
+    /// # Errors
+    ///
+    /// An error ends the session.
+    ///
+    /// - `OutOfMemory`: an allocation failed.
+    pub fn begin(self, folds: Folds, first: SelectionKey) -> Result<FrontTurn<'state>, RecordError>
+        ensures ok { IfOk result (λ turn. (calls : List Call)
+            × Path (Waiting self.entry.beneath) calls (beneath_of turn)) }
+        ensures err { IfErr result (λ e. FrontFails self.entry e) }
+    {
+        let Front {
+            beneath,
+            query,
+            kept,
+        } = self;
+        let folded = fold_at_start(kept.alloc, beneath, folds)?;
+        let turn = select_first(folded, first)?;
+        Ok(front_turn(turn, query, kept))
+    }
+
+    /// Sets the keys of the user's own, which come before those of the layer and of the session. Of two keys
+    /// that are equal the last one counts.
+    pub fn set_keys(&mut self, keys: Items<OwnKey>)
+        ensures { self.new
+            ≡ record self.old { kept = record self.old.kept { keys = keys } } }
+    {
+        self.kept.keys = keys;
     }
 
     /// Hands `event` to the session beneath.
@@ -92,12 +369,40 @@ impl<'state> Front<'state> {
     ///
     /// An error ends the session: the errors are those of [`LiveSession::handle`].
     pub fn handle(self, event: Event) -> Result<FrontTurn<'state>, RecordError>
-        ensures ok { IfOk result (λ turn. Does self.entry (Pass event) (event ∷ []) turn) }
+        ensures ok { IfOk result (λ turn. Does self.entry (Pass event) (Press event ∷ []) turn) }
         ensures err { IfErr result (λ e. EventFails self.entry.beneath event e) }
     {
-        let Front { beneath, query } = self;
+        let Front {
+            beneath,
+            query,
+            kept,
+        } = self;
+        let before = runs_before(kept.alloc, &beneath, event);
         let turn = beneath.handle(event)?;
-        Ok(with_query(turn, with_word(query, false)))
+        let kept = saying(recorded(kept, before, &turn), Notice::Nothing);
+        Ok(front_turn(turn, with_word(query, false), kept))
+    }
+
+    /// Hands `events` to the session beneath as one batch, as [`LiveSession::handle_all`] does.
+    ///
+    /// # Errors
+    ///
+    /// An error ends the session: the errors are those of [`LiveSession::handle_all`].
+    pub fn handle_all(self, events: &[Event]) -> Result<FrontTurn<'state>, RecordError>
+        requires { IsTrue (is_batch self.beneath.session events.now) }
+        ensures ok { IfOk result (λ turn.
+            BatchLeads self.entry.beneath events.now (beneath_of turn)) }
+        ensures err { IfErr result (λ e. BatchFails self.entry.beneath events.now e) }
+    {
+        let Front {
+            beneath,
+            query,
+            kept,
+        } = self;
+        let before = runs_before_all(kept.alloc, &beneath, events);
+        let turn = beneath.handle_all(events)?;
+        let kept = saying(recorded(kept, before, &turn), Notice::Nothing);
+        Ok(front_turn(turn, with_word(query, false), kept))
     }
 
     /// Hands `events` to the session beneath in order, up to the first that ends the session or asks
@@ -109,13 +414,17 @@ impl<'state> Front<'state> {
     pub fn press_all(self, events: &[Event]) -> Result<FrontTurn<'state>, RecordError>
         ensures ok { IfOk result (λ turn.
             PressesLead self.entry.beneath events.now (beneath_of turn)) }
-        ensures query { IfOk result (λ turn.
-            turn ≡ front_of (beneath_of turn) self.entry.query) }
         ensures err { IfErr result (λ e. PressesFail self.entry.beneath events.now e) }
     {
-        let Front { beneath, query } = self;
+        let Front {
+            beneath,
+            query,
+            kept,
+        } = self;
+        let before = runs_before_all(kept.alloc, &beneath, events);
         let turn = press_each(beneath, events)?;
-        Ok(with_query(turn, query))
+        let kept = recorded(kept, before, &turn);
+        Ok(front_turn(turn, query, kept))
     }
 
     /// Handles a click at `row` and `column` of a terminal that shows the session's columns from `x`
@@ -132,7 +441,7 @@ impl<'state> Front<'state> {
     ) -> Result<FrontTurn<'state>, RecordError>
         requires narrow { x + column ≤ 65535 }
         ensures ok { IfOk result (λ turn. Does self.entry (Pass (sideways_click x row column))
-            (sideways_click x row column ∷ []) turn) }
+            (Press (sideways_click x row column) ∷ []) turn) }
         ensures err { IfErr result (λ e.
             EventFails self.entry.beneath (sideways_click x row column) e) }
     {
@@ -153,16 +462,24 @@ impl<'state> Front<'state> {
         ensures ok { IfOk result (λ turn. Does self.entry (Edit typing) [] turn) }
         ensures err { IfErr result (λ e. e ≡ OutOfMemory) }
     {
-        let Front { beneath, query } = self;
+        let Front {
+            beneath,
+            query,
+            kept,
+        } = self;
         let query = after_typing(query, typing)?;
-        Ok(FrontTurn::Waiting(Front { beneath, query }))
+        Ok(FrontTurn::Waiting(Front {
+            beneath,
+            query,
+            kept: saying(kept, Notice::Nothing),
+        }))
     }
 
     /// Returns the nearest item in direction `way` whose text has the text that was searched for last.
     fn found(&self, way: Way) -> Option<SelectionKey>
         ensures { result ≡ found way self.now }
     {
-        let view = self.beneath.view_state();
+        let view = self.beneath().view_state();
         item_towards(
             way,
             self.query.sought.as_str(),
@@ -171,35 +488,52 @@ impl<'state> Front<'state> {
         )
     }
 
-    /// Moves the selection towards `key`, and says whether it got there.
+    /// Selects `key`, and says whether it is selected then.
     fn jump(self, key: SelectionKey) -> Result<FrontTurn<'state>, RecordError>
         ensures ok { (way : Direction) → found way self.entry ≡ Some key → IfOk result
-            (λ turn. (events : List Happening) × Does self.entry (Again way) events turn) }
-        ensures err { IfErr result (λ e. FrontFails self.entry e) }
+            (λ turn. (calls : List Call) × Does self.entry (Again way) calls turn) }
+        ensures err { IfErr result (λ e. e ≡ OutOfMemory) }
     {
-        let Front { beneath, query } = self;
-        let limit = beneath.state().size().saturating_add(8);
-        let turn = jump_towards(beneath, key, limit)?;
-        let is_missing = is_elsewhere(key, &turn);
-        Ok(with_query(turn, with_word(query, is_missing)))
+        let Front {
+            beneath,
+            query,
+            kept,
+        } = self;
+        let beneath = beneath.select(key)?;
+        let is_missing = is_elsewhere(key, &beneath);
+        Ok(FrontTurn::Waiting(Front {
+            beneath,
+            query: with_word(query, is_missing),
+            kept: saying(kept, Notice::Nothing),
+        }))
     }
 
-    /// Searches in direction `way` for the text that was searched for last. If an item is found, moves
-    /// the selection there. If not, the session beneath is unchanged.
+    /// Searches in direction `way` for the text that was searched for last. If an item is found, selects
+    /// it. If not, the session beneath is unchanged.
     ///
     /// # Errors
     ///
-    /// An error ends the session: it is that of the first move that fails.
+    /// An error ends the session.
+    ///
+    /// - `OutOfMemory`: an allocation failed.
     pub fn search(self, way: Way) -> Result<FrontTurn<'state>, RecordError>
         ensures ok { IfOk result (λ turn.
-            (events : List Happening) × Does self.entry (Again way) events turn) }
-        ensures err { IfErr result (λ e. FrontFails self.entry e) }
+            (calls : List Call) × Does self.entry (Again way) calls turn) }
+        ensures err { IfErr result (λ e. e ≡ OutOfMemory) }
     {
         match self.found(way) {
             None => {
-                let Front { beneath, query } = self;
+                let Front {
+                    beneath,
+                    query,
+                    kept,
+                } = self;
                 let query = with_word(query, true);
-                Ok(FrontTurn::Waiting(Front { beneath, query }))
+                Ok(FrontTurn::Waiting(Front {
+                    beneath,
+                    query,
+                    kept,
+                }))
             }
             Some(key) => self.jump(key),
         }
@@ -212,40 +546,134 @@ impl<'state> Front<'state> {
     /// An error ends the session: the errors are those of [`Front::search`].
     pub fn seek(self) -> Result<FrontTurn<'state>, RecordError>
         ensures ok { IfOk result (λ turn.
-            (events : List Happening) × Does self.entry Seek events turn) }
-        ensures err { IfErr result (λ e. FrontFails self.entry e) }
+            (calls : List Call) × Does self.entry Seek calls turn) }
+        ensures err { IfErr result (λ e. e ≡ OutOfMemory) }
     {
-        let Front { beneath, query } = self;
+        let Front {
+            beneath,
+            query,
+            kept,
+        } = self;
         let query = after_typing(query, Typing::Finish)?;
-        let asked = Front { beneath, query };
+        let asked = Front {
+            beneath,
+            query,
+            kept,
+        };
         asked.search(Way::Down)
     }
 
-    /// Returns whether no dialog is open.
-    fn is_free(&self) -> bool
-        ensures { result ≡ is_free self.now.beneath }
+    /// Begins a range at the selected line, or ends the range if one is begun. The session beneath is
+    /// unchanged.
+    pub fn range(self) -> Front<'state>
+        ensures { Does self.entry Range [] (FrontTurn.Waiting result) }
     {
-        let view = self.beneath.view_state();
-        !view.quit_dialog.is_some() && !view.is_help_open
+        let Front {
+            beneath,
+            query,
+            kept,
+        } = self;
+        let selection = selection_of(&beneath);
+        let kept = after_range(kept, selection);
+        Front {
+            beneath,
+            query: with_word(query, false),
+            kept,
+        }
+    }
+
+    /// Sets all lines from that at which a range was begun to the selection to the mark that the first of
+    /// them gets by a toggle, and ends the range.
+    ///
+    /// # Errors
+    ///
+    /// An error ends the session: it is that of the first event that fails.
+    pub fn mark(self) -> Result<FrontTurn<'state>, RecordError>
+        ensures ok { IfOk result (λ turn.
+            (calls : List Call) × Does self.entry Mark calls turn) }
+        ensures err { IfErr result (λ e. FrontFails self.entry e) }
+    {
+        let Front {
+            beneath,
+            query,
+            kept,
+        } = self;
+        let anchor = kept.anchor;
+        let before = runs_of_range(kept.alloc, &beneath, anchor);
+        let deeds = range_deeds(kept.alloc, &beneath, anchor)?;
+        let back = selection_of(&beneath);
+        let turn = do_round(beneath, deeds.as_slice(), back)?;
+        let kept = anchored(recorded(kept, before, &turn), SelectionKey::None);
+        Ok(front_turn(turn, with_word(query, false), saying(kept, Notice::Nothing)))
+    }
+
+    /// Undoes the last change of marks (`Way::Up`), or does again what was undone last (`Way::Down`). Folds
+    /// stay.
+    ///
+    /// # Errors
+    ///
+    /// An error ends the session: it is that of the first event that fails.
+    pub fn restore(self, way: Way) -> Result<FrontTurn<'state>, RecordError>
+        ensures ok { IfOk result (λ turn.
+            (calls : List Call) × Does self.entry (restoring way) calls turn) }
+        ensures err { IfErr result (λ e. FrontFails self.entry e) }
+    {
+        let Front {
+            beneath,
+            query,
+            kept,
+        } = self;
+        let mut kept = anchored(kept, SelectionKey::None);
+        let query = with_word(query, false);
+        match take_step(&mut kept, way) {
+            None => {
+                let kept = saying(kept, nothing_left(way));
+                Ok(FrontTurn::Waiting(Front {
+                    beneath,
+                    query,
+                    kept,
+                }))
+            }
+            Some(step) => restore_step(beneath, query, kept, way, step),
+        }
+    }
+
+    /// Returns who hears a key.
+    pub fn mode(&self) -> Mode
+        ensures { result ≡ mode_of self.now }
+    {
+        let view = self.beneath().view_state();
+        if self.query.is_asking {
+            Mode::Asking
+        } else if view.quit_dialog.is_some() || view.is_help_open {
+            Mode::Dialog
+        } else if is_none(self.kept.anchor) {
+            Mode::Free
+        } else {
+            Mode::Ranging
+        }
     }
 
     /// Hears `event` of the terminal.
     ///
     /// # Errors
     ///
-    /// An error ends the session: the errors are those of [`Front::handle`], [`Front::edit`] and
-    /// [`Front::search`].
+    /// An error ends the session: the errors are those of the calls that the keys make.
     pub fn hear(self, event: TerminalEvent) -> Result<FrontTurn<'state>, RecordError>
-        ensures ok { IfOk result (λ turn. (events : List Happening)
-            × Does self.entry (heard self.entry event) events turn) }
+        ensures ok { IfOk result (λ turn.
+            (calls : List Call) × Does self.entry (heard self.entry event) calls turn) }
         ensures err { IfErr result (λ e. FrontFails self.entry e) }
     {
-        let action = action_of(self.query.is_asking, self.is_free(), event);
+        let action = action_of(self.mode(), self.kept.keys.as_slice(), event);
         match action {
             Action::Pass(event) => self.handle(event),
             Action::Edit(typing) => self.edit(typing),
             Action::Seek => self.seek(),
             Action::Again(way) => self.search(way),
+            Action::Range => Ok(FrontTurn::Waiting(self.range())),
+            Action::Mark => self.mark(),
+            Action::Undo => self.restore(Way::Up),
+            Action::Redo => self.restore(Way::Down),
             Action::Ignore => Ok(FrontTurn::Waiting(self)),
         }
     }
@@ -259,6 +687,7 @@ impl<'state> Front<'state> {
         ensures ok { OnOk result (self.new.beneath ≡ on_screen self.old.beneath kind) }
         ensures unchanged { OnErr result (self.new.beneath ≡ self.old.beneath) }
         ensures query { self.new.query ≡ self.old.query }
+        ensures kept { self.new.kept ≡ self.old.kept }
         ensures err { IfErr result (λ e. e ≡ OutOfMemory) }
     {
         self.beneath.resize(kind)
@@ -268,7 +697,7 @@ impl<'state> Front<'state> {
     pub fn beneath(&self) -> &LiveSession<'state>
         ensures { result.now ≡ self.now.beneath }
     {
-        &self.beneath
+        self.beneath.live()
     }
 
     /// Returns the text that is searched for.
@@ -277,6 +706,28 @@ impl<'state> Front<'state> {
     {
         &self.query
     }
+
+    /// Returns what the layer says until the next key.
+    pub fn notice(&self) -> Notice
+        ensures { result ≡ notice_of self.now }
+    {
+        if self.query.is_asking {
+            Notice::Asking
+        } else if self.query.is_missing {
+            Notice::NotFound
+        } else if is_none(self.kept.anchor) {
+            self.kept.word
+        } else {
+            Notice::Range
+        }
+    }
+
+    /// Returns the line at which a range is begun, or `None`.
+    pub fn anchor(&self) -> SelectionKey
+        ensures { result ≡ self.now.kept.anchor }
+    {
+        self.kept.anchor
+    }
 }
 
 impl<'state> FrontEditing<'state> {
@@ -284,7 +735,7 @@ impl<'state> FrontEditing<'state> {
     pub fn beneath(&self) -> &Editing<'state>
         ensures { result.now ≡ self.now.beneath }
     {
-        &self.beneath
+        &self.beneath.editing
     }
 
     /// Sets the message of the commit to `text`, and returns what that leads to.
@@ -295,13 +746,17 @@ impl<'state> FrontEditing<'state> {
     pub fn answer(self, text: String) -> Result<FrontTurn<'state>, RecordError>
         ensures ok { IfOk result (λ turn.
             MessageLeads self.entry.beneath (string_bytes text) (beneath_of turn)) }
-        ensures query { IfOk result (λ turn.
-            turn ≡ front_of (beneath_of turn) self.entry.query) }
+        ensures kept { IfOk result (λ turn.
+            turn ≡ front_of (beneath_of turn) self.entry.query self.entry.kept) }
         ensures err { IfErr result (λ e. MessageFails self.entry.beneath (string_bytes text) e) }
     {
-        let FrontEditing { beneath, query } = self;
+        let FrontEditing {
+            beneath,
+            query,
+            kept,
+        } = self;
         let turn = beneath.answer(text)?;
-        Ok(with_query(turn, query))
+        Ok(front_turn(turn, query, kept))
     }
 
     /// Keeps the message as it is, and returns what that leads to.
@@ -313,13 +768,17 @@ impl<'state> FrontEditing<'state> {
         ensures ok { IfOk result (λ turn. MessageLeads self.entry.beneath
             (message_text self.entry.beneath.session self.entry.beneath.commit)
             (beneath_of turn)) }
-        ensures query { IfOk result (λ turn.
-            turn ≡ front_of (beneath_of turn) self.entry.query) }
+        ensures kept { IfOk result (λ turn.
+            turn ≡ front_of (beneath_of turn) self.entry.query self.entry.kept) }
         ensures err { IfErr result (λ e. MessageFails self.entry.beneath
             (message_text self.entry.beneath.session self.entry.beneath.commit) e) }
     {
-        let FrontEditing { beneath, query } = self;
+        let FrontEditing {
+            beneath,
+            query,
+            kept,
+        } = self;
         let turn = beneath.keep()?;
-        Ok(with_query(turn, query))
+        Ok(front_turn(turn, query, kept))
     }
 }

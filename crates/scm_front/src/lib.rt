@@ -7,19 +7,21 @@
 
 mod actions;
 mod asking;
-mod items;
-mod jump;
+mod begun;
+mod deeds;
+mod driving;
+mod kept;
 pub mod laws;
 pub mod layer;
-mod occurs;
-mod painter;
+mod marking;
 mod presses;
-pub mod sideways;
-mod status;
+mod recording;
+mod starting;
 mod typed;
 
-pub use actions::{Action, action_of};
+pub use actions::{Action, Mode, OwnKey, action_of};
 pub use asking::{Query, Typing};
-pub use items::item_towards;
+pub use kept::{Kept, Notice};
 pub use layer::{Front, FrontEditing, FrontTurn};
-pub use painter::FrontPainter;
+pub use scm_front_items::{Way, item_towards};
+pub use starting::Folds;

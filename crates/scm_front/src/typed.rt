@@ -1,7 +1,7 @@
 //! A front that is driven by the bytes of a terminal.
 ghost use Rattle.std.specs.Prelude.{◌≡◌, [], List, IfErr, IfOk};
 ghost use Rattle.scm_errors.specs.declared.error.RecordError.TheVariants.{OutOfMemory};
-ghost use Rattle.scm_input.specs.declared.events.Event.{Event as Happening};
+ghost use Rattle.scm_record.specs.LiveCalls.{Call};
 ghost use Rattle.scm_terminal.specs.Decoders.{Adds};
 ghost use Rattle.scm_front.specs.Fronts.{BytesHeard, FrontFails, Hears, SilenceHeard};
 
@@ -32,7 +32,7 @@ impl<'state> Front<'state> {
     /// An error ends the session: the errors are those of [`Front::hear`].
     pub fn hear_all(self, events: &[TerminalEvent]) -> Result<FrontTurn<'state>, RecordError>
         ensures ok { IfOk result (λ turn.
-            (handled : List Happening) × Hears self.entry events.now handled turn) }
+            (calls : List Call) × Hears self.entry events.now calls turn) }
         ensures err { IfErr result (λ e. FrontFails self.entry e) }
     {
         let mut front = self;

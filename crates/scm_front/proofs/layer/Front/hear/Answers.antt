@@ -1,21 +1,34 @@
-use Rattle.std.proofs.Common.{Bool, [], ap, ◌∙◌}
+use Rattle.std.proofs.Common.{List, [], ap, ◌∙◌}
 use Rattle.std.proofs.lemmas.Result.{IfErr-weaker}
 use Rattle.scm_front.specs.declared.actions.Action.TheVariants.{Ignore}
+use Rattle.scm_front.specs.declared.actions.Mode.{Mode}
+use Rattle.scm_front.specs.declared.actions.OwnKey.{OwnKey}
 use Rattle.scm_front.specs.declared.layer.FrontTurn.TheVariants.{Waiting}
 use Rattle.scm_front.specs.Actions.{action_of}
-use Rattle.scm_front.specs.Fronts.{refused, ignores}
-use Rattle.scm_front.proofs.DoLemmas.{pass-fails, as-heard}
+use Rattle.scm_front.specs.Failing.{refused}
+use Rattle.scm_front.specs.Fronts.{ignores, mode_of}
+use Rattle.scm_front.proofs.BegunLemmas.{event-fails}
+use Rattle.scm_front.proofs.DoLemmas.{as-heard}
 use Rattle.scm_front.proofs.layer.Front.hear.Goals as goal
 
 pub returns-in-Pass-clause-err : goal.returns-in-Pass-clause-err
 returns-in-Pass-clause-err c =
-    IfErr-weaker c.handle.result _ _ (λ error fails. pass-fails c.args.self c.in-Pass.event error fails) c.handle.ensures.err
+    IfErr-weaker c.handle.result _ _ (λ error fails. event-fails c.in-Pass.event fails) c.handle.ensures.err
 
 pub returns-in-Edit-clause-err : goal.returns-in-Edit-clause-err
 returns-in-Edit-clause-err c =
     IfErr-weaker c.edit.result _ _ (λ error e. refused e) c.edit.ensures.err
 
+pub returns-in-Seek-clause-err : goal.returns-in-Seek-clause-err
+returns-in-Seek-clause-err c =
+    IfErr-weaker c.seek.result _ _ (λ error e. refused e) c.seek.ensures.err
+
+pub returns-in-Again-clause-err : goal.returns-in-Again-clause-err
+returns-in-Again-clause-err c =
+    IfErr-weaker c.search.result _ _ (λ error e. refused e) c.search.ensures.err
+
 pub returns-in-Ignore-clause-ok : goal.returns-in-Ignore-clause-ok
 returns-in-Ignore-clause-ok c =
-    let same = c.in-Ignore.ensures ∙ ap (λ (b : Bool). action_of c.args.self.query.is_asking b c.args.event) c.is_free.ensures in
-    ([], as-heard c.args.self c.args.event Ignore [] (Waiting c.args.self) same ignores)
+    let by_mode = ap (λ (m : Mode). action_of m c.as_slice.result.now c.args.event) c.mode.ensures in
+    let by_keys = ap (λ (keys : List OwnKey). action_of (mode_of c.args.self) keys c.args.event) c.as_slice.ensures in
+    ([], as-heard c.args.self c.args.event Ignore [] (Waiting c.args.self) (c.in-Ignore.ensures ∙ by_mode ∙ by_keys) ignores)

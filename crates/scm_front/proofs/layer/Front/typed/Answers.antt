@@ -1,5 +1,5 @@
 use Rattle.std.proofs.lemmas.Result.{err_from_is_err_and}
-use Rattle.scm_front.specs.Fronts.{refused}
+use Rattle.scm_front.specs.Failing.{refused}
 use Rattle.scm_front.proofs.layer.Front.typed.Goals as goal
 
 pub returns-in_err-found-clause-err : goal.returns-in_err-found-clause-err

@@ -1,0 +1,24 @@
+use Rattle.std.proofs.Common.{ap, ◌∙◌}
+use Rattle.std.proofs.lemmas.Result.{err_from_is_err_and}
+use Rattle.scm_front.specs.declared.kept.Kept.{Kept}
+use Rattle.scm_front.specs.declared.kept.Notice.TheVariants.{Nothing}
+use Rattle.scm_front.specs.Driving.{turn_of}
+use Rattle.scm_front.specs.Failing.{refused}
+use Rattle.scm_front.specs.Fronts.{selection_of}
+use Rattle.scm_front.specs.Keeping.{saying}
+use Rattle.scm_front.proofs.DoLemmas.{marked, same-round}
+use Rattle.scm_front.proofs.layer.Front.mark.Goals as goal
+
+pub returns-clause-ok : goal.returns-clause-ok
+returns-clause-ok c =
+    let f = c.args.self in
+    let deeds = c.in_ok-deeds.deeds.items in
+    let turn = turn_of c.in_ok-turn.turn in
+    let round = same-round f.beneath turn deeds c.as_slice.result.now c.selection_of-back.result (selection_of f.beneath) c.as_slice.ensures.value c.selection_of-back.ensures c.in_ok-turn.ensures.ok in
+    marked f deeds turn c.with_word.result c.recorded.result c.saying.result c.front_turn.result c.front_turn.ensures.value c.with_word.ensures
+    (c.saying.ensures ∙ ap (λ (k : Kept). saying k Nothing) c.anchored-kept.ensures) c.recorded.ensures c.in_ok-deeds.ensures.ok round
+
+pub returns-in_err-deeds-clause-err : goal.returns-in_err-deeds-clause-err
+returns-in_err-deeds-clause-err c =
+    let p = err_from_is_err_and c.from_residual.result c.from_residual.ensures.1 in
+    rw (p.1, p.2) (refused c.in_err-deeds.ensures.err)

@@ -1,7 +1,0 @@
-use Rattle.std.proofs.Common.{◌≡◌, drop}
-use Rattle.scm_front.specs.Occurs.{begins}
-use Rattle.scm_front.proofs.occurs.begins.Given as goal
-
--- the rest of the pattern decides
-abbrev pub invariant-loop-index : goal.invariant-loop-index
-invariant-loop-index l = begins l.is_exact (drop l.index l.pattern) (drop l.index l.text) ≡ begins l.is_exact l.pattern l.text

@@ -1,0 +1,11 @@
+use Rattle.std.proofs.lemmas.Result.{IfOk-weaker}
+use Rattle.scm_record.specs.declared.live.Turn.TheVariants.{Waiting}
+use Rattle.scm_front.proofs.BegunLemmas.{leads-still}
+use Rattle.scm_front.proofs.DeedLemmas.{round-path}
+use Rattle.scm_front.proofs.starting.fold_unless_shown.Goals as goal
+
+pub returns-then-shows-clause-ok : goal.returns-then-shows-clause-ok
+returns-then-shows-clause-ok c = leads-still (Waiting c.args.session)
+
+pub returns-else-shows-clause-ok : goal.returns-else-shows-clause-ok
+returns-else-shows-clause-ok c = IfOk-weaker c.do_round.result _ _ (λ turn r. (r.0, round-path r.1)) c.do_round.ensures.ok

@@ -1,0 +1,53 @@
+//! The session beneath a layer. It began with a state, and calls led to where it is, so a jump to an
+//! item is a batch of moves.
+use scm_record::{Editing, LiveSession, RecordState};
+use std::marker::Model;
+
+/// A live session that waits for an event.
+#[derive(Drop)]
+pub struct Begun<'state> {
+    /// The session.
+    pub(crate) live: LiveSession<'state>,
+}
+
+impl<'state> Model for Begun<'state> {
+    ghost use Rattle.scm_record.specs.Live.{Live};
+    ghost use Rattle.scm_record.specs.declared.live.Turn.TheVariants.{Waiting};
+    ghost use Rattle.scm_front.specs.Begun.{HasBegun};
+
+    ghost Value = { Live };
+
+    ghost view = { λ s. s.live };
+
+    ghost invariant = { λ s. HasBegun (Waiting s.live) };
+}
+
+/// A live session that waits for the message of a commit.
+#[derive(Drop)]
+pub struct BegunEdit<'state> {
+    /// The session.
+    pub(crate) editing: Editing<'state>,
+}
+
+impl<'state> Model for BegunEdit<'state> {
+    ghost use Rattle.scm_record.specs.Live.{LiveEdit};
+    ghost use Rattle.scm_record.specs.declared.live.Turn.TheVariants.{Editing};
+    ghost use Rattle.scm_front.specs.Begun.{HasBegun};
+
+    ghost Value = { LiveEdit };
+
+    ghost view = { λ s. s.editing };
+
+    ghost invariant = { λ s. HasBegun (Editing s.editing) };
+}
+
+/// What a call of a session leads to.
+#[derive(Drop)]
+pub enum BegunTurn<'state> {
+    /// The session waits for the next event.
+    Waiting(Begun<'state>),
+    /// The session waits for the message of a commit.
+    Editing(BegunEdit<'state>),
+    /// The session has ended, with the changes of this state accepted.
+    Accepted(RecordState<'state>),
+}

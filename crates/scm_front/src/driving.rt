@@ -1,0 +1,120 @@
+//! The calls of the session beneath a layer.
+ghost use Rattle.std.specs.Prelude.{◌≡◌, List, IfErr, IfOk, IsTrue, OnErr, OnOk, string_bytes};
+ghost use Rattle.scm_errors.specs.declared.error.RecordError.TheVariants.{OutOfMemory};
+ghost use Rattle.scm_types.specs.Limits.{is_accepted_state};
+ghost use Rattle.scm_record.specs.Session.{message_text, start};
+ghost use Rattle.scm_record.specs.Batches.{is_batch};
+ghost use Rattle.scm_record.specs.Live.{on_screen};
+ghost use Rattle.scm_record.specs.Jumps.{after_selecting, can_select};
+ghost use Rattle.scm_record.specs.LiveCalls.{BatchFails, BatchLeads, Call, EventFails, EventLeads, MessageFails, MessageLeads};
+ghost use Rattle.scm_front.specs.Begun.{HasBegun, JumpLeads};
+ghost use Rattle.scm_front.specs.Driving.{turn_of};
+
+use crate::begun::{Begun, BegunEdit, BegunTurn};
+use scm_record::live::jumps::jumps_are_batches;
+use scm_record::{Event, LiveSession, RecordError, RecordState, SelectionKey, TerminalKind, Turn};
+use std::alloc::Global;
+
+/// Returns `turn` as one of a session that has begun.
+fn begun_turn<'state>(turn: Turn<'state>) -> BegunTurn<'state>
+    requires { HasBegun turn }
+    ensures { turn_of result ≡ turn.entry }
+{
+    match turn {
+        Turn::Waiting(live) => BegunTurn::Waiting(Begun { live }),
+        Turn::Editing(editing) => BegunTurn::Editing(BegunEdit { editing }),
+        Turn::Accepted(state) => BegunTurn::Accepted(state),
+    }
+}
+
+impl<'state> Begun<'state> {
+    /// Creates a session over `state`, drawn on a screen of size `kind`.
+    pub(crate) fn new(
+        alloc: Global,
+        kind: TerminalKind,
+        state: RecordState<'state>,
+    ) -> Result<Begun<'state>, RecordError>
+        requires { IsTrue (is_accepted_state state) }
+        ensures ok { IfOk result (λ l. l ≡ record { session = start state.entry; kind = kind }) }
+        ensures err { IfErr result (λ e. e ≡ OutOfMemory) }
+    {
+        let live = LiveSession::new(alloc, kind, state)?;
+        Ok(Begun { live })
+    }
+
+    /// Handles `event`, as [`LiveSession::handle`] does.
+    pub(crate) fn handle(self, event: Event) -> Result<BegunTurn<'state>, RecordError>
+        ensures ok { IfOk result (λ turn. EventLeads self.entry event (turn_of turn)) }
+        ensures err { IfErr result (λ e. EventFails self.entry event e) }
+    {
+        let turn = self.live.handle(event)?;
+        Ok(begun_turn(turn))
+    }
+
+    /// Handles `events` as one batch, as [`LiveSession::handle_all`] does.
+    pub(crate) fn handle_all(self, events: &[Event]) -> Result<BegunTurn<'state>, RecordError>
+        requires { IsTrue (is_batch self.session events.now) }
+        ensures ok { IfOk result (λ turn. BatchLeads self.entry events.now (turn_of turn)) }
+        ensures err { IfErr result (λ e. BatchFails self.entry events.now e) }
+    {
+        let turn = self.live.handle_all(events)?;
+        Ok(begun_turn(turn))
+    }
+
+    /// Returns whether `key` can be selected at once, as [`LiveSession::can_select`] does.
+    pub(crate) fn can_select(&self, key: SelectionKey) -> bool
+        ensures { result ≡ can_select self.now key }
+    {
+        self.live.can_select(key)
+    }
+
+    /// Selects `key` at once, as [`LiveSession::select`] does.
+    pub(crate) fn select(self, key: SelectionKey) -> Result<Begun<'state>, RecordError>
+        ensures value { IfOk result (λ l. l ≡ after_selecting self.entry key) }
+        ensures leads { IfOk result (λ l. (calls : List Call) × JumpLeads self.entry key calls l) }
+        ensures err { IfErr result (λ e. e ≡ OutOfMemory) }
+    {
+        jumps_are_batches();
+        let live = self.live.select(key)?;
+        Ok(Begun { live })
+    }
+
+    /// Draws the session on a screen of size `kind`, as [`LiveSession::resize`] does.
+    pub(crate) fn resize(&mut self, kind: TerminalKind) -> Result<(), RecordError>
+        ensures ok { OnOk result (self.new ≡ on_screen self.old kind) }
+        ensures unchanged { OnErr result (self.new ≡ self.old) }
+        ensures err { IfErr result (λ e. e ≡ OutOfMemory) }
+    {
+        self.live.resize(kind)
+    }
+
+    /// Returns the session, to read.
+    pub(crate) fn live(&self) -> &LiveSession<'state>
+        ensures { result.now ≡ self.now }
+    {
+        &self.live
+    }
+}
+
+impl<'state> BegunEdit<'state> {
+    /// Sets the message of the commit to `text`, and returns what that leads to.
+    pub(crate) fn answer(self, text: String) -> Result<BegunTurn<'state>, RecordError>
+        ensures ok { IfOk result (λ turn.
+            MessageLeads self.entry (string_bytes text) (turn_of turn)) }
+        ensures err { IfErr result (λ e. MessageFails self.entry (string_bytes text) e) }
+    {
+        let turn = self.editing.answer(text)?;
+        Ok(begun_turn(turn))
+    }
+
+    /// Keeps the message as it is, and returns what that leads to.
+    pub(crate) fn keep(self) -> Result<BegunTurn<'state>, RecordError>
+        ensures ok { IfOk result (λ turn. MessageLeads self.entry
+            (message_text self.entry.session self.entry.commit) (turn_of turn)) }
+        ensures err { IfErr result (λ e. MessageFails self.entry
+            (message_text self.entry.session self.entry.commit) e) }
+    {
+        let turn = self.editing.keep()?;
+        Ok(begun_turn(turn))
+    }
+}

@@ -1,0 +1,187 @@
+//! The deeds of the layer's actions: marks of a range, and marks that were.
+ghost use Rattle.std.specs.Prelude.{◌≡◌, IfErr, IfOk, IsTrue};
+ghost use Rattle.scm_errors.specs.declared.error.RecordError.TheVariants.{OutOfMemory};
+ghost use Rattle.scm_front_items.specs.Runs.{marks_of_files, marks_with};
+ghost use Rattle.scm_front.specs.Deeds.{SomeDeedsLead, SomeRoundLeads};
+ghost use Rattle.scm_front.specs.Driving.{turn_of};
+ghost use Rattle.scm_front.specs.Failing.{SessionFails};
+ghost use Rattle.scm_front.specs.Fronts.{HasMarks, files_of, range_deeds, selection_of};
+
+use crate::begun::{Begun, BegunTurn};
+use crate::deeds::{do_deeds, do_round};
+use scm_front_items::{Deed, Marks, Run, Step, plans, ranges, runs};
+use scm_record::{Items, KeySet, RecordError, SelectionKey};
+use std::alloc::Global;
+
+/// Returns the key that is selected.
+pub(crate) fn selection_of(session: &Begun<'_>) -> SelectionKey
+    ensures { result ≡ selection_of session.now }
+{
+    session.live().view_state().selection
+}
+
+/// Returns the deeds that set the marks of the range from `anchor` to the selection to that which its
+/// first line gets.
+pub(crate) fn range_deeds(
+    alloc: Global,
+    session: &Begun<'_>,
+    anchor: SelectionKey,
+) -> Result<Vec<Deed>, RecordError>
+    ensures ok { IfOk result (λ deeds. deeds.items ≡ range_deeds session.now anchor) }
+    ensures err { IfErr result (λ e. e ≡ OutOfMemory) }
+{
+    let view = session.live().view_state();
+    let files = view.state.files.as_slice();
+    let mut deeds = Vec::new(alloc);
+    if view.state.is_read_only {
+        return Ok(deeds);
+    }
+    let keys = ranges::lines_between(alloc, files, anchor, view.selection)?;
+    let mark = ranges::mark_for(files, keys.as_slice());
+    ranges::push_marking(&mut deeds, mark, keys.as_slice())?;
+    plans::push_folds(&mut deeds, &view.expanded, keys.as_slice())?;
+    Ok(deeds)
+}
+
+/// Returns the index of the file of `key`, or 0.
+fn file_of(key: SelectionKey) -> usize {
+    match key {
+        SelectionKey::None => 0,
+        SelectionKey::File(key) => key.file_idx,
+        SelectionKey::Section(key) => key.file_idx,
+        SelectionKey::Line(key) => key.file_idx,
+    }
+}
+
+/// Returns the marks of the files from `anchor` to the selection, or `None` if an allocation failed.
+pub(crate) fn runs_of_range(
+    alloc: Global,
+    session: &Begun<'_>,
+    anchor: SelectionKey,
+) -> Option<Items<Run>> {
+    let view = session.live().view_state();
+    let files = view.state.files.as_slice();
+    let from = file_of(anchor);
+    let to = file_of(view.selection);
+    runs::runs_of_files(alloc, files, from.min(to), from.max(to)).ok()
+}
+
+/// The marks that are to be restored, and those of the same items before that.
+#[derive(Drop)]
+pub(crate) struct Restoring {
+    /// All marks that the state is to have.
+    pub(crate) wanted: Marks,
+    /// The items that differ, with the marks that they have now.
+    pub(crate) back: Step,
+}
+
+/// Returns what restoring `step` means in the state of `session`.
+pub(crate) fn what_to_restore(
+    alloc: Global,
+    session: &Begun<'_>,
+    step: &Step,
+) -> Result<Restoring, RecordError>
+    ensures { IfOk result (λ r. r.wanted
+        ≡ marks_with step.now (marks_of_files (files_of session.now))) }
+{
+    let files = session.live().state().files.as_slice();
+    let marks = runs::marks_of_files(alloc, files)?;
+    let now = runs::runs_now(alloc, files, step.runs.as_slice())?;
+    Ok(Restoring {
+        wanted: runs::marks_with(marks, step),
+        back: Step {
+            runs: now,
+            bytes: step.bytes,
+        },
+    })
+}
+
+/// Returns `deeds` with others that fold again what they unfold, if `expanded` is what is unfolded before
+/// them.
+fn with_folds(alloc: Global, deeds: Vec<Deed>, expanded: &KeySet) -> Result<Vec<Deed>, RecordError>
+    ensures err { IfErr result (λ e. e ≡ OutOfMemory) }
+{
+    let mut deeds = deeds;
+    let keys = plans::keys_of(alloc, deeds.as_slice())?;
+    plans::push_folds(&mut deeds, expanded, keys.as_slice())?;
+    Ok(deeds)
+}
+
+/// Returns the first deeds towards the marks `wanted`.
+fn first_deeds(alloc: Global, session: &Begun<'_>, wanted: &Marks) -> Result<Vec<Deed>, RecordError>
+    ensures err { IfErr result (λ e. e ≡ OutOfMemory) }
+{
+    let mut deeds = Vec::new(alloc);
+    let view = session.live().view_state();
+    plans::push_first_deeds(&mut deeds, view.state.files.as_slice(), wanted.as_slice())?;
+    with_folds(alloc, deeds, &view.expanded)
+}
+
+/// Returns the last deeds towards the marks `wanted`, once the first ones are done.
+fn last_deeds(alloc: Global, session: &Begun<'_>, wanted: &Marks) -> Result<Vec<Deed>, RecordError>
+    ensures err { IfErr result (λ e. e ≡ OutOfMemory) }
+{
+    let mut deeds = Vec::new(alloc);
+    let view = session.live().view_state();
+    plans::push_last_deeds(&mut deeds, view.state.files.as_slice(), wanted.as_slice())?;
+    with_folds(alloc, deeds, &view.expanded)
+}
+
+/// Does the first deeds towards the marks `wanted`, and folds again what that unfolds.
+fn first_part<'state>(
+    alloc: Global,
+    session: Begun<'state>,
+    wanted: &Marks,
+) -> Result<BegunTurn<'state>, RecordError>
+    ensures ok { IfOk result (λ turn. SomeDeedsLead session.entry (turn_of turn)) }
+    ensures err { IfErr result (λ e. SessionFails session.entry e) }
+{
+    let deeds = first_deeds(alloc, &session, wanted)?;
+    do_deeds(session, deeds.as_slice())
+}
+
+/// Does the last deeds towards the marks `wanted`, folds again what that unfolds, and selects `back` again.
+fn last_part<'state>(
+    alloc: Global,
+    session: Begun<'state>,
+    wanted: &Marks,
+    back: SelectionKey,
+) -> Result<BegunTurn<'state>, RecordError>
+    ensures ok { IfOk result (λ turn. SomeRoundLeads session.entry back (turn_of turn)) }
+    ensures err { IfErr result (λ e. SessionFails session.entry e) }
+{
+    let deeds = last_deeds(alloc, &session, wanted)?;
+    do_round(session, deeds.as_slice(), back)
+}
+
+/// Sets the marks of `session` to `wanted` by toggles, folds again what that unfolds, and selects what is
+/// selected now again.
+pub(crate) fn restore<'state>(
+    alloc: Global,
+    session: Begun<'state>,
+    wanted: &Marks,
+) -> Result<BegunTurn<'state>, RecordError>
+    ensures ok { IfOk result (λ turn.
+        SomeRoundLeads session.entry (selection_of session.entry) (turn_of turn)) }
+    ensures err { IfErr result (λ e. SessionFails session.entry e) }
+{
+    let back = selection_of(&session);
+    let turn = first_part(alloc, session, wanted)?;
+    match turn {
+        BegunTurn::Waiting(mid) => last_part(alloc, mid, wanted, back),
+        BegunTurn::Editing(editing) => Ok(BegunTurn::Editing(editing)),
+        BegunTurn::Accepted(state) => Ok(BegunTurn::Accepted(state)),
+    }
+}
+
+/// Returns whether the session of `turn` waits with exactly the marks `wanted`.
+pub(crate) fn is_restored(turn: &BegunTurn<'_>, wanted: &Marks) -> bool
+    ensures { IsTrue result → HasMarks (turn_of turn.now) wanted.now }
+{
+    match turn {
+        BegunTurn::Waiting(session) => {
+            runs::are_marks(session.live().state().files.as_slice(), wanted.as_slice())
+        }
+        BegunTurn::Editing(_) | BegunTurn::Accepted(_) => false,
+    }
+}

@@ -1,0 +1,198 @@
+//! The folds and the selection at the start.
+ghost use Rattle.std.specs.Prelude.{◌≡◌, IfErr, IfOk};
+ghost use Rattle.scm_errors.specs.declared.error.RecordError.TheVariants.{OutOfMemory};
+ghost use Rattle.scm_record.specs.declared.live.Turn.TheVariants.{Waiting};
+ghost use Rattle.scm_front.specs.Begun.{LeadsOn};
+ghost use Rattle.scm_front.specs.Driving.{turn_of};
+ghost use Rattle.scm_front.specs.Failing.{SessionFails};
+
+use crate::begun::{Begun, BegunTurn};
+use crate::deeds::do_round;
+use crate::presses::press_each;
+use scm_front_items::Deed;
+use scm_record::key_lists::all_keys;
+use scm_record::key_set::key_set_of;
+use scm_record::keys::is_key;
+use scm_record::{ComponentId, Event, KeySet, RecordError, SelectionKey};
+use std::alloc::Global;
+
+/// What is unfolded at the start.
+#[derive(Clone, Copy, Debug, PartialEq, Eq)]
+pub enum Folds {
+    /// What is unfolded already.
+    AsIs,
+    /// Nothing.
+    Folded,
+    /// Everything.
+    Open,
+    /// Everything, if the screen then shows all of it; otherwise what is unfolded already.
+    Fitting,
+}
+
+/// Returns the item that `id` shows, if it shows one.
+fn key_of(id: ComponentId) -> SelectionKey {
+    match id {
+        ComponentId::SelectableItem(key) | ComponentId::ToggleBox(key) => key,
+        _ => SelectionKey::None,
+    }
+}
+
+/// Returns whether row `row` of the screen shows `key`.
+fn row_shows(session: &Begun<'_>, row: usize, key: SelectionKey) -> bool {
+    for column in 0..session.live().grid().width() {
+        if let Some(id) = session.live().owner(row, column) {
+            if is_key(key_of(id), key) {
+                return true;
+            }
+        }
+    }
+    false
+}
+
+/// Returns whether the screen shows `key`.
+fn shows(session: &Begun<'_>, key: SelectionKey) -> bool {
+    for row in 0..session.live().grid().height() {
+        if row_shows(session, row, key) {
+            return true;
+        }
+    }
+    false
+}
+
+/// Returns the events that fold all or unfold all, where `expanded` is unfolded and `keys` are all.
+fn events_for(
+    alloc: Global,
+    expanded: &KeySet,
+    keys: &[SelectionKey],
+    is_open: bool,
+) -> Result<&'static [Event], RecordError>
+    ensures err { IfErr result (λ e. e ≡ OutOfMemory) }
+{
+    let is_all_open = expanded.is_same(&key_set_of(alloc, keys)?);
+    let events: &'static [Event] = match (is_open, is_all_open) {
+        (true, true) => &[],
+        (true, false) => &[Event::ExpandAll],
+        (false, true) => &[Event::ExpandAll],
+        (false, false) => &[Event::ExpandAll, Event::ExpandAll],
+    };
+    Ok(events)
+}
+
+/// Folds or unfolds all of `keys`, which are all keys of the session.
+fn set_folds<'state>(
+    alloc: Global,
+    session: Begun<'state>,
+    keys: &[SelectionKey],
+    is_open: bool,
+) -> Result<BegunTurn<'state>, RecordError>
+    ensures ok { IfOk result (λ turn. LeadsOn (Waiting session.entry) (turn_of turn)) }
+    ensures err { IfErr result (λ e. SessionFails session.entry e) }
+{
+    let view = session.live().view_state();
+    let events = events_for(alloc, &view.expanded, keys, is_open)?;
+    press_each(session, events)
+}
+
+/// Returns the deeds that fold those of `keys` again that are not `expanded`: what is inside first.
+fn folds_of(
+    alloc: Global,
+    expanded: &KeySet,
+    keys: &[SelectionKey],
+) -> Result<Vec<Deed>, RecordError>
+    ensures err { IfErr result (λ e. e ≡ OutOfMemory) }
+{
+    let mut deeds = Vec::new(alloc);
+    for index in 0..keys.len() {
+        let key = keys[keys.len() - 1 - index];
+        if !matches!(key, SelectionKey::Line(_)) && !expanded.contains(key) {
+            deeds.push(Deed::Fold(key))?;
+        }
+    }
+    Ok(deeds)
+}
+
+/// Does `folds` and selects `back`, unless the screen shows `last`.
+fn fold_unless_shown<'state>(
+    session: Begun<'state>,
+    last: SelectionKey,
+    folds: &[Deed],
+    back: SelectionKey,
+) -> Result<BegunTurn<'state>, RecordError>
+    ensures ok { IfOk result (λ turn. LeadsOn (Waiting session.entry) (turn_of turn)) }
+    ensures err { IfErr result (λ e. SessionFails session.entry e) }
+{
+    if shows(&session, last) {
+        Ok(BegunTurn::Waiting(session))
+    } else {
+        do_round(session, folds, back)
+    }
+}
+
+/// Unfolds all of `keys`, which are all keys of the session, if the screen then shows the last of them.
+fn unfold_if_fitting<'state>(
+    alloc: Global,
+    session: Begun<'state>,
+    keys: &[SelectionKey],
+) -> Result<BegunTurn<'state>, RecordError>
+    ensures ok { IfOk result (λ turn. LeadsOn (Waiting session.entry) (turn_of turn)) }
+    ensures err { IfErr result (λ e. SessionFails session.entry e) }
+{
+    if keys.is_empty() || keys.len() > session.live().grid().height() {
+        return Ok(BegunTurn::Waiting(session));
+    }
+    let last = keys[keys.len() - 1];
+    let view = session.live().view_state();
+    let back = view.selection;
+    let folds = folds_of(alloc, &view.expanded, keys)?;
+    let turn = set_folds(alloc, session, keys, true)?;
+    match turn {
+        BegunTurn::Waiting(mid) => fold_unless_shown(mid, last, folds.as_slice(), back),
+        BegunTurn::Editing(editing) => Ok(BegunTurn::Editing(editing)),
+        BegunTurn::Accepted(state) => Ok(BegunTurn::Accepted(state)),
+    }
+}
+
+/// Unfolds in `session` what `folds` says.
+pub(crate) fn fold_at_start<'state>(
+    alloc: Global,
+    session: Begun<'state>,
+    folds: Folds,
+) -> Result<BegunTurn<'state>, RecordError>
+    ensures ok { IfOk result (λ turn. LeadsOn (Waiting session.entry) (turn_of turn)) }
+    ensures err { IfErr result (λ e. SessionFails session.entry e) }
+{
+    let keys = all_keys(alloc, session.live().state().files.as_slice())?;
+    match folds {
+        Folds::AsIs => Ok(BegunTurn::Waiting(session)),
+        Folds::Folded => set_folds(alloc, session, keys.as_slice(), false),
+        Folds::Open => set_folds(alloc, session, keys.as_slice(), true),
+        Folds::Fitting => unfold_if_fitting(alloc, session, keys.as_slice()),
+    }
+}
+
+/// Selects `first`, if there is such an item.
+fn select_in<'state>(
+    session: Begun<'state>,
+    first: SelectionKey,
+) -> Result<BegunTurn<'state>, RecordError>
+    ensures ok { IfOk result (λ last. LeadsOn (Waiting session.entry) (turn_of last)) }
+    ensures err { IfErr result (λ e. e ≡ OutOfMemory) }
+{
+    let selected = session.select(first)?;
+    Ok(BegunTurn::Waiting(selected))
+}
+
+/// Selects `first` in the session of `turn`, if there is such an item and the session waits.
+pub(crate) fn select_first<'state>(
+    turn: BegunTurn<'state>,
+    first: SelectionKey,
+) -> Result<BegunTurn<'state>, RecordError>
+    ensures ok { IfOk result (λ last. LeadsOn (turn_of turn.entry) (turn_of last)) }
+    ensures err { IfErr result (λ e. e ≡ OutOfMemory) }
+{
+    match turn {
+        BegunTurn::Waiting(session) => select_in(session, first),
+        BegunTurn::Editing(editing) => Ok(BegunTurn::Editing(editing)),
+        BegunTurn::Accepted(state) => Ok(BegunTurn::Accepted(state)),
+    }
+}

@@ -1,0 +1,14 @@
+-- whether a text has a pattern
+pub mod Occurs
+-- the item that a search finds, and the order of keys on the screen
+pub mod Search
+-- the lines of a range
+pub mod Ranges
+-- marks that are to be set, by toggles
+pub mod Targets
+-- marks that were, by runs of items
+pub mod Runs
+-- toggles that lead to marks that were
+pub mod Plans
+-- what undo and redo keep
+pub mod Histories

@@ -1,0 +1,18 @@
+-- cuts of a grid
+pub mod CutLemmas
+-- views sideways
+pub mod SidewaysLemmas
+-- commands that stay on some rows of a terminal
+pub mod PartLemmas
+-- the session's rows and the status row below them
+pub mod BelowLemmas
+-- what the status row says
+pub mod StatusLemmas
+-- the words that differ in two lines
+pub mod WordsLemmas
+-- what views do
+pub mod ViewLemmas
+-- what is painted of a view
+pub mod PaintLemmas
+-- the styles of a row
+pub mod ShownLemmas

@@ -1,0 +1,183 @@
+-- What is painted of a view.
+use Rattle.std.proofs.Common.{◌≡◌, ℕ, zero, suc, ◌+◌, ◌-◌, ◌<◌, ◌≤◌, min, Bool, true, false, List, ◌++◌, length, map, refl, sym, ap, ap₂, ◌∙◌, subst, arith, Option, Some}
+use Rattle.std.specs.Prelude.{if◌then◌else◌}
+use Rattle.std.proofs.lemmas.List.{length-replicate}
+use Rattle.scm_cells.specs.Counts.{no_counts}
+use Rattle.scm_cells.specs.Cell.{Cell}
+use Rattle.scm_cells.specs.Screen.{Screen, IsScreen}
+use Rattle.scm_cells.specs.declared.style.Style.{Style}
+use Rattle.scm_render.proofs.PaintLemmas.{length-painted}
+use Rattle.scm_terminal.specs.Promise.{Paints}
+use Rattle.scm_terminal.specs.StyledCell.{StyledCell, picture}
+use Rattle.scm_input.specs.declared.inputs.TerminalKind.{TerminalKind}
+use Rattle.scm_input.specs.declared.inputs.TerminalKind.TheVariants.{Testing}
+use Rattle.scm_widgets.specs.declared.ids.ComponentId.{ComponentId}
+use Rattle.scm_widgets.specs.Layers.{Layer}
+use Rattle.scm_view.specs.Frame.{frame_of_picture, is_plain}
+use Rattle.scm_view.specs.Window.{rows_from, window}
+use Rattle.scm_record.specs.Session.{Session}
+use Rattle.scm_record.specs.Live.{Live}
+use Rattle.scm_record.specs.Painted.{screen_of}
+use Rattle.scm_record.specs.Frames.{columns_of, rows_of, scene_of, frame_of}
+use Rattle.scm_front.specs.declared.layer.Front.{Front}
+use Rattle.scm_front_paint.specs.declared.painter.FrontPainter.{FrontPainter}
+use Rattle.scm_front_paint.specs.declared.themes.Theme.{Theme}
+use Rattle.scm_front_paint.specs.Below.{Pictures, PaintsView, known_to, pictures_of, rows_shown, session_picture, shown_style, width_of}
+use Rattle.scm_front_paint.specs.LineValue.{LineValue}
+use Rattle.scm_front_paint.specs.Status.{left_text, right_of, status_picture, status_screen, status_style}
+use Rattle.scm_front_paint.specs.Words.{AreWords}
+use Rattle.scm_front_paint.specs.WordsView.{columns_in}
+use Rattle.scm_front_paint.specs.Pane.{is_free, offset}
+use Rattle.scm_front_paint.specs.Seen.{Seen, IsSeen}
+use Rattle.scm_front_paint.specs.Sideways.{sideways_picture}
+use Rattle.scm_front_paint.specs.Capped.{capped}
+use Rattle.scm_front_paint.specs.Cut.{IsCut}
+use Rattle.scm_front_paint.proofs.SidewaysLemmas.{at-zero, cut-picture}
+
+-- ---- the size
+
+length-from : (w : ℕ) (ls : List (Layer ComponentId)) (z n : ℕ) → length (rows_from w ls z n) ≡ n
+unfolding rows_from
+length-from w ls z zero = refl
+length-from w ls z (suc n) = ap suc (length-from w ls (suc z) n)
+
+-- a frame has the screen's height
+high-by : (b : Bool) (w h : ℕ) (s : Session) → is_plain w h s.shown.view_mode ≡ b → length (frame_of w h s).rows ≡ h
+unfolding frame_of window frame_of_picture
+high-by true w h s e = rw e (length-from w _ s.scroll h)
+high-by false w h s e = rw e (length-painted _ _ _ _ ∙ length-replicate h _)
+
+pub frame-high : (kind : TerminalKind) (s : Session) → length (scene_of kind s).frame.rows ≡ rows_of kind
+frame-high kind s = high-by (is_plain (columns_of kind) (rows_of kind) s.shown.view_mode) (columns_of kind) (rows_of kind) s refl
+
+-- the offset is `x` or 0
+offset-few : (v : Seen) → IsSeen v → offset v.pane v.front.beneath + v.pane.width ≤ 65535
+offset-few v is = few (is_free v.front.beneath)
+  where
+    few : (b : Bool) → (if b then v.pane.x else 0) + v.pane.width ≤ 65535
+    few true = is.narrow
+    few false = let n = is.narrow in omega arith
+
+-- the terminal has the width of the view
+pub width-is : (v : Seen) → IsSeen v → width_of v ≡ v.pane.width
+width-is v is =
+    let few = offset-few v is in
+    ap (λ (k : TerminalKind). columns_of k - offset v.pane v.front.beneath) is.kind
+    ∙ (let e : min (offset v.pane v.front.beneath + v.pane.width) 65535 - offset v.pane v.front.beneath ≡ v.pane.width = omega arith in e)
+
+-- the session has the rows of the view but one
+pub rows-are : (v : Seen) → IsSeen v → rows_shown v.front.beneath ≡ min (v.pane.height - 1) 65535
+rows-are v is = frame-high v.front.beneath.kind v.front.beneath.session ∙ ap rows_of is.kind
+
+pub rows-below : (v : Seen) → IsSeen v → v.pane.height ≤ 65535 → rows_shown v.front.beneath < 65535
+rows-below v is h = let e = rows-are v is in omega arith
+
+-- ---- pictures
+
+-- a picture depends on the width and the rows alone
+pub same-picture : (style : ℕ → ℕ → Style) (s t : Screen) → s.width ≡ t.width → s.rows ≡ t.rows → picture style s ≡ picture style t
+same-picture style s t e f =
+    ap₂ (λ (w : ℕ) (rows : List (List Cell)). picture style (record { width = w; rows = rows; counts = no_counts })) e f
+
+pub same-sideways : (x : ℕ) (style : ℕ → ℕ → Style) (s t : Screen) → s.width ≡ t.width → s.rows ≡ t.rows → sideways_picture x style s ≡ sideways_picture x style t
+same-sideways x style s t e f =
+    ap₂ (λ (w : ℕ) (rows : List (List Cell)). sideways_picture x style (record { width = w; rows = rows; counts = no_counts })) e f
+
+-- ---- paints
+
+few-columns : (kind : TerminalKind) → columns_of kind ≤ 65535
+few-columns (Testing width height) = omega arith
+
+pub paints-as : (width wide : ℕ) (old next picture : List (List StyledCell)) (bytes : List ℕ) → width ≡ wide → next ≡ picture → Paints width old next bytes → Paints wide old picture bytes
+paints-as width wide old next picture bytes e f p =
+    subst (λ (w : ℕ). Paints w old picture bytes) e (subst (λ (rows : List (List StyledCell)). Paints width old rows bytes) f p)
+
+-- a grid is the screen of a session
+pub record IsGridOf (grid : Screen) (l : Live) : Type 0 where
+  pub width : grid.width ≡ columns_of l.kind
+  pub rows : grid.rows ≡ (scene_of l.kind l.session).frame.rows
+
+module _ (style : ℕ → ℕ → Style) (grid : Screen) (l : Live) (x : ℕ) (g : IsGridOf grid l) where
+  -- at 0 the whole grid is painted
+  pub whole-picture : IsScreen grid → x ≡ 0 → picture style grid ≡ sideways_picture x style (screen_of l)
+  whole-picture is e =
+      sym (at-zero style grid is) ∙ same-sideways 0 style grid (screen_of l) g.width g.rows
+      ∙ ap (λ (n : ℕ). sideways_picture n style (screen_of l)) (sym e)
+
+  pub whole-paints : IsScreen grid → x ≡ 0 → (old : List (List StyledCell)) (bytes : List ℕ) → Paints grid.width old (picture style grid) bytes
+      → Paints (columns_of l.kind - x) old (sideways_picture x style (screen_of l)) bytes
+  whole-paints is e old bytes p =
+      let wide : grid.width ≡ columns_of l.kind - x = (let w = g.width in omega arith) in
+      paints-as grid.width (columns_of l.kind - x) old (picture style grid) (sideways_picture x style (screen_of l)) bytes wide (whole-picture is e) p
+
+  -- a cut of it
+  abbrev pub moved : ℕ → ℕ → Style
+  moved row column = style row (capped (column + x))
+
+  moved-is : (r c : ℕ) → c < grid.width - x → moved r c ≡ style r (x + c)
+  moved-is r c h =
+      let few = few-columns l.kind in
+      let w = g.width in
+      ap (λ (n : ℕ). style r n) (let e : capped (c + x) ≡ x + c = omega arith in e)
+
+  pub part-picture : (cut : Screen) → IsCut cut grid x → picture moved cut ≡ sideways_picture x style (screen_of l)
+  part-picture cut is = cut-picture style moved cut grid x moved-is is ∙ same-sideways x style grid (screen_of l) g.width g.rows
+
+  pub part-paints : (cut : Screen) → IsCut cut grid x → (old : List (List StyledCell)) (bytes : List ℕ) → Paints cut.width old (picture moved cut) bytes
+      → Paints (columns_of l.kind - x) old (sideways_picture x style (screen_of l)) bytes
+  part-paints cut is old bytes p =
+      paints-as cut.width (columns_of l.kind - x) old (picture moved cut) (sideways_picture x style (screen_of l)) bytes
+      (is.width ∙ ap (λ (n : ℕ). n - x) g.width) (part-picture cut is) p
+
+-- ---- a view
+
+paints-from : (width wide : ℕ) (old known next picture : List (List StyledCell)) (bytes : List ℕ) → width ≡ wide → old ≡ known → next ≡ picture
+    → Paints width old next bytes → Paints wide known picture bytes
+paints-from width wide old known next picture bytes e k f p =
+    subst (λ (rows : List (List StyledCell)). Paints wide rows picture bytes) k (paints-as width wide old next picture bytes e f p)
+
+abbrev pictures : List (List StyledCell) → List (List StyledCell) → Pictures
+pictures s t = record { session = s; status = t }
+
+module _ (old kept new : FrontPainter) (v : Seen) (accept bytes first second : List ℕ) (l : Live) (w h x : ℕ) (theme : Theme)
+    (slice items : List (Option LineValue)) (left right : List ℕ) where
+  abbrev painted_rows : List (List StyledCell)
+  painted_rows = sideways_picture x (shown_style theme (map columns_in slice) l) (screen_of l)
+
+  -- what the code painted is the picture of the view
+  pub paints-view : l ≡ v.front.beneath → w ≡ width_of v → h ≡ rows_shown v.front.beneath → x ≡ offset v.pane v.front.beneath
+      → theme ≡ old.theme → slice ≡ items → AreWords l (map columns_in items) → left ≡ left_text v.front → right ≡ right_of v.front accept
+      → pictures_of kept ≡ known_to old w h → Paints w kept.status (status_picture w h left right) first
+      → Paints (columns_of l.kind - x) kept.session.painter painted_rows second → bytes ≡ first ++ second
+      → new.status ≡ status_picture w h left right → new.session.painter ≡ painted_rows → new.size ≡ Some (w, h) → new.theme ≡ theme
+      → PaintsView old new v accept bytes
+  paints-view le we he xe te se are left_is right_is known_is first_paints second_paints written status_new session_new sized themed =
+      let rows : painted_rows ≡ session_picture old.theme (map columns_in items) v =
+      ap (λ (n : ℕ). sideways_picture n (shown_style theme (map columns_in slice) l) (screen_of l)) xe
+      ∙ ap (λ (t : Theme). sideways_picture (offset v.pane v.front.beneath) (shown_style t (map columns_in slice) l) (screen_of l)) te
+      ∙ ap (λ (s : List (Option LineValue)). sideways_picture (offset v.pane v.front.beneath) (shown_style old.theme (map columns_in s) l) (screen_of l)) se
+      ∙ ap (λ (m : Live). sideways_picture (offset v.pane v.front.beneath) (shown_style old.theme (map columns_in items) m) (screen_of m)) le in
+      let row : status_picture w h left right ≡ status_picture (width_of v) (rows_shown v.front.beneath) (left_text v.front) (right_of v.front accept) =
+      ap₂ (λ (a b : List ℕ). status_picture w h a b) left_is right_is
+      ∙ ap (λ (n : ℕ). status_picture n h (left_text v.front) (right_of v.front accept)) we
+      ∙ ap (λ (n : ℕ). status_picture (width_of v) n (left_text v.front) (right_of v.front accept)) he in
+      let known : pictures_of kept ≡ known_to old (width_of v) (rows_shown v.front.beneath) =
+      known_is ∙ ap₂ (λ (a b : ℕ). known_to old a b) we he in
+      let wide : columns_of l.kind - x ≡ width_of v = ap₂ (λ (m : Live) (n : ℕ). columns_of m.kind - n) le xe in
+      record {
+        words = map columns_in items;
+        are_words = subst (λ (m : Live). AreWords m (map columns_in items)) le are;
+        paints = record {
+          first = first;
+          second = second;
+          written = written;
+          status =
+              paints-from w (width_of v) kept.status _ (status_picture w h left right) _ first we (ap (λ (p : Pictures). p.status) known) row first_paints;
+          session =
+              paints-from (columns_of l.kind - x) (width_of v) kept.session.painter _ painted_rows _ second
+              wide (ap (λ (p : Pictures). p.session) known) rows second_paints;
+        };
+        painted = ap₂ (λ (s t : List (List StyledCell)). pictures s t) (session_new ∙ rows) (status_new ∙ row);
+        sized = sized ∙ ap₂ (λ (a b : ℕ). Some (a, b)) we he;
+        same = themed ∙ te;
+      }

@@ -1,0 +1,28 @@
+-- numbers as the code has them
+pub mod Capped
+-- a view sideways, of a session that is wider than the terminal
+pub mod Sideways
+-- a grid that has the columns of another from a column on
+pub mod Cut
+-- what becomes of a style when it is painted
+pub mod Themes
+-- the words that differ in a removed line and the added line that replaces it
+pub mod Words
+-- the value of what is set off in a line
+pub mod LineValue
+-- what the code's values of words represent
+pub mod WordsView
+-- where a terminal stands over a session, and the keys that move it sideways
+pub mod Pane
+-- the values of views
+pub mod Seen
+-- what views do with what they hear
+pub mod Views
+-- the status row: what it says, and what it shows
+pub mod Status
+-- pictures of blanks with a row below
+pub mod Blank
+-- the session's rows and the status row below them on a terminal
+pub mod Below
+-- the styles of the code's screens
+pub mod ShownView

@@ -1,0 +1,179 @@
+-- Words: the parts in which a removed line and the added line that replaces it differ are set off.
+use Rattle.std.specs.Prelude.{◌≡◌, ◌<◌, ℕ, ◌+◌, ◌-◌, ◌==◌, nat_le, nat_lt, Bool, true, false, ◌&&◌, not, if◌then◌else◌, List, [], length, map, take, slice_get, slice_index_or, sum_by, Option, Some, None, is_some}
+use Rattle.std.specs.List.{list_any}
+use Rattle.std.specs.Str.{IsCharBoundary}
+use Rattle.scm_types.specs.declared.file.File.{File}
+use Rattle.scm_types.specs.declared.line.ChangeType.{ChangeType}
+use Rattle.scm_types.specs.declared.line.ChangeType.TheVariants.{Added, Removed}
+use Rattle.scm_types.specs.declared.line.SectionChangedLine.{SectionChangedLine}
+use Rattle.scm_types.specs.declared.section.Section.{Section}
+use Rattle.scm_types.specs.declared.section.Section.TheVariants as sections
+use Rattle.scm_types.specs.declared.keys.LineKey.{LineKey}
+use Rattle.scm_types.specs.declared.keys.SelectionKey.{SelectionKey}
+use Rattle.scm_types.specs.declared.keys.SelectionKey.TheVariants as keys
+use Rattle.scm_cells.specs.Clusters.{text_width}
+use Rattle.scm_cells.specs.Replaced.{line_pieces}
+use Rattle.scm_cells.specs.declared.style.Style.{Style}
+use Rattle.scm_diff.specs.Words.{AreSpans}
+use Rattle.scm_diff.specs.declared.words.WordSpan.{WordSpan}
+use Rattle.scm_widgets.specs.declared.ids.ComponentId.{ComponentId}
+use Rattle.scm_widgets.specs.declared.ids.ComponentId.TheVariants as ids
+use Rattle.scm_document.specs.declared.commit_view.CommitViewMode.{CommitViewMode}
+use Rattle.scm_document.specs.declared.commit_view.CommitViewMode.TheVariants.{Inline, Adjacent}
+use Rattle.scm_record.specs.FrameQueries.{hit}
+use Rattle.scm_record.specs.Frames.{scene_of}
+use Rattle.scm_record.specs.Live.{Live}
+use Rattle.scm_front_paint.specs.declared.words.Columns.{Columns}
+use Rattle.scm_front_paint.specs.Capped.{capped}
+use Rattle.scm_front_paint.specs.Pane.{is_free}
+
+-- ---- pairs of lines
+
+-- a removed line, the added line that replaces it, and which of them is meant
+pub record Pair : Type 0 where
+  pub old : List ℕ
+  pub new : List ℕ
+  pub is_old : Bool
+
+-- the pair of two lines, if the first is removed and the second added
+abbrev pub pair_of_kinds : Bool → ChangeType → List ℕ → ChangeType → List ℕ → Option Pair
+pair_of_kinds is_old Removed old Added new = Some (record { old = old; new = new; is_old = is_old })
+pair_of_kinds is_old Removed old Removed new = None
+pair_of_kinds is_old Added old Added new = None
+pair_of_kinds is_old Added old Removed new = None
+
+abbrev pub pair_of_both : Bool → Option SectionChangedLine → Option SectionChangedLine → Option Pair
+pair_of_both is_old None second = None
+pair_of_both is_old (Some first) None = None
+pair_of_both is_old (Some first) (Some second) = pair_of_kinds is_old first.change_type first.line second.change_type second.line
+
+-- the pair of lines `line` and `line + 1`, counted from 0
+abbrev pub pair_at : Bool → List SectionChangedLine → ℕ → Option Pair
+pair_at is_old lines line = pair_of_both is_old (slice_get lines line) (slice_get lines (line + 1))
+
+abbrev pub or_before : Option Pair → List SectionChangedLine → ℕ → Option Pair
+or_before (Some pair) lines line = Some pair
+or_before None lines line = if line == 0 then None else pair_at false lines (line - 1)
+
+-- the pair of line `line`: with the line behind it, or with the one before it
+abbrev pub pair_of : List SectionChangedLine → ℕ → Option Pair
+pair_of lines line = or_before (pair_at true lines line) lines line
+
+abbrev pub pair_in_section : Option Section → ℕ → Option Pair
+pair_in_section None line = None
+pair_in_section (Some (sections.Unchanged lines)) line = None
+pair_in_section (Some (sections.Changed lines)) line = pair_of lines line
+pair_in_section (Some (sections.FileMode is_checked mode)) line = None
+pair_in_section (Some (sections.Binary is_checked old new)) line = None
+
+abbrev pub pair_in_file : Option File → LineKey → Option Pair
+pair_in_file None key = None
+pair_in_file (Some file) key = pair_in_section (slice_get file.sections key.section_idx) key.line_idx
+
+-- the pair of the line that a key names, if it has one
+abbrev pub pair_of_key : List File → LineKey → Option Pair
+pair_of_key files key = pair_in_file (slice_get files key.file_idx) key
+
+-- ---- columns
+
+-- the columns that a text takes on the screen, with its replacements
+abbrev pub shown_width : List ℕ → ℕ
+shown_width text = capped (sum_by text_width (line_pieces text))
+
+-- the column of the window at which byte `at` of a line stands: behind the sign of the line, which ends before column 10
+abbrev pub column_of : List ℕ → ℕ → ℕ
+column_of text at = capped (shown_width (take at text) + 10)
+
+-- the columns of bytes `start..end`
+abbrev pub columns_of_bytes : List ℕ → ℕ → ℕ → Columns
+columns_of_bytes text start end = record { start = column_of text start; end = column_of text end }
+
+-- the columns of a differing part
+abbrev pub columns_of_span : Bool → List ℕ → List ℕ → WordSpan → Columns
+columns_of_span true old new span = columns_of_bytes old span.old_start span.old_end
+columns_of_span false old new span = columns_of_bytes new span.new_start span.new_end
+
+-- the ends of a differing part are borders of characters
+pub record HasBorders (old new : List ℕ) (span : WordSpan) : Type 0 where
+  pub old_first : IsCharBoundary old span.old_start
+  pub old_last : IsCharBoundary old span.old_end
+  pub new_first : IsCharBoundary new span.new_start
+  pub new_last : IsCharBoundary new span.new_end
+
+-- the columns are those of the parts in which the lines of a pair differ
+pub record AreColumns (old new : List ℕ) (is_old : Bool) (columns : List Columns) : Type 0 where
+  pub spans : List WordSpan
+  pub are_spans : AreSpans old new spans
+  pub columns_are : columns ≡ map (columns_of_span is_old old new) spans
+
+-- ---- rows
+
+-- the line of a component, if it is one
+abbrev pub line_of_key : SelectionKey → Option LineKey
+line_of_key keys.None = None
+line_of_key (keys.File key) = None
+line_of_key (keys.Section key) = None
+line_of_key (keys.Line key) = Some key
+
+abbrev pub line_of : Option ComponentId → Option LineKey
+line_of None = None
+line_of (Some ids.App) = None
+line_of (Some ids.AppFiles) = None
+line_of (Some ids.CommitMessageView) = None
+line_of (Some (ids.CommitEditMessageButton commit)) = None
+line_of (Some ids.MenuBar) = None
+line_of (Some ids.MenuHeader) = None
+line_of (Some (ids.Menu menu)) = None
+line_of (Some (ids.MenuItem item)) = None
+line_of (Some (ids.FileViewHeader key)) = None
+line_of (Some (ids.SelectableItem key)) = line_of_key key
+line_of (Some (ids.ToggleBox key)) = None
+line_of (Some (ids.ExpandBox key)) = None
+line_of (Some ids.HelpDialog) = None
+line_of (Some ids.HelpDialogQuitButton) = None
+line_of (Some ids.QuitDialog) = None
+line_of (Some (ids.QuitDialogButton button)) = None
+
+abbrev pub is_inline : CommitViewMode → Bool
+is_inline Inline = true
+is_inline Adjacent = false
+
+-- whether nothing lies over the lines: no dialog and no menu is open, and one commit is shown
+abbrev pub is_bare : Live → Bool
+is_bare l = is_free l && (not (is_some l.session.shown.open_menu) && is_inline l.session.shown.view_mode)
+
+-- the line on row `row` of the screen: a click on column 8, where its sign stands, acts on it
+abbrev pub line_on : Live → ℕ → Option LineKey
+line_on l row = line_of (hit (scene_of l.kind l.session) l.session.scroll row 8)
+
+abbrev pub pair_of_line : List File → Option LineKey → Option Pair
+pair_of_line files None = None
+pair_of_line files (Some key) = pair_of_key files key
+
+-- the pair of the line on row `row` of the screen
+abbrev pub pair_on : Live → ℕ → Option Pair
+pair_on l row = if is_bare l then pair_of_line l.session.shown.state.files (line_on l row) else None
+
+-- the columns are those that are set off for a pair, if there is one
+abbrev pub AreColumnsFor : Option Pair → List Columns → Type 0
+AreColumnsFor None columns = columns ≡ []
+AreColumnsFor (Some pair) columns = AreColumns pair.old pair.new pair.is_old columns
+
+-- the columns that are set off on each row of the screen
+pub record AreWords (l : Live) (words : List (List Columns)) : Type 0 where
+  pub many : length words ≡ length (scene_of l.kind l.session).frame.rows
+  pub on : (row : ℕ) → row < length words → AreColumnsFor (pair_on l row) (slice_index_or words row [])
+
+-- ---- styles
+
+-- whether columns have column `c`
+abbrev pub has_column : ℕ → Columns → Bool
+has_column c columns = nat_le columns.start c && nat_lt c columns.end
+
+-- what is set off is bold and underlined
+abbrev pub set_off : Bool → Style → Style
+set_off is_apart style = if is_apart then record style { bold = true; underlined = true } else style
+
+-- the style of a place, with the columns that are set off on its row
+abbrev pub with_words : List Columns → ℕ → Style → Style
+with_words columns c style = set_off (list_any (has_column c) columns) style

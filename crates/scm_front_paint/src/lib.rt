@@ -1,0 +1,22 @@
+//! How a layer looks: its session and a status row on a terminal, sideways, with words set off, in a theme.
+//!
+//! A [`View`] is a [`Front`](scm_front::Front) on a terminal. A [`FrontPainter`] makes the bytes that show
+//! it.
+#![tactic(auto)]
+
+mod cut;
+pub mod laws;
+mod line_words;
+mod painter;
+pub mod pane;
+mod shown;
+mod status;
+mod status_painter;
+pub mod themes;
+pub mod view;
+mod words;
+
+pub use painter::FrontPainter;
+pub use pane::{Heard, Pane, heard_as};
+pub use themes::{Theme, themed};
+pub use view::{View, ViewEditing, ViewTurn};

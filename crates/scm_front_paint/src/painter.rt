@@ -1,0 +1,246 @@
+//! Painting a view: the session's screen, and the status row below it.
+ghost use Rattle.std.specs.Prelude.{◌≡◌, ◌-◌, IfErr, IfOk, OnErr, OnOk, Some, string_bytes};
+ghost use Rattle.scm_errors.specs.declared.error.RecordError.TheVariants.{OutOfMemory};
+ghost use Rattle.scm_terminal.specs.Promise.{Paints};
+ghost use Rattle.scm_record.specs.Frames.{columns_of};
+ghost use Rattle.scm_record.specs.Painted.{screen_of};
+ghost use Rattle.scm_front_paint.specs.Below.{PaintsView, is_of, known_to, no_pictures, pictures_of, rows_shown, width_of};
+ghost use Rattle.scm_front_paint.specs.Cut.{CutFails, IsCut};
+ghost use Rattle.scm_front_paint.specs.ShownView.{style_in};
+ghost use Rattle.scm_front_paint.specs.Sideways.{sideways_picture};
+
+use crate::cut::cut_of;
+use crate::line_words::LineWords;
+use crate::shown::{Moved, Shown};
+use crate::status::{left_text, right_of};
+use crate::status_painter::StatusPainter;
+use crate::themes::Theme;
+use crate::view::View;
+use crate::words::words_of;
+use scm_record::{Grid, Painter, RecordError};
+use std::alloc::Global;
+use std::mem::replace;
+
+/// Returns the bytes that paint the whole screen of a session, whose first column is `x` = 0.
+fn paint_whole(
+    painter: &mut Painter,
+    shown: &Shown<'_, '_>,
+    grid: &Grid,
+    x: usize,
+) -> Result<String, RecordError>
+    requires width { grid.now.width ≡ columns_of shown.now.session.now.kind }
+    requires rows { grid.now.rows ≡ (screen_of shown.now.session.now).rows }
+    requires zero { x ≡ 0 }
+    ensures ok { IfOk result (λ text. Paints (columns_of shown.now.session.now.kind - x)
+        painter.old (sideways_picture x (style_in shown.now) (screen_of shown.now.session.now))
+        (string_bytes text)) }
+    ensures painted { OnOk result (painter.new
+        ≡ sideways_picture x (style_in shown.now) (screen_of shown.now.session.now)) }
+    ensures err { IfErr result (λ e. e ≡ OutOfMemory) }
+{
+    let _width = grid.width();
+    painter.paint(grid, shown)
+}
+
+/// Returns the bytes that paint `cut`, the columns of the session's screen from `x` on.
+fn paint_part(
+    painter: &mut Painter,
+    shown: &Shown<'_, '_>,
+    cut: &Grid,
+    x: usize,
+    _grid: &Grid,
+) -> Result<String, RecordError>
+    requires width { _grid.now.width ≡ columns_of shown.now.session.now.kind }
+    requires rows { _grid.now.rows ≡ (screen_of shown.now.session.now).rows }
+    requires cut { IsCut cut.now _grid.now x }
+    ensures ok { IfOk result (λ text. Paints (columns_of shown.now.session.now.kind - x)
+        painter.old (sideways_picture x (style_in shown.now) (screen_of shown.now.session.now))
+        (string_bytes text)) }
+    ensures painted { OnOk result (painter.new
+        ≡ sideways_picture x (style_in shown.now) (screen_of shown.now.session.now)) }
+    ensures err { IfErr result (λ e. e ≡ OutOfMemory) }
+{
+    let moved = Moved { shown, x };
+    painter.paint(cut, &moved)
+}
+
+/// What paints the session's rows, and a grid for their columns.
+#[derive(Drop)]
+struct SessionPainter {
+    /// The painter of the rows.
+    painter: Painter,
+    /// The last cut, if the terminal stood further right.
+    cut: Option<Grid>,
+}
+
+/// Returns the bytes that paint the columns of the session's screen from `x` on.
+fn paint_session(
+    alloc: Global,
+    session: &mut SessionPainter,
+    shown: &Shown<'_, '_>,
+    x: usize,
+) -> Result<String, RecordError>
+    ensures ok { IfOk result (λ text. Paints (columns_of shown.now.session.now.kind - x)
+        session.old.painter
+        (sideways_picture x (style_in shown.now) (screen_of shown.now.session.now))
+        (string_bytes text)) }
+    ensures painted { OnOk result (session.new.painter
+        ≡ sideways_picture x (style_in shown.now) (screen_of shown.now.session.now)) }
+    ensures err { IfErr result (λ e. CutFails e) }
+{
+    let grid = shown.session.grid();
+    if x == 0 {
+        let text = paint_whole(&mut session.painter, shown, grid, x)?;
+        return Ok(text);
+    }
+    let last = session.cut.take();
+    let cut = cut_of(alloc, last, grid, x)?;
+    let text = paint_part(&mut session.painter, shown, &cut, x, grid)?;
+    session.cut = Some(cut);
+    Ok(text)
+}
+
+/// Returns the number of columns that the terminal shows of the session of `view`.
+fn width_of(view: &View<'_>) -> u16
+    ensures { result ≡ width_of view.now }
+{
+    let grid = view.front().beneath().grid();
+    let width = grid.width();
+    width.saturating_sub(view.offset() as usize) as u16
+}
+
+/// Returns the number of rows of the session of `view`.
+fn rows_of(view: &View<'_>) -> u16
+    ensures { result ≡ rows_shown view.now.front.beneath }
+{
+    let grid = view.front().beneath().grid();
+    grid.height() as u16
+}
+
+/// Returns whether `size` is that of `width` columns and `height` rows.
+fn is_of(size: Option<(usize, usize)>, width: usize, height: usize) -> bool
+    ensures { result ≡ is_of size width height }
+{
+    match size {
+        None => false,
+        Some((columns, rows)) => columns == width && rows == height,
+    }
+}
+
+/// A painter of views on one terminal. It keeps what it painted last, and writes only the rows that differ.
+///
+/// After another program wrote to the terminal, `forget` makes the next `paint` write all rows again.
+#[derive(Drop)]
+pub struct FrontPainter {
+    /// The allocator of the texts.
+    alloc: Global,
+    /// The colours of the terminal.
+    theme: Theme,
+    /// The painter of the session's rows.
+    session: SessionPainter,
+    /// The painter of the status row, and of blanks above it, which it writes only if it knows nothing.
+    status: StatusPainter,
+    /// What is set off on each row of the session's screen that was painted last.
+    words: Vec<Option<LineWords>>,
+    /// The columns and rows of the session that were painted last, if any.
+    size: Option<(usize, usize)>,
+}
+
+impl FrontPainter {
+    /// Makes a painter without a last picture: what the terminal shows is unknown. It paints in the colours
+    /// of `theme`.
+    pub fn new(alloc: Global, theme: Theme) -> FrontPainter
+        ensures pictures { pictures_of result ≡ no_pictures }
+        ensures theme { result.theme ≡ theme }
+    {
+        FrontPainter {
+            alloc,
+            theme,
+            session: SessionPainter {
+                painter: Painter::new(alloc),
+                cut: None,
+            },
+            status: StatusPainter::new(alloc),
+            words: Vec::new(alloc),
+            size: None,
+        }
+    }
+
+    /// Forgets the last picture, so that the next `paint` writes all rows.
+    pub fn forget(&mut self)
+        ensures pictures { pictures_of self.new ≡ no_pictures }
+        ensures theme { self.new.theme ≡ self.old.theme }
+    {
+        self.session.painter.forget();
+        self.status.forget();
+        self.size = None;
+    }
+
+    /// Returns the bytes that make a terminal show `view`: its session from a column on, and below it the
+    /// status row, which says by `accept` what accepting does. The terminal has the size of the view.
+    ///
+    /// # Errors
+    ///
+    /// The painter forgets what it painted last.
+    ///
+    /// - `OutOfMemory`: an allocation failed.
+    /// - `Bug`: the view is sideways, and a symbol of the screen is no cluster by itself. No text has such
+    ///   a symbol.
+    pub fn paint(&mut self, view: &View<'_>, accept: &str) -> Result<String, RecordError>
+        ensures ok { IfOk result (λ text.
+            PaintsView self.old self.new view.now accept.now (string_bytes text)) }
+        ensures forgotten { OnErr result (pictures_of self.new ≡ no_pictures) }
+        ensures err { IfErr result (λ e. CutFails e) }
+    {
+        match self.paint_both(view, accept) {
+            Ok(text) => Ok(text),
+            Err(error) => {
+                self.forget();
+                Err(error)
+            }
+        }
+    }
+
+    /// Returns the bytes of both, as [`FrontPainter::paint`] does. After an error the pictures may be
+    /// those of either.
+    fn paint_both(&mut self, view: &View<'_>, accept: &str) -> Result<String, RecordError>
+        ensures ok { IfOk result (λ text.
+            PaintsView self.old self.new view.now accept.now (string_bytes text)) }
+        ensures err { IfErr result (λ e. CutFails e) }
+    {
+        let _pane = view.pane();
+        let session = view.front().beneath();
+        let width = width_of(view);
+        let height = rows_of(view);
+        let left = left_text(self.alloc, view.front())?;
+        let right = right_of(self.alloc, view.front(), accept)?;
+        let kept = replace(&mut self.words, Vec::new(self.alloc));
+        let words = words_of(self.alloc, session, kept)?;
+        self.keep_size(width as usize, height as usize);
+        let mut text = self
+            .status
+            .paint(self.alloc, width, height, left.as_str(), right.as_str())?;
+        let shown = Shown {
+            session,
+            words: words.as_slice(),
+            theme: self.theme,
+        };
+        let x = view.offset() as usize;
+        let rows = paint_session(self.alloc, &mut self.session, &shown, x)?;
+        text.push_str(rows.as_str())?;
+        self.words = words;
+        Ok(text)
+    }
+
+    /// Forgets the last picture if it is not of `width` columns and `height` rows of the session.
+    fn keep_size(&mut self, width: usize, height: usize)
+        ensures known { pictures_of self.new ≡ known_to self.old width height }
+        ensures size { self.new.size ≡ Some (width, height) }
+        ensures theme { self.new.theme ≡ self.old.theme }
+    {
+        if !is_of(self.size, width, height) {
+            self.forget();
+        }
+        self.size = Some((width, height));
+    }
+}
