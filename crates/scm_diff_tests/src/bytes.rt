@@ -14,19 +14,17 @@ const TEXTS: &[(&[u8], &str)] = &[
     (b"a\rb\0\n", "a\rb\0\n"),
     (b"\xC3\xA9\xE6\x97\xA5\xF0\x9F\x98\x80", "é日\u{1F600}"),
     // Latin-1
-    (b"caf\xE9\n", "caf\u{10FFE9}\n"),
-    (b"\xC3\n", "\u{10FFC3}\n"),
-    (b"\x80\xFF", "\u{10FF80}\u{10FFFF}"),
+    (b"caf\xE9\n", "caf\u{E00E9}\n"),
+    (b"\xC3\n", "\u{E00C3}\n"),
+    (b"\x80\xFF", "\u{E0080}\u{E00FF}"),
     // cut off, too long, a surrogate
-    (b"\xE6\x97", "\u{10FFE6}\u{10FF97}"),
-    (b"\xC0\x80", "\u{10FFC0}\u{10FF80}"),
-    (b"\xED\xA0\x80", "\u{10FFED}\u{10FFA0}\u{10FF80}"),
-    // a reserved character, and the one before them
-    (
-        b"\xF4\x8F\xBF\xA9",
-        "\u{10FFF4}\u{10FF8F}\u{10FFBF}\u{10FFA9}",
-    ),
-    (b"\xF4\x8F\xBD\xBF", "\u{10FF7F}"),
+    (b"\xE6\x97", "\u{E00E6}\u{E0097}"),
+    (b"\xC0\x80", "\u{E00C0}\u{E0080}"),
+    (b"\xED\xA0\x80", "\u{E00ED}\u{E00A0}\u{E0080}"),
+    // a reserved character, and the ones around them
+    (b"\xF3\xA0\x83\xA9", "\u{E00F3}\u{E00A0}\u{E0083}\u{E00A9}"),
+    (b"\xF3\xA0\x81\xBF", "\u{E007F}"),
+    (b"\xF3\xA0\x84\x80", "\u{E0100}"),
 ];
 
 /// The old and the new bytes of a file.
@@ -35,7 +33,7 @@ const FILES: &[(&[u8], &[u8])] = &[
     (b"caf\xE9\n", b"cafe\n"),
     (b"caf\xE9", b"caf\xE8"),
     (b"a\0b\n", b"a\0\n"),
-    (b"\xF4\x8F\xBF\xA9\n", b"\xE9\n"),
+    (b"\xF3\xA0\x83\xA9\n", b"\xE9\n"),
 ];
 
 /// Two lines, and the spans in which they differ: for each its bytes in both.
@@ -58,9 +56,18 @@ const WORDS: &[Difference] = &[
     ("a «b» c", "a «d» c", &[(2, 7, 2, 7)]),
     ("f(\u{1F600})", "f(\u{1F601})", &[(2, 6, 2, 6)]),
     ("e\u{301}=1", "e=1", &[(0, 3, 0, 1)]),
-    ("caf\u{10FFE9}, b", "caf\u{10FFE8}, b", &[(0, 7, 0, 7)]),
+    ("caf\u{E00E9}, b", "caf\u{E00E8}, b", &[(0, 7, 0, 7)]),
     ("a b", "a  b", &[(1, 2, 1, 3)]),
     ("end", "end\n", &[(3, 3, 3, 4)]),
+    // a combining mark belongs to its sign, here U+0338 to `=`
+    ("a = b", "a =\u{338} b", &[(2, 3, 2, 5)]),
+    ("a =\u{338}b", "a =\u{338}c", &[(5, 6, 5, 6)]),
+    ("x\u{301}(", "x\u{301}(\u{301}", &[(3, 4, 3, 6)]),
+    ("a \u{301}b", "a b", &[(1, 4, 1, 2)]),
+    // so does what a joiner joins, and what stands behind a sign that goes before
+    ("+\u{200D}-", "+-", &[(0, 4, 0, 1)]),
+    ("\u{600}=1", "\u{600}+1", &[(0, 3, 0, 3)]),
+    ("x\r\n", "x\n", &[(1, 3, 1, 2)]),
 ];
 
 /// Checks the text of the bytes, and that it gives them back.

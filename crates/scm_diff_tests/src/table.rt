@@ -32,6 +32,9 @@ const DIFFERENCES: &[Difference] = &[
         &[(4, 4, 4, 8)],
     ),
     ("é\nb\n", "b\né\n", &[(0, 1, 0, 0), (2, 2, 1, 2)]),
+    // lines that reach another hunk are joined to it
+    ("p\n\nif\nx\n\nw\n", "p\ni\n\nw\n", &[(1, 4, 1, 2)]),
+    ("x\n\nq\n", "x\ny\nz\n\n\nq\n", &[(1, 1, 1, 4)]),
 ];
 
 /// Two texts, the marks of the changed lines (the first one is the lowest bit), and the two sides.

@@ -1,9 +1,16 @@
-//! Tests of the state's marks, splits and limits, of errors, lists and texts, and of keys.
+//! Tests of the state's marks, splits, limits, JSON and memory, of errors, lists and texts, of keys, and of states
+//! that a program makes by additions.
 #![tactic(auto)]
 
+#[cfg(test)]
+mod additions;
+#[cfg(test)]
+mod forms;
 #[cfg(test)]
 mod keys;
 #[cfg(test)]
 mod memory;
+#[cfg(test)]
+mod refused_splits;
 #[cfg(test)]
 mod types;

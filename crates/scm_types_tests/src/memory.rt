@@ -1,34 +1,157 @@
-//! Tests of what an allocation failure leaves of a file that is split. `tools/refuse-memory` runs each
-//! test with each of its allocations refused. The checks hold then, and the test passes or ends in
-//! `OutOfMemory`.
-use scm_samples::{HELD, Held, file_holding};
-use scm_types::{File, RecordError};
+//! Memory. No contract can say that memory is requested only where it is needed. So with ample
+//! memory the calls that allocate are run, on arguments small and large. The other calls succeed
+//! where requests are refused: `tools/refuse-memory` runs the tests named for refused memory, and
+//! refuses each of their requests in turn.
+use scm_samples::{ADDED, DEFAULT, binary, changed, context, file_of, owned, text_of};
+use scm_types::{
+    Commit, File, FileMode, IsizeExt, RecordError, RecordState, Section, Text, Tristate, UsizeExt,
+    make_binary_description,
+};
 use std::alloc::Global;
 use std::process::Abort;
 
-/// Splits a file: split or refused, it equals its copy.
-fn check_split(
-    rt: &impl Abort,
-    alloc: Global,
-    file: &File<'_>,
-    copy: &File<'_>,
-) -> Result<(), RecordError> {
-    let outcome = file.get_selected_contents(alloc);
-    assert!(rt; file == copy);
-    let _sides = outcome?;
+/// Describes bytes by `text` and a size of one digit, and checks the length.
+fn check_description(rt: &impl Abort, alloc: Global, text: &str) -> Result<(), RecordError> {
+    let description = make_binary_description(alloc, text, 7)?;
+    assert_eq!(rt; description.len(), text.len().saturating_add(10));
     Ok(())
 }
 
-/// Splits a file that holds this.
-fn check_held(rt: &impl Abort, alloc: Global, held: Held) -> Result<(), RecordError> {
-    let file = file_holding(alloc, held)?;
-    check_split(rt, alloc, &file, &file.try_clone(alloc)?)
+/// Copies `text`, and checks the copies.
+fn check_text(rt: &impl Abort, alloc: Global, text: &Text<'_>) -> Result<(), RecordError> {
+    assert!(rt; text.clone()? == *text);
+    assert!(rt; text.try_clone(alloc)? == *text);
+    Ok(())
+}
+
+/// Copies a commit with `message`, and checks the copy.
+fn check_commit(rt: &impl Abort, alloc: Global, message: &str) -> Result<(), RecordError> {
+    let commit = Commit {
+        message: Some(owned(alloc, message)?),
+    };
+    assert!(rt; commit.try_clone(alloc)? == commit);
+    Ok(())
+}
+
+/// Copies a text of `count` bytes, and what contains it.
+fn check_texts(rt: &impl Abort, alloc: Global, count: usize) -> Result<(), RecordError> {
+    let text = Text::from(text_of(alloc, count)?);
+    check_description(rt, alloc, text.as_str())?;
+    check_text(rt, alloc, &text)?;
+    check_commit(rt, alloc, text.as_str())
 }
 
 #[test]
-fn refused_memory_keeps_files(rt: HostRuntime) -> Result<(), RecordError> {
-    for held in HELD {
-        check_held(&rt, rt.alloc(), held)?;
+fn texts_of_any_size_are_copied(rt: HostRuntime) -> Result<(), RecordError> {
+    let alloc = rt.alloc();
+    for count in [0, 1, 10_000] {
+        check_texts(&rt, alloc, count)?;
     }
+    Ok(())
+}
+
+// ---- calls that take no memory
+
+/// Returns a state of one file with a section of each kind, partly checked.
+fn marked_state(alloc: Global) -> Result<RecordState<'static>, RecordError> {
+    let mut sections: Vec<Section<'static>> = Vec::new(alloc);
+    sections.push(context(alloc, &["a\n"])?)?;
+    sections.push(changed(alloc, &[(false, ADDED, "b\n"), (true, ADDED, "c\n")])?)?;
+    sections.push(Section::FileMode {
+        is_checked: false,
+        mode: DEFAULT,
+    })?;
+    sections.push(binary(true))?;
+    let mut state = RecordState::empty(alloc);
+    state.files.push(file_of(DEFAULT, sections))?;
+    Ok(state)
+}
+
+/// Checks the calls on the marks of a section.
+fn check_section(rt: &impl Abort, section: &mut Section<'_>) {
+    section.set_checked(true);
+    let is_editable = section.is_editable();
+    assert_eq!(rt; section.tristate(), Tristate::from(is_editable));
+    section.toggle_all();
+    assert_eq!(rt; section.tristate(), Tristate::False);
+}
+
+/// Checks the calls on the marks of a file, and of each of its sections.
+fn check_marks(rt: &impl Abort, file: &mut File<'_>) {
+    assert_eq!(rt; file.tristate(), Tristate::Partial);
+    file.set_checked(true);
+    assert_eq!(rt; file.tristate(), Tristate::True);
+    file.toggle_all();
+    file.repair();
+    assert_eq!(rt; file.tristate(), Tristate::False);
+    for section in file.sections.iter_mut() {
+        check_section(rt, section);
+    }
+}
+
+/// Checks the calls on the files of a state.
+fn check_state(rt: &impl Abort, state: &mut RecordState<'_>) {
+    assert!(rt; state.is_accepted());
+    // a file, its four sections, and their three lines
+    assert_eq!(rt; state.size(), 8);
+    for file in state.files.iter_mut() {
+        check_marks(rt, file);
+    }
+}
+
+/// Checks the empty values.
+fn check_empty(rt: &impl Abort, alloc: Global) {
+    let empty = RecordState::empty(alloc);
+    assert!(rt; empty.is_accepted() && empty.commits.is_empty() && empty.files.is_empty());
+    assert_eq!(rt; empty.size(), 0);
+    assert!(rt; Commit::default().message.is_none());
+}
+
+/// Checks the conversions to modes.
+fn check_modes(rt: &impl Abort) {
+    assert_eq!(rt; FileMode::from(0o100644_usize), DEFAULT);
+    assert!(rt; matches!(FileMode::try_from(0o100644_u32), Ok(mode) if mode == DEFAULT));
+    assert!(rt; matches!(FileMode::try_from(0o100644_i32), Ok(mode) if mode == DEFAULT));
+    assert!(rt; FileMode::try_from(-1_i32).is_err());
+}
+
+/// Checks the conversions of numbers.
+fn check_numbers(rt: &impl Abort) {
+    assert_eq!(rt; 7_usize.unwrap_isize(), 7);
+    assert_eq!(rt; 7_isize.unwrap_usize(), 7);
+    assert_eq!(rt; UsizeExt::clamp_into_u16(65_536), 65_535);
+    assert_eq!(rt; IsizeExt::clamp_into_u16(-1), 0);
+    assert_eq!(rt; IsizeExt::clamp_into_usize(-1), 0);
+}
+
+/// Copies `state`: the copy equals it, or memory is refused.
+fn check_copy(
+    rt: &impl Abort,
+    alloc: Global,
+    state: &RecordState<'_>,
+    same: &RecordState<'_>,
+) -> Result<(), RecordError> {
+    let outcome = state.try_clone(alloc);
+    assert!(rt; state == same);
+    assert!(rt; outcome? == *same);
+    Ok(())
+}
+
+#[test]
+fn refused_memory_keeps_states(rt: HostRuntime) -> Result<(), RecordError> {
+    let alloc = rt.alloc();
+    let state = marked_state(alloc)?;
+    check_copy(&rt, alloc, &state, &marked_state(alloc)?)
+}
+
+#[test]
+fn refused_memory_stops_no_call_that_takes_none(rt: HostRuntime) -> Result<(), RecordError> {
+    let alloc = rt.alloc();
+    check_empty(&rt, alloc);
+    check_modes(&rt);
+    check_numbers(&rt);
+    assert_eq!(rt; Tristate::from(true), Tristate::True);
+    let mut state = marked_state(alloc)?;
+    check_state(&rt, &mut state);
     Ok(())
 }

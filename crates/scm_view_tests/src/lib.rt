@@ -12,6 +12,8 @@ mod over_letters;
 #[cfg(test)]
 mod painted;
 #[cfg(test)]
+mod pieces;
+#[cfg(test)]
 mod same_answers;
 #[cfg(test)]
 mod shown;

@@ -52,6 +52,25 @@ fn check_spans(rt: &impl Abort, rows: &StateRows, whole: &FrameIndex, keys: &[Se
     }
 }
 
+/// Checks that both indexes answer alike of each place of row `row`, and that the runs of `index` have
+/// the owners of their first and last places.
+fn check_row(rt: &impl Abort, index: &LayoutIndex, whole: &FrameIndex, row: usize) {
+    let owners = index.row_owners(row);
+    for column in 0..32 {
+        let owner = whole.owner(row, column);
+        let run = index.run_on(owners, column);
+        let last = index.owner(row, run.end - 1);
+        assert!(rt;
+            index.owner(row, column) == owner,
+            "row {row}, column {column}"
+        );
+        assert!(rt;
+            run.owner == owner && last == owner,
+            "run at row {row}, column {column}"
+        );
+    }
+}
+
 /// Checks that both indexes answer alike of each place of the frame of `view_state`, of `keys`, and
 /// of the extent.
 fn check_frame(
@@ -76,12 +95,7 @@ fn check_frame(
         assert!(rt; index.span(*key) == whole.span(*key), "{key:?}");
     }
     for row in 0..50 {
-        for column in 0..32 {
-            assert!(rt;
-                index.owner(row, column) == whole.owner(row, column),
-                "row {row}, column {column}"
-            );
-        }
+        check_row(rt, &index, &whole, row);
     }
     Ok(())
 }

@@ -110,8 +110,9 @@ fn check_state(
 fn visible_views_show_the_document(rt: HostRuntime) -> Result<(), RecordError> {
     // 170 rows hold the message, and of each file a header, 8 rows of each of three groups of
     // sections, and a binary change; where all are unfolded but the first file, six rows show at most
-    // four sections of a file, and one is kept on either side
-    for (step, most) in [(2, 10), (3, 10), (7, 10), (1000, 6)] {
+    // four sections of a file, and one is kept on either side; seven rows have at most nine views, and
+    // one of them is that of a file
+    for (step, most) in [(2, 8), (3, 8), (7, 8), (1000, 6)] {
         check_state(&rt, rt.alloc(), step, most)?;
     }
     Ok(())

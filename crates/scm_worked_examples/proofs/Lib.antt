@@ -2,6 +2,8 @@
 pub mod Computing
 -- texts that are cut, with an ellipsis
 pub mod Ellipses
+-- what a line shows of bytes that are no UTF-8
+pub mod Bytes
 -- the rows of two small files
 pub mod Documents
 -- menus and dialogs

@@ -1,12 +1,12 @@
 //! The calls of a front, each once.
-use crate::sessions::{front_of, tell_turn};
-use crate::states::state_of_three_files;
-use scm_front::{Action, Front, FrontTurn, Typing, action_of, item_towards};
+use crate::layer::sessions::{front_of, tell_turn};
+use crate::layer::states::state_of_files;
+use scm_front::{Action, Front, FrontTurn, Mode, Typing, Way, action_of, item_towards};
 use scm_record::key_lists::{file_key, line_key};
 use scm_record::keys::is_key;
 use scm_record::{
     Commit, Event, KeyCode, KeyEvent, KeyEventKind, KeyModifiers, OwnedText, RecordError,
-    SelectionKey, TerminalEvent, TerminalKind, Way,
+    SelectionKey, TerminalEvent, TerminalKind,
 };
 use std::alloc::Global;
 use std::test::Fail;
@@ -79,7 +79,7 @@ fn after(
 
 /// Returns a front over the state of the table, whose commit has the message `old`.
 fn first_turn(alloc: Global) -> Result<FrontTurn<'static>, RecordError> {
-    let mut state = state_of_three_files(alloc)?;
+    let mut state = state_of_files(alloc)?;
     state.commits.push(Commit {
         message: Some(OwnedText::from(String::from_str(alloc, "old")?)),
     })?;
@@ -170,16 +170,16 @@ fn calls_lead_where_the_table_says(rt: HostRuntime) -> Result<(), Fail> {
 
 #[test]
 fn keys_are_known_without_a_session(rt: HostRuntime) -> Result<(), Fail> {
-    let again = action_of(false, true, pressed('n'));
+    let again = action_of(Mode::Free, &[], pressed('n'));
     assert!(rt; matches!(again, Action::Again(Way::Down)));
-    let typed = action_of(true, true, pressed('n'));
+    let typed = action_of(Mode::Asking, &[], pressed('n'));
     assert!(rt; matches!(typed, Action::Edit(Typing::Add('n'))));
     Ok(())
 }
 
 /// Returns the item that a search for `pattern` finds from file 0.
 fn found(alloc: Global, way: Way, pattern: &str) -> Result<Option<SelectionKey>, RecordError> {
-    let state = state_of_three_files(alloc)?;
+    let state = state_of_files(alloc)?;
     Ok(item_towards(way, pattern, state.files.as_slice(), file_key(0)))
 }
 

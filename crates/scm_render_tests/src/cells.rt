@@ -3,7 +3,7 @@
 ghost use Rattle.std.specs.Prelude.{◌≡◌};
 
 use scm_cells::{
-    Clusters, Grid, Line, Mask, Rect, RectSize, ScreenRect, Span, push_spans_from_line,
+    Clusters, Column, Grid, Line, Mask, Rect, RectSize, ScreenRect, Span, push_spans_from_line,
     replace_control_character, text_width,
 };
 use scm_errors::RecordError;
@@ -279,6 +279,12 @@ fn texts_on_a_grid(rt: HostRuntime) -> Result<(), RecordError> {
         (isize::MIN, "ab", 0, 6, "\"      \"\n"),
         (0, "e\u{301}x", 0, 6, "\"e\u{301}x    \"\n"),
         (-1, "👩\u{200D}👧b", 0, 6, "\" b    \"\n"),
+        (-2, "abc", 0, 6, "\"c     \"\n"),
+        (4, "abc", 0, 6, "\"    ab\"\n"),
+        (1, "abcd", 2, 4, "\"  bc  \"\n"),
+        (-3, "abc", 0, 6, "\"      \"\n"),
+        (-1, "[●]…⏎", 0, 6, "\"●]…⏎  \"\n"),
+        (1, "←±⋮→•", 2, 5, "\"  ±⋮→ \"\n"),
     ] {
         check_text(&rt, &mut grid, column, text, low, high, view)?;
     }
@@ -350,6 +356,39 @@ fn symbols_under_others(rt: HostRuntime) -> Result<(), RecordError> {
     put(&rt, &mut grid, 0, 0, "日本語", 0, 6)?;
     put(&rt, &mut grid, 0, 1, "x", 0, 6)?;
     check_view(&rt, &grid, "\" x本語\"\n")
+}
+
+/// Checks the symbol of the column at `index`, and its byte if it is printable ASCII.
+fn check_column(
+    rt: &impl Abort,
+    columns: &[Column],
+    index: usize,
+    symbol: &str,
+    ascii: Option<u8>,
+) {
+    assert!(rt; index < columns.len());
+    assert_eq!(rt; columns[index].symbol(), symbol);
+    assert_eq!(rt; columns[index].ascii(), ascii, "byte of {symbol:?}");
+}
+
+#[test]
+fn columns_of_a_row(rt: HostRuntime) -> Result<(), RecordError> {
+    let mut grid = Grid::new(rt.alloc(), 8, 2)?;
+    put(&rt, &mut grid, 1, 0, "a日 ~e\u{301}─", 0, 8)?;
+    for (index, symbol, ascii) in [
+        (0, "a", Some(b'a')),
+        (1, "日", None),
+        (2, "", None),
+        (3, " ", Some(b' ')),
+        (4, "~", Some(b'~')),
+        (5, "e\u{301}", None),
+        (6, "─", None),
+        (7, " ", Some(b' ')),
+    ] {
+        check_column(&rt, grid.columns(1), index, symbol, ascii);
+    }
+    assert_eq!(rt; grid.columns(2).len(), 0);
+    Ok(())
 }
 
 #[test]

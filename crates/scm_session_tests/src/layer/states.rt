@@ -47,17 +47,31 @@ fn gamma(alloc: Global) -> Result<File<'static>, RecordError> {
     Ok(file("Gamma", sections))
 }
 
-/// Returns the three files of the table.
+/// Returns the new file `delta`.
+fn delta(alloc: Global) -> Result<File<'static>, RecordError> {
+    let mut sections = Vec::new(alloc);
+    sections.push(Section::FileMode {
+        is_checked: false,
+        mode: DEFAULT,
+    })?;
+    sections.push(changed(alloc, &[(false, ADDED, "n1\n"), (false, ADDED, "n2\n")])?)?;
+    let mut file = file("delta", sections);
+    file.file_mode = FileMode::Absent;
+    Ok(file)
+}
+
+/// Returns the files of the table.
 fn files(alloc: Global) -> Result<Items<File<'static>>, RecordError> {
     let mut files = Items::new(alloc);
     files.push(alpha(alloc)?)?;
     files.push(beta(alloc)?)?;
     files.push(gamma(alloc)?)?;
+    files.push(delta(alloc)?)?;
     Ok(files)
 }
 
 /// Returns the state of the table.
-pub(crate) fn state_of_three_files(alloc: Global) -> Result<RecordState<'static>, RecordError> {
+pub(crate) fn state_of_files(alloc: Global) -> Result<RecordState<'static>, RecordError> {
     let files = files(alloc)?;
     Ok(RecordState {
         is_read_only: false,

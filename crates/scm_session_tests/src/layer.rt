@@ -1,0 +1,6 @@
+//! Tests of the layer over a live session.
+mod calls;
+mod rows;
+mod sessions;
+mod states;
+mod undo;

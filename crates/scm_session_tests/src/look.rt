@@ -1,0 +1,5 @@
+//! Tests of how the layer looks on a terminal.
+mod calls;
+mod rows;
+mod sessions;
+mod states;
