@@ -1,5 +1,6 @@
 //! What a user or a program asks of the selector.
 use crate::TestingScreenshot;
+use std::borrow::Cow;
 
 /// An event. The library's document `docs/RULES.md` says what each does.
 #[derive(Clone, Debug, Eq, PartialEq)]
@@ -72,50 +73,72 @@ pub enum Event {
     EditCommitMessage,
     /// Opens or closes the help.
     Help,
-    /// What a terminal sent, for the library's decoder.
-    #[cfg(not(feature = "crossterm"))]
-    #[doc(hidden)]
-    Typed(crate::typed::Typed),
 }
 
+/// The events with their words in scripts, but for clicks and screenshots.
+const WORDS: [(&str, Event); 29] = [
+    ("none", Event::None),
+    ("c", Event::QuitAccept),
+    ("q", Event::QuitCancel),
+    ("ctrl-c", Event::QuitInterrupt),
+    ("esc", Event::QuitEscape),
+    ("redraw", Event::Redraw),
+    ("ensure", Event::EnsureSelectionInViewport),
+    ("wheel-up", Event::ScrollUp),
+    ("wheel-down", Event::ScrollDown),
+    ("ctrl-b", Event::PageUp),
+    ("ctrl-f", Event::PageDown),
+    ("k", Event::FocusPrev),
+    ("pageup", Event::FocusPrevSameKind),
+    ("ctrl-u", Event::FocusPrevPage),
+    ("j", Event::FocusNext),
+    ("pagedown", Event::FocusNextSameKind),
+    ("ctrl-d", Event::FocusNextPage),
+    ("l", Event::FocusInner),
+    ("h", Event::FocusOuter { fold_section: true }),
+    (
+        "shift-h",
+        Event::FocusOuter {
+            fold_section: false,
+        },
+    ),
+    ("space", Event::ToggleItem),
+    ("enter", Event::ToggleItemAndAdvance),
+    ("a", Event::ToggleAll),
+    ("shift-A", Event::ToggleAllUniform),
+    ("f", Event::ExpandItem),
+    ("shift-F", Event::ExpandAll),
+    ("view", Event::ToggleCommitViewMode),
+    ("e", Event::EditCommitMessage),
+    ("?", Event::Help),
+];
+
 impl Event {
-    /// Returns the word of the event in scripts, or `None` if it has none.
-    pub(crate) fn word(&self) -> Option<&'static str> {
-        Some(match self {
-            Event::None => "none",
-            Event::QuitAccept => "c",
-            Event::QuitCancel => "q",
-            Event::QuitInterrupt => "ctrl-c",
-            Event::QuitEscape => "esc",
-            Event::Redraw => "redraw",
-            Event::EnsureSelectionInViewport => "ensure",
-            Event::ScrollUp => "wheel-up",
-            Event::ScrollDown => "wheel-down",
-            Event::PageUp => "ctrl-b",
-            Event::PageDown => "ctrl-f",
-            Event::FocusPrev => "k",
-            Event::FocusPrevSameKind => "pageup",
-            Event::FocusPrevPage => "ctrl-u",
-            Event::FocusNext => "j",
-            Event::FocusNextSameKind => "pagedown",
-            Event::FocusNextPage => "ctrl-d",
-            Event::FocusInner => "l",
-            Event::FocusOuter { fold_section: true } => "h",
-            Event::FocusOuter {
-                fold_section: false,
-            } => "shift-h",
-            Event::ToggleItem => "space",
-            Event::ToggleItemAndAdvance => "enter",
-            Event::ToggleAll => "a",
-            Event::ToggleAllUniform => "shift-A",
-            Event::ExpandItem => "f",
-            Event::ExpandAll => "shift-F",
-            Event::ToggleCommitViewMode => "view",
-            Event::EditCommitMessage => "e",
-            Event::Help => "?",
-            Event::TakeScreenshot(_) | Event::Click { .. } => return None,
-            #[cfg(not(feature = "crossterm"))]
-            Event::Typed(_) => return None,
-        })
+    /// Returns the word of the event in scripts, or `None` if it is a screenshot.
+    pub(crate) fn word(&self) -> Option<Cow<'static, str>> {
+        match self {
+            Event::TakeScreenshot(_) => None,
+            // no screen has so many rows and columns, so such a click is beside it too
+            Event::Click { row, column } => {
+                let nearest = |place: &usize| u16::try_from(*place).unwrap_or(u16::MAX);
+                Some(format!("click:{}:{}", nearest(row), nearest(column)).into())
+            }
+            _ => WORDS
+                .iter()
+                .find(|(_, event)| event == self)
+                .map(|(word, _)| (*word).into()),
+        }
+    }
+
+    /// Returns the event of a word, or `None` if it has none. The word `none` is the event `None`.
+    #[cfg_attr(feature = "crossterm", allow(dead_code))]
+    pub(crate) fn of_word(word: &str) -> Option<Event> {
+        if let Some(place) = word.strip_prefix("click:") {
+            let (row, column) = place.split_once(':')?;
+            let (row, column) = (row.parse().ok()?, column.parse().ok()?);
+            return Some(Event::Click { row, column });
+        }
+        let found = WORDS.iter().find(|(name, _)| *name == word);
+        found.map(|(_, event)| event.clone())
     }
 }

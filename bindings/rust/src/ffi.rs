@@ -1,5 +1,5 @@
 //! The library for C, as its header `scm.h` declares it. Only `session.rs` calls it.
-use std::os::raw::{c_char, c_void};
+use std::os::raw::{c_char, c_int, c_void};
 
 /// Stands for no file in a mode, and for nothing in a key.
 pub const NOTHING: usize = usize::MAX;
@@ -46,6 +46,7 @@ pub struct Key {
 }
 
 type Session = *mut Handle;
+type Asked = *const Handle;
 type Bytes = *const c_char;
 type Room = *mut c_char;
 
@@ -64,27 +65,32 @@ extern "C" {
     pub fn scm_state_texts(session: Session, path: Bytes, length: usize, old_path: Bytes, old_length: usize, old: Bytes, old_size: usize, old_mode: usize, new: Bytes, new_size: usize, new_mode: usize) -> u32;
     pub fn scm_begin(session: Session, width: u16, height: u16) -> u32;
     pub fn scm_new(session: Session, json: Bytes, length: usize, width: u16, height: u16) -> u32;
-    pub fn scm_stage(session: Session) -> u32;
-    pub fn scm_end(session: Session) -> u32;
+    pub fn scm_stage(session: Asked) -> u32;
+    pub fn scm_end(session: Asked) -> u32;
     pub fn scm_type(session: Session, bytes: Bytes, length: usize) -> u32;
+    pub fn scm_type_to_key(session: Session, bytes: Bytes, length: usize, taken: *mut usize, key: *mut u32) -> u32;
     pub fn scm_idle(session: Session) -> u32;
     pub fn scm_press(session: Session, word: Bytes, length: usize) -> u32;
+    pub fn scm_press_all(session: Session, words: Bytes, length: usize) -> u32;
+    pub fn scm_decode(session: Session, bytes: Bytes, length: usize, out: Room, room: usize, written: *mut usize) -> u32;
+    pub fn scm_decode_idle(session: Session, out: Room, room: usize, written: *mut usize) -> u32;
     pub fn scm_click(session: Session, row: u16, column: u16) -> u32;
     pub fn scm_answer(session: Session, text: Bytes, length: usize) -> u32;
     pub fn scm_resize(session: Session, width: u16, height: u16) -> u32;
     pub fn scm_paint(session: Session, out: Room, length: usize, written: *mut usize) -> u32;
     pub fn scm_repaint(session: Session) -> u32;
-    pub fn scm_owner(session: Session, row: u16, column: u16, key: *mut Key) -> u32;
-    pub fn scm_selected(session: Session, key: *mut Key) -> u32;
-    pub fn scm_symbol(session: Session, row: u16, column: u16, out: Room, length: usize) -> usize;
-    pub fn scm_text(session: Session, out: Room, length: usize, written: *mut usize) -> u32;
-    pub fn scm_files(session: Session, count: *mut usize) -> u32;
-    pub fn scm_side(session: Session, file: usize, selected: bool, out: Room, length: usize, side: *mut SideInfo) -> u32;
-    pub fn scm_side_bytes(session: Session, file: usize, selected: bool, out: Room, length: usize, written: *mut usize) -> u32;
-    pub fn scm_mark(session: Session, key: *const Key, mark: *mut u32) -> u32;
-    pub fn scm_marks(session: Session, file: usize, out: Room, length: usize, written: *mut usize) -> u32;
-    pub fn scm_line(session: Session, key: *const Key, out: Room, length: usize, written: *mut usize) -> u32;
-    pub fn scm_message(session: Session, commit: usize, out: Room, length: usize, written: *mut usize) -> u32;
+    pub fn scm_owner(session: Asked, row: u16, column: u16, key: *mut Key) -> u32;
+    pub fn scm_selected(session: Asked, key: *mut Key) -> u32;
+    pub fn scm_symbol(session: Asked, row: u16, column: u16, out: Room, length: usize) -> usize;
+    pub fn scm_text(session: Asked, out: Room, length: usize, written: *mut usize) -> u32;
+    pub fn scm_files(session: Asked, count: *mut usize) -> u32;
+    pub fn scm_side(session: Asked, file: usize, selected: bool, out: Room, length: usize, side: *mut SideInfo) -> u32;
+    pub fn scm_side_bytes(session: Asked, file: usize, selected: bool, out: Room, length: usize, written: *mut usize) -> u32;
+    pub fn scm_mark(session: Asked, key: *const Key, mark: *mut u32) -> u32;
+    pub fn scm_marks(session: Asked, file: usize, out: Room, length: usize, written: *mut usize) -> u32;
+    pub fn scm_line(session: Asked, key: *const Key, out: Room, length: usize, written: *mut usize) -> u32;
+    pub fn scm_message(session: Asked, commit: usize, out: Room, length: usize, written: *mut usize) -> u32;
+    pub fn scm_run(session: Session, terminal: c_int, title: Bytes) -> c_int;
     pub fn scm_words(code: u32, out: Room, length: usize) -> usize;
     pub fn scm_version() -> u32;
     pub fn scm_free(session: Session);

@@ -1,7 +1,7 @@
 //! A file of a state, its mode, and its two sides.
 use crate::section::MarkCounts;
 use crate::session::{Session, Side, SideContents};
-use crate::{limits, transfer, Section, Tristate};
+use crate::{limits, modes, transfer, Section, Tristate};
 use std::borrow::Cow;
 use std::fmt;
 use std::num::TryFromIntError;
@@ -116,7 +116,22 @@ impl File<'_> {
         if let Err(error) = limits::check_file("the file", self) {
             panic!("{error}");
         }
-        let session = transfer::session_of_file(self);
+        if !modes::has_greatest(self) {
+            return self.sides(self);
+        }
+        let stand_in = modes::unused(self);
+        let (mut selected, mut unselected) = self.sides(&modes::with_stand_in(self, stand_in));
+        for side in [&mut selected, &mut unselected] {
+            if side.file_mode == stand_in {
+                side.file_mode = modes::GREATEST;
+            }
+        }
+        (selected, unselected)
+    }
+
+    /// Returns the two sides of the file, by a session over `told`, which has the same contents.
+    fn sides(&self, told: &File<'_>) -> (SelectedChanges<'_>, SelectedChanges<'_>) {
+        let session = transfer::session_of_file(told);
         let session = session.unwrap_or_else(|error| panic!("a file is not split: {error}"));
         (
             self.side(&session, Side::Selected),

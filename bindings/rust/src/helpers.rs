@@ -10,8 +10,7 @@ pub fn make_binary_description(hash: &str, num_bytes: u64) -> String {
 
 /// Reads the keys and clicks of the program's terminal. A message stays as it is: wrap this input to edit messages.
 ///
-/// With the feature `crossterm` it reads by that crate. Without it, it returns what the terminal sends for the decoder of the
-/// library: then a read is one event, whatever its keys.
+/// With the feature `crossterm` it reads by that crate, and without it by the decoder of the library.
 #[derive(Debug)]
 pub struct CrosstermInput;
 

@@ -46,6 +46,7 @@
 #![warn(clippy::all, clippy::undocumented_unsafe_blocks)]
 
 mod batch;
+mod clicks;
 mod error;
 mod event;
 #[cfg(feature = "crossterm")]
@@ -53,8 +54,11 @@ mod event_of_terminal;
 mod ffi;
 mod file;
 mod input;
+mod json;
 mod limits;
+mod modes;
 mod recorder;
+mod run;
 mod screen;
 mod screenshot;
 mod section;

@@ -1,7 +1,6 @@
 //! The limits of a state, as the library has them. A state is tested before it is handed in, so that the error can name the
 //! place.
-use crate::ffi::NOTHING;
-use crate::{File, FileMode, RecordState, Section};
+use crate::{File, RecordState, Section};
 use std::path::Path;
 
 /// The most commits of a state.
@@ -36,13 +35,12 @@ pub(crate) fn check_state(state: &RecordState<'_>) -> Result<(), String> {
     Ok(())
 }
 
-/// Returns an error that names the first text or mode of `file` that passes a limit. `name` is what the error calls the file.
+/// Returns an error that names the first text of `file` that passes a limit. `name` is what the error calls the file.
 pub(crate) fn check_file(name: &str, file: &File<'_>) -> Result<(), String> {
     check_path(&file.path, || format!("{name}.path"))?;
     if let Some(old_path) = &file.old_path {
         check_path(old_path, || format!("{name}.old_path"))?;
     }
-    check_mode(file.file_mode, || format!("{name}.file_mode"))?;
     for (index, section) in file.sections.iter().enumerate() {
         check_section(&|| format!("{name}.sections[{index}]"), section)?;
     }
@@ -60,7 +58,7 @@ fn check_section(name: &dyn Fn() -> String, section: &Section<'_>) -> Result<(),
             let mut lines = lines.iter().enumerate();
             lines.try_for_each(|(index, line)| check_text(&line.line, || line_name(index)))
         }
-        Section::FileMode { mode, .. } => check_mode(*mode, || format!("{}.mode", name())),
+        Section::FileMode { .. } => Ok(()),
         Section::Binary {
             old_description,
             new_description,
@@ -80,16 +78,6 @@ fn check_text(text: &str, name: impl Fn() -> String) -> Result<(), String> {
     if text.len() > MAX_TEXT {
         return Err(refused(&format!(
             "{} has more than 1,000,000 bytes",
-            name()
-        )));
-    }
-    Ok(())
-}
-
-fn check_mode(mode: FileMode, name: impl Fn() -> String) -> Result<(), String> {
-    if mode == FileMode::Unix(NOTHING) {
-        return Err(refused(&format!(
-            "{} is the greatest number, which is no mode",
             name()
         )));
     }

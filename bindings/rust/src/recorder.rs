@@ -1,4 +1,5 @@
 //! A run of the selector.
+use crate::run::Run;
 use crate::screen::{Screen, TestingScreen};
 use crate::session::{End, Error, Session, Stage};
 use crate::terminal::Terminal;
@@ -45,47 +46,44 @@ impl<'state, 'input> Recorder<'state, 'input> {
         #[cfg(feature = "debug")]
         write_state_if_asked(&self.state)?;
         limits::check_state(&self.state).map_err(RecordError::Other)?;
-        let session = transfer::session_of_state(&self.state).map_err(failure)?;
-        match self.input.terminal_kind() {
+        let Recorder { mut state, input } = self;
+        let session = match input.terminal_kind() {
             TerminalKind::Testing { width, height } => {
-                self.run_session(session, &mut TestingScreen::new(width, height))
+                let mut screen = TestingScreen::new(width, height);
+                let run = Run::begin(&state, screen.size()?).map_err(failure)?;
+                drive(run, input, &mut screen)?
             }
             TerminalKind::Crossterm => {
+                let run = Run::begin(&state, Terminal::size_before()?).map_err(failure)?;
                 let mut terminal = Terminal::take()?;
-                let result = self.run_session(session, &mut terminal);
+                let driven = drive(run, input, &mut terminal);
                 terminal.give_back()?;
-                result
+                driven?
             }
-        }
-    }
-
-    /// Begins `session` on `screen`, and drives it to its end.
-    fn run_session(
-        self,
-        mut session: Session,
-        screen: &mut dyn Screen,
-    ) -> Result<RecordState<'state>, RecordError> {
-        let size = screen.size()?;
-        session.begin(size.width, size.height).map_err(failure)?;
-        while session.stage() == Stage::Waiting {
-            screen.show(&mut session)?;
-            let events = self.input.next_events()?;
-            batch::press_batch(&mut session, self.input, screen.size()?, &events)?;
-        }
-        accepted_state(self.state, &session)
+        };
+        read_end(&session, &mut state)?;
+        Ok(state)
     }
 }
 
-/// Returns `state` with the marks and messages that `session` ended with, or the error with which it ended.
-fn accepted_state<'a>(
-    mut state: RecordState<'a>,
-    session: &Session,
-) -> Result<RecordState<'a>, RecordError> {
+/// Drives `run` on `screen` until it waits no more, and returns its session.
+fn drive(
+    mut run: Run<'_, '_>,
+    input: &mut dyn RecordInput,
+    screen: &mut dyn Screen,
+) -> Result<Session, RecordError> {
+    while run.stage() == Stage::Waiting {
+        screen.show(&mut run)?;
+        let events = input.next_events()?;
+        batch::press_batch(&mut run, input, screen.size()?, &events)?;
+    }
+    Ok(run.into_session())
+}
+
+/// Writes the marks and messages that `session` ended with to `state`, or returns the error with which it ended.
+fn read_end(session: &Session, state: &mut RecordState<'_>) -> Result<(), RecordError> {
     match session.end() {
-        Some(End::Accepted) => {
-            transfer::read_back(session, &mut state).map_err(failure)?;
-            Ok(state)
-        }
+        Some(End::Accepted) => transfer::read_back(session, state).map_err(failure),
         Some(End::Cancelled) => Err(RecordError::Cancelled),
         Some(End::NoMemory | End::Other) | None => {
             Err(RecordError::Other(session.text().map_err(failure)?))

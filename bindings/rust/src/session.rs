@@ -22,10 +22,14 @@
 //! # }
 //! ```
 use crate::ffi::{self, Handle, NOTHING};
-use crate::{ChangeType, FileMode, Tristate};
+use crate::{ChangeType, Event, FileMode, Tristate};
 use std::cell::UnsafeCell;
+use std::ffi::CString;
 use std::fmt;
-use std::os::raw::c_char;
+use std::fs::File;
+use std::io;
+use std::os::raw::{c_char, c_int};
+use std::os::unix::io::AsRawFd;
 
 pub use crate::ffi::{MAX_COLUMNS, MAX_ROWS};
 
@@ -50,10 +54,12 @@ pub enum Error {
     NoMemory,
     /// The state has no such file, section, line or commit.
     NoItem,
+    /// An event of the batch before its last one may ask for a message.
+    NoBatch,
 }
 
 /// The errors, by their codes from 1 on.
-const ERRORS: [Error; 9] = [
+const ERRORS: [Error; 10] = [
     Error::Closed,
     Error::NotNow,
     Error::NoWord,
@@ -63,6 +69,7 @@ const ERRORS: [Error; 9] = [
     Error::TooLong,
     Error::NoMemory,
     Error::NoItem,
+    Error::NoBatch,
 ];
 
 impl fmt::Display for Error {
@@ -350,6 +357,18 @@ fn text(bytes: Vec<u8>) -> String {
     String::from_utf8(bytes).expect("the library writes UTF-8")
 }
 
+extern "C" {
+    fn raise(signal: c_int) -> c_int;
+}
+
+/// Returns the events of words that the library wrote.
+fn events_of(words: &str) -> Vec<Event> {
+    words
+        .split_ascii_whitespace()
+        .filter_map(Event::of_word)
+        .collect()
+}
+
 /// A session. One thread at a time uses it, and it can move to another one.
 #[derive(Debug)]
 pub struct Session {
@@ -587,6 +606,44 @@ impl Session {
         done(unsafe { ffi::scm_press(self.at(), word, length) })
     }
 
+    /// Handles the events of `words`, which are separated by spaces, as one batch: a click acts on what was drawn before the batch,
+    /// and the screen is drawn behind the last event.
+    ///
+    /// # Errors
+    ///
+    /// `NoWord`, `NotNow` if the session does not wait for an event, `NoMemory`, or `NoBatch`: a commit has a message, and an event
+    /// before the last one may ask for it.
+    pub fn press_all(&mut self, words: &str) -> Result<(), Error> {
+        let (words, length) = sized(words);
+        done(unsafe { ffi::scm_press_all(self.at(), words, length) })
+    }
+
+    /// Returns the events of `bytes`, which a terminal sent, and handles none. They may be any part of what it sends. The session
+    /// need not have begun.
+    ///
+    /// # Errors
+    ///
+    /// `NoMemory`.
+    pub fn decode(&mut self, bytes: &[u8]) -> Result<Vec<Event>, Error> {
+        let (bytes, count) = sized(bytes);
+        let words = text_of(|out, room, length| unsafe {
+            ffi::scm_decode(self.at(), bytes, count, out, room, length)
+        })?;
+        Ok(events_of(&words))
+    }
+
+    /// Returns the event of a silence of the terminal, if it has one, and handles none.
+    ///
+    /// # Errors
+    ///
+    /// `NoMemory`.
+    pub fn decode_idle(&mut self) -> Result<Vec<Event>, Error> {
+        let words = text_of(|out, room, length| unsafe {
+            ffi::scm_decode_idle(self.at(), out, room, length)
+        })?;
+        Ok(events_of(&words))
+    }
+
     /// Handles `bytes`, which a terminal sent. They may be any part of what it sends.
     ///
     /// # Errors
@@ -595,6 +652,19 @@ impl Session {
     pub fn type_bytes(&mut self, bytes: &[u8]) -> Result<(), Error> {
         let (bytes, length) = sized(bytes);
         done(unsafe { ffi::scm_type(self.at(), bytes, length) })
+    }
+
+    /// Handles `bytes`, which a terminal sent, up to the first key that means nothing to a session, and returns how many bytes that
+    /// were, and the key: its character, or of a letter with control 1 to 26. So a program can have keys of its own.
+    ///
+    /// # Errors
+    ///
+    /// `NotNow` if the session does not wait for an event.
+    pub fn type_to_key(&mut self, bytes: &[u8]) -> Result<(usize, Option<char>), Error> {
+        let (bytes, length) = sized(bytes);
+        let (mut taken, mut key) = (0, 0);
+        done(unsafe { ffi::scm_type_to_key(self.at(), bytes, length, &mut taken, &mut key) })?;
+        Ok((taken, char::from_u32(key).filter(|key| *key != '\0')))
     }
 
     /// Handles the silence of a terminal: no byte came for about 50 milliseconds.
@@ -698,6 +768,30 @@ impl Session {
     /// `NoMemory`.
     pub fn text(&self) -> Result<String, Error> {
         text_of(|out, room, length| unsafe { ffi::scm_text(self.at(), out, room, length) })
+    }
+
+    // ---- at a terminal
+
+    /// Has the user choose at the program's terminal, until the session waits no more: in raw mode, with new sizes, stops, and the
+    /// editor of a message. The window's title is `title`, in ASCII without controls. [`end`](Session::end) says how it ended.
+    ///
+    /// If a signal asks the process to end, the terminal is given back first, and then the signal acts. One thread of a process at
+    /// a time does this.
+    ///
+    /// # Errors
+    ///
+    /// There is no terminal, or it is gone; or an allocation failed.
+    pub fn run(&mut self, title: &str) -> io::Result<()> {
+        let terminal = File::options().read(true).write(true).open("/dev/tty")?;
+        let title = CString::new(title)?;
+        match unsafe { ffi::scm_run(self.at(), terminal.as_raw_fd(), title.as_ptr()) } {
+            0 => Ok(()),
+            number if number > 0 => {
+                unsafe { raise(number) };
+                Ok(())
+            }
+            _ => Err(io::Error::last_os_error()),
+        }
     }
 
     // ---- the answer

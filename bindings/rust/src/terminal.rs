@@ -1,8 +1,8 @@
 //! The terminal of the program: raw mode, its second screen, and clicks.
 use crate::error::Cause;
 use crate::recorder::failure;
+use crate::run::Run;
 use crate::screen::{Screen, Size};
-use crate::session::Session;
 use crate::RecordError;
 use std::io::{self, Write};
 use std::panic;
@@ -36,10 +36,14 @@ pub(crate) struct Terminal {
 }
 
 impl Terminal {
+    /// Returns the size of the terminal, before it is taken.
+    pub fn size_before() -> Result<Size, RecordError> {
+        device::size().map_err(not_set_up)
+    }
+
     /// Takes the terminal.
     pub fn take() -> Result<Terminal, RecordError> {
-        let failed = |error: io::Error| RecordError::SetUpTerminal(error.into());
-        let is_ours = !device::is_raw().map_err(failed)?;
+        let is_ours = !device::is_raw().map_err(not_set_up)?;
         // if what follows fails, this is dropped
         let terminal = Terminal {
             shown: None,
@@ -47,9 +51,9 @@ impl Terminal {
         };
         if is_ours {
             give_back_at_panics();
-            device::set_raw().map_err(failed)?;
+            device::set_raw().map_err(not_set_up)?;
             *taken_by() = Some(thread::current().id());
-            write(TAKE).map_err(failed)?;
+            write(TAKE).map_err(not_set_up)?;
         }
         Ok(terminal)
     }
@@ -77,16 +81,20 @@ impl Screen for Terminal {
         device::size().map_err(not_drawn)
     }
 
-    fn show(&mut self, session: &mut Session) -> Result<(), RecordError> {
+    fn show(&mut self, run: &mut Run<'_, '_>) -> Result<(), RecordError> {
         let size = self.size()?;
         if self.shown != Some(size) {
-            session.resize(size.width, size.height).map_err(failure)?;
+            run.resize(size).map_err(failure)?;
             write(CLEAR).map_err(not_drawn)?;
             self.shown = Some(size);
         }
-        let frame = session.paint().map_err(failure)?;
+        let frame = run.paint().map_err(failure)?;
         write(frame).map_err(not_drawn)
     }
+}
+
+fn not_set_up(error: io::Error) -> RecordError {
+    RecordError::SetUpTerminal(error.into())
 }
 
 fn not_drawn(error: impl Into<Cause>) -> RecordError {

@@ -1,11 +1,29 @@
 //! Hands a state to a session of the library, and reads the marks and messages back.
 //!
-//! A path is handed in as it is shown. The state itself keeps its paths, so one that is not UTF-8 comes back as it was.
+//! A path is handed in as it is shown. The state itself keeps its paths, so one that is not UTF-8 comes back as it was. A state
+//! is handed in by calls, or by its JSON form if it has what no call takes: an old path or a description without bytes, or the
+//! greatest number as a mode.
+use crate::screen::Size;
 use crate::session::{Error, LineKind, SectionKind, Session};
-use crate::{File, RecordState, Section};
+use crate::{json, modes, File, RecordState, Section};
+
+/// Returns a session over `state`, which has begun on a screen of size `size`.
+pub(crate) fn begun_session(state: &RecordState<'_>, size: Size) -> Result<Session, Error> {
+    if state.files.iter().any(needs_json) {
+        return Session::of_json(&json::json_of_state(state), size.width, size.height);
+    }
+    let mut session = session_of_state(state)?;
+    session.begin(size.width, size.height)?;
+    Ok(session)
+}
+
+/// Returns whether no call takes all of `file`.
+fn needs_json(file: &File<'_>) -> bool {
+    json::has_empty_text(file) || modes::has_greatest(file)
+}
 
 /// Returns a session over `state`. It has not begun.
-pub(crate) fn session_of_state(state: &RecordState<'_>) -> Result<Session, Error> {
+fn session_of_state(state: &RecordState<'_>) -> Result<Session, Error> {
     let mut session = Session::new(state.is_read_only)?;
     for commit in &state.commits {
         session.add_commit(commit.message.as_deref())?;

@@ -1,9 +1,9 @@
-//! What a terminal sends, for the decoder of the library.
+//! The events of what a terminal sends, by the decoder of the library.
 use crate::screen::Size;
 use crate::session::{Error, Session};
 use crate::terminal::device;
 use crate::Event;
-use std::cell::Cell;
+use std::cell::{Cell, RefCell};
 use std::io;
 use std::os::raw::c_int;
 
@@ -13,48 +13,55 @@ const SILENCE: c_int = 50;
 /// A time, in milliseconds, after which the size of the terminal is looked at.
 const LOOK: c_int = 250;
 
-/// What a terminal sent: bytes, or `None` for a silence.
-#[derive(Clone, Debug, Eq, PartialEq)]
-pub struct Typed(Option<Vec<u8>>);
-
-impl Typed {
-    /// Hands it to the decoder of `session`.
-    pub(crate) fn hand_to(&self, session: &mut Session) -> Result<(), Error> {
-        match &self.0 {
-            Some(bytes) => session.type_bytes(bytes),
-            None => session.idle(),
-        }
-    }
-}
-
 thread_local! {
+    /// The decoder of what the terminal sends: that of a session which does not begin.
+    static DECODER: RefCell<Option<Session>> = const { RefCell::new(None) };
     /// Whether the decoder has heard of the silence that is now.
     static WAS_SILENT: Cell<bool> = const { Cell::new(true) };
     /// The size of the terminal, at the last look.
     static SIZE: Cell<Option<Size>> = const { Cell::new(None) };
 }
 
-/// Waits until the terminal sends something, is silent after it has, or has another size. Returns an event of that.
+/// Waits until the terminal sends a key or a click, or has another size. Returns the events of that.
 pub(crate) fn read_events() -> io::Result<Vec<Event>> {
+    if SIZE.with(Cell::get).is_none() {
+        has_new_size()?;
+    }
     loop {
-        let is_told = WAS_SILENT.with(Cell::get);
-        match device::read(if is_told { LOOK } else { SILENCE })? {
-            Some(bytes) => {
-                WAS_SILENT.with(|it| it.set(false));
-                return Ok(vec![Event::Typed(Typed(Some(bytes)))]);
+        let was_silent = WAS_SILENT.with(Cell::get);
+        let sent = device::read(if was_silent { LOOK } else { SILENCE })?;
+        if sent.is_some() || !was_silent {
+            WAS_SILENT.with(|it| it.set(sent.is_none()));
+            let events = decode(sent.as_deref())
+                .map_err(|error| io::Error::new(io::ErrorKind::Other, error))?;
+            if !events.is_empty() {
+                return Ok(events);
             }
-            None if !is_told => {
-                WAS_SILENT.with(|it| it.set(true));
-                return Ok(vec![Event::Typed(Typed(None))]);
-            }
-            None if has_new_size()? => return Ok(vec![Event::None]),
-            None => {}
+        } else if has_new_size()? {
+            return Ok(vec![Event::None]);
         }
     }
+}
+
+/// Returns the events of bytes from the terminal, or of a silence.
+fn decode(sent: Option<&[u8]>) -> Result<Vec<Event>, Error> {
+    DECODER.with(|decoder| {
+        let mut decoder = decoder.borrow_mut();
+        let session = match decoder.take() {
+            Some(session) => session,
+            None => Session::new(false)?,
+        };
+        let session = decoder.insert(session);
+        match sent {
+            Some(bytes) => session.decode(bytes),
+            None => session.decode_idle(),
+        }
+    })
 }
 
 /// Returns whether the terminal has another size than at the last look.
 fn has_new_size() -> io::Result<bool> {
     let size = Some(device::size()?);
-    Ok(SIZE.with(|it| it.replace(size)) != size)
+    let before = SIZE.with(|it| it.replace(size));
+    Ok(before.is_some() && before != size)
 }

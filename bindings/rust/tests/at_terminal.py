@@ -1,8 +1,6 @@
 #!/usr/bin/env python3
-"""at_terminal.py FOLDER [KEYS]: runs the examples of FOLDER, as cargo builds them, at terminals of its own, and types into them.
-
-With the word KEYS each key is an event, as crossterm reads it; else a read is one. It prints a line for each try, and the last one
-counts them."""
+"""at_terminal.py FOLDER: runs the examples of FOLDER, as cargo builds them, at terminals of its own, and types into them. It prints a
+line for each try, and the last one counts them."""
 import fcntl
 import os
 import pathlib
@@ -18,8 +16,7 @@ import termios
 import time
 
 EXAMPLES = pathlib.Path(sys.argv[1])
-HAS_KEYS = sys.argv[2:] == ["KEYS"]
-TAKEN, GIVEN_BACK = b"\x1b[?1049h", b"\x1b[?1049l"
+TAKEN, GIVEN_BACK, TITLE_BACK = b"\x1b[?1049h", b"\x1b[?1049l", b"\x1b[23;2t"
 OLD, NEW = "same\nold\nend\n", "same\nnew one\nnew two\nend\n"
 
 
@@ -82,16 +79,17 @@ class Terminal:
         is_as_before = termios.tcgetattr(self.file) == self.settings
         status = os.waitstatus_to_exitcode(os.waitpid(self.program, 0)[1])
         os.close(self.file)
-        return status, self.shown.rpartition(GIVEN_BACK)[2].decode(), is_as_before
+        return status, self.shown.rpartition(GIVEN_BACK)[2].replace(TITLE_BACK, b"").decode(), is_as_before
 
 
-def split(*keys):
-    """Runs `split` with these keys. Returns its status, what it says, what it writes, and whether the terminal is as it was."""
+def split(*keys, program="split"):
+    """Runs `split`, or another splitter, with these keys. Returns its status, what it says, what it writes, and whether the terminal is
+    as it was."""
     with tempfile.TemporaryDirectory() as folder:
         old, new, out = (pathlib.Path(folder, name) for name in ("old", "new", "out"))
         old.write_text(OLD)
         new.write_text(NEW)
-        terminal = Terminal("split", old, new, out)
+        terminal = Terminal(program, old, new, out)
         terminal.type(*keys)
         status, said, is_as_before = terminal.end()
         return status, said.strip(), out.read_text() if out.exists() else None, is_as_before
@@ -134,9 +132,9 @@ def try_no_terminal():
 
 
 def has_counts(said, keys):
-    """Returns whether the line counts these keys, or reads of them."""
-    events, reads = map(int, re.fullmatch(r"(\d+) events of (\d+) reads", said[0]).groups())
-    return events == keys if HAS_KEYS else events == reads
+    """Returns whether the line counts these keys."""
+    events, _ = map(int, re.fullmatch(r"(\d+) events of (\d+) reads", said[0]).groups())
+    return events == keys
 
 
 def tries():
@@ -149,6 +147,8 @@ def tries():
     yield "an escape closes the help", split("?", "\x1b", "a", "c") == (0, "", NEW, True)
     yield "what is pasted is no key", split("\x1b[200~ac\x1b[201~", "c") == (0, "", OLD, True)
     yield "clicks", split("\x1b[<0;2;2M\x1b[<0;2;2m", "c") == (0, "", NEW, True)
+    yield "one call, one line is selected", split("l", "l", "j", " ", "c", program="choose") == (0, "", "same\nold\nnew one\nend\n", True)
+    yield "one call, cancelled", split("q", program="choose") == (1, "", None, True)
     status, said, is_as_before = count("?", "?", "a", "c")
     yield "events are counted", status == 0 and has_counts(said, 4) and said[1] == "message: True" and is_as_before
     status, said, is_as_before = count("e", "c")

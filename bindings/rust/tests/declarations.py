@@ -7,6 +7,7 @@ import sys
 # the types of the header, and what they are in Rust
 TYPES = {
     "void": "", "bool": "bool", "uint16_t": "u16", "uint32_t": "u32", "size_t": "usize", "scm_session *": "Session",
+    "const scm_session *": "Asked", "int": "c_int",
     "const char *": "Bytes", "char *": "Room", "size_t *": "*mut usize", "uint32_t *": "*mut u32", "scm_key *": "*mut Key",
     "const scm_key *": "*const Key", "scm_side_info *": "*mut SideInfo",
 }

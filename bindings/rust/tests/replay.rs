@@ -1,13 +1,15 @@
 //! Scripts of the program, replayed by runs of the crate. What the program prints has to come out.
 //!
-//! The scripts are the files of `examples` of the repository that have a `.stdout` beside them. With `GABROSTY_CASES` they are
-//! those of that folder: each `NAME.in` is a script, and the first line of `NAME.out`, or of `NAME.repaired` if that is there, is
-//! the status of the program, before what it prints.
+//! The scripts are the files of `examples` of the repository, and of the folders in it, that have a `.stdout` beside them. With
+//! `GABROSTY_CASES` they are those of that folder, and of the folders in it: each `NAME.in` is a script, and the first line of
+//! `NAME.out`, or of `NAME.repaired` if that is there, is the status of the program, before what it prints.
+mod common;
+
+use common::json::{json_of_optional, json_of_state, json_of_text, state_of_json, Json};
 use scm_record::{
-    Event, FileMode, RecordError, RecordInput, RecordState, Recorder, Section, SelectedChanges,
-    SelectedContents, TerminalKind, TestingScreenshot,
+    Event, RecordError, RecordInput, RecordState, Recorder, SelectedChanges, SelectedContents,
+    TerminalKind, TestingScreenshot,
 };
-use std::borrow::Cow;
 use std::collections::VecDeque;
 use std::fmt::Write;
 use std::fs;
@@ -112,8 +114,7 @@ impl Script {
         }
         let command = line.trim_start_matches(' ');
         if let Some(text) = command.strip_prefix("answer ") {
-            self.edits
-                .push_back(Ok(serde_json::from_str(text).unwrap()));
+            self.edits.push_back(Ok(Json::read(text).text().to_owned()));
         } else if let Some(text) = command.strip_prefix("fault edit ") {
             self.edits.push_back(Err(text.to_owned()));
         } else if let Some(text) = command.strip_prefix("fault read ") {
@@ -145,10 +146,20 @@ impl Script {
         lines.for_each(|line| script.add_command(line));
         script
     }
+}
 
-    /// Returns whether each read returns one event: then a run is the program's, event by event.
-    fn has_single_events(&self) -> bool {
-        self.reads.iter().flatten().all(|events| events.len() <= 1)
+impl Script {
+    /// Returns whether the crate parts a read of the script: a commit of `state` has a message, and an event that may ask for it
+    /// comes before another one.
+    fn has_parted_read(&self, state: &RecordState<'_>) -> bool {
+        let has_message = state.commits.iter().any(|commit| commit.message.is_some());
+        let may_ask =
+            |event: &Event| matches!(event, Event::Click { .. } | Event::EditCommitMessage);
+        let is_parted = |events: &Vec<Event>| {
+            let mut later = events.iter().skip_while(|event| !may_ask(event)).skip(1);
+            later.any(|event| *event != Event::None)
+        };
+        has_message && self.reads.iter().flatten().any(is_parted)
     }
 }
 
@@ -171,26 +182,25 @@ impl RecordInput for Script {
     }
 }
 
-fn json(text: &impl serde::Serialize) -> String {
-    serde_json::to_string(text).unwrap()
-}
-
 fn words_of(side: &SelectedChanges<'_>) -> String {
     let contents = match &side.contents {
         SelectedContents::Unchanged => "unchanged".to_owned(),
-        SelectedContents::Text { contents } => format!("text {}", json(contents)),
+        SelectedContents::Text { contents } => format!("text {}", json_of_text(contents)),
         SelectedContents::Binary {
             old_description,
             new_description,
-        } => format!("binary {} {}", json(old_description), json(new_description)),
+        } => {
+            let [old, new] = [old_description, new_description]
+                .map(|description| json_of_optional(description.as_deref()));
+            format!("binary {old} {new}")
+        }
     };
     format!("{} {contents}", side.file_mode)
 }
 
 /// Returns what the program prints of this script, with its status.
 fn answer_to(mut script: Script) -> (String, u8) {
-    let given = script.state.clone();
-    let state: RecordState = serde_json::from_str(&given).unwrap();
+    let state = state_of_json(&script.state);
     let ended = Recorder::new(state, &mut script).run();
     let mut told = String::new();
     for (index, shot) in script.shots.iter().enumerate() {
@@ -205,7 +215,7 @@ fn answer_to(mut script: Script) -> (String, u8) {
             (told, 1)
         }
         Ok(state) => {
-            writeln!(told, "accepted\n{}", json(&state)).unwrap();
+            writeln!(told, "accepted\n{}", json_of_state(&state)).unwrap();
             for (index, file) in state.files.iter().enumerate() {
                 let (selected, unselected) = file.get_selected_contents();
                 writeln!(told, "file {index}\nselected {}", words_of(&selected)).unwrap();
@@ -224,15 +234,27 @@ struct Case {
     status: Option<u8>,
 }
 
-/// Returns the scripts of a folder that the program runs: those of status 2 it refuses.
+/// Returns the scripts of a folder, and of the folders in it, that the program runs: those of status 2 it refuses.
 fn cases_of(folder: &Path) -> Vec<Case> {
-    let mut paths: Vec<PathBuf> = fs::read_dir(folder)
-        .unwrap()
-        .map(|it| it.unwrap().path())
-        .collect();
+    let mut cases = Vec::new();
+    for path in paths_in(folder) {
+        if path.is_dir() {
+            let paths = paths_in(&path);
+            cases.extend(paths.iter().filter_map(|path| case_of(path)));
+        } else {
+            cases.extend(case_of(&path));
+        }
+    }
+    cases.retain(|case| case.status != Some(2));
+    cases
+}
+
+/// Returns what is in a folder, by name.
+fn paths_in(folder: &Path) -> Vec<PathBuf> {
+    let entries = fs::read_dir(folder).unwrap();
+    let mut paths: Vec<PathBuf> = entries.map(|entry| entry.unwrap().path()).collect();
     paths.sort();
-    let cases = paths.iter().filter_map(|path| case_of(path));
-    cases.filter(|case| case.status != Some(2)).collect()
+    paths
 }
 
 /// Returns the script at `path`, if what the program prints of it stands beside it.
@@ -256,24 +278,11 @@ fn case_of(path: &Path) -> Option<Case> {
     })
 }
 
-/// Returns whether C can be told all of a state: it has no empty description and no empty old path, and no mode is the greatest
-/// number.
-fn can_be_told(state: &RecordState<'_>) -> bool {
-    let is_told = |text: &Option<Cow<'_, str>>| text.as_deref() != Some("");
-    let is_mode = |mode: FileMode| mode != FileMode::Unix(usize::MAX);
-    state.files.iter().all(|file| {
-        file.old_path.as_deref() != Some(Path::new(""))
-            && is_mode(file.file_mode)
-            && file.sections.iter().all(|section| match section {
-                Section::FileMode { mode, .. } => is_mode(*mode),
-                Section::Binary {
-                    old_description,
-                    new_description,
-                    ..
-                } => is_told(old_description) && is_told(new_description),
-                Section::Unchanged { .. } | Section::Changed { .. } => true,
-            })
-    })
+/// Returns the folder with the examples of the repository, if the crate is in it.
+fn examples() -> Option<PathBuf> {
+    let mut above = Path::new(env!("CARGO_MANIFEST_DIR")).ancestors();
+    let found = above.find(|folder| folder.join("examples/letter.stdout").exists())?;
+    Some(found.join("examples"))
 }
 
 /// How many scripts were replayed, and how many of them print what the program prints.
@@ -292,34 +301,34 @@ impl Count {
 
 #[test]
 fn scripts_print_what_the_program_prints() {
-    let of_repository = Path::new(env!("CARGO_MANIFEST_DIR")).join("../../examples");
     let given = std::env::var_os("GABROSTY_CASES").map(PathBuf::from);
-    let (mut exact, mut with_batches, mut untold) = (Count::default(), Count::default(), 0);
-    for case in cases_of(given.as_deref().unwrap_or(&of_repository)) {
+    let folder = match given.or_else(examples) {
+        Some(folder) => folder,
+        None => return println!("there are no scripts here"),
+    };
+    let (mut whole, mut parted) = (Count::default(), Count::default());
+    for case in cases_of(&folder) {
         let script = Script::read(&case.script);
-        if !can_be_told(&serde_json::from_str(&script.state).unwrap()) {
-            untold += 1;
-            continue;
-        }
-        let is_exact = script.has_single_events();
+        let state = state_of_json(&script.state);
+        let has_parted_read = script.has_parted_read(&state);
         let (told, status) = answer_to(script);
         let is_same = told == case.told && case.status.map_or(true, |it| it == status);
-        if is_exact {
-            exact.add(is_same);
-        } else {
-            with_batches.add(is_same);
+        if has_parted_read {
+            parted.add(is_same);
+            continue;
         }
-        if is_exact && !is_same {
-            println!(
-                "--- {}: wanted\n{}--- and not\n{told}",
-                case.name, case.told
-            );
+        whole.add(is_same);
+        if !is_same {
+            let Case {
+                name, told: wanted, ..
+            } = case;
+            println!("--- {name}: wanted\n{wanted}--- and not\n{told}");
         }
     }
     println!(
-        "{} of {} scripts are the same, and {} of {} with reads of several events; {untold} have a state that C cannot be told",
-        exact.same, exact.all, with_batches.same, with_batches.all
+        "{} of {} scripts are the same, and {} of {} with a read that is parted",
+        whole.same, whole.all, parted.same, parted.all
     );
-    assert!(exact.all > 0);
-    assert_eq!(exact.same, exact.all);
+    assert!(whole.all > 0);
+    assert_eq!(whole.same, whole.all);
 }

@@ -4,7 +4,8 @@ mod common;
 use common::*;
 use scm_record::helpers::{CrosstermInput, TestingInput};
 use scm_record::{
-    Commit, Event, RecordError, RecordInput, RecordState, Recorder, TerminalKind, TestingScreenshot,
+    Commit, Event, RecordError, RecordInput, RecordState, Recorder, TerminalKind,
+    TestingScreenshot, Tristate,
 };
 use std::cell::RefCell;
 use std::error::Error;
@@ -216,6 +217,86 @@ fn events_behind_the_end_are_left() {
         given
     );
     assert_eq!(shot.to_string(), "<this screenshot was never assigned>");
+}
+
+/// Returns which of the screenshots of a batch are taken: one stands behind each of its events.
+fn shots_behind(given: RecordState<'_>, reads: Vec<Vec<Event>>, batch: Vec<Event>) -> Vec<bool> {
+    let shots: Vec<_> = batch.iter().map(|_| TestingScreenshot::default()).collect();
+    let events = batch.into_iter().zip(&shots);
+    let batch = events.flat_map(|(event, shot)| [event, shot.event()]);
+    let mut reads = reads;
+    reads.push(batch.collect());
+    let ended = Recorder::new(given, &mut Batches::new(SIZE, reads)).run();
+    assert!(
+        !matches!(ended, Err(RecordError::Bug(_) | RecordError::Other(_))),
+        "{ended:?}"
+    );
+    let is_taken = |shot: &TestingScreenshot| *shot != TestingScreenshot::default();
+    shots.iter().map(is_taken).collect()
+}
+
+#[test]
+fn screenshots_are_taken_up_to_the_event_that_ends_the_run() {
+    let (accept, cancel) = (Event::QuitAccept, Event::QuitCancel);
+    let given = || state(vec![mixed_file()]);
+    // the first event closes the help
+    let batch = vec![accept.clone(), accept.clone(), accept.clone()];
+    let taken = shots_behind(given(), vec![vec![Event::Help]], batch);
+    assert_eq!(taken, [true, false, false]);
+    // a quit dialog is opened, and its button is pressed
+    let batch = vec![cancel.clone(), Event::ToggleItem, accept.clone()];
+    let taken = shots_behind(given(), Vec::new(), batch);
+    assert_eq!(taken, [true, false, false]);
+    // the button is pressed by a click where the dialog was drawn before
+    let click = |row, column| Event::Click { row, column };
+    let opened = vec![vec![cancel]];
+    let shot = rows_after_batches(given(), SIZE, opened.clone());
+    let row = shot.iter().position(|row| row.contains("(Quit)")).unwrap();
+    let column = shot[row].split("(Quit)").next().unwrap().chars().count();
+    let batch = vec![click(0, 50), click(row, column + 1), Event::Help];
+    let taken = shots_behind(given(), opened, batch);
+    assert_eq!(taken, [true, false, false]);
+    // an item of a menu accepts, but only behind the batch
+    let opened = vec![vec![click(0, 1)]];
+    let batch = vec![click(1, 2), Event::ToggleItem, Event::ToggleAllUniform];
+    let taken = shots_behind(given(), opened.clone(), batch.clone());
+    assert_eq!(taken, [true, true, true]);
+    let mut reads = opened;
+    reads.push(batch);
+    let accepted = Recorder::new(given(), &mut Batches::new(SIZE, reads)).run();
+    assert_eq!(accepted.unwrap().files[0].tristate(), Tristate::True);
+}
+
+#[test]
+fn a_screenshot_parts_no_batch() {
+    // the second click acts on the frame before the batch, in which no menu is open
+    let shot = TestingScreenshot::default();
+    let click = |row, column| Event::Click { row, column };
+    let batch = vec![click(0, 1), shot.event(), click(1, 2)];
+    let rows = rows_after_batches(state(vec![mixed_file()]), (24, 8), vec![batch]);
+    assert_eq!(rows[2..4], ["[Quit (q)]", ""]);
+    assert_eq!(rows_of(&shot)[1], "(◐) f                (+)");
+}
+
+#[test]
+fn no_click_acts_on_what_is_not_seen() {
+    let click = |row, column| Event::Click { row, column };
+    // the first click opens a menu, whose item Confirm is at the place of the second one
+    for message in [None, Some("message")] {
+        let reads = vec![vec![click(0, 1), Event::None, click(1, 2)]];
+        let given = with_messages([message, None]);
+        let ended = Recorder::new(given, &mut Batches::new(SIZE, reads)).run();
+        assert!(matches!(ended, Err(RecordError::Cancelled)), "{ended:?}");
+    }
+    // two clicks on a checkbox select its item, and check it
+    let unfold = vec![Event::ExpandAll];
+    let given = with_messages([Some("message"), None]);
+    let shown = rows_after(given.clone(), SIZE, unfold.clone());
+    let row = shown.iter().position(|row| row.contains("- b")).unwrap();
+    let twice = vec![click(row, 5), click(row, 5), Event::QuitAccept];
+    let reads = vec![unfold, twice];
+    let accepted = Recorder::new(given, &mut Batches::new(SIZE, reads)).run();
+    assert_eq!(accepted.unwrap().files[0].tristate(), Tristate::True);
 }
 
 #[test]

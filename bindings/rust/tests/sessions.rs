@@ -3,7 +3,7 @@ use scm_record::session::{
     version, End, Error, Key, LineKind, Owner, SectionKind, Session, Side, SideContents, Stage,
     Version,
 };
-use scm_record::{ChangeType, FileMode, Tristate};
+use scm_record::{ChangeType, Event, FileMode, Tristate};
 
 const MODE: FileMode = FileMode::FILE_DEFAULT;
 const ADDED: LineKind = LineKind::Changed {
@@ -38,6 +38,58 @@ fn a_session_waits_until_it_ends() {
     );
     assert_eq!(session.text().unwrap(), "cancelled by user");
     assert_eq!(session.press("none"), Err(Error::NotNow));
+}
+
+#[test]
+fn a_batch_has_one_frame() {
+    let mut session = Session::new(false).unwrap();
+    session.add_commit(Some("message")).unwrap();
+    session.add_file("f", None, MODE).unwrap();
+    session.add_lines(ADDED, "a\n").unwrap();
+    assert_eq!(session.press_all("j"), Err(Error::NotNow));
+    session.begin(80, 24).unwrap();
+    assert_eq!(session.press_all("j nothing"), Err(Error::NoWord));
+    assert_eq!(session.press_all("click:1:1 j"), Err(Error::NoBatch));
+    session.press_all("").unwrap();
+    session.press_all("  shift-F  j j ").unwrap();
+    assert_eq!(session.selected().unwrap(), {
+        let commit = Some(0);
+        let line = key(Some(0), Some(0));
+        Key { commit, ..line }
+    });
+    session.press_all("j e").unwrap();
+    assert_eq!(session.stage(), Stage::Editing);
+    session.answer("another").unwrap();
+    assert_eq!(session.press_all("e c"), Err(Error::NoBatch));
+    session.press_all("space c j").unwrap();
+    assert_eq!(session.end(), Some(End::Accepted));
+}
+
+#[test]
+fn a_program_has_keys_of_its_own() {
+    let mut session = begun(&[]);
+    assert_eq!(session.type_to_key(b"j\tk"), Ok((2, Some('\t'))));
+    assert_eq!(session.type_to_key(b"k\x1az"), Ok((2, Some('\x1a'))));
+    assert_eq!(session.type_to_key(b"jk"), Ok((2, None)));
+    assert_eq!(session.type_to_key(b"cx"), Ok((2, None)));
+    assert_eq!(session.type_to_key(b"x"), Err(Error::NotNow));
+}
+
+#[test]
+fn bytes_of_a_terminal_are_events() {
+    let mut session = Session::new(false).unwrap();
+    let click = Event::Click { row: 3, column: 2 };
+    let sent = b"j\x1b[<0;3;4Mx\x1b[";
+    let events = vec![Event::FocusNext, click, Event::None];
+    assert_eq!(session.decode(sent), Ok(events));
+    assert_eq!(session.decode(b"A"), Ok(vec![Event::FocusPrev]));
+    assert_eq!(session.decode(b"\x1b"), Ok(vec![]));
+    assert_eq!(session.decode_idle(), Ok(vec![Event::QuitEscape]));
+    assert_eq!(session.decode_idle(), Ok(vec![]));
+    // more words than the first room has
+    let many = vec![b'd' & 0x1f; 10_000];
+    let pages = vec![Event::FocusNextPage; 10_000];
+    assert_eq!(session.decode(&many), Ok(pages));
 }
 
 #[test]

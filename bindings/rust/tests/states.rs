@@ -182,6 +182,44 @@ fn paths_that_are_no_utf_8_come_back() {
 }
 
 #[test]
+fn texts_without_bytes_are_shown_as_they_are() {
+    let quoted = "\"\\\u{8}\t日本\n";
+    let sections = |description| {
+        vec![
+            context(&[quoted]),
+            changed(vec![removed(false, quoted), added(true, "")]),
+            binary(true, description, Some("new")),
+            mode(false, FileMode::Absent),
+        ]
+    };
+    let given = |old_path, description| RecordState {
+        is_read_only: true,
+        commits: vec![Commit {
+            message: Some(quoted.to_owned()),
+        }],
+        files: vec![File {
+            old_path,
+            ..file("f", sections(description))
+        }],
+    };
+    let empty_path = || Some(Cow::Borrowed(Path::new("")));
+    let events = || vec![Event::ExpandAll];
+    let plain = rows_after(given(None, None), (60, 16), events());
+    let with_path = rows_after(given(empty_path(), None), (60, 16), events());
+    let with_both = rows_after(given(empty_path(), Some("")), (60, 16), events());
+    assert_eq!(with_path[4], plain[4].replacen("f    ", " => f", 1));
+    let is_binary = |row: &&String| row.contains("binary contents");
+    let binary_of = |rows: &[String]| rows.iter().find(is_binary).cloned().unwrap_or_default();
+    assert!(binary_of(&with_path).contains("(binary contents: new)"));
+    assert!(binary_of(&with_both).contains("(binary contents:  -> new)"));
+    let others = |rows: Vec<String>| rows.into_iter().filter(|row| !is_binary(&row)).skip(5);
+    assert!(others(with_both).eq(others(plain)));
+    let given = given(empty_path(), Some(""));
+    let accepted = run(given.clone(), (60, 16), vec![Event::QuitAccept]).unwrap();
+    assert_eq!(accepted.files, given.files);
+}
+
+#[test]
 fn lines_are_what_they_are() {
     let texts = [
         "",
@@ -265,11 +303,35 @@ fn a_state_past_a_limit_is_refused_with_the_place() {
         let wanted = format!("state not accepted: {name} has more than 1,000,000 bytes");
         assert_eq!(refusal(given), wanted);
     }
-    let no_mode = FileMode::Unix(usize::MAX);
-    assert_eq!(
-        refusal(of_section(mode(false, no_mode))),
-        "state not accepted: files[1].sections[0].mode is the greatest number, which is no mode"
-    );
+}
+
+#[test]
+fn any_number_is_a_mode() {
+    let greatest = FileMode::Unix(usize::MAX);
+    for (own, new) in [
+        (greatest, FileMode::Absent),
+        (FileMode::Absent, greatest),
+        (greatest, FileMode::Unix(0)),
+        (FileMode::Unix(0), greatest),
+        (greatest, greatest),
+    ] {
+        for is_checked in [false, true] {
+            let sections = vec![mode(is_checked, new), changed(vec![added(true, "a\n")])];
+            let file = File {
+                file_mode: own,
+                ..file("f", sections)
+            };
+            let (selected, unselected) = file.get_selected_contents();
+            let wanted = if is_checked { (new, own) } else { (own, new) };
+            assert_eq!((selected.file_mode, unselected.file_mode), wanted);
+            let given = state(vec![file]);
+            let accepted = run(given.clone(), (80, 24), vec![Event::QuitAccept]);
+            assert_eq!(accepted.unwrap().files, given.files);
+        }
+    }
+    let changed_mode = state(vec![file("f", vec![mode(false, greatest)])]);
+    let rows = rows_after(changed_mode, (80, 24), vec![Event::ExpandAll]);
+    assert!(rows[2].contains("1777777777777777777777"), "{rows:?}");
 }
 
 #[test]

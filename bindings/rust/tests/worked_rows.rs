@@ -302,7 +302,6 @@ fn a_click_goes_by_the_scroll_of_its_time() {
 }
 
 #[test]
-#[ignore = "a batch is handed in event by event, and this click acts on the frame before the batch"]
 fn clicks_of_a_batch_act_on_the_frame_before_it() {
     let click = Event::Click { row: 0, column: 0 };
     let batches = vec![

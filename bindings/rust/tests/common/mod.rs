@@ -1,5 +1,7 @@
 //! What the tests share: states, inputs, and the rows of a screenshot.
 #![allow(dead_code)]
+pub mod json;
+
 use scm_record::helpers::TestingInput;
 use scm_record::{
     ChangeType, Event, File, FileMode, RecordError, RecordInput, RecordState, Recorder, Section,
