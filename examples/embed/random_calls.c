@@ -2,7 +2,8 @@
  *
  * The calls are of every kind, at every stage: half-made states, words and bytes of terminals, clicks, sizes from 0 on, answers,
  * buffers that are too short, and some are made while memory is refused. A call that is refused must leave the state as it was:
- * the answers about it are compared. It prints how many calls had each code, and stops at the first answer that is otherwise. */
+ * the answers about it are compared. First each request for memory of one call of `scm_state_texts` is refused in turn. It prints
+ * how many calls had each code, and stops at the first answer that is otherwise. */
 #undef NDEBUG
 #include "scm.h"
 
@@ -12,7 +13,7 @@
 #include <stdlib.h>
 #include <string.h>
 
-enum { CODES = 10, ROOM = 4096, LONGEST = 1000000, GUARD = 0x5a };
+enum { CODES = 11, ROOM = 4096, LONGEST = 1000000, GUARD = 0x5a };
 
 static volatile uint32_t refused_after; /* 0: no request for memory is refused, 1: the next one, and so on */
 
@@ -140,7 +141,7 @@ static uint32_t one_of(uint32_t code, uint32_t a, uint32_t b, uint32_t c) {
 
 /* A text of up to eight pieces, some of which are no UTF-8. */
 static size_t random_text(char *text) {
-    static const char *const pieces[] = {"a", "line\n", "\n", "wide \xe6\x97\xa5\n", "\xff", "\t", "e\xcc\x81", "\x1b[31m", "x y z\n", "+", "\xf0\x9f\x98\x80\n", "\xf4\x8f\xbf\xbf"};
+    static const char *const pieces[] = {"a", "line\n", "\n", "wide \xe6\x97\xa5\n", "\xff", "\t", "e\xcc\x81", "\x1b[31m", "x y z\n", "+", "\xf0\x9f\x98\x80\n", "\xf3\xa0\x83\xbf"};
     size_t length = 0;
     for (uint32_t i = random_below(8); i > 0; i--) {
         const char *piece = pieces[random_below(sizeof pieces / sizeof *pieces)];
@@ -240,13 +241,45 @@ static uint32_t begin(void) {
     return one_of(scm_begin(&session, (uint16_t)random_below(90), (uint16_t)random_below(30)), wanted, wanted, wanted);
 }
 
+/* Presses up to three words as one batch. An event before the last may ask for a message. */
+static uint32_t press_batch(const char *const *words, size_t count, uint32_t wanted) {
+    char text[64] = "";
+    bool is_known = true;
+    for (uint32_t i = random_below(4); i > 0; i--) {
+        uint32_t which = random_below((uint32_t)count);
+        is_known = is_known && which < count - 2;
+        strcat(strcat(text, words[which]), random_below(2) ? " " : "   ");
+    }
+    wanted = is_known ? wanted : SCM_NO_WORD;
+    return one_of(scm_press_all(&session, text, strlen(text)), wanted, wanted == SCM_DONE ? SCM_NO_BATCH : wanted, wanted);
+}
+
+/* Decodes bytes, or a silence, into room that may be too short, and presses what they mean as one batch. */
+static uint32_t decode(const char *bytes, size_t length, uint32_t wanted) {
+    static char out[ROOM];
+    size_t room = random_below(3) ? ROOM : random_below(20), written = 77;
+    uint32_t code_if_open = scm_stage(&session) == SCM_NONE ? SCM_CLOSED : SCM_DONE;
+    memset(out, GUARD, sizeof out);
+    uint32_t code = random_below(4) ? scm_decode(&session, bytes, length, out, room, &written)
+                                    : scm_decode_idle(&session, out, room, &written);
+    one_of(code, code_if_open, code_if_open, code_if_open);
+    check_buffer(out, room, written, code == SCM_DONE && written <= room);
+    assert(code == SCM_DONE || written == 77);
+    if (code != SCM_DONE || written > room) {
+        return code;
+    }
+    return one_of(scm_press_all(&session, out, written), wanted, wanted == SCM_DONE ? SCM_NO_BATCH : wanted, wanted);
+}
+
 static uint32_t input(void) {
     static const char *const words[] = {"j", "k", "l", "h", "space", "enter", "a", "shift-A", "f", "shift-F", "e", "c", "q", "?", "esc",
                                         "none", "view", "ensure", "pagedown", "ctrl-d", "click:3:4", "click:0:2", "no word", "\xff"};
     char text[ROOM];
     size_t length = random_text(text);
     uint32_t wanted = code_at(SCM_WAITING), which = random_below(sizeof words / sizeof *words);
-    switch (random_below(6)) {
+    switch (random_below(8)) {
+    case 4: return press_batch(words, sizeof words / sizeof *words, wanted);
+    case 5: return decode(text, length, wanted);
     case 0: return one_of(scm_type(&session, text, length), wanted, wanted, wanted);
     case 1: return one_of(scm_idle(&session), wanted, wanted, wanted);
     case 2: return one_of(scm_click(&session, (uint16_t)random_below(40), (uint16_t)random_below(100)), wanted, wanted, wanted);
@@ -338,10 +371,32 @@ static void random_call(void) {
     }
 }
 
+/* Adds a file by its two versions while one request for memory is refused: the first, then the second, until a call meets none. Each
+ * refusal has its code, and leaves the state as it was. */
+static void refuse_texts(void) {
+    static const char old[] = "same\nold\nkept", new_bytes[] = "same\nnew\xff\nkept\n";
+    assert(scm_state_new(&session, false) == SCM_DONE);
+    uint64_t before = asked();
+    for (uint32_t number = 1;; number++) {
+        refused_after = number;
+        uint32_t code = scm_state_texts(&session, "p", 1, "q", 1, old, sizeof old - 1, 0100644, new_bytes, sizeof new_bytes - 1, 0100755);
+        bool is_met = refused_after == 0;
+        refused_after = 0;
+        assert(code == (is_met ? SCM_NO_MEMORY : SCM_DONE) && (asked() == before) == is_met);
+        if (!is_met) {
+            assert(number > 10);
+            return;
+        }
+    }
+}
+
 int main(int argc, char **argv) {
     unsigned long count = argc > 1 ? strtoul(argv[1], NULL, 10) : 100000;
     seed = argc > 2 ? strtoull(argv[2], NULL, 10) : 1;
     memset(long_text, 'x', sizeof long_text);
+    if (CAN_REFUSE) {
+        refuse_texts();
+    }
     for (unsigned long i = 0; i < count; i++) {
         random_call();
     }

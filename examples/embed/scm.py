@@ -8,12 +8,21 @@
         session.press("a", "c")
         print(session.side(0).text)
 
-The library is the one that LIBSCM names, or where `tools/install` or `tools/build-shared` puts it, or where the system looks."""
+Or it has the user choose, by one call:
+
+    with Session() as session:
+        session.add_texts("letter", old, new)
+        if session.choose() == "accepted":
+            print(session.side_bytes(0))
+
+The library is the one that LIBSCM names, or where `tools/install`, `tools/build-shared` or a wheel puts it, or where the system
+looks."""
 import ctypes
 import os
+import signal
 from typing import List, NamedTuple, Optional, Tuple, Union
 
-CODES = "done closed not_now no_word not_text bad_state not_accepted too_long no_memory no_item".split()
+CODES = "done closed not_now no_word not_text bad_state not_accepted too_long no_memory no_item no_batch".split()
 WAITING, EDITING, ACCEPTED, ENDED, NONE, BUILDING = range(6)
 UNCHANGED, TEXT, BINARY = range(3)
 UNCHECKED, PARTLY, CHECKED = range(3)
@@ -59,33 +68,34 @@ class SideInfo(ctypes.Structure):
 
 def library_path() -> str:
     here = os.path.dirname(os.path.realpath(__file__))
-    places = (os.path.join(here, place, "libscm.so.1") for place in ("..", "out"))
+    places = (os.path.join(here, place, "libscm.so.1") for place in ("..", "out", "gabrosty_libs"))
     return os.environ.get("LIBSCM") or next(filter(os.path.exists, places), "libscm.so.1")
 
 
 def open_library(path: str) -> ctypes.CDLL:
     """Returns the library at `path`. If it is not there, the error says what makes it."""
     try:
-        return ctypes.CDLL(path)
+        return ctypes.CDLL(path, use_errno=True)  # a run sets errno
     except OSError as error:
         words = "%s. `tools/build-shared` makes the library in a clone of Gabrosty, `tools/install PREFIX` installs it, and LIBSCM can name it"
         raise ImportError(words % error) from error
 
 
 # the arguments of each call behind its session: B is a bool, T a text or room for one, N a size or an index, H a number of 16
-# bits, and P a pointer to what the call writes
+# bits, I a file, and P a pointer to what the call writes
 CALLS = dict(call.split(":") for call in """
     state_new:B state_message:TN state_commit: state_file:TNTNN state_context:TN state_changes:BBTN state_line:BBBTN state_section:B
-    state_mode:BN state_binary:BTNTN state_texts:TNTNTNNTNN begin:HH new:TNHH stage: end: type:TN idle: press:TN click:HH answer:TN
-    resize:HH paint:TNP repaint: owner:HHP selected:P symbol:HHTN text:TNP files:P side:NBTNP side_bytes:NBTNP mark:PP marks:NTNP
-    line:PTNP message:NTNP free:""".split())
-TYPES = {"B": ctypes.c_bool, "T": ctypes.c_char_p, "N": ctypes.c_size_t, "H": ctypes.c_uint16, "P": ctypes.c_void_p}
+    state_mode:BN state_binary:BTNTN state_texts:TNTNTNNTNN begin:HH new:TNHH stage: end: type:TN type_to_key:TNPP idle: press:TN press_all:TN
+    decode:TNTNP decode_idle:TNP click:HH answer:TN resize:HH paint:TNP repaint: owner:HHP selected:P symbol:HHTN text:TNP files:P
+    side:NBTNP side_bytes:NBTNP mark:PP marks:NTNP line:PTNP message:NTNP run:IT free:""".split())
+TYPES = {"B": ctypes.c_bool, "T": ctypes.c_char_p, "N": ctypes.c_size_t, "H": ctypes.c_uint16, "I": ctypes.c_int, "P": ctypes.c_void_p}
 
 library = open_library(library_path())
 for name, letters in CALLS.items():
     function = getattr(library, "scm_" + name)
     function.argtypes = [ctypes.POINTER(Handle), *map(TYPES.get, letters)]
     function.restype = ctypes.c_uint32
+library.scm_run.restype = ctypes.c_int
 library.scm_words.argtypes = [ctypes.c_uint32, ctypes.c_char_p, ctypes.c_size_t]
 library.scm_words.restype = library.scm_symbol.restype = ctypes.c_size_t
 library.scm_version.argtypes, library.scm_version.restype = [], ctypes.c_uint32
@@ -163,7 +173,9 @@ class Session:
         kinds = (is_added is not None, bool(is_added), is_checked)
         self.call("state_line", *map(ctypes.c_bool, kinds), *sized(text))
 
-    def add_texts(self, path, old, new, old_mode=0o100644, new_mode=0o100644, old_path=""):
+    def add_texts(
+        self, path: Text, old: Text, new: Text, old_mode: int = 0o100644, new_mode: int = 0o100644, old_path: Text = ""
+    ) -> None:
         """Adds a file by its two versions, of which one may be ABSENT by its mode. The library finds the lines that differ."""
         versions = (*sized(old), ctypes.c_size_t(old_mode), *sized(new), ctypes.c_size_t(new_mode))
         self.call("state_texts", *sized(path), *sized(old_path), *versions)
@@ -202,8 +214,24 @@ class Session:
         for word in words:
             self.call("press", *sized(word))
 
+    def press_all(self, words: Text) -> None:
+        """Handles the events of words, which are separated by spaces, as one batch: with one frame, behind the last of them."""
+        self.call("press_all", *sized(words))
+
+    def decode(self, data: bytes) -> List[str]:
+        """Returns the words of what a terminal sent, for `press_all`. Nothing is handled. No bytes are a silence."""
+        name, sent = ("decode", sized(data)) if data else ("decode_idle", ())
+        return self.read(name, *sent).decode().split()
+
     def type(self, data: Text) -> None:
         self.call("type", *sized(data))
+
+    def type_to_key(self, data: Text) -> Tuple[int, int]:
+        """Handles what a terminal sent up to the first key that means nothing to a session. Returns how many bytes that were, and the
+        code of the key: its character, with ctrl 1 to 26, or 0 if there is none."""
+        taken, key = ctypes.c_size_t(), ctypes.c_uint32()
+        self.call("type_to_key", *sized(data), ctypes.byref(taken), ctypes.byref(key))
+        return taken.value, key.value
 
     def idle(self) -> None:
         self.call("idle")
@@ -226,6 +254,29 @@ class Session:
     def text(self) -> str:
         return self.read("text").decode()
 
+    # ---- at a terminal
+
+    def run(self, terminal: Optional[int] = None, title: Optional[str] = None) -> None:
+        """Has the user choose on a terminal, an open file, or on that of the program, until the session waits no more. The window's
+        title is `title`, in ASCII. A signal that came meanwhile acts then, as ctrl-C raises KeyboardInterrupt."""
+        file = os.open("/dev/tty", os.O_RDWR | os.O_CLOEXEC) if terminal is None else terminal
+        try:
+            ended_by = library.scm_run(ctypes.byref(self.handle), file, None if title is None else title.encode())
+            error = ctypes.get_errno()
+        finally:
+            if terminal is None:
+                os.close(file)
+        if ended_by > 0:
+            signal.raise_signal(ended_by)
+        if ended_by < 0:
+            raise OSError(error, os.strerror(error))
+
+    def choose(self, title: Optional[str] = None) -> str:
+        """Begins the session, has the user choose on the program's terminal, and returns how it ended: one of `ENDS`."""
+        self.begin(80, 24)
+        self.run(title=title)
+        return self.end
+
     # ---- the answer
 
     def __len__(self) -> int:
@@ -243,7 +294,7 @@ class Session:
             self.call("side", *place, out, ctypes.c_size_t(len(out)), ctypes.byref(info))
         return Side(info.contents, info.mode, out.raw[: info.length] if info.contents == TEXT else None)
 
-    def side_bytes(self, file, is_selected=True):
+    def side_bytes(self, file: int, is_selected: bool = True) -> bytes:
         """Returns the bytes of a side, in which no two lines are joined: the file to write of one that `add_texts` added."""
         return self.read("side_bytes", ctypes.c_size_t(file), ctypes.c_bool(is_selected))
 

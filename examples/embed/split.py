@@ -1,5 +1,5 @@
 #!/usr/bin/env python3
-"""split.py OLD NEW WORD..: shows how one file becomes another, presses words, and prints what was selected."""
+"""split.py OLD NEW [WORDS]: prints OLD with the changes to NEW that the user chooses, or that the words of keys do."""
 import os
 import sys
 
@@ -13,12 +13,15 @@ def read(path):
 
 def main():
     if len(sys.argv) < 3:
-        sys.exit("usage: split.py OLD NEW WORD..")
+        sys.exit("usage: split.py OLD NEW [WORDS]")
     old, new = map(read, sys.argv[1:3])
     with scm.Session() as session:
         session.add_texts(os.path.basename(sys.argv[2]), old, new)
         session.begin(80, 24)
-        session.press(*sys.argv[3:])
+        if sys.argv[3:]:
+            session.press(*sys.argv[3].split())
+        else:
+            session.run(title="split")
         if session.stage != scm.ACCEPTED:
             sys.exit(1)
         sys.stdout.buffer.write(session.side_bytes(0))

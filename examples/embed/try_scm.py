@@ -98,7 +98,13 @@ def main():
         session.repaint()
         assert session.paint() == every_row
         read_answers(session)
-        session.press("c")
+        assert session.decode(b"j\x1b[<0;3;4M\x1b[") == ["j", "click:3:2"] and session.decode(b"A\x1b") == ["k"]
+        assert session.decode(b"") == ["esc"] and session.decode(b"") == []
+        assert refused(session.press_all, "j nothing") == "no_word" and refused(session.press_all, "e e") == "no_batch"
+        session.press_all("  j k  ")
+        assert session.type_to_key(b"j\tk") == (2, 9) and session.type_to_key(b"kx\x1a") == (2, 120)
+        assert session.type_to_key(b"\x1b[200~\x1a\x1b[201~j") == (14, 0)
+        session.press_all("c j")
         assert session.end == "accepted" and refused(lambda: session.selected) == "not_now"
         assert session.stage == scm.ACCEPTED and refused(session.paint) == "not_now"
         read_answers(session)
@@ -114,8 +120,8 @@ def main():
         lines.add_line("a\nb", is_added=True, is_checked=True)
         lines.add_texts("g", "a\nb", b"a\nc\n")
         assert (lines.side_bytes(1), lines.side_bytes(1, False)) == (b"a\nb", b"a\nc\n")
-        lines.add_texts("h", b"\xff\0\n", "\U0010ffff\xe4".encode())
-        assert (lines.side_bytes(2), lines.side_bytes(2, False)) == (b"\xff\0\n", "\U0010ffff\xe4".encode())
+        lines.add_texts("h", b"\xff\0\n", "\U000e00ff\xe4".encode())
+        assert (lines.side_bytes(2), lines.side_bytes(2, False)) == (b"\xff\0\n", "\U000e00ff\xe4".encode())
         assert refused(lines.add_texts, b"\xff", "a", "b") == "not_text"
         assert (lines.line(0, 0, 0), lines.line(0, 1, 0), lines.marks(0)) == (b"", b"a\nb", [True])
     assert session.stage == scm.NONE and refused(session.paint) == "closed"

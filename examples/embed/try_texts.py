@@ -2,6 +2,8 @@
 """try_texts.py [COUNT]: hands in two versions of a file, and takes its sides back: COUNT random pairs of texts (5,000 if there is no
 COUNT), and all pairs that the history of this repository changed, if git has it.
 
+Before that it looks at the screen: each byte that is not part of UTF-8 is shown as U+FFFD, between other symbols.
+
 With nothing marked the sides have to be the two versions, byte for byte, with everything marked the same exchanged, and with random
 marks what `sides_by` makes of the lines one by one."""
 import io
@@ -17,7 +19,7 @@ import scm
 # lines of git's marker, of Latin-1, of CR alone, of a character that stands for a byte, and of a NUL
 ALPHABETS = (
     (b"a\n", b"b\n", b"c\n"), (b"\\ No newline at end of file\n", b"\xe4\n", b"a\n"), (b"\r\n", b"a\rb\n", b"\n"),
-    (b"\xf4\x8f\xbe\x80\n", b"\x80\n", b"\xc3\xa4\n"), (b"\0\n", b"a\n", b"\n"),
+    (b"\xf3\xa0\x82\x80\n", b"\x80\n", b"\xc3\xa4\n"), (b"\0\n", b"a\n", b"\n"),
 )
 ROOT = os.path.join(os.path.dirname(os.path.abspath(__file__)), os.pardir, os.pardir)
 MODIFIED = re.compile(r"^:100\d+ 100\d+ (\w+) (\w+) M\t", re.M)
@@ -104,7 +106,24 @@ def history():
         yield tuple(output.read(int(output.readline().split()[2]) + 1)[:-1] for _ in (0, 1))
 
 
+def shown(session, width, height):
+    """Returns the rows of the screen as texts."""
+    return ["".join(session.symbol(row, column) for column in range(width)) for row in range(height)]
+
+
+def check_shown():
+    """Checks what the screen shows of each byte from 128 to 255."""
+    lines = [b"".join(b"%c%c" % (letter, first + at) for at, letter in enumerate(b"abcdefgh")) for first in range(128, 256, 8)]
+    with scm.Session() as session:
+        session.add_texts("f", b"", b"\n".join(lines))
+        session.begin(80, 24)
+        session.press("right")
+        rows = [row for row in shown(session, 80, 24) if "a\ufffdb\ufffdc\ufffdd\ufffde\ufffdf\ufffdg\ufffdh\ufffd" in row]
+    assert len(rows) == len(lines), rows
+
+
 def main():
+    check_shown()
     count, chance = int(sys.argv[1]) if len(sys.argv) > 1 else 5000, random.Random(1)
     changed = sum(check(text_by(chance), text_by(chance), chance) for _ in range(count))
     print("%d random pairs of texts with %d changed lines" % (count, changed))

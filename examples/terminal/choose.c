@@ -1,6 +1,6 @@
 /* Asks a user which changes of a file to take, and prints the file with these: the tool of docs/TUTORIAL.md. No proof covers this file.
  *
- * It is the least front end. `run.c` beside it also follows new sizes, stops and signals, and starts an editor. */
+ * It is the least front end. `scm_run` also follows new sizes, stops and signals, and starts an editor. */
 #define _GNU_SOURCE
 #include "scm.h"
 

@@ -1,4 +1,4 @@
-/* Bytes in memory and in files, and what a session writes. No proof covers this file. */
+/* Bytes in memory and in files. No proof covers this file. */
 #define _GNU_SOURCE
 #include "files.h"
 
@@ -12,26 +12,7 @@
 #include <sys/stat.h>
 #include <unistd.h>
 
-enum { FIRST_ROOM = 1 << 15, MORE_ROOM = 1 << 20, PERMISSIONS = 0777, ALL_MAY_WRITE = 0666 };
-
-bool make_room(text *text, size_t room) {
-    if (text->bytes && text->room >= room) {
-        return true;
-    }
-    char *larger = realloc(text->bytes, room + 1);
-    if (larger) {
-        text->bytes = larger;
-        text->room = room;
-    }
-    return larger;
-}
-
-void end_at(text *text, size_t length) {
-    text->length = length;
-    if (text->bytes) {
-        text->bytes[length] = 0;
-    }
-}
+enum { PERMISSIONS = 0777, ALL_MAY_WRITE = 0666 };
 
 bool append(text *text, const char *bytes, size_t length) {
     size_t end = text->length + length;
@@ -56,59 +37,6 @@ bool append_words(text *text, const char *form, ...) {
         free(made);
     }
     return is_added;
-}
-
-uint32_t read_session(scm_session *session, reader *read, text *into) {
-    size_t length = FIRST_ROOM;
-    uint32_t code = SCM_NO_MEMORY;
-    end_at(into, 0);
-    do {
-        if (!make_room(into, length)) {
-            return SCM_NO_MEMORY;
-        }
-        code = read(session, into->bytes, into->room, &length);
-    } while (code == SCM_DONE && length > into->room);
-    end_at(into, code == SCM_DONE ? length : 0);
-    return code;
-}
-
-/* Reads on behind the first `*length` bytes, and adds to `*length`. Returns 0 at the end of the file, and -1 with errno set if that
- * fails. */
-static ssize_t read_more(int file, text *into, size_t *length) {
-    if (!make_room(into, *length < into->room ? into->room : *length + MORE_ROOM)) {
-        return -1;
-    }
-    ssize_t count = read(file, into->bytes + *length, into->room - *length);
-    *length += count > 0 ? (size_t)count : 0;
-    return count;
-}
-
-bool read_file(const char *path, text *into) {
-    int file = open(path, O_RDONLY | O_CLOEXEC);
-    ssize_t count = file < 0 ? -1 : 1;
-    size_t length = 0;
-    while (count > 0) {
-        count = read_more(file, into, &length);
-    }
-    int error = errno;
-    end_at(into, count == 0 ? length : 0);
-    if (file >= 0) {
-        close(file);
-    }
-    errno = error;
-    return count == 0;
-}
-
-bool write_bytes(int file, const char *bytes, size_t length) {
-    while (length > 0) {
-        ssize_t count = write(file, bytes, length);
-        if (count < 0) {
-            return false;
-        }
-        bytes += count;
-        length -= (size_t)count;
-    }
-    return true;
 }
 
 /* Closes a file to which all was written, if `is_written`. Returns false with errno set if that is not so, or closing fails. */

@@ -1,4 +1,5 @@
 /* Changes that another program hands in as records, and what it gets back. No proof covers this file. */
+#define _GNU_SOURCE
 #include "handed.h"
 #include "marks.h"
 

@@ -1,4 +1,5 @@
 /* The marks of files, set as a user sets them: by words. No proof covers this file. */
+#define _GNU_SOURCE
 #include "marks.h"
 
 #include <string.h>

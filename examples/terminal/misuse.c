@@ -79,6 +79,8 @@ static uint32_t begin(const char *json) { return scm_new(&session, json, strlen(
 
 static uint32_t press(const char *word) { return scm_press(&session, word, strlen(word)); }
 
+static uint32_t press_all(const char *words) { return scm_press_all(&session, words, strlen(words)); }
+
 static uint32_t type(const char *bytes) { return scm_type(&session, bytes, strlen(bytes)); }
 
 /* Asks for the selected item, and looks that a refused call wrote nothing. */
@@ -114,11 +116,18 @@ static void refuse_calls(uint32_t code) {
     scm_key key;
     refused(type("j"), code);
     refused(ask_selected(&key), code);
+    size_t taken = 77;
+    uint32_t own_key = 77;
+    refused(scm_type_to_key(&session, "j", 1, &taken, &own_key), code);
+    assert(taken == 77 && own_key == 77);
     refused(scm_idle(&session), code);
     refused(scm_click(&session, 1, 1), code);
     refused(answer("bye"), code);
     refused(scm_resize(&session, WIDTH, HEIGHT), code);
     refused(press("no word"), SCM_NO_WORD);
+    refused(press_all("j k"), code);
+    refused(press_all(""), code);
+    refused(press_all("j no"), SCM_NO_WORD);
     refuse_paint(code == SCM_CLOSED ? SCM_CLOSED : SCM_DONE);
 }
 
@@ -128,10 +137,33 @@ static void close_session(void) {
     assert(before.stage == SCM_NONE && reads(""));
 }
 
+/* Bytes are words at any stage of an open session, and nothing is handled. Where there is no room, nothing is heard. */
+static void decode(void) {
+    char out[] = "............";
+    size_t written = 77;
+    refused(scm_decode(&session, "j", 1, out, sizeof out, &written), before.stage == SCM_NONE ? SCM_CLOSED : SCM_DONE);
+    if (before.stage == SCM_NONE) {
+        refused(scm_decode_idle(&session, out, sizeof out, &written), SCM_CLOSED);
+        assert(written == 77 && strcmp(out, "............") == 0);
+        return;
+    }
+    assert(written == 2 && memcmp(out, "j ..", 4) == 0);
+    refused(scm_decode(&session, "\x1b", 1, out, 0, &written), SCM_DONE);
+    assert(written == 0);
+    refused(scm_decode_idle(&session, out, 3, &written), SCM_DONE);
+    assert(written == 4 && memcmp(out, "j ..", 4) == 0);
+    refused(scm_decode(&session, "[B", 2, out, 1, &written), SCM_DONE);
+    assert(written == 2 && memcmp(out, "j ..", 4) == 0);
+    refused(scm_decode(&session, "[A", 2, out, 2, &written), SCM_DONE);
+    assert(written == 2 && memcmp(out, "k ..", 4) == 0);
+}
+
 static void refuse_where_closed(void) {
     close_session();
     refuse_calls(SCM_CLOSED);
+    decode();
     done(begin(STATE), SCM_WAITING);
+    decode();
     close_session();
     close_session();
     refuse_calls(SCM_CLOSED);
@@ -169,6 +201,10 @@ static void refuse_words(void) {
         refused(press(words[i]), SCM_NO_WORD);
     }
     refused(scm_press(&session, "j", 2), SCM_NO_WORD); /* with the zero behind it */
+    refused(press_all("j shot"), SCM_NO_WORD);
+    refused(press_all("j\xff"), SCM_NO_WORD);
+    refused(press_all("e j"), SCM_NO_BATCH);
+    refused(press_all("click:1:1 click:1:1"), SCM_NO_BATCH);
     refused(answer("bye"), SCM_NOT_NOW);
     standing begun = before;
     done(press("l"), SCM_WAITING);
@@ -289,20 +325,35 @@ static void tell_lines(void) {
     assert(length == 3);
 }
 
+/* A file by its two versions is refused if a path is no text, or if a path or a line is too long; a byte that is not UTF-8 counts four. */
+static void refuse_texts(void) {
+    static char line[LONGEST_MESSAGE + 1];
+    memset(line, 'm', sizeof line);
+    refused(scm_state_texts(&session, "\xff", 1, "", 0, "a", 1, 0100644, "b", 1, 0100644), SCM_NOT_TEXT);
+    refused(scm_state_texts(&session, "f", 1, "\xff", 1, "a", 1, 0100644, "b", 1, 0100644), SCM_NOT_TEXT);
+    refused(scm_state_texts(&session, line, sizeof line, "", 0, "a", 1, 0100644, "b", 1, 0100644), SCM_TOO_LONG);
+    refused(scm_state_texts(&session, "f", 1, line, sizeof line, "a", 1, 0100644, "b", 1, 0100644), SCM_TOO_LONG);
+    refused(scm_state_texts(&session, "f", 1, "", 0, line, sizeof line, 0100644, "b", 1, 0100644), SCM_TOO_LONG);
+    refused(scm_state_texts(&session, "f", 1, "", 0, "a", 1, 0100644, line, sizeof line, 0100644), SCM_TOO_LONG);
+    memset(line, 0xff, sizeof line);
+    refused(scm_state_texts(&session, "f", 1, "", 0, "a", 1, 0100644, line, LONGEST_MESSAGE / 4 + 1, 0100644), SCM_TOO_LONG);
+}
+
 /* A file by its two versions has the lines that differ, and its sides are the two versions, byte for byte. */
 static void take_texts(void) {
     char text[8] = ".......";
-    static char line[LONGEST_MESSAGE + 1];
     size_t length = 77;
-    memset(line, 'm', sizeof line);
     scm_key removed = {SCM_NO_INDEX, 0, 1, 0};
     done(scm_state_new(&session, false), SCM_BUILDING);
-    refused(scm_state_texts(&session, "\xff", 1, "", 0, "a", 1, 0100644, "b", 1, 0100644), SCM_NOT_TEXT);
-    refused(scm_state_texts(&session, "f", 1, "\xff", 1, "a", 1, 0100644, "b", 1, 0100644), SCM_NOT_TEXT);
-    refused(scm_state_texts(&session, "f", 1, "", 0, "a", 1, 0100644, line, sizeof line, 0100644), SCM_TOO_LONG);
+    refuse_texts();
     refused(scm_side_bytes(&session, 0, true, text, sizeof text, &length), SCM_NO_ITEM);
     done(scm_state_texts(&session, "f", 1, "e", 1, "a\nb", 3, 0100644, "a\nc\n", 4, 0100644), SCM_BUILDING);
     done(scm_state_texts(&session, "g", 1, "", 0, "old", 3, SCM_ABSENT, "x\xff\0", 3, 0100644), SCM_BUILDING);
+    // versions that are equal have nothing to mark
+    done(scm_state_texts(&session, "s", 1, "", 0, "same", 4, 0100644, "same", 4, 0100644), SCM_BUILDING);
+    assert(scm_marks(&session, 2, text, sizeof text, &length) == SCM_DONE && length == 0);
+    assert(scm_side_bytes(&session, 2, false, text, sizeof text, &length) == SCM_DONE && length == 4 && memcmp(text, "same", 4) == 0);
+    strcpy(text, ".......");
     done(scm_line(&session, &removed, text, sizeof text, &length), SCM_BUILDING);
     assert(length == 1 && text[0] == 'b');
 #ifdef __GLIBC__

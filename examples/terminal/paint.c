@@ -50,7 +50,10 @@ static text read_all(FILE *in) {
     return all;
 }
 
-/* Returns what `reader` (scm_paint or scm_text) writes into `room` bytes, and into more where that is not enough. */
+/* scm_text, as a reader. */
+static uint32_t text_of_stage(scm_session *of, char *out, size_t length, size_t *written) { return scm_text(of, out, length, written); }
+
+/* Returns what `reader` (scm_paint or text_of_stage) writes into `room` bytes, and into more where that is not enough. */
 static text read_session(uint32_t (*reader)(scm_session *, char *, size_t, size_t *), size_t room) {
     text read = {more_room(NULL, room + 1), 0};
     uint32_t code = reader(&session, read.bytes, room, &read.length);
@@ -83,7 +86,7 @@ static text read_places(void) {
 }
 
 static void print_frame(size_t room) {
-    text parts[] = {read_session(scm_paint, room), read_session(scm_text, 1 << 15), read_places()};
+    text parts[] = {read_session(scm_paint, room), read_session(text_of_stage, 1 << 15), read_places()};
     printf("frame %u %zu %zu %zu\n", scm_stage(&session), parts[0].length, parts[1].length, parts[2].length);
     for (size_t i = 0; i < sizeof parts / sizeof *parts; i++) {
         fwrite(parts[i].bytes, 1, parts[i].length, stdout);

@@ -3,7 +3,6 @@
 #define _GNU_SOURCE
 #include "folders.h"
 #include "handed.h"
-#include "run.h"
 
 #include <errno.h>
 #include <fcntl.h>
@@ -45,18 +44,6 @@ static const char HELP[] =
     ;
 
 enum { GIVEN_UP = 1, FAILED = 2 };
-
-/* Returns the window's title: SELECT_TITLE, or another if the terminal could take a byte of it for a command. */
-static const char *title(void) {
-    const char *asked = getenv("SELECT_TITLE");
-    for (const char *byte = asked; byte && *byte; byte++) {
-        if (*byte < ' ' || *byte > '~') {
-            asked = NULL;
-            break;
-        }
-    }
-    return asked ? asked : "Select changes";
-}
 
 /* Says what is wrong and exits, unless all is well. If `why` is NULL, errno says why. */
 static void check(bool is_well, const char *what, const char *why) {
@@ -201,7 +188,7 @@ static void free_task(task *task) {
 
 /* Runs the session on the terminal. If a signal asks for it, ends as that does. Returns whether the terminal is still there. */
 static bool run_in_terminal(scm_session *session, int terminal) {
-    int ended_by = run_session(session, terminal, title());
+    int ended_by = scm_run(session, terminal, getenv("SELECT_TITLE"));
     if (ended_by > 0) {
         signal(ended_by, SIG_DFL);
         raise(ended_by);
@@ -214,7 +201,7 @@ static bool run_in_terminal(scm_session *session, int terminal) {
 static int give_up(scm_session *session, bool is_there) {
     bool is_cancelled = scm_end(session) == SCM_END_CANCELLED;
     text words = {0};
-    check_code(read_session(session, scm_text, &words), "cannot go on");
+    check_code(read_text(session, &words), "cannot go on");
     fprintf(stderr, NAME ": %s\n", is_there ? words.bytes : "the terminal is gone");
     free(words.bytes);
     return !is_there || is_cancelled ? GIVEN_UP : FAILED;
@@ -231,7 +218,7 @@ static void write_output(const char *path, piece bytes) {
 static void write_text(scm_session *session, const task *task) {
     text accepted = {0};
     bool is_handed = task->form == HANDED_IN && !task->is_as_json;
-    uint32_t code = is_handed ? write_accepted_sides(session, &task->handed, &accepted) : read_session(session, scm_text, &accepted);
+    uint32_t code = is_handed ? write_accepted_sides(session, &task->handed, &accepted) : read_text(session, &accepted);
     check_code(code, "cannot go on");
     write_output(task->output, (piece){accepted.bytes, accepted.length});
     free(accepted.bytes);

@@ -3,8 +3,8 @@
  * begins, the microseconds of keys, each the least of many, and the most memory that the program had, in megabytes.
  *
  * timing FILESxSECTIONSxLINES COUNT PAINT WORD ..: hands in the words in turn, COUNT of them, and then prints how many bytes
- * the last paint has. PAINT is `none`, `changed` to paint after each word, or `all` to paint every row then. Valgrind counts
- * its instructions, for tools/count-paints. */
+ * the last paint has. PAINT is `none`, `changed` to paint after each word, `twice` to paint once more then, or `all` to paint
+ * every row then. Valgrind counts its instructions, for tools/count-paints. */
 #define _XOPEN_SOURCE 700
 #include "scm.h"
 
@@ -93,6 +93,9 @@ static void paint_keys(int count, const char *kind, int words, char **word) {
             scm_repaint(&session);
         }
         if (strcmp(kind, "none") != 0) {
+            length = paint();
+        }
+        if (strcmp(kind, "twice") == 0) {
             length = paint();
         }
     }
