@@ -1,4 +1,5 @@
-"""An archive of tools/release, unpacked and used where there is little else, for tools/try-tools."""
+"""An archive of tools/release, unpacked and used where there is little else, with its crate for Rust, and a wheel of it, for
+tools/try-tools."""
 import filecmp
 import os
 import re
@@ -170,3 +171,92 @@ def is_the_same_again(archive, release, folder):
     if done.returncode:
         return False
     return filecmp.cmp(archive, os.path.join(out, os.path.basename(archive)), shallow=False)
+
+
+def with_the_crate(unpacked, folder):
+    """Builds a tool in Rust over the archive's crate by one line of its Cargo.toml, with neither the network nor the toolchain, and runs
+    it. Skipped where there is no cargo."""
+    if not shutil.which("cargo") or not shutil.which("cc"):
+        return "there is no cargo, or no C compiler that it links with"
+    tool = os.path.join(folder, "tool")
+    os.makedirs(os.path.join(tool, "src"))
+    crate = os.path.join(unpacked, "lib/gabrosty/rust/plain")
+    changed.write_file(os.path.join(tool, "Cargo.toml"), (MANIFEST % crate).encode())
+    changed.write_file(os.path.join(tool, "src/main.rs"), TOOL.encode())
+    # cargo may be a program that finds the one to start by the home folder; rt is not on the path of what it builds
+    programs = os.path.join(folder, "rust")
+    os.makedirs(programs)
+    for name in ("cargo", "rustc", "cc", "ld", "ar"):
+        if shutil.which(name):
+            os.symlink(shutil.which(name), os.path.join(programs, name))
+    variables = {"PATH": programs, "HOME": os.environ.get("HOME", folder), "CARGO_TARGET_DIR": os.path.join(tool, "target")}
+    variables.update((name, os.environ[name]) for name in ("CARGO_HOME", "RUSTUP_HOME", "RUSTUP_TOOLCHAIN") if name in os.environ)
+    how = {"stdout": subprocess.PIPE, "stderr": subprocess.PIPE, "text": True, "env": variables, "cwd": tool}
+    done = subprocess.run([os.path.join(programs, "cargo"), "run", "--quiet", "--offline"], **how)
+    if (done.returncode, done.stdout) != (0, "new\n"):
+        print(done.stdout, done.stderr)
+    return (done.returncode, done.stdout) == (0, "new\n")
+
+
+# a tool over the crate for Rust: what is accepted of a new line
+MANIFEST = """[package]
+name = "tool"
+version = "0.1.0"
+edition = "2021"
+
+[dependencies]
+scm-record = { package = "gabrosty", path = "%s" }
+
+[workspace]
+"""
+TOOL = """use scm_record::helpers::TestingInput;
+use scm_record::{ChangeType, Event, File, FileMode, RecordError, RecordState, Recorder, Section, SectionChangedLine, SelectedContents};
+use std::{borrow::Cow, path::Path};
+
+fn main() -> Result<(), RecordError> {
+    let line = SectionChangedLine { is_checked: false, change_type: ChangeType::Added, line: Cow::Borrowed("new") };
+    let sections = vec![Section::Changed { lines: vec![line] }];
+    let file = File { old_path: None, path: Cow::Borrowed(Path::new("text")), file_mode: FileMode::FILE_DEFAULT, sections };
+    let state = RecordState { files: vec![file], ..RecordState::default() };
+    let accepted = Recorder::new(state, &mut TestingInput::new(80, 24, [Event::ToggleAll, Event::QuitAccept])).run()?;
+    if let SelectedContents::Text { contents } = accepted.files[0].get_selected_contents().0.contents {
+        println!("{contents}");
+    }
+    Ok(())
+}
+"""
+
+# what the module of a wheel is asked, and what it answers
+SPLIT = """
+import scm
+
+with scm.Session() as session:
+    session.add_texts("text", b"one\\n", b"\\xff\\n")
+    session.begin(80, 24)
+    session.press_all("a c")
+    print(session.end, session.side_bytes(0), scm.library._name)
+"""
+
+
+def in_a_new_environment(release, folder):
+    """Makes a wheel, and installs it by pip, without the network: the module has its library, and the programs run. Skipped where there
+    is no pip."""
+    out, environment = os.path.join(folder, "wheel"), os.path.join(folder, "environment")
+    python, programs = os.path.join(environment, "bin/python"), os.path.join(environment, "bin")
+    if subprocess.run([sys.executable, "-m", "venv", environment], stdout=subprocess.DEVNULL).returncode:
+        return "no virtual environment can be made here"
+    if subprocess.run([release, "--wheel", out], stdout=subprocess.DEVNULL).returncode:
+        return False
+    wheel = os.path.join(out, os.listdir(out)[0])
+    variables = {**SETTINGS, "PATH": programs + ":" + os.environ["PATH"], "HOME": folder}
+    how = {"stdout": subprocess.PIPE, "stderr": subprocess.STDOUT, "text": True, "env": variables, "cwd": folder}
+    done = subprocess.run([python, "-m", "pip", "install", "--quiet", "--no-index", "--disable-pip-version-check", wheel], **how)
+    said = subprocess.run([python, "-c", SPLIT], **how).stdout
+    names = "git-select", "gabrosty-diff-editor", "scm-select"
+    versions = [subprocess.run([name, "--version"], **how).stdout for name in names]
+    helped = subprocess.run(["git", "select", "-h"], **how).stdout
+    is_split = said.startswith("accepted b'\\xff\\n' " + environment)
+    has_programs = all(version.startswith(name + " ") for name, version in zip(names, versions))
+    if not (is_split and has_programs):
+        print(done.stdout, said, versions)
+    return done.returncode == 0 and is_split and has_programs and helped.startswith("usage: git-select")

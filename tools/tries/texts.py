@@ -10,7 +10,7 @@ NEW = [b"def f%d(x, y):\n" % number for number in range(10)]
 # lines of git's marker, of Latin-1, of CR alone, and of the character that stands for a byte
 ALPHABETS = (
     (b"a\n", b"b\n", b"c\n"), (b"\\ No newline at end of file\n", b"\xe4\n", b"a\n"), (b"\r\n", b"a\rb\n", b"\n"),
-    (b"\xf4\x8f\xbe\x80\n", b"\x80\n", b"\xc3\xa4\n"),
+    (b"\xf3\xa0\x82\x80\n", b"\x80\n", b"\xc3\xa4\n"),
 )
 FILES, SEEDS = 500, 4
 
