@@ -1,5 +1,5 @@
-//! Tests of the recorder, of its inputs and its store, of sessions that a program drives, and of the layer
-//! over them and its look, where a script of the program cannot test them.
+//! Tests of the recorder, of its inputs and its store, and of sessions that a program drives, where a script
+//! of the program cannot test them.
 #![tactic(auto)]
 
 #[cfg(test)]
@@ -11,11 +11,7 @@ mod frames;
 #[cfg(test)]
 mod given;
 #[cfg(test)]
-mod layer;
-#[cfg(test)]
 mod live;
-#[cfg(test)]
-mod look;
 #[cfg(test)]
 mod own_input;
 #[cfg(test)]
