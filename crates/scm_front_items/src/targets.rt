@@ -27,7 +27,7 @@ pub enum Deed {
 }
 
 /// Returns whether `is_checked` is `mark`.
-fn is_as(mark: bool, is_checked: bool) -> bool
+pub(crate) fn is_as(mark: bool, is_checked: bool) -> bool
     ensures { result ≡ is_as mark is_checked }
 {
     if mark { is_checked } else { !is_checked }
