@@ -1,5 +1,5 @@
 //! What is true of a front, whatever is typed.
-ghost use Rattle.std.specs.Prelude.{◌≡◌, ℕ, List, [], ◌∷◌, IsTrue, None, false};
+ghost use Rattle.std.specs.Prelude.{◌≡◌, List, [], ◌∷◌, IsTrue, None, false};
 ghost use Rattle.scm_input.specs.declared.events.Event.{Event};
 ghost use Rattle.scm_input.specs.declared.events.Event.TheVariants.{EnsureSelectionInViewport, FocusNext, ToggleItem};
 ghost use Rattle.scm_record.specs.Session.{Session, after_frame, after_select, after_toggle, visible};

@@ -8,7 +8,7 @@ ghost use Rattle.scm_front_items.specs.Ranges.{is_mode_section};
 ghost use Rattle.scm_front_items.specs.Runs.{marks_of_file, marks_of_files, marks_with, overwritten, with_run};
 
 use scm_types::{File, Items, RecordError, Section, SectionChangedLine};
-use std::alloc::{AllocError, Global};
+use std::alloc::Global;
 
 /// The marks of some items of a section, from item `first` on. Indexes are counted from 0.
 #[derive(Debug, Drop)]

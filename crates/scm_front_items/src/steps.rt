@@ -10,7 +10,7 @@ ghost use Rattle.scm_front_items.specs.Targets.{is_as, passes_if_there};
 use crate::runs::{Run, Step, is_mode, mark_at, mark_count, marks_of_section};
 use crate::targets::{is_as, sections_of};
 use scm_types::{File, Items, LineKey, RecordError, Section, SectionKey, SelectionKey};
-use std::alloc::{AllocError, Global};
+use std::alloc::Global;
 
 // ---- runs of a state
 

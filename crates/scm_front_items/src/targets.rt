@@ -3,7 +3,7 @@ ghost use Rattle.std.specs.Prelude.{◌≡◌, [], slice_get};
 ghost use Rattle.std.specs.List.{list_all};
 ghost use Rattle.scm_types.specs.declared.line.SectionChangedLine.{SectionChangedLine as Line};
 ghost use Rattle.scm_selection.specs.KeysAround.{lines_at, sections_at};
-ghost use Rattle.scm_front_items.specs.Targets.{is_as, is_file_as, is_key_as, is_marked, is_open_deed, is_section_as, key_of, passes_if_there};
+ghost use Rattle.scm_front_items.specs.Targets.{is_as, is_file_as, is_marked, is_open_deed, is_section_as, key_of, passes_if_there};
 
 use scm_selection::KeySet;
 use scm_types::{File, LineKey, Section, SectionChangedLine, SectionKey, SelectionKey};

@@ -1,5 +1,5 @@
-use Rattle.std.proofs.Common.{rules, Bool, List, ap, ◌∙◌}
-use Rattle.std.specs.Prelude.{filter, not}
+use Rattle.std.proofs.Common.{rules, List, ap, ◌∙◌}
+use Rattle.std.specs.Prelude.{not}
 use Rattle.std.proofs.lemmas.Fn.{filter_same}
 use Rattle.scm_front_items.specs.declared.runs.Run.{Run}
 use Rattle.scm_front_items.specs.Steps.{changed_runs, is_as_run}

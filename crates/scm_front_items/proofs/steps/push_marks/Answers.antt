@@ -1,4 +1,4 @@
-use Rattle.std.proofs.Common.{◌≡◌, ◌++◌, ◌-◌, ◌+◌, ◌<◌, ◌≤◌, ◌∙◌, Bool, List, length, drop, take, ap, ℕ, suc, arith}
+use Rattle.std.proofs.Common.{◌≡◌, ◌++◌, ◌-◌, ◌+◌, ◌<◌, ◌∙◌, Bool, List, length, drop, take, ap, suc, arith}
 use Rattle.scm_types.specs.Marks.{section_marks}
 use Rattle.scm_front_items.proofs.RunLemmas.{item-more}
 use Rattle.scm_front_items.proofs.steps.push_marks.Goals as goal
