@@ -1,7 +1,6 @@
 -- What each call of a front does.
 use Rattle.std.proofs.Common.{◌≡◌, Bool, true, false, List, [], ◌∷◌, ◌++◌, refl, sym, ap, ◌∙◌, subst, Option, Some, None}
 use Rattle.std.specs.Prelude.{IsTrue, option_to_list, if◌then◌else◌}
-use Rattle.scm_errors.specs.declared.error.RecordError.{RecordError}
 use Rattle.scm_types.specs.declared.keys.SelectionKey.{SelectionKey}
 use Rattle.scm_types.specs.declared.keys.SelectionKey.TheVariants as keys
 use Rattle.scm_input.specs.declared.events.Event.{Event}
@@ -9,17 +8,20 @@ use Rattle.scm_input.specs.declared.terminal.TerminalEvent.{TerminalEvent}
 use Rattle.scm_record.specs.Live.{Live}
 use Rattle.scm_record.specs.LiveCalls.{Call, Press, EventLeads}
 use Rattle.scm_record.specs.declared.live.Turn.{Turn}
+use Rattle.scm_record.specs.declared.live.Turn.TheVariants as turns
 use Rattle.scm_front_items.specs.declared.items.Way.{Way}
 use Rattle.scm_front_items.specs.declared.items.Way.TheVariants.{Up, Down}
+use Rattle.scm_front_items.specs.declared.runs.Run.{Run}
 use Rattle.scm_front_items.specs.declared.runs.Step.{Step}
 use Rattle.scm_front_items.specs.declared.history.History.{History}
 use Rattle.scm_front_items.specs.declared.targets.Deed.{Deed}
+use Rattle.scm_front_items.specs.Histories.{KeepsStep}
 use Rattle.scm_front_items.specs.Runs.{marks_of_files, marks_with}
 use Rattle.scm_front.specs.declared.asking.Query.{Query}
 use Rattle.scm_front.specs.declared.asking.Typing.{Typing}
 use Rattle.scm_front.specs.declared.asking.Typing.TheVariants.{Finish}
 use Rattle.scm_front.specs.declared.actions.Action.{Action}
-use Rattle.scm_front.specs.declared.actions.Action.TheVariants.{Pass, Edit, Seek, Again, Range, Mark, Undo, Redo}
+use Rattle.scm_front.specs.declared.actions.Action.TheVariants.{Pass, Edit, Seek, Again, Range, Mark}
 use Rattle.scm_front.specs.declared.kept.Kept.{Kept}
 use Rattle.scm_front.specs.declared.kept.Notice.{Notice}
 use Rattle.scm_front.specs.declared.kept.Notice.TheVariants as notices
@@ -29,9 +31,11 @@ use Rattle.scm_front.specs.declared.layer.FrontTurn.TheVariants.{Waiting}
 use Rattle.scm_front.specs.Asking.{after_typing, with_word}
 use Rattle.scm_front.specs.Begun.{JumpLeads}
 use Rattle.scm_front.specs.Deeds.{RoundLeads}
-use Rattle.scm_front.specs.Keeping.{KeepsAs, saying, anchored, after_range, steps_of, done_word, nothing_left}
+use Rattle.scm_front.specs.Keeping.{KeepsAs, saying, anchored, after_range, steps_of, done_word, nothing_left, other_way}
+use Rattle.scm_front.specs.Handing.{HandsOn}
+use Rattle.scm_front.specs.Recording.{RecordsAt, RemembersAt, Returns, back_of}
 use Rattle.scm_front.specs.Restoring.{RestoresTo}
-use Rattle.scm_front.specs.Fronts.{Does, passes, types, misses, jumps, seeks, ranges, marks, lacks, restores, front, front_of, found, heard, is_elsewhere, HasMarks, files_of, selection_of, range_deeds, restoring}
+use Rattle.scm_front.specs.Fronts.{Does, passes, types, misses, jumps, seeks, ranges, marks, lacks, restores, front, front_of, found, heard, is_elsewhere, HasMarks, RemembersIn, files_of, selection_of, range_deeds, restoring}
 
 -- what is kept with a word is kept as that
 pub saying-keeps : (old mid : Kept) (anchor : SelectionKey) (word other : Notice) → KeepsAs old anchor other mid → KeepsAs old anchor word (saying mid word)
@@ -45,14 +49,34 @@ said-keeps old history word new e = subst (KeepsAs old old.anchor word) (sym e) 
 pub own-word : (old new : Kept) (anchor : SelectionKey) (word : Notice) → KeepsAs old anchor word new → KeepsAs old anchor new.word new
 own-word old new anchor word k = record { anchor = k.anchor; word = refl; keys = k.keys }
 
+-- what is made of a turn to which events led
+pub handed-on : (turn : Turn) (query q : Query) (kept mid new : Kept) (before : Option (List Run)) (result : FrontTurn) → result ≡ front_of turn q new
+    → q ≡ with_word query false → new ≡ saying mid notices.Nothing → KeepsAs kept kept.anchor kept.word mid → RecordsAt kept.history before turn mid.history
+    → HandsOn turn query kept before result
+handed-on turn query q kept mid new before result e word says keeps records = record {
+  new = new;
+  is = e ∙ ap (λ (x : Query). front_of turn x new) word;
+  keeps = subst (KeepsAs kept kept.anchor notices.Nothing) (sym says) (saying-keeps kept mid kept.anchor notices.Nothing kept.word keeps);
+  records = subst (λ (k : Kept). RecordsAt kept.history before turn k.history) (sym says) records;
+}
+
+pub remembers-in : (marks_before : List (List (List Bool))) (old : History) (turn : Turn) (query : Query) (kept : Kept) (result : FrontTurn) → result ≡ front_of turn query kept
+    → RemembersAt marks_before old turn kept.history → RemembersIn marks_before old result
+remembers-in marks_before old turn query kept result e h = subst (RemembersIn marks_before old) (sym e) (by-turn turn h)
+  where
+    by-turn : (t : Turn) → RemembersAt marks_before old t kept.history → RemembersIn marks_before old (front_of t query kept)
+    by-turn (turns.Waiting l) h = h
+    by-turn (turns.Editing a) h = h
+    by-turn (turns.Accepted state) h = tt
+
 module _ (f : Front) where
-  pub passed : (event : Event) (turn : Turn) (q : Query) (mid kept : Kept) (result : FrontTurn) → result ≡ front_of turn q kept
-      → q ≡ with_word f.query false → kept ≡ saying mid notices.Nothing → KeepsAs f.kept f.kept.anchor f.kept.word mid
-      → EventLeads f.beneath event turn → Does f (Pass event) (Press event ∷ []) result
-  passed event turn q mid kept result e word says keeps leads =
-      let kept_as : KeepsAs f.kept f.kept.anchor notices.Nothing kept =
-      subst (KeepsAs f.kept f.kept.anchor notices.Nothing) (sym says) (saying-keeps f.kept mid f.kept.anchor notices.Nothing f.kept.word keeps) in
-      subst (λ (t : FrontTurn). Does f (Pass event) (Press event ∷ []) t) (sym (e ∙ ap (λ (x : Query). front_of turn x kept) word)) (passes turn kept leads kept_as)
+  abbrev marks_now : List (List (List Bool))
+  marks_now = marks_of_files (files_of f.beneath)
+
+  pub passed : (event : Event) (turn : Turn) (before : Option (List Run)) (result : FrontTurn) → (h : HandsOn turn f.query f.kept before result) → EventLeads f.beneath event turn
+      → RemembersAt marks_now f.kept.history turn h.new.history → Does f (Pass event) (Press event ∷ []) result
+  passed event turn before result h leads remembers =
+      subst (λ (t : FrontTurn). Does f (Pass event) (Press event ∷ []) t) (sym h.is) (passes turn h.new leads h.keeps remembers)
 
   pub typed : (typing : Typing) (q : Query) (kept : Kept) → q ≡ after_typing typing f.query → kept ≡ saying f.kept notices.Nothing
       → Does f (Edit typing) [] (Waiting (front f.beneath q kept))
@@ -87,12 +111,15 @@ module _ (f : Front) where
   pub marked : (deeds : List Deed) (turn : Turn) (q : Query) (mid kept : Kept) (result : FrontTurn) → result ≡ front_of turn q kept
       → q ≡ with_word f.query false → kept ≡ saying (anchored mid keys.None) notices.Nothing → KeepsAs f.kept f.kept.anchor f.kept.word mid
       → deeds ≡ range_deeds f.beneath f.kept.anchor → ((calls : List Call) × RoundLeads f.beneath deeds (selection_of f.beneath) calls turn)
-      → (calls : List Call) × Does f Mark calls result
-  marked deeds turn q mid kept result e word says keeps same leads =
+      → RemembersAt marks_now f.kept.history turn mid.history → (calls : List Call) × Does f Mark calls result
+  marked deeds turn q mid kept result e word says keeps same leads remembers =
       let after : KeepsAs f.kept keys.None notices.Nothing (saying (anchored mid keys.None) notices.Nothing) = record { anchor = refl; word = refl; keys = keeps.keys } in
       let kept_as : KeepsAs f.kept keys.None notices.Nothing kept = subst (KeepsAs f.kept keys.None notices.Nothing) (sym says) after in
-      let round = subst (λ (list : List Deed). RoundLeads f.beneath list (selection_of f.beneath) leads.0 turn) same leads.1 in
-      (leads.0, subst (λ (t : FrontTurn). Does f Mark leads.0 t) (sym (e ∙ ap (λ (x : Query). front_of turn x kept) word)) (marks turn kept round kept_as))
+      let round = subst (λ (list : List Deed). RoundLeads f.beneath list (selection_of f.beneath) leads.0 turn) same leads.1 in (
+        leads.0,
+        subst (λ (t : FrontTurn). Does f Mark leads.0 t) (sym (e ∙ ap (λ (x : Query). front_of turn x kept) word)) (marks turn kept round kept_as
+            (subst (λ (k : Kept). RemembersAt marks_now f.kept.history turn k.history) (sym says) remembers)),
+      )
 
   pub lacked : (way : Way) (q : Query) (mid kept : Kept) → q ≡ with_word f.query false → kept ≡ saying mid (nothing_left way)
       → KeepsAs (anchored f.kept keys.None) keys.None f.kept.word mid → steps_of way f.kept.history ≡ []
@@ -102,13 +129,18 @@ module _ (f : Front) where
       let kept_as = subst (KeepsAs f.kept keys.None (nothing_left way)) (sym says) after in
       ([], subst (λ (x : Query). Does f (restoring way) [] (Waiting (front f.beneath x kept))) (sym word) (lacks way kept none kept_as))
 
-  pub restored : (way : Way) (q : Query) (mid : Kept) (rest : List Step) (step : Step) (wanted : List (List (List Bool))) (result : FrontTurn)
-      → q ≡ with_word f.query false → steps_of way f.kept.history ≡ rest ++ step ∷ [] → mid.anchor ≡ keys.None → mid.keys ≡ f.kept.keys
-      → wanted ≡ marks_with step (marks_of_files (files_of f.beneath)) → RestoresTo f.beneath q mid way wanted result
+  pub restored : (way : Way) (q : Query) (mid : Kept) (step : Step) (result : FrontTurn)
+      → q ≡ with_word f.query false → steps_of way f.kept.history ≡ steps_of way mid.history ++ step ∷ [] → mid.anchor ≡ keys.None → mid.keys ≡ f.kept.keys
+      → steps_of (other_way way) mid.history ≡ steps_of (other_way way) f.kept.history
+      → RestoresTo f.beneath q mid way (marks_with step marks_now) (back_of (files_of f.beneath) step) result
       → (calls : List Call) × Does f (restoring way) calls result
-  restored way q mid rest step wanted result word steps none own same r =
+  restored way q mid step result word steps none own others r =
       let keeps : KeepsAs f.kept keys.None r.new.word r.new = record { anchor = r.keeps.anchor ∙ none; word = refl; keys = r.keeps.keys ∙ own } in
-      let does = restores way rest step r.turn r.new steps r.leads keeps (λ e. subst (λ (m : List (List (List Bool))). HasMarks r.turn m) same (r.done e)) in
+      let back = back_of (files_of f.beneath) step in
+      let returns : r.new.word ≡ done_word way → Returns way (steps_of way mid.history) back f.kept.history r.new.history = λ said.
+      let led = r.returns said in
+      record { left = led.left; kept = subst (λ (list : List Step). KeepsStep list back (steps_of (other_way way) r.new.history)) others led.kept } in
+      let does = restores way (steps_of way mid.history) step r.turn r.new steps r.leads keeps r.done returns in
       (r.calls, subst (λ (t : FrontTurn). Does f (restoring way) r.calls t) (sym (r.is ∙ ap (λ (x : Query). front_of r.turn x r.new) word)) does)
 
   pub as-heard : (event : TerminalEvent) (action : Action) (calls : List Call) (turn : FrontTurn) → action ≡ heard f event → Does f action calls turn → Does f (heard f event) calls turn
@@ -131,11 +163,11 @@ told-done : (b : Bool) (way : Way) (word : Notice) → word ≡ (if b then done_
 told-done true way word e f = refl
 told-done false way word e f = absurd (not-done way (sym e ∙ f))
 
-pub restores-to : (l : Live) (query : Query) (kept new : Kept) (way : Way) (wanted : List (List (List Bool))) (turn : Turn) (b : Bool) (result : FrontTurn)
+pub restores-to : (l : Live) (query : Query) (kept new : Kept) (way : Way) (wanted : List (List (List Bool))) (back : Step) (turn : Turn) (b : Bool) (result : FrontTurn)
     → result ≡ front_of turn query new → KeepsAs kept kept.anchor (if b then done_word way else notices.NotRestored) new
-    → (IsTrue b → HasMarks turn wanted) → ((deeds : List Deed) × ((calls : List Call) × RoundLeads l deeds (selection_of l) calls turn))
-    → RestoresTo l query kept way wanted result
-restores-to l query kept new way wanted turn b result e keeps has r = record {
+    → (IsTrue b → Returns way (steps_of way kept.history) back kept.history new.history) → (IsTrue b → HasMarks turn wanted) → ((deeds : List Deed) × ((calls : List Call) × RoundLeads l deeds (selection_of l) calls turn))
+    → RestoresTo l query kept way wanted back result
+restores-to l query kept new way wanted back turn b result e keeps returns has r = record {
   deeds = r.0;
   calls = r.1.0;
   turn = turn;
@@ -144,13 +176,14 @@ restores-to l query kept new way wanted turn b result e keeps has r = record {
   leads = r.1.1;
   keeps = own-word kept new kept.anchor _ keeps;
   done = λ said. has (told-done b way new.word keeps.word said);
+  returns = λ said. returns (told-done b way new.word keeps.word said);
 }
 
 -- nothing is restored
-pub gives-up : (l : Live) (query : Query) (kept new : Kept) (way : Way) (wanted : List (List (List Bool))) (turn : Turn) (deeds : List Deed) (back : SelectionKey) (result : FrontTurn)
+pub gives-up : (l : Live) (query : Query) (kept new : Kept) (way : Way) (wanted : List (List (List Bool))) (step : Step) (turn : Turn) (deeds : List Deed) (back : SelectionKey) (result : FrontTurn)
     → result ≡ front_of turn query new → KeepsAs kept kept.anchor notices.NotRestored new → back ≡ selection_of l
-    → ((calls : List Call) × RoundLeads l deeds back calls turn) → RestoresTo l query kept way wanted result
-gives-up l query kept new way wanted turn deeds back result e keeps same r = record {
+    → ((calls : List Call) × RoundLeads l deeds back calls turn) → RestoresTo l query kept way wanted step result
+gives-up l query kept new way wanted step turn deeds back result e keeps same r = record {
   deeds = deeds;
   calls = r.0;
   turn = turn;
@@ -159,7 +192,25 @@ gives-up l query kept new way wanted turn deeds back result e keeps same r = rec
   leads = subst (λ (k : SelectionKey). RoundLeads l deeds k r.0 turn) same r.1;
   keeps = own-word kept new kept.anchor notices.NotRestored keeps;
   done = λ said. absurd (not-done way (sym keeps.word ∙ said));
+  returns = λ said. absurd (not-done way (sym keeps.word ∙ said));
 }
+
+-- a step to go back is kept
+pub returns-up : (old : Kept) (history : History) (word : Notice) (back : Step) (new : Kept) → new ≡ saying (record old { history = history }) word
+    → history.undos ≡ old.history.undos → KeepsStep old.history.redos back history.redos → Returns Up old.history.undos back old.history new.history
+returns-up old history word back new e undos redos =
+    subst (λ (k : Kept). Returns Up old.history.undos back old.history k.history) (sym e) (record { left = undos; kept = redos })
+
+pub returns-down : (old : Kept) (history : History) (word : Notice) (back : Step) (new : Kept) → new ≡ saying (record old { history = history }) word
+    → history.redos ≡ old.history.redos → KeepsStep old.history.undos back history.undos → Returns Down old.history.redos back old.history new.history
+returns-down old history word back new e redos undos =
+    subst (λ (k : Kept). Returns Down old.history.redos back old.history k.history) (sym e) (record { left = redos; kept = undos })
+
+-- the same by other names of the marks and of the step
+pub same-restoring : (l : Live) (query : Query) (kept : Kept) (way : Way) (wanted other : List (List (List Bool))) (back step : Step) (result : FrontTurn) → wanted ≡ other → back ≡ step
+    → RestoresTo l query kept way wanted back result → RestoresTo l query kept way other step result
+same-restoring l query kept way wanted other back step result e f r =
+    subst (λ (s : Step). RestoresTo l query kept way other s result) f (subst (λ (m : List (List (List Bool))). RestoresTo l query kept way m back result) e r)
 
 -- ---- the steps of a history
 

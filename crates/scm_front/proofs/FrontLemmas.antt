@@ -26,15 +26,15 @@ led-to {first} {calls} turn query kept p = subst (λ (t : Turn). Path first call
 -- an action is calls of the session
 pub does-path : {f : Front} {action : Action} {calls : List Call} {turn : FrontTurn} → Does f action calls turn
     → Path (turns.Waiting f.beneath) calls (beneath_of turn)
-does-path (passes turn kept leads keeps) = led-to turn _ kept (press leads still)
+does-path (passes turn kept leads keeps remembers) = led-to turn _ kept (press leads still)
 does-path types = still
 does-path (misses e) = still
 does-path (jumps e leads) = jump-path leads
 does-path (seeks does) = does-path does
 does-path ranges = still
-does-path (marks turn kept leads keeps) = led-to turn _ kept (round-path leads)
+does-path (marks turn kept leads keeps remembers) = led-to turn _ kept (round-path leads)
 does-path (lacks way kept e keeps) = still
-does-path (restores way rest step turn kept e leads keeps done) = led-to turn _ kept (round-path leads)
+does-path (restores way rest step turn kept e leads keeps done returns) = led-to turn _ kept (round-path leads)
 does-path ignores = still
 
 -- so are all that are heard

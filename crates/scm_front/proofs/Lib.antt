@@ -14,6 +14,16 @@ pub mod RangeLemmas
 pub mod HearLemmas
 -- what each call of a front does
 pub mod DoLemmas
+-- what an event does with the files of a session
+pub mod EffectLemmas
+-- what the steps of a run do with them
+pub mod ReachLemmas
+-- what is kept of an action leads back
+pub mod RememberLemmas
+-- what is kept of a range leads back
+pub mod RangeReachLemmas
+-- marks after an undo
+pub mod UndoLemmas
 -- paths of a front
 pub mod FrontLemmas
 -- examples, computed

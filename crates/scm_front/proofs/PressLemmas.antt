@@ -1,10 +1,10 @@
 -- Events that are handed in one after another.
-use Rattle.std.proofs.Common.{◌≡◌, ℕ, ◌+◌, ◌<◌, ◌≤◌, false, List, [], ◌∷◌, ◌++◌, length, drop, get_or, sym, ap, refl, subst}
+use Rattle.std.proofs.Common.{◌≡◌, ℕ, ◌+◌, ◌<◌, ◌≤◌, false, List, [], ◌∷◌, length, drop, get_or, sym, ap, refl, subst}
 use Rattle.std.proofs.lemmas.List.{drop_all, drop_more}
 use Rattle.scm_errors.specs.declared.error.RecordError.{RecordError}
 use Rattle.scm_input.specs.declared.events.Event.{Event}
 use Rattle.scm_record.specs.Live.{Live}
-use Rattle.scm_record.specs.LiveCalls.{Call, Press, still, press, EventLeads, EventFails}
+use Rattle.scm_record.specs.LiveCalls.{still, press, EventLeads, EventFails}
 use Rattle.scm_record.specs.declared.live.Turn.{Turn}
 use Rattle.scm_record.specs.declared.live.Turn.TheVariants.{Waiting}
 use Rattle.scm_record.specs.Typed.{is_waiting}

@@ -1,6 +1,6 @@
 -- What deeds do with the files of a session.
-use Rattle.std.proofs.Common.{◌≡◌, Bool, true, false, cond, ◌&&◌, List, [], ◌∷◌, ◌++◌, fold, refl, sym, ap, ◌∙◌, subst, Option, Some, None}
-use Rattle.std.specs.Prelude.{not, is_some, if◌then◌else◌}
+use Rattle.std.proofs.Common.{◌≡◌, Bool, true, false, cond, ◌&&◌, List, [], ◌∷◌, ◌++◌, refl, sym, ap, ◌∙◌, subst, Option, None}
+use Rattle.std.specs.Prelude.{not, is_some}
 use Rattle.scm_types.specs.declared.file.File.{File}
 use Rattle.scm_types.specs.declared.keys.SelectionKey.{SelectionKey}
 use Rattle.scm_input.specs.declared.events.Event.{Event}
@@ -17,11 +17,10 @@ use Rattle.scm_record.specs.LiveCalls.{Call, EventLeads}
 use Rattle.scm_record.specs.Typed.{is_waiting}
 use Rattle.scm_record.specs.declared.live.Turn.{Turn}
 use Rattle.scm_record.specs.declared.live.Turn.TheVariants.{Waiting, Editing, Accepted}
-use Rattle.scm_front_items.specs.declared.targets.Target.{Target}
 use Rattle.scm_front_items.specs.declared.targets.Deed.{Deed}
 use Rattle.scm_front_items.specs.declared.targets.Deed.TheVariants.{Mark, Fold}
-use Rattle.scm_front_items.specs.Targets.{after_deed, after_deeds, after_target, is_marked, is_open_deed, key_of}
-use Rattle.scm_front.specs.Deeds.{event_of, is_due, DeedDone, DeedsLead, done, skips, does, ends, RoundLeads, returns, leaves}
+use Rattle.scm_front_items.specs.Targets.{after_deed, after_deeds, is_marked}
+use Rattle.scm_front.specs.Deeds.{is_due, DeedDone, DeedsLead, done, skips, does, ends, RoundLeads, returns, leaves}
 use Rattle.scm_front.specs.Free.{IsFree}
 use Rattle.scm_front.specs.Fronts.{files_of, selection_of}
 use Rattle.scm_front.proofs.TurnLemmas.{toggle-so, scrolls-so}

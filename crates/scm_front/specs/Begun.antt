@@ -1,16 +1,15 @@
 -- The session beneath a layer: one that began with a state, and that calls led to where it is.
-use Rattle.std.specs.Prelude.{◌≡◌, ℕ, Bool, true, false, IsTrue, List, [], ◌∷◌, ◌++◌, fold, if◌then◌else◌}
+use Rattle.std.specs.Prelude.{◌≡◌, false, List, [], ◌∷◌}
 use Rattle.scm_types.specs.declared.state.RecordState.{RecordState}
 use Rattle.scm_types.specs.declared.keys.SelectionKey.{SelectionKey}
 use Rattle.scm_input.specs.declared.events.Event.{Event}
-use Rattle.scm_input.specs.declared.events.Event.TheVariants as events
 use Rattle.scm_input.specs.declared.inputs.TerminalKind.{TerminalKind}
 use Rattle.scm_record.specs.Session.{start}
 use Rattle.scm_record.specs.Live.{Live}
 use Rattle.scm_record.specs.Jumps.{can_select, after_selecting}
-use Rattle.scm_record.specs.LiveCalls.{Call, Press, PressAll, Path, EventLeads, BatchLeads}
+use Rattle.scm_record.specs.LiveCalls.{Call, PressAll, Path, BatchLeads}
 use Rattle.scm_record.specs.declared.live.Turn.{Turn}
-use Rattle.scm_record.specs.declared.live.Turn.TheVariants.{Waiting, Editing, Accepted}
+use Rattle.scm_record.specs.declared.live.Turn.TheVariants.{Waiting}
 
 -- some calls led from the start of a state to the turn
 pub record HasBegun (turn : Turn) : Type 0 where

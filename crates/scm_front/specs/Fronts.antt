@@ -17,6 +17,7 @@ use Rattle.scm_record.specs.declared.live.Turn.{Turn}
 use Rattle.scm_record.specs.declared.live.Turn.TheVariants as turns
 use Rattle.scm_front_items.specs.declared.items.Way.{Way}
 use Rattle.scm_front_items.specs.declared.items.Way.TheVariants.{Up, Down}
+use Rattle.scm_front_items.specs.declared.history.History.{History}
 use Rattle.scm_front_items.specs.declared.runs.Step.{Step}
 use Rattle.scm_front_items.specs.declared.targets.Deed.{Deed}
 use Rattle.scm_front_items.specs.Search.{item_towards}
@@ -42,8 +43,9 @@ use Rattle.scm_front.specs.Asking.{after_typing, with_word}
 use Rattle.scm_front.specs.Begun.{JumpLeads}
 use Rattle.scm_front.specs.Deeds.{RoundLeads}
 use Rattle.scm_front.specs.Failing.{SessionFails}
-use Rattle.scm_front.specs.Keeping.{IsNew, KeepsAs, saying, anchored, after_range, is_none, steps_of, done_word, nothing_left}
+use Rattle.scm_front.specs.Keeping.{KeepsAs, saying, after_range, is_none, steps_of, done_word, nothing_left}
 use Rattle.scm_front.specs.Presses.{PressesLead, calls_of}
+use Rattle.scm_front.specs.Recording.{RemembersAt, Returns, back_of}
 
 -- the turn of the session beneath
 abbrev pub beneath_of : FrontTurn → Turn
@@ -119,6 +121,16 @@ HasMarks (turns.Waiting l) marks = marks_of_files (files_of l) ≡ marks
 HasMarks (turns.Editing a) marks = ⊥
 HasMarks (turns.Accepted state) marks = ⊥
 
+-- the marks beneath a front
+abbrev pub marks_of : Front → List (List (List Bool))
+marks_of f = marks_of_files (files_of f.beneath)
+
+-- what the layer keeps of marks in a turn
+abbrev pub RemembersIn : List (List (List Bool)) → History → FrontTurn → Type 0
+RemembersIn before old (Waiting f) = RemembersAt before old (turns.Waiting f.beneath) f.kept.history
+RemembersIn before old (Editing a) = RemembersAt before old (turns.Editing a.beneath) a.kept.history
+RemembersIn before old (Accepted state) = RemembersAt before old (turns.Accepted state) old
+
 -- the action that restores marks in a direction
 abbrev pub restoring : Way → Action
 restoring Up = Undo
@@ -128,9 +140,10 @@ restoring Down = Redo
 
 -- An action leads from a front to a turn, and the session beneath handles these calls.
 pub data Does : Front → Action → List Call → FrontTurn → Type 0 where
-  -- the session handles an event
+  -- the session handles an event, and the marks before it are kept if it changed some
   passes : {f : Front} {event : Event} (turn : Turn) (kept : Kept) → EventLeads f.beneath event turn
       → KeepsAs f.kept f.kept.anchor notices.Nothing kept
+      → RemembersAt (marks_of_files (files_of f.beneath)) f.kept.history turn kept.history
       → Does f (Pass event) (Press event ∷ []) (front_of turn (with_word f.query false) kept)
   -- a key that types the text to search for changes only that text
   types : {f : Front} {typing : Typing}
@@ -148,21 +161,23 @@ pub data Does : Front → Action → List Call → FrontTurn → Type 0 where
   -- a range begins or ends, and the session is as it was
   ranges : {f : Front}
       → Does f Range [] (Waiting (front f.beneath (with_word f.query false) (after_range f.kept (selection_of f.beneath))))
-  -- the lines of a range are set, what was selected is selected again, and the range ends
+  -- the lines of a range are set, what was selected is selected again, the range ends, and the marks before it are kept if it changed some
   marks : {f : Front} {calls : List Call} (turn : Turn) (kept : Kept)
       → RoundLeads f.beneath (range_deeds f.beneath f.kept.anchor) (selection_of f.beneath) calls turn
       → KeepsAs f.kept keys.None notices.Nothing kept
+      → RemembersAt (marks_of_files (files_of f.beneath)) f.kept.history turn kept.history
       → Does f Mark calls (front_of turn (with_word f.query false) kept)
   -- there is nothing to undo, or to do again
   lacks : {f : Front} (way : Way) (kept : Kept) → steps_of way f.kept.history ≡ [] → KeepsAs f.kept keys.None (nothing_left way) kept
       → Does f (restoring way) [] (Waiting (front f.beneath (with_word f.query false) kept))
   -- Marks are restored, by toggles and jumps, and what was selected is selected again. If the word says so, all marks are those that the
-  -- newest step keeps, and the other ones as before.
+  -- newest step keeps, and the other ones as before; and a step to go back is kept.
   restores : {f : Front} {calls : List Call} {deeds : List Deed} (way : Way) (rest : List Step) (step : Step) (turn : Turn) (kept : Kept)
       → steps_of way f.kept.history ≡ rest ++ step ∷ []
       → RoundLeads f.beneath deeds (selection_of f.beneath) calls turn
       → KeepsAs f.kept keys.None kept.word kept
       → (kept.word ≡ done_word way → HasMarks turn (marks_with step (marks_of_files (files_of f.beneath))))
+      → (kept.word ≡ done_word way → Returns way rest (back_of (files_of f.beneath) step) f.kept.history kept.history)
       → Does f (restoring way) calls (front_of turn (with_word f.query false) kept)
   -- nothing is done
   ignores : {f : Front} → Does f Ignore [] (Waiting f)

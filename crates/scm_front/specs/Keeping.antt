@@ -1,5 +1,5 @@
 -- What the layer keeps beside the session and the text that is searched for.
-use Rattle.std.specs.Prelude.{◌≡◌, Bool, true, false, List, [], ◌∷◌, if◌then◌else◌}
+use Rattle.std.specs.Prelude.{◌≡◌, Bool, true, false, List, [], if◌then◌else◌}
 use Rattle.scm_types.specs.declared.keys.SelectionKey.{SelectionKey}
 use Rattle.scm_types.specs.declared.keys.SelectionKey.TheVariants as keys
 use Rattle.scm_selection.specs.KeyLists.{is_line}
@@ -51,6 +51,11 @@ pub record KeepsAs (old : Kept) (begun : SelectionKey) (said : Notice) (new : Ke
 abbrev pub steps_of : Way → History → List Step
 steps_of Up history = history.undos
 steps_of Down history = history.redos
+
+-- the other direction
+abbrev pub other_way : Way → Way
+other_way Up = Down
+other_way Down = Up
 
 -- the word after a step in a direction is done, and that after no step was left
 abbrev pub done_word : Way → Notice

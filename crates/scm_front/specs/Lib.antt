@@ -16,9 +16,13 @@ pub mod Asking
 pub mod Actions
 -- what else the layer keeps
 pub mod Keeping
+-- which marks an event may change, and what is kept of them
+pub mod Recording
 -- marks that are restored
 pub mod Restoring
 -- fronts: what they do with what they hear, and the calls of the session beneath
 pub mod Fronts
+-- what the layer makes of a turn to which events led
+pub mod Handing
 -- a click sideways, on a session that is wider than the terminal
 pub mod Sideways

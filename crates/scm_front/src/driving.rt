@@ -1,5 +1,5 @@
 //! The calls of the session beneath a layer.
-ghost use Rattle.std.specs.Prelude.{◌≡◌, List, IfErr, IfOk, IsTrue, OnErr, OnOk, string_bytes};
+ghost use Rattle.std.specs.Prelude.{◌≡◌, [], List, IfErr, IfOk, IsTrue, OnErr, OnOk, string_bytes};
 ghost use Rattle.scm_errors.specs.declared.error.RecordError.TheVariants.{OutOfMemory};
 ghost use Rattle.scm_types.specs.Limits.{is_accepted_state};
 ghost use Rattle.scm_record.specs.Session.{message_text, start};
@@ -90,7 +90,8 @@ impl<'state> Begun<'state> {
 
     /// Returns the session, to read.
     pub(crate) fn live(&self) -> &LiveSession<'state>
-        ensures { result.now ≡ self.now }
+        ensures value { result.now ≡ self.now }
+        ensures calm { self.now.session.pending ≡ [] }
     {
         &self.live
     }

@@ -1,5 +1,4 @@
 //! What the layer keeps beside the session and the text that is searched for.
-ghost use Rattle.std.specs.Prelude.{◌≡◌};
 
 use crate::actions::OwnKey;
 use scm_front_items::History;

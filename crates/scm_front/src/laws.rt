@@ -1,5 +1,5 @@
 //! What is true of a front, whatever is typed.
-ghost use Rattle.std.specs.Prelude.{◌≡◌, ℕ, List, [], ◌∷◌, IsTrue, None, false};
+ghost use Rattle.std.specs.Prelude.{◌≡◌, List, [], ◌∷◌, IsTrue, None, false};
 ghost use Rattle.scm_input.specs.declared.events.Event.{Event};
 ghost use Rattle.scm_input.specs.declared.events.Event.TheVariants.{EnsureSelectionInViewport, FocusNext, ToggleItem};
 ghost use Rattle.scm_record.specs.Session.{Session, after_frame, after_select, after_toggle, visible};
@@ -22,7 +22,10 @@ ghost use Rattle.scm_types.specs.declared.keys.SelectionKey.{SelectionKey};
 ghost use Rattle.scm_front_items.specs.Targets.{after_deeds};
 ghost use Rattle.scm_front.specs.Deeds.{RoundLeads};
 ghost use Rattle.scm_front.specs.Free.{IsFree};
-ghost use Rattle.scm_front.specs.Fronts.{FrontPath, Input, beneath_of, files_of, range_deeds, selection_of};
+ghost use Rattle.scm_front.specs.Fronts.{Does, FrontPath, Input, beneath_of, files_of, marks_of, range_deeds, selection_of};
+ghost use Rattle.scm_front.specs.declared.actions.Action.TheVariants.{Mark, Pass, Redo, Undo};
+ghost use Rattle.scm_front.specs.declared.kept.Notice.TheVariants.{Redone, Undone};
+ghost use Rattle.scm_front.specs.declared.layer.Front.{Front};
 ghost use Rattle.scm_front.specs.declared.layer.FrontTurn.{FrontTurn};
 
 use scm_record::live::sessions_are_runs;
@@ -64,6 +67,32 @@ pub fn ranges_are_toggles()
     ensures { (l last : Live) (anchor : SelectionKey) (calls : List Call) → IsFree l
         → RoundLeads l (range_deeds l anchor) (selection_of l) calls (Waiting last)
         → files_of last ≡ after_deeds (files_of l) (range_deeds l anchor) }
+{}
+
+/// Proves what an undo restores.
+///
+/// If an event or a range changed marks, and the layer says that it is undone, all marks are those before
+/// the event or the range. A redo after an undo leads to the marks before the undo, and an undo after a
+/// redo to those before the redo.
+///
+/// This is a law: the function does nothing, and is there for its contract.
+pub fn undos_restore_marks()
+    ensures event { (f g h : Front) (event : Event) (calls more : List Call)
+        → Does f (Pass event) calls (FrontTurn.Waiting g) → (marks_of g ≡ marks_of f → ⊥)
+        → Does g Undo more (FrontTurn.Waiting h) → h.kept.word ≡ Undone
+        → marks_of h ≡ marks_of f }
+    ensures range { (f g h : Front) (calls more : List Call)
+        → Does f Mark calls (FrontTurn.Waiting g) → (marks_of g ≡ marks_of f → ⊥)
+        → Does g Undo more (FrontTurn.Waiting h) → h.kept.word ≡ Undone
+        → marks_of h ≡ marks_of f }
+    ensures redo { (f g h : Front) (calls more : List Call)
+        → Does f Undo calls (FrontTurn.Waiting g) → g.kept.word ≡ Undone
+        → Does g Redo more (FrontTurn.Waiting h) → h.kept.word ≡ Redone
+        → marks_of h ≡ marks_of f }
+    ensures again { (f g h : Front) (calls more : List Call)
+        → Does f Redo calls (FrontTurn.Waiting g) → g.kept.word ≡ Redone
+        → Does g Undo more (FrontTurn.Waiting h) → h.kept.word ≡ Undone
+        → marks_of h ≡ marks_of f }
 {}
 
 /// Proves which session an event leads to.

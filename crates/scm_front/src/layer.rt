@@ -10,17 +10,20 @@ ghost use Rattle.scm_record.specs.Live.{on_screen};
 ghost use Rattle.scm_record.specs.LiveCalls.{BatchFails, BatchLeads, Call, EventFails, MessageFails, MessageLeads, Path, Press};
 ghost use Rattle.scm_record.specs.declared.live.Turn.TheVariants.{Waiting};
 ghost use Rattle.scm_front_items.specs.declared.items.Way.{Way as Direction};
+ghost use Rattle.scm_front_items.specs.declared.runs.Step.{Step as Past};
 ghost use Rattle.scm_front.specs.declared.kept.Notice.TheVariants.{NotRestored};
 ghost use Rattle.scm_front.specs.declared.actions.Action.TheVariants.{Again, Edit, Mark, Pass, Range, Seek};
 ghost use Rattle.scm_front.specs.Asking.{new_query};
 ghost use Rattle.scm_front.specs.Sideways.{sideways_click};
 ghost use Rattle.scm_front.specs.Driving.{turn_of};
-ghost use Rattle.scm_front.specs.Keeping.{IsNew, KeepsAs, after_range, anchored, done_word, is_none, nothing_left, saying, steps_of};
+ghost use Rattle.scm_front.specs.Keeping.{IsNew, KeepsAs, after_range, anchored, done_word, is_none, nothing_left, other_way, saying, steps_of};
 ghost use Rattle.scm_front.specs.Presses.{PressesFail, PressesLead};
 ghost use Rattle.scm_front.specs.Failing.{SessionFails};
+ghost use Rattle.scm_front.specs.Handing.{HandsOn};
 ghost use Rattle.scm_front.specs.Restoring.{RestoresTo};
+ghost use Rattle.scm_front.specs.Recording.{RecordsAt, Returns, back_of};
 ghost use Rattle.scm_front_items.specs.Runs.{marks_of_files, marks_with};
-ghost use Rattle.scm_front.specs.Fronts.{Does, FrontFails, beneath_of, files_of, front, front_of, found, heard, is_elsewhere, mode_of, notice_of, restoring};
+ghost use Rattle.scm_front.specs.Fronts.{Does, FrontFails, RemembersIn, beneath_of, files_of, front, front_of, found, heard, is_elsewhere, mode_of, notice_of, restoring};
 
 use crate::actions::{Action, Mode, OwnKey, action_of};
 use crate::asking::{Query, Typing, after_typing, new_query, with_word};
@@ -127,7 +130,8 @@ fn anchored(kept: Kept, anchor: SelectionKey) -> Kept
 
 /// Returns `kept` after an action that led to `turn`, if the marks `before` it are these.
 fn recorded(kept: Kept, before: Option<Items<Run>>, turn: &BegunTurn<'_>) -> Kept
-    ensures { KeepsAs kept kept.anchor kept.word result }
+    ensures keeps { KeepsAs kept kept.anchor kept.word result }
+    ensures history { RecordsAt kept.history before (turn_of turn.now) result.history }
 {
     let Kept {
         anchor,
@@ -144,6 +148,20 @@ fn recorded(kept: Kept, before: Option<Items<Run>>, turn: &BegunTurn<'_>) -> Kep
         history,
         alloc,
     }
+}
+
+/// Returns `turn`, to which events led, with what the layer keeps after them, if the marks `before` them
+/// are these. What the layer said of the last key is over.
+fn handed<'state>(
+    turn: BegunTurn<'state>,
+    query: Query,
+    kept: Kept,
+    before: Option<Items<Run>>,
+) -> FrontTurn<'state>
+    ensures { HandsOn (turn_of turn.entry) query kept before result }
+{
+    let kept = saying(recorded(kept, before, &turn), Notice::Nothing);
+    front_turn(turn, with_word(query, false), kept)
 }
 
 /// Returns whether another item than `key` is selected.
@@ -194,6 +212,8 @@ fn take_step(kept: &mut Kept, way: Way) -> Option<Step>
     ensures step { steps_of way kept.old.history
         ≡ steps_of way kept.new.history ++ option_to_list result }
     ensures none { IfNone result (steps_of way kept.old.history ≡ []) }
+    ensures other { steps_of (other_way way) kept.new.history
+        ≡ steps_of (other_way way) kept.old.history }
     ensures kept { KeepsAs kept.old kept.old.anchor kept.old.word kept.new }
 {
     match way {
@@ -205,7 +225,8 @@ fn take_step(kept: &mut Kept, way: Way) -> Option<Step>
 /// Returns `kept` with `back` to go back from a restoring in direction `way`, and with the word that it is
 /// done.
 fn with_back(kept: Kept, way: Way, back: Step) -> Kept
-    ensures { KeepsAs kept kept.anchor (done_word way) result }
+    ensures keeps { KeepsAs kept kept.anchor (done_word way) result }
+    ensures returns { Returns way (steps_of way kept.history) back kept.history result.history }
 {
     let mut kept = kept;
     match way {
@@ -231,8 +252,10 @@ fn without_steps(kept: Kept) -> Kept
 
 /// Returns `kept` after marks were to be restored: if they are, with `back` to go back.
 fn after_restoring(kept: Kept, way: Way, is_restored: bool, back: Step) -> Kept
-    ensures { KeepsAs kept kept.anchor
+    ensures keeps { KeepsAs kept kept.anchor
         (if is_restored then done_word way else NotRestored) result }
+    ensures returns { IsTrue is_restored
+        → Returns way (steps_of way kept.history) back kept.history result.history }
 {
     if is_restored {
         with_back(kept, way, back)
@@ -250,7 +273,7 @@ fn restored<'state>(
     what: Restoring,
 ) -> Result<FrontTurn<'state>, RecordError>
     ensures ok { IfOk result (λ turn.
-        RestoresTo beneath.entry query kept way what.wanted turn) }
+        RestoresTo beneath.entry query kept way what.wanted what.back turn) }
     ensures err { IfErr result (λ e. SessionFails beneath.entry e) }
 {
     let Restoring { wanted, back } = what;
@@ -266,8 +289,8 @@ fn given_up<'state>(
     query: Query,
     kept: Kept,
 ) -> Result<FrontTurn<'state>, RecordError>
-    ensures ok { (way : Direction) → (wanted : List (List (List Bool))) → IfOk result (λ turn.
-        RestoresTo beneath.entry query kept way wanted turn) }
+    ensures ok { (way : Direction) → (wanted : List (List (List Bool))) → (back : Past)
+        → IfOk result (λ turn. RestoresTo beneath.entry query kept way wanted back turn) }
     ensures err { IfErr result (λ e. SessionFails beneath.entry e) }
 {
     let kept = without_steps(kept);
@@ -285,7 +308,8 @@ fn restore_step<'state>(
     step: Step,
 ) -> Result<FrontTurn<'state>, RecordError>
     ensures ok { IfOk result (λ turn. RestoresTo beneath.entry query kept way
-        (marks_with step (marks_of_files (files_of beneath.entry))) turn) }
+        (marks_with step (marks_of_files (files_of beneath.entry)))
+        (back_of (files_of beneath.entry) step) turn) }
     ensures err { IfErr result (λ e. SessionFails beneath.entry e) }
 {
     match what_to_restore(kept.alloc, &beneath, &step) {
@@ -379,8 +403,7 @@ impl<'state> Front<'state> {
         } = self;
         let before = runs_before(kept.alloc, &beneath, event);
         let turn = beneath.handle(event)?;
-        let kept = saying(recorded(kept, before, &turn), Notice::Nothing);
-        Ok(front_turn(turn, with_word(query, false), kept))
+        Ok(handed(turn, query, kept, before))
     }
 
     /// Hands `events` to the session beneath as one batch, as [`LiveSession::handle_all`] does.
@@ -392,6 +415,8 @@ impl<'state> Front<'state> {
         requires { IsTrue (is_batch self.beneath.session events.now) }
         ensures ok { IfOk result (λ turn.
             BatchLeads self.entry.beneath events.now (beneath_of turn)) }
+        ensures remembers { IfOk result (λ turn. RemembersIn
+            (marks_of_files (files_of self.entry.beneath)) self.entry.kept.history turn) }
         ensures err { IfErr result (λ e. BatchFails self.entry.beneath events.now e) }
     {
         let Front {
@@ -401,8 +426,7 @@ impl<'state> Front<'state> {
         } = self;
         let before = runs_before_all(kept.alloc, &beneath, events);
         let turn = beneath.handle_all(events)?;
-        let kept = saying(recorded(kept, before, &turn), Notice::Nothing);
-        Ok(front_turn(turn, with_word(query, false), kept))
+        Ok(handed(turn, query, kept, before))
     }
 
     /// Hands `events` to the session beneath in order, up to the first that ends the session or asks
@@ -414,6 +438,8 @@ impl<'state> Front<'state> {
     pub fn press_all(self, events: &[Event]) -> Result<FrontTurn<'state>, RecordError>
         ensures ok { IfOk result (λ turn.
             PressesLead self.entry.beneath events.now (beneath_of turn)) }
+        ensures remembers { IfOk result (λ turn. RemembersIn
+            (marks_of_files (files_of self.entry.beneath)) self.entry.kept.history turn) }
         ensures err { IfErr result (λ e. PressesFail self.entry.beneath events.now e) }
     {
         let Front {

@@ -1,15 +1,18 @@
 //! The deeds of the layer's actions: marks of a range, and marks that were.
-ghost use Rattle.std.specs.Prelude.{◌≡◌, IfErr, IfOk, IsTrue};
+ghost use Rattle.std.specs.Prelude.{◌≡◌, [], IfErr, IfOk, IfSome, IsTrue};
 ghost use Rattle.scm_errors.specs.declared.error.RecordError.TheVariants.{OutOfMemory};
 ghost use Rattle.scm_front_items.specs.Runs.{marks_of_files, marks_with};
+ghost use Rattle.scm_front_items.specs.Steps.{runs_of_range};
 ghost use Rattle.scm_front.specs.Deeds.{SomeDeedsLead, SomeRoundLeads};
 ghost use Rattle.scm_front.specs.Driving.{turn_of};
 ghost use Rattle.scm_front.specs.Failing.{SessionFails};
 ghost use Rattle.scm_front.specs.Fronts.{HasMarks, files_of, range_deeds, selection_of};
+ghost use Rattle.scm_front.specs.Recording.{back_of};
 
 use crate::begun::{Begun, BegunTurn};
 use crate::deeds::{do_deeds, do_round};
-use scm_front_items::{Deed, Marks, Run, Step, plans, ranges, runs};
+use scm_front_items::plans::{self, Part};
+use scm_front_items::{Deed, Marks, Run, Step, ranges, runs, steps};
 use scm_record::{Items, KeySet, RecordError, SelectionKey};
 use std::alloc::Global;
 
@@ -43,27 +46,19 @@ pub(crate) fn range_deeds(
     Ok(deeds)
 }
 
-/// Returns the index of the file of `key`, or 0.
-fn file_of(key: SelectionKey) -> usize {
-    match key {
-        SelectionKey::None => 0,
-        SelectionKey::File(key) => key.file_idx,
-        SelectionKey::Section(key) => key.file_idx,
-        SelectionKey::Line(key) => key.file_idx,
-    }
-}
-
 /// Returns the marks of the files from `anchor` to the selection, or `None` if an allocation failed.
 pub(crate) fn runs_of_range(
     alloc: Global,
     session: &Begun<'_>,
     anchor: SelectionKey,
-) -> Option<Items<Run>> {
+) -> Option<Items<Run>>
+    ensures taken { IfSome result (λ runs. runs
+        ≡ runs_of_range anchor (selection_of session.now) (files_of session.now)) }
+    ensures calm { session.now.session.pending ≡ [] }
+{
     let view = session.live().view_state();
     let files = view.state.files.as_slice();
-    let from = file_of(anchor);
-    let to = file_of(view.selection);
-    runs::runs_of_files(alloc, files, from.min(to), from.max(to)).ok()
+    steps::runs_of_range(alloc, files, anchor, view.selection).ok()
 }
 
 /// The marks that are to be restored, and those of the same items before that.
@@ -81,12 +76,13 @@ pub(crate) fn what_to_restore(
     session: &Begun<'_>,
     step: &Step,
 ) -> Result<Restoring, RecordError>
-    ensures { IfOk result (λ r. r.wanted
+    ensures wanted { IfOk result (λ r. r.wanted
         ≡ marks_with step.now (marks_of_files (files_of session.now))) }
+    ensures back { IfOk result (λ r. r.back ≡ back_of (files_of session.now) step.now) }
 {
     let files = session.live().state().files.as_slice();
     let marks = runs::marks_of_files(alloc, files)?;
-    let now = runs::runs_now(alloc, files, step.runs.as_slice())?;
+    let now = steps::runs_now(alloc, files, step.runs.as_slice())?;
     Ok(Restoring {
         wanted: runs::marks_with(marks, step),
         back: Step {
@@ -107,23 +103,23 @@ fn with_folds(alloc: Global, deeds: Vec<Deed>, expanded: &KeySet) -> Result<Vec<
     Ok(deeds)
 }
 
-/// Returns the first deeds towards the marks `wanted`.
-fn first_deeds(alloc: Global, session: &Begun<'_>, wanted: &Marks) -> Result<Vec<Deed>, RecordError>
+/// Returns the deeds of `part` towards the marks `wanted`.
+fn deeds_towards(
+    alloc: Global,
+    session: &Begun<'_>,
+    part: Part,
+    wanted: &Marks,
+) -> Result<Vec<Deed>, RecordError>
     ensures err { IfErr result (λ e. e ≡ OutOfMemory) }
 {
     let mut deeds = Vec::new(alloc);
     let view = session.live().view_state();
-    plans::push_first_deeds(&mut deeds, view.state.files.as_slice(), wanted.as_slice())?;
-    with_folds(alloc, deeds, &view.expanded)
-}
-
-/// Returns the last deeds towards the marks `wanted`, once the first ones are done.
-fn last_deeds(alloc: Global, session: &Begun<'_>, wanted: &Marks) -> Result<Vec<Deed>, RecordError>
-    ensures err { IfErr result (λ e. e ≡ OutOfMemory) }
-{
-    let mut deeds = Vec::new(alloc);
-    let view = session.live().view_state();
-    plans::push_last_deeds(&mut deeds, view.state.files.as_slice(), wanted.as_slice())?;
+    plans::push_deeds(
+        &mut deeds,
+        part,
+        view.state.files.as_slice(),
+        wanted.as_slice(),
+    )?;
     with_folds(alloc, deeds, &view.expanded)
 }
 
@@ -136,7 +132,7 @@ fn first_part<'state>(
     ensures ok { IfOk result (λ turn. SomeDeedsLead session.entry (turn_of turn)) }
     ensures err { IfErr result (λ e. SessionFails session.entry e) }
 {
-    let deeds = first_deeds(alloc, &session, wanted)?;
+    let deeds = deeds_towards(alloc, &session, Part::First, wanted)?;
     do_deeds(session, deeds.as_slice())
 }
 
@@ -150,7 +146,7 @@ fn last_part<'state>(
     ensures ok { IfOk result (λ turn. SomeRoundLeads session.entry back (turn_of turn)) }
     ensures err { IfErr result (λ e. SessionFails session.entry e) }
 {
-    let deeds = last_deeds(alloc, &session, wanted)?;
+    let deeds = deeds_towards(alloc, &session, Part::Last, wanted)?;
     do_round(session, deeds.as_slice(), back)
 }
 

@@ -278,13 +278,13 @@ modes-kept line [] section = refl
 modes-kept line (s ∷ ss) zero = ap (λ (b : Bool). b || list_any is_mode_section ss) (mode-kept line s)
 modes-kept line (s ∷ ss) (suc section) = ap (λ (b : Bool). is_mode_section s || b) (modes-kept line ss section)
 
-deletion-same : (s : Section) → is_mode_section s ≡ false → with_deletion_unchecked s ≡ s
+pub deletion-same : (s : Section) → is_mode_section s ≡ false → with_deletion_unchecked s ≡ s
 deletion-same (sections.Unchanged lines) e = refl
 deletion-same (sections.Changed lines) e = refl
 deletion-same (sections.FileMode is_checked mode) e = cc
 deletion-same (sections.Binary is_checked old new) e = refl
 
-mode-same : (s : Section) → is_mode_section s ≡ false → with_mode_checked s ≡ s
+pub mode-same : (s : Section) → is_mode_section s ≡ false → with_mode_checked s ≡ s
 mode-same (sections.Unchanged lines) e = refl
 mode-same (sections.Changed lines) e = refl
 mode-same (sections.FileMode is_checked mode) e = cc

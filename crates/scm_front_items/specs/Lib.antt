@@ -8,6 +8,8 @@ pub mod Ranges
 pub mod Targets
 -- marks that were, by runs of items
 pub mod Runs
+-- what a step holds
+pub mod Steps
 -- toggles that lead to marks that were
 pub mod Plans
 -- what undo and redo keep

@@ -1,5 +1,5 @@
 -- The marks of a state by file and section, and runs of marks that were: those of items `first` and later of a section.
-use Rattle.std.specs.Prelude.{◌≡◌, ℕ, ◌+◌, Bool, List, [], ◌∷◌, map, fold, set, length, sum_by}
+use Rattle.std.specs.Prelude.{ℕ, ◌+◌, Bool, List, [], ◌∷◌, map, fold, set, length}
 use Rattle.scm_types.specs.declared.file.File.{File}
 use Rattle.scm_types.specs.Marks.{section_marks}
 use Rattle.scm_types.specs.Edits.{modify}
@@ -30,7 +30,3 @@ marks_with step marks = fold with_run marks step.runs
 -- the bytes that a run takes: one a mark, and those of the run itself
 abbrev pub run_bytes : Run → ℕ
 run_bytes run = length run.marks + 64
-
--- a step is as large as its runs
-abbrev pub IsSized : Step → Type 0
-IsSized step = step.bytes ≡ sum_by run_bytes step.runs

@@ -6,7 +6,6 @@ ghost use Rattle.scm_front_items.specs.Search.{
   found_after,
   file_index,
   file_items,
-  files_items,
   is_above,
   is_equal,
   is_hit,

@@ -11,6 +11,7 @@ mod occurs;
 pub mod plans;
 pub mod ranges;
 pub mod runs;
+pub mod steps;
 pub mod targets;
 
 pub use history::History;

@@ -1,5 +1,5 @@
 //! Whether a pattern occurs in a text.
-ghost use Rattle.std.specs.Prelude.{◌≡◌, ◌+◌, ◌<◌, ◌^◌, slice_get};
+ghost use Rattle.std.specs.Prelude.{◌≡◌, ◌+◌, ◌<◌, slice_get};
 ghost use Rattle.std.specs.List.{list_any};
 ghost use Rattle.scm_front_items.specs.Occurs.{begins, has_pattern, is_capital, is_seen, occurs, seen};
 

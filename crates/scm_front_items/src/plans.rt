@@ -11,6 +11,15 @@ use scm_selection::key_lists::{file_key, line_key, section_key};
 use scm_types::{File, Items, RecordError, Section, SectionChangedLine, SelectionKey, Tristate};
 use std::alloc::Global;
 
+/// The parts of a plan, in the order in which they are done.
+#[derive(Clone, Copy, Debug, PartialEq, Eq)]
+pub enum Part {
+    /// Whole files, and the mode changes of others, which may change more marks of their files.
+    First,
+    /// Sections and lines that then still have other marks.
+    Last,
+}
+
 /// The mark that all of some marks have.
 #[derive(Clone, Copy)]
 enum Common {
@@ -199,47 +208,40 @@ fn push_sections(
     Ok(())
 }
 
-/// Adds the first deeds to `deeds` that lead from `files` to the marks `wanted`: whole files, and mode
-/// changes of others, which may change more marks of their files. Files with these marks have none.
-///
-/// # Errors
-///
-/// - `OutOfMemory`: an allocation failed; some deeds may have been added.
-pub fn push_first_deeds(
+/// Adds the deeds of `part` for file `index` to `deeds`. A file with the marks `wanted` has none.
+fn push_file(
     deeds: &mut Vec<Deed>,
-    files: &[File<'_>],
-    wanted: &[Items<Items<bool>>],
+    part: Part,
+    index: usize,
+    file: &File<'_>,
+    wanted: &[Items<bool>],
 ) -> Result<(), RecordError>
     ensures err { IfErr result (λ e. e ≡ OutOfMemory) }
 {
-    for index in 0..files.len().min(wanted.len()) {
-        if !have_marks(files[index].sections.as_slice(), wanted[index].as_slice()) {
-            push_first(deeds, index, &files[index], wanted[index].as_slice())?;
-        }
+    if have_marks(file.sections.as_slice(), wanted) {
+        return Ok(());
     }
-    Ok(())
+    match part {
+        Part::First => push_first(deeds, index, file, wanted),
+        Part::Last => push_sections(deeds, index, file.sections.as_slice(), wanted),
+    }
 }
 
-/// Adds the last deeds to `deeds` that lead from `files` to the marks `wanted`, after the first ones are
-/// done: sections and lines.
+/// Adds the deeds of `part` to `deeds` that lead from `files` to the marks `wanted`.
 ///
 /// # Errors
 ///
 /// - `OutOfMemory`: an allocation failed; some deeds may have been added.
-pub fn push_last_deeds(
+pub fn push_deeds(
     deeds: &mut Vec<Deed>,
+    part: Part,
     files: &[File<'_>],
     wanted: &[Items<Items<bool>>],
 ) -> Result<(), RecordError>
     ensures err { IfErr result (λ e. e ≡ OutOfMemory) }
 {
     for index in 0..files.len().min(wanted.len()) {
-        push_sections(
-            deeds,
-            index,
-            files[index].sections.as_slice(),
-            wanted[index].as_slice(),
-        )?;
+        push_file(deeds, part, index, &files[index], wanted[index].as_slice())?;
     }
     Ok(())
 }

@@ -4,11 +4,11 @@ ghost use Rattle.scm_types.specs.declared.line.SectionChangedLine.{SectionChange
 ghost use Rattle.scm_errors.specs.declared.error.RecordError.TheVariants.{OutOfMemory};
 ghost use Rattle.scm_types.specs.Edits.{modify};
 ghost use Rattle.scm_types.specs.Marks.{section_marks};
+ghost use Rattle.scm_front_items.specs.Ranges.{is_mode_section};
 ghost use Rattle.scm_front_items.specs.Runs.{marks_of_file, marks_of_files, marks_with, overwritten, with_run};
 
-use crate::targets::sections_of;
-use scm_types::{File, Items, RecordError, Section, SectionChangedLine, SectionKey, SelectionKey};
-use std::alloc::{AllocError, Global};
+use scm_types::{File, Items, RecordError, Section, SectionChangedLine};
+use std::alloc::Global;
 
 /// The marks of some items of a section, from item `first` on. Indexes are counted from 0.
 #[derive(Debug, Drop)]
@@ -53,7 +53,10 @@ fn push_line_marks(
 }
 
 /// Returns the marks of `section`, in order.
-fn marks_of_section(alloc: Global, section: &Section<'_>) -> Result<Items<bool>, RecordError>
+pub(crate) fn marks_of_section(
+    alloc: Global,
+    section: &Section<'_>,
+) -> Result<Items<bool>, RecordError>
     ensures ok { IfOk result (λ marks. marks ≡ section_marks section.now) }
     ensures err { IfErr result (λ e. e ≡ OutOfMemory) }
 {
@@ -96,7 +99,7 @@ pub fn marks_of_files(alloc: Global, files: &[File<'_>]) -> Result<Marks, Record
 }
 
 /// Returns the mark of item `index` of `section`, counted from 0, if there is one.
-fn mark_at(section: &Section<'_>, index: usize) -> Option<bool>
+pub(crate) fn mark_at(section: &Section<'_>, index: usize) -> Option<bool>
     ensures { result ≡ slice_get (section_marks section.now) index }
 {
     match section {
@@ -109,13 +112,23 @@ fn mark_at(section: &Section<'_>, index: usize) -> Option<bool>
 }
 
 /// Returns the number of marks of `section`.
-fn mark_count(section: &Section<'_>) -> usize
+pub(crate) fn mark_count(section: &Section<'_>) -> usize
     ensures { result ≡ length (section_marks section.now) }
 {
     match section {
         Section::Unchanged { .. } => 0,
         Section::Changed { lines } => lines.len(),
         Section::FileMode { .. } | Section::Binary { .. } => 1,
+    }
+}
+
+/// Returns whether `section` changes the mode of its file.
+pub(crate) fn is_mode(section: &Section<'_>) -> bool
+    ensures { result ≡ is_mode_section section.now }
+{
+    match section {
+        Section::FileMode { .. } => true,
+        Section::Unchanged { .. } | Section::Changed { .. } | Section::Binary { .. } => false,
     }
 }
 
@@ -231,227 +244,4 @@ pub fn marks_with(marks: Marks, step: &Step) -> Marks
     let mut marks = marks;
     overwrite_runs(marks.as_mut_slice(), step.runs.as_slice());
     marks
-}
-
-// ---- runs of a state
-
-/// Returns the section that `run` lies in, if it is there.
-fn section_of<'a, 'b>(files: &'a [File<'b>], run: &Run) -> Option<&'a Section<'b>> {
-    sections_of(files, run.file).get(run.section)
-}
-
-/// Returns whether the marks in `files` are those of `run`.
-fn is_as_run(files: &[File<'_>], run: &Run) -> bool {
-    match section_of(files, run) {
-        None => true,
-        Some(section) => {
-            for index in 0..run.marks.len() {
-                match mark_at(section, run.first.saturating_add(index)) {
-                    Some(mark) if mark != run.marks.as_slice()[index] => return false,
-                    Some(_) | None => {}
-                }
-            }
-            true
-        }
-    }
-}
-
-/// Returns the items of `run` with the marks that they have in `files`.
-fn run_now(alloc: Global, files: &[File<'_>], run: &Run) -> Result<Run, RecordError>
-    ensures err { IfErr result (λ e. e ≡ OutOfMemory) }
-{
-    let mut marks = Items::new(alloc);
-    if let Some(section) = section_of(files, run) {
-        for index in 0..run.marks.len() {
-            let mark = mark_at(section, run.first.saturating_add(index));
-            marks.push(mark.unwrap_or(false))?;
-        }
-    }
-    Ok(Run {
-        file: run.file,
-        section: run.section,
-        first: run.first,
-        marks,
-    })
-}
-
-/// Returns the items of `runs` with the marks that they have in `files`.
-///
-/// # Errors
-///
-/// - `OutOfMemory`: an allocation failed.
-pub fn runs_now(alloc: Global, files: &[File<'_>], runs: &[Run]) -> Result<Items<Run>, RecordError>
-    ensures err { IfErr result (λ e. e ≡ OutOfMemory) }
-{
-    let mut now = Items::new(alloc);
-    for run in runs {
-        now.push(run_now(alloc, files, run)?)?;
-    }
-    Ok(now)
-}
-
-/// Returns the step of those `runs` whose marks differ from those of `files`.
-///
-/// # Errors
-///
-/// - `OutOfMemory`: an allocation failed.
-pub fn changed_step(
-    alloc: Global,
-    files: &[File<'_>],
-    runs: Items<Run>,
-) -> Result<Step, RecordError>
-    ensures err { IfErr result (λ e. e ≡ OutOfMemory) }
-{
-    let mut kept = Items::new(alloc);
-    let mut bytes: usize = 0;
-    for run in runs.into_inner() {
-        if !is_as_run(files, &run) {
-            bytes = bytes.saturating_add(run.marks.len()).saturating_add(64);
-            kept.push(run)?;
-        }
-    }
-    Ok(Step { runs: kept, bytes })
-}
-
-/// Adds the run of section `section` of file `file` to `runs`, if it has marks.
-fn push_section(
-    runs: &mut Items<Run>,
-    alloc: Global,
-    file: usize,
-    index: usize,
-    section: &Section<'_>,
-) -> Result<(), RecordError>
-    ensures err { IfErr result (λ e. e ≡ OutOfMemory) }
-{
-    if mark_count(section) > 0 {
-        let marks = marks_of_section(alloc, section)?;
-        runs.push(Run {
-            file,
-            section: index,
-            first: 0,
-            marks,
-        })?;
-    }
-    Ok(())
-}
-
-/// Returns whether `section` changes the mode of its file.
-pub(crate) fn is_mode(section: &Section<'_>) -> bool {
-    match section {
-        Section::FileMode { .. } => true,
-        Section::Unchanged { .. } | Section::Changed { .. } | Section::Binary { .. } => false,
-    }
-}
-
-/// Adds the runs of the sections of file `file` to `runs`: all of them, or those alone that change its
-/// mode.
-fn push_sections(
-    runs: &mut Items<Run>,
-    alloc: Global,
-    file: usize,
-    sections: &[Section<'_>],
-    modes_alone: bool,
-) -> Result<(), RecordError>
-    ensures err { IfErr result (λ e. e ≡ OutOfMemory) }
-{
-    for (index, section) in sections.iter().enumerate() {
-        if !modes_alone | is_mode(section) {
-            push_section(runs, alloc, file, index, section)?;
-        }
-    }
-    Ok(())
-}
-
-/// Returns the runs of files `first` to `last`, both included, counted from 0.
-///
-/// # Errors
-///
-/// - `OutOfMemory`: an allocation failed.
-pub fn runs_of_files(
-    alloc: Global,
-    files: &[File<'_>],
-    first: usize,
-    last: usize,
-) -> Result<Items<Run>, RecordError>
-    ensures err { IfErr result (λ e. e ≡ OutOfMemory) }
-{
-    let mut runs = Items::new(alloc);
-    for (index, file) in files.iter().enumerate() {
-        if first <= index && index <= last {
-            push_sections(&mut runs, alloc, index, file.sections.as_slice(), false)?;
-        }
-    }
-    Ok(runs)
-}
-
-/// Returns the runs of a section whose key is toggled: with the mode changes of its file, or with all
-/// of it if it is a mode change itself.
-fn runs_of_section(
-    alloc: Global,
-    files: &[File<'_>],
-    key: SectionKey,
-) -> Result<Items<Run>, RecordError>
-    ensures err { IfErr result (λ e. e ≡ OutOfMemory) }
-{
-    let mut runs = Items::new(alloc);
-    let sections = sections_of(files, key.file_idx);
-    if let Some(section) = sections.get(key.section_idx) {
-        let is_mode = is_mode(section);
-        push_sections(&mut runs, alloc, key.file_idx, sections, !is_mode)?;
-        if !is_mode {
-            push_section(&mut runs, alloc, key.file_idx, key.section_idx, section)?;
-        }
-    }
-    Ok(runs)
-}
-
-/// Adds the run of line `line` of a section to `runs`, if it is there.
-fn push_line(
-    runs: &mut Items<Run>,
-    alloc: Global,
-    key: SectionKey,
-    section: &Section<'_>,
-    line: usize,
-) -> Result<(), RecordError>
-    ensures err { IfErr result (λ e. e ≡ OutOfMemory) }
-{
-    if let Some(mark) = mark_at(section, line) {
-        let mut marks = Items::new(alloc);
-        marks.push(mark)?;
-        runs.push(Run {
-            file: key.file_idx,
-            section: key.section_idx,
-            first: line,
-            marks,
-        })?;
-    }
-    Ok(())
-}
-
-/// Returns the runs of all items whose marks a toggle of `key` may change.
-///
-/// # Errors
-///
-/// - `OutOfMemory`: an allocation failed.
-pub fn runs_of_key(
-    alloc: Global,
-    files: &[File<'_>],
-    key: SelectionKey,
-) -> Result<Items<Run>, RecordError>
-    ensures err { IfErr result (λ e. e ≡ OutOfMemory) }
-{
-    match key {
-        SelectionKey::None => Ok(Items::new(alloc)),
-        SelectionKey::File(key) => runs_of_files(alloc, files, key.file_idx, key.file_idx),
-        SelectionKey::Section(key) => runs_of_section(alloc, files, key),
-        SelectionKey::Line(key) => {
-            let mut runs = Items::new(alloc);
-            let sections = sections_of(files, key.file_idx);
-            push_sections(&mut runs, alloc, key.file_idx, sections, true)?;
-            if let Some(section) = sections.get(key.section_idx) {
-                push_line(&mut runs, alloc, key.section(), section, key.line_idx)?;
-            }
-            Ok(runs)
-        }
-    }
 }

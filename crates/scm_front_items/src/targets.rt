@@ -3,7 +3,7 @@ ghost use Rattle.std.specs.Prelude.{◌≡◌, [], slice_get};
 ghost use Rattle.std.specs.List.{list_all};
 ghost use Rattle.scm_types.specs.declared.line.SectionChangedLine.{SectionChangedLine as Line};
 ghost use Rattle.scm_selection.specs.KeysAround.{lines_at, sections_at};
-ghost use Rattle.scm_front_items.specs.Targets.{is_as, is_file_as, is_key_as, is_marked, is_open_deed, is_section_as, key_of, passes_if_there};
+ghost use Rattle.scm_front_items.specs.Targets.{is_as, is_file_as, is_marked, is_open_deed, is_section_as, key_of, passes_if_there};
 
 use scm_selection::KeySet;
 use scm_types::{File, LineKey, Section, SectionChangedLine, SectionKey, SelectionKey};
@@ -27,7 +27,7 @@ pub enum Deed {
 }
 
 /// Returns whether `is_checked` is `mark`.
-fn is_as(mark: bool, is_checked: bool) -> bool
+pub(crate) fn is_as(mark: bool, is_checked: bool) -> bool
     ensures { result ≡ is_as mark is_checked }
 {
     if mark { is_checked } else { !is_checked }

@@ -1,8 +1,7 @@
-use Rattle.std.proofs.Common.{◌≡◌, [], refl, ap, subst, sym, ◌∙◌}
+use Rattle.std.proofs.Common.{◌≡◌, [], ap, subst, sym, ◌∙◌}
 use Rattle.std.proofs.lemmas.Result.{IfOk-weaker}
-use Rattle.scm_front_items.specs.declared.runs.Step.{Step}
 use Rattle.scm_front.specs.declared.kept.Kept.{Kept}
-use Rattle.scm_front.specs.Keeping.{KeepsAs, saying, steps_of}
+use Rattle.scm_front.specs.Keeping.{KeepsAs, other_way, saying, steps_of}
 use Rattle.scm_front.proofs.DoLemmas.{lacked, newest, restored}
 use Rattle.scm_front.proofs.layer.Front.restore.Goals as goal
 
@@ -24,6 +23,7 @@ returns-in-Some-clause-ok c =
     let keeps = subst (λ (k : Kept). KeepsAs k k.anchor k.word mid) c.anchored-kept.ensures c.take_step.ensures.kept in
     let steps = newest (steps_of way mid.history) _ c.in-Some.step c.take_step.result c.take_step.ensures.step c.in-Some.is in
     let own = ap (λ (k : Kept). steps_of way k.history) (sym c.anchored-kept.ensures) ∙ steps in
+    let others = subst (λ (k : Kept). steps_of (other_way way) mid.history ≡ steps_of (other_way way) k.history) c.anchored-kept.ensures c.take_step.ensures.other in
     IfOk-weaker c.restore_step.result _ _ (λ turn r.
-    restored f way c.with_word-query.result mid (steps_of way mid.history) c.in-Some.step _ turn c.with_word-query.ensures own keeps.anchor keeps.keys refl r)
+    restored f way c.with_word-query.result mid c.in-Some.step turn c.with_word-query.ensures own keeps.anchor keeps.keys others r)
     c.restore_step.ensures.ok

@@ -1,0 +1,189 @@
+-- The marks after an undo and after a redo.
+use Rattle.std.proofs.Common.{◌≡◌, ℕ, zero, suc, Bool, false, List, [], ◌∷◌, ◌++◌, drop, refl, sym, ap, ◌∙◌, subst}
+use Rattle.std.proofs.lemmas.List.{same_from_push}
+use Rattle.scm_record.specs.LiveCalls.{Call}
+use Rattle.scm_record.specs.declared.live.Turn.{Turn}
+use Rattle.scm_record.specs.declared.live.Turn.TheVariants as turns
+use Rattle.scm_input.specs.declared.events.Event.{Event}
+use Rattle.scm_front_items.specs.declared.history.History.{History}
+use Rattle.scm_front_items.specs.declared.items.Way.{Way}
+use Rattle.scm_front_items.specs.declared.items.Way.TheVariants.{Down, Up}
+use Rattle.scm_front_items.specs.declared.runs.Step.{Step}
+use Rattle.scm_front_items.specs.Histories.{KeepsStep, drops, keeps}
+use Rattle.scm_front_items.specs.Runs.{marks_with}
+use Rattle.scm_front_items.proofs.BackLemmas.{back-restores}
+use Rattle.scm_front_items.proofs.HistoryLemmas.{bounded-newest}
+use Rattle.scm_front.specs.declared.actions.Action.{Action}
+use Rattle.scm_front.specs.declared.actions.Action.TheVariants.{Mark, Pass, Redo, Undo}
+use Rattle.scm_front.specs.declared.asking.Query.{Query}
+use Rattle.scm_front.specs.declared.kept.Kept.{Kept}
+use Rattle.scm_front.specs.declared.kept.Notice.TheVariants as notices
+use Rattle.scm_front.specs.declared.layer.Front.{Front}
+use Rattle.scm_front.specs.declared.layer.FrontTurn.{FrontTurn}
+use Rattle.scm_front.specs.declared.layer.FrontTurn.TheVariants.{Waiting}
+use Rattle.scm_front.specs.Fronts.{Does, HasMarks, files_of, front, front_of, ignores, jumps, lacks, marks, marks_of, misses, passes, ranges, restores, restoring, seeks, types}
+use Rattle.scm_front.specs.Asking.{with_word}
+use Rattle.scm_front.specs.Keeping.{done_word, nothing_left, other_way, steps_of}
+use Rattle.scm_front.specs.Recording.{Remembers, RemembersAt, Returns, back_of, forgotten, remembered, unchanged}
+
+-- ---- the newest step
+
+last-of : (n : ℕ) (xs rest : List Step) (y z : Step) → drop n (xs ++ y ∷ []) ≡ rest ++ z ∷ [] → y ≡ z
+last-of zero xs rest y z e = (same_from_push xs rest y z e).1
+last-of (suc n) [] rest y z e = absurd (empty n rest e)
+  where
+    empty : (m : ℕ) (list : List Step) → drop m [] ≡ list ++ z ∷ [] → ⊥
+    empty zero [] q = cc q
+    empty zero (x ∷ xs) q = cc q
+    empty (suc m) [] q = cc q
+    empty (suc m) (x ∷ xs) q = cc q
+last-of (suc n) (x ∷ xs) rest y z e = last-of n xs rest y z e
+
+nothing-last : (rest : List Step) (z : Step) → [] ≡ rest ++ z ∷ [] → ⊥
+nothing-last [] z e = cc e
+nothing-last (x ∷ xs) z e = cc e
+
+-- what was kept last is the newest step
+newest-is : (old steps rest : List Step) (step newest : Step) → KeepsStep old step steps → steps ≡ rest ++ newest ∷ [] → step ≡ newest
+newest-is old steps rest step newest (keeps e) is =
+    let cut = bounded-newest (old ++ step ∷ []) in
+    last-of cut.0 old rest step newest (sym cut.1 ∙ sym e ∙ is)
+newest-is old steps rest step newest (drops e) is = absurd (nothing-last rest newest (sym e ∙ is))
+
+-- ---- a front that waits
+
+module _ (marks_before : List (List (List Bool))) (old : History) where
+  of-turn : (turn : Turn) (query : Query) (kept : Kept) (g : Front) → front_of turn query kept ≡ Waiting g → RemembersAt marks_before old turn kept.history
+      → Remembers marks_before (marks_of g) old g.kept.history
+  of-turn (turns.Waiting l) query kept g e h =
+      let same : front l query kept ≡ g = cc e in
+      subst (λ (x : Front). Remembers marks_before (marks_of x) old x.kept.history) same h
+  of-turn (turns.Editing a) query kept g e h = absurd (cc e)
+  of-turn (turns.Accepted state) query kept g e h = absurd (cc e)
+
+-- what an event or a range leaves
+by-pass : {f : Front} {action : Action} {calls : List Call} {turn : FrontTurn} → Does f action calls turn → (event : Event) → action ≡ Pass event → (g : Front) → turn ≡ Waiting g
+    → Remembers (marks_of f) (marks_of g) f.kept.history g.kept.history
+by-pass (passes {f = f} turn kept leads as_kept remembers) event is g e = of-turn (marks_of f) f.kept.history turn _ kept g e remembers
+by-pass types event is g e = absurd (cc is)
+by-pass (misses x) event is g e = absurd (cc is)
+by-pass (jumps x y) event is g e = absurd (cc is)
+by-pass (seeks x) event is g e = absurd (cc is)
+by-pass ranges event is g e = absurd (cc is)
+by-pass (marks turn kept x y z) event is g e = absurd (cc is)
+by-pass (lacks Up kept x y) event is g e = absurd (cc is)
+by-pass (lacks Down kept x y) event is g e = absurd (cc is)
+by-pass (restores Up rest step turn kept a b c d h) event is g e = absurd (cc is)
+by-pass (restores Down rest step turn kept a b c d h) event is g e = absurd (cc is)
+by-pass ignores event is g e = absurd (cc is)
+
+by-mark : {f : Front} {action : Action} {calls : List Call} {turn : FrontTurn} → Does f action calls turn → action ≡ Mark → (g : Front) → turn ≡ Waiting g
+    → Remembers (marks_of f) (marks_of g) f.kept.history g.kept.history
+by-mark (marks {f = f} turn kept leads as_kept remembers) is g e = of-turn (marks_of f) f.kept.history turn _ kept g e remembers
+by-mark (passes turn kept x y z) is g e = absurd (cc is)
+by-mark types is g e = absurd (cc is)
+by-mark (misses x) is g e = absurd (cc is)
+by-mark (jumps x y) is g e = absurd (cc is)
+by-mark (seeks x) is g e = absurd (cc is)
+by-mark ranges is g e = absurd (cc is)
+by-mark (lacks Up kept x y) is g e = absurd (cc is)
+by-mark (lacks Down kept x y) is g e = absurd (cc is)
+by-mark (restores Up rest step turn kept a b c d h) is g e = absurd (cc is)
+by-mark (restores Down rest step turn kept a b c d h) is g e = absurd (cc is)
+by-mark ignores is g e = absurd (cc is)
+
+-- what a restoring that is done leaves
+pub record Done (f h : Front) (way : Way) : Type 0 where
+  pub rest : List Step
+  pub step : Step
+  pub newest : steps_of way f.kept.history ≡ rest ++ step ∷ []
+  pub now : marks_of h ≡ marks_with step (marks_of f)
+  pub returns : Returns way rest (back_of (files_of f.beneath) step) f.kept.history h.kept.history
+
+not-left : (way : Way) → nothing_left way ≡ done_word way → ⊥
+not-left Up e = cc e
+not-left Down e = cc e
+
+other-action : (way other : Way) → restoring other ≡ restoring way → other ≡ way
+other-action Up Up e = refl
+other-action Up Down e = cc e
+other-action Down Up e = cc e
+other-action Down Down e = refl
+
+done-turn : (f : Front) (way : Way) (rest : List Step) (step : Step) (turn : Turn) (query : Query) (kept : Kept) (h : Front) → steps_of way f.kept.history ≡ rest ++ step ∷ []
+    → front_of turn query kept ≡ Waiting h → h.kept.word ≡ done_word way → (kept.word ≡ done_word way → HasMarks turn (marks_with step (marks_of f)))
+    → (kept.word ≡ done_word way → Returns way rest (back_of (files_of f.beneath) step) f.kept.history kept.history) → Done f h way
+done-turn f way rest step (turns.Waiting l) query kept h newest e said has returns =
+    let same : front l query kept ≡ h = cc e in
+    let told : kept.word ≡ done_word way = ap (λ (x : Front). x.kept.word) same ∙ said in
+    subst (λ (x : Front). Done f x way) same (record { rest = rest; step = step; newest = newest; now = has told; returns = returns told })
+done-turn f way rest step (turns.Editing a) query kept h newest e said has returns = absurd (cc e)
+done-turn f way rest step (turns.Accepted state) query kept h newest e said has returns = absurd (cc e)
+
+pub done-by : {f : Front} {action : Action} {calls : List Call} {turn : FrontTurn} → Does f action calls turn → (way : Way) → action ≡ restoring way → (h : Front) → turn ≡ Waiting h
+    → h.kept.word ≡ done_word way → Done f h way
+done-by (restores {f = f} other rest step turn kept newest leads as_kept has returns) way is h e said =
+    by-way other way (other-action way other is) rest step turn kept newest e said has returns
+  where
+    by-way : (x y : Way) → x ≡ y → (list : List Step) (one : Step) (t : Turn) (k : Kept) → steps_of x f.kept.history ≡ list ++ one ∷ []
+        → front_of t (with_word f.query false) k ≡ Waiting h → h.kept.word ≡ done_word y → (k.word ≡ done_word x → HasMarks t (marks_with one (marks_of f)))
+        → (k.word ≡ done_word x → Returns x list (back_of (files_of f.beneath) one) f.kept.history k.history) → Done f h y
+    by-way Up Up q list one t k a b c d r = done-turn f Up list one t (with_word f.query false) k h a b c d r
+    by-way Down Down q list one t k a b c d r = done-turn f Down list one t (with_word f.query false) k h a b c d r
+    by-way Up Down q list one t k a b c d r = absurd (cc q)
+    by-way Down Up q list one t k a b c d r = absurd (cc q)
+done-by (lacks {f = f} other kept x as_kept) way is h e said =
+    let same : front f.beneath (with_word f.query false) kept ≡ h = cc e in
+    let word : kept.word ≡ nothing_left way = as_kept.word ∙ ap nothing_left (other-action way other is) in
+    absurd (not-left way (sym word ∙ ap (λ (g : Front). g.kept.word) same ∙ said))
+done-by (passes turn kept x y z) Up is h e said = absurd (cc is)
+done-by (passes turn kept x y z) Down is h e said = absurd (cc is)
+done-by types Up is h e said = absurd (cc is)
+done-by types Down is h e said = absurd (cc is)
+done-by (misses x) Up is h e said = absurd (cc is)
+done-by (misses x) Down is h e said = absurd (cc is)
+done-by (jumps x y) Up is h e said = absurd (cc is)
+done-by (jumps x y) Down is h e said = absurd (cc is)
+done-by (seeks x) Up is h e said = absurd (cc is)
+done-by (seeks x) Down is h e said = absurd (cc is)
+done-by ranges Up is h e said = absurd (cc is)
+done-by ranges Down is h e said = absurd (cc is)
+done-by (marks turn kept x y z) Up is h e said = absurd (cc is)
+done-by (marks turn kept x y z) Down is h e said = absurd (cc is)
+done-by ignores Up is h e said = absurd (cc is)
+done-by ignores Down is h e said = absurd (cc is)
+
+-- ---- undo and redo
+
+pub undone : (before : List (List (List Bool))) (old : History) (g h : Front) → Remembers before (marks_of g) old g.kept.history → (marks_of g ≡ before → ⊥)
+    → Done g h Up → marks_of h ≡ before
+undone before old g h (unchanged e same) changed d = absurd (changed e)
+undone before old g h (forgotten e) changed d = absurd (nothing-last d.rest d.step (sym (ap (λ (x : History). x.undos) e) ∙ d.newest))
+undone before old g h (remembered step leads k redos) changed d =
+    let same = newest-is old.undos g.kept.history.undos d.rest step d.step k d.newest in
+    d.now ∙ ap (λ (s : Step). marks_with s (marks_of g)) (sym same) ∙ leads
+
+pub undo-event : (f g h : Front) (event : Event) (calls more : List Call) → Does f (Pass event) calls (Waiting g) → (marks_of g ≡ marks_of f → ⊥)
+    → Does g Undo more (Waiting h) → h.kept.word ≡ notices.Undone → marks_of h ≡ marks_of f
+undo-event f g h event calls more does changed undo said =
+    undone (marks_of f) f.kept.history g h (by-pass does event refl g refl) changed (done-by undo Up refl h refl said)
+
+pub undo-range : (f g h : Front) (calls more : List Call) → Does f Mark calls (Waiting g) → (marks_of g ≡ marks_of f → ⊥)
+    → Does g Undo more (Waiting h) → h.kept.word ≡ notices.Undone → marks_of h ≡ marks_of f
+undo-range f g h calls more does changed undo said =
+    undone (marks_of f) f.kept.history g h (by-mark does refl g refl) changed (done-by undo Up refl h refl said)
+
+-- one restoring after another, in the other direction
+back-again : (f g h : Front) (way : Way) → Done f g way → Done g h (other_way way) → marks_of h ≡ marks_of f
+back-again f g h way d e =
+    let back = back_of (files_of f.beneath) d.step in
+    let same = newest-is (steps_of (other_way way) f.kept.history) (steps_of (other_way way) g.kept.history) e.rest back e.step d.returns.kept e.newest in
+    e.now ∙ ap (λ (s : Step). marks_with s (marks_of g)) (sym same) ∙ ap (marks_with back) d.now ∙ back-restores (files_of f.beneath) d.step
+
+pub redo-undo : (f g h : Front) (calls more : List Call) → Does f Undo calls (Waiting g) → g.kept.word ≡ notices.Undone
+    → Does g Redo more (Waiting h) → h.kept.word ≡ notices.Redone → marks_of h ≡ marks_of f
+redo-undo f g h calls more undo said redo told = back-again f g h Up (done-by undo Up refl g refl said) (done-by redo Down refl h refl told)
+
+pub undo-redo : (f g h : Front) (calls more : List Call) → Does f Redo calls (Waiting g) → g.kept.word ≡ notices.Redone
+    → Does g Undo more (Waiting h) → h.kept.word ≡ notices.Undone → marks_of h ≡ marks_of f
+undo-redo f g h calls more redo said undo told = back-again f g h Down (done-by redo Down refl g refl said) (done-by undo Up refl h refl told)
