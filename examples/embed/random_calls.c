@@ -241,7 +241,7 @@ static uint32_t begin(void) {
     return one_of(scm_begin(&session, (uint16_t)random_below(90), (uint16_t)random_below(30)), wanted, wanted, wanted);
 }
 
-/* Presses up to three words as one batch. An event before the last may ask for a message. */
+/* Presses up to three words as one batch. */
 static uint32_t press_batch(const char *const *words, size_t count, uint32_t wanted) {
     char text[64] = "";
     bool is_known = true;
@@ -251,7 +251,7 @@ static uint32_t press_batch(const char *const *words, size_t count, uint32_t wan
         strcat(strcat(text, words[which]), random_below(2) ? " " : "   ");
     }
     wanted = is_known ? wanted : SCM_NO_WORD;
-    return one_of(scm_press_all(&session, text, strlen(text)), wanted, wanted == SCM_DONE ? SCM_NO_BATCH : wanted, wanted);
+    return one_of(scm_press_all(&session, text, strlen(text)), wanted, wanted, wanted);
 }
 
 /* Decodes bytes, or a silence, into room that may be too short, and presses what they mean as one batch. */
@@ -268,7 +268,7 @@ static uint32_t decode(const char *bytes, size_t length, uint32_t wanted) {
     if (code != SCM_DONE || written > room) {
         return code;
     }
-    return one_of(scm_press_all(&session, out, written), wanted, wanted == SCM_DONE ? SCM_NO_BATCH : wanted, wanted);
+    return one_of(scm_press_all(&session, out, written), wanted, wanted, wanted);
 }
 
 static uint32_t input(void) {

@@ -22,7 +22,7 @@ import os
 import signal
 from typing import List, NamedTuple, Optional, Tuple, Union
 
-CODES = "done closed not_now no_word not_text bad_state not_accepted too_long no_memory no_item no_batch".split()
+CODES = "done closed not_now no_word not_text bad_state not_accepted too_long no_memory no_item".split()
 WAITING, EDITING, ACCEPTED, ENDED, NONE, BUILDING = range(6)
 UNCHANGED, TEXT, BINARY = range(3)
 UNCHECKED, PARTLY, CHECKED = range(3)
@@ -215,7 +215,8 @@ class Session:
             self.call("press", *sized(word))
 
     def press_all(self, words: Text) -> None:
-        """Handles the events of words, which are separated by spaces, as one batch: with one frame, behind the last of them."""
+        """Handles the events of words, which are separated by spaces, as one batch: with one frame, behind the last of them. If an
+        event asks for a message, `answer` handles the later ones."""
         self.call("press_all", *sized(words))
 
     def decode(self, data: bytes) -> List[str]:

@@ -100,7 +100,12 @@ def main():
         read_answers(session)
         assert session.decode(b"j\x1b[<0;3;4M\x1b[") == ["j", "click:3:2"] and session.decode(b"A\x1b") == ["k"]
         assert session.decode(b"") == ["esc"] and session.decode(b"") == []
-        assert refused(session.press_all, "j nothing") == "no_word" and refused(session.press_all, "e e") == "no_batch"
+        assert refused(session.press_all, "j nothing") == "no_word"
+        session.press_all("e j e k")
+        for _ in range(2):
+            assert session.stage == scm.EDITING and refused(session.press_all, "j") == "not_now"
+            session.answer(session.text())
+        assert session.stage == scm.WAITING
         session.press_all("  j k  ")
         assert session.type_to_key(b"j\tk") == (2, 9) and session.type_to_key(b"kx\x1a") == (2, 120)
         assert session.type_to_key(b"\x1b[200~\x1a\x1b[201~j") == (14, 0)

@@ -203,8 +203,6 @@ static void refuse_words(void) {
     refused(scm_press(&session, "j", 2), SCM_NO_WORD); /* with the zero behind it */
     refused(press_all("j shot"), SCM_NO_WORD);
     refused(press_all("j\xff"), SCM_NO_WORD);
-    refused(press_all("e j"), SCM_NO_BATCH);
-    refused(press_all("click:1:1 click:1:1"), SCM_NO_BATCH);
     refused(answer("bye"), SCM_NOT_NOW);
     standing begun = before;
     done(press("l"), SCM_WAITING);

@@ -3,7 +3,7 @@ use crate::recorder::failure;
 use crate::run::Run;
 use crate::screen::Size;
 use crate::session::{Error, Stage};
-use crate::{clicks, Event, RecordError, RecordInput};
+use crate::{Event, RecordError, RecordInput};
 
 /// The longest message that the library takes, in words.
 const MESSAGE_TOO_LONG: &str = "commit message too long";
@@ -11,13 +11,11 @@ const MESSAGE_TOO_LONG: &str = "commit message too long";
 /// The word of `Event::Help`.
 const HELP: &str = "?";
 
-/// Handles `events`, which one read returned, in order, until the session waits for no event any more. `size` is that of the
-/// screen.
-///
-/// The library handles them as one batch: each acts on the frame that was drawn before. If a commit has a message, a batch ends
-/// behind an event that may ask for it, since the library takes no event while a message is edited. Then the later events act on
-/// a frame behind the earlier ones, but for a click whose place has another owner there: it does nothing, so that no click acts on
-/// what the user has not seen.
+/// The words of events that end any session that handles them: the second one confirms the first.
+const CANCELS: &str = "ctrl-c ctrl-c";
+
+/// Handles `events`, which one read returned, in order, as one batch: each acts on the frame that was drawn before. If one of them
+/// asks for a message, `input` edits it, and then the later ones are handled. `size` is that of the screen.
 pub(crate) fn press_batch(
     run: &mut Run<'_, '_>,
     input: &mut dyn RecordInput,
@@ -25,17 +23,16 @@ pub(crate) fn press_batch(
     events: &[Event],
 ) -> Result<(), RecordError> {
     let mut frame = frame_for(run, events)?;
-    let seen = clicks::seen_owners(run.session(), events);
+    press(run, events)?;
     let mut begin = 0;
-    while begin < events.len() && run.stage() == Stage::Waiting {
-        let end = begin + part_length(run, &events[begin..]);
-        let seen = seen.get(begin..).unwrap_or_default();
-        let part = clicks::without_unseen(run.session(), &events[begin..end], seen);
-        press_part(run, &part)?;
-        take_screenshots(run, &mut frame, size, &part)?;
-        edit_message_if_asked(run, input)?;
+    while run.stage() == Stage::Editing {
+        let end = asked_count(run, events).map_err(failure)?;
+        take_screenshots(&mut frame, size, &events[begin..end]);
+        edit_message(run, input)?;
         begin = end;
     }
+    let end = handled_count(run, events).map_err(failure)?;
+    take_screenshots(&mut frame, size, &events[begin..end.max(begin)]);
     Ok(())
 }
 
@@ -52,11 +49,6 @@ fn is_screenshot(event: &Event) -> bool {
     matches!(event, Event::TakeScreenshot(_))
 }
 
-/// Returns whether `event` may ask for a message.
-fn may_ask(event: &Event) -> bool {
-    matches!(event, Event::Click { .. } | Event::EditCommitMessage)
-}
-
 /// Returns whether `event` may end the run: a dialog may be open.
 fn may_end(event: &Event) -> bool {
     matches!(
@@ -70,16 +62,9 @@ fn may_end(event: &Event) -> bool {
     )
 }
 
-/// Returns how many of `events` are the next batch: all, or those up to the first one that may ask for a message, if there is one
-/// to ask for. An `Event::None` behind it belongs to it, since that does nothing.
-fn part_length(run: &Run<'_, '_>, events: &[Event]) -> usize {
-    let has_message = |commit| run.session().message(commit).is_ok();
-    let before = events.iter().take_while(|event| !may_ask(event)).count();
-    let mut later = events.iter().enumerate().skip(before + 1);
-    match later.find(|(_, event)| **event != Event::None) {
-        Some((end, _)) if [0, 1].into_iter().any(has_message) => end,
-        _ => events.len(),
-    }
+/// Returns whether `event` may ask for a message.
+fn may_ask(event: &Event) -> bool {
+    matches!(event, Event::Click { .. } | Event::EditCommitMessage)
 }
 
 /// Returns whether the library handles `event`: an `Event::None` does nothing.
@@ -97,7 +82,7 @@ fn words_of(events: &[Event]) -> String {
 }
 
 /// Hands `events` to the library, as one batch, if one of them does something.
-fn press_part(run: &mut Run<'_, '_>, events: &[Event]) -> Result<(), RecordError> {
+fn press(run: &mut Run<'_, '_>, events: &[Event]) -> Result<(), RecordError> {
     let words = words_of(events);
     if !words.is_empty() {
         run.press_all(words).map_err(failure)?;
@@ -108,52 +93,63 @@ fn press_part(run: &mut Run<'_, '_>, events: &[Event]) -> Result<(), RecordError
     Ok(())
 }
 
-/// Takes the screenshots of `events`, the last batch. They keep `frame`, which was drawn before, or a blank one behind a `Redraw`.
-fn take_screenshots(
-    run: &Run<'_, '_>,
-    frame: &mut String,
-    size: Size,
-    events: &[Event],
-) -> Result<(), RecordError> {
-    let count = handled_count(run, events).map_err(failure)?;
-    for event in &events[..count] {
+/// Takes the screenshots of `events`. They keep `frame`, which was drawn before the batch, or a blank one behind a `Redraw`.
+fn take_screenshots(frame: &mut String, size: Size, events: &[Event]) {
+    for event in events {
         match event {
             Event::TakeScreenshot(screenshot) => screenshot.set(frame),
             Event::Redraw => *frame = size.blank_frame(),
             _ => {}
         }
     }
-    Ok(())
 }
 
-/// Returns how many of `events`, the last batch, were handled: those up to the one that has ended the session, if one has and a
-/// screenshot is behind it, and else all.
+/// Returns how many of `events`, the last batch, the library handled up to the one that stopped the session. Only events before the
+/// last screenshot are tried, and of those only the ones that `may_stop`. If none of them stopped it, returns the count of all.
 ///
-/// The library does not say which event has ended a session. But it can be asked of another session, which gets the same calls and
-/// then only the first events. A click may leave a menu's event for later, which ends that session too, but then it does not end
-/// with the help open.
-fn handled_count(run: &Run<'_, '_>, events: &[Event]) -> Result<usize, Error> {
-    let has_ended = matches!(run.stage(), Stage::Accepted | Stage::Ended);
+/// The library does not say which event has stopped a session. But it can be asked of another session, which gets the same calls and
+/// then only the first events, and `words` behind them: `has_stopped` tells by the stage to which those lead.
+fn stopped_count(
+    run: &Run<'_, '_>,
+    events: &[Event],
+    may_stop: impl Fn(&Event) -> bool,
+    words: &str,
+    has_stopped: impl Fn(Stage) -> bool,
+) -> Result<usize, Error> {
     let last = events.iter().rposition(is_screenshot).unwrap_or(0);
-    let may_end_before = events[..last].iter().zip(1..).filter(|it| may_end(it.0));
-    for (_, count) in may_end_before.filter(|_| has_ended) {
-        let words = words_of(&events[..count]);
-        if run.would_end(&format!("{words} {HELP}"))? {
+    for (_, count) in events[..last].iter().zip(1..).filter(|it| may_stop(it.0)) {
+        let first = words_of(&events[..count]);
+        if has_stopped(run.stage_after(&format!("{first} {words}"))?) {
             return Ok(count);
         }
     }
     Ok(events.len())
 }
 
-/// Has `input` edit the message that the session waits for, if it waits for one. The terminal may show anything after that, so
-/// every row is drawn again.
-fn edit_message_if_asked(
-    run: &mut Run<'_, '_>,
-    input: &mut dyn RecordInput,
-) -> Result<(), RecordError> {
-    if run.stage() != Stage::Editing {
-        return Ok(());
+/// Returns how many of `events`, the last batch, were handled: those up to the one that has ended the session, if one has and a
+/// screenshot is behind it, and else all.
+///
+/// A click may leave a menu's event for later, which ends the session too, but then it does not end with the help open.
+fn handled_count(run: &Run<'_, '_>, events: &[Event]) -> Result<usize, Error> {
+    let is_end = |stage| matches!(stage, Stage::Accepted | Stage::Ended);
+    if is_end(run.stage()) {
+        stopped_count(run, events, may_end, HELP, is_end)
+    } else {
+        Ok(events.len())
     }
+}
+
+/// Returns how many of `events`, the last batch, were handled before the session waits for a message: those up to the one that asked for
+/// it, if one did and a screenshot is behind it, and else all.
+///
+/// A click may leave a menu's event for later, which asks too, but not if the session ends before.
+fn asked_count(run: &Run<'_, '_>, events: &[Event]) -> Result<usize, Error> {
+    let is_editing = |stage| stage == Stage::Editing;
+    stopped_count(run, events, may_ask, CANCELS, is_editing)
+}
+
+/// Has `input` edit the message that the session waits for. The terminal may show anything after that, so every row is drawn again.
+fn edit_message(run: &mut Run<'_, '_>, input: &mut dyn RecordInput) -> Result<(), RecordError> {
     let before = run.session().text().map_err(failure)?;
     let message = input.edit_commit_message(&before)?;
     run.answer(message).map_err(|error| match error {

@@ -46,7 +46,6 @@
 #![warn(clippy::all, clippy::undocumented_unsafe_blocks)]
 
 mod batch;
-mod clicks;
 mod error;
 mod event;
 #[cfg(feature = "crossterm")]

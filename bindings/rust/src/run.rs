@@ -29,6 +29,8 @@ pub(crate) struct Run<'run, 'state> {
     size: Size,
     session: Session,
     calls: Vec<Call>,
+    /// How many calls came before the last batch.
+    before_batch: usize,
 }
 
 impl<'run, 'state> Run<'run, 'state> {
@@ -39,6 +41,7 @@ impl<'run, 'state> Run<'run, 'state> {
             size,
             session: transfer::begun_session(state, size)?,
             calls: Vec::new(),
+            before_batch: 0,
         })
     }
 
@@ -59,6 +62,7 @@ impl<'run, 'state> Run<'run, 'state> {
 
     /// Handles the events of `words` as one batch.
     pub fn press_all(&mut self, words: String) -> Result<(), Error> {
+        self.before_batch = self.calls.len();
         self.make(Call::Press(words))
     }
 
@@ -88,15 +92,21 @@ impl<'run, 'state> Run<'run, 'state> {
         Ok(())
     }
 
-    /// Returns whether the session would have ended, and not wait for an event or a message, if `words` had been the last call, in
-    /// the place of the one that was.
-    pub fn would_end(&self, words: &str) -> Result<bool, Error> {
+    /// Returns what the session would wait for if `words` had been the last batch, in the place of the one that was, with the same
+    /// answers behind it.
+    pub fn stage_after(&self, words: &str) -> Result<Stage, Error> {
         let mut session = transfer::begun_session(self.state, self.size)?;
-        let (_, earlier) = self.calls.split_last().ok_or(Error::NotNow)?;
+        let (earlier, batch) = self.calls.split_at(self.before_batch);
         earlier
             .iter()
             .try_for_each(|call| call.make(&mut session))?;
         session.press_all(words)?;
-        Ok(matches!(session.stage(), Stage::Accepted | Stage::Ended))
+        for answer in batch.iter().skip(1) {
+            if session.stage() != Stage::Editing {
+                break;
+            }
+            answer.make(&mut session)?;
+        }
+        Ok(session.stage())
     }
 }

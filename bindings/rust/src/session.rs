@@ -54,12 +54,10 @@ pub enum Error {
     NoMemory,
     /// The state has no such file, section, line or commit.
     NoItem,
-    /// An event of the batch before its last one may ask for a message.
-    NoBatch,
 }
 
 /// The errors, by their codes from 1 on.
-const ERRORS: [Error; 10] = [
+const ERRORS: [Error; 9] = [
     Error::Closed,
     Error::NotNow,
     Error::NoWord,
@@ -69,7 +67,6 @@ const ERRORS: [Error; 10] = [
     Error::TooLong,
     Error::NoMemory,
     Error::NoItem,
-    Error::NoBatch,
 ];
 
 impl fmt::Display for Error {
@@ -607,12 +604,11 @@ impl Session {
     }
 
     /// Handles the events of `words`, which are separated by spaces, as one batch: a click acts on what was drawn before the batch,
-    /// and the screen is drawn behind the last event.
+    /// and the screen is drawn behind the last event. If an event asks for a message, `answer` handles the later ones.
     ///
     /// # Errors
     ///
-    /// `NoWord`, `NotNow` if the session does not wait for an event, `NoMemory`, or `NoBatch`: a commit has a message, and an event
-    /// before the last one may ask for it.
+    /// `NoWord`, `NotNow` if the session does not wait for an event, or `NoMemory`.
     pub fn press_all(&mut self, words: &str) -> Result<(), Error> {
         let (words, length) = sized(words);
         done(unsafe { ffi::scm_press_all(self.at(), words, length) })

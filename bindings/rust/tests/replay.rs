@@ -7,8 +7,8 @@ mod common;
 
 use common::json::{json_of_optional, json_of_state, json_of_text, state_of_json, Json};
 use scm_record::{
-    Event, RecordError, RecordInput, RecordState, Recorder, SelectedChanges, SelectedContents,
-    TerminalKind, TestingScreenshot,
+    Event, RecordError, RecordInput, Recorder, SelectedChanges, SelectedContents, TerminalKind,
+    TestingScreenshot,
 };
 use std::collections::VecDeque;
 use std::fmt::Write;
@@ -148,21 +148,6 @@ impl Script {
     }
 }
 
-impl Script {
-    /// Returns whether the crate parts a read of the script: a commit of `state` has a message, and an event that may ask for it
-    /// comes before another one.
-    fn has_parted_read(&self, state: &RecordState<'_>) -> bool {
-        let has_message = state.commits.iter().any(|commit| commit.message.is_some());
-        let may_ask =
-            |event: &Event| matches!(event, Event::Click { .. } | Event::EditCommitMessage);
-        let is_parted = |events: &Vec<Event>| {
-            let mut later = events.iter().skip_while(|event| !may_ask(event)).skip(1);
-            later.any(|event| *event != Event::None)
-        };
-        has_message && self.reads.iter().flatten().any(is_parted)
-    }
-}
-
 impl RecordInput for Script {
     fn terminal_kind(&self) -> TerminalKind {
         let (width, height) = self.size;
@@ -285,20 +270,6 @@ fn examples() -> Option<PathBuf> {
     Some(found.join("examples"))
 }
 
-/// How many scripts were replayed, and how many of them print what the program prints.
-#[derive(Default)]
-struct Count {
-    same: usize,
-    all: usize,
-}
-
-impl Count {
-    fn add(&mut self, is_same: bool) {
-        self.all += 1;
-        self.same += usize::from(is_same);
-    }
-}
-
 #[test]
 fn scripts_print_what_the_program_prints() {
     let given = std::env::var_os("GABROSTY_CASES").map(PathBuf::from);
@@ -306,29 +277,20 @@ fn scripts_print_what_the_program_prints() {
         Some(folder) => folder,
         None => return println!("there are no scripts here"),
     };
-    let (mut whole, mut parted) = (Count::default(), Count::default());
+    let (mut same, mut all) = (0, 0);
     for case in cases_of(&folder) {
-        let script = Script::read(&case.script);
-        let state = state_of_json(&script.state);
-        let has_parted_read = script.has_parted_read(&state);
-        let (told, status) = answer_to(script);
-        let is_same = told == case.told && case.status.map_or(true, |it| it == status);
-        if has_parted_read {
-            parted.add(is_same);
+        let (told, status) = answer_to(Script::read(&case.script));
+        all += 1;
+        if told == case.told && case.status.map_or(true, |it| it == status) {
+            same += 1;
             continue;
         }
-        whole.add(is_same);
-        if !is_same {
-            let Case {
-                name, told: wanted, ..
-            } = case;
-            println!("--- {name}: wanted\n{wanted}--- and not\n{told}");
-        }
+        let Case {
+            name, told: wanted, ..
+        } = case;
+        println!("--- {name}: wanted\n{wanted}--- and not\n{told}");
     }
-    println!(
-        "{} of {} scripts are the same, and {} of {} with a read that is parted",
-        whole.same, whole.all, parted.same, parted.all
-    );
-    assert!(whole.all > 0);
-    assert_eq!(whole.same, whole.all);
+    println!("{same} of {all} scripts are the same");
+    assert!(all > 0);
+    assert_eq!(same, all);
 }

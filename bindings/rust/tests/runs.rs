@@ -300,6 +300,55 @@ fn no_click_acts_on_what_is_not_seen() {
 }
 
 #[test]
+fn the_rest_of_a_batch_follows_its_message() {
+    let (edit, accept) = (Event::EditCommitMessage, Event::QuitAccept);
+    let batch = vec![
+        edit.clone(),
+        Event::ToggleAllUniform,
+        edit,
+        accept,
+        Event::ToggleAllUniform,
+    ];
+    let given = with_messages([Some("message"), None]);
+    let accepted = Recorder::new(given, &mut Batches::new(SIZE, vec![batch])).run();
+    assert_eq!(accepted.unwrap().files[0].tristate(), Tristate::True);
+}
+
+/// An input of one batch, whose editor fails.
+struct NoEditor(Vec<Event>);
+
+impl RecordInput for NoEditor {
+    fn terminal_kind(&self) -> TerminalKind {
+        let (width, height) = SIZE;
+        TerminalKind::Testing { width, height }
+    }
+
+    fn next_events(&mut self) -> Result<Vec<Event>, RecordError> {
+        Ok(std::mem::take(&mut self.0))
+    }
+
+    fn edit_commit_message(&mut self, _message: &str) -> Result<String, RecordError> {
+        Err(RecordError::Other("no editor".to_owned()))
+    }
+}
+
+#[test]
+fn screenshots_are_taken_up_to_the_event_that_asks_for_a_message() {
+    let shots = [TestingScreenshot::default(), TestingScreenshot::default()];
+    let batch = vec![
+        Event::Click { row: 0, column: 1 },
+        shots[0].event(),
+        Event::EditCommitMessage,
+        shots[1].event(),
+    ];
+    let given = with_messages([Some("message"), None]);
+    let ended = Recorder::new(given, &mut NoEditor(batch)).run();
+    assert!(matches!(ended, Err(RecordError::Other(words)) if words == "no editor"));
+    let is_taken = |shot: &TestingScreenshot| *shot != TestingScreenshot::default();
+    assert_eq!(shots.map(|shot| is_taken(&shot)), [true, false]);
+}
+
+#[test]
 fn a_quit_is_confirmed_by_an_interrupt() {
     let given = with_messages([Some("words"), None]);
     let events = vec![

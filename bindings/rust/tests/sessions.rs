@@ -49,7 +49,6 @@ fn a_batch_has_one_frame() {
     assert_eq!(session.press_all("j"), Err(Error::NotNow));
     session.begin(80, 24).unwrap();
     assert_eq!(session.press_all("j nothing"), Err(Error::NoWord));
-    assert_eq!(session.press_all("click:1:1 j"), Err(Error::NoBatch));
     session.press_all("").unwrap();
     session.press_all("  shift-F  j j ").unwrap();
     assert_eq!(session.selected().unwrap(), {
@@ -57,12 +56,14 @@ fn a_batch_has_one_frame() {
         let line = key(Some(0), Some(0));
         Key { commit, ..line }
     });
-    session.press_all("j e").unwrap();
+    session.press_all("j e click:0:1 e space c j").unwrap();
     assert_eq!(session.stage(), Stage::Editing);
     session.answer("another").unwrap();
-    assert_eq!(session.press_all("e c"), Err(Error::NoBatch));
-    session.press_all("space c j").unwrap();
+    assert_eq!(session.text().unwrap(), "another");
+    assert_eq!(session.press_all("c"), Err(Error::NotNow));
+    session.answer("a third").unwrap();
     assert_eq!(session.end(), Some(End::Accepted));
+    assert_eq!(session.message(0).unwrap(), "a third");
 }
 
 #[test]

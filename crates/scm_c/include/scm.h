@@ -124,7 +124,6 @@ enum {
     SCM_TOO_LONG = 7,     /* a text or a line has more than 1,000,000 bytes */
     SCM_NO_MEMORY = 8,    /* an allocation failed */
     SCM_NO_ITEM = 9,      /* the state has no such file, section, line or commit */
-    SCM_NO_BATCH = 10,    /* an event of the batch before its last one may ask for a message */
 };
 
 /* The stage of a session: what it waits for. */
@@ -360,12 +359,9 @@ uint32_t scm_press(scm_session *session, const char *word, size_t length);
 /* Handles the events of words, `length` bytes of text, as one batch. The words are separated by one or more spaces, and there may
  * be none. A batch has one frame: each click acts on what was drawn before the batch, and the screen is drawn behind the last
  * event. So a program that reads several events at once hands them in as the recorder of docs/RULES.md does. If an event ends the
- * session, the later ones are dropped.
+ * session, the later ones are dropped. If an event asks for a message, scm_answer handles the later ones.
  *
- * If a commit has a message, only the last event may ask for it (a click, or the word "e"): hand in the others behind it as a
- * batch of their own.
- *
- * Returns SCM_DONE, or the first of SCM_NO_WORD, SCM_CLOSED, SCM_NOT_NOW and SCM_NO_BATCH that applies, or SCM_NO_MEMORY. */
+ * Returns SCM_DONE, or the first of SCM_NO_WORD, SCM_CLOSED and SCM_NOT_NOW that applies, or SCM_NO_MEMORY. */
 uint32_t scm_press_all(scm_session *session, const char *words, size_t length);
 
 /* Handles a click at `row`, `column` of the screen.
@@ -373,7 +369,8 @@ uint32_t scm_press_all(scm_session *session, const char *words, size_t length);
  * Returns SCM_DONE, SCM_CLOSED or SCM_NOT_NOW. */
 uint32_t scm_click(scm_session *session, uint16_t row, uint16_t column);
 
-/* Answers with the message that the session waits for, `length` bytes of `text`.
+/* Answers with the message that the session waits for, `length` bytes of `text`. If an event of a batch asked for it, the later
+ * events of the batch are handled then, and may ask for a message again.
  *
  * Returns SCM_DONE, or the first of SCM_TOO_LONG, SCM_NOT_TEXT, SCM_CLOSED and SCM_NOT_NOW that applies. May return
  * SCM_NO_MEMORY instead, if the text is short enough and UTF-8. */

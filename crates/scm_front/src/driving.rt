@@ -3,7 +3,6 @@ ghost use Rattle.std.specs.Prelude.{◌≡◌, [], List, IfErr, IfOk, IsTrue, On
 ghost use Rattle.scm_errors.specs.declared.error.RecordError.TheVariants.{OutOfMemory};
 ghost use Rattle.scm_types.specs.Limits.{is_accepted_state};
 ghost use Rattle.scm_record.specs.Session.{message_text, start};
-ghost use Rattle.scm_record.specs.Batches.{is_batch};
 ghost use Rattle.scm_record.specs.Live.{on_screen};
 ghost use Rattle.scm_record.specs.Jumps.{after_selecting, can_select};
 ghost use Rattle.scm_record.specs.LiveCalls.{BatchFails, BatchLeads, Call, EventFails, EventLeads, MessageFails, MessageLeads};
@@ -53,7 +52,6 @@ impl<'state> Begun<'state> {
 
     /// Handles `events` as one batch, as [`LiveSession::handle_all`] does.
     pub(crate) fn handle_all(self, events: &[Event]) -> Result<BegunTurn<'state>, RecordError>
-        requires { IsTrue (is_batch self.session events.now) }
         ensures ok { IfOk result (λ turn. BatchLeads self.entry events.now (turn_of turn)) }
         ensures err { IfErr result (λ e. BatchFails self.entry events.now e) }
     {

@@ -5,7 +5,6 @@ ghost use Rattle.scm_types.specs.Limits.{is_accepted_state};
 ghost use Rattle.scm_types.specs.Keys.{is_key};
 ghost use Rattle.scm_selection.specs.KeyLists.{is_line};
 ghost use Rattle.scm_record.specs.Session.{message_text, start};
-ghost use Rattle.scm_record.specs.Batches.{is_batch};
 ghost use Rattle.scm_record.specs.Live.{on_screen};
 ghost use Rattle.scm_record.specs.LiveCalls.{BatchFails, BatchLeads, Call, EventFails, MessageFails, MessageLeads, Path, Press};
 ghost use Rattle.scm_record.specs.declared.live.Turn.TheVariants.{Waiting};
@@ -412,7 +411,6 @@ impl<'state> Front<'state> {
     ///
     /// An error ends the session: the errors are those of [`LiveSession::handle_all`].
     pub fn handle_all(self, events: &[Event]) -> Result<FrontTurn<'state>, RecordError>
-        requires { IsTrue (is_batch self.beneath.session events.now) }
         ensures ok { IfOk result (λ turn.
             BatchLeads self.entry.beneath events.now (beneath_of turn)) }
         ensures remembers { IfOk result (λ turn. RemembersIn

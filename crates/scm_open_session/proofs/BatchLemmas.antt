@@ -8,7 +8,6 @@ use Rattle.scm_errors.specs.declared.error.RecordError.{RecordError}
 use Rattle.scm_input.specs.declared.events.Event.{Event}
 use Rattle.scm_embed.specs.Lines.{with_first}
 use Rattle.scm_script.specs.Words.{event_of_word}
-use Rattle.scm_record.specs.Batches.{is_batch}
 use Rattle.scm_record.specs.Live.{Live}
 use Rattle.scm_record.specs.LiveCalls.{BatchLeads, BatchFails}
 use Rattle.scm_record.specs.declared.live.Turn.{Turn}
@@ -17,7 +16,7 @@ use Rattle.scm_open_session.specs.declared.open_session.Stage.{Stage}
 use Rattle.scm_open_session.specs.declared.open_session.Stage.TheVariants.{Building, Waiting, Editing, Accepted, Ended}
 use Rattle.scm_open_session.specs.Stages.{ChangesStage, stage_after}
 use Rattle.scm_open_session.specs.Results.{IsCode}
-use Rattle.scm_open_session.specs.Batches.{Adds, HandsInAll, PressesAll, code_of_batch, code_of_events, code_of_events_at, events_of_bytes, events_of_piece, events_of_pieces, pieces_of}
+use Rattle.scm_open_session.specs.Batches.{Adds, HandsInAll, PressesAll, code_of_batch, events_of_bytes, events_of_piece, events_of_pieces, pieces_of}
 
 -- ---- pieces, cut off one by one
 
@@ -205,18 +204,13 @@ no-bytes bytes t e f = ap (λ (b : Bool). if b then events_of_pieces (pieces_of 
 pub no_text_code : (bytes : List ℕ) (inner : Option OpenSession) → is_utf8 bytes ≡ false → IsCode true (code_of_batch (events_of_bytes bytes) inner) 3
 no_text_code bytes inner e = no-word-by (events_of_bytes bytes) inner (no-bytes bytes (is_utf8 bytes) refl e)
 
-pub batch_code : (given : Option (List Event)) (items slice : List Event) (inner : Option OpenSession) (code : ℕ) → given ≡ Some items → slice ≡ items
-    → code ≡ code_of_events slice inner → IsCode true (code_of_batch given inner) code
-batch_code given items slice inner code e f g = rw (e, g ∙ ap (λ (l : List Event). code_of_events l inner) f) IsCode.known
+pub batch_code : (given : Option (List Event)) (items : List Event) (inner : Option OpenSession) (code : ℕ) → given ≡ Some items
+    → code ≡ code_of_call inner → IsCode true (code_of_batch given inner) code
+batch_code given items inner code e g = rw (e, g) IsCode.known
 
 pub batch_in : (given : Option (List Event)) (items slice : List Event) (old new : Option OpenSession) → given ≡ Some items → slice ≡ items
     → ChangesStage (PressesAll slice) old new → HandsInAll given old new
 batch_in given items slice old new e f goes = rw e (subst (λ (l : List Event). ChangesStage (PressesAll l) old new) f goes)
-
-pub events_code : (list : List Event) (old : Option OpenSession) (h before : OpenSession) (code : ℕ) → old ≡ Some h → before ≡ h
-    → code ≡ code_of_events_at list before.stage → code ≡ code_of_events list old
-events_code list old h before code e f g =
-    g ∙ (ap (λ (x : OpenSession). code_of_events_at list x.stage) f ∙ ap (λ (o : Option OpenSession). code_of_events list o) (sym e))
 
 -- ---- stages
 
@@ -224,19 +218,6 @@ presses-by : (list : List Event) (l : Live) (r : Result Turn RecordError) → If
 presses-by list l (Ok turn) h k = PressesAll.turned turn h
 presses-by list l (Err error) h k = PressesAll.failed k
 
-pub presses_all : (list : List Event) (l : Live) (r : Result Turn RecordError) (new : Stage) → new ≡ stage_after r
-    → IfOk r (λ turn. BatchLeads l list turn) → IfErr r (λ e. BatchFails l list e) → PressesAll list (Waiting l) new
-presses_all list l r new e h k = rw e (presses-by list l r h k)
-
-pub batch_at : (l : Live) (list : List Event) (t : Bool) → t ≡ is_batch l.session list → t ≡ true → 0 ≡ code_of_events_at list (Waiting l)
-batch_at l list t e f = ap (λ (b : Bool). if b then 0 else 10) (sym f ∙ e)
-
-pub no_batch_at : (l : Live) (list : List Event) (t : Bool) → t ≡ is_batch l.session list → t ≡ false → 10 ≡ code_of_events_at list (Waiting l)
-no_batch_at l list t e f = ap (λ (b : Bool). if b then 0 else 10) (sym f ∙ e)
-
-pub not_waiting_at : (list : List Event) (s : Stage) → ((l : Live) → s ≡ Waiting l → ⊥) → 2 ≡ code_of_events_at list s
-not_waiting_at list (Building state) n = refl
-not_waiting_at list (Waiting l) n = absurd (n l refl)
-not_waiting_at list (Editing a) n = refl
-not_waiting_at list (Accepted state) n = refl
-not_waiting_at list (Ended error) n = refl
+pub presses_all : (list : List Event) (l : Live) (r : Result Turn RecordError) (old new : Stage) → old ≡ Waiting l → new ≡ stage_after r
+    → IfOk r (λ turn. BatchLeads l list turn) → IfErr r (λ e. BatchFails l list e) → PressesAll list old new
+presses_all list l r old new f e h k = rw (f, e) (presses-by list l r h k)

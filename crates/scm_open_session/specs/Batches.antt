@@ -5,14 +5,14 @@ use Rattle.scm_errors.specs.declared.error.RecordError.{RecordError}
 use Rattle.scm_input.specs.declared.events.Event.{Event}
 use Rattle.scm_embed.specs.Lines.{with_first}
 use Rattle.scm_script.specs.Words.{event_of_word}
-use Rattle.scm_record.specs.Batches.{is_batch}
 use Rattle.scm_record.specs.Live.{Live}
 use Rattle.scm_record.specs.LiveCalls.{BatchLeads, BatchFails}
 use Rattle.scm_record.specs.declared.live.Turn.{Turn}
 use Rattle.scm_open_session.specs.declared.open_session.OpenSession.{OpenSession}
 use Rattle.scm_open_session.specs.declared.open_session.Stage.{Stage}
-use Rattle.scm_open_session.specs.declared.open_session.Stage.TheVariants.{Building, Waiting, Editing, Accepted, Ended}
+use Rattle.scm_open_session.specs.declared.open_session.Stage.TheVariants.{Waiting, Ended}
 use Rattle.scm_open_session.specs.Stages.{ChangesStage, stage_after}
+use Rattle.scm_open_session.specs.Results.{code_of_call}
 
 -- ---- events from bytes
 
@@ -43,23 +43,10 @@ pub data Adds : Option (List Event) → List Event → List Event → Bool → T
 
 -- ---- codes
 
--- The code of a batch of events at a stage: 10 if an event before the last may ask for a message.
-abbrev pub code_of_events_at : List Event → Stage → ℕ
-code_of_events_at events (Building state) = 2
-code_of_events_at events (Waiting l) = if is_batch l.session events then 0 else 10
-code_of_events_at events (Editing a) = 2
-code_of_events_at events (Accepted state) = 2
-code_of_events_at events (Ended error) = 2
-
--- The code of a batch of events.
-abbrev pub code_of_events : List Event → Option OpenSession → ℕ
-code_of_events events None = 1
-code_of_events events (Some inner) = code_of_events_at events inner.stage
-
 -- The code of `scm_press_all` for the events of its words, if each has one.
 abbrev pub code_of_batch : Option (List Event) → Option OpenSession → ℕ
 code_of_batch None inner = 3
-code_of_batch (Some events) inner = code_of_events events inner
+code_of_batch (Some events) inner = code_of_call inner
 
 -- ---- stages
 

@@ -37,7 +37,6 @@ words_of_code code =
     else if code == 7 then codes "a text has more than 1,000,000 bytes"
     else if code == 8 then codes "there is not enough memory"
     else if code == 9 then codes "the state has no such file, section, line or commit"
-    else if code == 10 then codes "an event before the last one may ask for a message"
     else []
 
 -- A call returns `code`. If it needs memory, it may return 8 instead: an allocation failed.

@@ -6,7 +6,7 @@ ghost use Rattle.scm_open_session.specs.Boxes.{box_value};
 ghost use Rattle.scm_open_session.specs.Stages.{Begins, ChangesStage, HandsIn, Idles, IsOpenAt, ChangesDecoder, Presses, Resizes, Says, Types, code_of_session, end_of_session, screen_of};
 ghost use Rattle.scm_open_session.specs.Results.{IsCode, Writes, code_of_answer, code_of_call, code_of_json, code_of_message, code_of_press, code_of_repaint, done_code, event_of_bytes, is_message, over, symbol_of_session, is_session_waiting, words_of_code};
 ghost use Rattle.scm_open_session.specs.Owners.{key_of_session, owner_of_session, selected_of_session};
-ghost use Rattle.scm_open_session.specs.Batches.{HandsInAll, PressesAll, code_of_batch, code_of_events, events_of_bytes};
+ghost use Rattle.scm_open_session.specs.Batches.{HandsInAll, PressesAll, code_of_batch, events_of_bytes};
 ghost use Rattle.scm_open_session.specs.Decoding.{Decodes, HearsBytes, HearsSilence};
 ghost use Rattle.scm_open_session.specs.Paint.{Fills, Forgets, PaintsOpenSession, PaintsSession};
 ghost use Rattle.scm_open_session.specs.FrontKeys.{ChangesToKey};
@@ -160,13 +160,13 @@ pub fn press_all(alloc: Global, session: &mut Session, words: &[u8]) -> u32
 
 /// Handles `events` as one batch. Returns the code of the call.
 fn hand_in_all(session: &mut Session, events: &[Event]) -> u32
-    ensures code { result ≡ code_of_events events.now (box_value session.old) }
+    ensures code { result ≡ code_of_call (box_value session.old) }
     ensures pressed { result ≡ 0 → ChangesStage (PressesAll events.now)
         (box_value session.old) (box_value session.new) }
     ensures kept { 0 < result → box_value session.new ≡ box_value session.old }
 {
     match session {
-        Some(inner) => inner.press_all(events),
+        Some(inner) => done_or_not_now(inner.press_all(events)),
         None => codes::CLOSED,
     }
 }

@@ -22,8 +22,6 @@ pub const TOO_LONG: u32 = 7;
 pub const NO_MEMORY: u32 = 8;
 /// Code of a call: the state has no such file, section, line or commit.
 pub const NO_ITEM: u32 = 9;
-/// Code of a call: an event of the batch before its last one may ask for a message.
-pub const NO_BATCH: u32 = 10;
 
 /// Stage: the session waits for an event.
 pub const WAITING: u32 = 0;
@@ -124,7 +122,6 @@ pub fn words(code: u32) -> &'static str
         TOO_LONG => "a text has more than 1,000,000 bytes",
         NO_MEMORY => "there is not enough memory",
         NO_ITEM => "the state has no such file, section, line or commit",
-        NO_BATCH => "an event before the last one may ask for a message",
         _ => "",
     }
 }

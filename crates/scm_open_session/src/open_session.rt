@@ -17,9 +17,8 @@ ghost use Rattle.scm_embed.specs.Additions.{after_addition, refusal_of};
 ghost use Rattle.scm_open_session.specs.Building.{BeginsState, Builds, Starts, code_at_stage, code_of_error, code_of_refusal};
 ghost use Rattle.scm_open_session.specs.Questions.{state_of_stage};
 ghost use Rattle.scm_open_session.specs.FrontKeys.{StopsAt, TypesToKey};
-ghost use Rattle.scm_open_session.specs.Batches.{PressesAll, code_of_events_at};
+ghost use Rattle.scm_open_session.specs.Batches.{PressesAll};
 ghost use Rattle.scm_open_session.specs.Decoding.{DecodesOpen, HearsBytes, HearsSilence, Tells, TellsEvents};
-ghost use Rattle.scm_record.specs.Batches.{is_batch};
 ghost use Rattle.scm_open_session.specs.Texts.{BuildsChange, code_of_change_at, seen_change};
 
 use crate::buffers::write_text;
@@ -279,28 +278,15 @@ fn pressed(stage: Stage, event: Event) -> (Stage, bool)
     }
 }
 
-/// Returns the stage after `events` as one batch of `session`, and the code of the call.
-fn after_batch(session: LiveSession<'static>, events: &[Event]) -> (Stage, u32)
-    ensures code { result.1 ≡ code_of_events_at events.now (Waiting session.entry) }
-    ensures pressed { result.1 ≡ 0 → PressesAll events.now (Waiting session.entry) result.0 }
-    ensures kept { 0 < result.1 → result.0 ≡ Waiting session.entry }
-{
-    if session.is_batch(events) {
-        (stage_of(session.handle_all(events)), codes::DONE)
-    } else {
-        (Stage::Waiting(session), codes::NO_BATCH)
-    }
-}
-
-/// Returns the stage after `events` as one batch, and the code of the call.
-fn pressed_all(stage: Stage, events: &[Event]) -> (Stage, u32)
-    ensures code { result.1 ≡ code_of_events_at events.now stage }
-    ensures pressed { result.1 ≡ 0 → PressesAll events.now stage result.0 }
-    ensures kept { 0 < result.1 → result.0 ≡ stage }
+/// Returns the stage after `events` as one batch, and whether the session waited for an event.
+fn pressed_all(stage: Stage, events: &[Event]) -> (Stage, bool)
+    ensures is_waiting { result.1 ≡ is_waiting stage }
+    ensures pressed { IsTrue result.1 → PressesAll events.now stage result.0 }
+    ensures kept { result.1 ≡ false → result.0 ≡ stage }
 {
     match stage {
-        Stage::Waiting(session) => after_batch(session, events),
-        other => (other, codes::NOT_NOW),
+        Stage::Waiting(session) => (stage_of(session.handle_all(events)), true),
+        other => (other, false),
     }
 }
 
@@ -491,17 +477,17 @@ impl OpenSession {
         is_done
     }
 
-    /// Handles `events` as one batch if the session waits for an event. Returns the code of the call.
-    pub fn press_all(&mut self, events: &[Event]) -> u32
-        ensures code { result ≡ code_of_events_at events.now self.old.stage }
-        ensures pressed { result ≡ 0 → PressesAll events.now self.old.stage self.new.stage }
+    /// Handles `events` as one batch if the session waits for an event, and returns whether it does.
+    pub fn press_all(&mut self, events: &[Event]) -> bool
+        ensures is_waiting { result ≡ is_waiting self.old.stage }
+        ensures pressed { IsTrue result → PressesAll events.now self.old.stage self.new.stage }
         ensures decoder { self.new.decoder ≡ self.old.decoder }
         ensures painter { self.new.painter ≡ self.old.painter }
-        ensures kept { 0 < result → self.new ≡ self.old }
+        ensures kept { result ≡ false → self.new ≡ self.old }
     {
-        let (stage, code) = pressed_all(self.take_stage(), events);
+        let (stage, is_done) = pressed_all(self.take_stage(), events);
         self.stage = stage;
-        code
+        is_done
     }
 
     /// Writes to `out` the words of the events that `bytes` of a terminal complete, if they fit. Returns

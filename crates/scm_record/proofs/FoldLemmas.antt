@@ -1,5 +1,5 @@
 -- The expanded keys of a session are in ascending order, whatever it handles.
-use Rattle.std.proofs.Common.{◌≡◌, ℕ, ◌+◌, ◌-◌, Bool, true, false, cond, ◌&&◌, List, [], ◌∷◌, length, nat_eq, Option, Some, None, refl}
+use Rattle.std.proofs.Common.{ℕ, ◌+◌, ◌-◌, Bool, true, false, cond, ◌&&◌, List, [], ◌∷◌, length, nat_eq, Option, Some, None}
 use Rattle.std.specs.Prelude.{filter, is_some, nat_lt, option_map}
 use Rattle.scm_types.specs.Limits.{is_short_text}
 use Rattle.scm_types.specs.declared.file.File.{File}
@@ -16,7 +16,7 @@ use Rattle.scm_input.specs.declared.events.Event.TheVariants as events
 use Rattle.scm_input.specs.Script.{Read, Batch, BrokenRead, Edit, Answer, BrokenEdit, Reply, no_messages_left}
 use Rattle.scm_selection.specs.Counts.{message_count, changed_count}
 use Rattle.scm_selection.specs.KeyLists.{all_keys, is_section}
-use Rattle.scm_selection.specs.KeySet.{has_key, with_key, without_key, key_set, is_key, is_same_set}
+use Rattle.scm_selection.specs.KeySet.{has_key, with_key, key_set, is_key, is_same_set}
 use Rattle.scm_selection.specs.Moves.{next_key, inner_key}
 use Rattle.scm_selection.specs.Toggle.{with_key_toggled, with_all_inverted, with_all_set}
 use Rattle.scm_record.specs.declared.pages.Way.TheVariants.{Up, Down}

@@ -1,9 +1,8 @@
 -- The file and the section that a key of the files lies in are keys of the files.
-use Rattle.std.proofs.Common.{◌≡◌, ℕ, zero, suc, ◌<◌, Bool, true, false, ◌&&◌, List, [], ◌∷◌, length, refl, sym, ap, ◌∙◌, Option, Some, None, arith, nat_lt, nat_eq}
+use Rattle.std.proofs.Common.{◌≡◌, ℕ, zero, suc, Bool, true, false, List, [], ◌∷◌, length, refl, Option, Some, None, arith, nat_lt, nat_eq}
 use Rattle.std.specs.Prelude.{slice_get}
 use Rattle.std.proofs.lemmas.Bool.Decides.{nat_tests}
 use Rattle.std.proofs.lemmas.Bool.{le-ltb}
-use Rattle.scm_types.specs.declared.line.SectionChangedLine.{SectionChangedLine}
 use Rattle.scm_types.specs.declared.section.Section.{Section}
 use Rattle.scm_types.specs.declared.section.Section.TheVariants.{Unchanged, Changed, FileMode, Binary}
 use Rattle.scm_types.specs.declared.file.File.{File}
@@ -12,8 +11,8 @@ use Rattle.scm_types.specs.declared.keys.LineKey.{LineKey}
 use Rattle.scm_types.specs.declared.keys.SelectionKey.{SelectionKey}
 use Rattle.scm_types.specs.declared.keys.SelectionKey.TheVariants as keys
 use Rattle.scm_types.specs.Marks.{is_editable_section}
-use Rattle.scm_types.specs.Keys.{file_of_section, file_of_line, section_of_line}
-use Rattle.scm_selection.specs.KeysAround.{is_key_of, is_editable_in, lines_in, lines_of, lines_at, sections_in, sections_at}
+use Rattle.scm_types.specs.Keys.{file_of_section, section_of_line}
+use Rattle.scm_selection.specs.KeysAround.{is_key_of, is_editable_in, lines_in, lines_of, sections_in, sections_at}
 use Rattle.scm_selection.proofs.RelationLemmas.{and-left, and-right}
 
 has-item : {X : Type 0} (xs : List X) (i : ℕ) (x : X) → slice_get xs i ≡ Some x → nat_lt i (length xs) ≡ true

@@ -1,6 +1,6 @@
 -- A jump to a key is what a batch of moves leads to.
-use Rattle.std.proofs.Common.{◌≡◌, ℕ, zero, suc, ◌+◌, ◌-◌, min, Bool, true, false, cond, List, [], ◌∷◌, ◌++◌, refl, sym, ap, ◌∙◌, subst, Option, Some, None, arith}
-use Rattle.std.specs.Prelude.{is_some, nat_le, nat_lt, not}
+use Rattle.std.proofs.Common.{◌≡◌, ℕ, zero, suc, ◌+◌, min, Bool, true, false, cond, List, [], ◌∷◌, ◌++◌, refl, sym, ap, ◌∙◌, subst, Option, Some, None, arith}
+use Rattle.std.specs.Prelude.{is_some, not}
 use Rattle.std.proofs.lemmas.Bool.{and_parts}
 use Rattle.std.proofs.lemmas.Bool.Decides.{nat_tests}
 use Rattle.scm_types.specs.Limits.{max_scroll}
@@ -20,10 +20,10 @@ use Rattle.scm_record.specs.FrameQueries.{free_rows_above, scroll_to_rows, scrol
 use Rattle.scm_record.specs.Change.{Change, stays}
 use Rattle.scm_record.specs.Step.{change}
 use Rattle.scm_record.specs.Quiet.{after_ensure}
-use Rattle.scm_record.specs.Run.{Setting, World, world_in, Point, Before, Drawn, Within, resume, after_change, Outcome, batch, Reaches, here, on, world_at}
+use Rattle.scm_record.specs.Run.{Setting, world_in, Point, Before, Drawn, Within, resume, after_change, Outcome, batch, Reaches, here, on, world_at}
 use Rattle.scm_types.specs.declared.state.RecordState.{RecordState}
 use Rattle.scm_record.specs.Live.{Live}
-use Rattle.scm_record.specs.LiveCalls.{live_setting, fixed_reply, waiting_point, editing_point, Leads, BatchLeads, Call, Path, still, press, press_all, say, resize}
+use Rattle.scm_record.specs.LiveCalls.{live_setting, fixed_reply, waiting_point, editing_point, IsDrawnFor, Leads, BatchLeads, Call, Path, still, press, press_all, say, resize}
 use Rattle.scm_record.specs.Jumps.{LeadToKey, after_jump, after_selecting, can_select}
 use Rattle.scm_record.specs.declared.live.Turn.{Turn}
 use Rattle.scm_record.specs.declared.live.Turn.TheVariants.{Waiting, Editing, Accepted}
@@ -155,12 +155,12 @@ module _ (l : Live) (key : SelectionKey) (calm : l.session.pending ≡ []) (clos
 
 abbrev GoodTurn : Turn → Type 0
 GoodTurn (Waiting l) = Ascends l.session.shown.expanded × (l.session.pending ≡ [])
-GoodTurn (Editing a) = Ascends a.session.shown.expanded
+GoodTurn (Editing a) = Ascends a.session.shown.expanded × ((drawn : Session) × IsDrawnFor a drawn)
 GoodTurn (Accepted state) = Unit {0}
 
 led-good : (p : Point) (kind : TerminalKind) (turn : Turn) → Ascends (world_at p).session.shown.expanded → Leads p kind [] [] turn → GoodTurn turn
 led-good p kind (Waiting l) h led = (reaches-fine led.3 h, led.2)
-led-good p kind (Editing a) h led = reaches-fine led.3 h
+led-good p kind (Editing a) h led = (reaches-fine led.4 h, (led.0, led.3))
 led-good p kind (Accepted state) h led = tt
 
 path-good : {turn last : Turn} {calls : List Call} → Path turn calls last → GoodTurn turn → GoodTurn last
@@ -171,8 +171,9 @@ path-good (press_all {l = l} {list = list} {turn = turn} g path) h =
     path-good path (led-good (waiting_point l (Batch list ∷ []) [] 0) l.kind turn h.0 (g [] [] 0))
 path-good (say {a = a} {text = text} {turn = turn} g path) h =
     let w = world_in (live_setting a.kind [] (fixed_reply text ∷ [])) a.session 0 in
+    let drawn = h.1.0 in
     path-good path
-    (led-good (editing_point a.session a [] (fixed_reply text ∷ []) 0) a.kind turn (edited-fine a.session [] w a.commit (fixed_reply text ∷ []) h) (g a.session [] [] 0))
+    (led-good (editing_point drawn a [] (fixed_reply text ∷ []) 0) a.kind turn (edited-fine drawn a.rest w a.commit (fixed_reply text ∷ []) h.0) (g drawn [] [] 0 h.1.1))
 path-good (resize path) h = path-good path h
 
 pub reached : (given : RecordState) (kind : TerminalKind) (calls : List Call) (l : Live) (key : SelectionKey) → Path (Waiting (record { session = start given; kind = kind })) calls (Waiting l)

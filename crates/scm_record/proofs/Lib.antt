@@ -28,7 +28,6 @@ pub mod AcceptedLemmas
 -- turns whose frame nobody sees
 pub mod QuietLemmas
 -- a session that a program drives: its batches, and its calls
-pub mod AskLemmas
 pub mod HandleLemmas
 pub mod LiveLemmas
 -- paths of its calls

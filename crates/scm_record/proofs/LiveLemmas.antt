@@ -17,9 +17,9 @@ use Rattle.scm_view.specs.Frame.{Frame}
 use Rattle.scm_record.specs.Frames.{HasSize, IsSceneOf, Scene, columns_of, rows_of, scene_of}
 use Rattle.scm_record.specs.FrameQueries.{hit, shot_of}
 use Rattle.scm_record.specs.Step.{change}
-use Rattle.scm_record.specs.Run.{Setting, World, world_in, with_session, Outcome, Goes, Breaks, Point, Before, Drawn, Within, Accepted, no_such_place, too_long, after_screenshot, after_edit, outcome_by, resume, batch, Reaches, here, on, world_at, Stops}
+use Rattle.scm_record.specs.Run.{Setting, World, world_in, with_session, Outcome, Goes, Breaks, Point, Before, Drawn, Within, Accepted, no_such_place, too_long, after_screenshot, after_edit, resume, batch, Reaches, here, on, world_at, Stops}
 use Rattle.scm_record.specs.RunContracts.{IsFault}
-use Rattle.scm_record.specs.Batches.{HandlesBatch, is_batch}
+use Rattle.scm_record.specs.Batches.{HandlesBatch, point_by}
 use Rattle.scm_record.specs.Live.{Live, LiveEdit, on_screen}
 use Rattle.scm_record.specs.declared.live.Turn.{Turn}
 use Rattle.scm_record.specs.declared.live.Turn.TheVariants.{Waiting, Editing, Accepted as Done}
@@ -49,7 +49,7 @@ no-place place = le-ltb place 0 (omega arith)
 -- what leads later leads
 pub leads-after : (p q : Point) (kind : TerminalKind) (reads : List Read) (edits : List Reply) (turn : Turn) → Reaches p q → Leads q kind reads edits turn → Leads p kind reads edits turn
 leads-after p q kind reads edits (Waiting l) r h = (h.0, h.1, h.2, reaches-trans r h.3)
-leads-after p q kind reads edits (Editing a) r h = (h.0, h.1, h.2, reaches-trans r h.3)
+leads-after p q kind reads edits (Editing a) r h = (h.0, h.1, h.2, h.3, reaches-trans r h.4)
 leads-after p q kind reads edits (Done state) r h = (h.0, h.1, h.2, reaches-trans r h.3)
 
 -- what stops with an error fails with it
@@ -64,24 +64,24 @@ fails-after p q error r h = failing error p h.0 (stops-after error p q h.0 r h.1
 pub fails-memory : (p : Point) (error : RecordError) → error ≡ OutOfMemory → Fails p error
 fails-memory p error e = failing error p (world_at p) (stops-memory error p p (world_at p) (ap fault_of e) here (record { reads = refl; edits = refl; texts = refl; frames = refl }))
 
-module _ (a : Setting) (drawn t : Session) (frames : ℕ) (flow : Flow) where
+module _ (a : Setting) (drawn t : Session) (frames : ℕ) (flow : Flow) (rest : List Event) where
   abbrev End : Point
-  End = resume drawn [] (outcome_by (scene_of a.kind drawn) (world_in a t frames) flow)
+  End = point_by a drawn t frames flow rest
 
   -- the end of a batch, where it is known what follows
-  follows : (known : Flow) → flow ≡ known → Reaches End (resume drawn [] (outcome_by (scene_of a.kind drawn) (world_in a t frames) known))
-  follows known e = subst (λ (f : Flow). Reaches End (resume drawn [] (outcome_by (scene_of a.kind drawn) (world_in a t frames) f))) e here
+  follows : (known : Flow) → flow ≡ known → Reaches End (point_by a drawn t frames known rest)
+  follows known e = subst (λ (f : Flow). Reaches End (point_by a drawn t frames f rest)) e here
 
   -- the point before the next frame
-  pub frames-next : flow ≡ flows.GoOn → Reaches End (Before (world_in a t frames))
-  frames-next e = on (follows flows.GoOn e)
+  pub frames-next : flow ≡ flows.GoOn → (flow ≡ flows.GoOn → rest ≡ []) → Reaches End (Before (world_in a t frames))
+  frames-next e all = on (subst (λ (l : List Event). Reaches End (Within drawn (world_in a t frames) l)) (all e) (follows flows.GoOn e))
 
   -- the end
   pub ends : flow ≡ flows.Accept → Reaches End (Accepted (world_in a t frames))
   ends e = follows flows.Accept e
 
   -- a message is asked for
-  pub edits : (commit : ℕ) → flow ≡ flows.Edit commit → Reaches End (resume drawn [] (after_edit (world_in a t frames) commit a.edits))
+  pub edits : (commit : ℕ) → flow ≡ flows.Edit commit → Reaches End (resume drawn rest (after_edit (world_in a t frames) commit a.edits))
   edits commit e = follows (flows.Edit commit) e
 
   -- the user gives up
@@ -94,15 +94,15 @@ module _ (a : Setting) (drawn t : Session) (frames : ℕ) (flow : Flow) where
       let w = world_in a t frames in
       let lacks : nat_lt place (length w.texts) ≡ false = rw none (no-place place) in
       let broken : after_screenshot w place (shot_of (scene_of a.kind drawn) t.cleared) ≡ Breaks no_such_place w = rw lacks refl in
-      failing error End w (stops-fault error no_such_place End w (subst (λ (o : Outcome). Reaches End (resume drawn [] o)) broken (follows (flows.Shoot place) e)) f)
+      failing error End w (stops-fault error no_such_place End w (subst (λ (o : Outcome). Reaches End (resume drawn rest o)) broken (follows (flows.Shoot place) e)) f)
 
-module _ (IsSeen : Scene → Type 0) (list : List Event) (s t : Session) (flow : Flow) (handles : HandlesBatch IsSeen list s flow t) (kind : TerminalKind) (drawn : Session) (seen : IsSeen (scene_of kind drawn)) where
+module _ (IsSeen : Scene → Type 0) (list rest : List Event) (s t : Session) (flow : Flow) (handles : HandlesBatch IsSeen list s flow rest t) (kind : TerminalKind) (drawn : Session) (seen : IsSeen (scene_of kind drawn)) where
   -- what it leaves pending takes fewer turns
   handled-low : flow ≡ flows.GoOn → (r : ℕ) → s.pending ≡ [] → rank_of list ≤ r + 1 → rank_of t.pending ≤ r
   handled-low e r calm k =
       let a = live_setting kind [] [] in
       let none : rank_of s.pending ≡ 0 = ap rank_of calm in
-      let way = reaches-trans (handles.reached a drawn 0 seen refl) (frames-next a drawn t 0 flow e) in
+      let way = reaches-trans (handles.reached a drawn 0 seen) (frames-next a drawn t 0 flow rest e handles.all) in
       let left = reaches-fits r (Within drawn (world_in a s 0) list) way (r, k, omega arith, omega arith) in
       omega (arith, left)
 
@@ -142,10 +142,6 @@ pub none-pending : (list : List Event) (has : Bool) → (0 < length list → has
 none-pending [] has h e = refl
 none-pending (event ∷ rest) has h e = let some : has ≡ true = h (omega arith) in cc
 
--- what is pending before a frame is the batch after it
-pub batch-after : (t u : Session) (list : List Event) → list ≡ t.pending → u ≡ without_pending (after_frame t) → is_batch t t.pending ≡ true → is_batch u list ≡ true
-batch-after t u list e f h = rw (e, f) h
-
 begins : (p : Point) (w : World) (list : List Event) → 0 < length list → Reaches p (batch w list) → Reaches p (Within w.session (with_session w (without_pending w.session)) list)
 begins p w [] k r = absurd (omega arith)
 begins p w (event ∷ rest) k r = r
@@ -184,21 +180,23 @@ module _ (a : LiveEdit) (text : List ℕ) (drawn : Session) (reads : List Read) 
   abbrev said : Session
   said = with_message a.session a.commit text
 
-  -- a message that is handed in ends its batch
-  says-message : true ≡ is_short_text text → Reaches Asked (Within drawn (world_in (live_setting a.kind reads edits) said frames) [])
+  -- after a message that is handed in the rest of its batch follows
+  says-message : true ≡ is_short_text text → Reaches Asked (Within drawn (world_in (live_setting a.kind reads edits) said frames) a.rest)
   says-message e =
       let w = world_in (live_setting a.kind reads edits) a.session frames in
-      subst (λ (b : Bool). Reaches Asked (resume drawn [] (cond b (Goes (with_session w said)) (Breaks too_long w)))) (sym e) here
+      subst (λ (b : Bool). Reaches Asked (resume drawn a.rest (cond b (Goes (with_session w said)) (Breaks too_long w)))) (sym e) here
 
-  -- the same of the session that is known to say it
-  pub says-on : (t : Session) → t ≡ said → true ≡ is_short_text text → Reaches Asked (Within drawn (world_in (live_setting a.kind reads edits) t frames) [])
-  says-on t e short = subst (λ (s : Session). Reaches Asked (Within drawn (world_in (live_setting a.kind reads edits) s frames) [])) (sym e) (says-message short)
+  -- the same of the session that is known to say it, and of the list that is known to be the rest
+  pub says-on : (t : Session) (rest : List Event) → t ≡ said → rest ≡ a.rest → true ≡ is_short_text text → Reaches Asked (Within drawn (world_in (live_setting a.kind reads edits) t frames) rest)
+  says-on t rest e left short =
+      subst (λ (l : List Event). Reaches Asked (Within drawn (world_in (live_setting a.kind reads edits) t frames) l)) (sym left)
+      (subst (λ (s : Session). Reaches Asked (Within drawn (world_in (live_setting a.kind reads edits) s frames) a.rest)) (sym e) (says-message short))
 
   -- one that is too long is a fault
   pub says-too-long : false ≡ is_short_text text → (error : RecordError) → IsFault too_long error → Fails Asked error
   says-too-long e error f =
       let w = world_in (live_setting a.kind reads edits) a.session frames in
-      let long : Reaches Asked (resume drawn [] (cond false (Goes (with_session w said)) (Breaks too_long w))) = subst (λ (b : Bool). Reaches Asked (resume drawn [] (cond b (Goes (with_session w said)) (Breaks too_long w)))) (sym e) here in
+      let long : Reaches Asked (resume drawn a.rest (cond false (Goes (with_session w said)) (Breaks too_long w))) = subst (λ (b : Bool). Reaches Asked (resume drawn a.rest (cond b (Goes (with_session w said)) (Breaks too_long w)))) (sym e) here in
       failing error Asked w (stops-fault error too_long Asked w long f)
 
 -- ---- any calls
@@ -214,7 +212,7 @@ answers-on : (p : Point) (kind : TerminalKind) (a : LiveEdit) (text : List ℕ) 
     → MessageLeads a text turn → Leads p kind reads (fixed_reply text ∷ edits) (Editing a) → Leads p kind reads edits turn
 answers-on p kind a text turn reads edits g h =
     let q = editing_point h.0 a reads (fixed_reply text ∷ edits) h.1 in
-    leads-after p q kind reads edits turn h.3 (subst (λ (k : TerminalKind). Leads q k reads edits turn) h.2 (g h.0 reads edits h.1))
+    leads-after p q kind reads edits turn h.4 (subst (λ (k : TerminalKind). Leads q k reads edits turn) h.2 (g h.0 reads edits h.1 h.3))
 
 -- on one screen, from turn to turn
 path-leads : (reads : List Read) (edits : List Reply) (p : Point) (kind : TerminalKind) {turn end : Turn} {calls : List Call}
@@ -233,7 +231,7 @@ is-confirmed : (w : World) (kind : TerminalKind) (turn : Turn) → Leads (Before
 is-confirmed w kind (Waiting l) h =
     let v = world_in (live_setting l.kind [] []) l.session h.0 in
     fault-unconfirmed (Before w) no_events_left v (subst (λ (list : List Event). Reaches (Before w) (batch v list)) h.2 (on h.3))
-is-confirmed w kind (Editing a) h = fault-unconfirmed (Before w) _ (world_in (live_setting a.kind [] []) a.session h.1) h.3
+is-confirmed w kind (Editing a) h = fault-unconfirmed (Before w) _ (world_in (live_setting a.kind [] []) a.session h.1) h.4
 is-confirmed w kind (Done state) h = subst (λ (x : RecordState). ConfirmsQuit (Before w) x) h.2 (accepted-confirmed w _ h.3)
 
 -- a call more is a read or an edit more, behind those before it
@@ -287,7 +285,7 @@ module _ (s : Session) (kind : TerminalKind) (drawable : IsDrawable s) (calm : s
       let h = (is-run calls (Editing a) k path).leads reads (fixed_reply text ∷ edits) in
       let p = beginning s kind calls reads (fixed_reply text ∷ edits) in
       subst (λ (q : Point). Fails q error) (called-last calls (Say text) reads edits)
-      (fails-after p (editing_point h.0 a reads (fixed_reply text ∷ edits) h.1) error h.3 (g h.0 reads edits h.1))
+      (fails-after p (editing_point h.0 a reads (fixed_reply text ∷ edits) h.1) error h.4 (g h.0 reads edits h.1 h.3))
 
 -- ---- screen by screen
 

@@ -1,5 +1,5 @@
 -- Moves of the selection lead to each key of the files, with what it lies in unfolded.
-use Rattle.std.proofs.Common.{◌≡◌, ℕ, zero, suc, Bool, true, false, cond, ◌&&◌, List, [], ◌∷◌, ◌++◌, refl, sym, ap, ◌∙◌, subst, Option, Some, None}
+use Rattle.std.proofs.Common.{◌≡◌, ℕ, zero, suc, Bool, true, false, cond, List, [], ◌∷◌, ◌++◌, refl, sym, ap, ◌∙◌, subst, Option, Some, None}
 use Rattle.std.specs.Prelude.{filter, reverse, is_some}
 use Rattle.scm_types.specs.declared.file.File.{File}
 use Rattle.scm_types.specs.declared.keys.SectionKey.{SectionKey}
@@ -10,7 +10,7 @@ use Rattle.scm_input.specs.declared.events.Event.{Event}
 use Rattle.scm_input.specs.declared.events.Event.TheVariants as events
 use Rattle.scm_selection.specs.KeySet.{is_key, has_key, with_key, with_key_flipped, without_key}
 use Rattle.scm_selection.specs.KeyLists.{file_key, files_keys, sections_keys, is_visible, first_key}
-use Rattle.scm_selection.specs.Moves.{next_key, previous_key, keys_behind}
+use Rattle.scm_selection.specs.Moves.{next_key, previous_key}
 use Rattle.scm_selection.specs.KeysAround.{is_key_of, keys_before, keys_after}
 use Rattle.scm_selection.proofs.PartLemmas.{parted}
 use Rattle.scm_selection.proofs.RelationLemmas.{previous_part, previous-is, and-left, and-right}
@@ -21,7 +21,7 @@ use Rattle.scm_record.specs.Change.{stays}
 use Rattle.scm_record.specs.Step.{change}
 use Rattle.scm_record.proofs.KeyOrderLemmas.{Ascends, with-same, with-has, with-keeps, with-ascends}
 use Rattle.scm_record.proofs.WalkToLemmas.{step-next, kept-at, AllPass, filter-pass, Walks, arrived, walks, walk-down, walk-up}
-use Rattle.scm_record.proofs.InsideLemmas.{file-of-section, section-of-line, some-file}
+use Rattle.scm_record.proofs.InsideLemmas.{file-of-section, section-of-line}
 
 -- events that lead from session to session, whatever was drawn, while the run goes on
 pub data Steps : Session → List Event → Session → Type 0 where

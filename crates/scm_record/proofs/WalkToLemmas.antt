@@ -1,19 +1,18 @@
 -- Walks over a list of keys without repeats, key by key, down or up.
-use Rattle.std.proofs.Common.{◌≡◌, ℕ, ◌+◌, Bool, true, false, cond, ◌&&◌, List, [], ◌∷◌, ◌++◌, refl, sym, ap, ◌∙◌, subst, append_assoc, Option, Some, None}
-use Rattle.std.specs.Prelude.{slice_get, filter, reverse, is_some, position}
+use Rattle.std.proofs.Common.{◌≡◌, Bool, true, false, cond, List, [], ◌∷◌, ◌++◌, refl, sym, ap, ◌∙◌, subst, append_assoc, Option, Some, None}
+use Rattle.std.specs.Prelude.{slice_get, filter, reverse}
 use Rattle.std.specs.Option.{unwrap_or}
 use Rattle.std.proofs.lemmas.Grind.{reverse_onto}
 use Rattle.std.proofs.lemmas.List.{reverse-append}
 use Rattle.scm_types.specs.declared.file.File.{File}
 use Rattle.scm_types.specs.declared.keys.SelectionKey.{SelectionKey}
-use Rattle.scm_types.specs.declared.keys.SelectionKey.TheVariants as keys
 use Rattle.scm_selection.specs.KeySet.{is_key}
-use Rattle.scm_selection.specs.KeyLists.{file_key, files_keys}
-use Rattle.scm_selection.specs.Moves.{next_key, previous_key, keys_behind}
+use Rattle.scm_selection.specs.KeyLists.{files_keys}
+use Rattle.scm_selection.specs.Moves.{next_key, keys_behind}
 use Rattle.scm_selection.specs.KeysAround.{is_key_of, keys_before, keys_after}
-use Rattle.scm_selection.proofs.PartLemmas.{parted_on, parted, joined, if_there, parted-append}
-use Rattle.scm_selection.proofs.RelationLemmas.{next_part, behind, kept, next-is, behind-is, kept-parts, key-same}
-use Rattle.scm_selection.proofs.WalkLemmas.{Once, once-kept, once-turned, step-stays, step-goes}
+use Rattle.scm_selection.proofs.PartLemmas.{parted_on, parted, parted-append}
+use Rattle.scm_selection.proofs.RelationLemmas.{next_part, behind, next-is, behind-is, kept-parts, key-same}
+use Rattle.scm_selection.proofs.WalkLemmas.{Once, once-turned, step-stays, step-goes}
 use Rattle.scm_record.proofs.KeyOrderLemmas.{key-self}
 
 -- a step to the next key of the list

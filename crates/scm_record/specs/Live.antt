@@ -1,8 +1,9 @@
 -- The values of a live session: what a program has of it between two calls.
-use Rattle.std.specs.Prelude.{◌≡◌, ℕ, IsTrue, []}
+use Rattle.std.specs.Prelude.{◌≡◌, ℕ, List, []}
+use Rattle.scm_input.specs.declared.events.Event.{Event}
 use Rattle.scm_input.specs.declared.inputs.TerminalKind.{TerminalKind}
+use Rattle.scm_record.specs.declared.frame.DrawnFrame.{DrawnFrame}
 use Rattle.scm_record.specs.Session.{Session, IsDrawable, after_frame}
-use Rattle.scm_record.specs.Batches.{asks_at_end}
 
 -- a live session that waits for an event: the value of the code's `LiveSession`
 pub record Live : Type 0 where
@@ -23,13 +24,12 @@ pub record LiveEdit : Type 0 where
   pub kind : TerminalKind
   -- the index of the commit
   pub commit : ℕ
+  -- the frame last drawn: what is left of the batch acts on what it shows
+  pub frame : DrawnFrame
+  -- the events that are left of the batch, which are handled after the message
+  pub rest : List Event
 
 -- a session that waits for an event can be drawn, and has no pending events
 pub record IsCalm (s : Session) : Type 0 where
   pub drawable : IsDrawable s
   pub calm : s.pending ≡ []
-
--- a session that waits for a message can be drawn, and no pending event but the last may ask for a message
-pub record IsBusy (s : Session) : Type 0 where
-  pub drawable : IsDrawable s
-  pub last : IsTrue (asks_at_end s.pending)

@@ -6,6 +6,7 @@ use Rattle.scm_input.specs.declared.events.Event.{Event}
 use Rattle.scm_input.specs.declared.inputs.TerminalKind.{TerminalKind}
 use Rattle.scm_input.specs.Script.{Read, Batch, Answer, Reply, always}
 use Rattle.scm_record.specs.Session.{Session}
+use Rattle.scm_record.specs.Frames.{IsSceneOf, scene_of}
 use Rattle.scm_record.specs.Live.{Live, LiveEdit, on_screen}
 use Rattle.scm_record.specs.Run.{Setting, setting, World, world_in, after_edit, Point, Before, Drawn, Accepted, resume, Reaches, Stops}
 use Rattle.scm_record.specs.Headline.{BatchesAreHandled, BatchesBeginAsDrawn, ClicksHitOwners, ConfirmsQuit, AcceptsConfirmedQuits}
@@ -20,17 +21,22 @@ live_setting kind reads edits = setting kind reads edits (record { texts = []; f
 abbrev pub waiting_point : Live → List Read → List Reply → ℕ → Point
 waiting_point l reads edits frames = Drawn (world_in (live_setting l.kind reads edits) l.session frames)
 
--- the point of a run at which a session that waits for a message continues, with the next of the edits
+-- the point of a run at which a session that waits for a message continues: with the next of the edits, and then the rest of its batch.
+-- `drawn` is the session last drawn.
 abbrev pub editing_point : Session → LiveEdit → List Read → List Reply → ℕ → Point
 editing_point drawn a reads edits frames =
-    resume drawn [] (after_edit (world_in (live_setting a.kind reads edits) a.session frames) a.commit edits)
+    resume drawn a.rest (after_edit (world_in (live_setting a.kind reads edits) a.session frames) a.commit edits)
+
+-- the frame shows the session `drawn`: what is left of the batch acts on it
+abbrev pub IsDrawnFor : LiveEdit → Session → Type 0
+IsDrawnFor a drawn = IsSceneOf (scene_of a.kind drawn) a.frame
 
 -- the steps lead from `p` to a turn, with `reads` and `edits` left; a session that waits for an event has none pending
 abbrev pub Leads : Point → TerminalKind → List Read → List Reply → Turn → Type 0
 Leads p kind reads edits (Waiting l) =
     (frames : ℕ) × (l.kind ≡ kind) × (l.session.pending ≡ []) × Reaches p (waiting_point l reads edits frames)
 Leads p kind reads edits (Editing a) =
-    (drawn : Session) × (frames : ℕ) × (a.kind ≡ kind) × Reaches p (editing_point drawn a reads edits frames)
+    (drawn : Session) × (frames : ℕ) × (a.kind ≡ kind) × IsDrawnFor a drawn × Reaches p (editing_point drawn a reads edits frames)
 Leads p kind reads edits (Done state) =
     (s : Session) × (frames : ℕ) × (s.shown.state ≡ state) × Reaches p (Accepted (world_in (live_setting kind reads edits) s frames))
 
@@ -54,10 +60,10 @@ EventLeads l event turn =
     (reads : List Read) (edits : List Reply) (frames : ℕ)
     → Leads (waiting_point l (Batch (event ∷ []) ∷ reads) edits frames) l.kind reads edits turn
 
--- the message `text`, handed in to `a`, leads to `turn`: it is the next of the edits
+-- the message `text`, handed in to `a`, leads to `turn`: it is the next of the edits. Then the rest of the batch is handled.
 abbrev pub MessageLeads : LiveEdit → List ℕ → Turn → Type 0
 MessageLeads a text turn =
-    (drawn : Session) (reads : List Read) (edits : List Reply) (frames : ℕ)
+    (drawn : Session) (reads : List Read) (edits : List Reply) (frames : ℕ) → IsDrawnFor a drawn
     → Leads (editing_point drawn a reads (fixed_reply text ∷ edits) frames) a.kind reads edits turn
 
 -- `list`, handed in to `l` as one batch, ends the session with `error`
@@ -73,7 +79,7 @@ EventFails l event error =
 -- the message `text`, handed in to `a`, ends the session with `error`
 abbrev pub MessageFails : LiveEdit → List ℕ → RecordError → Type 0
 MessageFails a text error =
-    (drawn : Session) (reads : List Read) (edits : List Reply) (frames : ℕ)
+    (drawn : Session) (reads : List Read) (edits : List Reply) (frames : ℕ) → IsDrawnFor a drawn
     → Fails (editing_point drawn a reads (fixed_reply text ∷ edits) frames) error
 
 -- ---- sequences of calls

@@ -8,13 +8,12 @@ ghost use Rattle.scm_input.specs.Script.{Read, Reply};
 ghost use Rattle.scm_input.specs.declared.events.Event.TheVariants.{Click, EnsureSelectionInViewport};
 ghost use Rattle.scm_record.specs.Session.{IsDrawable, Session, after_frame, message_of, message_text, start, without_pending};
 ghost use Rattle.scm_record.specs.Live.{on_screen};
-ghost use Rattle.scm_record.specs.Batches.{is_batch};
-ghost use Rattle.scm_record.specs.declared.session.Flow.TheVariants.{Edit};
+ghost use Rattle.scm_record.specs.Batches.{point_by};
+ghost use Rattle.scm_record.specs.declared.session.Flow.TheVariants.{Edit, GoOn};
 ghost use Rattle.scm_record.specs.RunContracts.{IsCurrent};
 ghost use Rattle.scm_record.specs.Frames.{HasSize, IsSceneOf, columns_of, rows_of, scene_of};
 ghost use Rattle.scm_record.specs.Step.{change};
 ghost use Rattle.scm_record.specs.Clicks.{after_click};
-ghost use Rattle.scm_record.specs.Run.{outcome_by, resume, world_in};
 ghost use Rattle.scm_record.specs.Quiet.{after_ensure};
 ghost use Rattle.scm_record.specs.LiveCalls.{AreRuns, BatchFails, BatchLeads, Call, EndsIn, EventFails, EventLeads, Fails, IsFailedRun, IsRun, Leads, MessageFails, MessageLeads, Path, is_on_one_screen, live_setting};
 ghost use Rattle.scm_record.specs.declared.live.Turn.{Turn};
@@ -30,7 +29,7 @@ mod marked;
 mod painted;
 pub mod typed;
 
-use self::batches::{BatchEnd, asks_at_end, handle_each, has_any_message};
+use self::batches::{BatchEnd, handle_each};
 use crate::frame::DrawnFrame;
 use crate::runs::{draw_anew, is_short, no_such_place, too_long};
 use crate::session::{ActiveSession, Flow};
@@ -78,16 +77,29 @@ pub struct Editing<'state> {
     kind: TerminalKind,
     /// The index of the commit whose message is edited.
     commit: usize,
+    /// The events of the batch after the one that asked for the message.
+    rest: Vec<Event>,
 }
 
 impl<'state> Model for Editing<'state> {
+    ghost use Rattle.std.specs.Coded.{codes};
     ghost use Rattle.scm_record.specs.Live.{LiveEdit};
+    ghost use Rattle.scm_record.specs.contracts.frame.DrawnFrame as drawn;
 
     ghost Value = { LiveEdit };
 
+    // a map of boxes has a code of its own
+    ghost coded = { Prim.hlevel (codes, drawn.the_row.coded) };
+
     ghost use Rattle.scm_record.specs.LiveView.{IsEditing};
 
-    ghost view = { λ l. record { session = l.session; kind = l.kind; commit = l.commit } };
+    ghost view = { λ l. record {
+      session = l.session;
+      kind = l.kind;
+      commit = l.commit;
+      frame = l.frame;
+      rest = l.rest.items;
+    } };
 
     ghost invariant = { λ l. IsEditing l.kind l.session l.frame l.commit };
 }
@@ -176,27 +188,29 @@ fn show_selection<'state>(
 
 /// Returns the turn to which a batch leads that ended as `end` says. If the session goes on, handles
 /// what is pending after a frame of its own, until nothing is. A frame that nobody sees is not painted.
+/// If a message is asked for, keeps a copy of the rest of the batch.
 fn turn_after<'state>(
     session: ActiveSession<'state>,
     frame: DrawnFrame,
     kind: TerminalKind,
-    end: BatchEnd,
+    end: BatchEnd<'_>,
 ) -> Result<Turn<'state>, RecordError>
     requires drawable { IsDrawable session }
-    requires batch { IsTrue (is_batch session session.pending) }
+    requires all { end.flow ≡ GoOn → end.rest.now ≡ [] }
     requires said { (commit : ℕ) → end.flow ≡ Edit commit
         → message_of session commit ≡ Some (message_text session commit) }
-    requires sized { HasSize kind frame }
+    requires shown { (drawn : Session) × IsSceneOf (scene_of kind drawn) frame }
     requires current { IsTrue end.is_kept → IsCurrent session frame }
     ensures ok { IfOk result (λ turn.
         (drawn : Session) (reads : List Read) (edits : List Reply) (frames : ℕ)
-        → Leads (resume drawn [] (outcome_by (scene_of kind drawn)
-        (world_in (live_setting kind reads edits) session.entry frames) end.flow))
-        kind reads edits turn) }
+        → IsSceneOf (scene_of kind drawn) frame
+        → Leads (point_by (live_setting kind reads edits) drawn session.entry frames
+        end.entry.flow end.entry.rest.now) kind reads edits turn) }
     ensures err { IfErr result (λ e.
         (drawn : Session) (reads : List Read) (edits : List Reply) (frames : ℕ)
-        → Fails (resume drawn [] (outcome_by (scene_of kind drawn)
-        (world_in (live_setting kind reads edits) session.entry frames) end.flow)) e) }
+        → IsSceneOf (scene_of kind drawn) frame
+        → Fails (point_by (live_setting kind reads edits) drawn session.entry frames
+        end.entry.flow end.entry.rest.now) e) }
 {
     let mut session = session;
     let mut frame = frame;
@@ -214,12 +228,16 @@ fn turn_after<'state>(
         }
         Flow::Accept => Ok(Turn::Accepted(session.into_state())),
         Flow::Cancel => Err(RecordError::Cancelled),
-        Flow::Edit(commit) => Ok(Turn::Editing(Editing {
-            session,
-            frame,
-            kind,
-            commit,
-        })),
+        Flow::Edit(commit) => {
+            let rest = Vec::from_slice(session.allocator(), end.rest)?;
+            Ok(Turn::Editing(Editing {
+                session,
+                frame,
+                kind,
+                commit,
+                rest,
+            }))
+        }
         Flow::Shoot(_) => Err(no_such_place(session.allocator())),
     }
 }
@@ -272,17 +290,17 @@ impl<'state> LiveSession<'state> {
     }
 
     /// Handles `events` as one batch, and the events that they leave pending, and returns what they
-    /// lead to. The events have to be a batch of the session, as [`LiveSession::is_batch`] says.
+    /// lead to.
     ///
     /// A batch is one read of [`Recorder::run`](crate::Recorder::run). It has one frame: a click acts on
     /// what was drawn before the batch, and the session is drawn when all its events are handled. If an
-    /// event ends the session, the later ones are dropped.
+    /// event asks for a message, [`Editing::answer`] handles the later ones. If an event ends the
+    /// session, the later ones are dropped.
     ///
     /// # Errors
     ///
     /// An error ends the session: the errors are those of [`LiveSession::handle`].
     pub fn handle_all(self, events: &[Event]) -> Result<Turn<'state>, RecordError>
-        requires { IsTrue (is_batch self.session events.now) }
         ensures ok { IfOk result (λ turn. BatchLeads self.entry events.now turn) }
         ensures err { IfErr result (λ e. BatchFails self.entry events.now e) }
     {
@@ -294,17 +312,6 @@ impl<'state> LiveSession<'state> {
         let mut session = session;
         let end = handle_each(&mut session, &frame, events)?;
         turn_after(session, frame, kind, end)
-    }
-
-    /// Returns whether the session takes `events` as one batch: no commit has a message, or no event but
-    /// the last may ask for one, by `Click` or `EditCommitMessage`.
-    ///
-    /// Other events have to be handed in as several batches. While a message is edited, no event of a
-    /// batch can be left.
-    pub fn is_batch(&self, events: &[Event]) -> bool
-        ensures { result ≡ is_batch self.now.session events.now }
-    {
-        !has_any_message(self.state().commits.as_slice()) || asks_at_end(events)
     }
 
     /// Draws the session on a screen of size `kind`.
@@ -414,7 +421,11 @@ impl<'state> Editing<'state> {
         self.answer(text)
     }
 
-    /// Sets the message of the commit to `text`, and returns what that leads to.
+    /// Sets the message of the commit to `text`, handles the rest of the batch that asked for it, and
+    /// returns what that leads to.
+    ///
+    /// The session is not drawn in between: a click of the rest acts on what was drawn before the batch.
+    /// An event of the rest may ask for a message again.
     ///
     /// # Errors
     ///
@@ -422,7 +433,8 @@ impl<'state> Editing<'state> {
     ///
     /// - `Other("commit message too long")`: `text` has more than 1,000,000 bytes.
     /// - `OutOfMemory`: an allocation failed.
-    /// - any other: that of an event that was still pending, as [`LiveSession::handle`] says.
+    /// - any other: that of an event of the rest or one that was still pending, as
+    ///   [`LiveSession::handle`] says.
     pub fn answer(self, text: String) -> Result<Turn<'state>, RecordError>
         ensures ok { IfOk result (λ turn. MessageLeads self.entry (string_bytes text) turn) }
         ensures err { IfErr result (λ e. MessageFails self.entry (string_bytes text) e) }
@@ -432,15 +444,17 @@ impl<'state> Editing<'state> {
             frame,
             kind,
             commit,
+            rest,
         } = self;
         let mut session = session;
         if !is_short(&text) {
             return Err(too_long(session.allocator()));
         }
         session.set_message(commit, text);
+        let end = handle_each(&mut session, &frame, &rest)?;
         let end = BatchEnd {
-            flow: Flow::GoOn,
             is_kept: false,
+            ..end
         };
         turn_after(session, frame, kind, end)
     }

@@ -1,9 +1,9 @@
 //! Batches of events that a program hands in to a live session, and jumps to a key.
 use crate::given::{run, state_of};
-use crate::scripts::{ACCEPT, EDIT, FAR, HELLO, INNER, Read, TOGGLE, script, words};
+use crate::scripts::{ACCEPT, EDIT, FAR, HELLO, INNER, Read, TOGGLE, reads_of, words};
 use scm_record::{
-    Event, FileKey, LineKey, LiveSession, RecordError, Screens, SectionKey, SelectionKey,
-    TerminalKind, Turn,
+    Event, FileKey, LineKey, LiveSession, RecordError, Screens, ScriptEdit, ScriptInput,
+    SectionKey, SelectionKey, TerminalKind, Turn,
 };
 use std::alloc::{AllocError, Global};
 use std::process::Abort;
@@ -24,14 +24,23 @@ const ITEM_EDIT: Event = Event::Click { row: 1, column: 8 };
 /// Chooses the second item of the menu Edit, which toggles the selected item.
 const ITEM_TOGGLE: Event = Event::Click { row: 2, column: 8 };
 
-/// The outcome of a batch that the session does not take.
-const REFUSED: &'static str = "no batch";
+/// Opens the menu File.
+const MENU_FILE: Event = Event::Click { row: 0, column: 1 };
+
+/// Presses the button of the message, if no menu is open.
+const BUTTON: Event = Event::Click { row: 2, column: 2 };
+
+/// Chooses the first item of the menu File, which accepts, if that menu is open.
+const ITEM_CONFIRM: Event = Event::Click { row: 1, column: 2 };
+
+/// How many messages a session asks for at most.
+const MESSAGES: usize = 4;
 
 /// The outcome of a session that still waits.
 const WAITS: &'static str = "waits";
 
-/// Sessions that are accepted: a run with the same batches has the same outcome.
-const ACCEPTED: [Row; 12] = [
+/// Sessions that end: a run with the same batches has the same outcome.
+const ENDED: [Row; 26] = [
     // all events of a batch are handled, in order
     (
         None,
@@ -60,7 +69,7 @@ const ACCEPTED: [Row; 12] = [
         &[&[MENU_EDIT], &[INNER, ITEM_EDIT], &[TOGGLE, ACCEPT]],
         "accepted 11 bye",
     ),
-    // without a message nothing can be asked for: any events are a batch
+    // without a message nothing is asked for
     (None, &[&[EDIT, FAR, TOGGLE], &[ACCEPT]], "accepted 11"),
     // a click acts on the frame before its batch, where the menu is closed
     (None, &[&[MENU_EDIT, ITEM_TOGGLE], &[ACCEPT]], "accepted 00"),
@@ -76,16 +85,60 @@ const ACCEPTED: [Row; 12] = [
         "accepted 10",
     ),
     (None, &[&[FAR, FAR, ACCEPT, FAR]], "accepted 00"),
-];
-
-/// Sessions that wait, that a user gives up, or that do not take a batch.
-const OTHERS: [Row; 8] = [
-    (None, &[&[]], WAITS),
-    (HELLO, &[&[], &[TOGGLE, FAR]], WAITS),
-    (HELLO, &[&[EDIT, ACCEPT]], REFUSED),
-    (HELLO, &[&[TOGGLE], &[EDIT, TOGGLE, EDIT]], REFUSED),
-    (HELLO, &[&[FAR, ACCEPT]], REFUSED),
-    (HELLO, &[&[FAR, FAR]], REFUSED),
+    (HELLO, &[&[FAR, ACCEPT]], "accepted 00 hello"),
+    // a click acts on the frame before the batch, where the menu is closed
+    (
+        HELLO,
+        &[&[MENU_FILE, ITEM_CONFIRM], &[TOGGLE, ACCEPT]],
+        "accepted 11 hello",
+    ),
+    (HELLO, &[&[MENU_FILE, BUTTON], &[ACCEPT]], "accepted 00 bye"),
+    (
+        HELLO,
+        &[&[BUTTON, TOGGLE, MENU_FILE], &[ACCEPT]],
+        "accepted 11 bye",
+    ),
+    // after a message the rest of the batch is handled
+    (HELLO, &[&[EDIT, ACCEPT]], "accepted 00 bye"),
+    (
+        HELLO,
+        &[&[EDIT, INNER, INNER, TOGGLE], &[ACCEPT]],
+        "accepted 10 bye",
+    ),
+    // it may ask for a message again
+    (
+        HELLO,
+        &[&[TOGGLE], &[EDIT, TOGGLE, EDIT, EDIT], &[ACCEPT]],
+        "accepted 00 bye",
+    ),
+    // its clicks act on the frame before the batch: there the menu is closed, or open
+    (
+        HELLO,
+        &[&[MENU_EDIT, EDIT, ITEM_TOGGLE], &[ACCEPT]],
+        "accepted 00 bye",
+    ),
+    (
+        HELLO,
+        &[&[MENU_EDIT], &[MENU_EDIT, EDIT, ITEM_TOGGLE], &[ACCEPT]],
+        "accepted 11 bye",
+    ),
+    // so it is with events that a batch leaves pending
+    (
+        HELLO,
+        &[&[MENU_EDIT], &[ITEM_EDIT, ITEM_TOGGLE], &[ACCEPT]],
+        "accepted 11 bye",
+    ),
+    (
+        HELLO,
+        &[&[MENU_EDIT], &[ITEM_EDIT, ITEM_EDIT, TOGGLE], &[ACCEPT]],
+        "accepted 11 bye",
+    ),
+    // it may end the session
+    (
+        HELLO,
+        &[&[EDIT, Event::QuitCancel, TOGGLE]],
+        "cancelled by user",
+    ),
     (
         None,
         &[&[INNER, Event::QuitCancel, TOGGLE]],
@@ -96,6 +149,14 @@ const OTHERS: [Row; 8] = [
         &[&[TOGGLE, Event::QuitInterrupt, Event::QuitInterrupt, ACCEPT]],
         "cancelled by user",
     ),
+];
+
+/// Sessions that wait for an event.
+const WAITING: [&'static [&'static [Event]]; 4] = [
+    &[&[]],
+    &[&[], &[TOGGLE, FAR]],
+    &[&[FAR, FAR]],
+    &[&[EDIT, TOGGLE, EDIT]],
 ];
 
 /// Returns a session on a state whose commit has `message`.
@@ -114,25 +175,16 @@ fn session_of(
     LiveSession::new(alloc, kind, state)
 }
 
-/// Hands in `batch`, if the session takes it as one batch.
-fn press<'a>(
-    alloc: Global,
-    session: LiveSession<'a>,
-    batch: &[Event],
-) -> Result<Turn<'a>, RecordError> {
-    if session.is_batch(batch) {
-        session.handle_all(batch)
-    } else {
-        Err(RecordError::Other(String::from_str(alloc, REFUSED)?))
-    }
-}
-
-/// Answers `bye` if `turn` asks for a message, and returns the turn after it.
+/// Answers `bye` as long as `turn` asks for a message, and returns the turn after that.
 fn answered<'a>(alloc: Global, turn: Turn<'a>) -> Result<Turn<'a>, RecordError> {
-    match turn {
-        Turn::Editing(editing) => editing.answer(String::from_str(alloc, "bye")?),
-        other => Ok(other),
+    let mut turn = turn;
+    for _ in 0..MESSAGES {
+        turn = match turn {
+            Turn::Editing(editing) => editing.answer(String::from_str(alloc, "bye")?)?,
+            other => return Ok(other),
+        };
     }
+    Ok(turn)
 }
 
 /// Hands in `batches` to `session`, and returns the last turn.
@@ -143,7 +195,7 @@ fn pressed<'a>(
 ) -> Result<Turn<'a>, RecordError> {
     let mut session = session;
     for batch in batches {
-        let turn = press(alloc, session, batch)?;
+        let turn = session.handle_all(batch)?;
         session = match answered(alloc, turn)? {
             Turn::Waiting(session) => session,
             ended => return Ok(ended),
@@ -173,6 +225,15 @@ fn check_live(rt: &impl Abort, alloc: Global, row: Row) -> Result<(), RecordErro
     Ok(())
 }
 
+/// Returns an input of `reads` in which each message becomes `bye`.
+fn bye_script(alloc: Global, reads: &[Read]) -> Result<ScriptInput, RecordError> {
+    let mut edits = Vec::new(alloc);
+    for _ in 0..MESSAGES {
+        edits.push(ScriptEdit::Answer(String::from_str(alloc, "bye")?))?;
+    }
+    ScriptInput::new(alloc, 80, 24, reads_of(alloc, reads)?, edits)
+}
+
 /// Checks the outcome of a run on the batches of `row`.
 fn check_run(rt: &impl Abort, alloc: Global, row: Row) -> Result<(), RecordError> {
     let (message, batches, wanted) = row;
@@ -180,7 +241,7 @@ fn check_run(rt: &impl Abort, alloc: Global, row: Row) -> Result<(), RecordError
     for batch in batches {
         reads.push(Read::Batch(batch))?;
     }
-    let mut input = script(alloc, 80, 24, &reads)?;
+    let mut input = bye_script(alloc, &reads)?;
     let mut screens = Screens::new(alloc);
     let outcome = run(rt, alloc, (message, None), &mut input, &mut screens);
     let text = words(alloc, &outcome)?;
@@ -191,12 +252,12 @@ fn check_run(rt: &impl Abort, alloc: Global, row: Row) -> Result<(), RecordError
 #[test]
 fn batches_are_reads_of_a_run(rt: HostRuntime) -> Result<(), RecordError> {
     let alloc = rt.alloc();
-    for row in ACCEPTED {
+    for row in ENDED {
         check_live(&rt, alloc, row)?;
         check_run(&rt, alloc, row)?;
     }
-    for row in OTHERS {
-        check_live(&rt, alloc, row)?;
+    for batches in WAITING {
+        check_live(&rt, alloc, (HELLO, batches, WAITS))?;
     }
     Ok(())
 }

@@ -23,7 +23,7 @@ fn read_of(alloc: Global, read: Read) -> Result<ScriptRead, RecordError> {
 }
 
 /// Returns the reads of a script for the constants `given`.
-fn reads_of(alloc: Global, given: &[Read]) -> Result<Vec<ScriptRead>, RecordError> {
+pub(crate) fn reads_of(alloc: Global, given: &[Read]) -> Result<Vec<ScriptRead>, RecordError> {
     let mut reads = Vec::new(alloc);
     for read in given {
         reads.push(read_of(alloc, *read)?)?;

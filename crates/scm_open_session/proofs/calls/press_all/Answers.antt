@@ -5,8 +5,8 @@ use Rattle.scm_open_session.proofs.calls.press_all.Goals as goal
 
 pub returns-in-Ok-clause-code : goal.returns-in-Ok-clause-code
 returns-in-Ok-clause-code c =
-    batch_code (events_of_bytes c.args.words.now) c.in-Ok.events.items c.as_slice.result.now (box_value c.args.session.now) c.hand_in_all.result
-    c.in-Ok.ensures.ok c.as_slice.ensures.value c.hand_in_all.ensures.code
+    batch_code (events_of_bytes c.args.words.now) c.in-Ok.events.items (box_value c.args.session.now) c.hand_in_all.result
+    c.in-Ok.ensures.ok c.hand_in_all.ensures.code
 
 pub returns-in-Ok-clause-pressed : goal.returns-in-Ok-clause-pressed
 returns-in-Ok-clause-pressed c = λ done.

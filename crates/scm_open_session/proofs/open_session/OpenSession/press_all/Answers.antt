@@ -1,11 +1,12 @@
 use Rattle.std.proofs.Common.{◌≡◌, subst, ap, ◌∙◌}
 use Rattle.scm_open_session.specs.declared.open_session.OpenSession.{OpenSession}
 use Rattle.scm_open_session.specs.declared.open_session.Stage.{Stage}
-use Rattle.scm_open_session.specs.Batches.{PressesAll, code_of_events_at}
+use Rattle.scm_open_session.specs.Stages.{is_waiting}
+use Rattle.scm_open_session.specs.Batches.{PressesAll}
 use Rattle.scm_open_session.proofs.open_session.OpenSession.press_all.Goals as goal
 
-pub returns-clause-code : goal.returns-clause-code
-returns-clause-code c = c.pressed_all-stage.ensures.code ∙ ap (λ (s : Stage). code_of_events_at c.args.events.now s) c.take_stage.ensures.stage
+pub returns-clause-is_waiting : goal.returns-clause-is_waiting
+returns-clause-is_waiting c = c.pressed_all-stage.ensures.is_waiting ∙ ap is_waiting c.take_stage.ensures.stage
 
 pub returns-clause-pressed : goal.returns-clause-pressed
 returns-clause-pressed c = λ done.

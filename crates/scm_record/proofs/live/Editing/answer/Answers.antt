@@ -1,47 +1,66 @@
-use Rattle.std.proofs.Common.{◌≡◌, true, sym, subst}
-use Rattle.std.proofs.lemmas.Result.{IfOk-weaker, IfErr-weaker}
+use Rattle.std.proofs.Common.{sym, subst}
+use Rattle.std.proofs.lemmas.Result.{err_from_is_err_and, IfOk-weaker, IfErr-weaker}
 use Rattle.std.specs.Prelude.{string_bytes}
-use Rattle.scm_record.specs.Session.{Session, IsDrawable, with_message}
+use Rattle.scm_record.specs.Session.{IsDrawable}
+use Rattle.scm_record.specs.Frames.{scene_of}
 use Rattle.scm_record.specs.Live.{LiveEdit}
-use Rattle.scm_record.specs.Batches.{is_batch}
+use Rattle.scm_record.specs.LiveCalls.{live_setting}
 use Rattle.scm_record.proofs.AcceptedLemmas.{message-keeps-drawable}
-use Rattle.scm_record.proofs.AskLemmas.{asks-batch}
-use Rattle.scm_record.proofs.LiveLemmas.{leads-after, fails-after, says-on, says-too-long}
+use Rattle.scm_record.proofs.RunLemmas.{reaches-trans}
+use Rattle.scm_record.proofs.LiveLemmas.{leads-after, fails-after, fails-memory, says-on, says-too-long}
 use Rattle.scm_record.proofs.live.Editing.answer.Goals as goal
 
 pub returns-then-not-is_short-clause-err : goal.returns-then-not-is_short-clause-err
-returns-then-not-is_short-clause-err c = λ drawn reads edits frames.
+returns-then-not-is_short-clause-err c = λ drawn reads edits frames seen.
     says-too-long c.args.self (string_bytes c.args.text) drawn reads edits frames c.if-not-is_short.ensures c.too_long.result c.too_long.ensures
+
+-- ---- the rest of the batch
+
+pub handle_each-requires : goal.handle_each-requires
+handle_each-requires c =
+    let shown = c.self.invariant.shown in
+    record { shown = (scene_of c.self.inside.kind shown.0, shown.1) }
+
+pub returns-in_err-end-clause-err : goal.returns-in_err-end-clause-err
+returns-in_err-end-clause-err c =
+    let p = err_from_is_err_and c.from_residual.result c.from_residual.ensures.1 in
+    rw (p.1, p.2) (λ drawn reads edits frames seen. fails-memory _ c.in_err-end.field-0.0 c.in_err-end.ensures.err)
 
 pub turn_after-requires-clause-drawable : goal.turn_after-requires-clause-drawable
 turn_after-requires-clause-drawable c =
-    subst IsDrawable (sym c.set_message.ensures)
-    (message-keeps-drawable c.self.inside.session c.self.inside.commit (string_bytes c.args.text) (sym c.if-not-is_short.ensures) c.self.invariant.busy.drawable)
+    c.in_ok-end.ensures.ok.drawable
+    (subst IsDrawable (sym c.set_message.ensures)
+    (message-keeps-drawable c.self.inside.session c.self.inside.commit (string_bytes c.args.text) (sym c.if-not-is_short.ensures) c.self.invariant.drawable))
 
-pub turn_after-requires-clause-batch : goal.turn_after-requires-clause-batch
-turn_after-requires-clause-batch c =
-    subst (λ (s : Session). is_batch s s.pending ≡ true) (sym c.set_message.ensures)
-    (asks-batch (with_message c.self.inside.session c.self.inside.commit (string_bytes c.args.text)) c.self.inside.session.pending c.self.invariant.busy.last)
+pub turn_after-requires-clause-all : goal.turn_after-requires-clause-all
+turn_after-requires-clause-all c = c.in_ok-end.ensures.ok.all
 
-pub turn_after-requires-clause-sized : goal.turn_after-requires-clause-sized
-turn_after-requires-clause-sized c = c.self.invariant.sized
+pub turn_after-requires-clause-said : goal.turn_after-requires-clause-said
+turn_after-requires-clause-said c = c.in_ok-end.ensures.ok.said
+
+pub turn_after-requires-clause-shown : goal.turn_after-requires-clause-shown
+turn_after-requires-clause-shown c = c.self.invariant.shown
 
 pub returns-clause-ok : goal.returns-clause-ok
 returns-clause-ok c =
-    let a : LiveEdit = record { session = c.self.inside.session; kind = c.self.inside.kind; commit = c.self.inside.commit } in
+    let a : LiveEdit = record { session = c.self.inside.session; kind = c.self.inside.kind; commit = c.self.inside.commit; frame = c.self.inside.frame; rest = c.self.inside.rest.items } in
     rw (sym c.self.view_is)
-    (IfOk-weaker c.turn_after.result _ _ (λ turn leads drawn reads edits frames.
+    (IfOk-weaker c.turn_after.result _ _ (λ turn leads drawn reads edits frames seen.
     leads-after _ _ a.kind reads edits turn
-    (says-on a (string_bytes c.args.text) drawn reads edits frames c.set_message.new.self c.set_message.ensures c.if-not-is_short.ensures)
-    (leads drawn reads edits frames))
+    (reaches-trans
+    (says-on a (string_bytes c.args.text) drawn reads edits frames c.set_message.new.self c.deref.result.now c.set_message.ensures c.deref.ensures.value c.if-not-is_short.ensures)
+    (c.in_ok-end.ensures.ok.reached (live_setting a.kind reads edits) drawn frames seen))
+    (leads drawn reads edits frames seen))
     c.turn_after.ensures.ok)
 
 pub returns-clause-err : goal.returns-clause-err
 returns-clause-err c =
-    let a : LiveEdit = record { session = c.self.inside.session; kind = c.self.inside.kind; commit = c.self.inside.commit } in
+    let a : LiveEdit = record { session = c.self.inside.session; kind = c.self.inside.kind; commit = c.self.inside.commit; frame = c.self.inside.frame; rest = c.self.inside.rest.items } in
     rw (sym c.self.view_is)
-    (IfErr-weaker c.turn_after.result _ _ (λ e fails drawn reads edits frames.
+    (IfErr-weaker c.turn_after.result _ _ (λ e fails drawn reads edits frames seen.
     fails-after _ _ e
-    (says-on a (string_bytes c.args.text) drawn reads edits frames c.set_message.new.self c.set_message.ensures c.if-not-is_short.ensures)
-    (fails drawn reads edits frames))
+    (reaches-trans
+    (says-on a (string_bytes c.args.text) drawn reads edits frames c.set_message.new.self c.deref.result.now c.set_message.ensures c.deref.ensures.value c.if-not-is_short.ensures)
+    (c.in_ok-end.ensures.ok.reached (live_setting a.kind reads edits) drawn frames seen))
+    (fails drawn reads edits frames seen))
     c.turn_after.ensures.err)

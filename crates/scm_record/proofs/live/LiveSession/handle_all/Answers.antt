@@ -1,4 +1,4 @@
-use Rattle.std.proofs.Common.{sym, refl, subst}
+use Rattle.std.proofs.Common.{sym, subst}
 use Rattle.std.proofs.lemmas.Result.{err_from_is_err_and, IfOk-weaker, IfErr-weaker}
 use Rattle.scm_record.specs.Session.{Session}
 use Rattle.scm_record.specs.Frames.{scene_of}
@@ -10,11 +10,8 @@ use Rattle.scm_record.proofs.LiveLemmas.{leads-after, fails-after, fails-memory,
 use Rattle.scm_record.proofs.CurrentLemmas.{shown-current}
 use Rattle.scm_record.proofs.live.LiveSession.handle_all.Goals as goal
 
-pub handle_each-requires-clause-calm : goal.handle_each-requires-clause-calm
-handle_each-requires-clause-calm c = c.self.invariant.calm.calm
-
-pub handle_each-requires-clause-shown : goal.handle_each-requires-clause-shown
-handle_each-requires-clause-shown c = (scene_of c.self.inside.kind c.self.inside.session, c.self.invariant.shown)
+pub handle_each-requires : goal.handle_each-requires
+handle_each-requires c = record { shown = (scene_of c.self.inside.kind c.self.inside.session, c.self.invariant.shown) }
 
 pub returns-in_err-end-clause-err : goal.returns-in_err-end-clause-err
 returns-in_err-end-clause-err c =
@@ -24,14 +21,14 @@ returns-in_err-end-clause-err c =
 pub turn_after-requires-clause-drawable : goal.turn_after-requires-clause-drawable
 turn_after-requires-clause-drawable c = c.in_ok-end.ensures.ok.drawable c.self.invariant.calm.drawable
 
-pub turn_after-requires-clause-batch : goal.turn_after-requires-clause-batch
-turn_after-requires-clause-batch c = c.in_ok-end.ensures.ok.pending
+pub turn_after-requires-clause-all : goal.turn_after-requires-clause-all
+turn_after-requires-clause-all c = c.in_ok-end.ensures.ok.all
 
 pub turn_after-requires-clause-said : goal.turn_after-requires-clause-said
 turn_after-requires-clause-said c = c.in_ok-end.ensures.ok.said
 
-pub turn_after-requires-clause-sized : goal.turn_after-requires-clause-sized
-turn_after-requires-clause-sized c = record { width = c.self.invariant.shown.width; height = c.self.invariant.shown.height }
+pub turn_after-requires-clause-shown : goal.turn_after-requires-clause-shown
+turn_after-requires-clause-shown c = (c.self.inside.session, c.self.invariant.shown)
 
 pub turn_after-requires-clause-current : goal.turn_after-requires-clause-current
 turn_after-requires-clause-current c = λ kept.
@@ -46,8 +43,8 @@ returns-clause-ok c =
     (IfOk-weaker c.turn_after.result _ _ (λ turn leads reads edits frames.
     leads-after _ _ l.kind reads edits turn
     (reaches-trans (reads-batch l c.args.events.now reads edits frames c.self.invariant.calm.calm)
-    (c.in_ok-end.ensures.ok.reached (live_setting l.kind reads edits) l.session frames c.self.invariant.shown refl))
-    (leads l.session reads edits frames))
+    (c.in_ok-end.ensures.ok.reached (live_setting l.kind reads edits) l.session frames c.self.invariant.shown))
+    (leads l.session reads edits frames c.self.invariant.shown))
     c.turn_after.ensures.ok)
 
 pub returns-clause-err : goal.returns-clause-err
@@ -57,6 +54,6 @@ returns-clause-err c =
     (IfErr-weaker c.turn_after.result _ _ (λ e fails reads edits frames.
     fails-after _ _ e
     (reaches-trans (reads-batch l c.args.events.now reads edits frames c.self.invariant.calm.calm)
-    (c.in_ok-end.ensures.ok.reached (live_setting l.kind reads edits) l.session frames c.self.invariant.shown refl))
-    (fails l.session reads edits frames))
+    (c.in_ok-end.ensures.ok.reached (live_setting l.kind reads edits) l.session frames c.self.invariant.shown))
+    (fails l.session reads edits frames c.self.invariant.shown))
     c.turn_after.ensures.err)

@@ -4,7 +4,7 @@ use Rattle.scm_record.proofs.HandleLemmas.{LeadsTo}
 use Rattle.scm_record.proofs.live.batches.handle_each.Given as goal
 
 -- the events so far lead here
-abbrev pub invariant-loop-event : goal.invariant-loop-event
-invariant-loop-event l =
+abbrev pub invariant-loop-index : goal.invariant-loop-index
+invariant-loop-index l =
     (IsTrue l.is_kept → l.session ≡ l.fn.session)
-    × LeadsTo (λ (scene : Scene). IsSceneOf scene l.frame) l.events l.fn.session l.session l.event-index
+    × LeadsTo (λ (scene : Scene). IsSceneOf scene l.frame) l.events l.fn.session l.session l.index
