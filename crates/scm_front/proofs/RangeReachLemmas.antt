@@ -23,6 +23,7 @@ use Rattle.scm_front_items.specs.Steps.{file_number, is_file_within, runs_of_ran
 use Rattle.scm_front_items.specs.Targets.{is_open_deed, key_of}
 use Rattle.scm_front_items.proofs.DeedRunLemmas.{StaysOutside, files-restore, lines-inside, number-outside, toggle-outside}
 use Rattle.scm_front_items.proofs.PlaceLemmas.{shape}
+use Rattle.scm_front_items.proofs.RunPlaceLemmas.{runs-of-files-own}
 use Rattle.scm_front_items.proofs.ShapeLemmas.{shape-toggled}
 use Rattle.scm_front.specs.Deeds.{DeedDone, DeedsLead, RoundLeads, does, done, ends, event_of, is_due, leaves, returns, skips}
 use Rattle.scm_front.specs.Fronts.{files_of, range_deeds, range_lines, selection_of}
@@ -163,5 +164,5 @@ module _ (l : Live) (anchor : SelectionKey) where
   range-remembers turn old new before {deeds} {back} calm taken same led r =
       let round = subst (λ (list : List Deed). RoundLeads l list back led.0 turn) same led.1 in
       turn-remembers (files_of l) (runs_of_range anchor (selection_of l) (files_of l)) (Stays (files_of l) first_file last_file)
-      (λ after h. files-restore (files_of l) after h.sizes first_file last_file h.outside) old new before taken turn
+      (λ after h. files-restore (files_of l) after h.sizes first_file last_file h.outside) (runs-of-files-own (files_of l) first_file last_file) old new before taken turn
       (round-stays (files_of l) first_file last_file round range-inside calm (record { sizes = refl; outside = λ f out. refl })) r

@@ -15,9 +15,12 @@ use Rattle.scm_record.specs.declared.live.Turn.TheVariants as turns
 use Rattle.scm_front_items.specs.declared.history.History.{History}
 use Rattle.scm_front_items.specs.declared.runs.Run.{Run}
 use Rattle.scm_front_items.specs.Runs.{marks_of_files, marks_with}
-use Rattle.scm_front_items.specs.Steps.{changed_runs, changed_step, is_as_run, runs_of_key, step_of}
+use Rattle.scm_front_items.specs.Steps.{agree, changed_runs, changed_step, is_as_run, runs_of_key, step_of}
 use Rattle.scm_front_items.proofs.DeedRunLemmas.{all-restores}
-use Rattle.scm_front_items.proofs.PlaceLemmas.{shape, same, step-restores}
+use Rattle.scm_front_items.specs.declared.runs.Step.{Step}
+use Rattle.std.proofs.lemmas.Bool.{and_parts}
+use Rattle.std.specs.Prelude.{not}
+use Rattle.scm_front_items.proofs.PlaceLemmas.{Marks, inner, inner-files, shape, same, step-restores}
 use Rattle.scm_front_items.proofs.RunPlaceLemmas.{runs-of-files-own, runs-of-key-own}
 use Rattle.scm_front_items.proofs.ToggleRunLemmas.{toggle-restores}
 use Rattle.scm_front.specs.Begun.{HasBegun}
@@ -53,6 +56,19 @@ led-back files new reach (by_all is e) = subst (λ (r : Reach). LeadsBack files 
 none-changed : (files new : List File) (runs : List Run) → changed_runs new runs ≡ [] → LeadsBack files new runs → marks_of_files new ≡ marks_of_files files
 none-changed files new runs none back = ap (λ (list : List Run). marks_with (step_of list) (marks_of_files new)) (sym none) ∙ back
 
+-- a run of the files has their marks in files with the same marks
+same-as-run : (files new : List File) (r : Run) → marks_of_files new ≡ marks_of_files files → is_as_run new r ≡ is_as_run files r
+same-as-run files new r e =
+    ap (agree r.first r.marks)
+    (sym (inner-files new r.file r.section) ∙ ap (λ (m : Marks). inner m r.file r.section) e ∙ inner-files files r.file r.section)
+
+-- so none of them changed if no mark did
+none-if-same : (files new : List File) (runs : List Run) → list_all (is_as_run files) runs ≡ true → marks_of_files new ≡ marks_of_files files → changed_runs new runs ≡ []
+none-if-same files new [] own e = refl
+none-if-same files new (r ∷ rs) own e =
+    let parts = and_parts (is_as_run files r) (list_all (is_as_run files) rs) own in
+    ap (λ (b : Bool). cond (not b) (r ∷ changed_runs new rs) (changed_runs new rs)) (same-as-run files new r e ∙ parts.0) ∙ none-if-same files new rs parts.1 e
+
 -- the files of a turn, if it has some
 abbrev pub FilesAt : (List File → Type 0) → Turn → Type 0
 FilesAt P (turns.Waiting l) = P l.session.shown.state.files
@@ -64,15 +80,19 @@ known P before runs e h = subst (λ (o : Option (List Run)). IfSome o P) e h
 
 -- runs that lead back from whatever an action may leave are what is to be remembered of it
 module _ (files : List File) (all : List Run) (P : List File → Type 0) (back : (after : List File) → P after → LeadsBack files after all)
-    (old new : History) (before : Option (List Run)) (taken : IfSome before (λ (runs : List Run). runs ≡ all)) where
+    (own : list_all (is_as_run files) all ≡ true) (old new : History) (before : Option (List Run)) (taken : IfSome before (λ (runs : List Run). runs ≡ all)) where
   back-by : (after : List File) (runs : List Run) → before ≡ Some runs → P after → LeadsBack files after runs
   back-by after runs e h =
       subst (λ (list : List Run). LeadsBack files after list) (sym (known (λ (list : List Run). list ≡ all) before runs e taken)) (back after h)
 
+  own-runs : (runs : List Run) → before ≡ Some runs → list_all (is_as_run files) runs ≡ true
+  own-runs runs e = subst (λ (list : List Run). list_all (is_as_run files) list ≡ true) (sym (known (λ (list : List Run). list ≡ all) before runs e taken)) own
+
   recorded-remembers : (after : List File) → P after → Records old before after new → Remembers (marks_of_files files) (marks_of_files after) old new
   recorded-remembers after h (forgets none e) = forgotten e
   recorded-remembers after h (stays runs e none is) = unchanged (none-changed files after runs none (back-by after runs e h)) is
-  recorded-remembers after h (keeps runs e step redos) = remembered (changed_step after runs) (back-by after runs e h) step redos
+  recorded-remembers after h (keeps runs e some step redos) =
+      remembered (changed_step after runs) (λ same_marks. some (none-if-same files after runs (own-runs runs e) same_marks)) (back-by after runs e h) step redos
 
   unread-remembers : (after : List File) → P after → RecordsUnread old before new → Remembers (marks_of_files files) (marks_of_files after) old new
   unread-remembers after h (forgets_all e) = forgotten e
@@ -90,11 +110,20 @@ empty-is runs b e is = nil_from_length runs (none (length runs) (sym e ∙ is))
     none : (n : ℕ) → (n == 0) ≡ true → n ≡ 0
     none n h = grind (arith, nat_tests)
 
+-- a step that is said to have runs
+pub some-changed : (files : List File) (runs : List Run) (step : Step) (b : Bool) → step ≡ changed_step files runs → b ≡ (length step.runs == 0) → b ≡ false
+    → changed_runs files runs ≡ [] → ⊥
+some-changed files runs step b is e f none =
+    no (sym f ∙ e ∙ ap (λ (list : List Run). length list == 0) (ap (λ (s : Step). s.runs) is ∙ none))
+  where
+    no : false ≡ true → ⊥
+    no q = cc q
+
 -- what is remembered of an action within a reach
 reach-remembers : (files : List File) (reach : Reach) (old new : History) (before : Option (List Run)) → IfSome before (λ (runs : List Run). runs ≡ runs_within files reach)
     → (turn : Turn) → FilesAt (After files reach) turn → RecordsAt old before turn new → RemembersAt (marks_of_files files) old turn new
 reach-remembers files reach old new before taken turn h r =
-    turn-remembers files (runs_within files reach) (After files reach) (λ after k. led-back files after reach k) old new before taken turn h r
+    turn-remembers files (runs_within files reach) (After files reach) (λ after k. led-back files after reach k) (within-own files reach) old new before taken turn h r
 
 -- ---- one event
 

@@ -1,6 +1,10 @@
 -- The marks after an undo and after a redo.
-use Rattle.std.proofs.Common.{◌≡◌, ℕ, zero, suc, Bool, false, List, [], ◌∷◌, ◌++◌, drop, refl, sym, ap, ◌∙◌, subst}
+use Rattle.scm_types.specs.declared.keys.SelectionKey.{SelectionKey}
+use Rattle.scm_types.specs.declared.keys.SelectionKey.TheVariants as keys
+use Rattle.scm_selection.specs.KeyLists.{is_line}
+use Rattle.std.proofs.Common.{◌≡◌, ℕ, zero, suc, Bool, true, false, cond, List, [], ◌∷◌, ◌++◌, drop, refl, sym, ap, ◌∙◌, subst}
 use Rattle.std.proofs.lemmas.List.{same_from_push}
+use Rattle.scm_record.specs.Live.{Live}
 use Rattle.scm_record.specs.LiveCalls.{Call}
 use Rattle.scm_record.specs.declared.live.Turn.{Turn}
 use Rattle.scm_record.specs.declared.live.Turn.TheVariants as turns
@@ -21,10 +25,10 @@ use Rattle.scm_front.specs.declared.kept.Notice.TheVariants as notices
 use Rattle.scm_front.specs.declared.layer.Front.{Front}
 use Rattle.scm_front.specs.declared.layer.FrontTurn.{FrontTurn}
 use Rattle.scm_front.specs.declared.layer.FrontTurn.TheVariants.{Waiting}
-use Rattle.scm_front.specs.Fronts.{Does, HasMarks, files_of, front, front_of, ignores, jumps, lacks, marks, marks_of, misses, passes, ranges, restores, restoring, seeks, types}
-use Rattle.scm_front.specs.Asking.{with_word}
-use Rattle.scm_front.specs.Keeping.{done_word, nothing_left, other_way, steps_of}
-use Rattle.scm_front.specs.Recording.{Remembers, RemembersAt, Returns, back_of, forgotten, remembered, unchanged}
+use Rattle.scm_front.specs.Fronts.{Does, HasMarks, files_of, is_elsewhere, is_restoring, selection_of, front, front_of, ignores, jumps, lacks, marks, marks_of, misses, passes, ranges, restores, restoring, seeks, types}
+use Rattle.scm_front.specs.Asking.{after_typing, with_word}
+use Rattle.scm_front.specs.Keeping.{after_range, anchored, done_word, is_none, nothing_left, other_way, saying, steps_of}
+use Rattle.scm_front.specs.Recording.{Recalls, Remembers, RemembersAt, Returns, back_of, forgotten, remembered, unchanged}
 
 -- ---- the newest step
 
@@ -159,7 +163,7 @@ pub undone : (before : List (List (List Bool))) (old : History) (g h : Front) �
     → Done g h Up → marks_of h ≡ before
 undone before old g h (unchanged e same) changed d = absurd (changed e)
 undone before old g h (forgotten e) changed d = absurd (nothing-last d.rest d.step (sym (ap (λ (x : History). x.undos) e) ∙ d.newest))
-undone before old g h (remembered step leads k redos) changed d =
+undone before old g h (remembered step some leads k redos) changed d =
     let same = newest-is old.undos g.kept.history.undos d.rest step d.step k d.newest in
     d.now ∙ ap (λ (s : Step). marks_with s (marks_of g)) (sym same) ∙ leads
 
@@ -187,3 +191,72 @@ redo-undo f g h calls more undo said redo told = back-again f g h Up (done-by un
 pub undo-redo : (f g h : Front) (calls more : List Call) → Does f Redo calls (Waiting g) → g.kept.word ≡ notices.Redone
     → Does g Undo more (Waiting h) → h.kept.word ≡ notices.Undone → marks_of h ≡ marks_of f
 undo-redo f g h calls more redo said undo told = back-again f g h Down (done-by redo Down refl g refl said) (done-by undo Up refl h refl told)
+
+-- ---- later undos
+
+-- what changed marks is recalled
+recalled : (before : List (List (List Bool))) (old : History) (g : Front) → Remembers before (marks_of g) old g.kept.history → (marks_of g ≡ before → ⊥)
+    → Recalls before (marks_of g) g.kept.history
+recalled before old g (unchanged e same) changed rest step is = absurd (changed e)
+recalled before old g (forgotten e) changed rest step is = absurd (nothing-last rest step (sym (ap (λ (x : History). x.undos) e) ∙ is))
+recalled before old g (remembered one some leads k redos) changed rest step is =
+    ap (λ (s : Step). marks_with s (marks_of g)) (sym (newest-is old.undos g.kept.history.undos rest one step k is)) ∙ leads
+
+pub recalls-event : (f g : Front) (event : Event) (calls : List Call) → Does f (Pass event) calls (Waiting g) → (marks_of g ≡ marks_of f → ⊥)
+    → Recalls (marks_of f) (marks_of g) g.kept.history
+recalls-event f g event calls does changed = recalled (marks_of f) f.kept.history g (by-pass does event refl g refl) changed
+
+pub recalls-range : (f g : Front) (calls : List Call) → Does f Mark calls (Waiting g) → (marks_of g ≡ marks_of f → ⊥) → Recalls (marks_of f) (marks_of g) g.kept.history
+recalls-range f g calls does changed = recalled (marks_of f) f.kept.history g (by-mark does refl g refl) changed
+
+-- it stays so as long as no mark changes
+same-history : (before now new_marks : List (List (List Bool))) (old new : History) → new ≡ old → new_marks ≡ now → Recalls before now old → Recalls before new_marks new
+same-history before now new_marks old new e m h rest step is = ap (marks_with step) m ∙ h rest step (sym (ap (λ (x : History). x.undos) e) ∙ is)
+
+kept-recalls : (before : List (List (List Bool))) (f g : Front) → Remembers (marks_of f) (marks_of g) f.kept.history g.kept.history → marks_of g ≡ marks_of f
+    → Recalls before (marks_of f) f.kept.history → Recalls before (marks_of g) g.kept.history
+kept-recalls before f g (unchanged e same) m h = same-history before (marks_of f) (marks_of g) f.kept.history g.kept.history same m h
+kept-recalls before f g (forgotten e) m h = λ rest step is. absurd (nothing-last rest step (sym (ap (λ (x : History). x.undos) e) ∙ is))
+kept-recalls before f g (remembered one some leads k redos) m h = absurd (some m)
+
+range-history : (kept : Kept) (selection : SelectionKey) → (after_range kept selection).history ≡ kept.history
+range-history kept selection = by-tests (is_none kept.anchor) (is_line selection)
+  where
+    by-tests : (a b : Bool) → (cond a (cond b (saying (anchored kept selection) notices.Nothing) (saying kept notices.NoLine)) (saying (anchored kept keys.None) notices.Nothing)).history ≡ kept.history
+    by-tests true true = refl
+    by-tests true false = refl
+    by-tests false true = refl
+    by-tests false false = refl
+
+-- a front that keeps the history
+still-recalls : (before : List (List (List Bool))) (f g : Front) (l : Live) (query : Query) (kept : Kept) → Waiting (front l query kept) ≡ Waiting g → kept.history ≡ f.kept.history
+    → marks_of g ≡ marks_of f → Recalls before (marks_of f) f.kept.history → Recalls before (marks_of g) g.kept.history
+still-recalls before f g l query kept e same m h =
+    let is : front l query kept ≡ g = cc e in
+    same-history before (marks_of f) (marks_of g) f.kept.history g.kept.history (sym (ap (λ (x : Front). x.kept.history) is) ∙ same) m h
+
+pub later-recalls : (before : List (List (List Bool))) {f : Front} {action : Action} {calls : List Call} {turn : FrontTurn} → Does f action calls turn → is_restoring action ≡ false
+    → (g : Front) → turn ≡ Waiting g → marks_of g ≡ marks_of f → Recalls before (marks_of f) f.kept.history → Recalls before (marks_of g) g.kept.history
+later-recalls before (passes {f = f} turn kept leads as_kept remembers) free g e m h = kept-recalls before f g (of-turn (marks_of f) f.kept.history turn _ kept g e remembers) m h
+later-recalls before (marks {f = f} turn kept leads as_kept remembers) free g e m h = kept-recalls before f g (of-turn (marks_of f) f.kept.history turn _ kept g e remembers) m h
+later-recalls before (types {f = f} {typing = typing}) free g e m h = still-recalls before f g f.beneath (after_typing typing f.query) (saying f.kept notices.Nothing) e refl m h
+later-recalls before (misses {f = f} x) free g e m h = still-recalls before f g f.beneath (with_word f.query true) f.kept e refl m h
+later-recalls before (jumps {f = f} {key = key} {next = next} x y) free g e m h =
+    still-recalls before f g next (with_word f.query (is_elsewhere key next)) (saying f.kept notices.Nothing) e refl m h
+later-recalls before (seeks does) free g e m h = later-recalls before does refl g e m h
+later-recalls before (ranges {f = f}) free g e m h =
+    still-recalls before f g f.beneath (with_word f.query false) (after_range f.kept (selection_of f.beneath)) e (range-history f.kept (selection_of f.beneath)) m h
+later-recalls before (lacks Up kept x y) free g e m h = absurd (cc free)
+later-recalls before (lacks Down kept x y) free g e m h = absurd (cc free)
+later-recalls before (restores Up rest step turn kept a b c d r) free g e m h = absurd (cc free)
+later-recalls before (restores Down rest step turn kept a b c d r) free g e m h = absurd (cc free)
+later-recalls before (ignores {f = f}) free g e m h =
+    let is : f ≡ g = cc e in
+    subst (λ (x : Front). Recalls before (marks_of x) x.kept.history) is h
+
+-- and then an undo leads back
+pub undo-recalled : (before : List (List (List Bool))) (f g : Front) (calls : List Call) → Recalls before (marks_of f) f.kept.history → Does f Undo calls (Waiting g)
+    → g.kept.word ≡ notices.Undone → marks_of g ≡ before
+undo-recalled before f g calls h undo said =
+    let d = done-by undo Up refl g refl said in
+    d.now ∙ h d.rest d.step d.newest

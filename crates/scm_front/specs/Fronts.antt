@@ -131,6 +131,18 @@ RemembersIn before old (Waiting f) = RemembersAt before old (turns.Waiting f.ben
 RemembersIn before old (Editing a) = RemembersAt before old (turns.Editing a.beneath) a.kept.history
 RemembersIn before old (Accepted state) = RemembersAt before old (turns.Accepted state) old
 
+-- whether an action restores marks
+abbrev pub is_restoring : Action → Bool
+is_restoring (Pass event) = false
+is_restoring (Edit typing) = false
+is_restoring Seek = false
+is_restoring (Again way) = false
+is_restoring Range = false
+is_restoring Mark = false
+is_restoring Undo = true
+is_restoring Redo = true
+is_restoring Ignore = false
+
 -- the action that restores marks in a direction
 abbrev pub restoring : Way → Action
 restoring Up = Undo

@@ -1,5 +1,5 @@
 -- Which marks an event may change, and what a history keeps of an action.
-use Rattle.std.specs.Prelude.{◌≡◌, ℕ, Bool, true, false, List, [], length, Option, Some, None, if◌then◌else◌}
+use Rattle.std.specs.Prelude.{◌≡◌, ℕ, Bool, true, false, List, [], ◌∷◌, ◌++◌, length, Option, Some, None, if◌then◌else◌}
 use Rattle.std.specs.List.{list_any}
 use Rattle.scm_types.specs.declared.file.File.{File}
 use Rattle.scm_types.specs.declared.keys.SelectionKey.{SelectionKey}
@@ -132,8 +132,8 @@ runs_within files All = runs_of_files 0 (length files) files
 pub data Records (old : History) (before : Option (List Run)) (files : List File) (new : History) : Type 0 where
   forgets : before ≡ None → new ≡ no_history → Records old before files new
   stays : (runs : List Run) → before ≡ Some runs → changed_runs files runs ≡ [] → new ≡ old → Records old before files new
-  keeps : (runs : List Run) → before ≡ Some runs → KeepsStep old.undos (changed_step files runs) new.undos → new.redos ≡ []
-      → Records old before files new
+  keeps : (runs : List Run) → before ≡ Some runs → (changed_runs files runs ≡ [] → ⊥) → KeepsStep old.undos (changed_step files runs) new.undos
+      → new.redos ≡ [] → Records old before files new
 
 -- the same where the files are not read: nothing is kept, unless there were no runs
 pub data RecordsUnread (old : History) (before : Option (List Run)) (new : History) : Type 0 where
@@ -163,7 +163,8 @@ pub record Returns (way : Way) (rest : List Step) (back : Step) (old new : Histo
 -- back, or nothing is kept
 pub data Remembers (before after : List (List (List Bool))) (old new : History) : Type 0 where
   unchanged : after ≡ before → new ≡ old → Remembers before after old new
-  remembered : (step : Step) → marks_with step after ≡ before → KeepsStep old.undos step new.undos → new.redos ≡ [] → Remembers before after old new
+  remembered : (step : Step) → (after ≡ before → ⊥) → marks_with step after ≡ before → KeepsStep old.undos step new.undos → new.redos ≡ []
+      → Remembers before after old new
   forgotten : new ≡ no_history → Remembers before after old new
 
 -- the same by the turn to which the action led
@@ -171,3 +172,7 @@ abbrev pub RemembersAt : List (List (List Bool)) → History → Turn → Histor
 RemembersAt before old (turns.Waiting l) new = Remembers before (marks_of_files l.session.shown.state.files) old new
 RemembersAt before old (turns.Editing a) new = Remembers before (marks_of_files a.session.shown.state.files) old new
 RemembersAt before old (turns.Accepted state) new = Unit {0}
+
+-- the newest step to undo, if there is one, leads from the marks `now` to `before`
+abbrev pub Recalls : (before now : List (List (List Bool))) → History → Type 0
+Recalls before now history = (rest : List Step) (step : Step) → history.undos ≡ rest ++ step ∷ [] → marks_with step now ≡ before

@@ -1,5 +1,5 @@
 //! What is true of a front, whatever is typed.
-ghost use Rattle.std.specs.Prelude.{◌≡◌, List, [], ◌∷◌, IsTrue, None, false};
+ghost use Rattle.std.specs.Prelude.{◌≡◌, Bool, List, [], ◌∷◌, IsTrue, None, false};
 ghost use Rattle.scm_input.specs.declared.events.Event.{Event};
 ghost use Rattle.scm_input.specs.declared.events.Event.TheVariants.{EnsureSelectionInViewport, FocusNext, ToggleItem};
 ghost use Rattle.scm_record.specs.Session.{Session, after_frame, after_select, after_toggle, visible};
@@ -22,7 +22,9 @@ ghost use Rattle.scm_types.specs.declared.keys.SelectionKey.{SelectionKey};
 ghost use Rattle.scm_front_items.specs.Targets.{after_deeds};
 ghost use Rattle.scm_front.specs.Deeds.{RoundLeads};
 ghost use Rattle.scm_front.specs.Free.{IsFree};
-ghost use Rattle.scm_front.specs.Fronts.{Does, FrontPath, Input, beneath_of, files_of, marks_of, range_deeds, selection_of};
+ghost use Rattle.scm_front.specs.Fronts.{Does, FrontPath, Input, beneath_of, files_of, is_restoring, marks_of, range_deeds, selection_of};
+ghost use Rattle.scm_front.specs.Recording.{Recalls};
+ghost use Rattle.scm_front.specs.declared.actions.Action.{Action};
 ghost use Rattle.scm_front.specs.declared.actions.Action.TheVariants.{Mark, Pass, Redo, Undo};
 ghost use Rattle.scm_front.specs.declared.kept.Notice.TheVariants.{Redone, Undone};
 ghost use Rattle.scm_front.specs.declared.layer.Front.{Front};
@@ -72,8 +74,8 @@ pub fn ranges_are_toggles()
 /// Proves what an undo restores.
 ///
 /// If an event or a range changed marks, and the layer says that it is undone, all marks are those before
-/// the event or the range. A redo after an undo leads to the marks before the undo, and an undo after a
-/// redo to those before the redo.
+/// the event or the range. Actions that change no mark may come between. A redo after an undo leads to the
+/// marks before the undo, and an undo after a redo to those before the redo.
 ///
 /// This is a law: the function does nothing, and is there for its contract.
 pub fn undos_restore_marks()
@@ -85,6 +87,20 @@ pub fn undos_restore_marks()
         → Does f Mark calls (FrontTurn.Waiting g) → (marks_of g ≡ marks_of f → ⊥)
         → Does g Undo more (FrontTurn.Waiting h) → h.kept.word ≡ Undone
         → marks_of h ≡ marks_of f }
+    // the history recalls the marks before a change, until other marks change
+    ensures recalls_event { (f g : Front) (event : Event) (calls : List Call)
+        → Does f (Pass event) calls (FrontTurn.Waiting g) → (marks_of g ≡ marks_of f → ⊥)
+        → Recalls (marks_of f) (marks_of g) g.kept.history }
+    ensures recalls_range { (f g : Front) (calls : List Call)
+        → Does f Mark calls (FrontTurn.Waiting g) → (marks_of g ≡ marks_of f → ⊥)
+        → Recalls (marks_of f) (marks_of g) g.kept.history }
+    ensures later { (before : List (List (List Bool))) (f g : Front) (action : Action)
+        (calls : List Call) → Recalls before (marks_of f) f.kept.history
+        → Does f action calls (FrontTurn.Waiting g) → is_restoring action ≡ false
+        → marks_of g ≡ marks_of f → Recalls before (marks_of g) g.kept.history }
+    ensures undo { (before : List (List (List Bool))) (f g : Front) (calls : List Call)
+        → Recalls before (marks_of f) f.kept.history → Does f Undo calls (FrontTurn.Waiting g)
+        → g.kept.word ≡ Undone → marks_of g ≡ before }
     ensures redo { (f g h : Front) (calls more : List Call)
         → Does f Undo calls (FrontTurn.Waiting g) → g.kept.word ≡ Undone
         → Does g Redo more (FrontTurn.Waiting h) → h.kept.word ≡ Redone
