@@ -8,7 +8,8 @@ use Rattle.scm_types.specs.declared.file.File.{File}
 use Rattle.scm_input.specs.Script.{Batch}
 use Rattle.scm_input.specs.declared.events.Event.{Event}
 use Rattle.scm_record.specs.Live.{Live, LiveEdit}
-use Rattle.scm_record.specs.LiveCalls.{BatchLeads, Call, EventLeads, MessageLeads, Path, press, press_all, resize, say, still, waiting_point}
+use Rattle.scm_record.specs.Session.{Session}
+use Rattle.scm_record.specs.LiveCalls.{BatchLeads, Call, EventLeads, IsDrawnFor, MessageLeads, Path, press, press_all, resize, say, still, waiting_point}
 use Rattle.scm_record.specs.Run.{Point, Reaches}
 use Rattle.scm_record.specs.declared.live.Turn.{Turn}
 use Rattle.scm_record.specs.declared.live.Turn.TheVariants as turns
@@ -129,7 +130,7 @@ reach-remembers files reach old new before taken turn h r =
 
 pub event-after : (l : Live) (event : Event) (turn : Turn) → l.session.pending ≡ [] → EventLeads l event turn → FilesAt (After (files_of l) (reach_of l event)) turn
 event-after l event (turns.Waiting next) calm g = event-reach l event _ calm (g [] [] 0).3
-event-after l event (turns.Editing a) calm g = event-reach l event _ calm (g [] [] 0).3
+event-after l event (turns.Editing a) calm g = event-reach l event _ calm (g [] [] 0).4
 event-after l event (turns.Accepted state) calm g = tt
 
 pub event-remembers : (l : Live) (event : Event) (turn : Turn) (old new : History) (before : Option (List Run)) → l.session.pending ≡ []
@@ -165,18 +166,18 @@ batch-remembers l list turn old new before calm taken g r =
 
     by-turn : (t : Turn) → BatchLeads l list t → (b : Bool) → list_any (λ (e : Event). may_mark (effect_of e)) list ≡ b → FilesAt (After (files_of l) (cond b All Nothing)) t
     by-turn (turns.Waiting next) g b e = led b _ e (g [] [] 0).3
-    by-turn (turns.Editing a) g b e = led b _ e (g [] [] 0).3
+    by-turn (turns.Editing a) g b e = led b _ e (g [] [] 0).4
     by-turn (turns.Accepted state) g b e = tt
 
--- a turn that waits has nothing pending
+-- a turn that waits for an event has nothing pending, and one that waits for a message has a frame that shows a session
 abbrev pub CalmAt : Turn → Type 0
 CalmAt (turns.Waiting l) = l.session.pending ≡ []
-CalmAt (turns.Editing a) = Unit {0}
+CalmAt (turns.Editing a) = (drawn : Session) × IsDrawnFor a drawn
 CalmAt (turns.Accepted state) = Unit {0}
 
 pub calm-event : (l : Live) (event : Event) (turn : Turn) → EventLeads l event turn → CalmAt turn
 calm-event l event (turns.Waiting next) g = (g [] [] 0).2
-calm-event l event (turns.Editing a) g = tt
+calm-event l event (turns.Editing a) g = ((g [] [] 0).0, (g [] [] 0).3)
 calm-event l event (turns.Accepted state) g = tt
 
 -- what is true of the files, and stays so at each event, is true at the end of events that are handed in one after another
@@ -220,13 +221,13 @@ weaker P R f (turns.Accepted state) h = tt
 shape-turn : (l : Live) (event : Event) (turn : Turn) → EventLeads l event turn
     → FilesAt (λ (new : List File). shape (marks_of_files new) ≡ shape (marks_of_files (files_of l))) turn
 shape-turn l event (turns.Waiting next) g = reaches-shape _ (g [] [] 0).3
-shape-turn l event (turns.Editing a) g = reaches-shape _ (g [] [] 0).3
+shape-turn l event (turns.Editing a) g = reaches-shape _ (g [] [] 0).4
 shape-turn l event (turns.Accepted state) g = tt
 
 plain-turn : (l : Live) (event : Event) (turn : Turn) → IsPlain event → l.session.pending ≡ [] → EventLeads l event turn
     → FilesAt (λ (new : List File). new ≡ files_of l) turn
 plain-turn l event (turns.Waiting next) h calm g = batch-quiet-reach l (event ∷ []) _ calm (h, tt) (g [] [] 0).3
-plain-turn l event (turns.Editing a) h calm g = batch-quiet-reach l (event ∷ []) _ calm (h, tt) (g [] [] 0).3
+plain-turn l event (turns.Editing a) h calm g = batch-quiet-reach l (event ∷ []) _ calm (h, tt) (g [] [] 0).4
 plain-turn l event (turns.Accepted state) h calm g = tt
 
 pub presses-remember : (l : Live) (list : List Event) (turn : Turn) (old new : History) (before : Option (List Run)) → l.session.pending ≡ []
@@ -257,14 +258,14 @@ calm-path (press_all {l = l} {list = list} {turn = turn} g p) h = calm-path p (c
   where
     calm-batch : (k : Live) (events : List Event) (next : Turn) → BatchLeads k events next → CalmAt next
     calm-batch k events (turns.Waiting next) g = (g [] [] 0).2
-    calm-batch k events (turns.Editing a) g = tt
+    calm-batch k events (turns.Editing a) g = ((g [] [] 0).0, (g [] [] 0).3)
     calm-batch k events (turns.Accepted state) g = tt
-calm-path (say {a = a} {text = text} {turn = turn} g p) h = calm-path p (calm-message a text turn g)
+calm-path (say {a = a} {text = text} {turn = turn} g p) h = calm-path p (calm-message a text turn g h)
   where
-    calm-message : (b : LiveEdit) (words : List ℕ) (next : Turn) → MessageLeads b words next → CalmAt next
-    calm-message b words (turns.Waiting next) g = (g b.session [] [] 0).2
-    calm-message b words (turns.Editing x) g = tt
-    calm-message b words (turns.Accepted state) g = tt
+    calm-message : (b : LiveEdit) (words : List ℕ) (next : Turn) → MessageLeads b words next → CalmAt (turns.Editing b) → CalmAt next
+    calm-message b words (turns.Waiting next) g h = (g h.0 [] [] 0 h.1).2
+    calm-message b words (turns.Editing x) g h = ((g h.0 [] [] 0 h.1).0, (g h.0 [] [] 0 h.1).3)
+    calm-message b words (turns.Accepted state) g h = tt
 calm-path (resize p) h = calm-path p h
 
 pub begun-calm : (l : Live) → HasBegun (turns.Waiting l) → l.session.pending ≡ []
