@@ -30,14 +30,15 @@ pub struct BegunEdit<'state> {
 }
 
 impl<'state> Model for BegunEdit<'state> {
+    ghost use Rattle.std.specs.Coded.{codes};
     ghost use Rattle.scm_record.specs.Live.{LiveEdit};
-    ghost use Rattle.scm_record.specs.contracts.live.Editing as editing;
+    ghost use Rattle.scm_record.specs.contracts.frame.DrawnFrame as drawn;
     ghost use Rattle.scm_record.specs.declared.live.Turn.TheVariants.{Editing};
     ghost use Rattle.scm_front.specs.Begun.{HasBegun};
 
     ghost Value = { LiveEdit };
 
-    ghost coded = { editing.the_row.coded };
+    ghost coded = { Prim.hlevel (codes, drawn.the_row.coded) };
 
     ghost view = { λ s. s.editing };
 

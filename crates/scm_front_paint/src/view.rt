@@ -44,12 +44,12 @@ pub struct ViewEditing<'state> {
 
 impl<'state> Model for ViewEditing<'state> {
     ghost use Rattle.std.specs.Coded.{codes};
-    ghost use Rattle.scm_front.specs.contracts.layer.FrontEditing as beneath;
+    ghost use Rattle.scm_record.specs.contracts.frame.DrawnFrame as drawn;
     ghost use Rattle.scm_front_paint.specs.Seen.{SeenEditing, is_narrow};
 
     ghost Value = { SeenEditing };
 
-    ghost coded = { Prim.hlevel (codes, beneath.the_row.coded) };
+    ghost coded = { Prim.hlevel (codes, drawn.the_row.coded) };
 
     ghost view = { λ v. record { beneath = v.beneath; pane = v.pane } };
 
