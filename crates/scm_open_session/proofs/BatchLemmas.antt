@@ -13,7 +13,7 @@ use Rattle.scm_record.specs.LiveCalls.{BatchLeads, BatchFails}
 use Rattle.scm_record.specs.declared.live.Turn.{Turn}
 use Rattle.scm_open_session.specs.declared.open_session.OpenSession.{OpenSession}
 use Rattle.scm_open_session.specs.declared.open_session.Stage.{Stage}
-use Rattle.scm_open_session.specs.declared.open_session.Stage.TheVariants.{Building, Waiting, Editing, Accepted, Ended}
+use Rattle.scm_open_session.specs.declared.open_session.Stage.TheVariants.{Waiting}
 use Rattle.scm_open_session.specs.Stages.{ChangesStage, stage_after}
 use Rattle.scm_open_session.specs.Results.{IsCode, code_of_call}
 use Rattle.scm_open_session.specs.Batches.{Adds, HandsInAll, PressesAll, code_of_batch, events_of_bytes, events_of_piece, events_of_pieces, pieces_of}

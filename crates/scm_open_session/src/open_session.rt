@@ -4,7 +4,7 @@ ghost use Rattle.std.specs.Str.{is_utf8};
 ghost use Rattle.serde_json.specs.Read.{read};
 ghost use Rattle.scm_types.specs.Limits.{is_accepted_state};
 ghost use Rattle.scm_json.specs.Form as form_of;
-ghost use Rattle.scm_open_session.specs.declared.open_session.Stage.TheVariants.{Building, Waiting};
+ghost use Rattle.scm_open_session.specs.declared.open_session.Stage.TheVariants.{Building};
 ghost use Rattle.scm_open_session.specs.Stages.{Begins, Idles, Presses, Resizes, Says, Types, is_editing, code_of_stage, end_of_stage, screen_of, stage_after, is_waiting};
 ghost use Rattle.scm_record.specs.Live.{on_screen};
 ghost use Rattle.scm_open_session.specs.Results.{IsCode, IsText, code_of_json, done_code, symbol_of_stage};
