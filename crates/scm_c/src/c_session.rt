@@ -1,6 +1,8 @@
 //! The struct of a session that a C program keeps: a flag, and a pointer that owns the session.
 ghost use Rattle.std.specs.Prelude.{◌≡◌, IsTrue, None, Option, Some, is_some};
+ghost use Rattle.std.specs.Coded.{coded_option};
 ghost use Rattle.scm_open_session.specs.declared.open_session.OpenSession.{OpenSession};
+ghost use Rattle.scm_open_session.specs.contracts.open_session.OpenSession as open_session;
 ghost use Rattle.scm_open_session.specs.Boxes.{box_value};
 
 use crate::raw_box::RawBox;
@@ -18,7 +20,7 @@ pub struct SessionPtr {
     /// The allocator of the block.
     alloc: Global,
     /// The session in the block, if any.
-    pub(crate) ghost value: { Option OpenSession },
+    pub(crate) ghost value: { Option OpenSession } by { coded_option open_session.the_row.coded },
 }
 
 impl Model for SessionPtr {
