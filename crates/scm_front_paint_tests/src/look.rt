@@ -1,5 +1,2 @@
 //! Tests of how the layer looks on a terminal.
 mod calls;
-mod rows;
-mod sessions;
-mod states;

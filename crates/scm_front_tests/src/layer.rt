@@ -3,4 +3,3 @@ mod calls;
 mod rows;
 mod sessions;
 mod states;
-mod undo;

@@ -63,7 +63,7 @@ fn tell_section(told: &mut String, section: &Section<'_>) -> Result<(), RecordEr
 }
 
 /// Adds a letter to `told` for each item, and a bar before each file.
-pub(crate) fn tell_marks(told: &mut String, files: &[File<'_>]) -> Result<(), RecordError> {
+fn tell_marks(told: &mut String, files: &[File<'_>]) -> Result<(), RecordError> {
     for file in files {
         told.push('|')?;
         for section in file.sections.as_slice() {
