@@ -1,8 +1,12 @@
-/* timing FILESxSECTIONSxLINES: what a key costs in a session over a state of FILES files, each of SECTIONS changed sections,
- * each of LINES added lines, all unfolded, on a screen of 80 by 24. It prints a line: the milliseconds until the session
- * begins, the microseconds of keys, each the least of many, and the most memory that the program had, in megabytes.
+/* timing SHAPE: what a key costs in a session over a state of this shape, all unfolded, on a screen of 80 by 24. It prints a
+ * line: the milliseconds until the session begins, the microseconds of keys, each the least of many, and the most memory that
+ * the program had, in megabytes.
  *
- * timing FILESxSECTIONSxLINES COUNT PAINT WORD ..: hands in the words in turn, COUNT of them, and then prints how many bytes
+ * A shape is FILESxSECTIONSxLINES: FILES files, each of SECTIONS changed sections, each of LINES added lines. A shape
+ * FILESxSECTIONSxLINES:KIND:COUNT has lines of COUNT characters in place of short ones. KIND is `letters`, `wide` (two
+ * columns each), `marked` (letters, each with a combining mark) or `tabs`.
+ *
+ * timing SHAPE COUNT PAINT WORD ..: hands in the words in turn, COUNT of them, and then prints how many bytes
  * the last paint has. PAINT is `none`, `changed` to paint after each word, `twice` to paint once more then, or `all` to paint
  * every row then. Valgrind counts its instructions, for tools/count-paints. */
 #define _XOPEN_SOURCE 700
@@ -18,33 +22,73 @@ enum { REPEATS = 30, ROOM_OF_AN_ITEM = 120 };
 
 static scm_session session;
 
+/* What a state is made of. */
+typedef struct {
+    size_t files, sections, lines;
+    /* The character that each line consists of, as JSON, and how often; a line is short if it is empty. */
+    const char *character;
+    size_t count;
+} shape;
+
+static const struct {
+    const char *kind, *character;
+} characters[] = {{"letters", "x"}, {"wide", "\u6f22"}, {"marked", "e\u0301"}, {"tabs", "\\t"}};
+
+/* Reads a shape, and returns whether it is one. */
+static bool is_read_as(const char *words, shape *read) {
+    char kind[16] = "";
+    *read = (shape){.character = ""};
+    int numbers = sscanf(words, "%zux%zux%zu:%15[a-z]:%zu", &read->files, &read->sections, &read->lines, kind, &read->count);
+    for (size_t i = 0; i < sizeof characters / sizeof *characters; i++) {
+        if (strcmp(kind, characters[i].kind) == 0) {
+            read->character = characters[i].character;
+        }
+    }
+    return numbers == 3 || (numbers == 5 && *read->character);
+}
+
 static double now(void) {
     struct timespec time;
     clock_gettime(CLOCK_MONOTONIC, &time);
     return (double)time.tv_sec * 1e6 + (double)time.tv_nsec / 1e3;
 }
 
-static char *add_section(char *end, size_t lines) {
+static char *add_text(char *end, const shape *of, size_t index) {
+    if (!*of->character) {
+        return end + sprintf(end, "line %zu", index);
+    }
+    size_t length = strlen(of->character);
+    for (size_t i = 0; i < of->count; i++) {
+        memcpy(end, of->character, length);
+        end += length;
+    }
+    return end;
+}
+
+static char *add_section(char *end, const shape *of) {
     end += sprintf(end, "{\"Changed\":{\"lines\":[");
-    for (size_t i = 0; i < lines; i++) {
-        end += sprintf(end, "%s{\"is_checked\":false,\"change_type\":\"Added\",\"line\":\"line %zu\\n\"}", i ? "," : "", i);
+    for (size_t i = 0; i < of->lines; i++) {
+        end += sprintf(end, "%s{\"is_checked\":false,\"change_type\":\"Added\",\"line\":\"", i ? "," : "");
+        end = add_text(end, of, i);
+        end += sprintf(end, "\\n\"}");
     }
     return end + sprintf(end, "]}}");
 }
 
-static char *state_of(size_t files, size_t sections, size_t lines) {
-    char *json = malloc((files * (sections * (lines + 1) + 1) + 1) * ROOM_OF_AN_ITEM);
+static char *state_of(const shape *of) {
+    size_t room = ROOM_OF_AN_ITEM + strlen(of->character) * of->count;
+    char *json = malloc((of->files * (of->sections * (of->lines + 1) + 1) + 1) * room);
     char *end = json;
     if (!json) {
         return NULL;
     }
     end += sprintf(end, "{\"is_read_only\":false,\"commits\":[],\"files\":[");
-    for (size_t file = 0; file < files; file++) {
+    for (size_t file = 0; file < of->files; file++) {
         end += sprintf(end, "%s{\"old_path\":null,\"path\":\"file %zu\",\"file_mode\":{\"Unix\":33188},\"sections\":[",
                        file ? "," : "", file);
-        for (size_t section = 0; section < sections; section++) {
+        for (size_t section = 0; section < of->sections; section++) {
             end += sprintf(end, "%s", section ? "," : "");
-            end = add_section(end, lines);
+            end = add_section(end, of);
         }
         end += sprintf(end, "]}");
     }
@@ -112,12 +156,12 @@ static void print_keys(void) {
 }
 
 int main(int argc, char **argv) {
-    size_t files, sections, lines;
-    bool is_read = (argc == 2 || argc > 4) && sscanf(argv[1], "%zux%zux%zu", &files, &sections, &lines) == 3;
-    char *json = is_read ? state_of(files, sections, lines) : NULL;
+    shape of;
+    bool is_read = (argc == 2 || argc > 4) && is_read_as(argv[1], &of);
+    char *json = is_read ? state_of(&of) : NULL;
     double begun = now();
     if (!json || scm_new(&session, json, strlen(json), 80, 24) != SCM_DONE) {
-        fputs("timing: give it a shape that can be shown: FILESxSECTIONSxLINES\n", stderr);
+        fputs("timing: give it a shape that can be shown: FILESxSECTIONSxLINES or FILESxSECTIONSxLINES:KIND:COUNT\n", stderr);
         return 2;
     }
     double ended = now();

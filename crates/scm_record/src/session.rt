@@ -1,10 +1,11 @@
 //! A session in which a user selects changes, and how each event changes it.
-ghost use Rattle.std.specs.Prelude.{◌≡◌, ◌≤◌, IfErr, IfOk, IfSome, OnOk};
+ghost use Rattle.std.specs.Prelude.{◌≡◌, ◌≤◌, filter, IfErr, IfOk, IfSome, OnOk};
 ghost use Rattle.scm_errors.specs.declared.error.RecordError.TheVariants.{OutOfMemory};
 ghost use Rattle.scm_types.specs.Limits.{max_items, state_size};
 ghost use Rattle.scm_layout.specs.Layouts.{layout_of};
 ghost use Rattle.scm_layout_index.specs.SharedRows.{AreRowsOfState};
-ghost use Rattle.scm_selection.specs.KeySet.{with_key};
+ghost use Rattle.scm_selection.specs.KeyLists.{all_keys, is_section};
+ghost use Rattle.scm_selection.specs.KeySet.{key_set, with_key};
 ghost use Rattle.scm_record.specs.Session.{padded_commits, with_keys_above};
 
 mod clicks;
@@ -23,7 +24,7 @@ use scm_layout::{Layout, StateRows};
 use scm_layout_index::SharedRows;
 use scm_selection::key_lists::{first_key, section_keys};
 use scm_selection::key_set::{KeySet, key_set_of};
-use scm_types::{Commit, Items, RecordError, RecordState};
+use scm_types::{Commit, File, Items, RecordError, RecordState};
 use scm_view::SelectionKey;
 use scm_view_state::ViewState;
 use std::alloc::{AllocError, Global};
@@ -109,8 +110,7 @@ impl<'state> ActiveSession<'state> {
             files,
         } = state;
         let commits = pad(commits.into_inner())?;
-        let sections = section_keys(alloc, files.as_slice())?;
-        let expanded = key_set_of(alloc, &sections)?;
+        let expanded = unfolded_at_first(alloc, files.as_slice())?;
         let selection = first_key(files.as_slice());
         let state = RecordState {
             is_read_only,
@@ -348,6 +348,16 @@ fn share(
             Ok(other)
         }
     }
+}
+
+/// Returns the set of the sections of `files` that are more than context, which a session begins with
+/// unfolded. The list of their keys is dropped here, before the session takes more memory.
+fn unfolded_at_first(alloc: Global, files: &[File<'_>]) -> Result<KeySet, RecordError>
+    ensures ok { IfOk result (λ set. set ≡ key_set (filter is_section (all_keys files.now))) }
+    ensures err { IfErr result (λ e. e ≡ OutOfMemory) }
+{
+    let sections = section_keys(alloc, files)?;
+    key_set_of(alloc, &sections)
 }
 
 /// Adds commits without a message to `commits`, up to two.
