@@ -8,6 +8,8 @@ pub mod ReplayLemmas
 pub mod BegunLemmas
 -- deeds that are done one after another
 pub mod DeedLemmas
+-- deeds that fold again, whatever lines are expanded
+pub mod LineFoldLemmas
 -- what deeds do with the files of a session
 pub mod RangeLemmas
 -- events of a terminal that are heard one after another

@@ -1,6 +1,7 @@
 //! Deeds: marks that are set and folds that are closed, by jumps and events of the session.
 ghost use Rattle.std.specs.Prelude.{◌≡◌, List, IfErr, IfOk};
 ghost use Rattle.scm_record.specs.LiveCalls.{Call};
+ghost use Rattle.scm_front_items.specs.Targets.{is_open_deed};
 ghost use Rattle.scm_front.specs.Deeds.{DeedDone, DeedTried, DeedsLead, ReturnsTo, RoundLeads, event_of, is_due};
 ghost use Rattle.scm_front.specs.Driving.{turn_of};
 ghost use Rattle.scm_front.specs.Failing.{SessionFails};
@@ -8,6 +9,7 @@ ghost use Rattle.scm_front.specs.Failing.{SessionFails};
 use crate::begun::{Begun, BegunTurn};
 use scm_front_items::Deed;
 use scm_record::{Event, RecordError, SelectionKey};
+use scm_view_state::ViewState;
 
 /// Returns the event of `deed`.
 fn event_of(deed: Deed) -> Event
@@ -19,13 +21,22 @@ fn event_of(deed: Deed) -> Event
     }
 }
 
+/// Returns whether `deed` has something to do in `view`.
+fn is_open(view: &ViewState<'_>, deed: Deed) -> bool
+    ensures { result ≡ is_open_deed view.now.state.files view.now.expanded deed }
+{
+    match deed {
+        Deed::Mark(_) => deed.is_open(view.state.files.as_slice(), &view.expanded),
+        Deed::Fold(key) => view.is_expanded(key),
+    }
+}
+
 /// Returns whether `deed` is to be done: its item can be selected, and it has something to do.
 fn is_due(session: &Begun<'_>, deed: Deed) -> bool
     ensures { result ≡ is_due session.now deed }
 {
-    let view = session.live().view_state();
     let can_select = session.can_select(deed.key());
-    let is_open = deed.is_open(view.state.files.as_slice(), &view.expanded);
+    let is_open = is_open(session.live().view_state(), deed);
     can_select & is_open
 }
 

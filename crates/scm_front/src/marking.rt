@@ -1,6 +1,7 @@
 //! The deeds of the layer's actions: marks of a range, and marks that were.
-ghost use Rattle.std.specs.Prelude.{◌≡◌, [], IfErr, IfOk, IfSome, IsTrue};
+ghost use Rattle.std.specs.Prelude.{◌≡◌, [], ◌++◌, IfErr, IfOk, IfSome, IsTrue, OnOk};
 ghost use Rattle.scm_errors.specs.declared.error.RecordError.TheVariants.{OutOfMemory};
+ghost use Rattle.scm_front_items.specs.Plans.{file_folds, section_folds};
 ghost use Rattle.scm_front_items.specs.Runs.{marks_of_files, marks_with};
 ghost use Rattle.scm_front_items.specs.Steps.{runs_of_range};
 ghost use Rattle.scm_front.specs.Deeds.{SomeDeedsLead, SomeRoundLeads};
@@ -13,7 +14,8 @@ use crate::begun::{Begun, BegunTurn};
 use crate::deeds::{do_deeds, do_round};
 use scm_front_items::plans::{self, Part};
 use scm_front_items::{Deed, Marks, Run, Step, ranges, runs, steps};
-use scm_record::{Items, KeySet, RecordError, SelectionKey};
+use scm_record::{Items, RecordError, SelectionKey};
+use scm_view_state::ViewState;
 use std::alloc::Global;
 
 /// Returns the key that is selected.
@@ -21,6 +23,21 @@ pub(crate) fn selection_of(session: &Begun<'_>) -> SelectionKey
     ensures { result ≡ selection_of session.now }
 {
     session.live().view_state().selection
+}
+
+/// Adds deeds to `deeds` that fold again what jumps to `keys` unfold in `view`: first sections, then
+/// files.
+fn push_folds(
+    deeds: &mut Vec<Deed>,
+    view: &ViewState<'_>,
+    keys: &[SelectionKey],
+) -> Result<(), RecordError>
+    ensures ok { OnOk result (deeds.new.items
+        ≡ (deeds.old.items ++ section_folds view.now.expanded keys.now)
+        ++ file_folds view.now.expanded keys.now) }
+    ensures err { IfErr result (λ e. e ≡ OutOfMemory) }
+{
+    plans::push_folds(deeds, &view.expanded, keys)
 }
 
 /// Returns the deeds that set the marks of the range from `anchor` to the selection to that which its
@@ -42,7 +59,7 @@ pub(crate) fn range_deeds(
     let keys = ranges::lines_between(alloc, files, anchor, view.selection)?;
     let mark = ranges::mark_for(files, keys.as_slice());
     ranges::push_marking(&mut deeds, mark, keys.as_slice())?;
-    plans::push_folds(&mut deeds, &view.expanded, keys.as_slice())?;
+    push_folds(&mut deeds, view, keys.as_slice())?;
     Ok(deeds)
 }
 
@@ -92,14 +109,17 @@ pub(crate) fn what_to_restore(
     })
 }
 
-/// Returns `deeds` with others that fold again what they unfold, if `expanded` is what is unfolded before
-/// them.
-fn with_folds(alloc: Global, deeds: Vec<Deed>, expanded: &KeySet) -> Result<Vec<Deed>, RecordError>
+/// Returns `deeds` with others that fold again what they unfold, if `view` is the view state before them.
+fn with_folds(
+    alloc: Global,
+    deeds: Vec<Deed>,
+    view: &ViewState<'_>,
+) -> Result<Vec<Deed>, RecordError>
     ensures err { IfErr result (λ e. e ≡ OutOfMemory) }
 {
     let mut deeds = deeds;
     let keys = plans::keys_of(alloc, deeds.as_slice())?;
-    plans::push_folds(&mut deeds, expanded, keys.as_slice())?;
+    push_folds(&mut deeds, view, keys.as_slice())?;
     Ok(deeds)
 }
 
@@ -120,7 +140,7 @@ fn deeds_towards(
         view.state.files.as_slice(),
         wanted.as_slice(),
     )?;
-    with_folds(alloc, deeds, &view.expanded)
+    with_folds(alloc, deeds, view)
 }
 
 /// Does the first deeds towards the marks `wanted`, and folds again what that unfolds.

@@ -11,9 +11,9 @@ use crate::deeds::do_round;
 use crate::presses::press_each;
 use scm_front_items::Deed;
 use scm_record::key_lists::all_keys;
-use scm_record::key_set::key_set_of;
 use scm_record::keys::is_key;
 use scm_record::{ComponentId, Event, KeySet, RecordError, SelectionKey};
+use scm_view_state::ViewState;
 use std::alloc::Global;
 
 /// What is unfolded at the start.
@@ -59,16 +59,15 @@ fn shows(session: &Begun<'_>, key: SelectionKey) -> bool {
     false
 }
 
-/// Returns the events that fold all or unfold all, where `expanded` is unfolded and `keys` are all.
+/// Returns the events that unfold all of the session of `view` if `is_open`, and otherwise fold all.
 fn events_for(
     alloc: Global,
-    expanded: &KeySet,
-    keys: &[SelectionKey],
+    view: &ViewState<'_>,
     is_open: bool,
 ) -> Result<&'static [Event], RecordError>
     ensures err { IfErr result (λ e. e ≡ OutOfMemory) }
 {
-    let is_all_open = expanded.is_same(&key_set_of(alloc, keys)?);
+    let is_all_open = view.are_all_keys_expanded(alloc)?;
     let events: &'static [Event] = match (is_open, is_all_open) {
         (true, true) => &[],
         (true, false) => &[Event::ExpandAll],
@@ -78,18 +77,16 @@ fn events_for(
     Ok(events)
 }
 
-/// Folds or unfolds all of `keys`, which are all keys of the session.
+/// Unfolds all of the session if `is_open`, and otherwise folds all.
 fn set_folds<'state>(
     alloc: Global,
     session: Begun<'state>,
-    keys: &[SelectionKey],
     is_open: bool,
 ) -> Result<BegunTurn<'state>, RecordError>
     ensures ok { IfOk result (λ turn. LeadsOn (Waiting session.entry) (turn_of turn)) }
     ensures err { IfErr result (λ e. SessionFails session.entry e) }
 {
-    let view = session.live().view_state();
-    let events = events_for(alloc, &view.expanded, keys, is_open)?;
+    let events = events_for(alloc, session.live().view_state(), is_open)?;
     press_each(session, events)
 }
 
@@ -128,23 +125,23 @@ fn fold_unless_shown<'state>(
     }
 }
 
-/// Unfolds all of `keys`, which are all keys of the session, if the screen then shows the last of them.
+/// Unfolds all of the session, if the screen then shows the last of its keys.
 fn unfold_if_fitting<'state>(
     alloc: Global,
     session: Begun<'state>,
-    keys: &[SelectionKey],
 ) -> Result<BegunTurn<'state>, RecordError>
     ensures ok { IfOk result (λ turn. LeadsOn (Waiting session.entry) (turn_of turn)) }
     ensures err { IfErr result (λ e. SessionFails session.entry e) }
 {
+    let keys = all_keys(alloc, session.live().state().files.as_slice())?;
     if keys.is_empty() || keys.len() > session.live().grid().height() {
         return Ok(BegunTurn::Waiting(session));
     }
     let last = keys[keys.len() - 1];
     let view = session.live().view_state();
     let back = view.selection;
-    let folds = folds_of(alloc, &view.expanded, keys)?;
-    let turn = set_folds(alloc, session, keys, true)?;
+    let folds = folds_of(alloc, &view.expanded, keys.as_slice())?;
+    let turn = set_folds(alloc, session, true)?;
     match turn {
         BegunTurn::Waiting(mid) => fold_unless_shown(mid, last, folds.as_slice(), back),
         BegunTurn::Editing(editing) => Ok(BegunTurn::Editing(editing)),
@@ -161,12 +158,11 @@ pub(crate) fn fold_at_start<'state>(
     ensures ok { IfOk result (λ turn. LeadsOn (Waiting session.entry) (turn_of turn)) }
     ensures err { IfErr result (λ e. SessionFails session.entry e) }
 {
-    let keys = all_keys(alloc, session.live().state().files.as_slice())?;
     match folds {
         Folds::AsIs => Ok(BegunTurn::Waiting(session)),
-        Folds::Folded => set_folds(alloc, session, keys.as_slice(), false),
-        Folds::Open => set_folds(alloc, session, keys.as_slice(), true),
-        Folds::Fitting => unfold_if_fitting(alloc, session, keys.as_slice()),
+        Folds::Folded => set_folds(alloc, session, false),
+        Folds::Open => set_folds(alloc, session, true),
+        Folds::Fitting => unfold_if_fitting(alloc, session),
     }
 }
 

@@ -29,7 +29,7 @@ use Rattle.scm_record.specs.declared.live.Turn.{Turn}
 use Rattle.scm_record.specs.declared.live.Turn.TheVariants.{Waiting, Editing, Accepted}
 use Rattle.scm_record.proofs.FoldLemmas.{edited-fine, reaches-fine, start-fine}
 use Rattle.scm_record.proofs.RunLemmas.{reaches-trans}
-use Rattle.scm_record.proofs.KeyOrderLemmas.{Ascends}
+use Rattle.scm_view_state.proofs.KeyOrderLemmas.{Ascends}
 use Rattle.scm_record.proofs.InsideLemmas.{some-file}
 use Rattle.scm_record.proofs.MoveToLemmas.{Steps, stay, step, ensures, moved, Arrives, jump}
 

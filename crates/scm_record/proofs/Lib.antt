@@ -15,6 +15,7 @@ pub mod CurrentLemmas
 pub mod BudgetLemmas
 pub mod EndingLemmas
 pub mod KeepingLemmas
+pub mod KeptLineLemmas
 pub mod EditLemmas
 pub mod StepCoherenceLemmas
 -- the headline: what ends a run, what clears the screen, and how batches are handled
@@ -33,7 +34,6 @@ pub mod LiveLemmas
 -- paths of its calls
 pub mod PathLemmas
 -- moves that lead to a given key, with what it lies in unfolded
-pub mod KeyOrderLemmas
 pub mod WalkToLemmas
 pub mod InsideLemmas
 pub mod MoveToLemmas

@@ -1,5 +1,7 @@
 -- the first view state of a state
 pub mod ViewState
+-- the keys of all lines, which are kept as a flag
+pub mod LineKeys
 -- the menus, and the events of their items
 pub mod Menus
 -- views without the addresses of what they borrow

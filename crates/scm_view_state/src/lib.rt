@@ -5,11 +5,14 @@
 //! make one from a state.
 #![tactic(auto)]
 
+mod all_folds;
 mod commit_views;
 mod file_views;
 mod folds;
 pub mod items;
 pub mod layout_laws;
+mod layouts;
+mod line_keys;
 pub mod menus;
 mod section_views;
 mod stretches;

@@ -1,6 +1,6 @@
 //! The view state of a session, and the boxes of its marks and folds.
 ghost use Rattle.std.specs.Prelude.{◌≡◌};
-ghost use Rattle.scm_types.specs.Keys.{has_key, is_key};
+ghost use Rattle.scm_types.specs.Keys.{is_key};
 ghost use Rattle.scm_view.specs.ViewState.{expand_box_of, toggle_box_of};
 ghost use Rattle.scm_view_state.specs.ViewState.{new_view_state};
 
@@ -17,7 +17,8 @@ pub struct ViewState<'state> {
     pub state: RecordState<'state>,
     /// The selected key.
     pub selection: SelectionKey,
-    /// The unfolded files and sections.
+    /// The expanded files and sections. After [`expand_all`](ViewState::expand_all) all lines are
+    /// expanded too, but this set lacks them: ask [`is_expanded`](ViewState::is_expanded) about a line.
     pub expanded: KeySet,
     /// Whether one commit is shown, or two side by side.
     pub view_mode: CommitViewMode,
@@ -27,6 +28,8 @@ pub struct ViewState<'state> {
     pub quit_dialog: Option<QuitDialog>,
     /// Whether the help is open.
     pub is_help_open: bool,
+    /// Whether all changed lines of the state are expanded, beside the keys of `expanded`.
+    pub(crate) has_all_lines: bool,
     /// A commit without a message, shown for one that the state lacks.
     pub(crate) empty_commit: Commit,
 }
@@ -36,10 +39,12 @@ impl<'state> Model for ViewState<'state> {
 
     ghost Value = { ViewState };
 
+    ghost use Rattle.scm_view_state.specs.LineKeys.{with_lines};
+
     ghost view = { λ s. record {
       state = s.state;
       selection = s.selection;
-      expanded = s.expanded;
+      expanded = with_lines s.has_all_lines s.state.files s.expanded;
       view_mode = s.view_mode;
       open_menu = s.open_menu;
       quit_dialog = s.quit_dialog;
@@ -69,6 +74,7 @@ impl<'state> ViewState<'state> {
             open_menu: None,
             quit_dialog: None,
             is_help_open: false,
+            has_all_lines: false,
             empty_commit: Commit { message: None },
         }
     }
@@ -78,13 +84,6 @@ impl<'state> ViewState<'state> {
         ensures { result ≡ is_key key self.now.selection }
     {
         is_key(key, self.selection)
-    }
-
-    /// Returns whether `key` is unfolded.
-    pub(crate) fn is_expanded(&self, key: SelectionKey) -> bool
-        ensures { result ≡ has_key self.now.expanded key }
-    {
-        self.expanded.contains(key)
     }
 
     /// Returns the toggle box of `key` with the mark `mark`.

@@ -5,7 +5,7 @@ ghost use Rattle.scm_document.specs.declared.commit_view.CommitViewMode.TheVaria
 ghost use Rattle.scm_layout_index.specs.SharedRows.{AreRowsOfState};
 ghost use Rattle.scm_types.specs.Limits.{is_accepted_state, max_scroll};
 
-use scm_layout::{Layout, StateRows};
+use scm_layout::StateRows;
 use scm_layout_index::{LayoutIndex, SharedRows, span_of_key};
 use scm_samples::{ADDED, REMOVED, binary, changed, commits_of, context, deletion, file_of};
 use scm_selection::key_lists::all_keys;
@@ -85,7 +85,7 @@ fn check_frame(
     requires scroll { scroll ≤ max_scroll }
 {
     let view = view_state.app_view(alloc)?;
-    let layout = Layout::new(alloc, &view_state.state, &view_state.expanded)?;
+    let layout = view_state.layout(alloc)?;
     let rows = SharedRows::new(alloc, &layout.rows)?;
     let whole = FrameIndex::new(alloc, &view, 30, 12, scroll)?;
     check_spans(rt, &layout.rows, &whole, keys);

@@ -1,8 +1,7 @@
 //! View states in words, and the words for keys and components.
 use scm_samples::{number_of, state_of_letters};
-use scm_selection::KeySet;
 use scm_selection::counts::{changed_count, message_count};
-use scm_selection::key_lists::{all_keys, first_key, section_keys};
+use scm_selection::key_lists::{first_key, section_keys};
 use scm_selection::key_set::key_set_of;
 use scm_types::{RecordError, RecordState};
 use scm_view::{
@@ -120,11 +119,8 @@ fn change(
     word: &str,
 ) -> Result<(), RecordError> {
     match word {
-        "all" => {
-            let keys = all_keys(alloc, view_state.state.files.as_slice())?;
-            view_state.expanded = key_set_of(alloc, keys.as_slice())?;
-        }
-        "none" => view_state.expanded = KeySet::new(alloc),
+        "all" => view_state.expand_all(alloc)?,
+        "none" => view_state.fold_all(alloc),
         "help" => view_state.is_help_open = true,
         "quit" => view_state.quit_dialog = Some(quit_dialog(&view_state.state)),
         "menu0" => view_state.open_menu = Some(0),

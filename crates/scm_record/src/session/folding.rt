@@ -1,21 +1,21 @@
 //! Folding and expanding files and sections.
 
 use super::ActiveSession;
-use scm_selection::key_lists::all_keys;
-use scm_selection::key_set::{KeySet, key_set_of};
 use scm_types::RecordError;
 use scm_view::SelectionKey;
 use std::alloc::AllocError;
 
 impl<'state> ActiveSession<'state> {
-    ghost use Rattle.std.specs.Prelude.{◌≡◌, IfErr, OnOk};
+    ghost use Rattle.std.specs.Prelude.{◌≡◌, [], false, IfErr, OnOk};
     ghost use Rattle.scm_errors.specs.declared.error.RecordError.TheVariants.{OutOfMemory};
-    ghost use Rattle.scm_selection.specs.KeySet.{with_key_flipped};
+    ghost use Rattle.scm_selection.specs.KeyLists.{all_keys, is_line};
+    ghost use Rattle.scm_selection.specs.KeySet.{key_set, with_key_flipped};
     ghost use Rattle.scm_record.specs.SessionView.{with_expanded};
     ghost use Rattle.scm_record.specs.Session.{after_expand, after_expand_all, after_fold};
 
-    /// Folds `key`.
+    /// Folds `key`, the key of a file or a section.
     pub(super) fn fold(&mut self, key: SelectionKey) -> Result<(), AllocError>
+        requires { is_line key ≡ false }
         ensures { OnOk result (self.new ≡ after_fold self.old key) }
     {
         self.shared_rows = None;
@@ -24,8 +24,9 @@ impl<'state> ActiveSession<'state> {
         self.ensure_selection_in_viewport()
     }
 
-    /// Flips the fold of `key`.
+    /// Flips the fold of `key`, the key of a file or a section.
     fn flip(&mut self, key: SelectionKey) -> Result<(), RecordError>
+        requires { is_line key ≡ false }
         ensures ok { OnOk result (self.new
             ≡ with_expanded self.old (with_key_flipped self.old.shown.expanded key)) }
         ensures err { IfErr result (λ e. e ≡ OutOfMemory) }
@@ -35,14 +36,27 @@ impl<'state> ActiveSession<'state> {
         self.layout.flip(&shown.state, &mut shown.expanded, key)
     }
 
-    /// Expands the keys of `expanded`, and folds all others.
-    fn set_expanded(&mut self, expanded: KeySet)
-        ensures { self.new ≡ with_expanded self.old expanded }
+    /// Folds everything.
+    fn fold_all(&mut self)
+        ensures { self.new ≡ with_expanded self.old [] }
     {
+        let alloc = self.allocator();
         self.shared_rows = None;
-        let shown = &mut self.view_state;
-        shown.expanded = expanded;
-        self.layout.refold(&shown.state, &shown.expanded);
+        self.view_state.fold_all(alloc);
+        self.view_state.refold(&mut self.layout);
+    }
+
+    /// Expands all keys.
+    fn expand_all(&mut self) -> Result<(), RecordError>
+        ensures ok { OnOk result (self.new
+            ≡ with_expanded self.old (key_set (all_keys self.old.shown.state.files))) }
+        ensures err { IfErr result (λ e. e ≡ OutOfMemory) }
+    {
+        let alloc = self.allocator();
+        self.view_state.expand_all(alloc)?;
+        self.shared_rows = None;
+        self.view_state.refold(&mut self.layout);
+        Ok(())
     }
 
     /// Flips the fold of the selected file or section.
@@ -66,14 +80,11 @@ impl<'state> ActiveSession<'state> {
         ensures ok { OnOk result (self.new ≡ after_expand_all self.old) }
         ensures err { IfErr result (λ e. e ≡ OutOfMemory) }
     {
-        let keys = all_keys(self.allocator(), self.view_state.state.files.as_slice())?;
-        let all = key_set_of(self.allocator(), &keys)?;
-        if self.view_state.expanded.is_same(&all) {
-            let nothing = KeySet::new(self.allocator());
-            self.set_expanded(nothing);
+        if self.view_state.are_all_keys_expanded(self.allocator())? {
+            self.fold_all();
             self.view_state.selection = self.view_state.selection.file();
         } else {
-            self.set_expanded(all);
+            self.expand_all()?;
         }
         self.ensure_selection_in_viewport()?;
         Ok(())

@@ -120,7 +120,7 @@ impl<'state> ActiveSession<'state> {
             SelectionKey::None => Ok(()),
             SelectionKey::File(_) => Ok(self.fold(selection)?),
             SelectionKey::Section(key) => {
-                if fold_section && self.view_state.expanded.contains(selection) {
+                if fold_section && self.view_state.is_expanded(selection) {
                     Ok(self.fold(selection)?)
                 } else {
                     self.select(SelectionKey::File(key.file()))

@@ -6,6 +6,11 @@ use Rattle.scm_front.specs.Failing.{refused}
 use Rattle.scm_front.proofs.BegunLemmas.{leads-fail, leads-same, leads-still, leads-via}
 use Rattle.scm_front.proofs.starting.unfold_if_fitting.Goals as goal
 
+pub returns-in_err-keys-clause-err : goal.returns-in_err-keys-clause-err
+returns-in_err-keys-clause-err c =
+    let p = err_from_is_err_and c.from_residual.result c.from_residual.ensures.1 in
+    rw (p.1, p.2) (refused c.in_err-keys.ensures.err)
+
 pub returns-in_err-folds-clause-err : goal.returns-in_err-folds-clause-err
 returns-in_err-folds-clause-err c =
     let p = err_from_is_err_and c.from_residual.result c.from_residual.ensures.1 in

@@ -1,7 +1,12 @@
+use Rattle.scm_view_state.proofs.LineSetLemmas.{visible-with}
 use Rattle.scm_record.proofs.session.ActiveSession.neighbour.Goals as goal
 
 pub returns-in-Up : goal.returns-in-Up
-returns-in-Up c = rw (c.in-Up.is, ← c.self.view_is, ← c.self-inside.view_is, ← c.as_slice-files.ensures, ← c.first_key-otherwise.ensures) c.previous_visible.ensures
+returns-in-Up c =
+    let v = c.self-inside.inside.0.0 in
+    rw (c.in-Up.is, ← c.self.view_is, ← c.self-inside.view_is, visible-with v.state.files v.expanded v.has_all_lines v.state.files, ← c.as_slice-files.ensures, ← c.first_key-otherwise.ensures) c.previous_visible.ensures
 
 pub returns-in-Down : goal.returns-in-Down
-returns-in-Down c = rw (c.in-Down.is, ← c.self.view_is, ← c.self-inside.view_is, ← c.as_slice-files.ensures, ← c.first_key-otherwise.ensures) c.next_visible.ensures
+returns-in-Down c =
+    let v = c.self-inside.inside.0.0 in
+    rw (c.in-Down.is, ← c.self.view_is, ← c.self-inside.view_is, visible-with v.state.files v.expanded v.has_all_lines v.state.files, ← c.as_slice-files.ensures, ← c.first_key-otherwise.ensures) c.next_visible.ensures

@@ -158,3 +158,48 @@ with-keeps (k ∷ ks) key other e = go (key_cmp key k) (is_key other k) refl (λ
     go Equal b s more e = rw s e
     go Greater true s more e = rw s refl
     go Greater false s more e = rw s (more e)
+
+-- ---- what is in the set of a list
+
+twice : (a b : Bool) → (a || b) ≡ (a || (a || b))
+twice true b = refl
+twice false b = refl
+
+turned-or : (a b c : Bool) → (a || (b || c)) ≡ (b || (a || c))
+turned-or true true c = refl
+turned-or true false c = refl
+turned-or false b c = refl
+
+-- a set with a key added has that key and those that it had
+pub with-any : (ks : List SelectionKey) (key other : SelectionKey) → has_key (with_key ks key) other ≡ (is_key other key || has_key ks other)
+with-any [] key other = refl
+with-any (k ∷ ks) key other = go (key_cmp key k) refl (with-any ks key other)
+  where
+    go : (o : Ordering) → key_cmp key k ≡ o → has_key (with_key ks key) other ≡ (is_key other key || has_key ks other)
+        → has_key (match_ordering o (key ∷ k ∷ ks) (k ∷ ks) (k ∷ with_key ks key)) other ≡ (is_key other key || (is_key other k || has_key ks other))
+    go Less e more = refl
+    go Equal e more =
+        twice (is_key other k) (has_key ks other)
+        ∙ ap (λ (x : SelectionKey). is_key other x || (is_key other k || has_key ks other)) (sym (key-same key k (equal-is-same key k e)))
+    go Greater e more = ap (λ b. is_key other k || b) more ∙ turned-or (is_key other k) (is_key other key) (has_key ks other)
+
+set-from-has : (ks set : List SelectionKey) (key : SelectionKey) → has_key (fold with_key set ks) key ≡ (has_key ks key || has_key set key)
+set-from-has [] set key = refl
+set-from-has (k ∷ ks) set key =
+    set-from-has ks (with_key set k) key
+    ∙ ap (λ b. has_key ks key || b) (with-any set k key)
+    ∙ third (has_key ks key) (is_key key k) (has_key set key)
+  where
+    third : (a b c : Bool) → (a || (b || c)) ≡ ((b || a) || c)
+    third true true c = refl
+    third true false c = refl
+    third false true c = refl
+    third false false c = refl
+
+-- the set of a list has the keys of the list
+pub set-has : (ks : List SelectionKey) (key : SelectionKey) → has_key (key_set ks) key ≡ has_key ks key
+set-has ks key = set-from-has ks [] key ∙ or-false (has_key ks key)
+  where
+    or-false : (b : Bool) → (b || false) ≡ b
+    or-false true = refl
+    or-false false = refl

@@ -1,0 +1,10 @@
+use Rattle.std.proofs.Common.{◌∙◌}
+use Rattle.scm_selection.proofs.FindLemmas.{item-at}
+use Rattle.scm_view_state.proofs.LineSetLemmas.{sections-step}
+use Rattle.scm_view_state.proofs.line_keys.insert_sections.Goals as goal
+
+pub loop-index-preserved : goal.loop-index-preserved
+loop-index-preserved c =
+    let s = c.index-sections-index.result in
+    let at = item-at c.args.sections.now c.loop-index.index s c.loop-index-test.true c.index-sections-index.is in
+    rw c.in_ok-insert_section.ensures.ok (sections-step c.loop-index.set c.args.file c.loop-index.index c.args.sections.now s at ∙ c.loop-index.invariant)
