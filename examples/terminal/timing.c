@@ -4,7 +4,8 @@
  *
  * A shape is FILESxSECTIONSxLINES: FILES files, each of SECTIONS changed sections, each of LINES added lines. A shape
  * FILESxSECTIONSxLINES:KIND:COUNT has lines of COUNT characters in place of short ones. KIND is `letters`, `wide` (two
- * columns each), `marked` (letters, each with a combining mark) or `tabs`.
+ * columns each), `marked` (letters, each with a combining mark) or `tabs`. With `,both` behind it the screen shows both
+ * commits.
  *
  * timing SHAPE COUNT PAINT WORD ..: hands in the words in turn, COUNT of them, and then prints how many bytes
  * the last paint has. PAINT is `none`, `changed` to paint after each word, `twice` to paint once more then, or `all` to paint
@@ -28,6 +29,8 @@ typedef struct {
     /* The character that each line consists of, as JSON, and how often; a line is short if it is empty. */
     const char *character;
     size_t count;
+    /* Whether the screen shows both commits. */
+    bool shows_both;
 } shape;
 
 static const struct {
@@ -44,7 +47,9 @@ static bool is_read_as(const char *words, shape *read) {
             read->character = characters[i].character;
         }
     }
-    return numbers == 3 || (numbers == 5 && *read->character);
+    const char *end = strchr(words, ',');
+    read->shows_both = end && strcmp(end, ",both") == 0;
+    return (numbers == 3 || (numbers == 5 && *read->character)) && (!end || read->shows_both);
 }
 
 static double now(void) {
@@ -161,12 +166,15 @@ int main(int argc, char **argv) {
     char *json = is_read ? state_of(&of) : NULL;
     double begun = now();
     if (!json || scm_new(&session, json, strlen(json), 80, 24) != SCM_DONE) {
-        fputs("timing: give it a shape that can be shown: FILESxSECTIONSxLINES or FILESxSECTIONSxLINES:KIND:COUNT\n", stderr);
+        fputs("timing: give it a shape that can be shown: FILESxSECTIONSxLINES, with :KIND:COUNT or ,both behind it\n", stderr);
         return 2;
     }
     double ended = now();
     free(json);
     time_of_key("shift-F");
+    if (of.shows_both) {
+        time_of_key("view");
+    }
     if (argc > 4) {
         paint_keys(atoi(argv[2]), argv[3], argc - 4, argv + 4);
         scm_free(&session);

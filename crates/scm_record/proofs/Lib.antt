@@ -10,6 +10,7 @@ pub mod MenuLemmas
 pub mod StepLemmas
 -- what is drawn, as a frame
 pub mod FrameLemmas
+pub mod FreePlacesLemmas
 pub mod CurrentLemmas
 -- how many frames are drawn, what is kept, what is not edited, what stays coherent
 pub mod BudgetLemmas

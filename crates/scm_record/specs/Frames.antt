@@ -21,6 +21,8 @@ use Rattle.scm_layout_index.specs.LayoutIndex.{AreRowOwners, IsLayoutIndexOf}
 use Rattle.scm_record.specs.declared.frame.DrawnFrame.{DrawnFrame}
 use Rattle.scm_record.specs.declared.frame.Places.{Places}
 use Rattle.scm_record.specs.declared.frame.Places.TheVariants.{Plain, Free}
+use Rattle.scm_record.specs.declared.free_places.FreePlaces.{FreePlaces}
+use Rattle.scm_record.specs.FreePlaces.{AreShown}
 use Rattle.scm_record.specs.Session.{Session}
 
 -- ---- the frame of a session
@@ -85,6 +87,13 @@ module _ {S : Type 0} where
     -- the whole drawing has a box
     pub extent : height_of_box (rect_in boxes ids.App) ≡ frame.extent
 
+-- `places` are those of `frame`, on a screen of `w` columns
+pub record AreFreePlaces (w : ℕ) (frame : Frame) (places : FreePlaces) : Type 0 where
+  -- the map of all boxes answers like `frame`
+  pub map : IsMapOf w frame places.boxes
+  -- beside it are the boxes that the screen showed
+  pub shown : AreShown places
+
 -- `index` is the index of a document that `frame` shows, on a screen of `w` columns
 pub record IsIndexFor (w : ℕ) (frame : Frame) (index : LayoutIndex) : Type 0 where
   -- the screen's height, in rows
@@ -101,18 +110,18 @@ pub record IsIndexFor (w : ℕ) (frame : Frame) (index : LayoutIndex) : Type 0 w
 -- the places of components that the code keeps are those of `frame`, on a screen of `w` columns
 abbrev pub KnowsPlaces : ℕ → Frame → Places → Type 0
 KnowsPlaces w frame (Plain index) = IsIndexFor w frame index
-KnowsPlaces w frame (Free boxes) = IsMapOf w frame boxes
+KnowsPlaces w frame (Free places) = AreFreePlaces w frame places
 
 -- `owners` are those of row `y` of the document, if they were found: what the index has on that row
 abbrev pub KnowsRow : Option RowOwners → Places → ℕ → Type 0
 KnowsRow None places y = Unit {0}
 KnowsRow (Some owners) (Plain index) y = (owners.row ≡ y) × AreRowOwners index owners
-KnowsRow (Some owners) (Free boxes) y = Unit {0}
+KnowsRow (Some owners) (Free free) y = Unit {0}
 
--- whether the code keeps an index, and not a map of boxes
+-- whether the code keeps an index, and not the boxes
 abbrev pub is_indexed : Places → Bool
 is_indexed (Plain index) = true
-is_indexed (Free boxes) = false
+is_indexed (Free places) = false
 
 -- `scene` is what the frame `drawn` shows
 pub record IsSceneOf (scene : Scene) (drawn : DrawnFrame) : Type 0 where

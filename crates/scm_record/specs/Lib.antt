@@ -2,6 +2,8 @@
 pub mod Session
 -- the scene: what was drawn last, and what the code keeps of it
 pub mod Frames
+-- the boxes of a frame that is not plain, and those that the screen showed
+pub mod FreePlaces
 -- queries of the scene: screenshots, hit tests, limits of the scroll
 pub mod FrameQueries
 -- the result of an event

@@ -14,11 +14,12 @@ ghost use Rattle.scm_record.specs.Frames.{HasSize, IsMapOf, IsSceneOf, KnowsPlac
 ghost use Rattle.scm_record.specs.Session.{Session};
 ghost use Rattle.scm_record.specs.FrameQueries.{scroll_to_show, limited_scroll, hit, free_rows_above, scroll_to_rows, scroll_to_span, shot_of, top_in};
 
+use crate::free_places::FreePlaces;
 use scm_cells::{Grid, Rect};
 use scm_input::TerminalKind;
 use scm_layout::{Layout, StateRows};
 use scm_layout_index::{LayoutIndex, OwnerRun, RowOwners, SharedRows, span_of_key};
-use scm_render::{DrawnRects, Viewport, find_target};
+use scm_render::{DrawnRects, Viewport};
 use scm_types::{RecordError, RecordState};
 use scm_view::{AppView, CommitViewMode, ComponentId, SelectionKey, laws};
 use scm_view_state::ViewState;
@@ -30,8 +31,8 @@ use std::alloc::Global;
 enum Places {
     /// The index of the document, if the frame is plain.
     Plain(LayoutIndex),
-    /// The box of each component, on any other frame.
-    Free(DrawnRects<ComponentId>),
+    /// The boxes of components, on any other frame.
+    Free(FreePlaces),
 }
 
 /// The frame last drawn, as the code keeps it. The definition `Scene` is what it shows.
@@ -154,10 +155,9 @@ impl DrawnFrame {
     {
         let TerminalKind::Testing { width, height } = kind;
         let grid = Grid::new(alloc, width.min(65_535) as u16, height.min(65_535) as u16)?;
-        let boxes = DrawnRects::new(alloc);
         Ok(DrawnFrame {
             grid,
-            places: Places::Free(boxes),
+            places: Places::Free(FreePlaces::empty(alloc)),
             open_menu: None,
         })
     }
@@ -205,6 +205,7 @@ impl DrawnFrame {
     }
 
     /// Draws the views of `view_state` component by component, and notes their boxes.
+    #[tactic(auto, unfolding(scm_types::specs::Limits::max_items, scm_types::specs::Limits::max_scroll))]
     fn draw_free(
         &mut self,
         alloc: Global,
@@ -227,7 +228,9 @@ impl DrawnFrame {
         laws::apps_are_in_range();
         laws::apps_are_drawn_alike();
         let boxes = render(alloc, &mut self.grid, scroll, &view)?;
-        self.places = Places::Free(boxes);
+        let end = scroll + self.grid.height();
+        let places = FreePlaces::new(alloc, boxes, scroll as isize, end as isize)?;
+        self.places = Places::Free(places);
         Ok(())
     }
 
@@ -314,7 +317,7 @@ impl DrawnFrame {
                 Some(owners) => index.owner_on(owners, column),
                 None => index.owner(row, column),
             },
-            Places::Free(boxes) => find_target(boxes, row as isize, column as isize),
+            Places::Free(places) => places.owner(row as isize, column as isize),
         }
     }
 
@@ -360,8 +363,9 @@ impl DrawnFrame {
     /// Returns whether `row` is on the screen, and `scroll` is at most the maximum scroll.
     #[tactic(auto, unfolding(scm_types::specs::Limits::max_items, scm_types::specs::Limits::max_scroll))]
     fn has_row(&self, scroll: usize, row: usize) -> bool
-        ensures { result
+        ensures value { result
             ≡ (nat_lt row (length self.now.grid.rows) && nat_le scroll max_scroll) }
+        ensures room { IsTrue result → scroll + row < 2 ^ 63 }
     {
         row < self.grid.height() && scroll <= RecordState::MAX_SCROLL
     }
@@ -389,7 +393,7 @@ impl DrawnFrame {
     /// Returns the component that a click at `row` and `column` of the screen hits, if any, and the end
     /// of a run of columns from there on where a click hits the same, while the screen is scrolled to
     /// row `scroll` of the document. All are counted from 0. `owners` are those of the row, if they
-    /// were found; else the run is that column alone.
+    /// were found.
     pub(crate) fn run_among(
         &self,
         owners: Option<RowOwners>,
@@ -403,17 +407,17 @@ impl DrawnFrame {
         ensures owner { (scene : Scene) → IsSceneOf scene self.now
             → (x : ℕ) → column ≤ x → x < result.end → result.owner ≡ hit scene scroll row x }
     {
+        if !self.has_row(scroll, row) {
+            return self.one_place(owners, scroll, row, column);
+        }
         match &self.places {
             Places::Plain(index) => match owners {
-                Some(found) => {
-                    if self.has_row(scroll, row) {
-                        return index.run_on(found, column);
-                    }
-                    self.one_place(owners, scroll, row, column)
-                }
+                Some(found) => index.run_on(found, column),
                 None => self.one_place(owners, scroll, row, column),
             },
-            Places::Free(_) => self.one_place(owners, scroll, row, column),
+            Places::Free(places) => {
+                places.run_on(self.grid.width(), (scroll + row) as isize, column)
+            }
         }
     }
 
@@ -489,7 +493,8 @@ impl DrawnFrame {
     {
         match &self.places {
             Places::Plain(index) => index.span(key),
-            Places::Free(boxes) => boxes
+            Places::Free(places) => places
+                .boxes
                 .get(&ComponentId::SelectableItem(key))
                 .map(|drawn| rows_of(drawn.rect)),
         }
@@ -501,7 +506,8 @@ impl DrawnFrame {
     {
         match &self.places {
             Places::Plain(index) => index.extent(),
-            Places::Free(boxes) => boxes
+            Places::Free(places) => places
+                .boxes
                 .get(&ComponentId::App)
                 .map_or(0, |drawn| drawn.rect.height),
         }

@@ -6,6 +6,7 @@
 #![tactic(auto)]
 
 mod frame;
+mod free_places;
 pub mod live;
 mod pages;
 pub mod recorder;

@@ -1,6 +1,6 @@
 //! The number of rows that a frame begins, and of calls that draw it.
 use crate::sessions::session_of;
-use scm_record::{RecordError, TerminalKind};
+use scm_record::{LiveSession, NumberedStyle, RecordError, Style, Styles, TerminalKind};
 use scm_samples::number_of;
 use std::alloc::Global;
 use std::process::Abort;
@@ -138,6 +138,39 @@ fn check_row(rt: &impl Abort, alloc: Global, row: &str) -> Result<(), RecordErro
     assert_eq!(rt; most, most_of(given), "{row}");
     assert!(rt; wanted.0 <= most.0 && wanted.1 <= most.1, "{row}");
     check_counts(rt, alloc, given, wanted)
+}
+
+/// Checks that the styles of row `row` are the style of each of its places. `styles` has room for them.
+fn check_styles(
+    rt: &impl Abort,
+    session: &LiveSession<'_>,
+    row: usize,
+    styles: &mut [NumberedStyle],
+) {
+    session.row_styles(row, styles);
+    for (column, style) in styles.iter().enumerate() {
+        assert_eq!(rt;
+            style.style(),
+            session.style(row, column),
+            "row {row}, column {column}"
+        );
+    }
+}
+
+#[test]
+fn rows_of_both_commits_have_the_styles_of_their_places(
+    rt: HostRuntime,
+) -> Result<(), RecordError> {
+    let kind = TerminalKind::Testing {
+        width: 41,
+        height: 12,
+    };
+    let session = session_of(&rt, rt.alloc(), kind, "!x7y0mb,t", "Fvllpjj")?;
+    let mut styles = vec![in rt.alloc(); NumberedStyle::new(Style::PLAIN); 43]?;
+    for row in 0..13 {
+        check_styles(&rt, &session, row, styles.as_mut_slice());
+    }
+    Ok(())
 }
 
 #[test]

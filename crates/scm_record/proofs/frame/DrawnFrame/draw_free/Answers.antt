@@ -1,7 +1,6 @@
 use Rattle.std.proofs.Common.{◌∙◌, ap, length, subst}
 use Rattle.scm_view.specs.Frame.{Frame}
-use Rattle.scm_record.specs.declared.frame.Places.TheVariants.{Free}
-use Rattle.scm_record.specs.Frames.{KnowsPlaces}
+use Rattle.scm_record.specs.Frames.{IsMapOf}
 use Rattle.scm_record.proofs.FrameLemmas.{view-is}
 use Rattle.scm_record.proofs.frame.DrawnFrame.draw_free.Goals as goal
 
@@ -17,4 +16,7 @@ returns-clause-places c =
     let w = c.args.self.now.grid.width in
     let h = length c.args.self.now.grid.rows in
     let same = view-is c.apps_are_drawn_alike.ensures w h c.args.scroll c.in_ok-view.view c.args.view_state.now c.in_ok-view.ensures.ok in
-    subst (λ (f : Frame). KnowsPlaces w f (Free c.in_ok-boxes.boxes)) same c.in_ok-boxes.ensures.ok
+    record {
+      map = rw c.in_ok-places.ensures.boxes (subst (λ (f : Frame). IsMapOf w f c.in_ok-boxes.boxes) same c.in_ok-boxes.ensures.ok);
+      shown = c.in_ok-places.ensures.shown;
+    }

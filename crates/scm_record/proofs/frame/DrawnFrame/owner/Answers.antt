@@ -6,6 +6,5 @@ pub returns-in-Free : goal.returns-in-Free
 returns-in-Free c = λ scene shown within.
     let y : to_z w64 c.args.row ≡ pos c.args.row = to_z_pos w64 c.args.row c.requires.row in
     let x : to_z w64 c.args.column ≡ pos c.args.column = to_z_pos w64 c.args.column c.requires.column in
-    let t = rw (y, x) at c.find_target.ensures.target in
-    let map = rw c.in-Free.is at shown.places in
-    map.owner c.args.row c.args.column within c.find_target.result t
+    let places = rw c.in-Free.is at shown.places in
+    c.owner-in-Free.ensures scene.width c.args.row c.args.column scene.frame places within y x
