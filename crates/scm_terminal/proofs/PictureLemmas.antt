@@ -39,6 +39,12 @@ row-got [] row d h = absurd (omega arith)
 row-got (x ∷ xs) zero d h = refl
 row-got (x ∷ xs) (suc row) d h = row-got xs row d (omega arith)
 
+-- a cell that shows the symbol of a column shows what is read there
+pub shows-read : (columns : List Cell) (i : ℕ) (column : Cell) (cell : StyledCell) (style : Style) → i < length columns → column ≡ get_or columns i column
+    → cell ≡ cell_of (symbol_of column) style → cell ≡ cell_of (symbol_in columns i) style
+shows-read columns i column cell style h read shows =
+    shows ∙ ap (λ (o : Option (List ℕ)). cell_of o style) (sym (cell-read columns i column (row-got columns i column h ∙ ap (λ (c : Cell). Some c) (sym read))))
+
 pub styled-row : (style : ℕ → ℕ → Style) (grid : Screen) (row : ℕ) → row < length grid.rows → length (get_or grid.rows row []) ≡ grid.width
     → styled_row style grid row ≡ styled_from (style row) 0 (get_or grid.rows row [])
 styled-row style grid row h size =

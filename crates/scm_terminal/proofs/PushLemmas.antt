@@ -1,14 +1,15 @@
 -- The bytes of cells and of rows one after another.
-use Rattle.std.proofs.Common.{◌≡◌, ℕ, ◌==◌, ◌&&◌, ◌||◌, ◌+◌, ◌<◌, ◌≤◌, Bool, true, false, List, [], ◌∷◌, ◌++◌, length, drop, get_or, map, refl, sym, ap, ap₂, ◌∙◌, Option, append-nil, append_assoc}
+use Rattle.std.proofs.Common.{◌≡◌, ℕ, ◌==◌, ◌&&◌, ◌||◌, zero, suc, ◌+◌, ◌<◌, ◌≤◌, Bool, true, false, List, [], ◌∷◌, ◌++◌, length, drop, get_or, map, refl, sym, ap, ap₂, subst, ◌∙◌, arith, Option, None, append-nil, append_assoc}
 use Rattle.std.specs.Prelude.{if◌then◌else◌}
 use Rattle.std.specs.List.{flat_map, list_any}
-use Rattle.std.proofs.lemmas.List.{drop_more, drop_all}
+use Rattle.std.proofs.lemmas.List.{drop_more, drop_all, drop-drop, get_or-drop, length-drop}
 use Rattle.std.proofs.lemmas.List.Concat.{flat_map-append}
 use Rattle.scm_cells.specs.declared.style.Style.{Style}
 use Rattle.scm_terminal.specs.declared.pen.Pen.{Pen}
 use Rattle.scm_terminal.specs.declared.pen.Pass.{Pass}
 use Rattle.scm_terminal.specs.declared.pen.Pass.TheVariants.{Blanks, Symbols, Letters}
 use Rattle.scm_terminal.specs.declared.row.Row.{Row}
+use Rattle.scm_terminal.specs.PassedOver.{IsPassedOver}
 use Rattle.scm_terminal.specs.RowView.{sent_line_of}
 use Rattle.scm_terminal.specs.Sent.{sent_cell, blank_after, sent_from}
 use Rattle.scm_terminal.specs.StyledCell.{StyledCell, First, Later, laters}
@@ -71,6 +72,44 @@ pub pass-all : (w : ℕ) (pass : Pass) (row column : ℕ) (pen : Pen) (blank : O
 pass-all w pass row column pen blank cells now start h inv =
     let none : sent_from w column blank (drop column cells) ≡ [] = ap (sent_from w column blank) (drop_all column cells h) ∙ sent-none w column blank in
     sym (append-nil now) ∙ ap (λ cs. now ++ bytes cs) (sym (ap (pass_commands pass row column pen) none ∙ pass-nil pass row column pen)) ∙ inv
+
+-- the bytes of a pass for cells from a column on
+abbrev pub bytes_left : ℕ → Pass → ℕ → ℕ → Pen → Option Style → List StyledCell → List ℕ
+bytes_left w pass row column pen blank cells = bytes (pass_commands pass row column pen (sent_from w column blank cells))
+
+pass-over : (w : ℕ) (pass : Pass) (row column : ℕ) (pen : Pen) (blank : Option Style) (p : StyledCell) (ps : List StyledCell) → IsPassedOver pass p
+    → bytes_left w pass row column pen blank (p ∷ ps) ≡ bytes_left w pass row (column + 1) (pen_after pen Later) None ps
+pass-over w pass row column pen blank p ps over =
+    let q = sent_cell w column blank p in
+    let others = sent_from w (column + 1) None ps in
+    ap (λ (xs : List StyledCell). bytes (pass_commands pass row column pen xs)) (sent-more w column blank None p q ps refl (sym (over.no_blanks w column blank)))
+    ∙ pass-cons pass row column pen q others
+    ∙ ap (λ (x : StyledCell). bytes (cell_commands row column pen x 0) ++ bytes (pass_commands pass row (column + 1) (pen_after pen x) others)) (over.puts_nothing pen.is_there w column blank)
+
+-- a cell that is passed over, and `n` more
+pass-run : (n w : ℕ) (pass : Pass) (row column end : ℕ) (pen : Pen) (blank : Option Style) (cells : List StyledCell) → n < length cells → (column + n) + 1 ≡ end
+    → ((k : ℕ) → k ≤ n → IsPassedOver pass (get_or cells k Later))
+    → bytes_left w pass row column pen blank cells ≡ bytes_left w pass row end (pen_after pen Later) None (drop (suc n) cells)
+pass-run n w pass row column end pen blank [] h e over = absurd (omega arith)
+pass-run zero w pass row column end pen blank (p ∷ ps) h e over =
+    let next : column + 1 ≡ end = omega arith in
+    pass-over w pass row column pen blank p ps (over 0 (omega arith)) ∙ ap (λ (k : ℕ). bytes_left w pass row k (pen_after pen Later) None ps) next
+pass-run (suc n) w pass row column end pen blank (p ∷ ps) h e over =
+    pass-over w pass row column pen blank p ps (over 0 (omega arith))
+    ∙ pass-run n w pass row (column + 1) end (pen_after pen Later) None ps (omega arith) (omega arith) (λ k b. over (suc k) (omega arith))
+
+-- the columns from `column` to `end` are passed over
+pub pass-far : (w : ℕ) (pass : Pass) (row column end n : ℕ) (pen after : Pen) (blank : Option Style) (cells : List StyledCell) (was start : List ℕ) → (column + n) + 1 ≡ end → end ≤ length cells
+    → after ≡ pen_after pen Later → ((k : ℕ) → column ≤ k → k < end → IsPassedOver pass (get_or cells k Later))
+    → was ++ bytes_left w pass row column pen blank (drop column cells) ≡ start → was ++ bytes_left w pass row end after None (drop end cells) ≡ start
+pass-far w pass row column end n pen after blank cells was start e high behind over inv =
+    let long = length-drop column cells in
+    let far : column + suc n ≡ end = omega arith in
+    let run = pass-run n w pass row column end pen blank (drop column cells) (omega arith) e (λ k b. subst (IsPassedOver pass) (sym (get_or-drop column cells k Later)) (over (column + k) (omega arith) (omega arith))) in
+    ap (λ (x : Pen). was ++ bytes_left w pass row end x None (drop end cells)) behind
+    ∙ ap (λ (xs : List StyledCell). was ++ bytes_left w pass row end (pen_after pen Later) None xs) (sym (drop-drop (suc n) column cells ∙ ap (λ (i : ℕ). drop i cells) far))
+    ∙ ap (λ t. was ++ t) (sym run)
+    ∙ inv
 
 -- the three passes of a row
 pub row-passes : (row : ℕ) (cells : List StyledCell) (t0 t1 t2 t3 : List ℕ)

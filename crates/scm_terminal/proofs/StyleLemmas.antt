@@ -1,9 +1,11 @@
 -- Styles with the same number are the same.
 use Rattle.std.proofs.Common.{◌≡◌, ℕ, ◌+◌, ◌*◌, ◌<◌, Bool, true, false, List, [], ◌∷◌, get_or, refl, sym, ap, ◌∙◌, arith, Option, Some, None}
+use Rattle.std.specs.Prelude.{◌%◌, ◌/◌, ◌==◌}
 use Rattle.scm_cells.specs.declared.style.Colour.{Colour}
 use Rattle.scm_cells.specs.declared.style.Colour.TheVariants.{Black, Red, Green, Yellow, Blue, Magenta, Cyan, White}
 use Rattle.scm_cells.specs.declared.style.Style.{Style}
-use Rattle.scm_terminal.specs.Style.{bit, colour_code, style_code}
+use Rattle.scm_terminal.specs.Bytes.{has_bit}
+use Rattle.scm_terminal.specs.Style.{bit, colour_code, colour_of, style_code, style_of_code}
 
 abbrev colours : List (Option Colour)
 colours = None ∷ (Some Black ∷ (Some Red ∷ (Some Green ∷ (Some Yellow ∷ (Some Blue ∷ (Some Magenta ∷ (Some Cyan ∷ (Some White ∷ []))))))))
@@ -62,4 +64,41 @@ style-same a b e =
     let s = bit-same a.reversed b.reversed parts.4 in
     let same : ◌≡◌ {A = Style} (record { colour = a.colour; bold = a.bold; dim = a.dim; underlined = a.underlined; reversed = a.reversed })
     (record { colour = b.colour; bold = b.bold; dim = b.dim; underlined = b.underlined; reversed = b.reversed }) = cc in
+    same
+
+-- ---- the style with a number
+
+colour-found : (c : Option Colour) → colour_of (colour_code c) ≡ c
+colour-found None = refl
+colour-found (Some Black) = refl
+colour-found (Some Red) = refl
+colour-found (Some Green) = refl
+colour-found (Some Yellow) = refl
+colour-found (Some Blue) = refl
+colour-found (Some Magenta) = refl
+colour-found (Some Cyan) = refl
+colour-found (Some White) = refl
+
+bit-found : (b : Bool) → (bit b == 1) ≡ b
+bit-found true = refl
+bit-found false = refl
+
+parts-found : (a p q r s n : ℕ) → a < 16 → p < 2 → q < 2 → r < 2 → s < 2 → n ≡ a + 16 * (p + 2 * (q + 2 * (r + 2 * s)))
+    → (n % 16 ≡ a) × ((n / 16) % 2 ≡ p) × ((n / 32) % 2 ≡ q) × ((n / 64) % 2 ≡ r) × ((n / 128) % 2 ≡ s)
+parts-found a p q r s n h1 h2 h3 h4 h5 e = (omega arith, omega arith, omega arith, omega arith, omega arith)
+
+-- each style is the one with its number
+pub style-found : (style : Style) → style_of_code (style_code style) ≡ style
+unfolding style_code style_of_code
+style-found style =
+    let n = style_code style in
+    let parts = parts-found (colour_code style.colour) (bit style.bold) (bit style.dim) (bit style.underlined) (bit style.reversed) n
+    (colour-small style.colour) (bit-small style.bold) (bit-small style.dim) (bit-small style.underlined) (bit-small style.reversed) refl in
+    let c : colour_of (n % 16) ≡ style.colour = ap colour_of parts.0 ∙ colour-found style.colour in
+    let p : has_bit 16 n ≡ style.bold = ap (λ k. k == 1) parts.1 ∙ bit-found style.bold in
+    let q : has_bit 32 n ≡ style.dim = ap (λ k. k == 1) parts.2 ∙ bit-found style.dim in
+    let r : has_bit 64 n ≡ style.underlined = ap (λ k. k == 1) parts.3 ∙ bit-found style.underlined in
+    let s : has_bit 128 n ≡ style.reversed = ap (λ k. k == 1) parts.4 ∙ bit-found style.reversed in
+    let same : ◌≡◌ {A = Style} (record { colour = colour_of (n % 16); bold = has_bit 16 n; dim = has_bit 32 n; underlined = has_bit 64 n; reversed = has_bit 128 n })
+    (record { colour = style.colour; bold = style.bold; dim = style.dim; underlined = style.underlined; reversed = style.reversed }) = cc in
     same

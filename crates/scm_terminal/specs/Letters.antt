@@ -15,6 +15,11 @@ pub record ShowsByte (cell : StyledCell) : Type 0 where
   pub byte : ℕ
   pub is_it : symbol_of_cell cell ≡ Some (byte ∷ [])
 
+-- the cell shows the printable character b of ASCII
+pub record ShowsLetter (cell : StyledCell) (b : ℕ) : Type 0 where
+  pub is_it : symbol_of_cell cell ≡ Some (b ∷ [])
+  pub printable : IsTrue (is_in_range 0x20 0x7E b)
+
 -- the letter b if there is one, and otherwise another symbol, if any
 abbrev pub letter_or : Option ℕ → Option (List ℕ) → Option (List ℕ)
 letter_or (Some b) symbol = Some (b ∷ [])

@@ -1,9 +1,10 @@
 -- Styles as numbers, which compare them, and as SGR sequences of ECMA-48, written and read.
-use Rattle.std.specs.Prelude.{ℕ, ◌+◌, ◌*◌, ◌==◌, List, [], ◌∷◌, ◌++◌, Bool, true, false, if◌then◌else◌, Option, Some, None}
+use Rattle.std.specs.Prelude.{ℕ, ◌+◌, ◌*◌, ◌%◌, ◌==◌, List, [], ◌∷◌, ◌++◌, Bool, true, false, if◌then◌else◌, Option, Some, None}
 use Rattle.std.specs.Option.{option_and_then}
 use Rattle.scm_cells.specs.declared.style.Colour.{Colour}
 use Rattle.scm_cells.specs.declared.style.Colour.TheVariants.{Black, Red, Green, Yellow, Blue, Magenta, Cyan, White}
 use Rattle.scm_cells.specs.declared.style.Style.{Style}
+use Rattle.scm_terminal.specs.Bytes.{has_bit}
 
 -- the number of a colour: 0 for the terminal's own, and otherwise 1 to 8
 abbrev pub colour_code : Option Colour → ℕ
@@ -27,6 +28,29 @@ style_code style =
     colour_code style.colour
     + 16 * (bit style.bold + 2 * (bit style.dim
     + 2 * (bit style.underlined + 2 * bit style.reversed)))
+
+-- the colour with the number `n`, or the terminal's own if no colour has it
+abbrev pub colour_of : ℕ → Option Colour
+colour_of n =
+    if n == 1 then Some Black
+    else if n == 2 then Some Red
+    else if n == 3 then Some Green
+    else if n == 4 then Some Yellow
+    else if n == 5 then Some Blue
+    else if n == 6 then Some Magenta
+    else if n == 7 then Some Cyan
+    else if n == 8 then Some White
+    else None
+
+-- the style with the number `n`
+unfoldable pub style_of_code : ℕ → Style
+style_of_code n = record {
+  colour = colour_of (n % 16);
+  bold = has_bit 16 n;
+  dim = has_bit 32 n;
+  underlined = has_bit 64 n;
+  reversed = has_bit 128 n;
+}
 
 -- ---- the bytes that set a style: the SGR parameters of ECMA-48
 

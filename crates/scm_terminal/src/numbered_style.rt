@@ -1,17 +1,14 @@
-//! A style with its number, which compares it at once.
+//! A style by its number, which compares and copies it at once.
 ghost use Rattle.std.specs.Prelude.{◌≡◌, IsTrue};
 ghost use Rattle.scm_terminal.specs.Style.{plain_style, style_code};
 
-use crate::style::code_of;
+use crate::style::{code_of, style_of_code};
 use scm_cells::Style;
 use std::marker::Model;
 
-/// A style that is compared by its number. Contracts see the style.
+/// A style, kept as its number. Contracts see the style.
 #[derive(Clone, Copy)]
 pub struct NumberedStyle {
-    /// The style.
-    style: Style,
-
     /// The number of the style.
     code: u8,
 }
@@ -38,7 +35,6 @@ impl NumberedStyle {
         ensures { result ≡ style }
     {
         NumberedStyle {
-            style,
             code: code_of(style),
         }
     }
@@ -54,7 +50,7 @@ impl NumberedStyle {
     pub fn style(self) -> Style
         ensures { result ≡ self }
     {
-        self.style
+        style_of_code(self.code)
     }
 
     /// Returns whether both styles are the same.

@@ -16,6 +16,7 @@ use scm_cells::Grid;
 use scm_errors::RecordError;
 use std::alloc::{AllocError, Global};
 use std::marker::Model;
+use std::mem::replace;
 
 /// A painter of grids on one terminal. It keeps the last picture, and writes only the rows that
 /// differ from it.
@@ -29,6 +30,9 @@ pub struct Painter {
 
     /// The rows of the last picture, or none if what the terminal shows is unknown.
     rows: Vec<Row>,
+
+    /// The rows of a picture that was forgotten, whose memory the next picture takes.
+    spare: Vec<Row>,
 }
 
 impl Model for Painter {
@@ -70,6 +74,23 @@ fn new_rows(alloc: Global, width: usize, height: usize) -> Result<Vec<Row>, Allo
     Ok(rows)
 }
 
+/// Returns `height` rows, each of `width` columns: those of `spare` if they have this size, and
+/// otherwise new ones.
+fn rows_of_size(
+    alloc: Global,
+    spare: Vec<Row>,
+    width: usize,
+    height: usize,
+) -> Result<Vec<Row>, AllocError>
+    ensures { IfOk result (λ rows. HasSize width height (map cells_of_row rows.items)) }
+{
+    if has_size(spare.as_slice(), width, height) {
+        Ok(spare)
+    } else {
+        new_rows(alloc, width, height)
+    }
+}
+
 impl Painter {
     /// Makes a painter without a last picture: what the terminal shows is unknown.
     pub fn new(alloc: Global) -> Painter
@@ -78,14 +99,15 @@ impl Painter {
         Painter {
             alloc,
             rows: Vec::new(alloc),
+            spare: Vec::new(alloc),
         }
     }
 
-    /// Forgets the last picture, so that the next `paint` writes all rows.
+    /// Forgets the last picture, so that the next `paint` writes all rows. Keeps its memory.
     pub fn forget(&mut self)
         ensures { self.new ≡ [] }
     {
-        self.rows.clear();
+        self.spare = replace(&mut self.rows, Vec::new(self.alloc));
     }
 
     /// Returns the bytes that make a terminal of the size of `grid` show it in `styles`. They write
@@ -159,8 +181,8 @@ impl Painter {
         Ok(text)
     }
 
-    /// If the rows have another size, replaces them by `height` new rows of `width` columns.
-    /// Returns whether it did.
+    /// If the rows have another size, replaces them by `height` rows of `width` columns. Returns
+    /// whether it did.
     fn prepare(&mut self, width: usize, height: usize) -> Result<bool, AllocError>
         ensures size { OnOk result (HasSize width height self.new) }
         ensures all { IfOk result (λ is_all. is_all ≡ false → self.new ≡ self.old) }
@@ -169,7 +191,8 @@ impl Painter {
         if has_size(self.rows.as_slice(), width, height) {
             return Ok(false);
         }
-        self.rows = new_rows(self.alloc, width, height)?;
+        let spare = replace(&mut self.spare, Vec::new(self.alloc));
+        self.rows = rows_of_size(self.alloc, spare, width, height)?;
         Ok(true)
     }
 }

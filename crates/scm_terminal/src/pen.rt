@@ -118,12 +118,35 @@ impl Pen {
             (string_bytes text.new ≡ string_bytes text.old ++ flat_map bytes_of commands) }
     {
         match sent.letter {
-            Some(byte) => match pass {
-                Pass::Blanks => Ok(self.past()),
-                Pass::Symbols => Ok(self.past()),
-                Pass::Letters => self.push_letter(text, row, column, byte, sent.style),
-            },
+            Some(byte) => self.push_byte(text, row, column, byte, sent.style, pass),
             None => self.push_text(text, row, column, sent.symbol, sent.style, pass),
+        }
+    }
+
+    /// Appends the bytes that write what `pass` puts of the character `byte` of ASCII in `style`,
+    /// which is at `row` and `column`, both counted from 0. Returns the pen after it.
+    pub(crate) fn push_byte(
+        self,
+        text: &mut String,
+        row: usize,
+        column: usize,
+        byte: u8,
+        style: NumberedStyle,
+        pass: Pass,
+    ) -> Result<Pen, AllocError>
+        requires row { row < 2 ^ 16 }
+        requires column { column < 2 ^ 16 }
+        requires ascii { byte < 128 }
+        ensures pen { IfOk result
+            (λ p. p ≡ pen_after self (passed pass self.is_there (First (byte ∷ []) style))) }
+        ensures bytes { let put = passed pass self.is_there (First (byte ∷ []) style) in
+            let commands = cell_commands row column self put 0 in OnOk result
+            (string_bytes text.new ≡ string_bytes text.old ++ flat_map bytes_of commands) }
+    {
+        match pass {
+            Pass::Blanks => Ok(self.past()),
+            Pass::Symbols => Ok(self.past()),
+            Pass::Letters => self.push_letter(text, row, column, byte, style),
         }
     }
 

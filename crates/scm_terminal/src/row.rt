@@ -12,8 +12,8 @@ ghost use Rattle.scm_terminal.specs.Painting.{
   sent_line,
 };
 ghost use Rattle.scm_terminal.specs.Sent.{blank_after, sent_cell, sent_row};
-ghost use Rattle.scm_cells.specs.Symbols.{symbol_at, symbol_in};
-ghost use Rattle.scm_terminal.specs.Letters.{IsLetterAt};
+ghost use Rattle.scm_cells.specs.Symbols.{symbol_at, symbol_in, symbol_of};
+ghost use Rattle.scm_terminal.specs.Letters.{IsLetterAt, ShowsByte};
 ghost use Rattle.scm_terminal.specs.PassedOver.{IsPassedOver};
 ghost use Rattle.scm_terminal.specs.Style.{plain_style};
 ghost use Rattle.scm_terminal.specs.StyledCell.{Later, cell_of, row_in};
@@ -88,17 +88,12 @@ fn show_place(
     }
 }
 
-/// Returns whether `cell` is known to show the symbol at `column` of `columns` in `style`, without a look
-/// at its text.
-fn is_same_letter(
-    cell: &StyledCell,
-    columns: &[Column],
-    column: usize,
-    style: NumberedStyle,
-) -> bool
-    ensures { IsTrue result → cell.now ≡ cell_of (symbol_in columns.now column) style }
+/// Returns whether `cell` is known to show the symbol of `column` in `style`, without a look at its
+/// text.
+fn is_same_letter(cell: &StyledCell, column: &Column, style: NumberedStyle) -> bool
+    ensures { IsTrue result → cell.now ≡ cell_of (symbol_of column.now) style }
 {
-    match letter_at(columns, column) {
+    match column.ascii() {
         Some(byte) => cell.is_same_byte(byte, style),
         None => false,
     }
@@ -119,9 +114,10 @@ fn end_of_letters(
     ensures shown { (k : ℕ) → from ≤ k → k < result → slice_index_or cells.now k Later
         ≡ cell_of (symbol_in columns.now k) (slice_index_or styles.now k plain_style) }
 {
+    let end = cells.len().min(columns.len());
     let mut column = from;
-    'letters: while column < cells.len() {
-        if !is_same_letter(&cells[column], columns, column, styles[column]) {
+    'letters: while column < end {
+        if !is_same_letter(&cells[column], &columns[column], styles[column]) {
             return column;
         }
         column += 1;
@@ -176,17 +172,6 @@ struct Written {
     blank: Option<NumberedStyle>,
 }
 
-/// Returns whether `pass` puts nothing of `cell`, as is known without a look at its text.
-fn is_passed_over(cell: &StyledCell, pass: Pass) -> bool
-    ensures { IsTrue result → IsPassedOver pass cell.now }
-{
-    match pass {
-        Pass::Blanks => cell.is_byte(),
-        Pass::Symbols => cell.is_byte(),
-        Pass::Letters => false,
-    }
-}
-
 /// Appends the bytes that write what `pass` puts of `cell`, which is at `row` and `column` of a row of
 /// `width` columns, both counted from 0. `pen` and `blank` are known from the cell before it.
 fn push_place(
@@ -211,16 +196,48 @@ fn push_place(
         let commands = cell_commands row column pen put 0 in OnOk result
         (string_bytes text.new ≡ string_bytes text.old ++ flat_map bytes_of commands) }
 {
-    if is_passed_over(cell, pass) {
-        return Ok(Written {
-            pen: pen.past(),
-            blank: None,
-        });
+    if let Some(byte) = cell.letter() {
+        let pen = pen.push_byte(text, row, column, byte, cell.style(), pass)?;
+        return Ok(Written { pen, blank: None });
     }
     let sent = Sent::new(cell, blank, column, width);
     let blank = sent.blank;
     let pen = pen.push_cell(text, row, column, sent, pass)?;
     Ok(Written { pen, blank })
+}
+
+/// Returns the first column from `from` on whose cell is not known to show a symbol of one byte, or the
+/// number of columns if there is none.
+fn end_of_bytes(cells: &[StyledCell], from: usize) -> usize
+    requires from { from ≤ length cells.now }
+    ensures low { from ≤ result }
+    ensures high { result ≤ length cells.now }
+    ensures bytes { (k : ℕ) → from ≤ k → k < result → ShowsByte (slice_index_or cells.now k Later) }
+{
+    let mut column = from;
+    'bytes: while column < cells.len() {
+        if !cells[column].is_byte() {
+            return column;
+        }
+        column += 1;
+    }
+    column
+}
+
+/// Returns the first column from `from` on of whose cell `pass` may put something, or the number of
+/// columns if there is none.
+fn end_of_passed(cells: &[StyledCell], from: usize, pass: Pass) -> usize
+    requires from { from ≤ length cells.now }
+    ensures low { from ≤ result }
+    ensures high { result ≤ length cells.now }
+    ensures passed { (k : ℕ) → from ≤ k → k < result
+        → IsPassedOver pass (slice_index_or cells.now k Later) }
+{
+    match pass {
+        Pass::Blanks => end_of_bytes(cells, from),
+        Pass::Symbols => end_of_bytes(cells, from),
+        Pass::Letters => from,
+    }
 }
 
 /// Appends the bytes that write what `pass` puts of `cells`, the cells of row `row`. `row` is
@@ -238,10 +255,20 @@ fn push_pass(
 {
     let mut pen = Pen::new();
     let mut blank = None;
-    for (column, cell) in cells.iter().enumerate() {
-        let after = push_place(text, row, column, cells.len(), cell, pass, pen, blank)?;
-        pen = after.pen;
-        blank = after.blank;
+    let mut column = 0;
+    'places: while column < cells.len() {
+        let end = end_of_passed(cells, column, pass);
+        if column < end {
+            pen = pen.past();
+            blank = None;
+            column = end;
+        } else {
+            let cell = &cells[column];
+            let after = push_place(text, row, column, cells.len(), cell, pass, pen, blank)?;
+            pen = after.pen;
+            blank = after.blank;
+            column += 1;
+        }
     }
     Ok(())
 }

@@ -6,12 +6,15 @@ ghost use Rattle.scm_terminal.specs.StyledCell.{row_of_styles};
 ghost use Rattle.scm_terminal.specs.Style.{
   bit,
   colour_code,
+  colour_of,
   style_code,
+  style_of_code,
   colour_bytes,
   text_if,
   style_bytes,
 };
 
+use crate::bytes::has_bit;
 use crate::numbered_style::NumberedStyle;
 use scm_cells::{Colour, Style};
 use std::alloc::AllocError;
@@ -73,6 +76,38 @@ pub(crate) fn code_of(style: Style) -> u8
     let lines = bit(style.underlined) + 2 * bit(style.reversed);
     let flags = bit(style.bold) + 2 * (bit(style.dim) + 2 * lines);
     colour_code(style.colour) + 16 * flags
+}
+
+/// Returns the colour with the number `code`, or `None` if no colour has it.
+fn colour_of(code: u8) -> Option<Colour>
+    ensures { result ≡ colour_of code }
+{
+    match code {
+        1 => Some(Colour::Black),
+        2 => Some(Colour::Red),
+        3 => Some(Colour::Green),
+        4 => Some(Colour::Yellow),
+        5 => Some(Colour::Blue),
+        6 => Some(Colour::Magenta),
+        7 => Some(Colour::Cyan),
+        8 => Some(Colour::White),
+        _ => None,
+    }
+}
+
+/// Returns the style with the number `code`.
+#[tactic(auto, unfolding(crate::specs::Style::style_of_code))]
+pub(crate) fn style_of_code(code: u8) -> Style
+    ensures { result ≡ style_of_code code }
+{
+    let number = u16::from(code);
+    Style {
+        colour: colour_of(code % 16),
+        bold: has_bit(16, number),
+        dim: has_bit(32, number),
+        underlined: has_bit(64, number),
+        reversed: has_bit(128, number),
+    }
 }
 
 /// Returns the SGR parameter of `colour` with its semicolon, or nothing for the terminal's own.

@@ -1,8 +1,8 @@
 //! One column of a row of a painter's last picture.
-ghost use Rattle.std.specs.Prelude.{◌≡◌, ◌↔◌, ◌∷◌, [], IsTrue, OnOk, option_map};
+ghost use Rattle.std.specs.Prelude.{◌≡◌, ◌↔◌, ◌∷◌, [], IsTrue, IfSome, OnOk, option_map};
 ghost use Rattle.std.specs.Int.{is_in_range};
 ghost use Rattle.scm_terminal.specs.CellText.{letter_in, symbol_of_text};
-ghost use Rattle.scm_terminal.specs.Letters.{HasAscii, ShowsByte};
+ghost use Rattle.scm_terminal.specs.Letters.{HasAscii, ShowsByte, ShowsLetter};
 ghost use Rattle.scm_terminal.specs.StyledCell.{First, Later, cell_of, letter_of, symbol_of_cell};
 
 use crate::cell_text::CellText;
@@ -94,6 +94,17 @@ impl StyledCell {
         ensures { IsTrue result → ShowsByte self.now }
     {
         is_printable(self.byte)
+    }
+
+    /// Returns the printable character that the cell is known to show without a look at its text.
+    pub(crate) fn letter(&self) -> Option<u8>
+        ensures { IfSome result (λ b. ShowsLetter self.now b) }
+    {
+        if is_printable(self.byte) {
+            Some(self.byte)
+        } else {
+            None
+        }
     }
 
     /// Returns whether the cell is known to show the printable character `byte` in `style`, without a

@@ -1,11 +1,19 @@
-use Rattle.std.proofs.Common.{arith, length, refl}
-use Rattle.scm_terminal.proofs.PushLemmas.{pass-more, pass-all}
+use Rattle.std.proofs.Common.{◌<◌, ◌-◌, arith, length, refl}
+use Rattle.scm_terminal.proofs.PushLemmas.{pass-far, pass-more, pass-all}
 use Rattle.scm_terminal.proofs.row.push_pass.Goals as goal
 
-pub loop-column-preserved : goal.loop-column-preserved
-loop-column-preserved c =
-    pass-more (length c.args.cells.now) c.args.pass c.args.row c.loop-column.column c.loop-column.pen c.in_ok-after.after.pen c.loop-column.blank c.in_ok-after.after.blank c.args.cells.now c.index-cells-column.result _ _ _ _ (omega arith) c.index-cells-column.is
-    refl c.in_ok-after.ensures.blank c.in_ok-after.ensures.pen c.in_ok-after.ensures.bytes c.loop-column.invariant
+pub places-preserved-then-column-end : goal.places-preserved-then-column-end
+places-preserved-then-column-end c =
+    let column = c.places.column in
+    let end = c.end_of_passed-end.result in
+    let ahead : column < end = c.if-column-end.true in
+    pass-far (length c.args.cells.now) c.args.pass c.args.row column end ((end - column) - 1) c.places.pen c.past-pen.result c.places.blank c.args.cells.now _ _
+    (omega arith) c.end_of_passed-end.ensures.high c.past-pen.ensures c.end_of_passed-end.ensures.passed c.places.invariant
+
+pub places-preserved : goal.places-preserved
+places-preserved c =
+    pass-more (length c.args.cells.now) c.args.pass c.args.row c.places.column c.places.pen c.in_ok-after.after.pen c.places.blank c.in_ok-after.after.blank c.args.cells.now c.index-cells-column.result _ _ _ _ c.places-test.true c.index-cells-column.is
+    refl c.in_ok-after.ensures.blank c.in_ok-after.ensures.pen c.in_ok-after.ensures.bytes c.places.invariant
 
 pub returns : goal.returns
-returns c = pass-all (length c.args.cells.now) c.args.pass c.args.row c.loop-column.column c.loop-column.pen c.loop-column.blank c.args.cells.now _ _ (omega arith) c.loop-column.invariant
+returns c = let past = c.places-test.false in pass-all (length c.args.cells.now) c.args.pass c.args.row c.places.column c.places.pen c.places.blank c.args.cells.now _ _ (omega arith) c.places.invariant

@@ -1,4 +1,4 @@
-use Rattle.std.proofs.Common.{◌≡◌, ◌∙◌, ℕ, sym}
+use Rattle.std.proofs.Common.{◌∙◌, sym}
 use Rattle.std.proofs.lemmas.Bool.{eqb-true}
 use Rattle.scm_terminal.proofs.StyleLemmas.{style-same}
 use Rattle.scm_terminal.proofs.numbered_style.NumberedStyle.is_same.Goals as goal
