@@ -1,6 +1,6 @@
 -- The lines of a state, kept as a flag, while the rest of a session changes: toggles change no key, and folds of files and sections
 -- change no line.
-use Rattle.std.proofs.Common.{◌≡◌, ℕ, ◌+◌, ◌≤◌, Bool, true, false, List, [], ◌∷◌, ◌++◌, refl, sym, ap, ap₂, ◌∙◌, subst, IfSome}
+use Rattle.std.proofs.Common.{◌≡◌, ℕ, ◌+◌, Bool, true, false, List, [], ◌∷◌, ◌++◌, refl, sym, ap, ap₂, ◌∙◌}
 use Rattle.std.specs.Prelude.{filter, map, if◌then◌else◌}
 use Rattle.scm_types.specs.declared.keys.SelectionKey.{SelectionKey}
 use Rattle.scm_types.specs.declared.keys.SelectionKey.TheVariants as keys
@@ -10,9 +10,8 @@ use Rattle.scm_types.specs.declared.section.Section.{Section}
 use Rattle.scm_types.specs.declared.section.Section.TheVariants.{Unchanged, Changed, FileMode, Binary}
 use Rattle.scm_types.specs.declared.state.RecordState.{RecordState}
 use Rattle.scm_types.specs.Keys.{file_of_line, file_of_section, section_of_line}
-use Rattle.scm_types.specs.Limits.{max_items, state_size}
+use Rattle.scm_types.specs.Limits.{state_size}
 use Rattle.scm_types.specs.Marks.{file_with_marks, line_with_mark, section_with_marks}
-use Rattle.scm_layout.specs.declared.state_rows.StateRows.{StateRows}
 use Rattle.scm_layout.specs.Layouts.{layout_of}
 use Rattle.scm_selection.specs.KeyLists.{all_keys, file_key, files_keys, is_line, line_key, line_keys, section_key, section_keys, sections_keys}
 use Rattle.scm_selection.specs.KeySet.{key_set, with_key}

@@ -224,8 +224,8 @@ fn end_of_bytes(cells: &[StyledCell], from: usize) -> usize
     column
 }
 
-/// Returns the first column from `from` on of whose cell `pass` may put something, or the number of
-/// columns if there is none.
+/// Returns the first column from `from` on where `pass` may put something, or the number of columns if
+/// there is none.
 fn end_of_passed(cells: &[StyledCell], from: usize, pass: Pass) -> usize
     requires from { from ≤ length cells.now }
     ensures low { from ≤ result }

@@ -1,4 +1,4 @@
-use Rattle.std.proofs.Common.{◌≡◌, ◌∙◌, ◌≤◌, ap, rules, subst, sym}
+use Rattle.std.proofs.Common.{◌∙◌, ◌≤◌, ap, rules, subst, sym}
 use Rattle.std.proofs.lemmas.Result.{IfOk-weaker}
 use Rattle.scm_types.specs.Limits.{max_items, state_size}
 use Rattle.scm_layout.specs.Layouts.{layout_of}

@@ -1,5 +1,4 @@
-use Rattle.std.proofs.Common.{◌≡◌, ◌∙◌, List, ap, refl, subst, sym}
-use Rattle.scm_types.specs.declared.keys.SelectionKey.{SelectionKey}
+use Rattle.std.proofs.Common.{◌≡◌, ◌∙◌, ap, refl, subst, sym}
 use Rattle.scm_types.specs.declared.state.RecordState.{RecordState}
 use Rattle.scm_selection.specs.Toggle.{with_all_inverted}
 use Rattle.scm_view_state.specs.LineKeys.{with_lines}
