@@ -1,4 +1,5 @@
 //! What inputs return, also past their end, and the places of a store.
+use crate::checks::check_equal;
 use scm_input::{Event, RecordInput, Screens, TerminalKind, TestingInput};
 use scm_types::RecordError;
 
@@ -7,11 +8,11 @@ fn a_testing_input_gives_its_events(rt: HostRuntime) -> Result<(), RecordError> 
     let alloc = rt.alloc();
     let events = vec![in alloc; Event::QuitCancel]?;
     let mut input = TestingInput::new(alloc, 80, 24, events)?;
-    assert_eq!(rt; input.batches_left(), 1);
+    check_equal(&rt, input.batches_left(), 1);
     for event in [Event::QuitCancel, Event::None] {
         let batch = input.next_events()?;
-        assert_eq!(rt; batch.as_slice(), [event].as_slice());
-        assert_eq!(rt; input.batches_left(), 0);
+        check_equal(&rt, batch.as_slice(), [event].as_slice());
+        check_equal(&rt, input.batches_left(), 0);
     }
     Ok(())
 }
@@ -24,11 +25,11 @@ fn a_testing_input_gives_its_messages(rt: HostRuntime) -> Result<(), RecordError
         width: 80,
         height: 24,
     };
-    assert_eq!(rt; input.terminal_kind(), kind);
+    check_equal(&rt, input.terminal_kind(), kind);
     input
         .commit_messages
         .push_back(String::from_str(alloc, "bye")?)?;
-    assert_eq!(rt; input.edit_commit_message("hello")?.as_str(), "bye");
+    check_equal(&rt, input.edit_commit_message("hello")?.as_str(), "bye");
     let past = input.edit_commit_message("hello");
     assert!(rt;
         matches!(&past, Err(RecordError::Other(text)) if text.as_str() == "No more commit messages available")
@@ -39,13 +40,17 @@ fn a_testing_input_gives_its_messages(rt: HostRuntime) -> Result<(), RecordError
 #[test]
 fn a_store_gives_places(rt: HostRuntime) -> Result<(), RecordError> {
     let mut screens = Screens::new(rt.alloc());
-    assert_eq!(rt; screens.frames(), 0);
+    check_equal(&rt, screens.frames(), 0);
     let first = screens.place()?;
     let second = screens.place()?;
     assert!(rt; first != second);
     assert!(rt; matches!(first.event(), Event::TakeScreenshot(shot) if shot == first));
     for shot in [first, second] {
-        assert_eq!(rt; screens.text(shot), "<this screenshot was never assigned>");
+        check_equal(
+            &rt,
+            screens.text(shot),
+            "<this screenshot was never assigned>",
+        );
     }
     Ok(())
 }

@@ -2,41 +2,29 @@
 ghost use Rattle.std.specs.Prelude.{◌≡◌};
 ghost use Rattle.scm_layout.specs.Layouts.{layout_of};
 
+use crate::checks::check_equal;
+use crate::samples::{SMALL, state_of};
 use scm_layout::row_search::{file_on, section_on};
-use scm_layout::{FileRows, Layout, SectionCounts, SectionRows, SectionShape};
-use scm_samples::{ADDED, REMOVED, changed, commits_of, context, deletion, file_of};
+use scm_layout::{FileCounts, FileRows, Layout, SectionCounts, SectionRows, SectionShape};
 use scm_selection::key_lists::{all_keys, file_key, line_key, section_key};
 use scm_selection::key_set::{KeySet, key_set_of};
-use scm_types::{FileMode, Items, RecordError, RecordState};
-use std::alloc::Global;
+use scm_types::{Items, RecordError, RecordState};
 use std::process::Abort;
 
-/// Returns a state with a message and one file: two lines of context, a checked removed line and an
-/// unchecked added line, a checked deletion, and a line of context.
-fn sample(alloc: Global) -> Result<RecordState<'static>, RecordError> {
-    let mut sections = Vec::new(alloc);
-    sections.push(context(alloc, &["a\n", "b\n"])?)?;
-    sections.push(changed(alloc, &[(true, REMOVED, "c\n"), (false, ADDED, "d\n")])?)?;
-    sections.push(deletion())?;
-    sections.push(context(alloc, &["e\n"])?)?;
-    let mut files = Items::new(alloc);
-    files.push(file_of(FileMode::FILE_DEFAULT, sections))?;
-    Ok(RecordState {
-        is_read_only: false,
-        commits: commits_of(alloc, "message")?,
-        files,
-    })
+/// Returns the counts of the only file.
+fn file_counts<'a>(rt: &impl Abort, layout: &'a Layout) -> &'a FileCounts {
+    let files = layout.counts.files.as_slice();
+    assert!(rt; files.len() == 1);
+    &files[0]
 }
 
 /// Checks that the file has `checked` checked items: `lines` lines and `modes` modes.
 fn check_marks(rt: &impl Abort, layout: &Layout, checked: usize, lines: usize, modes: usize) {
-    let files = layout.counts.files.as_slice();
-    assert_eq!(rt; files.len(), 1);
-    assert_eq!(rt; files[0].checked, checked);
-    let sections = files[0].sections.as_slice();
-    assert_eq!(rt; sections.len(), 4);
-    assert_eq!(rt; sections[1].checked, lines);
-    assert_eq!(rt; sections[2].checked, modes);
+    let counts = file_counts(rt, layout);
+    let sections = counts.sections.as_slice();
+    assert!(rt; sections.len() == 4);
+    let found = [counts.checked, sections[1].checked, sections[2].checked];
+    check_equal(rt, found, [checked, lines, modes]);
 }
 
 /// Checks that `found` has `numbers`: its items, checked items, and the editable sections and lines
@@ -48,18 +36,16 @@ fn check_section(rt: &impl Abort, found: &SectionCounts, numbers: [usize; 4]) {
         found.editable_before,
         found.lines_before,
     ];
-    assert_eq!(rt; counted, numbers);
+    check_equal(rt, counted, numbers);
 }
 
-/// Checks the counts of `sample`, as it is first.
+/// Checks the counts of `SMALL`, as it is first.
 fn check_counts(rt: &impl Abort, layout: &Layout) {
-    let files = layout.counts.files.as_slice();
-    assert_eq!(rt; files.len(), 1);
-    let counts = &files[0];
-    assert_eq!(rt; (counts.editable, counts.modes), (2, 1));
-    assert_eq!(rt; (counts.items, counts.checked), (3, 2));
+    let counts = file_counts(rt, layout);
+    check_equal(rt, (counts.editable, counts.modes), (2, 1));
+    check_equal(rt, (counts.items, counts.checked), (3, 2));
     let sections = counts.sections.as_slice();
-    assert_eq!(rt; sections.len(), 4);
+    assert!(rt; sections.len() == 4);
     check_section(rt, &sections[0], [0, 0, 0, 0]);
     check_section(rt, &sections[1], [2, 1, 0, 2]);
     check_section(rt, &sections[2], [1, 1, 1, 3]);
@@ -69,7 +55,7 @@ fn check_counts(rt: &impl Abort, layout: &Layout) {
 #[test]
 fn toggles_keep_counts(rt: HostRuntime) -> Result<(), RecordError> {
     let alloc = rt.alloc();
-    let mut state = sample(alloc)?;
+    let mut state = state_of(alloc, &SMALL)?;
     assert!(rt; state.is_accepted());
     let mut layout = Layout::new(alloc, &state, &KeySet::new(alloc))?;
     check_counts(&rt, &layout);
@@ -102,13 +88,13 @@ fn check_rows(
     folded: usize,
     ends: [usize; 4],
 ) {
-    assert_eq!(rt; (rows.top, rows.end, rows.folded), (top, end, folded));
+    check_equal(rt, (rows.top, rows.end, rows.folded), (top, end, folded));
     let sections = rows.sections.as_slice();
-    assert_eq!(rt; sections.len(), 4);
+    check_equal(rt, sections.len(), 4);
     let mut next = 0;
     for (index, section) in sections.iter().enumerate() {
-        assert_eq!(rt; section.top, next);
-        assert_eq!(rt; section.end, ends[index % 4]);
+        check_equal(rt, section.top, next);
+        check_equal(rt, section.end, ends[index % 4]);
         next = section.end;
     }
 }
@@ -123,14 +109,14 @@ fn check_file(
     ends: [usize; 4],
 ) {
     let files = layout.rows.files.as_slice();
-    assert_eq!(rt; files.len(), 1);
+    assert!(rt; files.len() == 1);
     check_rows(rt, &files[0], top, end, folded, ends);
 }
 
 #[test]
 fn folds_keep_rows(rt: HostRuntime) -> Result<(), RecordError> {
     let alloc = rt.alloc();
-    let mut state = sample(alloc)?;
+    let mut state = state_of(alloc, &SMALL)?;
     assert!(rt; state.is_accepted());
     let mut expanded = KeySet::new(alloc);
     let mut layout = Layout::new(alloc, &state, &expanded)?;
@@ -163,13 +149,13 @@ fn file_at(layout: &Layout, state: &RecordState<'static>, set: &KeySet, row: usi
 #[test]
 fn rows_are_found(rt: HostRuntime) -> Result<(), RecordError> {
     let alloc = rt.alloc();
-    let state = sample(alloc)?;
+    let state = state_of(alloc, &SMALL)?;
     assert!(rt; state.is_accepted());
     let keys = all_keys(alloc, state.files.as_slice())?;
     let expanded = key_set_of(alloc, &keys)?;
     let layout = Layout::new(alloc, &state, &expanded)?;
     for (row, found) in [(3, None), (4, Some(0)), (11, Some(0)), (12, None)] {
-        assert_eq!(rt; file_at(&layout, &state, &expanded, row), found);
+        check_equal(&rt, file_at(&layout, &state, &expanded, row), found);
     }
     // a section without rows lies between two others
     let sections = [
@@ -196,7 +182,7 @@ fn rows_are_found(rt: HostRuntime) -> Result<(), RecordError> {
         (4, Some(2)),
         (5, None),
     ] {
-        assert_eq!(rt; section_on(&sections, row), found);
+        check_equal(&rt, section_on(&sections, row), found);
     }
     Ok(())
 }

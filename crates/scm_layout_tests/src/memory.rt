@@ -3,6 +3,7 @@
 //! where requests are refused: `tools/refuse-memory` runs the tests named for refused memory, and
 //! refuses each of their requests in turn. Their checks hold then, and the test passes or ends in
 //! `OutOfMemory`.
+use crate::checks::check_equal;
 use scm_input::{
     Event, KeyCode, KeyEvent, KeyEventKind, KeyModifiers, MouseButton, MouseEvent, MouseEventKind,
     RecordInput, Screens, ScriptEdit, ScriptInput, ScriptRead, TerminalEvent, TerminalKind,
@@ -17,8 +18,8 @@ use std::process::Abort;
 fn check_events_left(rt: &impl Abort, alloc: Global, count: usize) -> Result<(), RecordError> {
     let events = vec![in alloc; Event::Redraw; count]?;
     let mut input = TestingInput::new(alloc, 80, 24, events)?;
-    assert_eq!(rt; input.batches_left(), count);
-    assert_eq!(rt; input.next_events()?.len(), 1);
+    check_equal(rt, input.batches_left(), count);
+    check_equal(rt, input.next_events()?.len(), 1);
     Ok(())
 }
 
@@ -26,7 +27,7 @@ fn check_events_left(rt: &impl Abort, alloc: Global, count: usize) -> Result<(),
 fn check_edit(rt: &impl Abort, alloc: Global, count: usize) -> Result<(), RecordError> {
     let mut input = TestingInput::new(alloc, 80, 24, Vec::new(alloc))?;
     input.commit_messages.push_back(text_of(alloc, count)?)?;
-    assert_eq!(rt; input.edit_commit_message("")?.len(), count);
+    check_equal(rt, input.edit_commit_message("")?.len(), count);
     Ok(())
 }
 
@@ -39,7 +40,7 @@ fn reads_of(alloc: Global, batch: Vec<Event>) -> Result<Vec<ScriptRead>, RecordE
 fn check_batch(rt: &impl Abort, alloc: Global, count: usize) -> Result<(), RecordError> {
     let reads = reads_of(alloc, vec![in alloc; Event::Redraw; count]?)?;
     let mut script = ScriptInput::new(alloc, 80, 24, reads, Vec::new(alloc))?;
-    assert_eq!(rt; script.next_events()?.len(), count);
+    check_equal(rt, script.next_events()?.len(), count);
     Ok(())
 }
 
@@ -47,7 +48,7 @@ fn check_batch(rt: &impl Abort, alloc: Global, count: usize) -> Result<(), Recor
 fn check_answer(rt: &impl Abort, alloc: Global, count: usize) -> Result<(), RecordError> {
     let edits = vec![in alloc; ScriptEdit::Answer(text_of(alloc, count)?)]?;
     let mut script = ScriptInput::new(alloc, 80, 24, Vec::new(alloc), edits)?;
-    assert_eq!(rt; script.edit_commit_message("")?.len(), count);
+    check_equal(rt, script.edit_commit_message("")?.len(), count);
     Ok(())
 }
 
@@ -58,7 +59,11 @@ fn check_store(rt: &impl Abort, alloc: Global, count: usize) -> Result<(), Recor
         let _ = screens.place()?;
     }
     let last = screens.place()?;
-    assert_eq!(rt; screens.text(last), "<this screenshot was never assigned>");
+    check_equal(
+        rt,
+        screens.text(last),
+        "<this screenshot was never assigned>",
+    );
     Ok(())
 }
 
@@ -96,7 +101,7 @@ fn check_events(rt: &impl Abort) {
         (TerminalEvent::Mouse(mouse), click),
         (TerminalEvent::Other, Event::None),
     ] {
-        assert_eq!(rt; Event::from(told), event);
+        check_equal(rt, Event::from(told), event);
     }
 }
 
@@ -106,12 +111,13 @@ fn check_recording(rt: &impl Abort, input: &TestingInput, script: &ScriptInput, 
         width: 80,
         height: 24,
     };
-    assert_eq!(rt;
+    check_equal(
+        rt,
         (input.terminal_kind(), script.terminal_kind()),
-        (kind, kind)
+        (kind, kind),
     );
-    assert_eq!(rt; (input.batches_left(), script.batches_left()), (1, 0));
-    assert_eq!(rt; screens.frames(), 0);
+    check_equal(rt, (input.batches_left(), script.batches_left()), (1, 0));
+    check_equal(rt, screens.frames(), 0);
 }
 
 /// Returns an input of one event, an empty script, and an empty store.
@@ -125,12 +131,16 @@ fn recording(alloc: Global) -> Result<(TestingInput, ScriptInput, Screens), Reco
 #[test]
 fn refused_memory_stops_no_call_that_takes_none(rt: HostRuntime) -> Result<(), RecordError> {
     let alloc = rt.alloc();
-    assert_eq!(rt; SelectionKey::default(), SelectionKey::None);
+    check_equal(&rt, SelectionKey::default(), SelectionKey::None);
     check_events(&rt);
     let (input, script, mut screens) = recording(alloc)?;
     check_recording(&rt, &input, &script, &screens);
     let shot = screens.place()?;
     assert!(rt; matches!(shot.event(), Event::TakeScreenshot(taken) if taken == shot));
-    assert_eq!(rt; screens.text(shot), "<this screenshot was never assigned>");
+    check_equal(
+        &rt,
+        screens.text(shot),
+        "<this screenshot was never assigned>",
+    );
     Ok(())
 }

@@ -1,6 +1,7 @@
 //! What refused memory leaves of the queues of inputs and of a store. `tools/refuse-memory` runs
 //! each test with each of its requests for memory refused. The checks hold then, and the test
 //! passes or ends in `OutOfMemory`.
+use crate::checks::check_equal;
 use scm_input::{Event, RecordInput, Screens, ScriptEdit, ScriptInput, ScriptRead, TestingInput};
 use scm_samples::text_of;
 use scm_types::RecordError;
@@ -23,13 +24,14 @@ fn refused_memory_keeps_events(rt: HostRuntime) -> Result<(), RecordError> {
         Ok(_) => (1, Event::Redraw),
         Err(_) => (2, Event::QuitCancel),
     };
-    assert_eq!(rt; input.events.len(), left);
-    assert_eq!(rt;
+    check_equal(&rt, input.events.len(), left);
+    check_equal(
+        &rt,
         (input.events.front().copied(), input.events.back().copied()),
-        (Some(next), Some(Event::Redraw))
+        (Some(next), Some(Event::Redraw)),
     );
-    assert_eq!(rt; input.commit_messages.len(), 1);
-    assert_eq!(rt; outcome?.as_slice(), [Event::QuitCancel].as_slice());
+    check_equal(&rt, input.commit_messages.len(), 1);
+    check_equal(&rt, outcome?.as_slice(), [Event::QuitCancel].as_slice());
     Ok(())
 }
 
@@ -42,8 +44,8 @@ fn check_past<T: Drop>(
 ) -> Result<(), RecordError> {
     match outcome {
         Ok(_) => panic!(rt; "there is nothing left"),
-        Err(RecordError::ReadInput(text)) => assert_eq!(rt; text.as_str(), words),
-        Err(RecordError::Other(text)) => assert_eq!(rt; text.as_str(), words),
+        Err(RecordError::ReadInput(text)) => check_equal(rt, text.as_str(), words),
+        Err(RecordError::Other(text)) => check_equal(rt, text.as_str(), words),
         Err(error) => return Err(error),
     }
     Ok(())
@@ -55,10 +57,14 @@ const NO_MESSAGES: &str = "No more commit messages available";
 #[test]
 fn refused_memory_keeps_messages(rt: HostRuntime) -> Result<(), RecordError> {
     let mut input = testing_input(rt.alloc())?;
-    assert_eq!(rt; input.edit_commit_message("hello")?.len(), 3);
+    check_equal(&rt, input.edit_commit_message("hello")?.len(), 3);
     let outcome = input.edit_commit_message("hello");
-    assert_eq!(rt; (input.events.len(), input.commit_messages.len()), (2, 0));
-    assert_eq!(rt; input.events.front().copied(), Some(Event::QuitCancel));
+    check_equal(
+        &rt,
+        (input.events.len(), input.commit_messages.len()),
+        (2, 0),
+    );
+    check_equal(&rt, input.events.front().copied(), Some(Event::QuitCancel));
     check_past(&rt, outcome, NO_MESSAGES)
 }
 
@@ -68,8 +74,8 @@ fn refused_memory_keeps_edits_of_a_script(rt: HostRuntime) -> Result<(), RecordE
     let edits = vec![in alloc; ScriptEdit::Answer(text_of(alloc, 3)?)]?;
     let mut script = ScriptInput::new(alloc, 80, 24, Vec::new(alloc), edits)?;
     let outcome = script.next_events();
-    assert_eq!(rt; (script.batches_left(), script.edits_left()), (0, 1));
-    assert_eq!(rt; script.edit_commit_message("hello")?.len(), 3);
+    check_equal(&rt, (script.batches_left(), script.edits_left()), (0, 1));
+    check_equal(&rt, script.edit_commit_message("hello")?.len(), 3);
     check_past(&rt, outcome, "no events left")
 }
 
@@ -80,10 +86,11 @@ fn refused_memory_keeps_reads_of_a_script(rt: HostRuntime) -> Result<(), RecordE
     let reads = vec![in alloc; ScriptRead::Batch(batch)]?;
     let mut script = ScriptInput::new(alloc, 80, 24, reads, Vec::new(alloc))?;
     let outcome = script.edit_commit_message("hello");
-    assert_eq!(rt; (script.batches_left(), script.edits_left()), (1, 0));
-    assert_eq!(rt;
+    check_equal(&rt, (script.batches_left(), script.edits_left()), (1, 0));
+    check_equal(
+        &rt,
         script.next_events()?.as_slice(),
-        [Event::Redraw, Event::QuitCancel].as_slice()
+        [Event::Redraw, Event::QuitCancel].as_slice(),
     );
     check_past(&rt, outcome, NO_MESSAGES)
 }
@@ -92,9 +99,9 @@ fn refused_memory_keeps_reads_of_a_script(rt: HostRuntime) -> Result<(), RecordE
 /// refused and it still has `count`.
 fn check_place(rt: &impl Abort, screens: &mut Screens, count: usize) -> Result<(), RecordError> {
     let outcome = screens.place();
-    assert_eq!(rt; screens.has_place(count), outcome.is_ok());
+    check_equal(rt, screens.has_place(count), outcome.is_ok());
     assert!(rt; count == 0 || screens.has_place(count - 1));
-    assert_eq!(rt; outcome?.place, count);
+    check_equal(rt, outcome?.place, count);
     Ok(())
 }
 
@@ -113,6 +120,6 @@ fn refused_memory_keeps_stores(rt: HostRuntime) -> Result<(), RecordError> {
     let first = screens.place()?;
     screens.keep(first.place, String::from_str(alloc, "a screen")?);
     let outcome = check_places(&rt, &mut screens);
-    assert_eq!(rt; screens.text(first), "a screen");
+    check_equal(&rt, screens.text(first), "a screen");
     outcome
 }

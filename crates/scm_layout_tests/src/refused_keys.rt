@@ -1,6 +1,7 @@
 //! Tests of what an allocation failure leaves of a set of keys. `tools/refuse-memory` runs the test
 //! with each of its allocations refused. The checks hold then, and the test passes or ends in
 //! `OutOfMemory`.
+use crate::checks::check_equal;
 use scm_selection::key_lists::line_key;
 use scm_selection::key_set::KeySet;
 use scm_types::{RecordError, SelectionKey};
@@ -24,8 +25,8 @@ fn check_insert(
     key: SelectionKey,
 ) -> Result<(), RecordError> {
     let outcome = set.insert(key);
-    assert_eq!(rt; set.contains(key), outcome.is_ok());
-    assert_eq!(rt; set.is_same(before), outcome.is_err());
+    check_equal(rt, set.contains(key), outcome.is_ok());
+    check_equal(rt, set.is_same(before), outcome.is_err());
     outcome
 }
 

@@ -1,4 +1,5 @@
-//! Ten small states: with messages and without, read-only and not, folded and unfolded at first.
+//! Small states, as constants: with messages and without, read-only and not, folded and unfolded at
+//! first.
 use scm_samples::{ADDED, DEFAULT, Line, REMOVED, binary, changed, context, file_of, owned};
 use scm_types::{Commit, File, FileMode, Items, RecordError, RecordState, Section};
 use std::alloc::Global;
@@ -97,7 +98,24 @@ const BOTH_WAYS: Given = (
     ],
 );
 
-/// The samples.
+/// A state with a message and one file: two lines of context, a checked removed line and an
+/// unchecked added line, a checked deletion, and a line of context.
+pub(crate) const SMALL: Sample = Sample {
+    is_read_only: false,
+    commits: &[Some("message"), None],
+    is_unfolded: false,
+    files: &[(
+        DEFAULT,
+        &[
+            Part::Context(&["a\n", "b\n"]),
+            Part::Changes(&[(true, REMOVED, "c\n"), (false, ADDED, "d\n")]),
+            Part::Mode(true, FileMode::Absent),
+            Part::Context(&["e\n"]),
+        ],
+    )],
+};
+
+/// The samples of the random script.
 pub(crate) const SAMPLES: [Sample; 10] = [
     Sample {
         is_read_only: false,

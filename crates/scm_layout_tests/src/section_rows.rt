@@ -1,4 +1,5 @@
 //! The rule for the rows of a section.
+use crate::checks::check_equal;
 use scm_rows::section_heights::{height_of, is_section_open, is_section_visible, shown_height};
 use scm_rows::section_shape::{is_changed, shape_of};
 use scm_rows::{SectionPlace, SectionShape};
@@ -27,11 +28,11 @@ fn context_is_shown_by_place(rt: HostRuntime) {
         (place(1, 0), 3, 0, 0, 3, 0),
         (place(1, 0), 4, 0, 1, 4, 1),
     ] {
-        assert_eq!(rt; place.lines_above(count), above);
-        assert_eq!(rt; place.has_dots(count), dots == 1);
-        assert_eq!(rt; place.dots_height(count), dots);
-        assert_eq!(rt; place.first_below(count), below);
-        assert_eq!(rt; place.context_height(count), rows);
+        check_equal(&rt, place.lines_above(count), above);
+        check_equal(&rt, place.has_dots(count), dots == 1);
+        check_equal(&rt, place.dots_height(count), dots);
+        check_equal(&rt, place.first_below(count), below);
+        check_equal(&rt, place.context_height(count), rows);
     }
 }
 
@@ -54,7 +55,7 @@ fn sections_are_shown_by_neighbours(rt: HostRuntime) -> Result<(), RecordError> 
     assert!(rt; is_section_visible(false, &mode, false));
     assert!(rt; is_section_visible(false, &lines, true));
     assert!(rt; !is_section_visible(false, &lines, false));
-    assert_eq!(rt; height_of(place(3, 1), true, &mode), 1);
-    assert_eq!(rt; shown_height(place(3, 1), true, false, &mode, false), 1);
+    check_equal(&rt, height_of(place(3, 1), true, &mode), 1);
+    check_equal(&rt, shown_height(place(3, 1), true, false, &mode, false), 1);
     Ok(())
 }

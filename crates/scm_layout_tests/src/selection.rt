@@ -1,5 +1,6 @@
 //! Lists and sets of keys, moves among them, toggles and counts, mostly on a file with one section
 //! of two lines.
+use crate::checks::check_equal;
 use scm_samples::{ADDED, Held, commits_of, file_holding, file_with};
 use scm_selection::key_lists::{
     all_keys, file_key, first_key, line_key, section_key, section_keys,
@@ -36,18 +37,22 @@ fn sample_keys() -> [SelectionKey; 4] {
     ]
 }
 
-/// Checks that `keys` is `expected`.
-fn check_list(rt: &impl Abort, keys: Vec<SelectionKey>, expected: &[SelectionKey]) {
-    assert_eq!(rt; keys.as_slice(), expected);
-}
-
 #[test]
 fn lists_of_keys(rt: HostRuntime) -> Result<(), RecordError> {
     let alloc = rt.alloc();
     let files = samples(alloc)?;
     let files = files.as_slice();
-    check_list(&rt, all_keys(alloc, files)?, &sample_keys());
-    check_list(&rt, section_keys(alloc, files)?, &[section_key(0, 1)]);
+    let sections = [section_key(0, 1)];
+    check_equal(
+        &rt,
+        all_keys(alloc, files)?.as_slice(),
+        sample_keys().as_slice(),
+    );
+    check_equal(
+        &rt,
+        section_keys(alloc, files)?.as_slice(),
+        sections.as_slice(),
+    );
     let section = SectionKey {
         commit_idx: 1,
         file_idx: 2,
@@ -67,7 +72,7 @@ fn lists_of_keys(rt: HostRuntime) -> Result<(), RecordError> {
             SelectionKey::Line(line),
         ),
     ] {
-        assert_eq!(rt; found, expected);
+        check_equal(&rt, found, expected);
     }
     Ok(())
 }
@@ -130,7 +135,7 @@ fn check_moves(
 ) -> Result<(), RecordError> {
     let expanded = key_set_of(alloc, unfolded)?;
     for (step, from, to) in moves {
-        assert_eq!(rt; moved(&expanded, files, *step, *from), *to);
+        check_equal(rt, moved(&expanded, files, *step, *from), *to);
     }
     Ok(())
 }
@@ -217,7 +222,11 @@ fn keys_among_the_visible_ones(rt: HostRuntime) -> Result<(), RecordError> {
         (line_key(0, 1, 0), false),
         (file_key(1), false),
     ] {
-        assert_eq!(rt; is_visible_key(&expanded, files.as_slice(), key), is_there);
+        check_equal(
+            &rt,
+            is_visible_key(&expanded, files.as_slice(), key),
+            is_there,
+        );
     }
     Ok(())
 }
@@ -231,12 +240,12 @@ fn first_mark(files: &[File<'_>]) -> Option<Tristate> {
 fn toggles_of_keys(rt: HostRuntime) -> Result<(), RecordError> {
     let mut files = samples(rt.alloc())?;
     toggles::toggle_key(files.as_mut_slice(), line_key(0, 1, 1));
-    assert_eq!(rt; first_mark(files.as_slice()), Some(Tristate::Partial));
+    check_equal(&rt, first_mark(files.as_slice()), Some(Tristate::Partial));
     toggles::invert_all(files.as_mut_slice());
     toggles::toggle_key(files.as_mut_slice(), line_key(0, 1, 1));
-    assert_eq!(rt; first_mark(files.as_slice()), Some(Tristate::True));
+    check_equal(&rt, first_mark(files.as_slice()), Some(Tristate::True));
     toggles::set_all(files.as_mut_slice());
-    assert_eq!(rt; first_mark(files.as_slice()), Some(Tristate::False));
+    check_equal(&rt, first_mark(files.as_slice()), Some(Tristate::False));
     let line = LineKey {
         commit_idx: 0,
         file_idx: 0,
@@ -244,7 +253,7 @@ fn toggles_of_keys(rt: HostRuntime) -> Result<(), RecordError> {
         line_idx: 0,
     };
     toggles::invert_line_alone(files.as_mut_slice(), line);
-    assert_eq!(rt; first_mark(files.as_slice()), Some(Tristate::Partial));
+    check_equal(&rt, first_mark(files.as_slice()), Some(Tristate::Partial));
     Ok(())
 }
 
@@ -256,13 +265,13 @@ fn counts_of_a_state(rt: HostRuntime) -> Result<(), RecordError> {
         commits: commits_of(alloc, "m")?,
         files: samples(alloc)?,
     };
-    assert_eq!(rt; counts::message_count(&state), 1);
-    assert_eq!(rt; counts::changed_count(&state), 0);
+    check_equal(&rt, counts::message_count(&state), 1);
+    check_equal(&rt, counts::changed_count(&state), 0);
     let file = SelectionKey::File(FileKey {
         commit_idx: 0,
         file_idx: 0,
     });
     toggles::toggle_key(state.files.as_mut_slice(), file);
-    assert_eq!(rt; counts::changed_count(&state), 1);
+    check_equal(&rt, counts::changed_count(&state), 1);
     Ok(())
 }

@@ -1,12 +1,10 @@
 //! Additions to a state, their refusals, and marks, checked against the project's values.
+use crate::checks::check_equal;
+use crate::parts;
 use scm_embed::marks::mark_of;
 use scm_embed::{Addition, BuildError, Part, StateBuilder};
-use scm_samples::{
-    ADDED, DEFAULT, REMOVED, binary, changed, commits_of, context, deletion, file_of, text_of,
-};
-use scm_types::{
-    ChangeType, File, FileMode, Items, RecordError, RecordState, Section, Text, Tristate,
-};
+use scm_samples::{ADDED, DEFAULT, REMOVED, commits_of, text_of};
+use scm_types::{ChangeType, File, FileMode, Items, RecordError, RecordState, Text, Tristate};
 use std::alloc::Global;
 use std::process::Abort;
 use std::test::Fail;
@@ -39,55 +37,85 @@ fn changes_of(is_checked: bool, change_type: ChangeType, text: &'static str) -> 
     }
 }
 
-/// Adds two commits and a file.
-fn add_file(alloc: Global, builder: &mut StateBuilder) -> Result<(), BuildError> {
-    let message = Some(Text::from("m"));
-    builder.add(alloc, Addition::Commit { message })?;
-    builder.add(alloc, Addition::Commit { message: None })?;
-    builder.add(alloc, new_file())
+/// An addition, as a constant.
+#[derive(Clone, Copy)]
+enum Given {
+    /// A commit, with its message if it has one.
+    Commit(Option<&'static str>),
+    /// A file without sections.
+    File,
+    /// The context lines of a text.
+    Context(&'static str),
+    /// The changed lines of a text, and their mark.
+    Changes(bool, ChangeType, &'static str),
+    /// The beginning of a section of changed lines.
+    Section,
+    /// The deletion of the file.
+    Deletion,
+    /// A binary change.
+    Bytes,
 }
 
-/// Adds lines to the file, in three sections.
-fn add_lines(alloc: Global, builder: &mut StateBuilder) -> Result<(), BuildError> {
-    builder.add(alloc, context_of("a\n\n"))?;
-    builder.add(alloc, context_of("b\n"))?;
-    builder.add(alloc, changes_of(true, REMOVED, "c\n"))?;
-    builder.add(alloc, changes_of(false, ADDED, "d\ne"))?;
-    let part = Part::Lines { is_changed: true };
-    builder.add(alloc, Addition::Part { part })?;
-    builder.add(alloc, changes_of(true, ADDED, "g\n"))?;
-    builder.add(alloc, context_of(""))
+/// All additions: two commits, and a file with lines in three sections, its deletion and a binary
+/// change.
+const GIVEN: [Given; 12] = [
+    Given::Commit(Some("m")),
+    Given::Commit(None),
+    Given::File,
+    Given::Context("a\n\n"),
+    Given::Context("b\n"),
+    Given::Changes(true, REMOVED, "c\n"),
+    Given::Changes(false, ADDED, "d\ne"),
+    Given::Section,
+    Given::Changes(true, ADDED, "g\n"),
+    Given::Context(""),
+    Given::Deletion,
+    Given::Bytes,
+];
+
+/// Returns the addition of the part `part`.
+fn part_of(part: Part<'static>) -> Addition<'static> {
+    Addition::Part { part }
 }
 
-/// Adds the deletion of the file, and a binary change.
-fn add_others(alloc: Global, builder: &mut StateBuilder) -> Result<(), BuildError> {
-    let mode = Part::Mode {
-        is_checked: true,
-        mode: FileMode::Absent,
-    };
-    builder.add(alloc, Addition::Part { part: mode })?;
-    let part = Part::Binary {
-        is_checked: true,
-        old_description: Some(Text::from("old")),
-        new_description: None,
-    };
-    builder.add(alloc, Addition::Part { part })
+/// Returns the addition `given`.
+fn addition_of(given: Given) -> Addition<'static> {
+    match given {
+        Given::Commit(message) => Addition::Commit {
+            message: message.map(|text| Text::from(text)),
+        },
+        Given::File => new_file(),
+        Given::Context(text) => context_of(text),
+        Given::Changes(is_checked, change_type, text) => changes_of(is_checked, change_type, text),
+        Given::Section => part_of(Part::Lines { is_changed: true }),
+        Given::Deletion => part_of(Part::Mode {
+            is_checked: true,
+            mode: FileMode::Absent,
+        }),
+        Given::Bytes => part_of(Part::Binary {
+            is_checked: true,
+            old_description: Some(Text::from("old")),
+            new_description: None,
+        }),
+    }
 }
 
-/// Returns the file that the additions make.
-fn file_made(alloc: Global) -> Result<File<'static>, RecordError> {
-    let mut sections: Vec<Section<'static>> = Vec::new(alloc);
-    sections.push(context(alloc, &["a\n", "\n", "b\n"])?)?;
-    let lines = [
+/// The sections of the file that the additions make.
+const PARTS: [parts::Part; 5] = [
+    parts::Part::Context(&["a\n", "\n", "b\n"]),
+    parts::Part::Changes(&[
         (true, REMOVED, "c\n"),
         (false, ADDED, "d\n"),
         (false, ADDED, "e"),
-    ];
-    sections.push(changed(alloc, &lines)?)?;
-    sections.push(changed(alloc, &[(true, ADDED, "g\n")])?)?;
-    sections.push(deletion())?;
-    sections.push(binary(true))?;
-    Ok(file_of(DEFAULT, sections))
+    ]),
+    parts::Part::Changes(&[(true, ADDED, "g\n")]),
+    parts::Part::Mode(true, FileMode::Absent),
+    parts::Part::Bytes(Some("old"), None),
+];
+
+/// Returns the file that the additions make.
+fn file_made(alloc: Global) -> Result<File<'static>, RecordError> {
+    parts::file_with_parts(alloc, DEFAULT, &PARTS)
 }
 
 /// Returns the state that the additions make.
@@ -101,12 +129,21 @@ fn state_made(alloc: Global) -> Result<RecordState<'static>, RecordError> {
     })
 }
 
+/// Adds `addition`. The clauses of `StateBuilder::add` make the proofs of its callers long.
+fn add(
+    alloc: Global,
+    builder: &mut StateBuilder,
+    addition: Addition<'_>,
+) -> Result<(), BuildError> {
+    builder.add(alloc, addition)
+}
+
 /// Adds all to an empty state.
 fn builder_made(alloc: Global) -> Result<StateBuilder, BuildError> {
     let mut builder = StateBuilder::new(alloc, true);
-    add_file(alloc, &mut builder)?;
-    add_lines(alloc, &mut builder)?;
-    add_others(alloc, &mut builder)?;
+    for given in GIVEN {
+        add(alloc, &mut builder, addition_of(given))?;
+    }
     Ok(builder)
 }
 
@@ -114,14 +151,10 @@ fn builder_made(alloc: Global) -> Result<StateBuilder, BuildError> {
 fn additions_make_a_state(rt: HostRuntime) -> Result<(), Fail> {
     let alloc = rt.alloc();
     let wanted = state_made(alloc)?;
-    match builder_made(alloc) {
-        Ok(builder) => {
-            assert!(rt; builder.is_accepted());
-            assert!(rt; builder.state() == &wanted);
-            assert!(rt; builder.into_state() == wanted);
-        }
-        Err(error) => assert!(rt; false, "an addition is refused: {error:?}"),
-    }
+    let builder = builder_made(alloc)?;
+    assert!(rt; builder.is_accepted());
+    check_equal(&rt, builder.state(), &wanted);
+    check_equal(&rt, builder.into_state(), wanted);
     Ok(())
 }
 
@@ -134,9 +167,22 @@ fn check_refused(
     error: BuildError,
 ) -> Result<(), RecordError> {
     let before = builder.state().try_clone(alloc)?;
-    assert!(rt; builder.add(alloc, addition) == Err(error));
-    assert!(rt; builder.state() == &before);
+    check_equal(rt, add(alloc, builder, addition), Err(error));
+    check_equal(rt, builder.state(), &before);
     Ok(())
+}
+
+/// Checks that a third commit is refused, and a line that is too long.
+fn check_limits(
+    rt: &impl Abort,
+    alloc: Global,
+    builder: &mut StateBuilder,
+) -> Result<(), RecordError> {
+    let third = Addition::Commit { message: None };
+    check_refused(rt, alloc, builder, third, BuildError::TooManyCommits)?;
+    let long = text_of(alloc, RecordState::MAX_TEXT + 1)?;
+    let line = context_of(long.as_str());
+    check_refused(rt, alloc, builder, line, BuildError::TooLong)
 }
 
 #[test]
@@ -145,32 +191,33 @@ fn refused_additions_leave_the_state(rt: HostRuntime) -> Result<(), Fail> {
     let mut empty = StateBuilder::new(alloc, false);
     let part = context_of("a\n");
     check_refused(&rt, alloc, &mut empty, part, BuildError::NoFile)?;
-    if let Ok(mut builder) = builder_made(alloc) {
-        let third = Addition::Commit { message: None };
-        let too_many = BuildError::TooManyCommits;
-        check_refused(&rt, alloc, &mut builder, third, too_many)?;
-        let long = text_of(alloc, RecordState::MAX_TEXT + 1)?;
-        let line = context_of(long.as_str());
-        check_refused(&rt, alloc, &mut builder, line, BuildError::TooLong)?;
-    }
+    let mut builder = builder_made(alloc)?;
+    check_limits(&rt, alloc, &mut builder)?;
     Ok(())
 }
 
 #[test]
 fn items_have_their_marks(rt: HostRuntime) -> Result<(), Fail> {
-    let alloc = rt.alloc();
-    let state = state_made(alloc)?;
-    assert!(rt; mark_of(&state, 0, None, None) == Some(Tristate::Partial));
-    assert!(rt; mark_of(&state, 0, Some(2), None) == Some(Tristate::True));
-    assert!(rt; mark_of(&state, 0, Some(1), Some(0)) == Some(Tristate::True));
-    assert!(rt; mark_of(&state, 0, Some(1), Some(1)) == Some(Tristate::False));
-    assert!(rt; mark_of(&state, 0, Some(0), Some(0)) == None);
-    assert!(rt; mark_of(&state, 0, Some(5), None) == None);
-    assert!(rt; mark_of(&state, 1, None, None) == None);
+    let state = state_made(rt.alloc())?;
+    check_equal(&rt, mark_of(&state, 0, None, None), Some(Tristate::Partial));
+    check_equal(&rt, mark_of(&state, 0, Some(2), None), Some(Tristate::True));
+    check_equal(
+        &rt,
+        mark_of(&state, 0, Some(1), Some(0)),
+        Some(Tristate::True),
+    );
+    check_equal(
+        &rt,
+        mark_of(&state, 0, Some(1), Some(1)),
+        Some(Tristate::False),
+    );
+    check_equal(&rt, mark_of(&state, 0, Some(0), Some(0)), None);
+    check_equal(&rt, mark_of(&state, 0, Some(5), None), None);
+    check_equal(&rt, mark_of(&state, 1, None, None), None);
     Ok(())
 }
 
-/// Adds a file: added or refused, the state has it or is as it was.
+/// Adds `addition`: the state changes, or memory is refused and the state stays.
 fn check_memory(
     rt: &impl Abort,
     alloc: Global,
@@ -178,24 +225,34 @@ fn check_memory(
     addition: Addition<'_>,
 ) -> Result<(), RecordError> {
     let before = builder.state().try_clone(alloc)?;
-    match builder.add(alloc, addition) {
-        Ok(()) => assert!(rt; builder.state() != &before),
+    let outcome = add(alloc, builder, addition);
+    check_equal(rt, builder.state() == &before, outcome.is_err());
+    check_refusal(rt, outcome)
+}
+
+/// Returns `outcome`, and checks that its error is `OutOfMemory`.
+fn check_refusal(rt: &impl Abort, outcome: Result<(), BuildError>) -> Result<(), RecordError> {
+    match outcome {
+        Ok(()) => Ok(()),
         Err(error) => {
-            assert!(rt; error == BuildError::OutOfMemory);
-            assert!(rt; builder.state() == &before);
-            return Err(RecordError::OutOfMemory);
+            check_equal(rt, error, BuildError::OutOfMemory);
+            Err(RecordError::OutOfMemory)
         }
     }
-    Ok(())
 }
 
 #[test]
 fn refused_memory_leaves_the_state(rt: HostRuntime) -> Result<(), RecordError> {
     let alloc = rt.alloc();
     let mut builder = StateBuilder::new(alloc, false);
-    check_memory(&rt, alloc, &mut builder, new_file())?;
-    check_memory(&rt, alloc, &mut builder, context_of("a\nb\n"))?;
-    check_memory(&rt, alloc, &mut builder, context_of("c\n"))?;
-    check_memory(&rt, alloc, &mut builder, changes_of(true, ADDED, "d\ne\n"))?;
-    check_memory(&rt, alloc, &mut builder, changes_of(false, REMOVED, "g"))
+    for given in [
+        Given::File,
+        Given::Context("a\nb\n"),
+        Given::Context("c\n"),
+        Given::Changes(true, ADDED, "d\ne\n"),
+        Given::Changes(false, REMOVED, "g"),
+    ] {
+        check_memory(&rt, alloc, &mut builder, addition_of(given))?;
+    }
+    Ok(())
 }

@@ -1,4 +1,6 @@
 //! What the `serde` derives read and write: each JSON form of a state, and refused forms.
+use crate::checks::check_equal;
+use crate::parts::{Part, sections_of};
 use scm_samples::{ADDED, DEFAULT, Line, REMOVED, changed, commits_of, context, file_of, owned};
 use scm_types::{
     ChangeType, Commit, File, FileMode, Items, OwnedText, RecordError, RecordState, Section,
@@ -19,7 +21,7 @@ fn check_form<'a, T: Deserialize<'a> + Serialize + PartialEq + Drop>(
     let read: T = serde_json::from_str(alloc, text)?;
     assert!(rt; read == value, "what is read from {text}");
     let written = serde_json::to_string(alloc, &value)?;
-    assert_eq!(rt; written.as_str(), text);
+    check_equal(rt, written.as_str(), text);
     Ok(())
 }
 
@@ -45,7 +47,7 @@ fn line_of(
 }
 
 /// Returns a binary change with the descriptions `old` and `new`.
-fn binary(
+pub(crate) fn binary(
     is_checked: bool,
     old: Option<&'static str>,
     new: Option<&'static str>,
@@ -62,18 +64,21 @@ fn mode_change(is_checked: bool, mode: FileMode) -> Section<'static> {
     Section::FileMode { is_checked, mode }
 }
 
+/// A section of each kind.
+const PARTS: [Part; 4] = [
+    Part::Context(&["a\n"]),
+    Part::Changes(&[(true, ADDED, "b\n")]),
+    Part::Mode(false, FileMode::Absent),
+    Part::Bytes(None, Some("x")),
+];
+
 /// Returns a renamed file with a section of each kind.
 fn renamed_file(alloc: Global) -> Result<File<'static>, RecordError> {
-    let mut sections: Vec<Section<'static>> = Vec::new(alloc);
-    sections.push(context(alloc, &["a\n"])?)?;
-    sections.push(changed(alloc, &[(true, ADDED, "b\n")])?)?;
-    sections.push(mode_change(false, FileMode::Absent))?;
-    sections.push(binary(true, None, Some("x")))?;
     Ok(File {
         old_path: Some(Text::from("o")),
         path: Text::from("a/日本.txt"),
         file_mode: FileMode::Absent,
-        sections: Items::from(sections),
+        sections: Items::from(sections_of(alloc, &PARTS)?),
     })
 }
 

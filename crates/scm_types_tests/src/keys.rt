@@ -1,4 +1,5 @@
 //! Tests of keys: the section and the file of a key.
+use crate::checks::check_equal;
 use scm_types::{FileKey, LineKey, SectionKey, SelectionKey};
 
 #[test]
@@ -18,14 +19,14 @@ fn keys_lie_in_sections_and_files(rt: HostRuntime) {
         section_idx: 3,
         line_idx: 4,
     };
-    assert!(rt; file.section(3) == section);
-    assert!(rt; section.file() == file);
-    assert!(rt; section.line(4) == line);
-    assert!(rt; line.section() == section);
-    assert!(rt; line.file() == file);
+    check_equal(&rt, file.section(3), section);
+    check_equal(&rt, section.file(), file);
+    check_equal(&rt, section.line(4), line);
+    check_equal(&rt, line.section(), section);
+    check_equal(&rt, line.file(), file);
     let selected = SelectionKey::File(file);
-    assert!(rt; SelectionKey::None.file() == SelectionKey::None);
-    assert!(rt; selected.file() == selected);
-    assert!(rt; SelectionKey::Section(section).file() == selected);
-    assert!(rt; SelectionKey::Line(line).file() == selected);
+    check_equal(&rt, SelectionKey::None.file(), SelectionKey::None);
+    check_equal(&rt, selected.file(), selected);
+    check_equal(&rt, SelectionKey::Section(section).file(), selected);
+    check_equal(&rt, SelectionKey::Line(line).file(), selected);
 }

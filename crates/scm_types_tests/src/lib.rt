@@ -5,11 +5,15 @@
 #[cfg(test)]
 mod additions;
 #[cfg(test)]
+mod checks;
+#[cfg(test)]
 mod forms;
 #[cfg(test)]
 mod keys;
 #[cfg(test)]
 mod memory;
+#[cfg(test)]
+mod parts;
 #[cfg(test)]
 mod refused_splits;
 #[cfg(test)]

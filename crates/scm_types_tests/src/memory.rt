@@ -2,9 +2,12 @@
 //! memory the calls that allocate are run, on arguments small and large. The other calls succeed
 //! where requests are refused: `tools/refuse-memory` runs the tests named for refused memory, and
 //! refuses each of their requests in turn.
-use scm_samples::{ADDED, DEFAULT, binary, changed, context, file_of, owned, text_of};
+use crate::checks::{check_copy, check_equal};
+use crate::parts::{Part, file_with_parts};
+use crate::types::check_marks;
+use scm_samples::{ADDED, DEFAULT, owned, text_of};
 use scm_types::{
-    Commit, File, FileMode, IsizeExt, RecordError, RecordState, Section, Text, Tristate, UsizeExt,
+    Commit, File, FileMode, IsizeExt, RecordError, RecordState, Text, Tristate, UsizeExt,
     make_binary_description,
 };
 use std::alloc::Global;
@@ -13,15 +16,14 @@ use std::process::Abort;
 /// Describes bytes by `text` and a size of one digit, and checks the length.
 fn check_description(rt: &impl Abort, alloc: Global, text: &str) -> Result<(), RecordError> {
     let description = make_binary_description(alloc, text, 7)?;
-    assert_eq!(rt; description.len(), text.len().saturating_add(10));
+    check_equal(rt, description.len(), text.len().saturating_add(10));
     Ok(())
 }
 
 /// Copies `text`, and checks the copies.
 fn check_text(rt: &impl Abort, alloc: Global, text: &Text<'_>) -> Result<(), RecordError> {
     assert!(rt; text.clone()? == *text);
-    assert!(rt; text.try_clone(alloc)? == *text);
-    Ok(())
+    check_copy(rt, text.try_clone(alloc), text)
 }
 
 /// Copies a commit with `message`, and checks the copy.
@@ -29,8 +31,7 @@ fn check_commit(rt: &impl Abort, alloc: Global, message: &str) -> Result<(), Rec
     let commit = Commit {
         message: Some(owned(alloc, message)?),
     };
-    assert!(rt; commit.try_clone(alloc)? == commit);
-    Ok(())
+    check_copy(rt, commit.try_clone(alloc), &commit)
 }
 
 /// Copies a text of `count` bytes, and what contains it.
@@ -52,40 +53,36 @@ fn texts_of_any_size_are_copied(rt: HostRuntime) -> Result<(), RecordError> {
 
 // ---- calls that take no memory
 
+/// A section of each kind, partly checked.
+const PARTS: [Part; 4] = [
+    Part::Context(&["a\n"]),
+    Part::Changes(&[(false, ADDED, "b\n"), (true, ADDED, "c\n")]),
+    Part::Mode(false, DEFAULT),
+    Part::Bytes(Some("old"), None),
+];
+
+/// Returns the file of `PARTS`.
+fn marked_file(alloc: Global) -> Result<File<'static>, RecordError> {
+    file_with_parts(alloc, DEFAULT, &PARTS)
+}
+
 /// Returns a state of one file with a section of each kind, partly checked.
 fn marked_state(alloc: Global) -> Result<RecordState<'static>, RecordError> {
-    let mut sections: Vec<Section<'static>> = Vec::new(alloc);
-    sections.push(context(alloc, &["a\n"])?)?;
-    sections.push(changed(alloc, &[(false, ADDED, "b\n"), (true, ADDED, "c\n")])?)?;
-    sections.push(Section::FileMode {
-        is_checked: false,
-        mode: DEFAULT,
-    })?;
-    sections.push(binary(true))?;
     let mut state = RecordState::empty(alloc);
-    state.files.push(file_of(DEFAULT, sections))?;
+    state.files.push(marked_file(alloc)?)?;
     Ok(state)
 }
 
-/// Checks the calls on the marks of a section.
-fn check_section(rt: &impl Abort, section: &mut Section<'_>) {
-    section.set_checked(true);
-    let is_editable = section.is_editable();
-    assert_eq!(rt; section.tristate(), Tristate::from(is_editable));
-    section.toggle_all();
-    assert_eq!(rt; section.tristate(), Tristate::False);
-}
-
 /// Checks the calls on the marks of a file, and of each of its sections.
-fn check_marks(rt: &impl Abort, file: &mut File<'_>) {
-    assert_eq!(rt; file.tristate(), Tristate::Partial);
+fn check_file(rt: &impl Abort, file: &mut File<'_>) {
+    check_equal(rt, file.tristate(), Tristate::Partial);
     file.set_checked(true);
-    assert_eq!(rt; file.tristate(), Tristate::True);
+    check_equal(rt, file.tristate(), Tristate::True);
     file.toggle_all();
     file.repair();
-    assert_eq!(rt; file.tristate(), Tristate::False);
+    check_equal(rt, file.tristate(), Tristate::False);
     for section in file.sections.iter_mut() {
-        check_section(rt, section);
+        check_marks(rt, section);
     }
 }
 
@@ -93,9 +90,9 @@ fn check_marks(rt: &impl Abort, file: &mut File<'_>) {
 fn check_state(rt: &impl Abort, state: &mut RecordState<'_>) {
     assert!(rt; state.is_accepted());
     // a file, its four sections, and their three lines
-    assert_eq!(rt; state.size(), 8);
+    check_equal(rt, state.size(), 8);
     for file in state.files.iter_mut() {
-        check_marks(rt, file);
+        check_file(rt, file);
     }
 }
 
@@ -103,13 +100,13 @@ fn check_state(rt: &impl Abort, state: &mut RecordState<'_>) {
 fn check_empty(rt: &impl Abort, alloc: Global) {
     let empty = RecordState::empty(alloc);
     assert!(rt; empty.is_accepted() && empty.commits.is_empty() && empty.files.is_empty());
-    assert_eq!(rt; empty.size(), 0);
+    check_equal(rt, empty.size(), 0);
     assert!(rt; Commit::default().message.is_none());
 }
 
 /// Checks the conversions to modes.
 fn check_modes(rt: &impl Abort) {
-    assert_eq!(rt; FileMode::from(0o100644_usize), DEFAULT);
+    check_equal(rt, FileMode::from(0o100644_usize), DEFAULT);
     assert!(rt; matches!(FileMode::try_from(0o100644_u32), Ok(mode) if mode == DEFAULT));
     assert!(rt; matches!(FileMode::try_from(0o100644_i32), Ok(mode) if mode == DEFAULT));
     assert!(rt; FileMode::try_from(-1_i32).is_err());
@@ -117,31 +114,30 @@ fn check_modes(rt: &impl Abort) {
 
 /// Checks the conversions of numbers.
 fn check_numbers(rt: &impl Abort) {
-    assert_eq!(rt; 7_usize.unwrap_isize(), 7);
-    assert_eq!(rt; 7_isize.unwrap_usize(), 7);
-    assert_eq!(rt; UsizeExt::clamp_into_u16(65_536), 65_535);
-    assert_eq!(rt; IsizeExt::clamp_into_u16(-1), 0);
-    assert_eq!(rt; IsizeExt::clamp_into_usize(-1), 0);
+    check_equal(rt, 7_usize.unwrap_isize(), 7);
+    check_equal(rt, 7_isize.unwrap_usize(), 7);
+    check_equal(rt, UsizeExt::clamp_into_u16(65_536), 65_535);
+    check_equal(rt, IsizeExt::clamp_into_u16(-1), 0);
+    check_equal(rt, IsizeExt::clamp_into_usize(-1), 0);
 }
 
 /// Copies `state`: the copy equals it, or memory is refused.
-fn check_copy(
+fn check_state_copy<'a>(
     rt: &impl Abort,
     alloc: Global,
-    state: &RecordState<'_>,
-    same: &RecordState<'_>,
+    state: &RecordState<'a>,
+    same: &RecordState<'a>,
 ) -> Result<(), RecordError> {
     let outcome = state.try_clone(alloc);
-    assert!(rt; state == same);
-    assert!(rt; outcome? == *same);
-    Ok(())
+    check_equal(rt, state, same);
+    check_copy(rt, outcome, same)
 }
 
 #[test]
 fn refused_memory_keeps_states(rt: HostRuntime) -> Result<(), RecordError> {
     let alloc = rt.alloc();
     let state = marked_state(alloc)?;
-    check_copy(&rt, alloc, &state, &marked_state(alloc)?)
+    check_state_copy(&rt, alloc, &state, &marked_state(alloc)?)
 }
 
 #[test]
@@ -150,7 +146,7 @@ fn refused_memory_stops_no_call_that_takes_none(rt: HostRuntime) -> Result<(), R
     check_empty(&rt, alloc);
     check_modes(&rt);
     check_numbers(&rt);
-    assert_eq!(rt; Tristate::from(true), Tristate::True);
+    check_equal(&rt, Tristate::from(true), Tristate::True);
     let mut state = marked_state(alloc)?;
     check_state(&rt, &mut state);
     Ok(())

@@ -1,6 +1,7 @@
 //! Tests of what an allocation failure leaves of a file that is split. `tools/refuse-memory` runs each
 //! test with each of its allocations refused. The checks hold then, and the test passes or ends in
 //! `OutOfMemory`.
+use crate::checks::check_equal;
 use scm_samples::{HELD, Held, file_holding};
 use scm_types::{File, RecordError};
 use std::alloc::Global;
@@ -14,7 +15,7 @@ fn check_split(
     copy: &File<'_>,
 ) -> Result<(), RecordError> {
     let outcome = file.get_selected_contents(alloc);
-    assert!(rt; file == copy);
+    check_equal(rt, file, copy);
     let _sides = outcome?;
     Ok(())
 }

@@ -1,8 +1,7 @@
 //! Marks, splits, limits, errors, lists and texts, checked against the project's values.
-use scm_samples::{
-    ADDED, DEFAULT, HELD, Line, REMOVED, binary, changed, context, deletion, file_holding, file_of,
-    file_with, owned,
-};
+use crate::checks::{check_copy, check_equal};
+use crate::parts::{Part, file_with_parts};
+use scm_samples::{ADDED, DEFAULT, HELD, Line, REMOVED, file_holding, file_with, owned};
 use scm_types::consts::{DUMP_UI_STATE_FILENAME, ENV_VAR_DEBUG_UI, ENV_VAR_DUMP_UI_STATE};
 use scm_types::helpers::make_binary_description;
 use scm_types::repair::{check_modes, uncheck_deletions};
@@ -21,24 +20,14 @@ const CHECKED: [Line; 1] = [(true, ADDED, "n\n")];
 /// An unchecked line of a new file.
 const UNCHECKED: [Line; 1] = [(false, ADDED, "n\n")];
 
-/// Returns the creation of a file.
-fn creation(is_checked: bool) -> Section<'static> {
-    Section::FileMode {
-        is_checked,
-        mode: DEFAULT,
-    }
-}
-
 /// Returns a new file: `lines`, and its creation.
 fn new_file(
     alloc: Global,
     lines: &'static [Line],
     is_checked: bool,
 ) -> Result<File<'static>, RecordError> {
-    let mut sections = Vec::new(alloc);
-    sections.push(changed(alloc, lines)?)?;
-    sections.push(creation(is_checked))?;
-    Ok(file_of(FileMode::Absent, sections))
+    let parts = [Part::Changes(lines), Part::Mode(is_checked, DEFAULT)];
+    file_with_parts(alloc, FileMode::Absent, &parts)
 }
 
 /// Added and removed lines: of each kind one checked and one unchecked.
@@ -54,22 +43,19 @@ fn mixed_file(alloc: Global) -> Result<File<'static>, RecordError> {
     file_with(alloc, &["a\n"], &MIXED)
 }
 
-/// Returns a file of a removed line and, if `is_deleted`, its deletion, both checked.
-fn removal(alloc: Global, is_deleted: bool) -> Result<File<'static>, RecordError> {
-    let mut sections = Vec::new(alloc);
-    sections.push(changed(alloc, &[(true, REMOVED, "x\n")])?)?;
-    if is_deleted {
-        sections.push(deletion())?;
-    }
-    Ok(file_of(DEFAULT, sections))
-}
+/// A checked removed line.
+const REMOVAL: Part = Part::Changes(&[(true, REMOVED, "x\n")]);
+
+/// A file without its last line.
+const EMPTIED: &[Part] = &[REMOVAL];
+
+/// A file that is deleted.
+const DELETED: &[Part] = &[REMOVAL, Part::Mode(true, FileMode::Absent)];
 
 /// Returns a file of a checked binary change, and a line of context after it.
 fn binary_file(alloc: Global) -> Result<File<'static>, RecordError> {
-    let mut sections = Vec::new(alloc);
-    sections.push(binary(true))?;
-    sections.push(context(alloc, &["z\n"])?)?;
-    Ok(file_of(DEFAULT, sections))
+    let parts = [Part::Bytes(Some("old"), None), Part::Context(&["z\n"])];
+    file_with_parts(alloc, DEFAULT, &parts)
 }
 
 /// The expected contents of a side.
@@ -96,10 +82,9 @@ fn is_side(changes: &SelectedChanges<'_>, mode: FileMode, side: Side) -> bool {
     is_same && changes.file_mode == mode
 }
 
-/// Checks that a copy of `file` equals it.
-fn check_copy(rt: &impl Abort, alloc: Global, file: &File<'_>) -> Result<(), RecordError> {
-    assert!(rt; file.try_clone(alloc)? == *file);
-    Ok(())
+/// Checks that `changes` are the side `expected`.
+fn check_side(rt: &impl Abort, changes: &SelectedChanges<'_>, expected: (FileMode, Side)) {
+    assert!(rt; is_side(changes, expected.0, expected.1));
 }
 
 /// Splits `file`, and checks that its sides are `selected` and `unselected`.
@@ -111,8 +96,8 @@ fn check_split(
     unselected: (FileMode, Side),
 ) -> Result<(), RecordError> {
     let sides = file.get_selected_contents(alloc)?;
-    assert!(rt; is_side(&sides.0, selected.0, selected.1));
-    assert!(rt; is_side(&sides.1, unselected.0, unselected.1));
+    check_side(rt, &sides.0, selected);
+    check_side(rt, &sides.1, unselected);
     Ok(())
 }
 
@@ -131,11 +116,11 @@ fn files_are_split(rt: HostRuntime) -> Result<(), RecordError> {
 fn removals_are_split(rt: HostRuntime) -> Result<(), RecordError> {
     let alloc = rt.alloc();
     let rest = (DEFAULT, Side::Text("x\n"));
-    for (is_deleted, selected) in [
-        (false, (DEFAULT, Side::Text(""))),
-        (true, (FileMode::Absent, Side::Unchanged)),
+    for (parts, selected) in [
+        (EMPTIED, (DEFAULT, Side::Text(""))),
+        (DELETED, (FileMode::Absent, Side::Unchanged)),
     ] {
-        let file = removal(alloc, is_deleted)?;
+        let file = file_with_parts(alloc, DEFAULT, parts)?;
         check_split(&rt, alloc, &file, selected, rest)?;
     }
     Ok(())
@@ -184,7 +169,7 @@ fn check_selected(
     bytes: usize,
 ) -> Result<(), RecordError> {
     let sides = file.get_selected_contents(alloc)?;
-    assert_eq!(rt; text_len(&sides.0.contents), bytes);
+    check_equal(rt, text_len(&sides.0.contents), bytes);
     Ok(())
 }
 
@@ -198,7 +183,7 @@ fn check_size(
     bytes: usize,
 ) -> Result<(), RecordError> {
     let file = file_with(alloc, texts, lines)?;
-    check_copy(rt, alloc, &file)?;
+    check_copy(rt, file.try_clone(alloc), &file)?;
     check_selected(rt, alloc, &file, bytes)
 }
 
@@ -217,6 +202,19 @@ fn files_of_any_size_are_copied_and_split(rt: HostRuntime) -> Result<(), RecordE
     check_size(&rt, alloc, texts.as_slice(), lines.as_slice(), 40_000)
 }
 
+/// Checks that the contents of `sides` are those of `toggled`, in the other order.
+fn check_swapped(
+    rt: &impl Abort,
+    alloc: Global,
+    sides: &(SelectedChanges<'_>, SelectedChanges<'_>),
+    toggled: &File<'_>,
+) -> Result<(), RecordError> {
+    let swapped = toggled.get_selected_contents(alloc)?;
+    check_equal(rt, &swapped.0.contents, &sides.1.contents);
+    check_equal(rt, &swapped.1.contents, &sides.0.contents);
+    Ok(())
+}
+
 /// Checks that toggling swapped the contents of the two sides.
 fn check_places(
     rt: &impl Abort,
@@ -224,11 +222,8 @@ fn check_places(
     file: &File<'_>,
     toggled: &File<'_>,
 ) -> Result<(), RecordError> {
-    let (selected, unselected) = file.get_selected_contents(alloc)?;
-    let (first, second) = toggled.get_selected_contents(alloc)?;
-    assert!(rt; first.contents == unselected.contents);
-    assert!(rt; second.contents == selected.contents);
-    Ok(())
+    let sides = file.get_selected_contents(alloc)?;
+    check_swapped(rt, alloc, &sides, toggled)
 }
 
 /// Toggles a copy of `file` twice. The first toggle swaps the sides, and the second restores the
@@ -238,7 +233,7 @@ fn check_toggles(rt: &impl Abort, alloc: Global, file: &File<'_>) -> Result<(), 
     toggled.toggle_all();
     check_places(rt, alloc, file, &toggled)?;
     toggled.toggle_all();
-    assert!(rt; toggled == *file);
+    check_equal(rt, &toggled, file);
     Ok(())
 }
 
@@ -269,13 +264,18 @@ fn new_state(alloc: Global) -> Result<RecordState<'static>, RecordError> {
 #[test]
 fn copies_of_a_state_equal_it(rt: HostRuntime) -> Result<(), RecordError> {
     let state = new_state(rt.alloc())?;
-    assert!(rt; state.try_clone(rt.alloc())? == state);
-    Ok(())
+    check_copy(&rt, state.try_clone(rt.alloc()), &state)
 }
 
-/// Checks that a copy of `section` equals it.
-fn check_section(rt: &impl Abort, alloc: Global, section: &Section<'_>) -> Result<(), RecordError> {
-    assert!(rt; section.try_clone(alloc)? == *section);
+/// Checks that copies of `sections` equal them.
+fn check_sections(
+    rt: &impl Abort,
+    alloc: Global,
+    sections: &[Section<'_>],
+) -> Result<(), RecordError> {
+    for section in sections {
+        check_copy(rt, section.try_clone(alloc), section)?;
+    }
     Ok(())
 }
 
@@ -283,33 +283,27 @@ fn check_section(rt: &impl Abort, alloc: Global, section: &Section<'_>) -> Resul
 fn copies_of_files_equal_them(rt: HostRuntime) -> Result<(), RecordError> {
     let alloc = rt.alloc();
     let file = new_file(alloc, &UNCHECKED, false)?;
-    check_copy(&rt, alloc, &file)?;
-    for section in file.sections.iter() {
-        check_section(&rt, alloc, section)?;
-    }
-    Ok(())
+    check_copy(&rt, file.try_clone(alloc), &file)?;
+    check_sections(&rt, alloc, file.sections.as_slice())
 }
 
 #[test]
 fn copies_of_lists_equal_them(rt: HostRuntime) -> Result<(), RecordError> {
     let alloc = rt.alloc();
     let mut texts: Items<Text<'static>> = Items::new(alloc);
-    assert_eq!(rt; texts.try_clone(alloc)?.len(), 0);
+    check_equal(&rt, texts.try_clone(alloc)?.len(), 0);
     texts.extend([Text::from("a\n"), Text::from("")])?;
-    assert!(rt; texts.try_clone(alloc)? == texts);
-    Ok(())
+    check_copy(&rt, texts.try_clone(alloc), &texts)
 }
 
 #[test]
 fn copies_of_lines_equal_them(rt: HostRuntime) -> Result<(), RecordError> {
-    let alloc = rt.alloc();
     let line = SectionChangedLine {
         is_checked: false,
         change_type: ADDED,
         line: Text::from("n\n"),
     };
-    assert!(rt; line.try_clone(alloc)? == line);
-    Ok(())
+    check_copy(&rt, line.try_clone(rt.alloc()), &line)
 }
 
 #[test]
@@ -318,19 +312,8 @@ fn copies_of_commits_equal_them(rt: HostRuntime) -> Result<(), RecordError> {
     let commit = Commit {
         message: Some(owned(alloc, "m")?),
     };
-    assert!(rt; commit.try_clone(alloc)? == commit);
     assert!(rt; Commit::default() != commit);
-    Ok(())
-}
-
-/// Checks that a copy of `contents` equals it.
-fn check_contents(
-    rt: &impl Abort,
-    alloc: Global,
-    contents: &SelectedContents<'_>,
-) -> Result<(), RecordError> {
-    assert!(rt; contents.try_clone(alloc)? == *contents);
-    Ok(())
+    check_copy(&rt, commit.try_clone(alloc), &commit)
 }
 
 /// Checks that copies of the contents of both sides equal them.
@@ -339,13 +322,14 @@ fn check_sides(
     alloc: Global,
     sides: &(SelectedChanges<'_>, SelectedChanges<'_>),
 ) -> Result<(), RecordError> {
-    check_contents(rt, alloc, &sides.0.contents)?;
-    check_contents(rt, alloc, &sides.1.contents)
+    let (selected, unselected) = (&sides.0.contents, &sides.1.contents);
+    check_copy(rt, selected.try_clone(alloc), selected)?;
+    check_copy(rt, unselected.try_clone(alloc), unselected)
 }
 
 /// Checks that copies of `file`, and of the contents of both its sides, equal them.
 fn check_copies(rt: &impl Abort, alloc: Global, file: &File<'_>) -> Result<(), RecordError> {
-    check_copy(rt, alloc, file)?;
+    check_copy(rt, file.try_clone(alloc), file)?;
     let sides = file.get_selected_contents(alloc)?;
     check_sides(rt, alloc, &sides)
 }
@@ -361,23 +345,23 @@ fn copies_of_sides_equal_them(rt: HostRuntime) -> Result<(), RecordError> {
 }
 
 /// Sets the marks of `section`, and then inverts them.
-fn check_marks(rt: &impl Abort, section: &mut Section<'_>) {
+pub(crate) fn check_marks(rt: &impl Abort, section: &mut Section<'_>) {
     section.set_checked(true);
     let is_editable = section.is_editable();
-    assert_eq!(rt; section.tristate(), Tristate::from(is_editable));
+    check_equal(rt, section.tristate(), Tristate::from(is_editable));
     section.toggle_all();
-    assert_eq!(rt; section.tristate(), Tristate::False);
+    check_equal(rt, section.tristate(), Tristate::False);
 }
 
 #[test]
 fn marks_are_counted_and_written(rt: HostRuntime) -> Result<(), RecordError> {
     let alloc = rt.alloc();
     let mut file = mixed_file(alloc)?;
-    assert_eq!(rt; file.tristate(), Tristate::Partial);
+    check_equal(&rt, file.tristate(), Tristate::Partial);
     file.set_checked(true);
-    assert_eq!(rt; file.tristate(), Tristate::True);
+    check_equal(&rt, file.tristate(), Tristate::True);
     file.toggle_all();
-    assert_eq!(rt; file.tristate(), Tristate::False);
+    check_equal(&rt, file.tristate(), Tristate::False);
     for section in file.sections.iter_mut() {
         check_marks(&rt, section);
     }
@@ -387,25 +371,28 @@ fn marks_are_counted_and_written(rt: HostRuntime) -> Result<(), RecordError> {
 /// Returns a file with an unchecked removed line and the file's deletion, with the mark
 /// `is_checked`.
 fn half_removed(alloc: Global, is_checked: bool) -> Result<File<'static>, RecordError> {
-    let lines = changed(alloc, &[(false, REMOVED, "x\n")])?;
-    let deletion = Section::FileMode {
-        is_checked,
-        mode: FileMode::Absent,
-    };
-    Ok(file_of(DEFAULT, vec![in alloc; lines, deletion]?))
+    let lines = Part::Changes(&[(false, REMOVED, "x\n")]);
+    let parts = [lines, Part::Mode(is_checked, FileMode::Absent)];
+    file_with_parts(alloc, DEFAULT, &parts)
 }
 
-/// Repairs `file`, and checks that it is `wanted`.
-fn check_repaired(rt: &impl Abort, mut file: File<'static>, wanted: &File<'_>) {
-    file.repair();
-    assert!(rt; file == *wanted);
+/// Checks that `file` is a file with an unchecked removed line and its deletion, with the mark
+/// `is_deleted`.
+fn check_half(
+    rt: &impl Abort,
+    alloc: Global,
+    file: &File<'static>,
+    is_deleted: bool,
+) -> Result<(), RecordError> {
+    check_equal(rt, file, &half_removed(alloc, is_deleted)?);
+    Ok(())
 }
 
 /// Repairs a file with an unchecked removed line and its deletion, with the mark `is_deleted`.
 fn check_half_removed(rt: &impl Abort, alloc: Global, is_deleted: bool) -> Result<(), RecordError> {
-    let file = half_removed(alloc, is_deleted)?;
-    check_repaired(rt, file, &half_removed(alloc, false)?);
-    Ok(())
+    let mut file = half_removed(alloc, is_deleted)?;
+    file.repair();
+    check_half(rt, alloc, &file, false)
 }
 
 /// Repairs a new file of `lines`, whose creation has the mark `is_created`. Checks that the
@@ -416,8 +403,9 @@ fn check_made(
     lines: &'static [Line],
     is_created: bool,
 ) -> Result<(), RecordError> {
-    let file = new_file(alloc, lines, is_created)?;
-    check_repaired(rt, file, &new_file(alloc, lines, true)?);
+    let mut file = new_file(alloc, lines, is_created)?;
+    file.repair();
+    check_equal(rt, &file, &new_file(alloc, lines, true)?);
     Ok(())
 }
 
@@ -434,17 +422,16 @@ fn marks_are_made_to_fit(rt: HostRuntime) -> Result<(), RecordError> {
     let alloc = rt.alloc();
     let mut file = half_removed(alloc, true)?;
     uncheck_deletions(file.sections.as_mut_slice());
-    assert!(rt; file == half_removed(alloc, false)?);
+    check_half(&rt, alloc, &file, false)?;
     check_modes(file.sections.as_mut_slice());
-    assert!(rt; file == half_removed(alloc, true)?);
-    Ok(())
+    check_half(&rt, alloc, &file, true)
 }
 
 #[test]
 fn three_commits_are_not_accepted(rt: HostRuntime) -> Result<(), RecordError> {
     let mut state = RecordState::empty(rt.alloc());
     for is_accepted in [true, true, true, false] {
-        assert_eq!(rt; state.is_accepted(), is_accepted);
+        check_equal(&rt, state.is_accepted(), is_accepted);
         state.commits.push(Commit::default())?;
     }
     Ok(())
@@ -458,7 +445,7 @@ fn check_error(
     text: &str,
 ) -> Result<(), AllocError> {
     let shown = format!(in alloc; "{error}")?;
-    assert!(rt; shown.as_str() == text);
+    check_equal(rt, shown.as_str(), text);
     Ok(())
 }
 
@@ -531,8 +518,8 @@ fn modes_are_converted_and_printed(rt: HostRuntime) -> Result<(), Fail> {
         (FileMode::Absent, "<absent>"),
     ] {
         let shown = format!(in alloc; "{mode}")?;
-        assert!(rt; shown.as_str() == text);
-        assert_eq!(rt; mode.is_absent(), text == "<absent>");
+        check_equal(&rt, shown.as_str(), text);
+        check_equal(&rt, mode.is_absent(), text == "<absent>");
     }
     assert!(rt; FileMode::try_from(-1_i32).is_err());
     Ok(())
@@ -540,14 +527,14 @@ fn modes_are_converted_and_printed(rt: HostRuntime) -> Result<(), Fail> {
 
 #[test]
 fn sizes_are_converted(rt: HostRuntime) {
-    assert_eq!(rt; 7_usize.unwrap_isize(), 7);
-    assert_eq!(rt; 7_isize.unwrap_usize(), 7);
+    check_equal(&rt, 7_usize.unwrap_isize(), 7);
+    check_equal(&rt, 7_isize.unwrap_usize(), 7);
     for (size, nearest) in [(7, 7), (65_535, 65_535), (65_536, 65_535)] {
-        assert_eq!(rt; UsizeExt::clamp_into_u16(size), nearest);
+        check_equal(&rt, UsizeExt::clamp_into_u16(size), nearest);
     }
     for (place, nearest, size) in [(-7, 0, 0), (7, 7, 7), (65_536, 65_535, 65_536)] {
-        assert_eq!(rt; IsizeExt::clamp_into_u16(place), nearest);
-        assert_eq!(rt; IsizeExt::clamp_into_usize(place), size);
+        check_equal(&rt, IsizeExt::clamp_into_u16(place), nearest);
+        check_equal(&rt, IsizeExt::clamp_into_usize(place), size);
     }
     assert!(rt; ENV_VAR_DUMP_UI_STATE == "SCM_RECORD_DUMP_UI_STATE");
     assert!(rt; DUMP_UI_STATE_FILENAME == "scm_record_ui_state.json");
@@ -562,7 +549,7 @@ fn bytes_are_described(rt: HostRuntime) -> Result<(), RecordError> {
         ("é", u64::MAX, "é (18446744073709551615 bytes)"),
     ] {
         let description = make_binary_description(rt.alloc(), hash, size)?;
-        assert!(rt; description.as_str() == text);
+        check_equal(&rt, description.as_str(), text);
     }
     Ok(())
 }
@@ -574,7 +561,7 @@ fn numbers(alloc: Global) -> Result<Items<u8>, AllocError> {
 
 /// Changes a list of three numbers by each call that lends elements.
 fn change_numbers(rt: &impl Abort, items: &mut Items<u8>) {
-    assert_eq!(rt; items.len(), 3);
+    assert!(rt; items.len() == 3);
     items[0] = 4;
     for item in items.as_mut_slice() {
         *item ^= 1;
@@ -586,10 +573,10 @@ fn change_numbers(rt: &impl Abort, items: &mut Items<u8>) {
 
 /// Checks the list that `change_numbers` leaves.
 fn check_numbers(rt: &impl Abort, items: &Items<u8>) {
-    assert_eq!(rt; items.len(), 3);
-    assert_eq!(rt; items[0], 5);
+    assert!(rt; items.len() == 3);
+    check_equal(rt, items[0], 5);
     for (index, expected) in [(1, Some(4)), (3, None)] {
-        assert_eq!(rt; items.get(index).copied(), expected);
+        check_equal(rt, items.get(index).copied(), expected);
     }
     assert!(rt; items.iter().all(|item| *item > 3));
 }
@@ -600,7 +587,7 @@ fn lists_are_read_and_changed(rt: HostRuntime) -> Result<(), RecordError> {
     change_numbers(&rt, &mut items);
     check_numbers(&rt, &items);
     let list = items.into_inner();
-    assert!(rt; list.as_slice() == [5, 4, 7].as_slice());
+    check_equal(&rt, list.as_slice(), [5, 4, 7].as_slice());
     check_numbers(&rt, &Items::from(list));
     Ok(())
 }
@@ -621,11 +608,11 @@ fn lists_are_collected_and_gone_through(rt: HostRuntime) -> Result<(), RecordErr
     for item in &mut items {
         *item ^= 1;
     }
-    assert_eq!(rt; items.pop(), Some(9));
+    check_equal(&rt, items.pop(), Some(9));
     let mut rest = gone_through(alloc, items)?;
-    assert!(rt; rest.as_slice() == [2, 4].as_slice());
+    check_equal(&rt, rest.as_slice(), [2, 4].as_slice());
     for expected in [Some(4), Some(2), None] {
-        assert_eq!(rt; rest.pop(), expected);
+        check_equal(&rt, rest.pop(), expected);
     }
     Ok(())
 }
@@ -633,10 +620,10 @@ fn lists_are_collected_and_gone_through(rt: HostRuntime) -> Result<(), RecordErr
 #[test]
 fn lists_are_made_with_room_and_extended(rt: HostRuntime) -> Result<(), RecordError> {
     let mut items = Items::with_capacity(rt.alloc(), 4)?;
-    assert_eq!(rt; items.last().copied(), None);
+    check_equal(&rt, items.last().copied(), None);
     items.extend([3_u8, 5, 8])?;
-    assert!(rt; items.as_slice() == [3, 5, 8].as_slice());
-    assert_eq!(rt; items.last().copied(), Some(8));
+    check_equal(&rt, items.as_slice(), [3, 5, 8].as_slice());
+    check_equal(&rt, items.last().copied(), Some(8));
     Ok(())
 }
 
@@ -645,27 +632,27 @@ fn a_script_that_ends_is_told_by_its_kind(rt: HostRuntime) -> Result<(), RecordE
     let alloc = rt.alloc();
     for (text, is_end) in [("no events left", true), ("gone", false)] {
         let error = RecordError::ReadInput(String::from_str(alloc, text)?);
-        assert_eq!(rt; error.is_no_events_left(), is_end);
+        check_equal(&rt, error.is_no_events_left(), is_end);
     }
     assert!(rt; !RecordError::Cancelled.is_no_events_left());
     Ok(())
 }
 
-/// Checks that copies of `text` equal it.
-fn check_copied_text(rt: &impl Abort, alloc: Global, text: &Text<'_>) -> Result<(), RecordError> {
+/// Checks that `text` is "né", by each call that borrows it.
+fn check_borrowed(rt: &impl Abort, alloc: Global, text: &Text<'_>) -> Result<(), RecordError> {
+    check_equal(rt, text.as_str(), "né");
+    check_equal(rt, (text.len(), text.is_empty()), (3, false));
     assert!(rt; text.borrowed() == *text);
-    assert!(rt; text.try_clone(alloc)? == *text);
+    check_copy(rt, text.try_clone(alloc), text)?;
+    let shown = format!(in alloc; "{text}")?;
+    check_equal(rt, shown.as_str(), "né");
     Ok(())
 }
 
 /// Checks that `text` is "né", by each call that reads it.
 fn check_text(rt: &impl Abort, alloc: Global, text: Text<'_>) -> Result<(), RecordError> {
-    assert!(rt; text.as_str() == "né");
-    assert!(rt; text.len() == 3 && !text.is_empty());
-    check_copied_text(rt, alloc, &text)?;
-    let shown = format!(in alloc; "{text}")?;
-    assert!(rt; shown.as_str() == "né");
-    assert!(rt; text.into_inner().as_str() == "né");
+    check_borrowed(rt, alloc, &text)?;
+    check_equal(rt, text.into_inner().as_str(), "né");
     Ok(())
 }
 
@@ -681,10 +668,10 @@ fn texts_are_read(rt: HostRuntime) -> Result<(), RecordError> {
 fn owned_texts_are_read(rt: HostRuntime) -> Result<(), RecordError> {
     let alloc = rt.alloc();
     let text = owned(alloc, "né")?;
-    assert!(rt; text.len() == 3 && !text.is_empty());
-    assert!(rt; text.try_clone(alloc)? == text);
+    check_equal(&rt, (text.len(), text.is_empty()), (3, false));
+    check_copy(&rt, text.try_clone(alloc), &text)?;
     let shown = format!(in alloc; "{text}")?;
-    assert!(rt; shown.as_str() == "né");
-    assert!(rt; text.into_inner().as_str() == "né");
+    check_equal(&rt, shown.as_str(), "né");
+    check_equal(&rt, text.into_inner().as_str(), "né");
     Ok(())
 }
