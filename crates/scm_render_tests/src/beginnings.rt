@@ -1,5 +1,6 @@
 //! The first spans of a line beside all of its spans: eight columns show the same of both.
-use crate::cells::put;
+use crate::cells::{put, repeated};
+use crate::checks::{check_equal, check_view};
 use scm_cells::{Grid, Span, push_first_spans, push_spans_from_line, text_width};
 use scm_errors::RecordError;
 use std::alloc::Global;
@@ -22,17 +23,8 @@ fn check_row(
         assert!(rt; width < 10_000);
         column += width;
     }
-    assert_eq!(rt; grid.view()?.as_str(), view);
+    check_view(rt, &grid, view)?;
     Ok(column)
-}
-
-/// Returns `text`, repeated `times` times.
-fn repeated(alloc: Global, text: &str, times: usize) -> Result<String, RecordError> {
-    let mut long = String::new(alloc);
-    for _ in 0..times {
-        long.push_str(text)?;
-    }
-    Ok(long)
 }
 
 /// Checks that all spans of `text`, repeated `times` times, show `view` in eight columns, and that
@@ -49,13 +41,13 @@ fn check_first(
     push_spans_from_line(line.as_str(), &mut all)?;
     let mut first = Vec::new(alloc);
     push_first_spans(line.as_str(), 8, &mut first)?;
-    assert_eq!(rt; first.len(), count, "{text:?}");
+    check_equal(rt, (text, first.len()), (text, count));
     for span in &first {
         assert!(rt; span.0.len() <= bytes, "{text:?}");
     }
     let columns = check_row(rt, alloc, all.as_slice(), view)?;
     let first_columns = check_row(rt, alloc, first.as_slice(), view)?;
-    assert_eq!(rt; 8 < first_columns, 8 < columns, "{text:?}");
+    check_equal(rt, (text, 8 < first_columns), (text, 8 < columns));
     Ok(())
 }
 

@@ -2,6 +2,7 @@
 //! each of its requests for memory refused. The checks hold then, and the test passes or ends in
 //! `OutOfMemory`.
 use crate::cells::put;
+use crate::checks::check_equal;
 use scm_cells::{Grid, push_spans_from_line};
 use scm_errors::RecordError;
 use std::process::Abort;
@@ -11,7 +12,7 @@ fn check_put(rt: &impl Abort, grid: &mut Grid, text: &str) -> Result<(), RecordE
     let before = grid.view()?;
     let outcome = put(rt, grid, 0, 1, text, 0, 12);
     let after = grid.view()?;
-    assert_eq!(rt; after.as_str() == before.as_str(), outcome.is_err());
+    check_equal(rt, after.as_str() == before.as_str(), outcome.is_err());
     outcome
 }
 
@@ -28,7 +29,7 @@ fn refused_memory_keeps_spans(rt: HostRuntime) -> Result<(), RecordError> {
     push_spans_from_line("a", &mut spans)?;
     let outcome = push_spans_from_line("a\u{1}b\u{2}c\u{3}d\u{4}e\u{5}f", &mut spans);
     let count = if outcome.is_ok() { 12 } else { 1 };
-    assert_eq!(rt; spans.len(), count);
-    assert_eq!(rt; spans.first().map(|span| span.0), Some("a"));
+    check_equal(&rt, spans.len(), count);
+    check_equal(&rt, spans.first().map(|span| span.0), Some("a"));
     outcome
 }

@@ -2,6 +2,7 @@
 //! project's tables, and the columns that a terminal gives to texts.
 ghost use Rattle.std.specs.Prelude.{◌≡◌};
 
+use crate::checks::{check_equal, check_view};
 use scm_cells::{
     Clusters, Column, Grid, Line, Mask, Rect, RectSize, ScreenRect, Span, push_spans_from_line,
     replace_control_character, text_width,
@@ -32,20 +33,20 @@ fn rect(x: isize, y: isize, width: usize, height: usize) -> Rect
 
 #[test]
 fn rectangles_are_joined(rt: HostRuntime) {
-    assert_eq!(rt; WHOLE.intersect(rect(2, 1, 5, 5)), rect(2, 1, 2, 1));
+    check_equal(&rt, WHOLE.intersect(rect(2, 1, 5, 5)), rect(2, 1, 2, 1));
     let none = rect(0, 0, 2, 2).intersect(rect(5, 0, 1, 1));
-    assert_eq!(rt; none, rect(5, 0, 0, 1));
+    check_equal(&rt, none, rect(5, 0, 0, 1));
     assert!(rt; none.is_empty());
-    assert_eq!(rt; WHOLE.union_bounding(rect(10, 10, 0, 3)), WHOLE);
-    assert_eq!(rt; WHOLE.union_bounding(rect(6, 5, 1, 1)), rect(0, 0, 7, 6));
+    check_equal(&rt, WHOLE.union_bounding(rect(10, 10, 0, 3)), WHOLE);
+    check_equal(&rt, WHOLE.union_bounding(rect(6, 5, 1, 1)), rect(0, 0, 7, 6));
 }
 
 #[test]
 fn rectangles_have_places(rt: HostRuntime) {
     let small = rect(2, 1, 5, 5);
-    assert_eq!(rt; (small.end_x(), small.end_y()), (7, 6));
-    assert_eq!(rt; small.iter_ys().count(), 5);
-    assert_eq!(rt; small.top_row().height, 1);
+    check_equal(&rt, (small.end_x(), small.end_y()), (7, 6));
+    check_equal(&rt, small.iter_ys().count(), 5);
+    check_equal(&rt, small.top_row().height, 1);
     assert!(rt; small.contains_point(6, 5));
     assert!(rt; !small.contains_point(7, 5));
     assert!(rt; Rect::default().is_empty());
@@ -63,29 +64,29 @@ fn sizes_are_converted(rt: HostRuntime) {
         width: 3,
         height: 4,
     };
-    assert_eq!(rt; Rect::from(screen), rect(1, 2, 3, 4));
-    assert_eq!(rt; RectSize::from(screen), size);
-    assert_eq!(rt; RectSize::from(rect(1, 2, 3, 4)), size);
-    assert_eq!(rt; RectSize::default().width, 0);
+    check_equal(&rt, Rect::from(screen), rect(1, 2, 3, 4));
+    check_equal(&rt, RectSize::from(screen), size);
+    check_equal(&rt, RectSize::from(rect(1, 2, 3, 4)), size);
+    check_equal(&rt, RectSize::default().width, 0);
 }
 
 #[test]
 fn masks_let_places_through(rt: HostRuntime) {
     let closed = Mask::from(rect(1, 2, 3, 4));
-    assert_eq!(rt; (closed.x, closed.y), (1, 2));
-    assert_eq!(rt; (closed.width, closed.height), (Some(3), Some(4)));
-    assert_eq!(rt; (closed.end_x(), closed.end_y()), (Some(4), Some(6)));
+    check_equal(&rt, (closed.x, closed.y), (1, 2));
+    check_equal(&rt, (closed.width, closed.height), (Some(3), Some(4)));
+    check_equal(&rt, (closed.end_x(), closed.end_y()), (Some(4), Some(6)));
     let open = Mask {
         x: 1,
         y: 2,
         width: None,
         height: Some(3),
     };
-    assert_eq!(rt; open.end_x(), None);
-    assert_eq!(rt; open.apply(rect(0, 0, 10, 10)), rect(1, 2, 9, 3));
+    check_equal(&rt, open.end_x(), None);
+    check_equal(&rt, open.apply(rect(0, 0, 10, 10)), rect(1, 2, 9, 3));
     let default = Mask::default();
-    assert_eq!(rt; (default.x, default.y), (0, 0));
-    assert_eq!(rt; (default.width, default.height), (None, None));
+    check_equal(&rt, (default.x, default.y), (0, 0));
+    check_equal(&rt, (default.width, default.height), (None, None));
 }
 
 #[test]
@@ -107,7 +108,7 @@ fn columns_of_texts(rt: HostRuntime) {
         (6, "日本語|中文字|アイウ|привет"),
     ] {
         for text in texts.split('|') {
-            assert_eq!(rt; text_width(text), columns, "columns of {text:?}");
+            check_equal(&rt, (text, text_width(text)), (text, columns));
         }
     }
 }
@@ -117,11 +118,19 @@ fn marks_have_a_column(rt: HostRuntime) {
     let marks = "◐●±⋮…→⏎␀�┌─┐│└┘↓↑←•";
     let mut count = 0;
     for (mark, width) in Clusters::new(marks) {
-        assert_eq!(rt; width, 1, "columns of {mark:?}");
+        check_equal(&rt, (mark, width), (mark, 1));
         assert!(rt; count < 100);
         count += 1;
     }
-    assert_eq!(rt; count, 19);
+    check_equal(&rt, count, 19);
+}
+
+/// Checks that the texts of `spans` are `texts`.
+fn check_pieces(rt: &impl Abort, spans: &[Span<'_>], texts: &[&str]) {
+    check_equal(rt, spans.len(), texts.len());
+    for (span, text) in spans.iter().zip(texts) {
+        check_equal(rt, span.0, *text);
+    }
 }
 
 #[test]
@@ -129,10 +138,7 @@ fn spans_of_a_line(rt: HostRuntime) -> Result<(), RecordError> {
     let mut spans = Vec::new(rt.alloc());
     push_spans_from_line("a\tb", &mut spans)?;
     let line = Line(spans);
-    assert_eq!(rt; line.0.len(), 3);
-    assert_eq!(rt; line.0[0].0, "a");
-    assert_eq!(rt; line.0[1].0, "→   ");
-    assert_eq!(rt; line.0[2].0, "b");
+    check_pieces(&rt, line.0.as_slice(), &["a", "→   ", "b"]);
     Ok(())
 }
 
@@ -146,8 +152,8 @@ fn check_spans(
 ) -> Result<(), RecordError> {
     let mut spans = Vec::new(alloc);
     push_spans_from_line(line, &mut spans)?;
-    assert_eq!(rt; spans.len(), pieces, "spans of {line:?}");
-    assert_eq!(rt; columns_shown(rt, &spans), columns, "columns of {line:?}");
+    let shown = (line, spans.len(), columns_shown(rt, &spans));
+    check_equal(rt, shown, (line, pieces, columns));
     Ok(())
 }
 
@@ -179,11 +185,6 @@ fn spans_of_lines(rt: HostRuntime) -> Result<(), RecordError> {
     Ok(())
 }
 
-/// Checks that the text of `span` is `text`.
-fn check_span(rt: &impl Abort, span: &Span<'_>, text: &str) {
-    assert_eq!(rt; span.0, text);
-}
-
 /// Cuts a line of a letter and `character`, and checks that `replacement` replaces the character.
 fn check_replaced(
     rt: &impl Abort,
@@ -194,9 +195,8 @@ fn check_replaced(
     let line = format!(in alloc; "a{character}")?;
     let mut spans = Vec::new(alloc);
     push_spans_from_line(line.as_str(), &mut spans)?;
-    assert_eq!(rt; spans.len(), 2, "{character:?}");
-    check_span(rt, &spans[0], "a");
-    check_span(rt, &spans[1], replacement);
+    check_equal(rt, (character, spans.len()), (character, 2));
+    check_pieces(rt, &spans, &["a", replacement]);
     Ok(())
 }
 
@@ -237,12 +237,6 @@ pub(crate) fn put(
     assert!(rt; row < grid.height());
     assert!(rt; high <= grid.width());
     grid.put(row, column, text, low, high)
-}
-
-/// Checks that `grid` shows `view`.
-fn check_view(rt: &impl Abort, grid: &Grid, view: &str) -> Result<(), RecordError> {
-    assert_eq!(rt; grid.view()?.as_str(), view);
-    Ok(())
 }
 
 /// Puts `text` on a cleared grid of one row, and checks that it shows `view`.
@@ -300,7 +294,7 @@ fn check_blank(
     bytes: usize,
 ) -> Result<(), RecordError> {
     let grid = Grid::new(alloc, width, height)?;
-    assert_eq!(rt; grid.view()?.len(), bytes, "{width} by {height}");
+    check_equal(rt, (width, height, grid.view()?.len()), (width, height, bytes));
     Ok(())
 }
 
@@ -314,15 +308,15 @@ fn check_long(
 ) -> Result<(), RecordError> {
     let mut grid = Grid::new(alloc, 400, 1)?;
     put(rt, &mut grid, 0, 0, text, 0, 400)?;
-    assert_eq!(rt; grid.view()?.len(), bytes);
+    check_equal(rt, grid.view()?.len(), bytes);
     let mut spans = Vec::new(alloc);
     push_spans_from_line(text, &mut spans)?;
-    assert_eq!(rt; spans.len(), pieces);
+    check_equal(rt, spans.len(), pieces);
     Ok(())
 }
 
 /// Returns `text`, repeated `times` times.
-fn repeated(alloc: Global, text: &str, times: usize) -> Result<String, RecordError> {
+pub(crate) fn repeated(alloc: Global, text: &str, times: usize) -> Result<String, RecordError> {
     let mut long = String::new(alloc);
     for _ in 0..times {
         long.push_str(text)?;
@@ -367,8 +361,8 @@ fn check_column(
     ascii: Option<u8>,
 ) {
     assert!(rt; index < columns.len());
-    assert_eq!(rt; columns[index].symbol(), symbol);
-    assert_eq!(rt; columns[index].ascii(), ascii, "byte of {symbol:?}");
+    let column = &columns[index];
+    check_equal(rt, (column.symbol(), column.ascii()), (symbol, ascii));
 }
 
 #[test]
@@ -387,7 +381,7 @@ fn columns_of_a_row(rt: HostRuntime) -> Result<(), RecordError> {
     ] {
         check_column(&rt, grid.columns(1), index, symbol, ascii);
     }
-    assert_eq!(rt; grid.columns(2).len(), 0);
+    check_equal(&rt, grid.columns(2).len(), 0);
     Ok(())
 }
 
@@ -401,7 +395,7 @@ fn wide_symbols_under_others(rt: HostRuntime) -> Result<(), RecordError> {
     check_view(&rt, &grid, "\"      \"\n\"   字 \"\n")?;
     put(&rt, &mut grid, 0, 0, "abcdef", 0, 6)?;
     check_view(&rt, &grid, "\"abcdef\"\n\"   字 \"\n")?;
-    assert_eq!(rt; (grid.width(), grid.height()), (6, 2));
+    check_equal(&rt, (grid.width(), grid.height()), (6, 2));
     Ok(())
 }
 
@@ -460,7 +454,7 @@ fn symbols_with_their_columns(rt: HostRuntime) -> Result<(), RecordError> {
         (2, 0, None),
         (usize::MAX, usize::MAX, None),
     ] {
-        assert_eq!(rt; grid.symbol(row, column), symbol);
+        check_equal(&rt, grid.symbol(row, column), symbol);
     }
     Ok(())
 }
@@ -487,7 +481,8 @@ fn a_put_measures_its_whole_text(rt: HostRuntime) -> Result<(), RecordError> {
         (-1, "日本語", 6, "\" 本 \"\n"),
         (9, "e\u{301}日", 3, "\"    \"\n"),
     ] {
-        assert_eq!(rt; measured(&rt, &mut grid, column, text)?, columns, "{text}");
+        let found = measured(&rt, &mut grid, column, text)?;
+        check_equal(&rt, (text, found), (text, columns));
         check_view(&rt, &grid, view)?;
     }
     Ok(())

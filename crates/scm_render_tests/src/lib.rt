@@ -8,6 +8,8 @@ mod cell_memory;
 #[cfg(test)]
 mod cells;
 #[cfg(test)]
+mod checks;
+#[cfg(test)]
 mod memory;
 #[cfg(test)]
 mod render;

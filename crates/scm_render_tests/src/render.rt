@@ -7,6 +7,7 @@ ghost use Rattle.scm_render.specs.Drawing.{texts_width};
 ghost use Rattle.scm_render.specs.Bounds.{SightWithin};
 ghost use Rattle.scm_render_tests.specs.Near.{IsNear, near, AreShort};
 
+use crate::checks::{check_equal, check_view};
 use crate::samples::{Caption, Column, Nest, Pair, Pane};
 use crate::tags::{Spot, Tag, boxed};
 use scm_cells::{Grid, Line, Mask, Rect, RectSize, ScreenRect, Span, text_width};
@@ -37,17 +38,6 @@ pub(crate) fn columns(x: isize, width: usize) -> Mask
         width: Some(width),
         height: None,
     }
-}
-
-/// Checks that `found` is `expected`.
-pub(crate) fn check_rect(rt: &impl Abort, found: Rect, expected: Rect) {
-    assert_eq!(rt; found, expected);
-}
-
-/// Checks that `grid` shows `expected`.
-fn check_view(rt: &impl Abort, grid: &Grid, expected: &str) -> Result<(), RecordError> {
-    assert_eq!(rt; grid.view()?.as_str(), expected);
-    Ok(())
 }
 
 /// Checks that the grid of `viewport` shows `expected`.
@@ -314,15 +304,15 @@ fn centring(rt: HostRuntime) {
         height: 3,
     };
     let centred = centered_rect(rect(0, 0, 80, 24), dialog, 60, 20);
-    check_rect(&rt, centred, rect(10, 9, 60, 4));
+    check_equal(&rt, centred, rect(10, 9, 60, 4));
     let centred = centered_rect(rect(0, 0, 10, 2), dialog, 60, 20);
-    check_rect(&rt, centred, rect(0, 0, 10, 2));
+    check_equal(&rt, centred, rect(0, 0, 10, 2));
     let text = RectSize {
         width: 29,
         height: 1,
     };
     let centred = centered_rect(rect(0, 1, 80, 23), text, 50, 50);
-    check_rect(&rt, centred, rect(20, 6, 40, 11));
+    check_equal(&rt, centred, rect(20, 6, 40, 11));
 }
 
 /// Returns a box of one cell, at column 2.
@@ -335,8 +325,8 @@ fn small_box() -> DrawnRect {
 
 /// Checks that the rectangle of `trace` is `rect`, and that its box with the id 7 is `drawn`.
 fn check_trace(rt: &impl Abort, trace: &DrawTrace<u8>, rect: Rect, drawn: Option<DrawnRect>) {
-    check_rect(rt, trace.rect, rect);
-    assert_eq!(rt; trace.components.get(&7).copied(), drawn);
+    check_equal(rt, trace.rect, rect);
+    check_equal(rt, trace.components.get(&7).copied(), drawn);
 }
 
 #[test]
@@ -358,9 +348,9 @@ fn traces(rt: HostRuntime) -> Result<(), RecordError> {
 /// rectangles on its screen.
 fn check_places(rt: &impl Abort, viewport: &Viewport<u8>) {
     let whole = rect(0, 1, 6, 2);
-    check_rect(rt, viewport.rect(), whole);
-    check_rect(rt, viewport.mask_rect(), whole);
-    assert_eq!(rt; viewport.mask(), Mask::from(whole));
+    check_equal(rt, viewport.rect(), whole);
+    check_equal(rt, viewport.mask_rect(), whole);
+    check_equal(rt, viewport.mask(), Mask::from(whole));
     let shown = ScreenRect {
         x: 0,
         y: 0,
@@ -368,7 +358,7 @@ fn check_places(rt: &impl Abort, viewport: &Viewport<u8>) {
         height: 2,
     };
     for (height, expected) in [(1, None), (3, Some(shown))] {
-        assert_eq!(rt; viewport.translate_rect(rect(0, 0, 3, height)), expected);
+        check_equal(rt, viewport.translate_rect(rect(0, 0, 3, height)), expected);
     }
 }
 
@@ -383,15 +373,15 @@ fn viewports_have_places(rt: HostRuntime) -> Result<(), RecordError> {
 fn grid_with_text(rt: &impl Abort, alloc: Global) -> Result<Grid, RecordError> {
     let mut viewport = viewport_at(alloc, 0, 1, 6, 2)?;
     let drawn = draw_text(rt, &mut viewport, 2, 2, &[Span("abcdef")])?;
-    check_rect(rt, drawn, rect(2, 2, 6, 1));
-    check_rect(rt, viewport.cover(rect(3, 1, 2, 2)), rect(3, 1, 2, 2));
+    check_equal(rt, drawn, rect(2, 2, 6, 1));
+    check_equal(rt, viewport.cover(rect(3, 1, 2, 2)), rect(3, 1, 2, 2));
     Ok(viewport.into_grid())
 }
 
 #[test]
 fn texts(rt: HostRuntime) -> Result<(), RecordError> {
     let grid = grid_with_text(&rt, rt.alloc())?;
-    assert_eq!(rt; (grid.width(), grid.height()), (6, 2));
+    check_equal(&rt, (grid.width(), grid.height()), (6, 2));
     check_view(&rt, &grid, "\"      \"\n\"  abc…\"\n")
 }
 
@@ -402,13 +392,13 @@ fn captions_over_texts(rt: HostRuntime) -> Result<(), RecordError> {
     assert_eq!(rt; (grid.width(), grid.height()), (6, 2));
     let mut viewport: Viewport<u8> = Viewport::new(alloc, grid, rect(0, 1, 6, 2));
     let caption = Caption { id: 1, text: "a" };
-    check_rect(
+    check_equal(
         &rt,
         viewport.draw_blank(rect(0, 1, 6, 2))?,
         rect(0, 1, 6, 2),
     );
     let drawn = draw_caption(&rt, &mut viewport, 9, 2, &caption)?;
-    check_rect(&rt, drawn, rect(5, 2, 5, 1));
+    check_equal(&rt, drawn, rect(5, 2, 5, 1));
     check_drawing(&rt, viewport, "\"      \"\n\"     …\"\n")
 }
 
@@ -421,7 +411,7 @@ fn painting_draws_the_same(rt: HostRuntime) -> Result<(), RecordError> {
     let caption = Caption { id: 1, text: "a" };
     viewport.note_box(7, rect(3, 1, 2, 2))?;
     let drawn = draw_caption(&rt, &mut viewport, 9, 2, &caption)?;
-    check_rect(&rt, drawn, rect(5, 2, 5, 1));
+    check_equal(&rt, drawn, rect(5, 2, 5, 1));
     draw_caption_part(&rt, &mut viewport, 0, 1, &caption)?;
     check_drawing(&rt, viewport, "\"a     \"\n\"  abc…\"\n")
 }
@@ -431,12 +421,12 @@ fn painting_passes_over_rows(rt: HostRuntime) -> Result<(), RecordError> {
     let alloc = rt.alloc();
     let viewport = viewport_at(alloc, 0, 1, 6, 2)?;
     assert!(rt; viewport.keeps_boxes());
-    assert_eq!(rt; viewport.rows_to_draw(0, 5), (0, 5));
+    check_equal(&rt, viewport.rows_to_draw(0, 5), (0, 5));
     let grid = Grid::new(alloc, 6, 2)?;
     let painted: Viewport<u8> = Viewport::for_painting(alloc, grid, rect(0, 1, 6, 2));
     assert!(rt; !painted.keeps_boxes());
-    assert_eq!(rt; painted.rows_to_draw(0, 5), (1, 3));
-    assert_eq!(rt; painted.rows_to_draw(3, 5), (0, 0));
+    check_equal(&rt, painted.rows_to_draw(0, 5), (1, 3));
+    check_equal(&rt, painted.rows_to_draw(3, 5), (0, 0));
     Ok(())
 }
 
@@ -445,13 +435,13 @@ fn counts(rt: HostRuntime) -> Result<(), RecordError> {
     let mut viewport = viewport_at(rt.alloc(), 0, 0, 6, 2)?;
     viewport.begin_row();
     viewport.note_box(7, rect(9, 9, 2, 1))?;
-    check_rect(&rt, viewport.cover(rect(3, 1, 2, 2)), rect(3, 1, 2, 2));
+    check_equal(&rt, viewport.cover(rect(3, 1, 2, 2)), rect(3, 1, 2, 2));
     let drawn = draw_text(&rt, &mut viewport, 2, 9, &[Span("abcdefgh")])?;
-    check_rect(&rt, drawn, rect(2, 9, 8, 1));
+    check_equal(&rt, drawn, rect(2, 9, 8, 1));
     let mut grid = viewport.into_grid();
-    assert_eq!(rt; (grid.rows_drawn(), grid.calls()), (1, 1));
+    check_equal(&rt, (grid.rows_drawn(), grid.calls()), (1, 1));
     grid.clear();
-    assert_eq!(rt; (grid.rows_drawn(), grid.calls()), (0, 0));
+    check_equal(&rt, (grid.rows_drawn(), grid.calls()), (0, 0));
     Ok(())
 }
 
@@ -462,8 +452,8 @@ fn masked_viewport(
     height: u16,
 ) -> Result<Viewport<u8>, RecordError> {
     let mut viewport = viewport_at(alloc, 0, 0, 6, height)?;
-    assert_eq!(rt; viewport.swap_mask(Some(columns(2, 3))), None);
-    check_rect(rt, viewport.mask_rect(), rect(2, 0, 3, height as usize));
+    check_equal(rt, viewport.swap_mask(Some(columns(2, 3))), None);
+    check_equal(rt, viewport.mask_rect(), rect(2, 0, 3, height as usize));
     Ok(viewport)
 }
 
@@ -473,7 +463,7 @@ fn check_masked(
     mut viewport: Viewport<u8>,
     expected: &str,
 ) -> Result<(), RecordError> {
-    assert_eq!(rt; viewport.swap_mask(None), Some(columns(2, 3)));
+    check_equal(rt, viewport.swap_mask(None), Some(columns(2, 3)));
     check_drawing(rt, viewport, expected)
 }
 
@@ -487,7 +477,7 @@ fn masked_spans(rt: HostRuntime) -> Result<(), RecordError> {
         (2, 3, "日本", 4),
     ] {
         let drawn = draw_span(&rt, &mut viewport, x, y, &Span(text))?;
-        check_rect(&rt, drawn, rect(x, y, width, 1));
+        check_equal(&rt, drawn, rect(x, y, width, 1));
     }
     let expected = "\"  cde \"\n\"   本 \"\n\"   本 \"\n\"  日  \"\n";
     check_masked(&rt, viewport, expected)
@@ -503,10 +493,10 @@ fn check_texts(
     width: usize,
 ) -> Result<(), RecordError> {
     let drawn = draw_text(rt, viewport, 0, 0, spans)?;
-    check_rect(rt, drawn, rect(0, 0, width, 1));
+    check_equal(rt, drawn, rect(0, 0, width, 1));
     let line = Line(spans.to_vec(alloc)?);
     let drawn = draw_line(rt, viewport, 0, 1, &line)?;
-    check_rect(rt, drawn, rect(0, 1, width, 1));
+    check_equal(rt, drawn, rect(0, 1, width, 1));
     Ok(())
 }
 
@@ -530,7 +520,7 @@ fn check_frame(
 ) -> Result<(), RecordError> {
     let whole = rect(0, 0, width as usize, height as usize);
     let mut viewport = viewport_at(alloc, 0, 0, width, height)?;
-    check_rect(rt, viewport.draw_frame(whole, "Quit", &["body"])?, whole);
+    check_equal(rt, viewport.draw_frame(whole, "Quit", &["body"])?, whole);
     check_drawing(rt, viewport, expected)
 }
 
@@ -574,7 +564,7 @@ fn check_masked_frame(
     };
     let _ = viewport.swap_mask(Some(mask));
     let drawn = draw_frame(rt, &mut viewport, x, y)?;
-    check_rect(rt, drawn, rect(x, y, 6, 3));
+    check_equal(rt, drawn, rect(x, y, 6, 3));
     check_drawing(rt, viewport, expected)
 }
 
@@ -597,7 +587,7 @@ fn masked_frames(rt: HostRuntime) -> Result<(), RecordError> {
 fn check_box(rt: &impl Abort, boxes: &DrawnRects<u8>, id: u8, expected: (Rect, usize)) {
     let (rect, timestamp) = expected;
     let expected = DrawnRect { rect, timestamp };
-    assert_eq!(rt; boxes.get(&id).copied(), Some(expected));
+    check_equal(rt, boxes.get(&id).copied(), Some(expected));
 }
 
 /// Returns two texts with the same id, in a pair with the id 1.
@@ -645,8 +635,8 @@ fn nested_masks(rt: HostRuntime) -> Result<(), RecordError> {
     let outer = columns(0, 5);
     viewport.swap_mask(Some(outer));
     let drawn = draw_nest(&rt, &mut viewport, &sample_nest())?;
-    check_rect(&rt, drawn, rect(0, 0, 6, 2));
-    assert_eq!(rt; viewport.mask(), outer);
+    check_equal(&rt, drawn, rect(0, 0, 6, 2));
+    check_equal(&rt, viewport.mask(), outer);
     check_drawing(&rt, viewport, "\"  cdef\"\n\" vw…  \"\n")
 }
 
@@ -699,7 +689,7 @@ fn a_thousand_boxes(rt: HostRuntime) -> Result<(), RecordError> {
     let alloc = rt.alloc();
     let mut grid = Grid::new(alloc, 6, 4)?;
     let drawn = render_column(&rt, alloc, &mut grid, &long_column(alloc)?)?;
-    assert_eq!(rt; drawn.len(), 201);
+    check_equal(&rt, drawn.len(), 201);
     check_box(&rt, &drawn, 7, (rect(0, 807, 1, 1), 808));
     Ok(())
 }
@@ -714,9 +704,9 @@ fn texts_without_columns_and_texts_made_while_drawing(rt: HostRuntime) -> Result
         is_focused: true,
     };
     let drawn = draw_tag(&rt, alloc, &mut viewport, &tag)?;
-    check_rect(&rt, drawn, rect(0, 0, 4, 1));
+    check_equal(&rt, drawn, rect(0, 0, 4, 1));
     let drawn = draw_span(&rt, &mut viewport, 5, 0, &Span(""))?;
-    check_rect(&rt, drawn, rect(5, 0, 0, 1));
+    check_equal(&rt, drawn, rect(5, 0, 0, 1));
     check_drawing(&rt, viewport, "\"(ab)  \"\n")
 }
 
@@ -729,7 +719,7 @@ fn check_drawn(
     width: usize,
 ) -> Result<(), RecordError> {
     let drawn = draw_span(rt, viewport, 0, 1, &Span(text))?;
-    check_rect(rt, drawn, rect(0, 1, width, 1));
+    check_equal(rt, drawn, rect(0, 1, width, 1));
     check_texts(rt, alloc, viewport, &[Span(text)], width)
 }
 
@@ -742,8 +732,8 @@ fn check_filled(
     body: &[&str],
 ) -> Result<(), RecordError> {
     let whole = rect(0, 0, width as usize, height as usize);
-    check_rect(rt, viewport.draw_blank(whole)?, whole);
-    check_rect(rt, viewport.draw_frame(whole, "Quit", body)?, whole);
+    check_equal(rt, viewport.draw_blank(whole)?, whole);
+    check_equal(rt, viewport.draw_frame(whole, "Quit", body)?, whole);
     Ok(())
 }
 
@@ -752,9 +742,9 @@ fn texts_without_symbols_are_drawn(rt: HostRuntime) -> Result<(), RecordError> {
     let alloc = rt.alloc();
     let mut viewport = viewport_at(alloc, 0, 0, 6, 2)?;
     let drawn = draw_text(&rt, &mut viewport, 3, 0, &[])?;
-    check_rect(&rt, drawn, rect(3, 0, 0, 1));
+    check_equal(&rt, drawn, rect(3, 0, 0, 1));
     let drawn = draw_line(&rt, &mut viewport, 3, 0, &Line(Vec::new(alloc)))?;
-    check_rect(&rt, drawn, rect(3, 0, 0, 1));
+    check_equal(&rt, drawn, rect(3, 0, 0, 1));
     Ok(())
 }
 
@@ -804,7 +794,7 @@ fn components_are_drawn_without_places(rt: HostRuntime) -> Result<(), RecordErro
     let mut nowhere = Grid::new(alloc, 0, 0)?;
     let captions = Vec::new(alloc);
     let drawn = render_column(&rt, alloc, &mut nowhere, &Column { id: 1, captions })?;
-    assert_eq!(rt; drawn.len(), 1);
+    check_equal(&rt, drawn.len(), 1);
     Ok(())
 }
 
@@ -830,7 +820,7 @@ fn targets(rt: HostRuntime) -> Result<(), RecordError> {
         (-1, 0, None),
     ] {
         let found = target_at(&boxes, y, x);
-        assert_eq!(rt; found.map(|spot| spot.number), expected);
+        check_equal(&rt, found.map(|spot| spot.number), expected);
     }
     Ok(())
 }

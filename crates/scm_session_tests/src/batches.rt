@@ -1,6 +1,7 @@
 //! Batches of events that a program hands in to a live session, and jumps to a key.
-use crate::given::{run, state_of};
-use crate::scripts::{ACCEPT, EDIT, FAR, HELLO, INNER, Read, TOGGLE, reads_of, words};
+use crate::checks::check_equal;
+use crate::given::state_of;
+use crate::scripts::{ACCEPT, EDIT, FAR, HELLO, INNER, Read, TOGGLE, outcome_of, reads_of, words};
 use scm_record::{
     Event, FileKey, LineKey, LiveSession, RecordError, Screens, ScriptEdit, ScriptInput,
     SectionKey, SelectionKey, TerminalKind, Turn,
@@ -161,13 +162,12 @@ const WAITING: [&'static [&'static [Event]]; 4] = [
 
 /// Returns a session on a state whose commit has `message`.
 fn session_of(
+    rt: &impl Abort,
     alloc: Global,
     message: Option<&'static str>,
 ) -> Result<LiveSession<'static>, RecordError> {
     let state = state_of(alloc, (message, None))?;
-    if !state.is_accepted() {
-        return Err(RecordError::Other(String::from_str(alloc, "not accepted")?));
-    }
+    assert!(rt; state.is_accepted());
     let kind = TerminalKind::Testing {
         width: 80,
         height: 24,
@@ -219,9 +219,9 @@ fn turn_words(
 /// Checks the outcome of a session on the batches of `row`.
 fn check_live(rt: &impl Abort, alloc: Global, row: Row) -> Result<(), RecordError> {
     let (message, batches, wanted) = row;
-    let session = session_of(alloc, message)?;
+    let session = session_of(rt, alloc, message)?;
     let text = turn_words(alloc, pressed(alloc, session, batches))?;
-    assert_eq!(rt; text.as_str(), wanted);
+    check_equal(rt, text.as_str(), wanted);
     Ok(())
 }
 
@@ -243,9 +243,8 @@ fn check_run(rt: &impl Abort, alloc: Global, row: Row) -> Result<(), RecordError
     }
     let mut input = bye_script(alloc, &reads)?;
     let mut screens = Screens::new(alloc);
-    let outcome = run(rt, alloc, (message, None), &mut input, &mut screens);
-    let text = words(alloc, &outcome)?;
-    assert_eq!(rt; text.as_str(), wanted);
+    let text = outcome_of(rt, alloc, message, &mut input, &mut screens)?;
+    check_equal(rt, text.as_str(), wanted);
     Ok(())
 }
 
@@ -344,14 +343,14 @@ const JUMPS: [Jump; 9] = [
 /// Checks the outcome of a session with a jump, and whether it selects the key.
 fn check_jump(rt: &impl Abort, alloc: Global, row: Jump) -> Result<(), RecordError> {
     let (before, key, after, wanted) = row;
-    let Turn::Waiting(session) = pressed(alloc, session_of(alloc, None)?, before)? else {
+    let Turn::Waiting(session) = pressed(alloc, session_of(rt, alloc, None)?, before)? else {
         panic!(rt; "the session waits for no event");
     };
     let can_select = session.can_select(key);
     let session = session.select(key)?;
-    assert_eq!(rt; session.view_state().selection == key, can_select);
+    check_equal(rt, session.view_state().selection == key, can_select);
     let text = turn_words(alloc, pressed(alloc, session, after))?;
-    assert_eq!(rt; text.as_str(), wanted);
+    check_equal(rt, text.as_str(), wanted);
     Ok(())
 }
 

@@ -1,4 +1,5 @@
 //! The number of rows that a frame begins, and of calls that draw it.
+use crate::checks::check_equal;
 use crate::sessions::session_of;
 use scm_record::{LiveSession, NumberedStyle, RecordError, Style, Styles, TerminalKind};
 use scm_samples::number_of;
@@ -119,7 +120,11 @@ fn check_counts(
     let state = words.next().unwrap_or("");
     let session = session_of(rt, alloc, kind, state, words.next().unwrap_or(""))?;
     let grid = session.grid();
-    assert_eq!(rt; (grid.rows_drawn(), grid.calls()), wanted, "{given}");
+    check_equal(
+        rt,
+        (given, grid.rows_drawn(), grid.calls()),
+        (given, wanted.0, wanted.1),
+    );
     Ok(())
 }
 
@@ -135,8 +140,9 @@ fn check_row(rt: &impl Abort, alloc: Global, row: &str) -> Result<(), RecordErro
     let (given, wanted) = row.split_once(" => ").unwrap_or((row, ""));
     let (wanted, most) = wanted.split_once(" of ").unwrap_or((wanted, ""));
     let (wanted, most) = (numbers_of(wanted), numbers_of(most));
-    assert_eq!(rt; most, most_of(given), "{row}");
-    assert!(rt; wanted.0 <= most.0 && wanted.1 <= most.1, "{row}");
+    check_equal(rt, (row, most), (row, most_of(given)));
+    let is_within = wanted.0 <= most.0 && wanted.1 <= most.1;
+    check_equal(rt, (row, is_within), (row, true));
     check_counts(rt, alloc, given, wanted)
 }
 

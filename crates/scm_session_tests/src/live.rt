@@ -1,4 +1,5 @@
 //! A session call by call: its screen, a new size, an edited message, and ends in an error.
+use crate::checks::check_equal;
 use crate::sessions::{session_of, waiting_of};
 use scm_record::{
     Commit, ComponentId, Editing, Event, FileKey, LiveSession, RecordError, RecordState,
@@ -33,9 +34,10 @@ fn check_owner(
     column: usize,
     owner: Option<ComponentId>,
 ) {
-    assert!(rt;
-        session.owner(row, column) == owner,
-        "row {row}, column {column}"
+    check_equal(
+        rt,
+        (row, column, session.owner(row, column)),
+        (row, column, owner),
     );
 }
 
@@ -59,8 +61,8 @@ fn check_screen(
     kind: TerminalKind,
     screen: &str,
 ) -> Result<(), RecordError> {
-    assert!(rt; session.kind() == kind);
-    assert_eq!(rt; session.grid().view()?.as_str(), screen);
+    check_equal(rt, session.kind(), kind);
+    check_equal(rt, session.grid().view()?.as_str(), screen);
     Ok(())
 }
 
@@ -103,12 +105,12 @@ fn editing_of<'a>(
     session: LiveSession<'a>,
     message: &str,
 ) -> Result<Editing<'a>, RecordError> {
-    assert_eq!(rt; message_in(session.state()), message);
+    check_equal(rt, message_in(session.state()), message);
     let Turn::Editing(editing) = session.handle(Event::EditCommitMessage)? else {
         panic!(rt; "no message is asked for");
     };
-    assert_eq!(rt; editing.commit(), 0);
-    assert_eq!(rt; editing.message(), message);
+    check_equal(rt, editing.commit(), 0);
+    check_equal(rt, editing.message(), message);
     Ok(editing)
 }
 
@@ -116,13 +118,13 @@ fn editing_of<'a>(
 fn a_message_is_edited(rt: HostRuntime) -> Result<(), RecordError> {
     let alloc = rt.alloc();
     let session = session_of(&rt, alloc, NARROW, "!x", "")?;
-    assert_eq!(rt; session.state().commits.len(), 2);
+    check_equal(&rt, session.state().commits.len(), 2);
     let editing = editing_of(&rt, session, "hello")?;
     let answer = String::from_str(alloc, "bye")?;
     let session = waiting_of(&rt, editing.answer(answer)?);
     let editing = editing_of(&rt, session, "bye")?;
     let session = waiting_of(&rt, editing.keep()?);
-    assert_eq!(rt; message_in(session.state()), "bye");
+    check_equal(&rt, message_in(session.state()), "bye");
     Ok(())
 }
 

@@ -1,5 +1,6 @@
 //! Runs over an input of their own: the message that an edit gets, and reads and edits whose
 //! allocations fail.
+use crate::checks::check_equal;
 use crate::copying::Copying;
 use crate::given::{Messages, run, state_of};
 use scm_record::{Event, RecordError, RecordInput, Screens, TestingScreenshot};
@@ -52,10 +53,10 @@ fn check_asking(rt: &impl Abort, alloc: Global, row: Asking) -> Result<(), Recor
     let (messages, events, wanted, left) = row;
     let mut input = Copying::new(alloc, 80, 24, events)?;
     let outcome = run(rt, alloc, messages, &mut input, &mut Screens::new(alloc));
-    assert_eq!(rt; outcome.is_ok(), wanted.is_none());
+    check_equal(rt, outcome.is_ok(), wanted.is_none());
     let asked = input.asked.as_ref().map(|message| message.as_str());
-    assert_eq!(rt; asked, wanted);
-    assert_eq!(rt; input.batches_left(), left);
+    check_equal(rt, asked, wanted);
+    check_equal(rt, input.batches_left(), left);
     Ok(())
 }
 
@@ -104,12 +105,13 @@ fn check_run(rt: &impl Abort, alloc: Global) -> Result<(), RecordError> {
     let shot = screens.place()?;
     let outcome = run(rt, alloc, HELLO, &mut input, &mut screens);
     let text = screens.text(shot);
-    assert!(rt;
-        text == SCREEN || outcome.is_err() && text == ABSENT,
-        "{text}"
-    );
-    let state = outcome?;
-    assert!(rt; state == state_of(alloc, BYE)?);
+    let expected = if outcome.is_err() && text == ABSENT {
+        ABSENT
+    } else {
+        SCREEN
+    };
+    check_equal(rt, text, expected);
+    check_equal(rt, &outcome?, &state_of(alloc, BYE)?);
     Ok(())
 }
 

@@ -1,7 +1,8 @@
 //! Runs over scripts: what is left of the script after a run, and how many frames it draws.
+use crate::checks::check_equal;
 use crate::given::run;
 use scm_record::{
-    Commit, Event, RecordError, RecordInput, RecordState, Screens, ScriptEdit, ScriptInput,
+    Commit, Event, File, RecordError, RecordInput, RecordState, Screens, ScriptEdit, ScriptInput,
     ScriptRead, Section,
 };
 use std::alloc::{AllocError, Global};
@@ -55,6 +56,14 @@ fn push_marks(text: &mut String, section: &Section<'_>) -> Result<(), AllocError
     Ok(())
 }
 
+/// Adds the marks of the lines of `file` to `text`.
+fn push_file(text: &mut String, file: &File<'_>) -> Result<(), AllocError> {
+    for section in file.sections.as_slice() {
+        push_marks(text, section)?;
+    }
+    Ok(())
+}
+
 /// Adds a space and the commit's message to `text`, if it has one.
 fn push_message(text: &mut String, commit: &Commit) -> Result<(), AllocError> {
     if let Some(message) = &commit.message {
@@ -64,26 +73,51 @@ fn push_message(text: &mut String, commit: &Commit) -> Result<(), AllocError> {
     Ok(())
 }
 
+/// Adds the marks of the lines of `files` to `text`.
+fn push_files(text: &mut String, files: &[File<'_>]) -> Result<(), AllocError> {
+    for file in files {
+        push_file(text, file)?;
+    }
+    Ok(())
+}
+
+/// Adds the messages of `commits` to `text`.
+fn push_messages(text: &mut String, commits: &[Commit]) -> Result<(), AllocError> {
+    for commit in commits {
+        push_message(text, commit)?;
+    }
+    Ok(())
+}
+
+/// Returns the marks and the messages of an accepted state.
+fn state_words(alloc: Global, state: &RecordState<'_>) -> Result<String, AllocError> {
+    let mut text = String::from_str(alloc, "accepted ")?;
+    push_files(&mut text, state.files.as_slice())?;
+    push_messages(&mut text, state.commits.as_slice())?;
+    Ok(text)
+}
+
 /// Returns the marks and the messages of an accepted state, or the text of the error.
 pub(crate) fn words(
     alloc: Global,
     outcome: &Result<RecordState<'static>, RecordError>,
 ) -> Result<String, AllocError> {
     match outcome {
-        Ok(state) => {
-            let mut text = String::from_str(alloc, "accepted ")?;
-            for file in state.files.as_slice() {
-                for section in file.sections.as_slice() {
-                    push_marks(&mut text, section)?;
-                }
-            }
-            for commit in state.commits.as_slice() {
-                push_message(&mut text, commit)?;
-            }
-            Ok(text)
-        }
+        Ok(state) => state_words(alloc, state),
         Err(error) => format!(in alloc; "{error}"),
     }
+}
+
+/// Runs `input` on a state whose first commit has `message`, and returns the outcome in words.
+pub(crate) fn outcome_of(
+    rt: &impl Abort,
+    alloc: Global,
+    message: Option<&'static str>,
+    input: &mut dyn RecordInput,
+    screens: &mut Screens,
+) -> Result<String, AllocError> {
+    let outcome = run(rt, alloc, (message, None), input, screens);
+    words(alloc, &outcome)
 }
 
 /// Returns the answer of the next edit, or the text of its error.
@@ -275,7 +309,7 @@ fn check_next(
     next: &str,
 ) -> Result<(), AllocError> {
     let edit = edit_words(alloc, input)?;
-    assert_eq!(rt; edit.as_str(), next);
+    check_equal(rt, edit.as_str(), next);
     Ok(())
 }
 
@@ -288,9 +322,8 @@ fn check_outcome(
     wanted: (&str, usize),
 ) -> Result<(), AllocError> {
     let mut screens = Screens::new(alloc);
-    let outcome = run(rt, alloc, (message, None), input, &mut screens);
-    let text = words(alloc, &outcome)?;
-    assert_eq!(rt; (text.as_str(), screens.frames()), wanted);
+    let text = outcome_of(rt, alloc, message, input, &mut screens)?;
+    check_equal(rt, (text.as_str(), screens.frames()), wanted);
     Ok(())
 }
 
@@ -298,9 +331,9 @@ fn check_outcome(
 fn check_row(rt: &impl Abort, alloc: Global, row: Row) -> Result<(), RecordError> {
     let (message, reads, wanted, frames, left, next) = row;
     let mut input = script(alloc, 80, 24, reads)?;
-    assert_eq!(rt; input.batches_left(), reads.len());
+    check_equal(rt, input.batches_left(), reads.len());
     check_outcome(rt, alloc, message, &mut input, (wanted, frames))?;
-    assert_eq!(rt; input.batches_left(), left, "to {wanted}");
+    check_equal(rt, (wanted, input.batches_left()), (wanted, left));
     check_next(rt, alloc, &mut input, next)?;
     Ok(())
 }

@@ -1,6 +1,6 @@
 //! Runs over one store: each keeps its screenshot at the place that it names, if the store has it.
-use crate::given::run;
-use crate::scripts::{FAR, Read, script, words};
+use crate::checks::check_equal;
+use crate::scripts::{FAR, Read, outcome_of, script};
 use scm_record::{Event, RecordError, Screens, TestingScreenshot};
 use std::alloc::Global;
 use std::process::Abort;
@@ -49,27 +49,29 @@ const ROWS: [Row; 4] = [
     ),
 ];
 
-/// Returns the outcome of a run of `reads` over `screens`, in words.
-fn outcome_of(
+/// Runs `row` over `screens`, and checks the outcome and the text at `shot`.
+fn check_row(
     rt: &impl Abort,
     alloc: Global,
-    reads: &[Read],
     screens: &mut Screens,
-) -> Result<String, RecordError> {
+    shot: TestingScreenshot,
+    row: Row,
+) -> Result<(), RecordError> {
+    let (reads, wanted, text) = row;
     let mut input = script(alloc, 3, 3, reads)?;
-    let outcome = run(rt, alloc, (None, None), &mut input, screens);
-    Ok(words(alloc, &outcome)?)
+    let outcome = outcome_of(rt, alloc, None, &mut input, screens)?;
+    check_equal(rt, (outcome.as_str(), screens.text(shot)), (wanted, text));
+    Ok(())
 }
 
 #[test]
 fn screenshots_are_kept_at_their_places(rt: HostRuntime) -> Result<(), RecordError> {
     let mut screens = Screens::new(rt.alloc());
     let first = screens.place()?;
-    for (reads, wanted, text) in ROWS {
-        let outcome = outcome_of(&rt, rt.alloc(), reads, &mut screens)?;
-        assert_eq!(rt; (outcome.as_str(), screens.text(first)), (wanted, text));
+    for row in ROWS {
+        check_row(&rt, rt.alloc(), &mut screens, first, row)?;
     }
     // a move has two frames, each other read one
-    assert_eq!(rt; screens.frames(), 5 + 5 + 5 + 4);
+    check_equal(&rt, screens.frames(), 5 + 5 + 5 + 4);
     Ok(())
 }

@@ -1,6 +1,7 @@
 //! The bytes of paints, as ECMA-48 defines them.
 ghost use Rattle.std.specs.Prelude.{◌==◌, None, false};
 
+use crate::checks::check_equal;
 use scm_cells::{Colour, Grid, Style};
 use scm_errors::RecordError;
 use scm_terminal::{Painter, Styles};
@@ -42,7 +43,7 @@ fn check_paint(
     wanted: &str,
 ) -> Result<(), RecordError> {
     let text = painter.paint(grid, &Reversed { row })?;
-    assert_eq!(rt; text.as_str(), wanted);
+    check_equal(rt, text.as_str(), wanted);
     Ok(())
 }
 
@@ -93,7 +94,7 @@ fn check_row(
     let text = Painter::new(alloc).paint(&grid, &Reversed { row: 1 })?;
     let shown = text.as_str().strip_prefix("\x1b[?7l");
     let shown = shown.unwrap_or("").strip_suffix("\x1b[?7h");
-    assert_eq!(rt; shown, Some(wanted));
+    check_equal(rt, shown, Some(wanted));
     Ok(())
 }
 
@@ -183,7 +184,7 @@ fn check_style(
     let text = painter.paint(grid, &Uniform { style })?;
     let shown = text.as_str().strip_prefix("\x1b[?7l");
     let shown = shown.unwrap_or("").strip_suffix("\x1b[?7h");
-    assert_eq!(rt; shown, Some(wanted));
+    check_equal(rt, shown, Some(wanted));
     Ok(())
 }
 

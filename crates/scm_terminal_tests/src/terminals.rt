@@ -1,4 +1,5 @@
 //! The bytes that terminals send, and their events. `TMUX` was recorded from tmux 3.3a.
+use crate::checks::check_equal;
 use scm_input::{
     KeyCode, KeyEvent, KeyEventKind, KeyModifiers, MouseButton, MouseEvent, MouseEventKind,
     TerminalEvent,
@@ -146,14 +147,14 @@ fn first_event(bytes: &[u8]) -> (Option<TerminalEvent>, usize) {
 #[test]
 fn keys(rt: HostRuntime) {
     for (bytes, code, modifiers) in TMUX {
-        assert_eq!(rt; first_event(bytes), (Some(key(code, modifiers)), 1));
+        check_equal(&rt, first_event(bytes), (Some(key(code, modifiers)), 1));
     }
 }
 
 #[test]
 fn other_forms(rt: HostRuntime) {
     for (bytes, code, modifiers) in OTHER_FORMS {
-        assert_eq!(rt; first_event(bytes), (Some(key(code, modifiers)), 1));
+        check_equal(&rt, first_event(bytes), (Some(key(code, modifiers)), 1));
     }
 }
 
@@ -163,7 +164,8 @@ fn front_end_keys(rt: HostRuntime) -> Result<(), Fail> {
     let mut events = Vec::new(rt.alloc());
     let mut decoder = Decoder::new();
     decoder.feed(b"j\t\x0c\x1ak", &mut events)?;
-    assert_eq!(rt;
+    check_equal(
+        &rt,
         events.as_slice(),
         [
             key(KeyCode::Char('j'), NONE),
@@ -172,7 +174,7 @@ fn front_end_keys(rt: HostRuntime) -> Result<(), Fail> {
             key(KeyCode::Char('z'), CONTROL),
             key(KeyCode::Char('k'), NONE),
         ]
-        .as_slice()
+        .as_slice(),
     );
     Ok(())
 }
@@ -180,7 +182,7 @@ fn front_end_keys(rt: HostRuntime) -> Result<(), Fail> {
 #[test]
 fn others(rt: HostRuntime) {
     for bytes in OTHERS {
-        assert_eq!(rt; first_event(bytes), (Some(TerminalEvent::Other), 1));
+        check_equal(&rt, first_event(bytes), (Some(TerminalEvent::Other), 1));
     }
 }
 
@@ -189,7 +191,7 @@ fn a_click_in_two_pieces(rt: HostRuntime) -> Result<(), Fail> {
     let mut events = Vec::new(rt.alloc());
     let mut decoder = Decoder::new();
     decoder.feed(b"\x1b[<0;5", &mut events)?;
-    assert_eq!(rt; events.len(), 0);
+    check_equal(&rt, events.len(), 0);
     decoder.feed(b";3M\x1b", &mut events)?;
     let click = TerminalEvent::Mouse(MouseEvent {
         kind: MouseEventKind::Down(MouseButton::Left),
@@ -197,9 +199,9 @@ fn a_click_in_two_pieces(rt: HostRuntime) -> Result<(), Fail> {
         row: 2,
         modifiers: NONE,
     });
-    assert_eq!(rt; events.as_slice(), [click].as_slice());
-    assert_eq!(rt; decoder.idle(), Some(key(KeyCode::Esc, NONE)));
-    assert_eq!(rt; decoder.idle(), None);
+    check_equal(&rt, events.as_slice(), [click].as_slice());
+    check_equal(&rt, decoder.idle(), Some(key(KeyCode::Esc, NONE)));
+    check_equal(&rt, decoder.idle(), None);
     Ok(())
 }
 
@@ -208,13 +210,14 @@ fn a_paste_acts_as_no_key(rt: HostRuntime) -> Result<(), Fail> {
     let mut events = Vec::new(rt.alloc());
     let mut decoder = Decoder::new();
     decoder.feed(b"\x1b[200~q\x03\x1b[20", &mut events)?;
-    assert_eq!(rt; decoder.idle(), None);
+    check_equal(&rt, decoder.idle(), None);
     decoder.feed(b"1~\r", &mut events)?;
     let enter = key(KeyCode::Enter, NONE);
     let other = TerminalEvent::Other;
-    assert_eq!(rt;
+    check_equal(
+        &rt,
         events.as_slice(),
-        [other, other, other, other, enter].as_slice()
+        [other, other, other, other, enter].as_slice(),
     );
     Ok(())
 }
@@ -228,7 +231,7 @@ fn a_click_of_rxvt(rt: HostRuntime) {
         row: 2,
         modifiers: NONE,
     });
-    assert_eq!(rt; first_event(b"\x1b[32;5;3M"), (Some(click), 1));
+    check_equal(&rt, first_event(b"\x1b[32;5;3M"), (Some(click), 1));
 }
 
 /// A silence may tear the Up key anywhere, and be reported twice: its letter is no key.
@@ -237,15 +240,15 @@ fn a_torn_arrow_is_no_letter(rt: HostRuntime) -> Result<(), Fail> {
     let mut events = Vec::new(rt.alloc());
     let mut decoder = Decoder::new();
     decoder.feed(b"\x1b", &mut events)?;
-    assert_eq!(rt; decoder.idle(), Some(key(KeyCode::Esc, NONE)));
-    assert_eq!(rt; decoder.idle(), None);
+    check_equal(&rt, decoder.idle(), Some(key(KeyCode::Esc, NONE)));
+    check_equal(&rt, decoder.idle(), None);
     decoder.feed(b"[", &mut events)?;
-    assert_eq!(rt; decoder.idle(), None);
+    check_equal(&rt, decoder.idle(), None);
     decoder.feed(b"A\x1b[1;", &mut events)?;
-    assert_eq!(rt; decoder.idle(), None);
+    check_equal(&rt, decoder.idle(), None);
     decoder.feed(b"5A", &mut events)?;
     let arrows = [key(KeyCode::Up, NONE), key(KeyCode::Up, CONTROL)];
-    assert_eq!(rt; events.as_slice(), arrows.as_slice());
+    check_equal(&rt, events.as_slice(), arrows.as_slice());
     Ok(())
 }
 
@@ -256,15 +259,19 @@ fn keys_after_silences(rt: HostRuntime) -> Result<(), Fail> {
     let mut events = Vec::new(rt.alloc());
     let mut decoder = Decoder::new();
     decoder.feed(b"\x1b", &mut events)?;
-    assert_eq!(rt; decoder.idle(), Some(key(KeyCode::Esc, NONE)));
+    check_equal(&rt, decoder.idle(), Some(key(KeyCode::Esc, NONE)));
     decoder.feed(b"c\x1b]", &mut events)?;
-    assert_eq!(rt; decoder.idle(), Some(TerminalEvent::Other));
+    check_equal(&rt, decoder.idle(), Some(TerminalEvent::Other));
     decoder.feed(b"q\x1b]11;rgb:c", &mut events)?;
-    assert_eq!(rt; decoder.idle(), None);
+    check_equal(&rt, decoder.idle(), None);
     decoder.feed(b"ccc\x07", &mut events)?;
     let c = key(KeyCode::Char('c'), NONE);
     let q = key(KeyCode::Char('q'), NONE);
-    assert_eq!(rt; events.as_slice(), [c, q, TerminalEvent::Other].as_slice());
+    check_equal(
+        &rt,
+        events.as_slice(),
+        [c, q, TerminalEvent::Other].as_slice(),
+    );
     Ok(())
 }
 
@@ -274,16 +281,16 @@ fn a_lost_mark_locks_nobody_out(rt: HostRuntime) -> Result<(), Fail> {
     let mut events = Vec::new(rt.alloc());
     let mut decoder = Decoder::new();
     decoder.feed(b"\x1b[200~a\x1b[", &mut events)?;
-    assert_eq!(rt; decoder.idle(), None);
+    check_equal(&rt, decoder.idle(), None);
     decoder.feed(b"\x03q", &mut events)?;
-    assert_eq!(rt; decoder.idle(), None);
+    check_equal(&rt, decoder.idle(), None);
     decoder.feed(b"q\x03", &mut events)?;
-    assert_eq!(rt; decoder.idle(), None);
-    assert_eq!(rt; events.as_slice(), [TerminalEvent::Other; 7].as_slice());
+    check_equal(&rt, decoder.idle(), None);
+    check_equal(&rt, events.as_slice(), [TerminalEvent::Other; 7].as_slice());
     decoder.feed(b"\x03", &mut events)?;
-    assert_eq!(rt; decoder.idle(), Some(key(KeyCode::Char('c'), CONTROL)));
+    check_equal(&rt, decoder.idle(), Some(key(KeyCode::Char('c'), CONTROL)));
     decoder.feed(b"q", &mut events)?;
     let q = key(KeyCode::Char('q'), NONE);
-    assert_eq!(rt; events.as_slice().last().copied(), Some(q));
+    check_equal(&rt, events.as_slice().last().copied(), Some(q));
     Ok(())
 }

@@ -1,13 +1,14 @@
 //! Components drawn alone: on the screen, off it and under a mask, and how much each draws.
 ghost use Rattle.std.specs.Prelude.{◌≡◌};
 ghost use Rattle.std.specs.List.{list_all};
-ghost use Rattle.scm_types.specs.Limits.{is_short_option};
-ghost use Rattle.scm_view.specs.ComponentRanges.{are_short_buttons, is_short_button, is_short_item, is_short_menu};
+ghost use Rattle.scm_types.specs.Limits.{is_short_option, is_short_text};
+ghost use Rattle.scm_view.specs.ComponentRanges.{are_short_buttons, is_short_button, is_short_item, is_short_menu, text_of_line};
 ghost use Rattle.scm_view_tests.specs.Corner.{IsAtCorner, SightIsAtCorner};
 
-use crate::views::rows_of;
+use crate::views::check_screen;
 use scm_cells::{Grid, Mask, Rect};
 use scm_render::Viewport;
+use scm_samples::{ADDED, REMOVED, owned};
 use scm_types::{ChangeType, Commit, Items, OwnedText, RecordError, Text, Tristate};
 use scm_view::{
     Button, CommitMessageView, ComponentId, Dialog, HelpDialog, LineKey, Menu, MenuBar, MenuItem,
@@ -94,9 +95,7 @@ pub(crate) fn check_drawing(
     counts: (usize, usize),
 ) -> Result<(), RecordError> {
     let grid = viewport.into_grid();
-    assert_eq!(rt; rows_of(alloc, &grid)?.as_str(), rows);
-    assert_eq!(rt; (grid.rows_drawn(), grid.calls()), counts, "{rows}");
-    Ok(())
+    check_screen(rt, alloc, &grid, rows, counts)
 }
 
 // ---- buttons
@@ -118,180 +117,72 @@ fn draw_button(
     Ok(())
 }
 
-/// Draws a button at `place`, and checks the screen and the counts.
-fn check_button(
-    rt: &impl Abort,
-    alloc: Global,
-    place: Place,
-    is_focused: bool,
-    rows: &str,
-    counts: (usize, usize),
-) -> Result<(), RecordError> {
-    let (left, width, x, y) = place;
-    let button = Button {
-        id: ComponentId::App,
-        label: Text::from("Go"),
-        is_focused,
-    };
-    let mut viewport = viewport_under(rt, alloc, left, width)?;
-    draw_button(rt, &mut viewport, x, y, &button)?;
-    check_drawing(rt, alloc, viewport, rows, counts)
-}
-
-#[test]
-fn buttons_are_drawn_alone(rt: HostRuntime) -> Result<(), RecordError> {
-    // one call each, even off the screen; a button is no row of the document
-    for (place, is_focused, rows, counts) in [
-        ((0, 20, 3, 1), false, "\n   [Go]\n\n", (0, 1)),
-        ((0, 20, 3, 1), true, "\n   (Go)\n\n", (0, 1)),
-        ((0, 20, 18, 2), false, "\n\n                  [G\n", (0, 1)),
-        ((0, 20, -2, 0), false, "o]\n\n\n", (0, 1)),
-        ((4, 2, 3, 1), false, "\n    Go\n\n", (0, 1)),
-        ((0, 20, 3, 3), false, "\n\n\n", (0, 1)),
-        ((0, 20, 3, -1), true, "\n\n\n", (0, 1)),
-    ] {
-        check_button(&rt, rt.alloc(), place, is_focused, rows, counts)?;
-    }
-    Ok(())
-}
-
 // ---- lines
 
-/// Draws a changed line with a short text.
+/// Returns whether the text of `view` is within the limit of a state's texts.
+fn is_short_line(view: &SectionLineView<'_>) -> bool
+    ensures { result ≡ is_short_text (text_of_line view.now.inner) }
+{
+    match &view.inner {
+        SectionLineViewInner::Unchanged { line, .. } => line.len() <= 1_000_000,
+        SectionLineViewInner::Changed { line, .. } => line.len() <= 1_000_000,
+    }
+}
+
+/// Draws a line with a short text.
 fn draw_line(
     rt: &impl Abort,
     viewport: &mut Viewport<ComponentId>,
     x: isize,
     y: isize,
-    change_type: ChangeType,
-    line: &str,
+    view: &SectionLineView<'_>,
 ) -> Result<(), RecordError> {
-    let key = LineKey {
-        commit_idx: 0,
-        file_idx: 0,
-        section_idx: 0,
-        line_idx: 0,
-    };
-    let toggle_box = TristateBox {
-        use_unicode: true,
-        is_focused: false,
-        is_read_only: false,
-        id: ComponentId::ToggleBox(SelectionKey::Line(key)),
-        tristate: Tristate::True,
-        icon_style: TristateIconStyle::Check,
-    };
-    let view = SectionLineView {
-        line_key: key,
+    check_sight(rt, viewport);
+    check_near(rt, x);
+    check_near(rt, y);
+    assert!(rt; is_short_line(view));
+    laws::components_are_in_range();
+    scm_render::laws::parts_are_in_range::<ComponentId>();
+    let _ = viewport.draw_component(x, y, view)?;
+    Ok(())
+}
+
+/// The key of each line.
+const KEY: LineKey = LineKey {
+    commit_idx: 0,
+    file_idx: 0,
+    section_idx: 0,
+    line_idx: 0,
+};
+
+/// Returns a checked line that is `change_type`.
+fn changed_line(change_type: ChangeType) -> SectionLineView<'static> {
+    SectionLineView {
+        line_key: KEY,
         inner: SectionLineViewInner::Changed {
-            toggle_box,
+            toggle_box: TristateBox {
+                use_unicode: true,
+                is_focused: false,
+                is_read_only: false,
+                id: ComponentId::ToggleBox(SelectionKey::Line(KEY)),
+                tristate: Tristate::True,
+                icon_style: TristateIconStyle::Check,
+            },
             change_type,
-            line,
+            line: "ab\n",
         },
-    };
-    check_sight(rt, viewport);
-    check_near(rt, x);
-    check_near(rt, y);
-    assert!(rt; line.len() <= 1_000_000);
-    laws::components_are_in_range();
-    scm_render::laws::parts_are_in_range::<ComponentId>();
-    let _ = viewport.draw_component(x, y, &view)?;
-    Ok(())
-}
-
-/// Draws a line of context with a short text and its number.
-fn draw_context(
-    rt: &impl Abort,
-    viewport: &mut Viewport<ComponentId>,
-    x: isize,
-    y: isize,
-    line_num: usize,
-    line: &str,
-) -> Result<(), RecordError> {
-    let line_key = LineKey {
-        commit_idx: 0,
-        file_idx: 0,
-        section_idx: 0,
-        line_idx: 0,
-    };
-    let view = SectionLineView {
-        line_key,
-        inner: SectionLineViewInner::Unchanged { line, line_num },
-    };
-    check_sight(rt, viewport);
-    check_near(rt, x);
-    check_near(rt, y);
-    assert!(rt; line.len() <= 1_000_000);
-    laws::components_are_in_range();
-    scm_render::laws::parts_are_in_range::<ComponentId>();
-    let _ = viewport.draw_component(x, y, &view)?;
-    Ok(())
-}
-
-/// Draws a changed line at `place`, and checks the screen and the counts.
-fn check_line(
-    rt: &impl Abort,
-    alloc: Global,
-    place: Place,
-    change_type: ChangeType,
-    rows: &str,
-    counts: (usize, usize),
-) -> Result<(), RecordError> {
-    let (left, width, x, y) = place;
-    let mut viewport = viewport_under(rt, alloc, left, width)?;
-    draw_line(rt, &mut viewport, x, y, change_type, "ab\n")?;
-    check_drawing(rt, alloc, viewport, rows, counts)
-}
-
-#[test]
-fn lines_are_drawn_alone(rt: HostRuntime) -> Result<(), RecordError> {
-    use ChangeType::{Added, Removed};
-    // a row of the document that is on the screen takes two calls, whatever the mask shows; the
-    // text ends at the mask's end
-    for (place, change_type, rows, counts) in [
-        ((0, 20, 2, 1), Added, "\n  [●] + ab⏎\n\n", (1, 2)),
-        ((0, 20, 2, 2), Removed, "\n\n  [●] - ab⏎\n", (1, 2)),
-        ((0, 9, 2, 0), Added, "  [●] + …\n\n\n", (1, 2)),
-        ((3, 6, 2, 1), Added, "\n   ●] + …\n\n", (1, 2)),
-        ((0, 0, 2, 1), Added, "\n\n\n", (1, 2)),
-        ((0, 20, 2, 3), Added, "\n\n\n", (0, 0)),
-        ((0, 20, 2, -1), Removed, "\n\n\n", (0, 0)),
-    ] {
-        check_line(&rt, rt.alloc(), place, change_type, rows, counts)?;
     }
-    Ok(())
 }
 
-/// Draws a line of context at `place`, and checks the screen and the counts.
-fn check_context(
-    rt: &impl Abort,
-    alloc: Global,
-    place: Place,
-    line_num: usize,
-    rows: &str,
-    counts: (usize, usize),
-) -> Result<(), RecordError> {
-    let (left, width, x, y) = place;
-    let mut viewport = viewport_under(rt, alloc, left, width)?;
-    draw_context(rt, &mut viewport, x, y, line_num, "ab\n")?;
-    check_drawing(rt, alloc, viewport, rows, counts)
-}
-
-#[test]
-fn lines_of_context_are_drawn_alone(rt: HostRuntime) -> Result<(), RecordError> {
-    // one call for a row that is on the screen, whatever the mask shows
-    for (place, line_num, rows, counts) in [
-        ((0, 20, 2, 1), 7, "\n      7 ab⏎\n\n", (1, 1)),
-        ((0, 20, 2, 2), 100_000, "\n\n  100000 ab⏎\n", (1, 1)),
-        ((0, 20, -3, 0), 7, " 7 ab⏎\n\n\n", (1, 1)),
-        ((0, 9, 2, 0), 7, "      7 …\n\n\n", (1, 1)),
-        ((4, 4, 2, 1), 7, "\n      7…\n\n", (1, 1)),
-        ((0, 0, 2, 1), 7, "\n\n\n", (1, 1)),
-        ((0, 20, 2, 3), 7, "\n\n\n", (0, 0)),
-        ((0, 20, 2, -1), 7, "\n\n\n", (0, 0)),
-    ] {
-        check_context(&rt, rt.alloc(), place, line_num, rows, counts)?;
+/// Returns a line of context with the number `line_num`.
+fn context_line(line_num: usize) -> SectionLineView<'static> {
+    SectionLineView {
+        line_key: KEY,
+        inner: SectionLineViewInner::Unchanged {
+            line: "ab\n",
+            line_num,
+        },
     }
-    Ok(())
 }
 
 // ---- menus
@@ -353,37 +244,6 @@ fn draw_menu(
     Ok(())
 }
 
-/// Draws the items of a menu at `place`, and checks the screen and the counts.
-fn check_menu(
-    rt: &impl Abort,
-    alloc: Global,
-    place: Place,
-    rows: &str,
-    counts: (usize, usize),
-) -> Result<(), RecordError> {
-    let (left, width, x, y) = place;
-    let menu = menu_of(alloc, "M", &["a", "long"])?;
-    let mut viewport = viewport_under(rt, alloc, left, width)?;
-    draw_menu(rt, &mut viewport, x, y, &menu)?;
-    check_drawing(rt, alloc, viewport, rows, counts)
-}
-
-#[test]
-fn menus_are_drawn_alone(rt: HostRuntime) -> Result<(), RecordError> {
-    // two calls for each item, even off the screen; items are no rows of the document
-    for (place, rows, counts) in [
-        ((0, 20, 3, 0), "   [a]\n   [long]\n\n", (0, 4)),
-        ((0, 20, -2, 2), "\n\n]\n", (0, 4)),
-        ((0, 20, 17, -1), "                 [lo\n\n\n", (0, 4)),
-        ((4, 2, 3, 1), "\n    a]\n    lo\n", (0, 4)),
-        ((0, 20, 3, 3), "\n\n\n", (0, 4)),
-        ((0, 20, 20, 0), "\n\n\n", (0, 4)),
-    ] {
-        check_menu(&rt, rt.alloc(), place, rows, counts)?;
-    }
-    Ok(())
-}
-
 /// Returns a bar of two menus, of which `expanded_menu_idx` is open, if any.
 fn bar_of(
     alloc: Global,
@@ -414,48 +274,6 @@ fn draw_bar(
     laws::components_are_in_range();
     scm_render::laws::parts_are_in_range::<ComponentId>();
     let _ = viewport.draw_component(x, y, bar)?;
-    Ok(())
-}
-
-/// Draws a bar of two menus at `place`, and checks the screen and the counts.
-fn check_bar(
-    rt: &impl Abort,
-    alloc: Global,
-    place: Place,
-    open: Option<usize>,
-    rows: &str,
-    counts: (usize, usize),
-) -> Result<(), RecordError> {
-    let (left, width, x, y) = place;
-    let bar = bar_of(alloc, open)?;
-    let mut viewport = viewport_under(rt, alloc, left, width)?;
-    draw_bar(rt, &mut viewport, x, y, &bar)?;
-    check_drawing(rt, alloc, viewport, rows, counts)
-}
-
-#[test]
-fn menu_bars_are_drawn_alone(rt: HostRuntime) -> Result<(), RecordError> {
-    // a blank, a call for each title, and two calls for each item of the open menu
-    for (place, open, rows, counts) in [
-        ((0, 20, 0, 0), None, "[File] [Edit]\n\n\n", (0, 3)),
-        (
-            (0, 20, 0, 0),
-            Some(1),
-            "[File] [Edit]\n       [long]\n\n",
-            (0, 5),
-        ),
-        (
-            (0, 20, -3, 1),
-            Some(1),
-            "\nle] [Edit]\n    [long]\n",
-            (0, 5),
-        ),
-        ((4, 2, 0, 0), Some(1), "    e]\n\n\n", (0, 5)),
-        ((0, 20, 0, 3), Some(0), "\n\n\n", (0, 5)),
-        ((0, 20, 0, 0), Some(2), "[File] [Edit]\n\n\n", (0, 3)),
-    ] {
-        check_bar(&rt, rt.alloc(), place, open, rows, counts)?;
-    }
     Ok(())
 }
 
@@ -515,133 +333,10 @@ fn draw_help(
     Ok(())
 }
 
-/// The dialogs of the tests.
-#[derive(Clone, Copy)]
-enum Asked {
-    /// A body of one line, and one button.
-    Line,
-    /// The dialog that asks whether to quit.
-    Quit,
-    /// The help.
-    Help,
-}
-
-/// Draws the dialog `asked`.
-fn draw_asked(
-    rt: &impl Abort,
-    viewport: &mut Viewport<ComponentId>,
-    asked: Asked,
-) -> Result<(), RecordError> {
-    match asked {
-        Asked::Line => {
-            let button = Button {
-                id: ComponentId::MenuBar,
-                label: Text::from("Ok"),
-                is_focused: false,
-            };
-            let dialog = Dialog {
-                id: ComponentId::App,
-                title: Text::from("T"),
-                body: &["hi"],
-                buttons: &[button],
-            };
-            draw_dialog(rt, viewport, &dialog)
-        }
-        Asked::Quit => {
-            let dialog = QuitDialog {
-                num_commit_messages: 0,
-                num_changed_files: 0,
-                focused_button: QuitDialogButtonId::Quit,
-            };
-            draw_quit(rt, viewport, &dialog)
-        }
-        Asked::Help => draw_help(rt, viewport, &HelpDialog()),
-    }
-}
-
-/// Draws the dialog `asked` under `mask`, its first column and its number of columns. Checks the
-/// screen and the counts.
-fn check_dialog(
-    rt: &impl Abort,
-    alloc: Global,
-    mask: (isize, usize),
-    asked: Asked,
-    rows: &str,
-    counts: (usize, usize),
-) -> Result<(), RecordError> {
-    let mut viewport = viewport_under(rt, alloc, mask.0, mask.1)?;
-    draw_asked(rt, &mut viewport, asked)?;
-    check_drawing(rt, alloc, viewport, rows, counts)
-}
-
-#[test]
-fn dialogs_are_drawn_alone(rt: HostRuntime) -> Result<(), RecordError> {
-    // a frame and a call for each button, whatever the mask shows; a dialog is in the middle of the
-    // screen
-    for (mask, asked, rows, counts) in [
-        (
-            (0, 20),
-            Asked::Line,
-            "    ┌T─────────┐\n    │hi        │\n    └──────[Ok]┘\n",
-            (0, 2),
-        ),
-        (
-            (6, 4),
-            Asked::Line,
-            "      ────\n      i\n      ────\n",
-            (0, 2),
-        ),
-        (
-            (0, 20),
-            Asked::Quit,
-            "┌Quit──────────────┐\n│Are you sure you w│\n└──[Go Back]─(Quit)┘\n",
-            (0, 3),
-        ),
-        (
-            (10, 5),
-            Asked::Quit,
-            "          ─────\n          ure y\n          k]─(Q\n",
-            (0, 3),
-        ),
-        ((20, 9), Asked::Quit, "\n\n\n", (0, 3)),
-        (
-            (0, 20),
-            Asked::Help,
-            "┌Help──────────────┐\n│You can click the │\n└───────────(Close)┘\n",
-            (0, 2),
-        ),
-        ((0, 0), Asked::Help, "\n\n\n", (0, 2)),
-    ] {
-        check_dialog(&rt, rt.alloc(), mask, asked, rows, counts)?;
-    }
-    Ok(())
-}
-
-/// Returns a viewport on 32 columns and 3 rows.
-fn wide_viewport(alloc: Global) -> Result<Viewport<ComponentId>, RecordError> {
-    let grid = Grid::new(alloc, 32, 3)?;
-    let rect = Rect {
-        x: 0,
-        y: 0,
-        width: 32,
-        height: 3,
-    };
-    Ok(Viewport::new(alloc, grid, rect))
-}
-
-#[test]
-fn a_question_without_counts_is_shown_whole(rt: HostRuntime) -> Result<(), RecordError> {
-    let mut viewport = wide_viewport(rt.alloc())?;
-    draw_asked(&rt, &mut viewport, Asked::Quit)?;
-    let rows =
-        "┌Quit──────────────────────────┐\n│Are you sure you want to quit?│\n└──────────────[Go Back]─(Quit)┘\n";
-    check_drawing(&rt, rt.alloc(), viewport, rows, (0, 3))
-}
-
 // ---- messages
 
 /// Draws the message of a commit.
-pub(crate) fn draw_message(
+fn draw_message(
     rt: &impl Abort,
     viewport: &mut Viewport<ComponentId>,
     x: isize,
@@ -668,41 +363,300 @@ fn has_short_message(message: &Option<OwnedText>) -> bool
     }
 }
 
-/// Draws a message of two lines at `place`, and checks the screen and the counts.
-fn check_message(
+// ---- all components
+
+/// A component of the tests.
+#[derive(Clone, Copy)]
+pub(crate) enum Shown {
+    /// A button, and whether it has the focus.
+    Button(bool),
+    /// A checked line, which is added or removed.
+    Changed(ChangeType),
+    /// A line of context with its number.
+    Context(usize),
+    /// The items of a menu.
+    Menu,
+    /// A bar of two menus, and which one is open.
+    Bar(Option<usize>),
+    /// A dialog with a body of one line, and one button.
+    Dialog,
+    /// The dialog that asks whether to quit.
+    Quit,
+    /// The help.
+    Help,
+    /// The message of a commit.
+    Message(&'static str),
+}
+
+/// Returns a button with the label `label`.
+fn button_of(
+    id: ComponentId,
+    label: &'static str,
+    is_focused: bool,
+) -> Button<'static, ComponentId> {
+    Button {
+        id,
+        label: Text::from(label),
+        is_focused,
+    }
+}
+
+/// Draws a dialog with a body of one line, and one button.
+fn draw_line_and_button(
+    rt: &impl Abort,
+    viewport: &mut Viewport<ComponentId>,
+) -> Result<(), RecordError> {
+    let dialog = Dialog {
+        id: ComponentId::App,
+        title: Text::from("T"),
+        body: &["hi"],
+        buttons: &[button_of(ComponentId::MenuBar, "Ok", false)],
+    };
+    draw_dialog(rt, viewport, &dialog)
+}
+
+/// The dialog that asks whether to quit a session without changes.
+const QUIT: QuitDialog = QuitDialog {
+    num_commit_messages: 0,
+    num_changed_files: 0,
+    focused_button: QuitDialogButtonId::Quit,
+};
+
+/// Draws the message `text` of a commit.
+fn draw_text(
     rt: &impl Abort,
     alloc: Global,
-    place: Place,
-    rows: &str,
-    counts: (usize, usize),
+    viewport: &mut Viewport<ComponentId>,
+    x: isize,
+    y: isize,
+    text: &str,
 ) -> Result<(), RecordError> {
-    let (left, width, x, y) = place;
     let commit = Commit {
-        message: Some(OwnedText::from(String::from_str(alloc, "hi\nmore")?)),
+        message: Some(owned(alloc, text)?),
     };
     let view = CommitMessageView {
         commit_idx: 0,
         commit: &commit,
     };
-    let mut viewport = viewport_under(rt, alloc, left, width)?;
-    draw_message(rt, &mut viewport, x, y, &view)?;
+    draw_message(rt, viewport, x, y, &view)
+}
+
+/// Draws the component `shown`. A dialog is in the middle of the screen.
+fn draw_shown(
+    rt: &impl Abort,
+    alloc: Global,
+    viewport: &mut Viewport<ComponentId>,
+    x: isize,
+    y: isize,
+    shown: Shown,
+) -> Result<(), RecordError> {
+    match shown {
+        Shown::Button(is_focused) => {
+            let button = button_of(ComponentId::App, "Go", is_focused);
+            draw_button(rt, viewport, x, y, &button)
+        }
+        Shown::Changed(change_type) => draw_line(rt, viewport, x, y, &changed_line(change_type)),
+        Shown::Context(line_num) => draw_line(rt, viewport, x, y, &context_line(line_num)),
+        Shown::Menu => draw_menu(rt, viewport, x, y, &menu_of(alloc, "M", &["a", "long"])?),
+        Shown::Bar(open) => draw_bar(rt, viewport, x, y, &bar_of(alloc, open)?),
+        Shown::Dialog => draw_line_and_button(rt, viewport),
+        Shown::Quit => draw_quit(rt, viewport, &QUIT),
+        Shown::Help => draw_help(rt, viewport, &HelpDialog()),
+        Shown::Message(text) => draw_text(rt, alloc, viewport, x, y, text),
+    }
+}
+
+/// A component: its place, the screen's rows, and the counted rows and calls.
+pub(crate) type Row = (Shown, Place, &'static str, (usize, usize));
+
+/// Draws the component of `row` on `grid`, and checks the screen and the counts.
+pub(crate) fn check_shown(
+    rt: &impl Abort,
+    alloc: Global,
+    grid: Grid,
+    row: Row,
+) -> Result<(), RecordError> {
+    let (shown, (left, width, x, y), rows, counts) = row;
+    let mut viewport = viewport_on(rt, alloc, grid, left, width);
+    draw_shown(rt, alloc, &mut viewport, x, y, shown)?;
     check_drawing(rt, alloc, viewport, rows, counts)
 }
 
+/// A message of two lines.
+const MESSAGE: Shown = Shown::Message("hi\nmore");
+
+/// The components, each on a blank screen.
+const ROWS: [Row; 48] = [
+    // a button: one call each, even off the screen; it is no row of the document
+    (Shown::Button(false), (0, 20, 3, 1), "\n   [Go]\n\n", (0, 1)),
+    (Shown::Button(true), (0, 20, 3, 1), "\n   (Go)\n\n", (0, 1)),
+    (
+        Shown::Button(false),
+        (0, 20, 18, 2),
+        "\n\n                  [G\n",
+        (0, 1),
+    ),
+    (Shown::Button(false), (0, 20, -2, 0), "o]\n\n\n", (0, 1)),
+    (Shown::Button(false), (4, 2, 3, 1), "\n    Go\n\n", (0, 1)),
+    (Shown::Button(false), (0, 20, 3, 3), "\n\n\n", (0, 1)),
+    (Shown::Button(true), (0, 20, 3, -1), "\n\n\n", (0, 1)),
+    // a changed line: on the screen a row of two calls, whatever the mask shows; the text ends at the
+    // mask's end
+    (
+        Shown::Changed(ADDED),
+        (0, 20, 2, 1),
+        "\n  [●] + ab⏎\n\n",
+        (1, 2),
+    ),
+    (
+        Shown::Changed(REMOVED),
+        (0, 20, 2, 2),
+        "\n\n  [●] - ab⏎\n",
+        (1, 2),
+    ),
+    (
+        Shown::Changed(ADDED),
+        (0, 9, 2, 0),
+        "  [●] + …\n\n\n",
+        (1, 2),
+    ),
+    (
+        Shown::Changed(ADDED),
+        (3, 6, 2, 1),
+        "\n   ●] + …\n\n",
+        (1, 2),
+    ),
+    (Shown::Changed(ADDED), (0, 0, 2, 1), "\n\n\n", (1, 2)),
+    (Shown::Changed(ADDED), (0, 20, 2, 3), "\n\n\n", (0, 0)),
+    (Shown::Changed(REMOVED), (0, 20, 2, -1), "\n\n\n", (0, 0)),
+    // a line of context: on the screen a row of one call, whatever the mask shows
+    (
+        Shown::Context(7),
+        (0, 20, 2, 1),
+        "\n      7 ab⏎\n\n",
+        (1, 1),
+    ),
+    (
+        Shown::Context(100_000),
+        (0, 20, 2, 2),
+        "\n\n  100000 ab⏎\n",
+        (1, 1),
+    ),
+    (Shown::Context(7), (0, 20, -3, 0), " 7 ab⏎\n\n\n", (1, 1)),
+    (Shown::Context(7), (0, 9, 2, 0), "      7 …\n\n\n", (1, 1)),
+    (Shown::Context(7), (4, 4, 2, 1), "\n      7…\n\n", (1, 1)),
+    (Shown::Context(7), (0, 0, 2, 1), "\n\n\n", (1, 1)),
+    (Shown::Context(7), (0, 20, 2, 3), "\n\n\n", (0, 0)),
+    (Shown::Context(7), (0, 20, 2, -1), "\n\n\n", (0, 0)),
+    // a menu: two calls for each item, even off the screen; items are no rows of the document
+    (Shown::Menu, (0, 20, 3, 0), "   [a]\n   [long]\n\n", (0, 4)),
+    (Shown::Menu, (0, 20, -2, 2), "\n\n]\n", (0, 4)),
+    (
+        Shown::Menu,
+        (0, 20, 17, -1),
+        "                 [lo\n\n\n",
+        (0, 4),
+    ),
+    (Shown::Menu, (4, 2, 3, 1), "\n    a]\n    lo\n", (0, 4)),
+    (Shown::Menu, (0, 20, 3, 3), "\n\n\n", (0, 4)),
+    (Shown::Menu, (0, 20, 20, 0), "\n\n\n", (0, 4)),
+    // a menu bar: a blank, a call for each title, and two calls for each item of the open menu
+    (
+        Shown::Bar(None),
+        (0, 20, 0, 0),
+        "[File] [Edit]\n\n\n",
+        (0, 3),
+    ),
+    (
+        Shown::Bar(Some(1)),
+        (0, 20, 0, 0),
+        "[File] [Edit]\n       [long]\n\n",
+        (0, 5),
+    ),
+    (
+        Shown::Bar(Some(1)),
+        (0, 20, -3, 1),
+        "\nle] [Edit]\n    [long]\n",
+        (0, 5),
+    ),
+    (Shown::Bar(Some(1)), (4, 2, 0, 0), "    e]\n\n\n", (0, 5)),
+    (Shown::Bar(Some(0)), (0, 20, 0, 3), "\n\n\n", (0, 5)),
+    (
+        Shown::Bar(Some(2)),
+        (0, 20, 0, 0),
+        "[File] [Edit]\n\n\n",
+        (0, 3),
+    ),
+    // a dialog: a frame and a call for each button, whatever the mask shows; it is in the middle of the
+    // screen
+    (
+        Shown::Dialog,
+        (0, 20, 0, 0),
+        "    ┌T─────────┐\n    │hi        │\n    └──────[Ok]┘\n",
+        (0, 2),
+    ),
+    (
+        Shown::Dialog,
+        (6, 4, 0, 0),
+        "      ────\n      i\n      ────\n",
+        (0, 2),
+    ),
+    (
+        Shown::Quit,
+        (0, 20, 0, 0),
+        "┌Quit──────────────┐\n│Are you sure you w│\n└──[Go Back]─(Quit)┘\n",
+        (0, 3),
+    ),
+    (
+        Shown::Quit,
+        (10, 5, 0, 0),
+        "          ─────\n          ure y\n          k]─(Q\n",
+        (0, 3),
+    ),
+    (Shown::Quit, (20, 9, 0, 0), "\n\n\n", (0, 3)),
+    (
+        Shown::Help,
+        (0, 20, 0, 0),
+        "┌Help──────────────┐\n│You can click the │\n└───────────(Close)┘\n",
+        (0, 2),
+    ),
+    (Shown::Help, (0, 0, 0, 0), "\n\n\n", (0, 2)),
+    // a message: up to three rows that are on the screen, one call each for the first and the third,
+    // three for the second
+    (MESSAGE, (0, 20, 0, 0), "\n[Edit message]  •  …\n\n", (3, 5)),
+    (MESSAGE, (0, 20, -10, 0), "\nage]  •  hi\n\n", (3, 5)),
+    (MESSAGE, (4, 8, 0, 0), "\n    t messa…\n\n", (3, 5)),
+    (MESSAGE, (0, 20, -10, -1), "age]  •  hi\n\n\n", (2, 4)),
+    (MESSAGE, (0, 20, 0, 1), "\n\n[Edit message]  •  …\n", (2, 4)),
+    (MESSAGE, (0, 20, 0, 2), "\n\n\n", (1, 1)),
+    (MESSAGE, (0, 20, 0, 3), "\n\n\n", (0, 0)),
+];
+
 #[test]
-fn messages_are_drawn_alone(rt: HostRuntime) -> Result<(), RecordError> {
-    // up to three rows that are on the screen: one call each for the first and the third, three for
-    // the second
-    for (place, rows, counts) in [
-        ((0, 20, 0, 0), "\n[Edit message]  •  …\n\n", (3, 5)),
-        ((0, 20, -10, 0), "\nage]  •  hi\n\n", (3, 5)),
-        ((4, 8, 0, 0), "\n    t messa…\n\n", (3, 5)),
-        ((0, 20, -10, -1), "age]  •  hi\n\n\n", (2, 4)),
-        ((0, 20, 0, 1), "\n\n[Edit message]  •  …\n", (2, 4)),
-        ((0, 20, 0, 2), "\n\n\n", (1, 1)),
-        ((0, 20, 0, 3), "\n\n\n", (0, 0)),
-    ] {
-        check_message(&rt, rt.alloc(), place, rows, counts)?;
+fn components_are_drawn_alone(rt: HostRuntime) -> Result<(), RecordError> {
+    for row in ROWS {
+        check_shown(&rt, rt.alloc(), Grid::new(rt.alloc(), 20, 3)?, row)?;
     }
     Ok(())
+}
+
+/// Returns a viewport on 32 columns and 3 rows.
+fn wide_viewport(alloc: Global) -> Result<Viewport<ComponentId>, RecordError> {
+    let grid = Grid::new(alloc, 32, 3)?;
+    let rect = Rect {
+        x: 0,
+        y: 0,
+        width: 32,
+        height: 3,
+    };
+    Ok(Viewport::new(alloc, grid, rect))
+}
+
+#[test]
+fn a_question_without_counts_is_shown_whole(rt: HostRuntime) -> Result<(), RecordError> {
+    let mut viewport = wide_viewport(rt.alloc())?;
+    draw_quit(&rt, &mut viewport, &QUIT)?;
+    let rows =
+        "┌Quit──────────────────────────┐\n│Are you sure you want to quit?│\n└──────────────[Go Back]─(Quit)┘\n";
+    check_drawing(&rt, rt.alloc(), viewport, rows, (0, 3))
 }

@@ -4,7 +4,7 @@ ghost use Rattle.scm_view.specs.ComponentRanges.{IsShortApp};
 ghost use Rattle.scm_view_tests.specs.Small.{AreSmallCommits};
 
 use crate::alone::{check_drawing, check_near, check_sight, has_short_menus, viewport_under};
-use crate::views::{check_commit, rows_of};
+use crate::views::{check_commit, check_screen};
 use scm_cells::Grid;
 use scm_render::Viewport;
 use scm_samples::{ADDED, file_with};
@@ -56,9 +56,7 @@ fn check_app(
     let state = sample_state(alloc)?;
     let mut grid = Grid::new(alloc, 30, 3)?;
     draw_app(rt, alloc, &mut grid, scroll, state)?;
-    assert_eq!(rt; rows_of(alloc, &grid)?.as_str(), rows);
-    assert_eq!(rt; (grid.rows_drawn(), grid.calls()), counts, "{rows}");
-    Ok(())
+    check_screen(rt, alloc, &grid, rows, counts)
 }
 
 #[test]

@@ -1,4 +1,5 @@
 //! What is on each row of a document, who owns each place of a frame, and which rows each key has.
+use crate::checks::check_equal;
 use crate::shown::{key_of, owner_of, place_of, shown};
 use scm_samples::number_of;
 use scm_types::{RecordError, RecordState};
@@ -106,7 +107,11 @@ fn check_places(
 ) -> Result<(), RecordError> {
     let index = row_index(rt, alloc, &shown(alloc, given)?)?;
     for (row, word) in wanted.split_whitespace().enumerate() {
-        assert!(rt; index.place(row) == place_of(word), "row {row} of {given}");
+        check_equal(
+            rt,
+            (given, row, index.place(row)),
+            (given, row, place_of(word)),
+        );
     }
     Ok(())
 }
@@ -133,9 +138,17 @@ fn check_key(rt: &impl Abort, index: &RowIndex, frame: &FrameIndex, word: &str) 
     let (name, wanted) = word.split_once('=').unwrap_or((word, ""));
     let key = key_of(name);
     let wanted = rows_of(wanted);
-    assert!(rt; frame.span(key) == wanted, "{word}");
-    assert!(rt; index.top(key) == wanted.map(|(top, _)| top), "{word}");
-    assert!(rt; index.rows(key) == wanted.map(|(_, rows)| rows), "{word}");
+    check_equal(rt, (word, frame.span(key)), (word, wanted));
+    check_equal(
+        rt,
+        (word, index.top(key)),
+        (word, wanted.map(|(top, _)| top)),
+    );
+    check_equal(
+        rt,
+        (word, index.rows(key)),
+        (word, wanted.map(|(_, rows)| rows)),
+    );
 }
 
 /// Checks the rows of the keys in `wanted`.
@@ -175,7 +188,11 @@ pub(crate) fn owned_place(word: &str) -> (usize, usize, &str) {
 /// Checks the owner of the place in `word`.
 fn check_owner(rt: &impl Abort, frame: &FrameIndex, word: &str) {
     let (row, column, owner) = owned_place(word);
-    assert!(rt; frame.owner(row, column) == owner_of(owner), "{word}");
+    check_equal(
+        rt,
+        (word, frame.owner(row, column)),
+        (word, owner_of(owner)),
+    );
 }
 
 /// Returns the index of the frame `given`.
@@ -197,7 +214,11 @@ fn check_owners(
 ) -> Result<(), RecordError> {
     let frame = frame_in(rt, alloc, given)?;
     let mut words = wanted.split_whitespace();
-    assert!(rt; frame.extent() == number_of(words.next()), "{given}");
+    check_equal(
+        rt,
+        (given, frame.extent()),
+        (given, number_of(words.next())),
+    );
     for word in words {
         check_owner(rt, &frame, word);
     }

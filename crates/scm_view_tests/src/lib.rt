@@ -6,6 +6,8 @@ mod alone;
 #[cfg(test)]
 mod apps;
 #[cfg(test)]
+mod checks;
+#[cfg(test)]
 mod index;
 #[cfg(test)]
 mod over_letters;
@@ -15,6 +17,8 @@ mod painted;
 mod pieces;
 #[cfg(test)]
 mod same_answers;
+#[cfg(test)]
+mod samples;
 #[cfg(test)]
 mod shown;
 #[cfg(test)]

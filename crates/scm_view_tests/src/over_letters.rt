@@ -1,11 +1,14 @@
 //! Components drawn over letters: what they blank, and what stays.
-use crate::alone::{Place, check_drawing, check_near, check_sight, draw_message, viewport_on};
+use crate::alone::{
+    Place, Shown, check_drawing, check_near, check_shown, check_sight, viewport_on,
+};
+use crate::checks::check_equal;
 use crate::views::{check_section, middle_section_view};
 use scm_cells::{Grid, Rect};
 use scm_render::Viewport;
 use scm_samples::context;
-use scm_types::{Commit, OwnedText, RecordError, Section};
-use scm_view::{CommitMessageView, ComponentId, SectionView, laws};
+use scm_types::{RecordError, Section};
+use scm_view::{ComponentId, SectionView, laws};
 use std::alloc::Global;
 use std::process::Abort;
 
@@ -24,28 +27,6 @@ fn grid_of_letters(rt: &impl Abort, alloc: Global) -> Result<Grid, RecordError> 
 }
 
 // ---- messages
-
-/// Draws a message of one line over the letters, and checks the screen and the counts.
-fn check_message(
-    rt: &impl Abort,
-    alloc: Global,
-    place: Place,
-    rows: &str,
-    counts: (usize, usize),
-) -> Result<(), RecordError> {
-    let (left, width, x, y) = place;
-    let commit = Commit {
-        message: Some(OwnedText::from(String::from_str(alloc, "hi")?)),
-    };
-    let view = CommitMessageView {
-        commit_idx: 0,
-        commit: &commit,
-    };
-    let grid = grid_of_letters(rt, alloc)?;
-    let mut viewport = viewport_on(rt, alloc, grid, left, width);
-    draw_message(rt, &mut viewport, x, y, &view)?;
-    check_drawing(rt, alloc, viewport, rows, counts)
-}
 
 #[test]
 fn messages_blank_their_first_and_third_row(rt: HostRuntime) -> Result<(), RecordError> {
@@ -69,7 +50,8 @@ fn messages_blank_their_first_and_third_row(rt: HostRuntime) -> Result<(), Recor
             (1, 1),
         ),
     ] {
-        check_message(&rt, rt.alloc(), place, rows, counts)?;
+        let row = (Shown::Message("hi"), place, rows, counts);
+        check_shown(&rt, rt.alloc(), grid_of_letters(&rt, rt.alloc())?, row)?;
     }
     Ok(())
 }
@@ -164,8 +146,8 @@ fn check_columns(
     let grid = grid_of_letters(rt, alloc)?;
     let mut viewport = viewport_on(rt, alloc, grid, left, width);
     let rect = draw_middle_section(rt, &mut viewport, x, y, &section)?;
-    assert_eq!(rt; (rect.x, rect.width), columns);
-    assert_eq!(rt; (rect.y, rect.height), (y, 1));
+    check_equal(rt, (rect.x, rect.width), columns);
+    check_equal(rt, (rect.y, rect.height), (y, 1));
     Ok(())
 }
 

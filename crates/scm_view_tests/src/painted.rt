@@ -3,6 +3,7 @@
 ghost use Rattle.std.specs.Prelude.{IsTrue};
 ghost use Rattle.scm_types.specs.Limits.{is_accepted_state};
 
+use crate::checks::check_equal;
 use crate::index::owned_place;
 use crate::shown::{owner_of, shown};
 use scm_cells::Grid;
@@ -69,10 +70,11 @@ fn draw(
 /// Checks that both grids show the same, and that as much was drawn.
 fn check_alike(rt: &impl Abort, painted: &Grid, drawn: &Grid) -> Result<(), RecordError> {
     let text = drawn.view()?;
-    assert_eq!(rt; painted.view()?.as_str(), text.as_str());
-    assert_eq!(rt;
+    check_equal(rt, painted.view()?.as_str(), text.as_str());
+    check_equal(
+        rt,
         (painted.rows_drawn(), painted.calls()),
-        (drawn.rows_drawn(), drawn.calls())
+        (drawn.rows_drawn(), drawn.calls()),
     );
     Ok(())
 }
@@ -116,7 +118,7 @@ fn check_owners(rt: &impl Abort, boxes: &DrawnRects<ComponentId>) {
     for word in OWNERS.split(' ') {
         let (row, column, owner) = owned_place(word);
         let found = find_target(boxes, row.min(100) as isize, column.min(100) as isize);
-        assert!(rt; found == owner_of(owner), "{word}");
+        check_equal(rt, (word, found), (word, owner_of(owner)));
     }
 }
 

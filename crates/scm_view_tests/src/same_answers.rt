@@ -5,42 +5,30 @@ ghost use Rattle.scm_document.specs.declared.commit_view.CommitViewMode.TheVaria
 ghost use Rattle.scm_layout_index.specs.SharedRows.{AreRowsOfState};
 ghost use Rattle.scm_types.specs.Limits.{is_accepted_state, max_scroll};
 
+use crate::checks::check_equal;
+use crate::samples::{Part, state_with};
 use scm_layout::StateRows;
 use scm_layout_index::{LayoutIndex, SharedRows, span_of_key};
-use scm_samples::{ADDED, REMOVED, binary, changed, commits_of, context, deletion, file_of};
+use scm_samples::{ADDED, REMOVED};
 use scm_selection::key_lists::all_keys;
 use scm_selection::key_set::key_set_of;
-use scm_types::{File, FileMode, Items, RecordError, RecordState, Section, SelectionKey};
+use scm_types::{RecordError, RecordState, SelectionKey};
 use scm_view::{CommitViewMode, FrameIndex, QuitDialog, QuitDialogButtonId};
 use scm_view_state::ViewState;
 use std::alloc::Global;
 use std::process::Abort;
 
-/// Returns a file with a section of each kind, with context first, between and last.
-fn mixed_file(alloc: Global) -> Result<File<'static>, RecordError> {
-    let mut sections: Vec<Section<'static>> = Vec::new(alloc);
-    sections.push(context(alloc, &["a\n", "b\n", "c\n", "d\n"])?)?;
-    sections.push(changed(alloc, &[(true, REMOVED, "e\n"), (false, ADDED, "f\n")])?)?;
-    sections.push(context(alloc, &["g\n"])?)?;
-    sections.push(changed(alloc, &[(true, ADDED, "h\n")])?)?;
-    sections.push(context(alloc, &["i\n", "j\n", "k\n", "l\n", "m\n", "n\n", "o\n"])?)?;
-    sections.push(deletion())?;
-    sections.push(context(alloc, &[])?)?;
-    sections.push(binary(true))?;
-    Ok(file_of(FileMode::FILE_DEFAULT, sections))
-}
-
-/// Returns a state of two files, with a message.
-fn sample_state(alloc: Global) -> Result<RecordState<'static>, RecordError> {
-    let mut files = Items::new(alloc);
-    files.push(mixed_file(alloc)?)?;
-    files.push(mixed_file(alloc)?)?;
-    Ok(RecordState {
-        is_read_only: false,
-        commits: commits_of(alloc, "message")?,
-        files,
-    })
-}
+/// A section of each kind, with context first, between and last.
+const PARTS: [Part; 8] = [
+    Part::Context(&["a\n", "b\n", "c\n", "d\n"]),
+    Part::Changes(&[(true, REMOVED, "e\n"), (false, ADDED, "f\n")]),
+    Part::Context(&["g\n"]),
+    Part::Changes(&[(true, ADDED, "h\n")]),
+    Part::Context(&["i\n", "j\n", "k\n", "l\n", "m\n", "n\n", "o\n"]),
+    Part::Deletion,
+    Part::Context(&[]),
+    Part::Bytes,
+];
 
 /// Checks that `rows`, those of a layout, give each of `keys` the rows that it has in `whole`, the
 /// index of the view.
@@ -48,7 +36,11 @@ fn check_spans(rt: &impl Abort, rows: &StateRows, whole: &FrameIndex, keys: &[Se
     requires { AreRowsOfState rows.now }
 {
     for key in keys {
-        assert!(rt; span_of_key(rows, *key) == whole.span(*key), "{key:?}");
+        check_equal(
+            rt,
+            (*key, span_of_key(rows, *key)),
+            (*key, whole.span(*key)),
+        );
     }
 }
 
@@ -60,14 +52,10 @@ fn check_row(rt: &impl Abort, index: &LayoutIndex, whole: &FrameIndex, row: usiz
         let owner = whole.owner(row, column);
         let run = index.run_on(owners, column);
         let last = index.owner(row, run.end - 1);
-        assert!(rt;
-            index.owner(row, column) == owner,
-            "row {row}, column {column}"
-        );
-        assert!(rt;
-            run.owner == owner && last == owner,
-            "run at row {row}, column {column}"
-        );
+        let place = (row, column);
+        check_equal(rt, (place, index.owner(row, column)), (place, owner));
+        check_equal(rt, (place, run.owner), (place, owner));
+        check_equal(rt, (place, last), (place, owner));
     }
 }
 
@@ -90,9 +78,9 @@ fn check_frame(
     let whole = FrameIndex::new(alloc, &view, 30, 12, scroll)?;
     check_spans(rt, &layout.rows, &whole, keys);
     let index = LayoutIndex::new(alloc, view_state, &view.menu_bar, rows, 30, 12, scroll)?;
-    assert_eq!(rt; index.extent(), whole.extent());
+    check_equal(rt, index.extent(), whole.extent());
     for key in keys {
-        assert!(rt; index.span(*key) == whole.span(*key), "{key:?}");
+        check_equal(rt, (*key, index.span(*key)), (*key, whole.span(*key)));
     }
     for row in 0..50 {
         check_row(rt, &index, &whole, row);
@@ -134,7 +122,7 @@ fn change(
 #[tactic(auto, unfolding(scm_types::specs::Limits::max_items, scm_types::specs::Limits::max_scroll))]
 fn both_indexes_answer_alike(rt: HostRuntime) -> Result<(), RecordError> {
     let alloc = rt.alloc();
-    let state = sample_state(alloc)?;
+    let state = state_with(alloc, &PARTS, 2)?;
     let mut keys = all_keys(alloc, state.files.as_slice())?;
     keys.push(SelectionKey::None)?;
     let expanded = key_set_of(alloc, keys.as_slice())?;

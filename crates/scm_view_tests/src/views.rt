@@ -5,9 +5,11 @@ ghost use Rattle.scm_types.specs.Limits.{has_short_texts, is_short_option, is_sh
 ghost use Rattle.scm_document.specs.Rows.{lent_text};
 ghost use Rattle.scm_view_tests.specs.Small.{AreSmallFiles, AreSmallSections, IsSmallCommit, IsSmallFile, IsSmallSection};
 
+use crate::checks::check_equal;
+use crate::samples::{Part, files_with};
 use scm_cells::Grid;
 use scm_render::{DrawnRects, Viewport};
-use scm_samples::{ADDED, DEFAULT, Line, REMOVED, changed, context, file_of};
+use scm_samples::{ADDED, REMOVED, context};
 use scm_types::{
     ChangeType, Commit, File, Items, RecordError, Section, SectionChangedLine, Text, Tristate,
 };
@@ -298,7 +300,7 @@ fn old_lines(section: &Section<'_>) -> usize {
 }
 
 /// Returns the rows of a screen, without the spaces at their ends.
-pub(crate) fn rows_of(alloc: Global, grid: &Grid) -> Result<String, RecordError> {
+fn rows_of(alloc: Global, grid: &Grid) -> Result<String, RecordError> {
     let mut rows = String::new(alloc);
     let view = grid.view()?;
     for line in view.as_str().lines() {
@@ -310,30 +312,6 @@ pub(crate) fn rows_of(alloc: Global, grid: &Grid) -> Result<String, RecordError>
 }
 
 // ---- documents
-
-/// A part of a file, as a constant.
-#[derive(Clone, Copy)]
-enum Part {
-    Context(&'static [&'static str]),
-    Changes(&'static [Line]),
-}
-
-/// Returns the section of `part`.
-fn section_of(alloc: Global, part: Part) -> Result<Section<'static>, RecordError> {
-    match part {
-        Part::Context(lines) => context(alloc, lines),
-        Part::Changes(lines) => changed(alloc, lines),
-    }
-}
-
-/// Returns one file of `parts`.
-fn files_of(alloc: Global, parts: &[Part]) -> Result<Vec<File<'static>>, RecordError> {
-    let mut sections = Vec::new(alloc);
-    for part in parts {
-        sections.push(section_of(alloc, *part)?)?;
-    }
-    Ok(vec![in alloc; file_of(DEFAULT, sections)]?)
-}
 
 /// A line of context, and two changes after it.
 const CONTEXT_BEFORE_CHANGES: [Part; 2] = [
@@ -451,7 +429,24 @@ fn check_rows(
     grid: &Grid,
     wanted: &str,
 ) -> Result<(), RecordError> {
-    assert_eq!(rt; rows_of(alloc, grid)?.as_str(), wanted);
+    check_equal(rt, rows_of(alloc, grid)?.as_str(), wanted);
+    Ok(())
+}
+
+/// Checks that the screen shows `rows`, and that the counted rows and calls are `counts`.
+pub(crate) fn check_screen(
+    rt: &impl Abort,
+    alloc: Global,
+    grid: &Grid,
+    rows: &str,
+    counts: (usize, usize),
+) -> Result<(), RecordError> {
+    check_rows(rt, alloc, grid, rows)?;
+    check_equal(
+        rt,
+        (rows, (grid.rows_drawn(), grid.calls())),
+        (rows, counts),
+    );
     Ok(())
 }
 
@@ -465,7 +460,7 @@ fn check_document(rt: &impl Abort, alloc: Global, row: Row) -> Result<(), Record
             None => SelectionKey::None,
         },
     };
-    let files = files_of(alloc, parts)?;
+    let files = files_with(alloc, parts, 1)?;
     let mut grid = Grid::new(alloc, width, height)?;
     draw_files(rt, alloc, look, files.as_slice(), &mut grid, y)?;
     check_rows(rt, alloc, &grid, wanted)
@@ -562,7 +557,11 @@ fn check_section_rows(
 ) -> Result<(), RecordError> {
     let mut grid = Grid::new(alloc, 24, 8)?;
     let height = drawn_height(rt, alloc, &mut grid, index, total, section)?;
-    assert_eq!(rt; height, Some(names.len()), "section {index} of {total}");
+    check_equal(
+        rt,
+        (index, total, height),
+        (index, total, Some(names.len())),
+    );
     check_rows(rt, alloc, &grid, context_rows(alloc, names)?.as_str())
 }
 

@@ -4,41 +4,32 @@ ghost use Rattle.scm_document.specs.declared.commit_view.CommitViewMode.TheVaria
 ghost use Rattle.scm_layout.specs.Layouts.{layout_of};
 ghost use Rattle.scm_types.specs.Limits.{is_accepted_state};
 
+use crate::checks::check_equal;
+use crate::samples::{Part, state_with};
 use scm_cells::Grid;
 use scm_layout::Layout;
-use scm_samples::{ADDED, DEFAULT, REMOVED, binary, changed, commits_of, context, file_of};
+use scm_samples::{ADDED, REMOVED};
 use scm_selection::KeySet;
 use scm_selection::key_lists::all_keys;
-use scm_types::{File, Items, RecordError, RecordState, Section, SelectionKey};
+use scm_types::{RecordError, RecordState, SelectionKey};
 use scm_view_state::ViewState;
 use scm_view_state::visible_views::visible_views_show_windows;
 use std::alloc::Global;
 use std::process::Abort;
 
-/// Returns a file of ten sections: changed lines between context, and a binary change.
-fn sample_file(alloc: Global) -> Result<File<'static>, RecordError> {
-    let mut sections: Vec<Section<'static>> = Vec::new(alloc);
-    for _ in 0..3 {
-        sections.push(context(alloc, &["a\n", "b\n", "c\n", "d\n"])?)?;
-        sections.push(changed(alloc, &[(true, REMOVED, "e\n"), (false, ADDED, "f\n")])?)?;
-        sections.push(context(alloc, &["g\n"])?)?;
-    }
-    sections.push(binary(true))?;
-    Ok(file_of(DEFAULT, sections))
-}
-
-/// Returns a state of six files with sixty sections, and a message.
-fn sample_state(alloc: Global) -> Result<RecordState<'static>, RecordError> {
-    let mut files = Items::new(alloc);
-    for _ in 0..6 {
-        files.push(sample_file(alloc)?)?;
-    }
-    Ok(RecordState {
-        is_read_only: false,
-        commits: commits_of(alloc, "message")?,
-        files,
-    })
-}
+/// Ten sections: three groups of changed lines between context, and a binary change.
+const PARTS: [Part; 10] = [
+    Part::Context(&["a\n", "b\n", "c\n", "d\n"]),
+    Part::Changes(&[(true, REMOVED, "e\n"), (false, ADDED, "f\n")]),
+    Part::Context(&["g\n"]),
+    Part::Context(&["a\n", "b\n", "c\n", "d\n"]),
+    Part::Changes(&[(true, REMOVED, "e\n"), (false, ADDED, "f\n")]),
+    Part::Context(&["g\n"]),
+    Part::Context(&["a\n", "b\n", "c\n", "d\n"]),
+    Part::Changes(&[(true, REMOVED, "e\n"), (false, ADDED, "f\n")]),
+    Part::Context(&["g\n"]),
+    Part::Bytes,
+];
 
 /// Returns the keys of `state`, but every `step`-th.
 fn sample_keys(
@@ -78,7 +69,11 @@ fn check_scroll(
     let mut part = Grid::new(alloc, 30, 7)?;
     visible.view.paint_part(alloc, &mut part, visible.scroll)?;
     let expected = whole.view()?;
-    assert_eq!(rt; part.view()?.as_str(), expected.as_str(), "{scroll}");
+    check_equal(
+        rt,
+        (scroll, part.view()?.as_str()),
+        (scroll, expected.as_str()),
+    );
     for commit_view in visible.view.commit_views.as_slice() {
         for file_view in commit_view.file_views.as_slice() {
             assert!(rt; file_view.section_views.len() <= most);
@@ -87,15 +82,15 @@ fn check_scroll(
     Ok(())
 }
 
-/// Checks the views of `sample_state` at each scroll, where every `step`-th key is folded. Checks that
-/// they have at most `most` sections of a file.
+/// Checks the views of six files at each scroll, where every `step`-th key is folded. Checks that they
+/// have at most `most` sections of a file.
 fn check_state(
     rt: &impl Abort,
     alloc: Global,
     step: usize,
     most: usize,
 ) -> Result<(), RecordError> {
-    let state = sample_state(alloc)?;
+    let state = state_with(alloc, &PARTS, 6)?;
     let expanded = sample_keys(alloc, &state, step)?;
     assert!(rt; state.is_accepted());
     let layout = Layout::new(alloc, &state, &expanded)?;

@@ -7,4 +7,4 @@ pub draw_component-requires : goal.draw_component-requires
 draw_component-requires g c =
     let fx : FitsSigned w64 c.args.x = c.ranges.x in
     let fy : FitsSigned w64 c.args.y = c.ranges.y in
-    simp to_z-of_z (c.parts_are_in_range.ensures.whole _ _ (c.components_are_in_range.ensures.lines _ _ _ _ (sight-here _ c.check_sight.ensures) (here _ (simp to_z-of_z at c.check_near.ensures)) (here _ (simp to_z-of_z at c.check_near-2.ensures)) (search rules)))
+    simp to_z-of_z (c.parts_are_in_range.ensures.whole _ _ (c.components_are_in_range.ensures.lines c.args.view.now _ _ _ (sight-here _ c.check_sight.ensures) (here _ (simp to_z-of_z at c.check_near.ensures)) (here _ (simp to_z-of_z at c.check_near-2.ensures)) (search rules)))
