@@ -19,4 +19,4 @@ mod words;
 pub use program::{play, play_with_hints};
 pub use report::accepted_text;
 pub use scm_json::read_state;
-pub use words::{Word, read_event, read_word};
+pub use words::{Word, read_event, read_key, read_word};

@@ -112,7 +112,7 @@ fn read_click(place: &str) -> Option<TerminalEvent>
 }
 
 /// Returns the event of a key that goes down, by its prefixes and its name.
-fn read_key(word: &str) -> Option<TerminalEvent>
+pub fn read_key(word: &str) -> Option<TerminalEvent>
     ensures { result ≡ key_event_of word.now }
 {
     let (modifiers, name) = split_prefixes(word);
