@@ -67,8 +67,8 @@
  * ERRORS
  *     A call returns a code, or what its comment says. If a call returns another code than SCM_DONE, it wrote nothing, and the
  *     session is as it was. The exceptions are said at scm_new, scm_state_new, scm_begin and scm_paint. A failed allocation
- *     always has the code SCM_NO_MEMORY, with one exception: in scm_press, scm_type, scm_click, scm_idle and scm_answer the
- *     user's input is handled, and if an allocation fails in this, the call returns SCM_DONE and the session has ended. Its
+ *     always has the code SCM_NO_MEMORY, with one exception: in scm_press, scm_type, scm_click, scm_idle, scm_start and
+ *     scm_answer the user's input is handled, and if an allocation fails in this, the call returns SCM_DONE and the session has ended. Its
  *     stage is SCM_ENDED, scm_end returns SCM_END_NO_MEMORY, and its text is "out of memory". The changes of such a session are
  *     lost.
  *
@@ -124,6 +124,8 @@ enum {
     SCM_TOO_LONG = 7,     /* a text or a line has more than 1,000,000 bytes */
     SCM_NO_MEMORY = 8,    /* an allocation failed */
     SCM_NO_ITEM = 9,      /* the state has no such file, section, line or commit */
+    SCM_NO_NUMBER = 10,   /* the number stands for nothing that the call takes */
+    SCM_NO_KEY = 11,      /* a part of the text is no key with what it does */
 };
 
 /* The stage of a session: what it waits for. */
@@ -304,6 +306,77 @@ uint32_t scm_begin(scm_session *session, uint16_t width, uint16_t height);
  * not return SCM_DONE, the session is closed. */
 uint32_t scm_new(scm_session *session, const char *json, size_t length, uint16_t width, uint16_t height);
 
+/* ---- A layer over the session ----
+ *
+ * A session may begin with a layer, which hears the terminal first and gives the user more: a status row, search, ranges, undo,
+ * columns to the right, words that differ, and colours of another theme. docs/RULES.md has its keys, under "Keys of the layer".
+ * Each thing that it does is events and new sizes of the session beneath, so all that is promised of a session stays true of that
+ * one. Without such a call there is no layer.
+ *
+ * The last row of the terminal is the status row. The other rows show the session's screen, from a column on that the user
+ * chooses: `scm_owner`, `scm_symbol` and `scm_click` take places of the terminal, and the status row is nobody's. Words
+ * ("click:3:7") are events of the session beneath, so a click in a word is at a column of its whole screen, which `scm_text`
+ * writes. `scm_type_to_key` tells keys that mean something to the layer too, but none while it asks for a text: then it hears all
+ * keys. */
+
+/* Begins the session as `scm_begin` does, with a layer, on a terminal of `width` columns and `height` rows.
+ *
+ * Returns the same codes as `scm_begin`. */
+uint32_t scm_begin_layer(scm_session *session, uint16_t width, uint16_t height);
+
+/* Opens `session` as `scm_new` does, with a layer, on a terminal of `width` columns and `height` rows.
+ *
+ * Returns the same codes as `scm_new`. */
+uint32_t scm_new_layer(scm_session *session, const char *json, size_t length, uint16_t width, uint16_t height);
+
+/* The colours of the terminal. */
+enum {
+    SCM_DARK = 0,       /* a dark background, as without a layer */
+    SCM_LIGHT = 1,      /* a light background */
+    SCM_SIXTEEN = 2,    /* sixteen colours: each colour is the bright one */
+    SCM_NO_COLOURS = 3, /* none: bold, underlined and reversed alone */
+};
+
+/* Has the layer paint in the colours of `theme`, SCM_DARK to SCM_NO_COLOURS. It begins with SCM_DARK. The next `scm_paint` writes
+ * every row.
+ *
+ * Returns SCM_DONE, or the first of SCM_NO_NUMBER, SCM_CLOSED, and SCM_NOT_NOW if there is no layer, or none any more. */
+uint32_t scm_theme(scm_session *session, uint32_t theme);
+
+/* Sets the words by which the status row says what accepting does, as "c commits": `length` bytes of `text`. It begins without
+ * words.
+ *
+ * Returns SCM_DONE, or the first of SCM_TOO_LONG, SCM_NOT_TEXT, SCM_CLOSED, and SCM_NOT_NOW if there is no layer, or none any
+ * more. May return SCM_NO_MEMORY instead, if the text is short enough and UTF-8. */
+uint32_t scm_accept_text(scm_session *session, const char *text, size_t length);
+
+/* What is unfolded at the start. */
+enum {
+    SCM_AS_IT_IS = 0,  /* what is unfolded already */
+    SCM_ALL_FOLDED = 1, /* nothing */
+    SCM_ALL_OPEN = 2,  /* everything */
+    SCM_OPEN_IF_IT_FITS = 3, /* everything, if the screen then shows all of it; or else what is unfolded already */
+};
+
+/* Unfolds what `folds` says, SCM_AS_IT_IS to SCM_OPEN_IF_IT_FITS, and selects the item that `first` names, which unfolds what it
+ * lies in. If there is no such item, as with each index SCM_NO_INDEX, the selection stays. The commit of the key is 0 as long as
+ * one commit is shown. Call this on the terminal's size, before the user types.
+ *
+ * Returns SCM_DONE, or the first of SCM_NO_NUMBER, SCM_CLOSED, and SCM_NOT_NOW if the session has no layer or waits for no event.
+ * If an allocation fails, it returns SCM_DONE and the session has ended, as with `scm_press`. */
+uint32_t scm_start(scm_session *session, uint32_t folds, const scm_key *first);
+
+/* Sets the keys of the user's own, in place of those before: `length` bytes of `text`, with a part KEY=WORD for each key, separated
+ * by spaces. KEY is the word of a key in scripts ("x", "shift-X", "ctrl-n", "pagedown"; "shift-h" and "shift-l" for H and L;
+ * but not "="). WORD is the word of an event ("j", "space", "ctrl-d", "none"), or an action of the layer: "search", "next"
+ * and "previous" (search again), "range" (begins or ends one), "mark" (marks the range), "undo", "redo" or "nothing". Such a
+ * key comes before the keys of the layer and of the session, but for < and >, which show other columns. While a dialog is
+ * open, only events count; while a text is asked for, none. The last of two equal keys counts. "" takes all keys away.
+ *
+ * Returns SCM_DONE, or the first of SCM_NO_KEY, SCM_CLOSED, and SCM_NOT_NOW if the session has no layer or waits for no event; or
+ * SCM_NO_MEMORY. */
+uint32_t scm_keys(scm_session *session, const char *text, size_t length);
+
 /* ---- The user's input ---- */
 
 /* Returns the stage: SCM_WAITING to SCM_BUILDING. */
@@ -324,7 +397,7 @@ uint32_t scm_type(scm_session *session, const char *bytes, size_t length);
  * end can have keys of its own. Writes the number of bytes that it took to `taken`, and that key to `key`: its character (9 for
  * Tab), or of a small letter with Ctrl 1 to 26. Call it again with the other bytes then. If they have no such key, it takes all
  * bytes, and `key` is 0; so it does if the session waits for no event after those that it took. A key without a character, or
- * with other modifiers, is not told.
+ * with other modifiers, is not told. While a layer asks for a text, `key` is 0, also where it takes only a part of the bytes.
  *
  * Returns the same codes as `scm_type`. */
 SCM_USE_CODE uint32_t scm_type_to_key(scm_session *session, const char *bytes, size_t length, size_t *taken, uint32_t *key);
@@ -364,7 +437,7 @@ uint32_t scm_press(scm_session *session, const char *word, size_t length);
  * Returns SCM_DONE, or the first of SCM_NO_WORD, SCM_CLOSED and SCM_NOT_NOW that applies, or SCM_NO_MEMORY. */
 uint32_t scm_press_all(scm_session *session, const char *words, size_t length);
 
-/* Handles a click at `row`, `column` of the screen.
+/* Handles a click at `row`, `column` of the screen, or of the terminal of a layer.
  *
  * Returns SCM_DONE, SCM_CLOSED or SCM_NOT_NOW. */
 uint32_t scm_click(scm_session *session, uint16_t row, uint16_t column);

@@ -4,9 +4,8 @@
 
 ghost use Rattle.std.specs.Prelude.{◌≡◌, ℕ, ◌<◌, None, Some, is_some, length, true};
 ghost use Rattle.std.specs.Str.{is_utf8};
-ghost use Rattle.scm_input.specs.declared.events.Event.TheVariants as events;
 ghost use Rattle.scm_open_session.specs.Boxes.{box_value};
-ghost use Rattle.scm_open_session.specs.Stages.{Begins, ChangesDecoder, ChangesStage, HandsIn, Idles, IsOpenAt, Presses, Resizes, Says, Types, code_of_session, end_of_session, screen_of};
+ghost use Rattle.scm_open_session.specs.Stages.{Begins, ChangesDecoder, ChangesStage, Clicks, HandsIn, Idles, IsOpenAt, Resizes, Says, Types, code_of_session, end_of_session, screen_of};
 ghost use Rattle.scm_open_session.specs.Results.{IsCode, Writes, code_of_answer, code_of_call, code_of_json, code_of_press, code_of_repaint, event_of_bytes, is_message, is_session_waiting, over, symbol_of_session, words_of_code};
 ghost use Rattle.scm_open_session.specs.Owners.{key_of_session, owner_of_session, selected_of_session};
 ghost use Rattle.scm_open_session.specs.Batches.{HandsInAll, code_of_batch, events_of_bytes};
@@ -15,6 +14,7 @@ ghost use Rattle.scm_open_session.specs.Paint.{Forgets, PaintsSession};
 ghost use Rattle.scm_open_session.specs.FrontKeys.{ChangesToKey};
 
 pub mod c_session;
+pub mod layer_calls;
 pub mod question_calls;
 mod raw_box;
 pub mod state_calls;
@@ -194,8 +194,7 @@ pub extern "C" fn scm_decode_idle(
 pub extern "C" fn scm_click(alloc: Global, session: &mut CSession, row: u16, column: u16) -> u32
     ensures code { result ≡ code_of_call session.old.pointer.value }
     ensures clicked { result ≡ 0
-        → ChangesStage (Presses (events.Click row column)) session.old.pointer.value
-        session.new.pointer.value }
+        → ChangesStage (Clicks row column) session.old.pointer.value session.new.pointer.value }
     ensures kept { 0 < result → session.new.pointer.value ≡ session.old.pointer.value }
 {
     let mut inner = take(alloc, session);
@@ -261,7 +260,7 @@ pub extern "C" fn scm_repaint(alloc: Global, session: &mut CSession) -> u32
     ensures forgotten { Forgets session.old.pointer.value session.new.pointer.value }
 {
     let mut inner = take(alloc, session);
-    let code = calls::repaint(&mut inner);
+    let code = calls::repaint(alloc, &mut inner);
     give_back(alloc, session, inner);
     code
 }

@@ -14,76 +14,15 @@ use Rattle.scm_record.specs.declared.live.Turn.{Turn}
 use Rattle.scm_open_session.specs.declared.open_session.OpenSession.{OpenSession}
 use Rattle.scm_open_session.specs.declared.open_session.Stage.{Stage}
 use Rattle.scm_open_session.specs.declared.open_session.Stage.TheVariants.{Waiting}
-use Rattle.scm_open_session.specs.Stages.{ChangesStage, stage_after}
+use Rattle.scm_open_session.specs.declared.running.Running.{Running}
+use Rattle.scm_open_session.specs.declared.running.Running.TheVariants as running
+use Rattle.scm_open_session.specs.Stages.{ChangesStage, or_ended, stage_after, stage_of_view}
+use Rattle.scm_front_paint.specs.declared.view.ViewTurn.{ViewTurn}
+use Rattle.scm_front_paint.specs.Seen.{Seen}
+use Rattle.scm_open_session.specs.Layered.{OrRefused, ViewPressesAll}
 use Rattle.scm_open_session.specs.Results.{IsCode, code_of_call}
 use Rattle.scm_open_session.specs.Batches.{Adds, HandsInAll, PressesAll, code_of_batch, events_of_bytes, events_of_piece, events_of_pieces, pieces_of}
-
--- ---- pieces, cut off one by one
-
--- whether a byte is a space
-abbrev pub is_space : ℕ → Bool
-is_space b = b == 32
-
--- the first piece of a text, and those after it
-abbrev Cut : List ℕ → Type 0
-Cut s = pieces_of s ≡ before_first is_space s ∷ pieces_of (after_first is_space s)
-
--- where the first space is, by whether it is the first byte
-abbrev place : Bool → List ℕ → ℕ
-place t bs = cond (not t) (1 + position_or_len is_space bs) 0
-
-cut-at : (b : ℕ) (bs : List ℕ) (t : Bool) → (position_or_len is_space bs < length bs → Cut bs) → place t bs < suc (length bs)
-    → (if t then [] ∷ pieces_of bs else with_first b (pieces_of bs))
-    ≡ take (place t bs) (b ∷ bs) ∷ pieces_of (drop (place t bs + 1) (b ∷ bs))
-cut-at b bs true rest h = refl
-cut-at b bs false rest h =
-    let front : 1 + position_or_len is_space bs ≡ suc (position_or_len is_space bs) = omega arith in
-    let back : suc (position_or_len is_space bs) + 1 ≡ suc (position_or_len is_space bs + 1) = omega arith in
-    rw (front, back) (ap (with_first b) (rest (omega arith)))
-
-first_piece : (s : List ℕ) → position_or_len is_space s < length s → Cut s
-first_piece [] h = absurd (omega arith)
-first_piece (b ∷ bs) h = cut-at b bs (b == 32) (first_piece bs) h
-
-whole-at : (b : ℕ) (bs : List ℕ) (t : Bool) → (position_or_len is_space bs ≡ length bs → pieces_of bs ≡ bs ∷ []) → place t bs ≡ suc (length bs)
-    → (if t then [] ∷ pieces_of bs else with_first b (pieces_of bs)) ≡ (b ∷ bs) ∷ []
-whole-at b bs true rest h = absurd (omega arith)
-whole-at b bs false rest h = ap (with_first b) (rest (omega arith))
-
-one_piece : (s : List ℕ) → position_or_len is_space s ≡ length s → pieces_of s ≡ s ∷ []
-one_piece [] h = refl
-one_piece (b ∷ bs) h = whole-at b bs (b == 32) (one_piece bs) h
-
-pub cut_none : {P : Type 0} (r : Option P) (s : List ℕ) (Q : P → Type 0) → MatchOption r (position_or_len is_space s ≡ length s) Q → IfNone r (pieces_of s ≡ s ∷ [])
-cut_none None s Q m = one_piece s m
-cut_none (Some x) s Q m = tt
-
-pub cut_some : {P : Type 0} (front back : P → List ℕ) (r : Option P) (s : List ℕ)
-    → MatchOption r (position_or_len is_space s ≡ length s)
-    (λ p. (front p ≡ before_first is_space s) × (back p ≡ after_first is_space s) × (position_or_len is_space s < length s))
-    → IfSome r (λ p. pieces_of s ≡ front p ∷ pieces_of (back p))
-cut_some front back (Some x) s m = rw (m.0, m.1) (first_piece s m.2)
-cut_some front back None s m = tt
-
--- ---- events that are added, piece by piece
-
-adds_some : (o : Option (List Event)) (old new : List Event) (t : Bool) → Adds o old new t → t ≡ true → (events : List Event) × (o ≡ Some events) × (new ≡ old ++ events)
-adds_some (Some events) old new true Adds.added e = (events, refl, refl)
-adds_some None old new false Adds.no_word e = absurd (false≢true e)
-adds_some None old new true a e = elim a [ ]
-adds_some (Some events) old new false a e = elim a [ ]
-
-adds_no : (o : Option (List Event)) (old new : List Event) (t : Bool) → Adds o old new t → t ≡ false → o ≡ None
-adds_no (Some events) old new true Adds.added e = absurd (false≢true (sym e))
-adds_no None old new false Adds.no_word e = refl
-adds_no None old new true a e = elim a [ ]
-adds_no (Some events) old new false a e = elim a [ ]
-
-pub adds_as : (o : Option (List Event)) (events old new : List Event) → o ≡ Some events → new ≡ old ++ events → Adds o old new true
-adds_as o events old new e f = rw (e, f) Adds.added
-
-pub adds_not : (o : Option (List Event)) (old new : List Event) → o ≡ None → Adds o old new false
-adds_not o old new e = rw e Adds.no_word
+use Rattle.scm_open_session.proofs.PieceLemmas.{adds_as, adds_no, adds_not, adds_some}
 
 -- ---- a piece
 
@@ -104,78 +43,6 @@ pub piece_unknown : (piece : List ℕ) (old new : List Event) → (length piece 
 piece_unknown [] old new h e = absurd (false≢true (sym h))
 piece_unknown (b ∷ bs) old new h e =
     adds_not (events_of_piece (b ∷ bs)) old new (ap (λ (o : Option Event). option_map (λ (x : Event). x ∷ []) o) e)
-
--- ---- pieces
-
--- The events so far are added: with those of the rest they are all.
-pub record Pushed (before now : List Event) (all rest : Option (List Event)) : Type 0 where
-  pub done : List Event
-  pub joined : now ≡ before ++ done
-  pub left : all ≡ option_map (λ (more : List Event). done ++ more) rest
-
-same_map : (o : Option (List Event)) → o ≡ option_map (λ (more : List Event). [] ++ more) o
-same_map None = refl
-same_map (Some x) = refl
-
-pub pushed_none : (before : List Event) (all : Option (List Event)) → Pushed before before all all
-pushed_none before all = record { done = []; joined = sym (append-nil before); left = same_map all }
-
-joined_maps : (done found : List Event) (o : Option (List Event))
-    → option_map (λ (more : List Event). done ++ more) (option_map (λ (more : List Event). found ++ more) o)
-    ≡ option_map (λ (more : List Event). (done ++ found) ++ more) o
-joined_maps done found None = refl
-joined_maps done found (Some x) = ap Some (sym (append_assoc done found x))
-
--- the events of a piece and of those after it
-abbrev both : Option (List Event) → Option (List Event) → Option (List Event)
-both first rest = option_and_then (λ (found : List Event). option_map (λ (more : List Event). found ++ more) rest) first
-
-more-by : (before now new : List Event) (all first rest : Option (List Event)) (found : List Event)
-    → Pushed before now all (both first rest) → first ≡ Some found → new ≡ now ++ found → Pushed before new all rest
-more-by before now new all first rest found p e f = record {
-  done = p.done ++ found;
-  joined = f ∙ (ap (λ (l : List Event). l ++ found) p.joined ∙ append_assoc before p.done found);
-  left = p.left ∙ (ap (λ (o : Option (List Event)). option_map (λ (more : List Event). p.done ++ more) (both o rest)) e ∙ joined_maps p.done found rest);
-}
-
-pub pushed_more : (before now new : List Event) (all : Option (List Event)) (rest piece after : List ℕ) (t : Bool)
-    → Pushed before now all (events_of_pieces (pieces_of rest)) → pieces_of rest ≡ piece ∷ pieces_of after
-    → Adds (events_of_piece piece) now new t → t ≡ true → Pushed before new all (events_of_pieces (pieces_of after))
-pushed_more before now new all rest piece after t p cut a e =
-    let s = adds_some (events_of_piece piece) now new t a e in
-    more-by before now new all (events_of_piece piece) (events_of_pieces (pieces_of after)) s.0
-    (subst (λ (l : List (List ℕ)). Pushed before now all (events_of_pieces l)) cut p) s.1 s.2
-
-no-by : (before now : List Event) (all first rest : Option (List Event)) → Pushed before now all (both first rest) → first ≡ None → all ≡ None
-no-by before now all first rest p e = p.left ∙ ap (λ (o : Option (List Event)). option_map (λ (more : List Event). p.done ++ more) (both o rest)) e
-
-pub pushed_no : (before now new : List Event) (all : Option (List Event)) (rest piece : List ℕ) (after : List (List ℕ)) (t : Bool)
-    → Pushed before now all (events_of_pieces (pieces_of rest)) → pieces_of rest ≡ piece ∷ after
-    → Adds (events_of_piece piece) now new t → t ≡ false → Adds all before new false
-pushed_no before now new all rest piece after t p cut a e =
-    adds_not all before new (no-by before now all (events_of_piece piece) (events_of_pieces after)
-    (subst (λ (l : List (List ℕ)). Pushed before now all (events_of_pieces l)) cut p) (adds_no (events_of_piece piece) now new t a e))
-
-end-by : (before now new : List Event) (all : Option (List Event)) (rest : List ℕ) (t known : Bool)
-    → Pushed before now all (events_of_pieces (pieces_of rest)) → pieces_of rest ≡ rest ∷ []
-    → Adds (events_of_piece rest) now new known → known ≡ t → Adds all before new t
-end-by before now new all rest false known p cut a e = pushed_no before now new all rest rest [] known p cut a e
-end-by before now new all rest true known p cut a e =
-    let s = adds_some (events_of_piece rest) now new known a e in
-    let q = more-by before now new all (events_of_piece rest) (events_of_pieces []) s.0
-    (subst (λ (l : List (List ℕ)). Pushed before now all (events_of_pieces l)) cut p) s.1 s.2 in
-    adds_as all (q.done ++ []) before new q.left (q.joined ∙ ap (λ (l : List Event). before ++ l) (sym (append-nil q.done)))
-
-pub pushed_end : (before now new : List Event) (all : Option (List Event)) (rest : List ℕ) (known : Bool)
-    → Pushed before now all (events_of_pieces (pieces_of rest)) → pieces_of rest ≡ rest ∷ []
-    → Adds (events_of_piece rest) now new known → Adds all before new known
-pushed_end before now new all rest known p cut a = end-by before now new all rest known known p cut a refl
-
-pub pushed_last : {E : Type 0} (before now new : List Event) (all : Option (List Event)) (rest : List ℕ) (r : Result Bool E)
-    → Pushed before now all (events_of_pieces (pieces_of rest)) → pieces_of rest ≡ rest ∷ []
-    → IfOk r (λ known. Adds (events_of_piece rest) now new known) → IfOk r (λ known. Adds all before new known)
-pushed_last before now new all rest (Ok known) p cut a = pushed_end before now new all rest known p cut a
-pushed_last before now new all rest (Err e) p cut a = tt
 
 -- ---- a batch
 
@@ -214,10 +81,22 @@ batch_in given items slice old new e f goes = rw e (subst (λ (l : List Event). 
 
 -- ---- stages
 
-presses-by : (list : List Event) (l : Live) (r : Result Turn RecordError) → IfOk r (λ turn. BatchLeads l list turn) → IfErr r (λ e. BatchFails l list e) → PressesAll list (Waiting l) (stage_after r)
+presses-by : (list : List Event) (l : Live) (r : Result Turn RecordError) → IfOk r (λ turn. BatchLeads l list turn) → IfErr r (λ e. BatchFails l list e)
+    → PressesAll list (Waiting (running.Plain l)) (stage_after r)
 presses-by list l (Ok turn) h k = PressesAll.turned turn h
 presses-by list l (Err error) h k = PressesAll.failed k
 
-pub presses_all : (list : List Event) (l : Live) (r : Result Turn RecordError) (old new : Stage) → old ≡ Waiting l → new ≡ stage_after r
-    → IfOk r (λ turn. BatchLeads l list turn) → IfErr r (λ e. BatchFails l list e) → PressesAll list old new
-presses_all list l r old new f e h k = rw (f, e) (presses-by list l r h k)
+pub presses_all : (list : List Event) (l : Live) (r : Result Turn RecordError) (s : Running) (new : Stage) → s ≡ running.Plain l → new ≡ stage_after r
+    → IfOk r (λ turn. BatchLeads l list turn) → IfErr r (λ e. BatchFails l list e) → PressesAll list (Waiting s) new
+presses_all list l r s new e f h k = rw (e, f) (presses-by list l r h k)
+
+view-presses-by : (list : List Event) (v : Seen) (r : Result ViewTurn RecordError) (o : Option Stage) → IfSome o (λ x. x ≡ stage_of_view r)
+    → IfOk r (λ turn. ViewPressesAll v list turn) → IfErr r (λ e. OrRefused (BatchFails v.front.beneath list) e) → PressesAll list (Waiting (running.Layered v)) (or_ended o)
+view-presses-by list v (Ok turn) (Some x) e h k = rw e (PressesAll.layer_turned turn h)
+view-presses-by list v (Err error) (Some x) e h k = rw e (PressesAll.layer_failed k)
+view-presses-by list v r None e h k = PressesAll.layer_failed (OrRefused.refused refl)
+
+pub view_presses_all : (list : List Event) (v w : Seen) (r : Result ViewTurn RecordError) (o : Option Stage) (s : Running) (new : Stage) → s ≡ running.Layered v → w ≡ v
+    → IfSome o (λ x. x ≡ stage_of_view r) → new ≡ or_ended o → IfOk r (λ turn. ViewPressesAll w list turn) → IfErr r (λ e. OrRefused (BatchFails w.front.beneath list) e) → PressesAll list (Waiting s) new
+view_presses_all list v w r o s new e same is f h k =
+    rw (e, f) (subst (λ (x : Seen). PressesAll list (Waiting (running.Layered x)) (or_ended o)) same (view-presses-by list w r o is h k))

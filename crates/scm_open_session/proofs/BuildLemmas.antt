@@ -1,5 +1,8 @@
 -- How a state grows by calls, and how a session begins with it.
-use Rattle.std.proofs.Common.{◌≡◌, ℕ, List, Bool, true, false, IsTrue, IsUtf8, if◌then◌else◌, Option, Some, None, refl, sym, ap, ◌∙◌, subst}
+use Rattle.std.proofs.Common.{◌≡◌, ℕ, List, [], Bool, true, false, IsTrue, IsUtf8, if◌then◌else◌, Option, Some, None, IfSome, option_and_then, refl, sym, ap, ◌∙◌, subst}
+use Rattle.std.specs.declared.boxed.Box.{Box}
+use Rattle.std.specs.declared.alloc.Global.{Global}
+use Rattle.serde_json.specs.Read.{read}
 use Rattle.std.proofs.lemmas.Str.{is_utf8-from_IsUtf8}
 use Rattle.scm_errors.specs.declared.error.RecordError.{RecordError}
 use Rattle.scm_errors.specs.declared.error.RecordError.TheVariants.{OutOfMemory}
@@ -10,13 +13,17 @@ use Rattle.scm_record.specs.Live.{Live}
 use Rattle.scm_record.specs.Session.{start}
 use Rattle.scm_embed.specs.declared.addition.Addition.{Addition}
 use Rattle.scm_embed.specs.declared.addition.BuildError.{BuildError}
-use Rattle.scm_embed.specs.Additions.{Refuses, refuses, no_memory, after_addition, refusal_of}
+use Rattle.scm_json.specs.Form.{state_of}
+use Rattle.scm_terminal.specs.Decoders.{HasHeard}
+use Rattle.scm_embed.specs.Additions.{Refuses, refuses, no_memory, after_addition, empty_state, refusal_of}
 use Rattle.scm_open_session.specs.declared.open_session.OpenSession.{OpenSession}
 use Rattle.scm_open_session.specs.declared.open_session.Stage.{Stage}
 use Rattle.scm_open_session.specs.declared.open_session.Stage.TheVariants.{Building, Waiting, Editing, Accepted, Ended}
-use Rattle.scm_open_session.specs.Stages.{ChangesStage}
+use Rattle.scm_open_session.specs.declared.running.Running.TheVariants as running
+use Rattle.scm_open_session.specs.Painters.{AreNew}
+use Rattle.scm_open_session.specs.Stages.{Begins, ChangesStage, screen_of}
 use Rattle.scm_open_session.specs.Results.{IsCode}
-use Rattle.scm_open_session.specs.Building.{Adds, Builds, Starts, StartsSession, code_at_stage, code_of_addition, code_of_error, code_of_refusal, is_building, text_of_bytes}
+use Rattle.scm_open_session.specs.Building.{Adds, BeginsState, Builds, Starts, StartsSession, code_at_stage, code_of_addition, code_of_error, code_of_refusal, is_building, text_of_bytes}
 use Rattle.scm_open_session.specs.Texts.{AddsFile, BuildsChange, GivenChange, change_with, code_of_change, code_of_change_at, code_of_length, code_of_text_change, has_text_paths}
 use Rattle.scm_open_session.proofs.ResultLemmas.{not_utf8}
 
@@ -120,7 +127,7 @@ adds_given c given old new e goes = subst (λ (g : GivenChange). ChangesStage (B
 -- beginnings
 
 pub starts : (kind : TerminalKind) (state given : RecordState) (l : Live) → IsTrue (is_accepted_state state) → given ≡ state → l ≡ record { session = start given; kind = kind }
-    → Starts kind (Building state) (Waiting l) 0
+    → Starts kind (Building state) (Waiting (running.Plain l)) 0
 starts kind state given l a f e = rw e (rw f (Starts.started a))
 
 pub starts_not : (kind : TerminalKind) (state : RecordState) (error : RecordError) → IsTrue (is_accepted_state state) → error ≡ OutOfMemory
@@ -142,6 +149,25 @@ session_starts kind old new h before k code e f g s d p =
 
 pub closed_starts : (kind : TerminalKind) (old new : Option OpenSession) → old ≡ None → new ≡ None → StartsSession kind old new 1
 closed_starts kind old new e f = rw (e, f) StartsSession.closed
+
+pub begins_state : (is_read_only : Bool) (stage : Stage) (r : Option (Box OpenSession Global)) → stage ≡ Building (empty_state is_read_only)
+    → IfSome r (λ b. b.value.stage ≡ stage) → IfSome r (λ b. HasHeard b.value.decoder false []) → IfSome r (λ b. AreNew b.value.painter)
+    → IfSome r (λ b. BeginsState is_read_only b.value)
+begins_state is_read_only stage (Some b) e at heard new = record { begun = at ∙ e; unheard = heard; unpainted = new }
+begins_state is_read_only stage None e at heard new = tt
+
+pub begins : (json : List ℕ) (width height : ℕ) (given : RecordState) (l : Live) (kind : TerminalKind) (inner : OpenSession)
+    → option_and_then state_of (read json) ≡ Some given → IsTrue (is_accepted_state given) → inner.stage ≡ Waiting (running.Plain l)
+    → l ≡ record { session = start given; kind = kind } → kind ≡ screen_of width height
+    → HasHeard inner.decoder false [] → AreNew inner.painter → Begins json width height inner
+begins json width height given l kind inner form a s e f heard new = record {
+  given = given;
+  form = form;
+  accepted = a;
+  begun = s ∙ ap (λ (x : Live). Waiting (running.Plain x)) (e ∙ ap (λ (k : TerminalKind). record { session = start given; kind = k }) f);
+  unheard = heard;
+  unpainted = new;
+}
 
 -- texts
 

@@ -1,3 +1,5 @@
+-- how calls change a view
+pub mod LayeredLemmas
 -- how calls change a session
 pub mod StageLemmas
 -- return codes, and the texts that calls write
@@ -12,7 +14,13 @@ pub mod QuestionLemmas
 pub mod TextLemmas
 -- words that are handed in as one batch
 pub mod BatchLemmas
+-- pieces of a text, found one by one
+pub mod PieceLemmas
 -- the words of what a terminal sends
 pub mod DecodeLemmas
 -- the first key for a front end among the events of bytes
 pub mod KeyLemmas
+-- keys of the user's own
+pub mod KeyPieceLemmas
+-- calls of a layer
+pub mod LayerCallLemmas

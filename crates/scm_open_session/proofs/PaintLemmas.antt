@@ -1,22 +1,75 @@
 -- What `scm_paint` writes.
-use Rattle.std.proofs.Common.{◌≡◌, ℕ, ◌≤◌, ◌<◌, List, [], length, Option, Some, None, Result, Ok, Err, ok_or, IfSome, IfNone, OnSome, sym, subst}
+use Rattle.std.proofs.Common.{◌≡◌, ℕ, ◌≤◌, ◌<◌, List, [], length, Option, Some, None, Result, Ok, Err, ok_or, IfSome, IfNone, OnSome, sym, ap, ◌∙◌, subst}
 use Rattle.std.specs.Result.{result_map_both}
-use Rattle.scm_terminal.specs.StyledCell.{StyledCell}
+use Rattle.scm_terminal.specs.Promise.{Paints}
 use Rattle.scm_record.specs.Live.{Live}
-use Rattle.scm_record.specs.Painted.{picture_of}
+use Rattle.scm_record.specs.Frames.{columns_of}
+use Rattle.scm_record.specs.Headline.{IsInline}
+use Rattle.scm_record.specs.Painted.{picture_of, window_picture_of}
 use Rattle.scm_open_session.specs.declared.open_session.OpenSession.{OpenSession}
+use Rattle.scm_front_paint.specs.Seen.{Seen}
+use Rattle.scm_open_session.specs.declared.open_session.Stage.{Stage}
 use Rattle.scm_open_session.specs.declared.open_session.Stage.TheVariants.{Waiting}
+use Rattle.scm_open_session.specs.declared.painters.Painters.{Painters}
+use Rattle.scm_open_session.specs.declared.running.Running.{Running}
+use Rattle.scm_open_session.specs.declared.running.Running.TheVariants as running
+use Rattle.scm_front_paint.specs.Below.{PaintsView}
 use Rattle.scm_open_session.specs.Results.{over}
-use Rattle.scm_open_session.specs.Paint.{Fills, PaintsOpenSession, PaintsSession, Shows, Updates, with_painter}
+use Rattle.scm_open_session.specs.Painters.{Forget}
+use Rattle.scm_open_session.specs.Paint.{Fills, Forgets, ForgetsOpen, PaintsOpenSession, PaintsSession, ShowsPlain, ShowsRunning, ShowsView, Updates, UpdatesStage, as_update}
 
 -- updates
 
-pub updates : {A : Type 0} (f : A → List ℕ) (old : OpenSession) (l : Live) (rows : List (List StyledCell)) (r : Option A) (s : Result A ℕ)
-    → old.stage ≡ Waiting l → s ≡ ok_or r 8
-    → IfSome r (λ x. Shows l old.painter (f x)) → OnSome r (rows ≡ picture_of l) → IfNone r (rows ≡ [])
-    → Updates old (with_painter old rows) (result_map_both f (λ code. code) s)
-updates f old l rows (Some x) s e is h p n = rw (is, p) (Updates.shown e h)
-updates f old l rows None s e is h p n = rw (is, n) (Updates.refused e)
+pub updates : {A : Type 0} (f : A → List ℕ) (stage : Stage) (s : Running) (old new : Painters) (r : Option A) (answer : Result A ℕ)
+    → stage ≡ Waiting s → answer ≡ ok_or r 8 → IfSome r (λ x. ShowsRunning s old new (f x)) → IfNone r (Forget old new)
+    → UpdatesStage stage old new (result_map_both f (λ code. code) answer)
+updates f stage s old new (Some x) answer e is h n = rw (e, is) (UpdatesStage.shown h)
+updates f stage s old new None answer e is h n = rw (e, is) (UpdatesStage.refused n)
+
+pub shows_plain : {A : Type 0} (f : A → List ℕ) (s : Running) (l : Live) (old new : Painters) (r : Option A) → s ≡ running.Plain l
+    → IfSome r (λ x. ShowsPlain l old new (f x)) → IfSome r (λ x. ShowsRunning s old new (f x))
+shows_plain f s l old new (Some x) e h = rw e h
+shows_plain f s l old new None e h = tt
+
+pub shows_layered : {A : Type 0} (f : A → List ℕ) (s : Running) (v : Seen) (old new : Painters) (r : Option A) → s ≡ running.Layered v
+    → IfSome r (λ x. ShowsView v old new (f x)) → IfSome r (λ x. ShowsRunning s old new (f x))
+shows_layered f s v old new (Some x) e h = rw e h
+shows_layered f s v old new None e h = tt
+
+pub plain_shown : {A : Type 0} (f : A → List ℕ) (l : Live) (old new : Painters) (bytes now : List ℕ) (r : Option A)
+    → Paints (columns_of l.kind) old.plain (picture_of l) bytes → (IsInline l.kind l.session → picture_of l ≡ window_picture_of l)
+    → new.plain ≡ picture_of l → new.layered ≡ old.layered → new.theme ≡ old.theme → new.accept ≡ old.accept → now ≡ bytes
+    → IfSome r (λ x. f x ≡ as_update now) → IfSome r (λ x. ShowsPlain l old new (f x))
+plain_shown f l old new bytes now (Some x) p w painted layered theme accept e is = record {
+  shows = record { bytes = bytes; paints = p; is = is ∙ ap as_update e; window = w };
+  painted = painted;
+  layered = layered;
+  theme = theme;
+  accept = accept;
+}
+plain_shown f l old new bytes now None p w painted layered theme accept e is = tt
+
+pub view_shown : {A : Type 0} (f : A → List ℕ) (v : Seen) (old new : Painters) (accept bytes now : List ℕ) (r : Option A)
+    → PaintsView old.layered new.layered v accept bytes → accept ≡ old.accept → new.plain ≡ old.plain → new.theme ≡ old.theme → new.accept ≡ old.accept
+    → now ≡ bytes → IfSome r (λ x. f x ≡ as_update now) → IfSome r (λ x. ShowsView v old new (f x))
+view_shown f v old new accept bytes now (Some x) p same plain theme accepted e is = record {
+  bytes = bytes;
+  paints = subst (λ (words : List ℕ). PaintsView old.layered new.layered v words bytes) same p;
+  is = is ∙ ap as_update e;
+  plain = plain;
+  theme = theme;
+  accept = accepted;
+}
+view_shown f v old new accept bytes now None p same plain theme accepted e is = tt
+
+pub forgets_all : (old middle new : Painters) → Forget middle new → middle.theme ≡ old.theme → middle.accept ≡ old.accept → Forget old new
+forgets_all old middle new f theme accept = record {
+  plain = f.plain;
+  layered = f.layered;
+  colours = f.colours ∙ theme;
+  theme = f.theme ∙ theme;
+  accept = f.accept ∙ accept;
+}
 
 -- buffers
 
@@ -25,8 +78,8 @@ pub fits : (inner : OpenSession) (update out filled : List ℕ)
 fits inner update out filled h w = rw w (Fills.written h)
 
 pub too_long : (inner new : OpenSession) (update out : List ℕ)
-    → length out < length update → new ≡ with_painter inner [] → Fills inner new update out out
-too_long inner new update out h w = rw w (Fills.no_room h)
+    → length out < length update → ForgetsOpen inner new → Fills inner new update out out
+too_long inner new update out h w = Fills.no_room h w
 
 -- paints
 
@@ -58,3 +111,11 @@ paints-refused old new h before k out filled told code r e f g is p =
 
 pub paints-closed : (old new : Option OpenSession) (out : List ℕ) (told : ℕ) → old ≡ None → new ≡ None → PaintsSession old new out out 1 told told
 paints-closed old new out told e f = rw (e, f) PaintsSession.closed
+
+-- repaints
+
+pub forgets : (old new : Option OpenSession) (h before k : OpenSession) → old ≡ Some h → before ≡ h → new ≡ Some k → ForgetsOpen before k → Forgets old new
+forgets old new h before k e f g w = rw (e, g) (Forgets.open_one (subst (λ (x : OpenSession). ForgetsOpen x k) f w))
+
+pub forgets-closed : (old new : Option OpenSession) → old ≡ None → new ≡ None → Forgets old new
+forgets-closed old new e f = rw (e, f) Forgets.closed

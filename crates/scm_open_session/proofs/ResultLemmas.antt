@@ -11,8 +11,6 @@ use Rattle.scm_json.specs.Form.{state_of}
 use Rattle.scm_script.specs.Words.{event_of_word}
 use Rattle.scm_open_session.specs.declared.open_session.OpenSession.{OpenSession}
 use Rattle.scm_open_session.specs.declared.open_session.Stage.{Stage}
-use Rattle.scm_open_session.specs.declared.open_session.Stage.TheVariants.{Building, Waiting, Editing, Accepted, Ended}
-use Rattle.scm_record.specs.Live.{Live}
 use Rattle.scm_open_session.specs.Stages.{is_waiting}
 use Rattle.scm_open_session.specs.Results.{IsCode, IsRead, IsText, Writes, code_of_call, code_of_form, code_of_json, code_of_message, code_of_press, code_of_repaint, code_where, done_code, event_of_bytes, is_message, over, is_session_waiting}
 
@@ -47,13 +45,6 @@ known_as needs_memory code answer e = rw e IsCode.known
 pub resize_code : (is_due is_done : Bool) (answer : ℕ) → is_due ≡ true → answer ≡ (if is_done then 0 else 8) → IsCode is_due (done_code is_due) answer
 resize_code is_due true answer e f = rw (e, f) IsCode.known
 resize_code is_due false answer e f = rw (e, f) (IsCode.no_memory refl)
-
-pub waits_not : (s : Stage) → ((l : Live) → s ≡ Waiting l → ⊥) → is_waiting s ≡ false
-waits_not (Building state) n = refl
-waits_not (Waiting l) n = absurd (n l refl)
-waits_not (Editing a) n = refl
-waits_not (Accepted state) n = refl
-waits_not (Ended error) n = refl
 
 pub not_due_code : (is_due : Bool) → is_due ≡ false → IsCode is_due (done_code is_due) 2
 not_due_code is_due e = rw e IsCode.known

@@ -1,5 +1,5 @@
 -- How calls change a session.
-use Rattle.std.proofs.Common.{◌≡◌, ℕ, List, Option, Some, Result, Ok, Err, IfOk, IfErr, sym, ap, ◌∙◌, subst}
+use Rattle.std.proofs.Common.{◌≡◌, ℕ, List, Option, Some, None, Result, Ok, Err, IfSome, IfOk, IfErr, refl, sym, ap, ◌∙◌, subst}
 use Rattle.scm_errors.specs.declared.error.RecordError.{RecordError}
 use Rattle.scm_input.specs.declared.events.Event.{Event}
 use Rattle.scm_input.specs.declared.inputs.TerminalKind.{TerminalKind}
@@ -8,47 +8,109 @@ use Rattle.scm_record.specs.LiveCalls.{EventLeads, MessageLeads, EventFails, Mes
 use Rattle.scm_terminal.specs.declared.decoder.Decoder.{Decoder}
 use Rattle.scm_record.specs.Typed.{BytesLead, BytesFail, SilenceLeads, SilenceFails}
 use Rattle.scm_record.specs.declared.live.Turn.{Turn}
+use Rattle.scm_front_paint.specs.declared.view.ViewTurn.{ViewTurn}
+use Rattle.scm_front_paint.specs.Seen.{Seen, SeenEditing}
+use Rattle.scm_front_paint.specs.Views.{ViewBytes, ViewFails, ViewSayFails, ViewSays, ViewSilence}
+use Rattle.scm_open_session.specs.Layered.{OrRefused, ViewPresses, ViewResizes}
 use Rattle.scm_open_session.specs.declared.open_session.OpenSession.{OpenSession}
 use Rattle.scm_open_session.specs.declared.open_session.Stage.{Stage}
 use Rattle.scm_open_session.specs.declared.open_session.Stage.TheVariants.{Waiting, Editing}
-use Rattle.scm_open_session.specs.Stages.{Presses, Says, Resizes, Types, Idles, ChangesStage, HandsIn, IsOpenAt, ChangesDecoder, changes_stage, changes_decoder, open_at, stage_after}
+use Rattle.scm_open_session.specs.declared.running.MessageEdit.{MessageEdit}
+use Rattle.scm_open_session.specs.declared.running.MessageEdit.TheVariants as edits
+use Rattle.scm_open_session.specs.declared.running.Running.{Running}
+use Rattle.scm_open_session.specs.declared.running.Running.TheVariants as running
+use Rattle.scm_open_session.specs.Stages.{Presses, Says, Resizes, Types, Idles, ChangesStage, HandsIn, IsOpenAt, ChangesDecoder, changes_stage, changes_decoder, open_at, or_ended, stage_after, stage_of_view}
 
-presses-by : (event : Event) (l : Live) (r : Result Turn RecordError) → IfOk r (λ turn. EventLeads l event turn) → IfErr r (λ e. EventFails l event e) → Presses event (Waiting l) (stage_after r)
+presses-by : (event : Event) (l : Live) (r : Result Turn RecordError) → IfOk r (λ turn. EventLeads l event turn) → IfErr r (λ e. EventFails l event e)
+    → Presses event (Waiting (running.Plain l)) (stage_after r)
 presses-by event l (Ok turn) h k = Presses.turned turn h
 presses-by event l (Err error) h k = Presses.failed k
 
-pub presses : (event : Event) (l : Live) (r : Result Turn RecordError) (old new : Stage) → old ≡ Waiting l → new ≡ stage_after r → IfOk r (λ turn. EventLeads l event turn) → IfErr r (λ e. EventFails l event e) → Presses event old new
-presses event l r old new e f h k = rw (e, f) (presses-by event l r h k)
+pub presses : (event : Event) (l : Live) (r : Result Turn RecordError) (s : Running) (new : Stage) → s ≡ running.Plain l → new ≡ stage_after r
+    → IfOk r (λ turn. EventLeads l event turn) → IfErr r (λ e. EventFails l event e) → Presses event (Waiting s) new
+presses event l r s new e f h k = rw (e, f) (presses-by event l r h k)
 
-says-by : (text : List ℕ) (a : LiveEdit) (r : Result Turn RecordError) → IfOk r (λ turn. MessageLeads a text turn) → IfErr r (λ e. MessageFails a text e) → Says text (Editing a) (stage_after r)
+view-presses-by : (event : Event) (v : Seen) (r : Result ViewTurn RecordError) (o : Option Stage) → IfSome o (λ x. x ≡ stage_of_view r)
+    → IfOk r (λ turn. ViewPresses v event turn) → IfErr r (λ e. OrRefused (EventFails v.front.beneath event) e) → Presses event (Waiting (running.Layered v)) (or_ended o)
+view-presses-by event v (Ok turn) (Some x) e h k = rw e (Presses.layer_turned turn h)
+view-presses-by event v (Err error) (Some x) e h k = rw e (Presses.layer_failed k)
+view-presses-by event v r None e h k = Presses.layer_failed (OrRefused.refused refl)
+
+pub view-presses : (event : Event) (v w : Seen) (r : Result ViewTurn RecordError) (o : Option Stage) (s : Running) (new : Stage) → s ≡ running.Layered v → w ≡ v
+    → IfSome o (λ x. x ≡ stage_of_view r) → new ≡ or_ended o → IfOk r (λ turn. ViewPresses w event turn) → IfErr r (λ e. OrRefused (EventFails w.front.beneath event) e) → Presses event (Waiting s) new
+view-presses event v w r o s new e same is f h k =
+    rw (e, f) (subst (λ (x : Seen). Presses event (Waiting (running.Layered x)) (or_ended o)) same (view-presses-by event w r o is h k))
+
+says-by : (text : List ℕ) (a : LiveEdit) (r : Result Turn RecordError) → IfOk r (λ turn. MessageLeads a text turn) → IfErr r (λ e. MessageFails a text e)
+    → Says text (Editing (edits.Plain a)) (stage_after r)
 says-by text a (Ok turn) h k = Says.turned turn h
 says-by text a (Err error) h k = Says.failed k
 
-pub says : (text : List ℕ) (a : LiveEdit) (r : Result Turn RecordError) (old new : Stage) → old ≡ Editing a → new ≡ stage_after r → IfOk r (λ turn. MessageLeads a text turn) → IfErr r (λ e. MessageFails a text e) → Says text old new
-says text a r old new e f h k = rw (e, f) (says-by text a r h k)
+pub says : (text : List ℕ) (a : LiveEdit) (r : Result Turn RecordError) (s : MessageEdit) (new : Stage) → s ≡ edits.Plain a → new ≡ stage_after r
+    → IfOk r (λ turn. MessageLeads a text turn) → IfErr r (λ e. MessageFails a text e) → Says text (Editing s) new
+says text a r s new e f h k = rw (e, f) (says-by text a r h k)
 
-pub resizes : (kind : TerminalKind) (l m : Live) (old new : Stage) → old ≡ Waiting l → new ≡ Waiting m → m ≡ on_screen l kind → Resizes kind old new
-resizes kind l m old new e f g = rw (e, f) (subst (λ (x : Live). Resizes kind (Waiting l) (Waiting x)) (sym g) Resizes.resized)
+view-says-by : (text : List ℕ) (v : SeenEditing) (r : Result ViewTurn RecordError) (o : Option Stage) → IfSome o (λ x. x ≡ stage_of_view r)
+    → IfOk r (λ turn. ViewSays v text turn) → IfErr r (λ e. ViewSayFails v text e) → Says text (Editing (edits.Layered v)) (or_ended o)
+view-says-by text v (Ok turn) (Some x) e h k = rw e (Says.layer_turned turn h)
+view-says-by text v (Err error) (Some x) e h k = rw e (Says.layer_failed k)
+view-says-by text v r None e h k = Says.layer_failed (ViewSayFails.say_refused refl)
+
+pub view-says : (text : List ℕ) (v w : SeenEditing) (r : Result ViewTurn RecordError) (o : Option Stage) (s : MessageEdit) (new : Stage) → s ≡ edits.Layered v → w ≡ v
+    → IfSome o (λ x. x ≡ stage_of_view r) → new ≡ or_ended o → IfOk r (λ turn. ViewSays w text turn) → IfErr r (λ e. ViewSayFails w text e) → Says text (Editing s) new
+view-says text v w r o s new e same is f h k =
+    rw (e, f) (subst (λ (x : SeenEditing). Says text (Editing (edits.Layered x)) (or_ended o)) same (view-says-by text w r o is h k))
+
+pub resizes : (kind : TerminalKind) (l m : Live) (old new : Running) → old ≡ running.Plain l → new ≡ running.Plain m → m ≡ on_screen l kind
+    → Resizes kind (Waiting old) (Waiting new)
+resizes kind l m old new e f g =
+    rw (e, f) (subst (λ (x : Live). Resizes kind (Waiting (running.Plain l)) (Waiting (running.Plain x))) (sym g) Resizes.resized)
+
+pub view-resizes : (kind : TerminalKind) (v next : Seen) (old new : Running) → old ≡ running.Layered v → new ≡ running.Layered next → ViewResizes kind v next
+    → Resizes kind (Waiting old) (Waiting new)
+view-resizes kind v next old new e f g = rw (e, f) (Resizes.layer_resized g)
 
 types-by : (bytes : List ℕ) (d e : Decoder) (l : Live) (r : Result Turn RecordError)
-    → IfOk r (λ turn. BytesLead l d e bytes turn) → IfErr r (λ x. BytesFail l d e bytes x) → Types bytes d e (Waiting l) (stage_after r)
+    → IfOk r (λ turn. BytesLead l d e bytes turn) → IfErr r (λ x. BytesFail l d e bytes x) → Types bytes d e (Waiting (running.Plain l)) (stage_after r)
 types-by bytes d e l (Ok turn) h k = Types.turned turn h
 types-by bytes d e l (Err error) h k = Types.failed k
 
-pub types : (bytes : List ℕ) (c d e : Decoder) (l : Live) (r : Result Turn RecordError) (old new : Stage)
-    → d ≡ c → old ≡ Waiting l → new ≡ stage_after r
-    → IfOk r (λ turn. BytesLead l d e bytes turn) → IfErr r (λ x. BytesFail l d e bytes x) → Types bytes c e old new
-types bytes c d e l r old new is f g h k = subst (λ (x : Decoder). Types bytes x e old new) is (rw (f, g) (types-by bytes d e l r h k))
+pub types : (bytes : List ℕ) (d e : Decoder) (l : Live) (r : Result Turn RecordError) (s : Running) (new : Stage)
+    → s ≡ running.Plain l → new ≡ stage_after r
+    → IfOk r (λ turn. BytesLead l d e bytes turn) → IfErr r (λ x. BytesFail l d e bytes x) → Types bytes d e (Waiting s) new
+types bytes d e l r s new f g h k = rw (f, g) (types-by bytes d e l r h k)
+
+view-types-by : (bytes : List ℕ) (c d : Decoder) (v : Seen) (r : Result ViewTurn RecordError) (o : Option Stage) → IfSome o (λ x. x ≡ stage_of_view r)
+    → IfOk r (λ turn. ViewBytes v c d bytes turn) → IfErr r (λ e. ViewFails v e) → Types bytes c d (Waiting (running.Layered v)) (or_ended o)
+view-types-by bytes c d v (Ok turn) (Some x) e h k = rw e (Types.layer_turned turn h)
+view-types-by bytes c d v (Err error) (Some x) e h k = rw e (Types.layer_failed k)
+view-types-by bytes c d v r None e h k = Types.layer_failed (ViewFails.refused refl)
+
+pub view-types : (bytes : List ℕ) (c d : Decoder) (v w : Seen) (r : Result ViewTurn RecordError) (o : Option Stage) (s : Running) (new : Stage) → s ≡ running.Layered v → w ≡ v
+    → IfSome o (λ x. x ≡ stage_of_view r) → new ≡ or_ended o → IfOk r (λ turn. ViewBytes w c d bytes turn) → IfErr r (λ e. ViewFails w e) → Types bytes c d (Waiting s) new
+view-types bytes c d v w r o s new e same is f h k =
+    rw (e, f) (subst (λ (x : Seen). Types bytes c d (Waiting (running.Layered x)) (or_ended o)) same (view-types-by bytes c d w r o is h k))
 
 idles-by : (d e : Decoder) (l : Live) (r : Result Turn RecordError)
-    → IfOk r (λ turn. SilenceLeads l d e turn) → IfErr r (λ x. SilenceFails l d e x) → Idles d e (Waiting l) (stage_after r)
+    → IfOk r (λ turn. SilenceLeads l d e turn) → IfErr r (λ x. SilenceFails l d e x) → Idles d e (Waiting (running.Plain l)) (stage_after r)
 idles-by d e l (Ok turn) h k = Idles.turned turn h
 idles-by d e l (Err error) h k = Idles.failed k
 
-pub idles : (c d e : Decoder) (l : Live) (r : Result Turn RecordError) (old new : Stage)
-    → d ≡ c → old ≡ Waiting l → new ≡ stage_after r
-    → IfOk r (λ turn. SilenceLeads l d e turn) → IfErr r (λ x. SilenceFails l d e x) → Idles c e old new
-idles c d e l r old new is f g h k = subst (λ (x : Decoder). Idles x e old new) is (rw (f, g) (idles-by d e l r h k))
+pub idles : (d e : Decoder) (l : Live) (r : Result Turn RecordError) (s : Running) (new : Stage)
+    → s ≡ running.Plain l → new ≡ stage_after r
+    → IfOk r (λ turn. SilenceLeads l d e turn) → IfErr r (λ x. SilenceFails l d e x) → Idles d e (Waiting s) new
+idles d e l r s new f g h k = rw (f, g) (idles-by d e l r h k)
+
+view-idles-by : (c d : Decoder) (v : Seen) (r : Result ViewTurn RecordError) (o : Option Stage) → IfSome o (λ x. x ≡ stage_of_view r)
+    → IfOk r (λ turn. ViewSilence v c d turn) → IfErr r (λ e. ViewFails v e) → Idles c d (Waiting (running.Layered v)) (or_ended o)
+view-idles-by c d v (Ok turn) (Some x) e h k = rw e (Idles.layer_turned turn h)
+view-idles-by c d v (Err error) (Some x) e h k = rw e (Idles.layer_failed k)
+view-idles-by c d v r None e h k = Idles.layer_failed (ViewFails.refused refl)
+
+pub view-idles : (c d : Decoder) (v w : Seen) (r : Result ViewTurn RecordError) (o : Option Stage) (s : Running) (new : Stage) → s ≡ running.Layered v → w ≡ v
+    → IfSome o (λ x. x ≡ stage_of_view r) → new ≡ or_ended o → IfOk r (λ turn. ViewSilence w c d turn) → IfErr r (λ e. ViewFails w e) → Idles c d (Waiting s) new
+view-idles c d v w r o s new e same is f h k =
+    rw (e, f) (subst (λ (x : Seen). Idles c d (Waiting (running.Layered x)) (or_ended o)) same (view-idles-by c d w r o is h k))
 
 -- the stage of a session changes as that of the value that it owns
 pub stage-changes : (Goes : Stage → Stage → Type 0) (old new : Option OpenSession) (h before k : OpenSession)

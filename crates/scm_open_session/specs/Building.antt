@@ -20,7 +20,9 @@ use Rattle.scm_embed.specs.Additions.{after_addition, empty_state, refusal_of}
 use Rattle.scm_open_session.specs.declared.open_session.OpenSession.{OpenSession}
 use Rattle.scm_open_session.specs.declared.open_session.Stage.{Stage}
 use Rattle.scm_open_session.specs.declared.open_session.Stage.TheVariants.{Building, Waiting, Editing, Accepted, Ended}
+use Rattle.scm_open_session.specs.declared.running.Running.TheVariants as running
 use Rattle.scm_open_session.specs.Owners.{no_index}
+use Rattle.scm_open_session.specs.Painters.{AreNew}
 use Rattle.scm_open_session.specs.Stages.{ChangesStage}
 
 -- ---- additions from bytes
@@ -118,7 +120,7 @@ pub record BeginsState (is_read_only : Bool) (inner : OpenSession) : Type 0 wher
   -- the decoder has heard no bytes
   pub unheard : HasHeard inner.decoder false []
   -- nothing counts as painted
-  pub unpainted : inner.painter ≡ []
+  pub unpainted : AreNew inner.painter
 
 -- ---- how a session begins with the state
 
@@ -134,7 +136,7 @@ is_building (Ended error) = false
 -- allocation failed and the session has ended.
 pub data Starts (kind : TerminalKind) : Stage → Stage → ℕ → Type 0 where
   started : {state : RecordState} → IsTrue (is_accepted_state state)
-      → Starts kind (Building state) (Waiting (record { session = start state; kind = kind })) 0
+      → Starts kind (Building state) (Waiting (running.Plain (record { session = start state; kind = kind }))) 0
   not_accepted : {state : RecordState} → is_accepted_state state ≡ false → Starts kind (Building state) (Building state) 6
   no_memory : {state : RecordState} → IsTrue (is_accepted_state state) → Starts kind (Building state) (Ended OutOfMemory) 8
   not_building : {stage : Stage} → is_building stage ≡ false → Starts kind stage stage 2

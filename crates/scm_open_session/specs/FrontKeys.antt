@@ -1,5 +1,5 @@
 -- Keys that the key table lacks. A front end may want them, in the order in which they were typed.
-use Rattle.std.specs.Prelude.{◌≡◌, ℕ, ◌-◌, ◌<◌, ◌==◌, ◌&&◌, ◌||◌, Bool, true, false, nat_le, List, [], ◌∷◌, length, take, Option, Some, if◌then◌else◌}
+use Rattle.std.specs.Prelude.{◌≡◌, ℕ, ◌-◌, ◌<◌, ◌==◌, ◌&&◌, ◌||◌, not, Bool, true, false, nat_le, List, [], ◌∷◌, length, take, Option, Some, if◌then◌else◌}
 use Rattle.scm_input.specs.declared.events.Event.{Event}
 use Rattle.scm_input.specs.declared.events.Event.TheVariants as events
 use Rattle.scm_input.specs.declared.terminal.KeyCode.{KeyCode}
@@ -12,6 +12,9 @@ use Rattle.scm_input.specs.KeyTable.{control, event_of, none, same_modifiers, sh
 use Rattle.scm_terminal.specs.declared.decoder.Decoder.{Decoder}
 use Rattle.scm_terminal.specs.Decoders.{Adds}
 use Rattle.scm_open_session.specs.declared.open_session.OpenSession.{OpenSession}
+use Rattle.scm_open_session.specs.declared.open_session.Stage.{Stage}
+use Rattle.scm_open_session.specs.declared.open_session.Stage.TheVariants.{Building, Waiting, Editing, Accepted, Ended}
+use Rattle.scm_open_session.specs.Running.{is_asking}
 use Rattle.scm_open_session.specs.Stages.{Types, is_waiting}
 
 -- ---- the code of a key
@@ -105,8 +108,17 @@ pub record StopsAt (old : Decoder) (bytes : List ℕ) (taken key : ℕ) : Type 0
 
 -- ---- typing up to a key
 
+-- Whether a session at this stage tells a front end of its keys: it waits for an event, and its layer asks for no text.
+abbrev pub tells_keys : Stage → Bool
+tells_keys (Building state) = false
+tells_keys (Waiting s) = not (is_asking s)
+tells_keys (Editing a) = false
+tells_keys (Accepted state) = false
+tells_keys (Ended error) = false
+
 -- The bytes up to the first key for a front end are typed. If the session still waits for an event, the caller is told how many
--- they are, and the key. If not, the other bytes are dropped, as they were typed at another screen.
+-- they are, and the key: unless the layer asks for a text, which hears all keys. If the session waits for no event, the other bytes are
+-- dropped, as they were typed at another screen.
 pub record TypesToKey (bytes : List ℕ) (old new : OpenSession) (taken key : ℕ) : Type 0 where
   -- the bytes that are typed, and the key
   pub sent : ℕ
@@ -116,7 +128,7 @@ pub record TypesToKey (bytes : List ℕ) (old new : OpenSession) (taken key : �
   pub same_painter : new.painter ≡ old.painter
   -- what the caller is told
   pub taken_told : taken ≡ (if is_waiting new.stage then sent else length bytes)
-  pub key_told : key ≡ (if is_waiting new.stage then found else 0)
+  pub key_told : key ≡ (if tells_keys new.stage then found else 0)
 
 -- An open session changes by `TypesToKey`.
 pub data ChangesToKey (bytes : List ℕ) : Option OpenSession → Option OpenSession → ℕ → ℕ → Type 0 where

@@ -1,5 +1,11 @@
 -- the values of boxes
 pub mod Boxes
+-- a session that waits, with or without a layer over it
+pub mod Running
+-- what a session is painted with
+pub mod Painters
+-- a session with a layer: what its calls do to a view
+pub mod Layered
 -- what a session waits for, and how calls change that: begin here
 pub mod Stages
 -- return codes, and the texts that calls write
@@ -20,3 +26,7 @@ pub mod Paint
 pub mod Batches
 -- the words of what a terminal sends
 pub mod Decoding
+-- calls of a layer: how a session begins with it, its theme, and the start
+pub mod LayerCalls
+-- keys of the user's own
+pub mod OwnKeys

@@ -1,5 +1,5 @@
 -- The owner of a place on the screen: its code, and the key of the item that it belongs to.
-use Rattle.std.specs.Prelude.{ℕ, ◌^◌, ◌-◌, Option, Some, None}
+use Rattle.std.specs.Prelude.{ℕ, ◌+◌, ◌^◌, ◌-◌, Option, Some, None}
 use Rattle.scm_types.specs.declared.keys.FileKey.{FileKey}
 use Rattle.scm_types.specs.declared.keys.SelectionKey.{SelectionKey}
 use Rattle.scm_types.specs.declared.keys.SelectionKey.TheVariants as keys
@@ -15,6 +15,8 @@ use Rattle.scm_open_session.specs.declared.open_session.OpenSession.{OpenSession
 use Rattle.scm_open_session.specs.declared.open_session.Stage.{Stage}
 use Rattle.scm_open_session.specs.declared.open_session.Stage.TheVariants.{Building, Waiting, Editing, Accepted, Ended}
 use Rattle.scm_open_session.specs.declared.owners.Key.{Key}
+use Rattle.scm_open_session.specs.declared.running.Running.{Running}
+use Rattle.scm_open_session.specs.Running.{live_of, offset_of}
 
 -- ---- codes
 
@@ -105,11 +107,16 @@ key_of_owner (Some id) = key_of_component id
 
 -- ---- places
 
+-- The component that a click at `row`, `column` of the terminal hits. With a layer nothing owns the status row.
+abbrev pub hit_of_running : Running → ℕ → ℕ → Option ComponentId
+hit_of_running s row column =
+    let l = live_of s in
+    hit (scene_of l.kind l.session) l.session.scroll row (offset_of s + column)
+
 -- The code of the owner that a click at `row`, `column` of the screen hits. 0 unless the session waits for an event.
 abbrev pub owner_of_stage : Stage → ℕ → ℕ → ℕ
 owner_of_stage (Building state) row column = 0
-owner_of_stage (Waiting l) row column =
-    code_of_owner l.session.shown (hit (scene_of l.kind l.session) l.session.scroll row column)
+owner_of_stage (Waiting s) row column = code_of_owner (live_of s).session.shown (hit_of_running s row column)
 owner_of_stage (Editing a) row column = 0
 owner_of_stage (Accepted state) row column = 0
 owner_of_stage (Ended error) row column = 0
@@ -117,7 +124,7 @@ owner_of_stage (Ended error) row column = 0
 -- The key of that owner. No key unless the session waits for an event.
 abbrev pub key_of_stage : Stage → ℕ → ℕ → Key
 key_of_stage (Building state) row column = no_key
-key_of_stage (Waiting l) row column = key_of_owner (hit (scene_of l.kind l.session) l.session.scroll row column)
+key_of_stage (Waiting s) row column = key_of_owner (hit_of_running s row column)
 key_of_stage (Editing a) row column = no_key
 key_of_stage (Accepted state) row column = no_key
 key_of_stage (Ended error) row column = no_key
@@ -137,7 +144,7 @@ key_of_session (Some inner) row column = key_of_stage inner.stage row column
 -- The key of the selected item of a session that waits for an event.
 abbrev pub selected_of_stage : Stage → Option Key
 selected_of_stage (Building state) = None
-selected_of_stage (Waiting l) = Some (key_of_item l.session.shown.selection)
+selected_of_stage (Waiting s) = Some (key_of_item (live_of s).session.shown.selection)
 selected_of_stage (Editing a) = None
 selected_of_stage (Accepted state) = None
 selected_of_stage (Ended error) = None

@@ -24,13 +24,14 @@ use Rattle.scm_open_session.specs.declared.owners.Key.{Key}
 use Rattle.scm_open_session.specs.declared.sides.Side.{Side}
 use Rattle.scm_open_session.specs.Owners.{no_index}
 use Rattle.scm_open_session.specs.Results.{over}
+use Rattle.scm_open_session.specs.Running.{live_of}
 
 -- ---- questions
 
 -- The state that calls can ask at a stage: the one that is made, shown or accepted.
 abbrev pub state_of_stage : Stage → Option RecordState
 state_of_stage (Building state) = Some state
-state_of_stage (Waiting l) = Some l.session.shown.state
+state_of_stage (Waiting s) = Some (live_of s).session.shown.state
 state_of_stage (Editing a) = None
 state_of_stage (Accepted state) = Some state
 state_of_stage (Ended error) = None

@@ -1,5 +1,5 @@
 -- What calls return to C: codes, and texts.
-use Rattle.std.specs.Prelude.{◌≡◌, ℕ, ◌==◌, min, ◌++◌, ◌&&◌, Bool, IsTrue, false, List, [], length, take, drop, Option, Some, None, option_and_then, ⊤, codes, if◌then◌else◌, string_bytes, unwrap_or}
+use Rattle.std.specs.Prelude.{◌≡◌, ℕ, ◌+◌, ◌==◌, min, ◌++◌, ◌&&◌, Bool, IsTrue, false, List, [], length, take, drop, Option, Some, None, option_and_then, ⊤, codes, if◌then◌else◌, string_bytes, unwrap_or}
 use Rattle.std.specs.Str.{is_utf8}
 use Rattle.serde_json.specs.Read.{read}
 use Rattle.scm_errors.specs.declared.error.RecordError.{RecordError}
@@ -13,6 +13,8 @@ use Rattle.scm_json.specs.Form.{state_of}
 use Rattle.scm_record.specs.Session.{message_of}
 use Rattle.scm_record.specs.Frames.{scene_of}
 use Rattle.scm_script.specs.Words.{event_of_word}
+use Rattle.scm_open_session.specs.declared.running.Running.{Running}
+use Rattle.scm_open_session.specs.Running.{edit_of, live_of, offset_of}
 use Rattle.scm_open_session.specs.Stages.{is_waiting, is_editing}
 use Rattle.scm_open_session.specs.declared.open_session.OpenSession.{OpenSession}
 use Rattle.scm_open_session.specs.declared.open_session.Stage.{Stage}
@@ -37,6 +39,8 @@ words_of_code code =
     else if code == 7 then codes "a text has more than 1,000,000 bytes"
     else if code == 8 then codes "there is not enough memory"
     else if code == 9 then codes "the state has no such file, section, line or commit"
+    else if code == 10 then codes "the number stands for nothing that this call takes"
+    else if code == 11 then codes "a part of the text is no key with what it does, as ctrl-n=j"
     else []
 
 -- A call returns `code`. If it needs memory, it may return 8 instead: an allocation failed.
@@ -95,10 +99,15 @@ is_message text = is_short_text text && is_utf8 text
 
 -- ---- the symbol of a place
 
+-- The symbol that begins at `row`, `column` of the terminal. With a layer it is empty on the status row.
+abbrev pub symbol_of_running : Running → ℕ → ℕ → List ℕ
+symbol_of_running s row column =
+    unwrap_or (symbol_at (scene_of (live_of s).kind (live_of s).session).frame.rows row (offset_of s + column)) []
+
 -- The symbol that begins at `row`, `column` of the screen. Empty unless the session waits for an event.
 abbrev pub symbol_of_stage : Stage → ℕ → ℕ → List ℕ
 symbol_of_stage (Building state) row column = []
-symbol_of_stage (Waiting l) row column = unwrap_or (symbol_at (scene_of l.kind l.session).frame.rows row column) []
+symbol_of_stage (Waiting s) row column = symbol_of_running s row column
 symbol_of_stage (Editing a) row column = []
 symbol_of_stage (Accepted state) row column = []
 symbol_of_stage (Ended error) row column = []
@@ -127,8 +136,8 @@ sentence_of (errors.Bug text) = codes "bug: " ++ string_bytes text
 -- any text: no contract says what the writer of JSON writes.
 abbrev pub IsText : Stage → List ℕ → Type 0
 IsText (Building state) text = text ≡ []
-IsText (Waiting l) text = text ≡ view_of (scene_of l.kind l.session).frame.rows
-IsText (Editing a) text = text ≡ unwrap_or (message_of a.session a.commit) []
+IsText (Waiting s) text = text ≡ view_of (scene_of (live_of s).kind (live_of s).session).frame.rows
+IsText (Editing a) text = text ≡ unwrap_or (message_of (edit_of a).session (edit_of a).commit) []
 IsText (Accepted state) text = ⊤
 IsText (Ended error) text = text ≡ sentence_of error
 

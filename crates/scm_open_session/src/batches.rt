@@ -11,7 +11,7 @@ use std::alloc::{AllocError, Global};
 
 /// Returns the first piece of `words`, which ends at a space, and the text after that space. Returns `None` if there is no
 /// space.
-fn split_piece(words: &str) -> Option<(&str, &str)>
+pub(crate) fn split_piece(words: &str) -> Option<(&str, &str)>
     ensures none { IfNone result (pieces_of words.now ≡ words.now ∷ []) }
     ensures some { IfSome result (λ parts.
         pieces_of words.now ≡ parts.0.now ∷ pieces_of parts.1.now) }

@@ -1,9 +1,8 @@
 //! Calls on a session, open or closed. Each returns its code.
 ghost use Rattle.std.specs.Prelude.{◌≡◌, ℕ, ◌<◌, IfErr, IfOk, IsTrue, None, Some, false, is_some, length, string_bytes, true};
-ghost use Rattle.scm_input.specs.declared.events.Event.TheVariants as events;
 ghost use Rattle.std.specs.Str.{is_utf8};
 ghost use Rattle.scm_open_session.specs.Boxes.{box_value};
-ghost use Rattle.scm_open_session.specs.Stages.{Begins, ChangesStage, HandsIn, Idles, IsOpenAt, ChangesDecoder, Presses, Resizes, Says, Types, code_of_session, end_of_session, screen_of};
+ghost use Rattle.scm_open_session.specs.Stages.{Begins, ChangesStage, Clicks, HandsIn, Idles, IsOpenAt, ChangesDecoder, Presses, Resizes, Says, Types, code_of_session, end_of_session, screen_of};
 ghost use Rattle.scm_open_session.specs.Results.{IsCode, Writes, code_of_answer, code_of_call, code_of_json, code_of_message, code_of_press, code_of_repaint, done_code, event_of_bytes, is_message, over, symbol_of_session, is_session_waiting, words_of_code};
 ghost use Rattle.scm_open_session.specs.Owners.{key_of_session, owner_of_session, selected_of_session};
 ghost use Rattle.scm_open_session.specs.Batches.{HandsInAll, PressesAll, code_of_batch, events_of_bytes};
@@ -120,15 +119,13 @@ pub fn press(session: &mut Session, word: &[u8]) -> u32
 pub fn click(session: &mut Session, row: u16, column: u16) -> u32
     ensures code { result ≡ code_of_call (box_value session.old) }
     ensures clicked { result ≡ 0
-        → ChangesStage (Presses (events.Click row column)) (box_value session.old)
-        (box_value session.new) }
+        → ChangesStage (Clicks row column) (box_value session.old) (box_value session.new) }
     ensures kept { 0 < result → box_value session.new ≡ box_value session.old }
 {
-    let click = Event::Click {
-        row: row as usize,
-        column: column as usize,
-    };
-    hand_in(session, click)
+    match session {
+        Some(inner) => done_or_not_now(inner.click(row, column)),
+        None => codes::CLOSED,
+    }
 }
 
 /// Handles `event`. Returns the code of the call.
@@ -229,7 +226,7 @@ fn event_of(word: &[u8]) -> Option<Event>
 }
 
 /// Returns the code of a call that was done, or that the session doesn't wait for.
-fn done_or_not_now(is_done: bool) -> u32
+pub(crate) fn done_or_not_now(is_done: bool) -> u32
     ensures code { result ≡ done_code is_done }
     ensures done { result ≡ 0 → IsTrue is_done }
     ensures not_now { 0 < result → is_done ≡ false }
@@ -260,7 +257,7 @@ pub fn answer(alloc: Global, session: &mut Session, text: &[u8]) -> u32
 ///
 /// # Errors
 /// The code of the failure: `TOO_LONG`, `NOT_TEXT` or `NO_MEMORY`.
-fn message_of(alloc: Global, text: &[u8]) -> Result<String, u32>
+pub(crate) fn message_of(alloc: Global, text: &[u8]) -> Result<String, u32>
     ensures ok { IfOk result (λ message. string_bytes message ≡ text.now) }
     ensures good { IfOk result (λ message. IsTrue (is_message text.now)) }
     ensures err { IfErr result (λ code. (otherwise : ℕ)
@@ -321,33 +318,33 @@ fn paint_open_session(alloc: Global, inner: &mut OpenSession, out: &mut [u8]) ->
     ensures { PaintsOpenSession inner.old inner.new out.old out.new result }
 {
     match inner.paint(alloc) {
-        Ok(update) => Ok(write_update(inner, update.as_bytes(), out)),
+        Ok(update) => Ok(write_update(alloc, inner, update.as_bytes(), out)),
         Err(code) => Err(code),
     }
 }
 
 /// Writes `update` to `out` if it fits, or else makes the next update have every row. Returns the
 /// length of `update` in bytes.
-fn write_update(inner: &mut OpenSession, update: &[u8], out: &mut [u8]) -> usize
+fn write_update(alloc: Global, inner: &mut OpenSession, update: &[u8], out: &mut [u8]) -> usize
     ensures len { result ≡ length update.now }
     ensures filled { Fills inner.old inner.new update.now out.old out.new }
 {
     if update.len() <= out.len() {
         write_text(update, out)
     } else {
-        inner.repaint();
+        inner.repaint(alloc);
         update.len()
     }
 }
 
 /// Makes the next update write every row. Returns the code of the call.
-pub fn repaint(session: &mut Session) -> u32
+pub fn repaint(alloc: Global, session: &mut Session) -> u32
     ensures code { result ≡ code_of_repaint (box_value session.old) }
     ensures forgotten { Forgets (box_value session.old) (box_value session.new) }
 {
     match session {
         Some(inner) => {
-            inner.repaint();
+            inner.repaint(alloc);
             codes::DONE
         }
         None => codes::CLOSED,

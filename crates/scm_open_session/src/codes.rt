@@ -22,6 +22,10 @@ pub const TOO_LONG: u32 = 7;
 pub const NO_MEMORY: u32 = 8;
 /// Code of a call: the state has no such file, section, line or commit.
 pub const NO_ITEM: u32 = 9;
+/// Code of a call: the number stands for nothing that the call takes.
+pub const NO_NUMBER: u32 = 10;
+/// Code of a call: a part of the text is no key with what it does.
+pub const NO_KEY: u32 = 11;
 
 /// Stage: the session waits for an event.
 pub const WAITING: u32 = 0;
@@ -106,6 +110,24 @@ pub const PARTLY: u32 = 1;
 /// Mark: all is checked.
 pub const CHECKED: u32 = 2;
 
+/// Theme: a dark background.
+pub const DARK: u32 = 0;
+/// Theme: a light background.
+pub const LIGHT: u32 = 1;
+/// Theme: sixteen colours.
+pub const SIXTEEN: u32 = 2;
+/// Theme: no colours.
+pub const NO_COLOURS: u32 = 3;
+
+/// Start: what is unfolded already.
+pub const AS_IT_IS: u32 = 0;
+/// Start: nothing is unfolded.
+pub const ALL_FOLDED: u32 = 1;
+/// Start: everything is unfolded.
+pub const ALL_OPEN: u32 = 2;
+/// Start: everything is unfolded, if the screen then shows all of it.
+pub const OPEN_IF_IT_FITS: u32 = 3;
+
 /// Returns the sentence of `code`, or the empty text for a number that no call returns.
 pub fn words(code: u32) -> &'static str
     ensures { result.now ≡ words_of_code code }
@@ -122,6 +144,8 @@ pub fn words(code: u32) -> &'static str
         TOO_LONG => "a text has more than 1,000,000 bytes",
         NO_MEMORY => "there is not enough memory",
         NO_ITEM => "the state has no such file, section, line or commit",
+        NO_NUMBER => "the number stands for nothing that this call takes",
+        NO_KEY => "a part of the text is no key with what it does, as ctrl-n=j",
         _ => "",
     }
 }

@@ -147,3 +147,18 @@ pub fn stop(decoder: Decoder, bytes: &[u8]) -> (usize, u32)
     }
     (bytes.len(), 0)
 }
+
+/// Returns how many bytes a front end is told of: `taken` if the session still waits for an event, or all of
+/// them.
+pub fn told_length(is_waiting: bool, taken: usize, all: usize) -> usize
+    ensures { result ≡ (if is_waiting then taken else all) }
+{
+    if is_waiting { taken } else { all }
+}
+
+/// Returns the key that a front end is told of: `key` if it is to be told, or 0.
+pub fn told_key(is_told: bool, key: u32) -> u32
+    ensures { result ≡ (if is_told then key else 0) }
+{
+    if is_told { key } else { 0 }
+}

@@ -3,6 +3,7 @@
 #![tactic(auto)]
 
 pub mod batches;
+pub mod boxed;
 pub mod buffers;
 pub mod calls;
 pub mod codes;
@@ -11,9 +12,15 @@ pub mod event_words;
 mod front_keys;
 pub mod items;
 pub mod laws;
+pub mod layer;
+pub mod layer_calls;
+pub mod layered;
 pub mod open_session;
+mod own_keys;
 pub mod owners;
+pub mod painters;
 pub mod question_calls;
+pub mod running;
 pub mod sides;
 pub mod state_calls;
 pub mod texts;

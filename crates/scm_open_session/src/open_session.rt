@@ -1,22 +1,22 @@
 //! An open session of a C program, and what each call does to it.
-ghost use Rattle.std.specs.Prelude.{◌≡◌, ◌<◌, [], IfErr, IfNone, IfOk, IfSome, IsTrue, OnSome, Some, false, if◌then◌else◌, is_some, length, ok_or, option_and_then, string_bytes, true};
+ghost use Rattle.std.specs.Prelude.{◌≡◌, ◌<◌, [], IfErr, IfNone, IfOk, IfSome, IsTrue, Some, false, if◌then◌else◌, is_some, length, ok_or, option_and_then, string_bytes, true};
 ghost use Rattle.std.specs.Str.{is_utf8};
 ghost use Rattle.serde_json.specs.Read.{read};
 ghost use Rattle.scm_types.specs.Limits.{is_accepted_state};
 ghost use Rattle.scm_json.specs.Form as form_of;
 ghost use Rattle.scm_open_session.specs.declared.open_session.Stage.TheVariants.{Building};
-ghost use Rattle.scm_open_session.specs.Stages.{Begins, Idles, Presses, Resizes, Says, Types, is_editing, code_of_stage, end_of_stage, screen_of, stage_after, is_waiting};
-ghost use Rattle.scm_record.specs.Live.{on_screen};
+ghost use Rattle.scm_open_session.specs.Stages.{Begins, Clicks, Idles, Presses, Resizes, Says, Types, click_at, is_editing, code_of_stage, end_of_stage, screen_of, is_waiting};
 ghost use Rattle.scm_open_session.specs.Results.{IsCode, IsText, code_of_json, done_code, symbol_of_stage};
 ghost use Rattle.scm_open_session.specs.Owners.{key_of_stage, owner_of_stage, selected_of_stage};
-ghost use Rattle.scm_open_session.specs.Paint.{Shows, Updates, as_update, with_painter};
-ghost use Rattle.scm_record.specs.Painted.{picture_of};
+ghost use Rattle.scm_open_session.specs.Paint.{ForgetsOpen, Updates, UpdatesStage};
+ghost use Rattle.scm_open_session.specs.Painters.{AreNew};
+ghost use Rattle.scm_terminal.specs.Decoders.{HasHeard};
 ghost use Rattle.std.specs.Option.{option_copied};
 ghost use Rattle.std.specs.Result.{result_map_both};
 ghost use Rattle.scm_embed.specs.Additions.{after_addition, refusal_of};
 ghost use Rattle.scm_open_session.specs.Building.{BeginsState, Builds, Starts, code_at_stage, code_of_error, code_of_refusal};
 ghost use Rattle.scm_open_session.specs.Questions.{state_of_stage};
-ghost use Rattle.scm_open_session.specs.FrontKeys.{StopsAt, TypesToKey};
+ghost use Rattle.scm_open_session.specs.FrontKeys.{TypesToKey, tells_keys};
 ghost use Rattle.scm_open_session.specs.Batches.{PressesAll};
 ghost use Rattle.scm_open_session.specs.Decoding.{DecodesOpen, HearsBytes, HearsSilence, Tells, TellsEvents};
 ghost use Rattle.scm_open_session.specs.Texts.{BuildsChange, code_of_change_at, seen_change};
@@ -25,14 +25,18 @@ use crate::buffers::write_text;
 use crate::codes;
 use crate::ends::{failure_code, sentence};
 use crate::event_words::words_of;
-use crate::front_keys::stop;
+use crate::front_keys::{stop, told_key, told_length};
 use crate::owners::{Key, owner_code};
+use crate::painters::Painters;
+use crate::running::{
+    MessageEdit, Running, after_batch, after_bytes, after_event, after_message, after_silence,
+    try_resize,
+};
 use crate::texts::{TextChange, add_change};
 use scm_embed::{Addition, BuildError, StateBuilder};
 use scm_json::read_state;
 use scm_record::{
-    Decoder, Editing, Event, LiveSession, Painter, RecordError, RecordState, TerminalEvent,
-    TerminalKind, Turn,
+    Decoder, Event, LiveSession, RecordError, RecordState, TerminalEvent, TerminalKind,
 };
 use scm_script::accepted_text;
 use std::alloc::Global;
@@ -44,9 +48,9 @@ pub enum Stage {
     /// The state is made by calls, and the session has not begun.
     Building(StateBuilder),
     /// The session waits for an event.
-    Waiting(LiveSession<'static>),
+    Waiting(Running),
     /// The session waits for the message of a commit.
-    Editing(Editing<'static>),
+    Editing(MessageEdit),
     /// The changes are accepted.
     Accepted(RecordState<'static>),
     /// The session ended with an error.
@@ -57,36 +61,15 @@ pub enum Stage {
 #[derive(Drop)]
 pub struct OpenSession {
     /// What the session waits for.
-    stage: Stage,
+    pub(crate) stage: Stage,
     /// The decoder of what the terminal sends.
-    decoder: Decoder,
-    /// The painter, which knows what the terminal shows.
-    painter: Painter,
+    pub(crate) decoder: Decoder,
+    /// What the session is painted with.
+    pub(crate) painter: Painters,
 }
 
 /// A session as a C program has it: `None` if it is closed.
 pub type Session = Option<Box<OpenSession>>;
-
-/// Returns the stage after a call with the result `answer`.
-fn stage_of(answer: Result<Turn<'static>, RecordError>) -> Stage
-    ensures { result ≡ stage_after answer.entry }
-{
-    match answer {
-        Ok(Turn::Waiting(session)) => Stage::Waiting(session),
-        Ok(Turn::Editing(editing)) => Stage::Editing(editing),
-        Ok(Turn::Accepted(state)) => Stage::Accepted(state),
-        Err(error) => Stage::Ended(error),
-    }
-}
-
-/// Resizes the screen of `session`, and returns whether it did. If an allocation failed, this is a
-/// no-op.
-fn try_resize(session: &mut LiveSession<'static>, kind: TerminalKind) -> bool
-    ensures done { IsTrue result → session.new ≡ on_screen session.old kind }
-    ensures kept { result ≡ false → session.new ≡ session.old }
-{
-    session.resize(kind).is_ok()
-}
 
 /// Returns the code of a resize that was done, or for which an allocation failed.
 fn resize_code(is_done: bool) -> u32
@@ -106,7 +89,7 @@ const MAX_COLUMNS: usize = 1000;
 const MAX_ROWS: usize = 1000;
 
 /// Returns the screen of a window of `width` columns and `height` rows.
-fn screen(width: u16, height: u16) -> TerminalKind
+pub(crate) fn screen(width: u16, height: u16) -> TerminalKind
     ensures { result ≡ screen_of width height }
 {
     TerminalKind::Testing {
@@ -119,7 +102,7 @@ fn screen(width: u16, height: u16) -> TerminalKind
 ///
 /// # Errors
 /// The code of the failure: `NOT_TEXT`, `BAD_STATE`, `NOT_ACCEPTED` or `NO_MEMORY`.
-fn state_of(alloc: Global, json: &[u8]) -> Result<RecordState<'static>, u32>
+pub(crate) fn state_of(alloc: Global, json: &[u8]) -> Result<RecordState<'static>, u32>
     ensures text { IfOk result (λ given. IsTrue (is_utf8 json.now)) }
     ensures form { IfOk result
         (λ given. option_and_then form_of.state_of (read json.now) ≡ Some given) }
@@ -140,38 +123,6 @@ fn state_of(alloc: Global, json: &[u8]) -> Result<RecordState<'static>, u32>
     } else {
         Err(codes::NOT_ACCEPTED)
     }
-}
-
-/// Returns `bytes` as one synchronized update of the terminal, with no style set at its end.
-/// Returns `None` if an allocation failed.
-#[tactic(auto, unfolding(scm_terminal::specs::Style::style_bytes))]
-fn update_of(alloc: Global, bytes: &str) -> Option<String>
-    ensures { IfSome result (λ update. string_bytes update ≡ as_update bytes.now) }
-{
-    let mut update = String::new(alloc);
-    update.push_str("\x1b[?2026h").ok()?;
-    update.push_str(bytes).ok()?;
-    update.push_str("\x1b[0m\x1b[?2026l").ok()?;
-    Some(update)
-}
-
-/// Returns the update that makes the terminal show `session`, if it shows what `painter` painted
-/// last. Returns `None` if an allocation failed: then `painter` forgets what it painted.
-fn update_for(
-    alloc: Global,
-    session: &LiveSession<'static>,
-    painter: &mut Painter,
-) -> Option<String>
-    ensures shown { IfSome result (λ update. Shows session.now painter.old (string_bytes update)) }
-    ensures painted { OnSome result (painter.new ≡ picture_of session.now) }
-    ensures forgotten { IfNone result (painter.new ≡ []) }
-{
-    let bytes = session.paint(painter).ok()?;
-    let update = update_of(alloc, &bytes);
-    if update.is_none() {
-        painter.forget();
-    }
-    update
 }
 
 /// Returns `update`, or the code of a failed allocation.
@@ -218,7 +169,7 @@ fn start(alloc: Global, builder: StateBuilder, kind: TerminalKind) -> (Stage, u3
         return (Stage::Building(builder), codes::NOT_ACCEPTED);
     }
     match LiveSession::new(alloc, kind, builder.into_state()) {
-        Ok(session) => (Stage::Waiting(session), codes::DONE),
+        Ok(session) => (Stage::Waiting(Running::Plain(session)), codes::DONE),
         Err(error) => (Stage::Ended(error), codes::NO_MEMORY),
     }
 }
@@ -273,7 +224,7 @@ fn pressed(stage: Stage, event: Event) -> (Stage, bool)
     ensures kept { result.1 ≡ false → result.0 ≡ stage }
 {
     match stage {
-        Stage::Waiting(session) => (stage_of(session.handle(event)), true),
+        Stage::Waiting(session) => (after_event(session, event), true),
         other => (other, false),
     }
 }
@@ -285,7 +236,7 @@ fn pressed_all(stage: Stage, events: &[Event]) -> (Stage, bool)
     ensures kept { result.1 ≡ false → result.0 ≡ stage }
 {
     match stage {
-        Stage::Waiting(session) => (stage_of(session.handle_all(events)), true),
+        Stage::Waiting(session) => (after_batch(session, events), true),
         other => (other, false),
     }
 }
@@ -297,7 +248,7 @@ fn heard(stage: Stage, decoder: &mut Decoder, bytes: &[u8]) -> (Stage, bool)
     ensures kept { result.1 ≡ false → (result.0 ≡ stage) × (decoder.new ≡ decoder.old) }
 {
     match stage {
-        Stage::Waiting(session) => (stage_of(session.typed(decoder, bytes)), true),
+        Stage::Waiting(session) => (after_bytes(session, decoder, bytes), true),
         other => (other, false),
     }
 }
@@ -309,7 +260,7 @@ fn rested(stage: Stage, decoder: &mut Decoder) -> (Stage, bool)
     ensures kept { result.1 ≡ false → (result.0 ≡ stage) × (decoder.new ≡ decoder.old) }
 {
     match stage {
-        Stage::Waiting(session) => (stage_of(session.idle(decoder)), true),
+        Stage::Waiting(session) => (after_silence(session, decoder), true),
         other => (other, false),
     }
 }
@@ -321,23 +272,41 @@ fn answered(stage: Stage, text: String) -> (Stage, bool)
     ensures kept { result.1 ≡ false → result.0 ≡ stage }
 {
     match stage {
-        Stage::Editing(editing) => (stage_of(editing.answer(text)), true),
+        Stage::Editing(edit) => (after_message(edit, text), true),
         other => (other, false),
     }
 }
 
-/// Returns the stage on a screen of size `kind`, and the code of the call.
-fn resized(stage: Stage, kind: TerminalKind) -> (Stage, u32)
-    ensures code { IsCode (is_waiting stage) (done_code (is_waiting stage)) result.1 }
-    ensures resized { result.1 ≡ 0 → Resizes kind stage result.0 }
-    ensures kept { 0 < result.1 → result.0 ≡ stage }
+/// Resizes the terminal of `stage` to `width` columns and `height` rows. Returns the code of the call.
+fn resize_stage(stage: &mut Stage, width: u16, height: u16) -> u32
+    ensures code { IsCode (is_waiting stage.old) (done_code (is_waiting stage.old)) result }
+    ensures resized { result ≡ 0 → Resizes (screen_of width height) stage.old stage.new }
+    ensures kept { 0 < result → stage.new ≡ stage.old }
 {
     match stage {
-        Stage::Waiting(mut session) => {
-            let is_done = try_resize(&mut session, kind);
-            (Stage::Waiting(session), resize_code(is_done))
-        }
-        other => (other, codes::NOT_NOW),
+        Stage::Waiting(session) => resize_code(try_resize(session, width, height)),
+        Stage::Building(_) => codes::NOT_NOW,
+        Stage::Editing(_) => codes::NOT_NOW,
+        Stage::Accepted(_) => codes::NOT_NOW,
+        Stage::Ended(_) => codes::NOT_NOW,
+    }
+}
+
+/// Returns the update that makes the terminal show the session, if it shows what was painted last.
+///
+/// # Errors
+/// - `NOT_NOW`: the session waits for no event.
+/// - `NO_MEMORY`: an allocation failed; the next update has every row.
+fn update_at(alloc: Global, stage: &Stage, painter: &mut Painters) -> Result<String, u32>
+    ensures { UpdatesStage stage.now painter.old painter.new
+        (result_map_both string_bytes (λ code. code) result) }
+{
+    match stage {
+        Stage::Waiting(session) => update_or_code(painter.update(alloc, session)),
+        Stage::Building(_) => Err(codes::NOT_NOW),
+        Stage::Editing(_) => Err(codes::NOT_NOW),
+        Stage::Accepted(_) => Err(codes::NOT_NOW),
+        Stage::Ended(_) => Err(codes::NOT_NOW),
     }
 }
 
@@ -358,15 +327,27 @@ impl OpenSession {
         let Ok(session) = LiveSession::new(alloc, screen(width, height), state) else {
             return Err(codes::NO_MEMORY);
         };
+        let stage = Stage::Waiting(Running::Plain(session));
+        match OpenSession::at_stage(alloc, stage) {
+            Some(inner) => Ok(inner),
+            None => Err(codes::NO_MEMORY),
+        }
+    }
+
+    /// Returns a session at `stage`. Nothing was typed and nothing is painted. Returns `None` if an
+    /// allocation failed.
+    pub(crate) fn at_stage(alloc: Global, stage: Stage) -> Option<Box<OpenSession>>
+        ensures stage { IfSome result (λ inner. inner.value.stage ≡ stage) }
+        ensures unheard { IfSome result (λ inner. HasHeard inner.value.decoder false []) }
+        ensures unpainted { IfSome result (λ inner. AreNew inner.value.painter) }
+    {
+        let painter = Painters::new(alloc)?;
         let inner = OpenSession {
-            stage: Stage::Waiting(session),
+            stage,
             decoder: Decoder::new(),
-            painter: Painter::new(alloc),
+            painter,
         };
-        let Ok(inner) = Box::new(alloc, inner) else {
-            return Err(codes::NO_MEMORY);
-        };
-        Ok(inner)
+        Box::new(alloc, inner).ok()
     }
 
     /// Returns a session over a state without commits and files, which later calls make. Returns
@@ -374,12 +355,10 @@ impl OpenSession {
     pub fn building(alloc: Global, is_read_only: bool) -> Option<Box<OpenSession>>
         ensures { IfSome result (λ inner. BeginsState is_read_only inner.value) }
     {
-        let inner = OpenSession {
-            stage: Stage::Building(StateBuilder::new(alloc, is_read_only)),
-            decoder: Decoder::new(),
-            painter: Painter::new(alloc),
-        };
-        Box::new(alloc, inner).ok()
+        OpenSession::at_stage(
+            alloc,
+            Stage::Building(StateBuilder::new(alloc, is_read_only)),
+        )
     }
 
     /// Returns the code of what the session waits for.
@@ -407,7 +386,7 @@ impl OpenSession {
     }
 
     /// Takes the stage, and leaves `Ended` in its place.
-    fn take_stage(&mut self) -> Stage
+    pub(crate) fn take_stage(&mut self) -> Stage
         ensures stage { result ≡ self.old.stage }
         ensures decoder { self.new.decoder ≡ self.old.decoder }
         ensures painter { self.new.painter ≡ self.old.painter }
@@ -458,7 +437,7 @@ impl OpenSession {
     {
         match &self.stage {
             Stage::Building(builder) => Some(builder.state()),
-            Stage::Waiting(session) => Some(session.state()),
+            Stage::Waiting(session) => Some(session.live().state()),
             Stage::Accepted(state) => Some(state),
             Stage::Editing(_) | Stage::Ended(_) => None,
         }
@@ -475,6 +454,34 @@ impl OpenSession {
         let (stage, is_done) = pressed(self.take_stage(), event);
         self.stage = stage;
         is_done
+    }
+
+    /// Returns the event of a click at `row` and `column` of the screen, both counted from 0. With the layer
+    /// the window may begin further left.
+    fn click_at(&self, row: u16, column: u16) -> Event
+        ensures { result ≡ click_at self.now.stage row column }
+    {
+        let before = match &self.stage {
+            Stage::Waiting(session) => session.offset(),
+            Stage::Building(_) | Stage::Editing(_) | Stage::Accepted(_) | Stage::Ended(_) => 0,
+        };
+        Event::Click {
+            row: row as usize,
+            column: before as usize + column as usize,
+        }
+    }
+
+    /// Handles a click at `row`, `column` of the screen, both counted from 0, if the session waits for an
+    /// event, and returns whether it does.
+    pub fn click(&mut self, row: u16, column: u16) -> bool
+        ensures is_waiting { result ≡ is_waiting self.old.stage }
+        ensures clicked { IsTrue result → Clicks row column self.old.stage self.new.stage }
+        ensures decoder { self.new.decoder ≡ self.old.decoder }
+        ensures painter { self.new.painter ≡ self.old.painter }
+        ensures kept { result ≡ false → self.new ≡ self.old }
+    {
+        let event = self.click_at(row, column);
+        self.press(event)
     }
 
     /// Handles `events` as one batch if the session waits for an event, and returns whether it does.
@@ -561,7 +568,8 @@ impl OpenSession {
 
     /// Handles `bytes` from a terminal up to the first key that a front end may want, if the session
     /// waits for an event. Returns how many bytes it took, and the code of that key, 0 without one. If
-    /// the session waits for no event then, the other bytes are dropped, and there is no such key.
+    /// the session waits for no event then, the other bytes are dropped, and there is no such key. While
+    /// the layer asks for a text, it hears all keys, and the code is 0.
     pub fn hear_to_key(&mut self, bytes: &[u8]) -> Option<(usize, u32)>
         ensures waits { is_some result ≡ is_waiting self.old.stage }
         ensures typed { IfSome result
@@ -572,11 +580,8 @@ impl OpenSession {
         if !self.hear(&bytes[..taken]) {
             return None;
         }
-        if self.is_waiting() {
-            Some((taken, key))
-        } else {
-            Some((bytes.len(), 0))
-        }
+        let told = told_length(self.is_waiting(), taken, bytes.len());
+        Some((told, told_key(self.tells_keys(), key)))
     }
 
     /// Returns whether the session waits for an event.
@@ -585,6 +590,17 @@ impl OpenSession {
     {
         match &self.stage {
             Stage::Waiting(_) => true,
+            Stage::Building(_) | Stage::Editing(_) | Stage::Accepted(_) | Stage::Ended(_) => false,
+        }
+    }
+
+    /// Returns whether a front end is told of its keys: the session waits for an event, and the layer asks
+    /// for no text.
+    fn tells_keys(&self) -> bool
+        ensures { result ≡ tells_keys self.now.stage }
+    {
+        match &self.stage {
+            Stage::Waiting(session) => !session.is_asking(),
             Stage::Building(_) | Stage::Editing(_) | Stage::Accepted(_) | Stage::Ended(_) => false,
         }
     }
@@ -627,9 +643,7 @@ impl OpenSession {
         ensures painter { self.new.painter ≡ self.old.painter }
         ensures kept { 0 < result → self.new ≡ self.old }
     {
-        let (stage, code) = resized(self.take_stage(), screen(width, height));
-        self.stage = stage;
-        code
+        resize_stage(&mut self.stage, width, height)
     }
 
     /// Returns the update that makes the terminal show the session, if it shows what was painted
@@ -642,22 +656,14 @@ impl OpenSession {
         ensures { Updates self.old self.new
             (result_map_both string_bytes (λ code. code) result) }
     {
-        match &self.stage {
-            Stage::Waiting(session) => {
-                update_or_code(update_for(alloc, session, &mut self.painter))
-            }
-            Stage::Building(_) => Err(codes::NOT_NOW),
-            Stage::Editing(_) => Err(codes::NOT_NOW),
-            Stage::Accepted(_) => Err(codes::NOT_NOW),
-            Stage::Ended(_) => Err(codes::NOT_NOW),
-        }
+        update_at(alloc, &self.stage, &mut self.painter)
     }
 
     /// Forgets what was painted, so that the next update has every row.
-    pub fn repaint(&mut self)
-        ensures { self.new ≡ with_painter self.old [] }
+    pub fn repaint(&mut self, alloc: Global)
+        ensures { ForgetsOpen self.old self.new }
     {
-        self.painter.forget();
+        self.painter.forget(alloc);
     }
 
     /// Returns the text of the stage: the screen's rows, the message to edit, the error's sentence,
@@ -668,8 +674,8 @@ impl OpenSession {
     {
         match &self.stage {
             Stage::Building(_) => Some(String::new(alloc)),
-            Stage::Waiting(session) => session.grid().view().ok(),
-            Stage::Editing(editing) => String::from_str(alloc, editing.message()).ok(),
+            Stage::Waiting(session) => session.live().grid().view().ok(),
+            Stage::Editing(edit) => String::from_str(alloc, edit.live().message()).ok(),
             Stage::Accepted(state) => accepted_text(alloc, state),
             Stage::Ended(error) => sentence(alloc, error),
         }
@@ -683,9 +689,9 @@ impl OpenSession {
     {
         match &self.stage {
             Stage::Waiting(session) => {
-                let owner = session.owner(row as usize, column as usize);
-                let code = owner_code(session.view_state(), owner);
-                (code, Key::of_owner(owner))
+                let live = session.live();
+                let owner = live.owner(row as usize, session.offset() as usize + column as usize);
+                (owner_code(live.view_state(), owner), Key::of_owner(owner))
             }
             Stage::Building(_) | Stage::Editing(_) | Stage::Accepted(_) | Stage::Ended(_) => {
                 (codes::NOBODY, Key::none())
@@ -698,7 +704,7 @@ impl OpenSession {
         ensures { result ≡ selected_of_stage self.now.stage }
     {
         match &self.stage {
-            Stage::Waiting(session) => Some(Key::of_item(session.view_state().selection)),
+            Stage::Waiting(session) => Some(Key::of_item(session.live().view_state().selection)),
             Stage::Building(_) | Stage::Editing(_) | Stage::Accepted(_) | Stage::Ended(_) => None,
         }
     }
@@ -710,7 +716,8 @@ impl OpenSession {
     {
         match &self.stage {
             Stage::Waiting(session) => {
-                let symbol = session.grid().symbol(row as usize, column as usize);
+                let grid = session.live().grid();
+                let symbol = grid.symbol(row as usize, session.offset() as usize + column as usize);
                 symbol.unwrap_or("")
             }
             Stage::Building(_) | Stage::Editing(_) | Stage::Accepted(_) | Stage::Ended(_) => "",

@@ -2,7 +2,7 @@ use Rattle.std.proofs.Common.{length}
 use denote.Shadow.{shadow}
 use denote.Text.{Utf8}
 use Rattle.scm_open_session.specs.Batches.{events_of_pieces, pieces_of}
-use Rattle.scm_open_session.proofs.BatchLemmas.{Pushed}
+use Rattle.scm_open_session.proofs.PieceLemmas.{Pushed}
 use Rattle.scm_open_session.proofs.batches.push_words.Given as goal
 
 abbrev pub invariant-cuts : goal.invariant-cuts

@@ -1,6 +1,6 @@
 use Rattle.std.proofs.Common.{List, ℕ, arith}
 use Rattle.std.specs.Borrow.{Bor}
-use Rattle.scm_open_session.proofs.BatchLemmas.{cut_none, cut_some}
+use Rattle.scm_open_session.proofs.PieceLemmas.{cut_none, cut_some}
 use Rattle.scm_open_session.proofs.batches.split_piece.Goals as goal
 
 pub returns-clause-none : goal.returns-clause-none

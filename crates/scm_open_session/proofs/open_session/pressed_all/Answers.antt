@@ -1,6 +1,8 @@
-use Rattle.scm_open_session.proofs.BatchLemmas.{presses_all}
+use Rattle.std.proofs.Common.{sym, subst}
+use Rattle.scm_open_session.specs.declared.open_session.Stage.{Stage}
+use Rattle.scm_open_session.specs.Batches.{PressesAll}
 use Rattle.scm_open_session.proofs.open_session.pressed_all.Goals as goal
 
 pub returns-in-Waiting-clause-pressed : goal.returns-in-Waiting-clause-pressed
 returns-in-Waiting-clause-pressed c = λ done.
-    presses_all c.args.events.now c.in-Waiting.session c.handle_all.result c.args.stage c.stage_of.result c.in-Waiting.is c.stage_of.ensures c.handle_all.ensures.ok c.handle_all.ensures.err
+    subst (λ (s : Stage). PressesAll c.args.events.now s c.after_batch.result) (sym c.in-Waiting.is) c.after_batch.ensures

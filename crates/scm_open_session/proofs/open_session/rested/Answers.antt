@@ -1,8 +1,8 @@
-use Rattle.std.proofs.Common.{refl}
-use Rattle.scm_open_session.proofs.StageLemmas.{idles}
+use Rattle.std.proofs.Common.{sym, subst}
+use Rattle.scm_open_session.specs.declared.open_session.Stage.{Stage}
+use Rattle.scm_open_session.specs.Stages.{Idles}
 use Rattle.scm_open_session.proofs.open_session.rested.Goals as goal
 
 pub returns-in-Waiting-clause-silent : goal.returns-in-Waiting-clause-silent
 returns-in-Waiting-clause-silent c = λ done.
-    idles c.args.decoder.now c.args.decoder.now c.idle.new.decoder c.in-Waiting.session c.idle.result c.args.stage c.stage_of.result
-    refl c.in-Waiting.is c.stage_of.ensures c.idle.ensures.ok c.idle.ensures.err
+    subst (λ (s : Stage). Idles c.args.decoder.now c.after_silence.new.decoder s c.after_silence.result) (sym c.in-Waiting.is) c.after_silence.ensures

@@ -1,8 +1,15 @@
 use Rattle.scm_open_session.specs.Results.{IsCode}
+use Rattle.scm_open_session.proofs.BuildLemmas.{begins}
 use Rattle.scm_open_session.proofs.open_session.OpenSession.new.Goals as goal
 
 pub returns-in_default-clause-err : goal.returns-in_default-clause-err
 returns-in_default-clause-err c = IsCode.no_memory c.in_ok-state.ensures.text
 
-pub returns-in_default-new-clause-err : goal.returns-in_default-new-clause-err
-returns-in_default-new-clause-err c = IsCode.no_memory c.in_ok-state.ensures.text
+pub returns-in-None-clause-err : goal.returns-in-None-clause-err
+returns-in-None-clause-err c = IsCode.no_memory c.in_ok-state.ensures.text
+
+pub returns-in-Some-clause-ok : goal.returns-in-Some-clause-ok
+returns-in-Some-clause-ok c =
+    begins c.args.json.now c.args.width c.args.height c.in_ok-state.state c.in-Ok.session c.screen.result c.in-Some.inner.value
+    c.in_ok-state.ensures.form c.in_ok-state.ensures.accepted c.in-Some.ensures.stage c.in-Ok.ensures.ok c.screen.ensures
+    c.in-Some.ensures.unheard c.in-Some.ensures.unpainted

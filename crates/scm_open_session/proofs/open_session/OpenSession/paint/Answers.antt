@@ -1,23 +1,5 @@
-use Rattle.std.proofs.Common.{ap}
-use Rattle.std.specs.Prelude.{string_bytes}
-use Rattle.scm_open_session.specs.Paint.{Updates}
-use Rattle.scm_open_session.specs.Stages.{is_waiting}
-use Rattle.scm_open_session.proofs.PaintLemmas.{updates}
+use Rattle.std.proofs.Common.{refl}
 use Rattle.scm_open_session.proofs.open_session.OpenSession.paint.Goals as goal
 
-pub returns-in-Waiting : goal.returns-in-Waiting
-returns-in-Waiting c =
-    updates string_bytes c.args.self.now c.in-Waiting.session c.update_for.new.painter c.update_for.result c.update_or_code.result
-    c.in-Waiting.is c.update_or_code.ensures c.update_for.ensures.shown c.update_for.ensures.painted c.update_for.ensures.forgotten
-
-pub returns-in-Building : goal.returns-in-Building
-returns-in-Building c = Updates.not_due (ap is_waiting c.in-Building.is)
-
-pub returns-in-Editing : goal.returns-in-Editing
-returns-in-Editing c = Updates.not_due (ap is_waiting c.in-Editing.is)
-
-pub returns-in-Accepted : goal.returns-in-Accepted
-returns-in-Accepted c = Updates.not_due (ap is_waiting c.in-Accepted.is)
-
-pub returns-in-Ended : goal.returns-in-Ended
-returns-in-Ended c = Updates.not_due (ap is_waiting c.in-Ended.is)
+pub returns : goal.returns
+returns c = record { painter = c.update_at.ensures; stage = refl; decoder = refl }

@@ -1,0 +1,114 @@
+//! Calls of the layer: search, ranges, undo, columns to the right, themes. `include/scm.h` documents each function.
+ghost use Rattle.std.specs.Prelude.{◌≡◌, ◌<◌, None, true};
+ghost use Rattle.std.specs.Str.{is_utf8};
+ghost use Rattle.scm_open_session.specs.LayerCalls.{BeginsLayer, ChangesPainters, HasTheme, SetsStart, StartsLayer, code_of_layer, code_of_number, is_view};
+ghost use Rattle.scm_open_session.specs.Layered.{folds_of, theme_of};
+ghost use Rattle.scm_open_session.specs.OwnKeys.{HasKeys, code_of_keys, keys_of_bytes};
+ghost use Rattle.scm_open_session.specs.Painters.{HaveWords};
+ghost use Rattle.scm_open_session.specs.Results.{IsCode, code_of_json, code_of_message, code_where, is_message};
+ghost use Rattle.scm_open_session.specs.Stages.{ChangesStage, IsOpenAt};
+
+use crate::c_session::{CSession, give_back, take};
+use scm_open_session::layer_calls;
+use scm_open_session::owners::Key;
+use std::alloc::Global;
+
+/// Opens `session` with a layer over the state with the JSON form `json`. Its terminal has `width` columns
+/// and `height` rows. If `session` is open, closes it first. Returns the code of the call.
+#[unsafe(no_mangle)]
+pub extern "C" fn scm_new_layer(
+    alloc: Global,
+    session: &mut CSession,
+    json: &[u8],
+    width: u16,
+    height: u16,
+) -> u32
+    ensures code { IsCode (is_utf8 json.now) (code_of_json json.now) result }
+    ensures begun { result ≡ 0
+        → IsOpenAt (BeginsLayer json.now width height) session.new.pointer.value }
+    // a failed call leaves the session closed
+    ensures refused { 0 < result → session.new.pointer.value ≡ None }
+{
+    drop(take(alloc, session));
+    let (inner, code) = layer_calls::open(alloc, json, width, height);
+    give_back(alloc, session, inner);
+    code
+}
+
+/// Begins the session with the state that is made and with a layer, on a terminal of `width` columns and
+/// `height` rows. Returns the code of the call.
+#[unsafe(no_mangle)]
+pub extern "C" fn scm_begin_layer(
+    alloc: Global,
+    session: &mut CSession,
+    width: u16,
+    height: u16,
+) -> u32
+    ensures { StartsLayer width height
+        session.old.pointer.value session.new.pointer.value result }
+{
+    let mut inner = take(alloc, session);
+    let code = layer_calls::begin(alloc, &mut inner, width, height);
+    give_back(alloc, session, inner);
+    code
+}
+
+/// Sets the theme of the layer to that with the number `theme`. Returns the code of the call.
+#[unsafe(no_mangle)]
+pub extern "C" fn scm_theme(alloc: Global, session: &mut CSession, theme: u32) -> u32
+    ensures code { result ≡ code_of_number (theme_of theme)
+        (code_of_layer session.old.pointer.value) }
+    ensures themed { result ≡ 0
+        → HasTheme (theme_of theme) session.old.pointer.value session.new.pointer.value }
+    ensures kept { 0 < result → session.new.pointer.value ≡ session.old.pointer.value }
+{
+    let mut inner = take(alloc, session);
+    let code = layer_calls::set_theme(alloc, &mut inner, theme);
+    give_back(alloc, session, inner);
+    code
+}
+
+/// Sets the words by which the status row says what accepting does. Returns the code of the call.
+#[unsafe(no_mangle)]
+pub extern "C" fn scm_accept_text(alloc: Global, session: &mut CSession, text: &[u8]) -> u32
+    ensures code { IsCode (is_message text.now)
+        (code_of_message text.now (code_of_layer session.old.pointer.value)) result }
+    ensures named { result ≡ 0 → ChangesPainters (HaveWords text.now)
+        session.old.pointer.value session.new.pointer.value }
+    ensures kept { 0 < result → session.new.pointer.value ≡ session.old.pointer.value }
+{
+    let mut inner = take(alloc, session);
+    let code = layer_calls::name_accepting(alloc, &mut inner, text);
+    give_back(alloc, session, inner);
+    code
+}
+
+/// Unfolds what the number `folds` says, and selects what `first` names. Returns the code of the call.
+#[unsafe(no_mangle)]
+pub extern "C" fn scm_start(alloc: Global, session: &mut CSession, folds: u32, first: &Key) -> u32
+    ensures code { result ≡ code_of_number (folds_of folds)
+        (code_where is_view session.old.pointer.value) }
+    ensures set { result ≡ 0
+        → ChangesStage SetsStart session.old.pointer.value session.new.pointer.value }
+    ensures kept { 0 < result → session.new.pointer.value ≡ session.old.pointer.value }
+{
+    let mut inner = take(alloc, session);
+    let code = layer_calls::start(&mut inner, folds, first);
+    give_back(alloc, session, inner);
+    code
+}
+
+/// Sets the keys of the user's own to those of `text`. Returns the code of the call.
+#[unsafe(no_mangle)]
+pub extern "C" fn scm_keys(alloc: Global, session: &mut CSession, text: &[u8]) -> u32
+    ensures code { IsCode true
+        (code_of_keys (keys_of_bytes text.now) session.old.pointer.value) result }
+    ensures set { result ≡ 0 → HasKeys (keys_of_bytes text.now)
+        session.old.pointer.value session.new.pointer.value }
+    ensures kept { 0 < result → session.new.pointer.value ≡ session.old.pointer.value }
+{
+    let mut inner = take(alloc, session);
+    let code = layer_calls::set_keys(alloc, &mut inner, text);
+    give_back(alloc, session, inner);
+    code
+}

@@ -1,0 +1,119 @@
+-- How a session begins with a layer, and how its looks and its keys change.
+use Rattle.std.proofs.Common.{◌≡◌, ℕ, ◌-◌, min, List, [], Bool, true, false, IsTrue, option_and_then, Option, Some, None, Result, Ok, Err, IfSome, IfOk, IfErr, refl, sym, ap, ◌∙◌, subst}
+use Rattle.scm_errors.specs.declared.error.RecordError.{RecordError}
+use Rattle.scm_errors.specs.declared.error.RecordError.TheVariants.{OutOfMemory}
+use Rattle.scm_types.specs.declared.state.RecordState.{RecordState}
+use Rattle.scm_types.specs.Limits.{is_accepted_state}
+use Rattle.scm_front.specs.declared.actions.OwnKey.{OwnKey}
+use Rattle.scm_front.specs.declared.layer.Front.{Front}
+use Rattle.scm_front.specs.Failing.{SessionFails}
+use Rattle.scm_front.specs.Fronts.{FrontFails}
+use Rattle.scm_terminal.specs.Decoders.{HasHeard}
+use Rattle.scm_json.specs.Form.{state_of}
+use Rattle.serde_json.specs.Read.{read}
+use Rattle.scm_front_paint.specs.declared.themes.Theme.{Theme}
+use Rattle.scm_front_paint.specs.declared.view.ViewTurn.{ViewTurn}
+use Rattle.scm_front_paint.specs.declared.pane.Pane.{Pane}
+use Rattle.scm_front_paint.specs.Seen.{Seen, seen}
+use Rattle.scm_open_session.specs.declared.open_session.OpenSession.{OpenSession}
+use Rattle.scm_open_session.specs.declared.open_session.Stage.{Stage}
+use Rattle.scm_open_session.specs.declared.open_session.Stage.TheVariants.{Building, Ended, Waiting}
+use Rattle.scm_open_session.specs.declared.painters.Painters.{Painters}
+use Rattle.scm_open_session.specs.declared.running.Running.{Running}
+use Rattle.scm_open_session.specs.declared.running.Running.TheVariants as running
+use Rattle.scm_open_session.specs.Building.{is_building}
+use Rattle.scm_open_session.specs.Layered.{ViewSets}
+use Rattle.scm_open_session.specs.LayerCalls.{BeginsLayer, ChangesPainters, HasTheme, IsNewView, SetsStart, StartsLayer, StartsView, changes_painters, code_of_number}
+use Rattle.std.specs.Str.{is_utf8}
+use Rattle.scm_open_session.specs.OwnKeys.{SetsKeys}
+use Rattle.scm_open_session.specs.Results.{IsCode, code_of_json}
+use Rattle.scm_open_session.specs.Painters.{AreNew, HaveTheme}
+use Rattle.scm_open_session.specs.Stages.{or_ended, stage_of_view}
+
+-- beginnings
+
+pub view_starts : (width height : ℕ) (state given : RecordState) (w h : ℕ) (v : Seen) → IsTrue (is_accepted_state state) → given ≡ state
+    → w ≡ min width 1000 → h ≡ min height 1000 → IsNewView given w h v
+    → StartsView width height (Building state) (Waiting (running.Layered v)) 0
+view_starts width height state given w h v a e f g is =
+    StartsView.started a
+    (subst (λ (s : RecordState). IsNewView s (min width 1000) (min height 1000) v) e
+    (subst (λ (k : ℕ). IsNewView given (min width 1000) k v) g (subst (λ (k : ℕ). IsNewView given k h v) f is)))
+
+pub view_starts_not : (width height : ℕ) (state : RecordState) (code : ℕ) → IsTrue (is_accepted_state state) → code ≡ 8
+    → StartsView width height (Building state) (Ended OutOfMemory) code
+view_starts_not width height state code a e = rw e (StartsView.no_memory a)
+
+pub view_starts_at : (width height : ℕ) (old new : Stage) (state : RecordState) (k : Stage) (code : ℕ) → old ≡ Building state → new ≡ k
+    → StartsView width height (Building state) k code → StartsView width height old new code
+view_starts_at width height old new state k code e f s = rw (e, f) s
+
+pub view_stays : (width height : ℕ) (old new : Stage) → new ≡ old → is_building old ≡ false → StartsView width height old new 2
+view_stays width height old new e f = rw e (StartsView.not_building f)
+
+pub layer_starts : (width height : ℕ) (old new : Option OpenSession) (h before k : OpenSession) (code : ℕ) → old ≡ Some h → before ≡ h → new ≡ Some k
+    → StartsView width height before.stage k.stage code → k.decoder ≡ before.decoder → k.painter ≡ before.painter → StartsLayer width height old new code
+layer_starts width height old new h before k code e f g s d p =
+    rw (e, g) (StartsLayer.open_one (subst (λ (x : OpenSession). StartsView width height x.stage k.stage code) f s)
+    (d ∙ ap (λ (x : OpenSession). x.decoder) f) (p ∙ ap (λ (x : OpenSession). x.painter) f))
+
+pub closed_layer_starts : (width height : ℕ) (old new : Option OpenSession) → old ≡ None → new ≡ None → StartsLayer width height old new 1
+closed_layer_starts width height old new e f = rw (e, f) StartsLayer.closed
+
+pub no_memory_as : (json : List ℕ) (code : ℕ) → IsTrue (is_utf8 json) → code ≡ 8 → IsCode (is_utf8 json) (code_of_json json) code
+no_memory_as json code u e = rw e (IsCode.no_memory u)
+
+pub begins_layer : (json : List ℕ) (width height w h : ℕ) (given : RecordState) (v : Seen) (inner : OpenSession)
+    → option_and_then state_of (read json) ≡ Some given → IsTrue (is_accepted_state given) → inner.stage ≡ Waiting (running.Layered v)
+    → w ≡ min width 1000 → h ≡ min height 1000 → IsNewView given w h v
+    → HasHeard inner.decoder false [] → AreNew inner.painter → BeginsLayer json width height inner
+begins_layer json width height w h given v inner form a s e f is heard painter = record {
+  given = given;
+  form = form;
+  accepted = a;
+  view = v;
+  begun = s;
+  new_view = subst (λ (k : ℕ). IsNewView given (min width 1000) k v) f (subst (λ (k : ℕ). IsNewView given k h v) e is);
+  unheard = heard;
+  unpainted = painter;
+}
+
+-- what a session is painted with
+
+pub painters_change : (Goes : Painters → Painters → Type 0) (old new : Option OpenSession) (h before k : OpenSession)
+    → old ≡ Some h → before ≡ h → new ≡ Some k → Goes before.painter k.painter → k.stage ≡ before.stage → k.decoder ≡ before.decoder
+    → ChangesPainters Goes old new
+painters_change Goes old new h before k e f g goes s d =
+    rw (e, g) (changes_painters (subst (λ (x : OpenSession). Goes x.painter k.painter) f goes) (s ∙ ap (λ (x : OpenSession). x.stage) f) (d ∙ ap (λ (x : OpenSession). x.decoder) f))
+
+pub number_code : {A : Type 0} (given : Option A) (value : A) (code answer : ℕ) → given ≡ Some value → answer ≡ code → answer ≡ code_of_number given code
+number_code given value code answer e f = rw e f
+
+pub no_number_code : {A : Type 0} (given : Option A) (code : ℕ) → given ≡ None → 10 ≡ code_of_number given code
+no_number_code given code e = rw e refl
+
+pub has_theme : (given : Option Theme) (theme : Theme) (old new : Option OpenSession) → given ≡ Some theme → ChangesPainters (HaveTheme theme) old new → HasTheme given old new
+has_theme given theme old new e goes = rw e goes
+
+-- the start
+
+sets-by : (v : Seen) (r : Result ViewTurn RecordError) (o : Option Stage) → IfSome o (λ x. x ≡ stage_of_view r)
+    → IfOk r (λ turn. ViewSets v turn) → IfErr r (λ e. FrontFails v.front e) → SetsStart (Waiting (running.Layered v)) (or_ended o)
+sets-by v (Ok turn) (Some x) e h k = rw e (SetsStart.turned turn h)
+sets-by v (Err error) (Some x) e h k = rw e (SetsStart.failed k)
+sets-by v r None e h k = SetsStart.failed (SessionFails.refused refl)
+
+pub sets : (v w : Seen) (r : Result ViewTurn RecordError) (o : Option Stage) (s : Running) (new : Stage) → s ≡ running.Layered v → w ≡ v
+    → IfSome o (λ x. x ≡ stage_of_view r) → new ≡ or_ended o → IfOk r (λ turn. ViewSets w turn) → IfErr r (λ e. FrontFails w.front e) → SetsStart (Waiting s) new
+sets v w r o s new e same is f h k =
+    rw (e, f) (subst (λ (x : Seen). SetsStart (Waiting (running.Layered x)) (or_ended o)) same (sets-by w r o is h k))
+
+-- keys
+
+pub sets_keys : (list : List OwnKey) (old new : Running) (v next : Seen) → old ≡ running.Layered v → new ≡ running.Layered next
+    → next.front ≡ record v.front { kept = record v.front.kept { keys = list } } → next.pane ≡ v.pane → SetsKeys list (Waiting old) (Waiting new)
+sets_keys list old new v next e f g h =
+    let keyed : Front = record v.front { kept = record v.front.kept { keys = list } } in
+    let same : ◌≡◌ {A = Seen} (record { front = next.front; pane = next.pane }) (record { front = keyed; pane = v.pane }) =
+    ap (λ (x : Front). seen x next.pane) g ∙ ap (λ (p : Pane). seen keyed p) h in
+    rw (e, f) (subst (λ (x : Seen). SetsKeys list (Waiting (running.Layered v)) (Waiting (running.Layered x))) (sym same) SetsKeys.keys_set)

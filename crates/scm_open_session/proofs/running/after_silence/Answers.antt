@@ -1,0 +1,12 @@
+use Rattle.scm_open_session.proofs.StageLemmas.{idles, view-idles}
+use Rattle.scm_open_session.proofs.running.after_silence.Goals as goal
+
+pub returns-in-Plain : goal.returns-in-Plain
+returns-in-Plain c =
+    idles c.args.decoder.now c.idle.new.decoder c.in-Plain.session c.idle.result c.args.session c.stage_of.result
+    c.in-Plain.is c.stage_of.ensures c.idle.ensures.ok c.idle.ensures.err
+
+pub returns-in-Layered : goal.returns-in-Layered
+returns-in-Layered c =
+    view-idles c.args.decoder.now c.idle-in-Layered.new.decoder c.in-Layered.layer c.into_view.result c.idle-in-Layered.result c.stage_of_view.result c.args.session c.or_ended.result
+    c.in-Layered.is c.into_view.ensures c.stage_of_view.ensures c.or_ended.ensures c.idle-in-Layered.ensures.ok c.idle-in-Layered.ensures.err

@@ -1,0 +1,146 @@
+//! Calls of a layer. Each returns its code.
+ghost use Rattle.std.specs.Prelude.{◌≡◌, ◌<◌, None, true};
+ghost use Rattle.std.specs.Str.{is_utf8};
+ghost use Rattle.scm_open_session.specs.Boxes.{box_value};
+ghost use Rattle.scm_open_session.specs.LayerCalls.{BeginsLayer, ChangesPainters, HasTheme, SetsStart, StartsLayer, code_of_layer, code_of_number, is_view};
+ghost use Rattle.scm_open_session.specs.Layered.{folds_of, theme_of};
+ghost use Rattle.scm_open_session.specs.OwnKeys.{HasKeys, SetsKeys, code_of_keys, keys_of_bytes};
+ghost use Rattle.scm_open_session.specs.Painters.{HaveTheme, HaveWords};
+ghost use Rattle.scm_open_session.specs.Results.{IsCode, code_of_json, code_of_message, code_where, is_message};
+ghost use Rattle.scm_open_session.specs.Stages.{ChangesStage, IsOpenAt};
+
+use crate::calls::{done_or_not_now, message_of};
+use crate::codes;
+use crate::layer::{folds_of, theme_of};
+use crate::layered::item_of_key;
+use crate::open_session::{OpenSession, Session};
+use crate::own_keys::keys_of;
+use crate::owners::Key;
+use scm_front::{Folds, OwnKey};
+use scm_front_paint::Theme;
+use scm_record::{Items, OwnedText, SelectionKey};
+use std::alloc::Global;
+
+/// Returns a session with a layer over the state with the JSON form `json`, and the code of the call. Its
+/// terminal has `width` columns and `height` rows. A failed call returns a closed session.
+pub fn open(alloc: Global, json: &[u8], width: u16, height: u16) -> (Session, u32)
+    ensures code { IsCode (is_utf8 json.now) (code_of_json json.now) result.1 }
+    ensures begun { result.1 ≡ 0
+        → IsOpenAt (BeginsLayer json.now width height) (box_value result.0) }
+    ensures refused { 0 < result.1 → box_value result.0 ≡ None }
+{
+    match OpenSession::layered(alloc, json, width, height) {
+        Ok(inner) => (Some(inner), codes::DONE),
+        Err(code) => (None, code),
+    }
+}
+
+/// Begins the session with the state that is made and with a layer, on a terminal of `width` columns and
+/// `height` rows. Returns the code of the call.
+pub fn begin(alloc: Global, session: &mut Session, width: u16, height: u16) -> u32
+    ensures { StartsLayer width height (box_value session.old) (box_value session.new) result }
+{
+    match session {
+        Some(inner) => inner.begin_layer(alloc, width, height),
+        None => codes::CLOSED,
+    }
+}
+
+/// Sets the theme of the layer to that with the number `code`. Returns the code of the call.
+pub fn set_theme(alloc: Global, session: &mut Session, code: u32) -> u32
+    ensures code { result ≡ code_of_number (theme_of code)
+        (code_of_layer (box_value session.old)) }
+    ensures themed { result ≡ 0
+        → HasTheme (theme_of code) (box_value session.old) (box_value session.new) }
+    ensures kept { 0 < result → box_value session.new ≡ box_value session.old }
+{
+    match theme_of(code) {
+        Some(theme) => paint_in(alloc, session, theme),
+        None => codes::NO_NUMBER,
+    }
+}
+
+/// Sets the theme of the layer. Returns the code of the call.
+fn paint_in(alloc: Global, session: &mut Session, theme: Theme) -> u32
+    ensures code { result ≡ code_of_layer (box_value session.old) }
+    ensures themed { result ≡ 0 → ChangesPainters (HaveTheme theme)
+        (box_value session.old) (box_value session.new) }
+    ensures kept { 0 < result → box_value session.new ≡ box_value session.old }
+{
+    match session {
+        Some(inner) => done_or_not_now(inner.set_theme(alloc, theme)),
+        None => codes::CLOSED,
+    }
+}
+
+/// Sets the words by which the status row says what accepting does. Returns the code of the call.
+pub fn name_accepting(alloc: Global, session: &mut Session, text: &[u8]) -> u32
+    ensures code { IsCode (is_message text.now)
+        (code_of_message text.now (code_of_layer (box_value session.old))) result }
+    ensures named { result ≡ 0 → ChangesPainters (HaveWords text.now)
+        (box_value session.old) (box_value session.new) }
+    ensures kept { 0 < result → box_value session.new ≡ box_value session.old }
+{
+    let words = match message_of(alloc, text) {
+        Ok(words) => words,
+        Err(code) => return code,
+    };
+    match session {
+        Some(inner) => done_or_not_now(inner.name_accepting(OwnedText::from(words))),
+        None => codes::CLOSED,
+    }
+}
+
+/// Unfolds what the number `code` says, and selects what `key` names. Returns the code of the call.
+pub fn start(session: &mut Session, code: u32, key: &Key) -> u32
+    ensures code { result ≡ code_of_number (folds_of code)
+        (code_where is_view (box_value session.old)) }
+    ensures set { result ≡ 0
+        → ChangesStage SetsStart (box_value session.old) (box_value session.new) }
+    ensures kept { 0 < result → box_value session.new ≡ box_value session.old }
+{
+    match folds_of(code) {
+        Some(folds) => start_at(session, folds, item_of_key(key)),
+        None => codes::NO_NUMBER,
+    }
+}
+
+/// Unfolds what `folds` says, and selects `first`. Returns the code of the call.
+fn start_at(session: &mut Session, folds: Folds, first: SelectionKey) -> u32
+    ensures code { result ≡ code_where is_view (box_value session.old) }
+    ensures set { result ≡ 0
+        → ChangesStage SetsStart (box_value session.old) (box_value session.new) }
+    ensures kept { 0 < result → box_value session.new ≡ box_value session.old }
+{
+    match session {
+        Some(inner) => done_or_not_now(inner.start(folds, first)),
+        None => codes::CLOSED,
+    }
+}
+
+/// Sets the keys of the user's own to those of `text`. Returns the code of the call.
+pub fn set_keys(alloc: Global, session: &mut Session, text: &[u8]) -> u32
+    ensures code { IsCode true
+        (code_of_keys (keys_of_bytes text.now) (box_value session.old)) result }
+    ensures set { result ≡ 0 → HasKeys (keys_of_bytes text.now)
+        (box_value session.old) (box_value session.new) }
+    ensures kept { 0 < result → box_value session.new ≡ box_value session.old }
+{
+    match keys_of(alloc, text) {
+        Ok(keys) => take_keys(session, Items::from(keys)),
+        Err(code) => code,
+    }
+}
+
+/// Sets the keys of the user's own. Returns the code of the call.
+fn take_keys(session: &mut Session, keys: Items<OwnKey>) -> u32
+    ensures code { result ≡ code_where is_view (box_value session.old) }
+    ensures set { result ≡ 0
+        → ChangesStage (SetsKeys keys) (box_value session.old) (box_value session.new) }
+    ensures kept { 0 < result → box_value session.new ≡ box_value session.old }
+{
+    match session {
+        Some(inner) => done_or_not_now(inner.set_keys(keys)),
+        None => codes::CLOSED,
+    }
+}

@@ -1,0 +1,129 @@
+//! What a session is painted with: its painters, and the words of what accepting does.
+ghost use Rattle.std.specs.Prelude.{◌≡◌, IfNone, IfSome, string_bytes};
+ghost use Rattle.scm_open_session.specs.Painters.{AreNew, Forget, HaveTheme, HaveWords};
+ghost use Rattle.scm_open_session.specs.Paint.{ShowsPlain, ShowsRunning, ShowsView, as_update};
+
+use crate::boxed::BoxedPainter;
+use crate::running::Running;
+use scm_front_paint::{Theme, View};
+use scm_record::{LiveSession, OwnedText, Painter};
+use std::alloc::Global;
+
+/// What a session is painted with.
+#[derive(Drop)]
+pub struct Painters {
+    /// The painter of a session without a layer, which knows what the terminal shows.
+    pub plain: Painter,
+    /// The painter of a session with a layer, which knows what the terminal shows.
+    pub layered: BoxedPainter,
+    /// The colours of a layer.
+    pub theme: Theme,
+    /// What the status row of a layer says that accepting does.
+    pub accept: OwnedText,
+}
+
+/// Returns `bytes` as one synchronized update of the terminal, with no style set at its end.
+/// Returns `None` if an allocation failed.
+#[tactic(auto, unfolding(scm_terminal::specs::Style::style_bytes))]
+fn update_of(alloc: Global, bytes: &str) -> Option<String>
+    ensures { IfSome result (λ update. string_bytes update ≡ as_update bytes.now) }
+{
+    let mut update = String::new(alloc);
+    update.push_str("\x1b[?2026h").ok()?;
+    update.push_str(bytes).ok()?;
+    update.push_str("\x1b[0m\x1b[?2026l").ok()?;
+    Some(update)
+}
+
+impl Painters {
+    /// Returns the painters of a new session: dark, and without words of what accepting does.
+    /// Returns `None` if an allocation failed.
+    pub fn new(alloc: Global) -> Option<Painters>
+        ensures { IfSome result (λ painters. AreNew painters) }
+    {
+        let layered = BoxedPainter::new(alloc, Theme::Dark)?;
+        Some(Painters {
+            plain: Painter::new(alloc),
+            layered,
+            theme: Theme::Dark,
+            accept: OwnedText::from(String::new(alloc)),
+        })
+    }
+
+    /// Paints a layer in the colours of `theme` from now on. The next update of a layer has every row.
+    pub fn set_theme(&mut self, alloc: Global, theme: Theme)
+        ensures { HaveTheme theme self.old self.new }
+    {
+        self.layered.restart(alloc, theme);
+        self.theme = theme;
+    }
+
+    /// Says from now on by `text` what accepting does.
+    pub fn name_accepting(&mut self, text: OwnedText)
+        ensures { HaveWords text self.old self.new }
+    {
+        self.accept = text;
+    }
+
+    /// Forgets what was painted, so that the next update has every row.
+    pub fn forget(&mut self, alloc: Global)
+        ensures { Forget self.old self.new }
+    {
+        self.plain.forget();
+        self.layered.restart(alloc, self.theme);
+    }
+
+    /// Returns the update that makes the terminal show `session`, if it shows what was painted last.
+    /// Returns `None` if an allocation failed.
+    fn plain_update(&mut self, alloc: Global, session: &LiveSession<'static>) -> Option<String>
+        ensures shown { IfSome result (λ update.
+            ShowsPlain session.now self.old self.new (string_bytes update)) }
+        ensures theme { self.new.theme ≡ self.old.theme }
+        ensures accept { self.new.accept ≡ self.old.accept }
+    {
+        let bytes = session.paint(&mut self.plain).ok()?;
+        update_of(alloc, &bytes)
+    }
+
+    /// Returns the update that makes the terminal show `view`, if it shows what was painted last. Returns
+    /// `None` if an allocation failed.
+    fn view_update(&mut self, alloc: Global, view: &View<'static>) -> Option<String>
+        ensures shown { IfSome result (λ update.
+            ShowsView view.now self.old self.new (string_bytes update)) }
+        ensures theme { self.new.theme ≡ self.old.theme }
+        ensures accept { self.new.accept ≡ self.old.accept }
+    {
+        let bytes = self.layered.paint(view, self.accept.as_str())?;
+        update_of(alloc, &bytes)
+    }
+
+    /// Returns the update that makes the terminal show `session`, if it shows what was painted last.
+    /// Returns `None` if an allocation failed.
+    fn try_update(&mut self, alloc: Global, session: &Running) -> Option<String>
+        ensures shown { IfSome result (λ update.
+            ShowsRunning session.now self.old self.new (string_bytes update)) }
+        ensures theme { self.new.theme ≡ self.old.theme }
+        ensures accept { self.new.accept ≡ self.old.accept }
+    {
+        match session {
+            Running::Plain(session) => self.plain_update(alloc, session),
+            Running::Layered(layer) => self.view_update(alloc, layer.read()),
+        }
+    }
+
+    /// Returns the update that makes the terminal show `session`, if it shows what was painted last.
+    /// Returns `None` if an allocation failed: then nothing counts as painted.
+    pub fn update(&mut self, alloc: Global, session: &Running) -> Option<String>
+        ensures shown { IfSome result (λ update.
+            ShowsRunning session.now self.old self.new (string_bytes update)) }
+        ensures forgotten { IfNone result (Forget self.old self.new) }
+    {
+        match self.try_update(alloc, session) {
+            Some(update) => Some(update),
+            None => {
+                self.forget(alloc);
+                None
+            }
+        }
+    }
+}
