@@ -22,12 +22,15 @@ import os
 import signal
 from typing import List, NamedTuple, Optional, Tuple, Union
 
-CODES = "done closed not_now no_word not_text bad_state not_accepted too_long no_memory no_item".split()
+CODES = "done closed not_now no_word not_text bad_state not_accepted too_long no_memory no_item no_number no_key".split()
 WAITING, EDITING, ACCEPTED, ENDED, NONE, BUILDING = range(6)
 UNCHANGED, TEXT, BINARY = range(3)
 UNCHECKED, PARTLY, CHECKED = range(3)
 # how a session ended
 ENDS = "not_ended accepted cancelled no_memory set_up clean_up render read serialize write other bug".split()
+# the colours of a layer, and what it unfolds at the start
+THEMES = "dark light sixteen none".split()
+FOLDS = "as_it_is all_folded all_open open_if_it_fits".split()
 # the mode of a file that does not exist, and an index that names nothing
 ABSENT = NO_INDEX = ctypes.c_size_t(-1).value
 
@@ -82,13 +85,14 @@ def open_library(path: str) -> ctypes.CDLL:
 
 
 # the arguments of each call behind its session: B is a bool, T a text or room for one, N a size or an index, H a number of 16
-# bits, I a file, and P a pointer to what the call writes
+# bits, U one of 32, I a file, and P a pointer to what the call writes or to a key
 CALLS = dict(call.split(":") for call in """
     state_new:B state_message:TN state_commit: state_file:TNTNN state_context:TN state_changes:BBTN state_line:BBBTN state_section:B
     state_mode:BN state_binary:BTNTN state_texts:TNTNTNNTNN begin:HH new:TNHH stage: end: type:TN type_to_key:TNPP idle: press:TN press_all:TN
     decode:TNTNP decode_idle:TNP click:HH answer:TN resize:HH paint:TNP repaint: owner:HHP selected:P symbol:HHTN text:TNP files:P
-    side:NBTNP side_bytes:NBTNP mark:PP marks:NTNP line:PTNP message:NTNP run:IT free:""".split())
-TYPES = {"B": ctypes.c_bool, "T": ctypes.c_char_p, "N": ctypes.c_size_t, "H": ctypes.c_uint16, "I": ctypes.c_int, "P": ctypes.c_void_p}
+    side:NBTNP side_bytes:NBTNP mark:PP marks:NTNP line:PTNP message:NTNP run:IT free: begin_layer:HH new_layer:TNHH theme:U
+    accept_text:TN start:UP keys:TN""".split())
+TYPES = {"B": ctypes.c_bool, "T": ctypes.c_char_p, "N": ctypes.c_size_t, "H": ctypes.c_uint16, "U": ctypes.c_uint32, "I": ctypes.c_int, "P": ctypes.c_void_p}
 
 library = open_library(library_path())
 for name, letters in CALLS.items():
@@ -122,9 +126,9 @@ class Session:
         self.call("state_new", ctypes.c_bool(is_read_only))
 
     @classmethod
-    def of_json(cls, json: Text, width: int, height: int) -> "Session":
+    def of_json(cls, json: Text, width: int, height: int, has_layer: bool = False) -> "Session":
         session = cls()
-        session.call("new", *sized(json), ctypes.c_uint16(width), ctypes.c_uint16(height))
+        session.call("new_layer" if has_layer else "new", *sized(json), ctypes.c_uint16(width), ctypes.c_uint16(height))
         return session
 
     def __enter__(self) -> "Session":
@@ -191,6 +195,29 @@ class Session:
 
     def begin(self, width: int, height: int) -> None:
         self.call("begin", ctypes.c_uint16(width), ctypes.c_uint16(height))
+
+    # ---- a layer over the session
+
+    def begin_layer(self, width: int, height: int) -> None:
+        """Begins the session with a layer: a status row, search, ranges, undo, columns to the right, and colours of another theme."""
+        self.call("begin_layer", ctypes.c_uint16(width), ctypes.c_uint16(height))
+
+    def paint_in(self, theme: str) -> None:
+        """Has the layer paint in the colours of one of `THEMES`."""
+        self.call("theme", ctypes.c_uint32(THEMES.index(theme)))
+
+    def say_of_accepting(self, text: Text) -> None:
+        """Sets the words by which the status row says what accepting does, as "c commits"."""
+        self.call("accept_text", *sized(text))
+
+    def start(self, folds: str = "as_it_is", first: Optional[Key] = None) -> None:
+        """Unfolds what `folds` says, one of `FOLDS`, and selects an item."""
+        key = Key(*[NO_INDEX] * 4) if first is None else first
+        self.call("start", ctypes.c_uint32(FOLDS.index(folds)), ctypes.byref(key))
+
+    def set_keys(self, text: Text) -> None:
+        """Sets the keys of the user's own: parts KEY=WORD, separated by spaces, as "ctrl-n=j x=undo"."""
+        self.call("keys", *sized(text))
 
     # ---- the user's input, and the screen
 
@@ -272,9 +299,14 @@ class Session:
         if ended_by < 0:
             raise OSError(error, os.strerror(error))
 
-    def choose(self, title: Optional[str] = None) -> str:
-        """Begins the session, has the user choose on the program's terminal, and returns how it ended: one of `ENDS`."""
-        self.begin(80, 24)
+    def choose(self, title: Optional[str] = None, has_layer: bool = False) -> str:
+        """Begins the session, has the user choose on the program's terminal, and returns how it ended: one of `ENDS`. With a layer it
+        has no colours if the environment has NO_COLOR."""
+        if has_layer:
+            self.begin_layer(80, 24)
+            self.paint_in("none" if os.environ.get("NO_COLOR") else "dark")
+        else:
+            self.begin(80, 24)
         self.run(title=title)
         return self.end
 

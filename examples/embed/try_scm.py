@@ -75,7 +75,39 @@ def read_answers(session):
     assert refused(session.marks, 3) == refused(session.line, 0, 0, 0) == "no_item"
 
 
+def drive_a_layer():
+    with scm.Session() as session:
+        session.add_file("f", 0o100644)
+        session.add_changes("one\ntwo\nthree\n", True)
+        assert refused(session.paint_in, "light") == refused(session.set_keys, "x=undo") == "not_now"
+        session.begin_layer(60, 10)
+        assert refused(session.begin_layer, 60, 10) == "not_now" and refused(session.set_keys, "x=undo x") == "no_key"
+        session.paint_in("none")
+        session.say_of_accepting("c stages")
+        session.set_keys("x=undo ctrl-n=j")
+        session.start("all_open", scm.Key(0, 0, 0, 0))
+        assert session.selected.line == 0 and b"c stages" in session.paint() and session.owner(9, 0)[0] == "nobody"
+        session.type("v\x0e ")
+        assert session.marks(0) == [True, True, False]
+        session.type("x")
+        assert session.marks(0) == [False, False, False]
+        # while a text is asked for, no key is told
+        typed, told = b"/th\x0cree\r\t", []
+        while typed:
+            taken, key = session.type_to_key(typed)
+            typed, told = typed[taken:], [*told, key]
+        assert session.selected.line == 2 and [key for key in told if key] == [9]
+        session.press("space", "c")
+        assert session.end == "accepted" and session.marks(0) == [False, False, True] and refused(session.paint_in, "dark") == "not_now"
+    with scm.Session.of_json(json.dumps(WANTED), 80, 24, has_layer=True) as session:
+        assert session.symbol(23, 0) == "" and session.text().count("\n") == 23
+        session.start()
+        session.type("\x03\x03")
+        assert session.end == "cancelled"
+
+
 def main():
+    drive_a_layer()
     with scm.Session() as session:
         assert session.stage == scm.BUILDING and len(session) == 0
         assert refused(session.add_context, "a") == "no_item"

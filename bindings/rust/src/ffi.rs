@@ -65,6 +65,12 @@ extern "C" {
     pub fn scm_state_texts(session: Session, path: Bytes, length: usize, old_path: Bytes, old_length: usize, old: Bytes, old_size: usize, old_mode: usize, new: Bytes, new_size: usize, new_mode: usize) -> u32;
     pub fn scm_begin(session: Session, width: u16, height: u16) -> u32;
     pub fn scm_new(session: Session, json: Bytes, length: usize, width: u16, height: u16) -> u32;
+    pub fn scm_begin_layer(session: Session, width: u16, height: u16) -> u32;
+    pub fn scm_new_layer(session: Session, json: Bytes, length: usize, width: u16, height: u16) -> u32;
+    pub fn scm_theme(session: Session, theme: u32) -> u32;
+    pub fn scm_accept_text(session: Session, text: Bytes, length: usize) -> u32;
+    pub fn scm_start(session: Session, folds: u32, first: *const Key) -> u32;
+    pub fn scm_keys(session: Session, text: Bytes, length: usize) -> u32;
     pub fn scm_stage(session: Asked) -> u32;
     pub fn scm_end(session: Asked) -> u32;
     pub fn scm_type(session: Session, bytes: Bytes, length: usize) -> u32;

@@ -54,10 +54,14 @@ pub enum Error {
     NoMemory,
     /// The state has no such file, section, line or commit.
     NoItem,
+    /// The number stands for nothing that the call takes.
+    NoNumber,
+    /// A part of the text is no key with what it does.
+    NoKey,
 }
 
 /// The errors, by their codes from 1 on.
-const ERRORS: [Error; 9] = [
+const ERRORS: [Error; 11] = [
     Error::Closed,
     Error::NotNow,
     Error::NoWord,
@@ -67,6 +71,8 @@ const ERRORS: [Error; 9] = [
     Error::TooLong,
     Error::NoMemory,
     Error::NoItem,
+    Error::NoNumber,
+    Error::NoKey,
 ];
 
 impl fmt::Display for Error {
@@ -97,6 +103,32 @@ pub enum Stage {
     Closed,
     /// Additions to its state, and [`Session::begin`].
     Building,
+}
+
+/// The colours in which a layer is painted.
+#[derive(Clone, Copy, Debug, Eq, Hash, PartialEq)]
+pub enum Theme {
+    /// For a dark background, as without a layer.
+    Dark,
+    /// For a light background.
+    Light,
+    /// Sixteen colours: each colour is the bright one.
+    Sixteen,
+    /// None: bold, underlined and reversed alone.
+    NoColours,
+}
+
+/// What a layer unfolds at the start.
+#[derive(Clone, Copy, Debug, Eq, Hash, PartialEq)]
+pub enum Folds {
+    /// What is unfolded already.
+    AsTheyAre,
+    /// Nothing.
+    Folded,
+    /// Everything.
+    Open,
+    /// Everything, if the screen then shows all of it; or else what is unfolded already.
+    OpenIfItFits,
 }
 
 /// How a session ended.
@@ -568,6 +600,68 @@ impl Session {
         done(unsafe { ffi::scm_begin(self.at(), width, height) })
     }
 
+    // ---- a layer over the session
+
+    /// Begins the session as [`begin`](Session::begin) does, with a layer: a status row, search, ranges, undo, columns to the
+    /// right, and colours of another theme. The last row of the terminal is the status row.
+    ///
+    /// # Errors
+    ///
+    /// Those of [`begin`](Session::begin).
+    pub fn begin_layer(&mut self, width: u16, height: u16) -> Result<(), Error> {
+        done(unsafe { ffi::scm_begin_layer(self.at(), width, height) })
+    }
+
+    /// Returns a session as [`of_json`](Session::of_json) does, with a layer.
+    ///
+    /// # Errors
+    ///
+    /// Those of [`of_json`](Session::of_json).
+    pub fn layer_of_json(json: &str, width: u16, height: u16) -> Result<Session, Error> {
+        let session = Session::closed();
+        let (text, length) = sized(json);
+        done(unsafe { ffi::scm_new_layer(session.at(), text, length, width, height) })?;
+        Ok(session)
+    }
+
+    /// Has the layer paint in the colours of `theme`.
+    ///
+    /// # Errors
+    ///
+    /// `NotNow` if there is no layer.
+    pub fn set_theme(&mut self, theme: Theme) -> Result<(), Error> {
+        done(unsafe { ffi::scm_theme(self.at(), theme as u32) })
+    }
+
+    /// Sets the words by which the status row says what accepting does, as "c commits".
+    ///
+    /// # Errors
+    ///
+    /// `TooLong`, `NotNow` if there is no layer, or `NoMemory`.
+    pub fn set_accept_text(&mut self, text: &str) -> Result<(), Error> {
+        let (text, length) = sized(text);
+        done(unsafe { ffi::scm_accept_text(self.at(), text, length) })
+    }
+
+    /// Unfolds what `folds` says, and selects the item that `first` names, if there is one.
+    ///
+    /// # Errors
+    ///
+    /// `NotNow` if the session has no layer or waits for no event.
+    pub fn start(&mut self, folds: Folds, first: Key) -> Result<(), Error> {
+        done(unsafe { ffi::scm_start(self.at(), folds as u32, &first.into()) })
+    }
+
+    /// Sets the keys of the user's own, in place of those before: parts `KEY=WORD`, separated by spaces. `scm.h` names the words.
+    ///
+    /// # Errors
+    ///
+    /// `NoKey`, `NotNow` if the session has no layer or waits for no event, or `NoMemory`.
+    pub fn set_keys(&mut self, text: &str) -> Result<(), Error> {
+        let (text, length) = sized(text);
+        done(unsafe { ffi::scm_keys(self.at(), text, length) })
+    }
+
     // ---- the user's input
 
     /// Returns what the session waits for.
@@ -651,7 +745,8 @@ impl Session {
     }
 
     /// Handles `bytes`, which a terminal sent, up to the first key that means nothing to a session, and returns how many bytes that
-    /// were, and the key: its character, or of a letter with control 1 to 26. So a program can have keys of its own.
+    /// were, and the key: its character, or of a letter with control 1 to 26. So a program can have keys of its own. While a layer asks
+    /// for a text, no key is returned, also where bytes are left.
     ///
     /// # Errors
     ///

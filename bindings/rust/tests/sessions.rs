@@ -1,7 +1,7 @@
 //! Sessions that a program drives itself.
 use scm_record::session::{
-    version, End, Error, Key, LineKind, Owner, SectionKind, Session, Side, SideContents, Stage,
-    Version,
+    version, End, Error, Folds, Key, LineKind, Owner, SectionKind, Session, Side, SideContents,
+    Stage, Theme, Version,
 };
 use scm_record::{ChangeType, Event, FileMode, Tristate};
 
@@ -74,6 +74,52 @@ fn a_program_has_keys_of_its_own() {
     assert_eq!(session.type_to_key(b"jk"), Ok((2, None)));
     assert_eq!(session.type_to_key(b"cx"), Ok((2, None)));
     assert_eq!(session.type_to_key(b"x"), Err(Error::NotNow));
+}
+
+#[test]
+fn a_layer_hears_the_terminal_first() {
+    let mut session = Session::new(false).unwrap();
+    session.add_file("f", None, MODE).unwrap();
+    session.add_lines(ADDED, "one\ntwo\nthree\n").unwrap();
+    assert_eq!(session.set_theme(Theme::Light), Err(Error::NotNow));
+    session.begin_layer(60, 10).unwrap();
+    assert_eq!(session.begin_layer(60, 10), Err(Error::NotNow));
+    assert_eq!(session.set_keys("x=undo x"), Err(Error::NoKey));
+    session.set_theme(Theme::NoColours).unwrap();
+    session.set_accept_text("c stages").unwrap();
+    session.set_keys("x=undo ctrl-n=j").unwrap();
+    let first = Key {
+        commit: Some(0),
+        ..key(Some(0), Some(0))
+    };
+    session.start(Folds::Open, first).unwrap();
+    assert_eq!(session.selected(), Ok(first));
+    let painted = String::from_utf8(session.paint().unwrap()).unwrap();
+    assert!(painted.contains("c stages"));
+    session.type_bytes(b"v\x0e ").unwrap();
+    assert_eq!(session.marks(0), Ok(vec![true, true, false]));
+    session.type_bytes(b"x").unwrap();
+    assert_eq!(session.marks(0), Ok(vec![false; 3]));
+    // while a text is asked for, no key is told
+    session.type_bytes(b"/th").unwrap();
+    assert_eq!(session.type_to_key(b"\x0cree"), Ok((1, None)));
+    session.type_bytes(b"ree\r ").unwrap();
+    assert_eq!(session.type_to_key(b"\t"), Ok((1, Some('\t'))));
+    session.press("c").unwrap();
+    assert_eq!(session.marks(0), Ok(vec![false, false, true]));
+    assert_eq!(
+        session.start(Folds::AsTheyAre, first),
+        Err(Error::NotNow)
+    );
+}
+
+#[test]
+fn a_state_in_json_has_a_layer() {
+    let json = r#"{"is_read_only":false,"commits":[{"message":null}],"files":[]}"#;
+    let mut session = Session::layer_of_json(json, 40, 8).unwrap();
+    assert_eq!(session.text().unwrap().lines().count(), 7);
+    session.press("q").unwrap();
+    assert_eq!(session.end(), Some(End::Cancelled));
 }
 
 #[test]
