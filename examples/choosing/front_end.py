@@ -34,11 +34,20 @@ KEYS = """Keys:
                             message is not empty (then Enter quits, and q goes
                             back)
   ?                         opens or closes the help, which names the keys
+  /                         searches for a text, downwards
+  n, N                      searches for it again, downwards or upwards
+  v                         begins a range at the selected line; ends it
+  Space                     while a range is begun: marks its lines, or takes
+                            their marks away, and ends it
+  Esc                       while a range is begun: ends it
+  u                         undoes the last change of marks
+  ctrl-r                    does again what was undone last
+  >, <                      shows the columns further right or left
 """
 # end of keys
 EPILOGUE = KEYS + """
 SELECT names another front end: a command that takes --changes, a file of changes, and a file to write to what was accepted. The
-man page of scm-select has their form."""
+man page of scm-select has their form, and says how to choose colours (SELECT_THEME, NO_COLOR) and keys (~/.config/gabrosty/keys)."""
 
 
 def say(text):

@@ -19,6 +19,7 @@ def can_be_shown(message):
 class Commit(Stage):
     done, nothing, no_change = "committed", "nothing was committed", "there is nothing to commit"
     words, does, too_long = ("git-select", "--commit"), "commits what is marked", "git shows it in its editor"
+    accepts = "commits"
 
     def check(self):
         self.repository.check_no_conflict()
@@ -123,6 +124,7 @@ class Commit(Stage):
 
 class Amend(Commit):
     words, does, too_long = ("git-select", "--amend"), "adds what is marked to the last commit", "it stays"
+    accepts = "amends"
 
     def check(self):
         super().check()
@@ -149,6 +151,8 @@ class Amend(Commit):
 
 
 class Fixup(Commit):
+    accepts = "commits a fixup"
+
     words = "git-select", "--fixup"
 
     def check(self):
@@ -170,6 +174,7 @@ class Fixup(Commit):
 class Split(Stage):
     done, nothing, no_change = "first", "nothing was split", "there is nothing to split: the last commit changes nothing"
     words, does = ("git-select", "--split"), "makes two commits of the last one: what is marked comes first"
+    accepts = "splits the commit"
 
     def check(self):
         self.repository.check_identity()

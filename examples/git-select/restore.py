@@ -23,6 +23,7 @@ def wanted_of(choice, now, made):
 class Restore(Way):
     done, nothing, no_change = "restored", "nothing was restored", "there is nothing to restore"
     words, does = ("git-select", "--restore"), "takes back what is marked"
+    accepts = "restores"
     side, now, goal = "unselected", "new", "old"
 
     def read(self, scratch):
@@ -75,6 +76,7 @@ class Restore(Way):
 class Stash(Restore):
     done, nothing, no_change = "stashed", "nothing was stashed", "there is nothing to stash"
     words, does = ("git-select", "--stash"), "stashes what is marked"
+    accepts = "stashes"
 
     def check(self):
         self.repository.check_no_conflict()

@@ -68,6 +68,7 @@ class Way:
 class Stage(Way):
     done, nothing, no_change = "staged", "nothing was staged", "there is nothing to stage"
     words, does = ("git-select",), "stages what is marked"
+    accepts = "stages"
 
     def read(self, scratch):
         return changed_in_tree(self.repository, scratch, self.options.paths, self.start)
@@ -110,6 +111,7 @@ class Stage(Way):
 class Unstage(Stage):
     done, nothing, no_change = "unstaged", "nothing was unstaged", "there is nothing to unstage"
     words, does = ("git-select", "--unstage"), "takes what is marked out of the index"
+    accepts = "unstages"
     side, now, goal = "unselected", "new", "old"
 
     def tree_before(self):

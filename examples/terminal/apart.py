@@ -1,4 +1,4 @@
-"""What keeps the tries apart from the user's settings of git, and from the rights of the one who runs them."""
+"""What keeps the tries apart from the user's settings of git and of the front end, and from the rights of the one who runs them."""
 import os
 import shutil
 import subprocess
@@ -6,6 +6,7 @@ import subprocess
 SETTINGS = {
     "GIT_CONFIG_NOSYSTEM": "1", "GIT_CONFIG_GLOBAL": os.devnull, "GIT_AUTHOR_NAME": "n", "GIT_AUTHOR_EMAIL": "e",
     "GIT_COMMITTER_NAME": "n", "GIT_COMMITTER_EMAIL": "e", "LC_ALL": "C.UTF-8",
+    "SELECT_LAYER": "off",
 }
 WITHOUT_RIGHTS = "setpriv", "--bounding-set", "-dac_override,-dac_read_search"
 

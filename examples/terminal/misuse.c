@@ -1,6 +1,7 @@
 /* Meets each refusal that the library for C has a code for, and looks each time that the session is as before then, and
  * goes on. It does nothing that scm.h forbids. It prints nothing, and stops at the first thing that is otherwise. */
 #undef NDEBUG
+#define _GNU_SOURCE
 #include "scm.h"
 
 #include <assert.h>
@@ -131,6 +132,20 @@ static void refuse_calls(uint32_t code) {
     refuse_paint(code == SCM_CLOSED ? SCM_CLOSED : SCM_DONE);
 }
 
+/* Every call of a layer, where there is none. */
+static void refuse_layer(uint32_t code) {
+    scm_key key = {SCM_NO_INDEX, SCM_NO_INDEX, SCM_NO_INDEX, SCM_NO_INDEX};
+    refused(scm_theme(&session, SCM_LIGHT), code);
+    refused(scm_theme(&session, SCM_NO_COLOURS + 1), SCM_NO_NUMBER);
+    refused(scm_accept_text(&session, "c stages", 8), code);
+    refused(scm_accept_text(&session, "\xff", 1), SCM_NOT_TEXT);
+    refused(scm_start(&session, SCM_ALL_OPEN, &key), code);
+    refused(scm_start(&session, SCM_OPEN_IF_IT_FITS + 1, &key), SCM_NO_NUMBER);
+    refused(scm_keys(&session, "x=undo", 6), code);
+    refused(scm_keys(&session, "x", 1), SCM_NO_KEY);
+    refused(scm_begin_layer(&session, WIDTH, HEIGHT), code);
+}
+
 static void close_session(void) {
     scm_free(&session);
     before = look();
@@ -161,8 +176,10 @@ static void decode(void) {
 static void refuse_where_closed(void) {
     close_session();
     refuse_calls(SCM_CLOSED);
+    refuse_layer(SCM_CLOSED);
     decode();
     done(begin(STATE), SCM_WAITING);
+    refuse_layer(SCM_NOT_NOW);
     decode();
     close_session();
     close_session();
@@ -283,6 +300,68 @@ static void take_bytes(void) {
     done(scm_idle(&session), SCM_WAITING);
     done(type("\x03\x03"), SCM_ENDED);
     assert(reads("cancelled by user"));
+}
+
+/* With a layer, keys, clicks and places are those of the terminal, whose last row is the status row. */
+static void take_layer(void) {
+    scm_key key = {0, 0, 0, 0};
+    char out[2048];
+    size_t length = strlen(STATE);
+    done(scm_new_layer(&session, STATE, length, WIDTH, HEIGHT + 1), SCM_WAITING);
+    assert(is_owner(2, 1, SCM_BUTTON, 0, SCM_NO_INDEX, SCM_NO_INDEX, SCM_NO_INDEX));
+    assert(owner(HEIGHT, 0).code == SCM_NOBODY && scm_symbol(&session, HEIGHT, 0, out, sizeof out) == 0);
+    refused(scm_begin_layer(&session, WIDTH, HEIGHT), SCM_NOT_NOW);
+    refused(scm_theme(&session, SCM_NO_COLOURS + 1), SCM_NO_NUMBER);
+    refused(scm_accept_text(&session, "\xff", 1), SCM_NOT_TEXT);
+    refused(scm_start(&session, SCM_OPEN_IF_IT_FITS + 1, &key), SCM_NO_NUMBER);
+    refused(scm_keys(&session, "x=undo x", 8), SCM_NO_KEY);
+    refused(scm_keys(&session, "=j", 2), SCM_NO_KEY);
+    refused(scm_theme(&session, SCM_NO_COLOURS), SCM_DONE);
+    refused(scm_accept_text(&session, "c stages", 8), SCM_DONE);
+    refused(scm_keys(&session, "ctrl-x=j  x=undo", 16), SCM_DONE);
+    done(scm_start(&session, SCM_ALL_OPEN, &key), SCM_WAITING);
+    assert(ask_selected(&key) == SCM_DONE && key.file == 0 && key.section == 0 && key.line == 0);
+    length = paint(out, sizeof out);
+    assert(length < sizeof out && memmem(out, length, "lines: 1", 8) != NULL);
+    assert(paint(out, sizeof out) < length);
+    done(scm_repaint(&session), SCM_WAITING);
+    assert(paint(out, sizeof out) >= length);
+    uint32_t mark = 77;
+    done(type(" "), SCM_WAITING);
+    assert(scm_mark(&session, &key, &mark) == SCM_DONE && mark == SCM_UNCHECKED);
+    done(type("x"), SCM_WAITING);
+    assert(scm_mark(&session, &key, &mark) == SCM_DONE && mark == SCM_CHECKED);
+    uint32_t own_key = 77;
+    size_t taken = 77;
+    done(type("/"), SCM_WAITING);
+    done(scm_type_to_key(&session, "\tF", 2, &taken, &own_key), SCM_WAITING);
+    assert(taken == 1 && own_key == 0);
+    done(type("F\r"), SCM_WAITING);
+    assert(ask_selected(&key) == SCM_DONE && key.line == 0);
+    done(scm_type_to_key(&session, "\tj", 2, &taken, &own_key), SCM_WAITING);
+    assert(taken == 1 && own_key == 9);
+    done(press_all("k k j"), SCM_WAITING);
+    done(scm_resize(&session, WIDTH + 4, HEIGHT + 3), SCM_WAITING);
+    done(type("e"), SCM_EDITING);
+    refused(scm_theme(&session, SCM_DARK), SCM_DONE);
+    refused(scm_keys(&session, "x=undo", 6), SCM_NOT_NOW);
+    done(answer("bye"), SCM_WAITING);
+    done(press("c"), SCM_ACCEPTED);
+    refuse_layer(SCM_NOT_NOW);
+    done(scm_state_new(&session, false), SCM_BUILDING);
+    refused(scm_theme(&session, SCM_DARK), SCM_NOT_NOW);
+    done(scm_begin_layer(&session, WIDTH, HEIGHT), SCM_WAITING);
+#ifdef __GLIBC__
+    is_refused = true;
+    uint32_t code_of_size = scm_resize(&session, UINT16_MAX, UINT16_MAX), code_of_keys = scm_keys(&session, "x=undo", 6);
+    uint32_t code_of_words = scm_accept_text(&session, "c", 1), code_of_paint = scm_paint(&session, out, sizeof out, &length);
+    is_refused = false;
+    refused(code_of_size, SCM_NO_MEMORY);
+    refused(code_of_keys, SCM_NO_MEMORY);
+    refused(code_of_words, SCM_NO_MEMORY);
+    refused(code_of_paint, SCM_NO_MEMORY);
+#endif
+    done(type("q"), SCM_ENDED);
 }
 
 /* A line is as it is handed in, and is read again; marks are those of the file, in its order. */
@@ -517,6 +596,7 @@ int main(void) {
     cut_text();
     tell_owners();
     take_bytes();
+    take_layer();
     tell_lines();
     take_texts();
     cut_window();

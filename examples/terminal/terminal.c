@@ -3,6 +3,7 @@
 #define _GNU_SOURCE
 #include "folders.h"
 #include "handed.h"
+#include "layer.h"
 
 #include <errno.h>
 #include <fcntl.h>
@@ -40,8 +41,18 @@ static const char HELP[] =
     "                            message is not empty (then Enter quits, and q goes\n"
     "                            back)\n"
     "  ?                         opens or closes the help, which names the keys\n"
+    "  /                         searches for a text, downwards\n"
+    "  n, N                      searches for it again, downwards or upwards\n"
+    "  v                         begins a range at the selected line; ends it\n"
+    "  Space                     while a range is begun: marks its lines, or takes\n"
+    "                            their marks away, and ends it\n"
+    "  Esc                       while a range is begun: ends it\n"
+    "  u                         undoes the last change of marks\n"
+    "  ctrl-r                    does again what was undone last\n"
+    "  >, <                      shows the columns further right or left\n"
     /* end of keys */
-    ;
+    "\nSELECT_THEME is dark, light, sixteen or none, and NO_COLOR none; SELECT_START is as-is, folded, open or fit. Keys of your own are in\n"
+    "~/.config/gabrosty/keys, one a line: \"ctrl-n j\". The man page says more.\n";
 
 enum { GIVEN_UP = 1, FAILED = 2 };
 
@@ -80,6 +91,7 @@ typedef struct task {
     bool is_as_json;
     const char *from, *to; /* the paths of what is shown; `to` is NULL for a state */
     const char *output;    /* the file to write to, or NULL for standard output */
+    layer layer;
     text bytes;            /* of the state, or of what was handed in */
     differing file;
     folders folders;
@@ -108,7 +120,7 @@ static void add(scm_session *session, change *change) {
 
 static void open_state(scm_session *session, task *task) {
     check(read_file(task->from, &task->bytes), task->from, NULL);
-    check_code(scm_new(session, task->bytes.bytes, task->bytes.length, 0, 0), task->from);
+    check_code(open_layer(session, &task->layer, &task->bytes, 0, 0), task->from);
 }
 
 static void open_files(scm_session *session, task *task) {
@@ -148,7 +160,7 @@ enum { WIDTH = 80, HEIGHT = 24 };
 
 /* Begins a session over the state that was made. */
 static void begin(scm_session *session, task *task) {
-    uint32_t code = scm_begin(session, WIDTH, HEIGHT);
+    uint32_t code = begin_layer(session, &task->layer, WIDTH, HEIGHT);
     check(code != SCM_NOT_ACCEPTED, task->to, "there are too many lines to be shown: hand in fewer files");
     check_code(code, task->to);
     if (task->form == HANDED_IN) {
@@ -259,6 +271,9 @@ static void write_accepted(scm_session *session, const task *task) {
 static int select_changes(scm_session *session, const task *task) {
     int terminal = open("/dev/tty", O_RDWR | O_CLOEXEC);
     check(terminal >= 0, "there is no terminal", NULL);
+    check_code(start_layer(session, &task->layer, terminal), "cannot go on");
+    const char *why = take_keys(session, &task->layer);
+    check(!why, "the keys of your own", why);
     bool is_there = run_in_terminal(session, terminal);
     if (scm_stage(session) != SCM_ACCEPTED) {
         return give_up(session, is_there);
@@ -297,6 +312,15 @@ static int read_options(int argc, char **argv, task *task) {
     return 0;
 }
 
+/* Reads the environment into `task`. */
+static void read_environment(task *task) {
+    const char *values = NULL, *name = read_layer(&task->layer, &values);
+    if (name) {
+        fprintf(stderr, NAME ": %s is %s: write %s\n", name, getenv(name), values);
+        exit(FAILED);
+    }
+}
+
 /* Reads the paths behind the options into `task`. */
 static void read_paths(int count, char **paths, task *task) {
     bool is_state = task->form == TWO_FILES && count == 1;
@@ -320,6 +344,7 @@ int main(int argc, char **argv) {
     read_paths(argc - optind, argv + optind, &task);
     check(task.output || task.form == TWO_FOLDERS || fcntl(STDOUT_FILENO, F_GETFD) >= 0, "standard output", NULL);
     fill_standard_files();
+    read_environment(&task);
     signal(SIGCHLD, SIG_DFL); /* else the editor's status would be lost */
     open_session(&session, &task);
     bool is_chosen = !has_nothing(&task);

@@ -74,14 +74,14 @@ class Screen:
 
 
 class Typed:
-    """A program that runs in a terminal of `width` columns and `height` rows."""
+    """A program that runs in a terminal of `width` columns and `height` rows. Its session has no layer, unless `environment` says so."""
 
     def __init__(self, command, width, height, environment=None, folder=None):
         self.process, self.terminal = pty.fork()
         if self.process == 0:
             fcntl.ioctl(1, termios.TIOCSWINSZ, struct.pack("HHHH", height, width, 0, 0))
             os.chdir(folder or ".")
-            os.execvpe(command[0], command, {**os.environ, **(environment or {})})
+            os.execvpe(command[0], command, {**os.environ, "SELECT_LAYER": "off", **(environment or {})})
         self.height = height
         self.seen = b""
         self.searched = 0

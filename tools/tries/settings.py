@@ -229,9 +229,25 @@ def a_message_beside_a_template(place):
     return status == 0 and repository.git("log", "-1", "--format=%B").strip() == "Fix it\n\n#1" and repository.is_sound()
 
 
+def with_the_layer(place):
+    """What fits on the screen is open, a search finds a line, a mark is undone and set again, and a key of the user's own accepts."""
+    repository = Repository(place, {"a": b"1\n2\n", "b": b"x\n"}, {"a": b"one\n2\n", "b": b"y\n"})
+    keys = os.path.join(place.folder("own"), "gabrosty", "keys")
+    os.makedirs(os.path.dirname(keys))
+    changed.write_file(keys, b"# my keys\nw c\n")
+    more = {"SELECT_LAYER": "on", "XDG_CONFIG_HOME": os.path.dirname(os.path.dirname(keys))}
+    # from the file to its section, which is open, and to the line that comes
+    words = ["j", "j", "j", "space", "u", "space", "/", "x", "enter", "space", "w"]
+    status, _ = repository.select(keys=words, **more)
+    found = [repository.git("show", ":" + path).encode() for path in ("a", "b")]
+    changed.write_file(keys, b"w nothing-known\n")
+    refused, said = repository.select(keys=[], **more)
+    return (status, found) == (0, [b"1\none\n2\n", b""]) and refused and "line 1" in said and repository.is_sound()
+
+
 ALL = (
     in_a_folder_with_a_strange_name, by_variables, with_the_files_elsewhere, with_long_names_of_objects,
     with_an_index_in_two_parts, with_a_sparse_index, what_the_working_tree_hides, modes_that_git_does_not_look_at,
     links_that_are_files, a_filter_in_both_ways, another_encoding, a_renamed_file_that_is_partly_staged, a_signed_commit,
-    hooks_around_a_commit, a_message_beside_a_template,
+    hooks_around_a_commit, a_message_beside_a_template, with_the_layer,
 )
