@@ -38,7 +38,11 @@ fn rectangles_are_joined(rt: HostRuntime) {
     check_equal(&rt, none, rect(5, 0, 0, 1));
     assert!(rt; none.is_empty());
     check_equal(&rt, WHOLE.union_bounding(rect(10, 10, 0, 3)), WHOLE);
-    check_equal(&rt, WHOLE.union_bounding(rect(6, 5, 1, 1)), rect(0, 0, 7, 6));
+    check_equal(
+        &rt,
+        WHOLE.union_bounding(rect(6, 5, 1, 1)),
+        rect(0, 0, 7, 6),
+    );
 }
 
 #[test]
@@ -294,7 +298,11 @@ fn check_blank(
     bytes: usize,
 ) -> Result<(), RecordError> {
     let grid = Grid::new(alloc, width, height)?;
-    check_equal(rt, (width, height, grid.view()?.len()), (width, height, bytes));
+    check_equal(
+        rt,
+        (width, height, grid.view()?.len()),
+        (width, height, bytes),
+    );
     Ok(())
 }
 
