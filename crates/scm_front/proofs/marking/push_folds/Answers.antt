@@ -1,6 +1,3 @@
-use Rattle.std.proofs.Common.{◌≡◌, ◌∙◌, List, ap, sym}
-use Rattle.scm_view.specs.ViewState.{ViewState}
-use Rattle.scm_front_items.specs.Plans.{file_folds, section_folds}
 use Rattle.scm_front.proofs.LineFoldLemmas.{file-folds-with, section-folds-with}
 use Rattle.scm_front.proofs.marking.push_folds.Goals as goal
 

@@ -13,7 +13,7 @@ returns-in_err-keys-clause-err c =
 
 pub returns-in_err-folds-clause-err : goal.returns-in_err-folds-clause-err
 returns-in_err-folds-clause-err c =
-    let p = err_from_is_err_and c.from_residual.result c.from_residual.ensures.1 in
+    let p = err_from_is_err_and c.from_residual-in_err-folds.result c.from_residual-in_err-folds.ensures.1 in
     rw (p.1, p.2) (refused c.in_err-folds.ensures.err)
 
 pub returns-in-Waiting-clause-ok : goal.returns-in-Waiting-clause-ok
