@@ -1,5 +1,5 @@
-/* Writes what a terminal is sent, and what it has to show then. It reads a script of the examples' form, `size W H`, a state,
- * `script`, and lines of these kinds:
+/* paint [WORDS]: writes what a terminal is sent, and what it has to show then. With WORDS the session has the layer, and its status row
+ * says them of accepting. It reads a script of the examples' form, `size W H`, a state, `script`, and lines of these kinds:
  *
  *   press WORD ..    hands in words
  *   type HEX         hands in bytes that a terminal sent
@@ -130,7 +130,16 @@ static void run_line(char *line) {
     print_frame(room);
 }
 
-int main(void) {
+/* Opens the session over the JSON of a state, with the layer if there are words for its status row. */
+static bool is_opened(const char *json, size_t length, const char *words) {
+    uint16_t columns = (uint16_t)width, rows = (uint16_t)height;
+    if (!words) {
+        return scm_new(&session, json, length, columns, rows) == SCM_DONE;
+    }
+    return scm_new_layer(&session, json, length, columns, rows) == SCM_DONE && scm_accept_text(&session, words, strlen(words)) == SCM_DONE;
+}
+
+int main(int argc, char **argv) {
     text input = read_all(stdin);
     char *json = strchr(input.bytes, '\n');
     char *end = strstr(input.bytes, "\nscript\n");
@@ -138,8 +147,7 @@ int main(void) {
         stop("this is no script");
     }
     json++;
-    uint32_t code = scm_new(&session, json, (size_t)(end - json), (uint16_t)width, (uint16_t)height);
-    if (code != SCM_DONE) {
+    if (!is_opened(json, (size_t)(end - json), argc > 1 ? argv[1] : NULL)) {
         stop("the state is refused");
     }
     char *next;
