@@ -5,7 +5,7 @@
  * A shape is FILESxSECTIONSxLINES: FILES files, each of SECTIONS changed sections, each of LINES added lines. A shape
  * FILESxSECTIONSxLINES:KIND:COUNT has lines of COUNT characters in place of short ones. KIND is `letters`, `wide` (two
  * columns each), `marked` (letters, each with a combining mark) or `tabs`. With `,both` behind it the screen shows both
- * commits.
+ * commits, and with `,layer` the session has the layer.
  *
  * timing SHAPE COUNT PAINT WORD ..: hands in the words in turn, COUNT of them, and then prints how many bytes
  * the last paint has. PAINT is `none`, `changed` to paint after each word, `twice` to paint once more then, or `all` to paint
@@ -31,6 +31,8 @@ typedef struct {
     size_t count;
     /* Whether the screen shows both commits. */
     bool shows_both;
+    /* Whether the session has the layer. */
+    bool has_layer;
 } shape;
 
 static const struct {
@@ -49,7 +51,8 @@ static bool is_read_as(const char *words, shape *read) {
     }
     const char *end = strchr(words, ',');
     read->shows_both = end && strcmp(end, ",both") == 0;
-    return (numbers == 3 || (numbers == 5 && *read->character)) && (!end || read->shows_both);
+    read->has_layer = end && strcmp(end, ",layer") == 0;
+    return (numbers == 3 || (numbers == 5 && *read->character)) && (!end || read->shows_both || read->has_layer);
 }
 
 static double now(void) {
@@ -165,8 +168,8 @@ int main(int argc, char **argv) {
     bool is_read = (argc == 2 || argc > 4) && is_read_as(argv[1], &of);
     char *json = is_read ? state_of(&of) : NULL;
     double begun = now();
-    if (!json || scm_new(&session, json, strlen(json), 80, 24) != SCM_DONE) {
-        fputs("timing: give it a shape that can be shown: FILESxSECTIONSxLINES, with :KIND:COUNT or ,both behind it\n", stderr);
+    if (!json || (of.has_layer ? scm_new_layer : scm_new)(&session, json, strlen(json), 80, 24) != SCM_DONE) {
+        fputs("timing: give it a shape that can be shown: FILESxSECTIONSxLINES, with :KIND:COUNT, ,both or ,layer behind it\n", stderr);
         return 2;
     }
     double ended = now();
