@@ -60,7 +60,8 @@ fn check_row(
     let (reads, wanted, text) = row;
     let mut input = script(alloc, 3, 3, reads)?;
     let outcome = outcome_of(rt, alloc, None, &mut input, screens)?;
-    check_equal(rt, (outcome.as_str(), screens.text(shot)), (wanted, text));
+    check_equal(rt, outcome.as_str(), wanted);
+    check_equal(rt, screens.text(shot), text);
     Ok(())
 }
 
