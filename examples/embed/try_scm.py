@@ -91,6 +91,11 @@ def drive_a_layer():
         assert session.marks(0) == [True, True, False]
         session.type("x")
         assert session.marks(0) == [False, False, False]
+        # what a program marks is not the user's to undo
+        session.press("space")
+        session.type("x")
+        assert session.marks(0) == [False, True, False]
+        session.press("space")
         # while a text is asked for, no key is told
         typed, told = b"/th\x0cree\r\t", []
         while typed:

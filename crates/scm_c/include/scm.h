@@ -317,7 +317,7 @@ uint32_t scm_new(scm_session *session, const char *json, size_t length, uint16_t
  * chooses: `scm_owner`, `scm_symbol` and `scm_click` take places of the terminal, and the status row is nobody's. Words
  * ("click:3:7") are events of the session beneath, so a click in a word is at a column of its whole screen, which `scm_text`
  * writes. `scm_type_to_key` tells keys that mean something to the layer too, but none while it asks for a text: then it hears all
- * keys. */
+ * keys. What words and clicks change is not the user's to undo: if marks change, nothing before is undone either. */
 
 /* Begins the session as `scm_begin` does, with a layer, on a terminal of `width` columns and `height` rows.
  *

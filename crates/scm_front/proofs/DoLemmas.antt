@@ -32,10 +32,11 @@ use Rattle.scm_front.specs.Asking.{after_typing, with_word}
 use Rattle.scm_front.specs.Begun.{JumpLeads}
 use Rattle.scm_front.specs.Deeds.{RoundLeads}
 use Rattle.scm_front.specs.Keeping.{KeepsAs, saying, anchored, after_range, steps_of, done_word, nothing_left, other_way}
-use Rattle.scm_front.specs.Handing.{HandsOn}
-use Rattle.scm_front.specs.Recording.{RecordsAt, RemembersAt, Returns, back_of}
+use Rattle.scm_front.specs.Handing.{HandsIn, HandsOn}
+use Rattle.scm_front.specs.Recording.{BeginsAnewAt, RecordsAt, RemembersAt, RestartsAt, Returns, back_of}
 use Rattle.scm_front.specs.Restoring.{RestoresTo}
-use Rattle.scm_front.specs.Fronts.{Does, passes, types, misses, jumps, seeks, ranges, marks, lacks, restores, front, front_of, found, heard, is_elsewhere, HasMarks, RemembersIn, files_of, selection_of, range_deeds, restoring}
+use Rattle.scm_front.specs.Fronts.{Does, passes, types, misses, jumps, seeks, ranges, marks, lacks, restores, front, front_of, found, heard, is_elsewhere, HasMarks, IsGiven, RemembersIn, beneath_of, files_of, marks_of, selection_of, range_deeds, restoring}
+use Rattle.scm_front.proofs.FrontLemmas.{beneath-is}
 
 -- what is kept with a word is kept as that
 pub saying-keeps : (old mid : Kept) (anchor : SelectionKey) (word other : Notice) → KeepsAs old anchor other mid → KeepsAs old anchor word (saying mid word)
@@ -59,6 +60,28 @@ handed-on turn query q kept mid new before result e word says keeps records = re
   keeps = subst (KeepsAs kept kept.anchor notices.Nothing) (sym says) (saying-keeps kept mid kept.anchor notices.Nothing kept.word keeps);
   records = subst (λ (k : Kept). RecordsAt kept.history before turn k.history) (sym says) records;
 }
+
+-- the same of events of a program
+pub handed-in : (turn : Turn) (query q : Query) (kept mid new : Kept) (before : Option (List Run)) (result : FrontTurn) → result ≡ front_of turn q new
+    → q ≡ with_word query false → new ≡ saying mid notices.Nothing → KeepsAs kept kept.anchor kept.word mid → RestartsAt kept.history before turn mid.history
+    → HandsIn turn query kept before result
+handed-in turn query q kept mid new before result e word says keeps restarts = record {
+  new = new;
+  is = e ∙ ap (λ (x : Query). front_of turn x new) word;
+  keeps = subst (KeepsAs kept kept.anchor notices.Nothing) (sym says) (saying-keeps kept mid kept.anchor notices.Nothing kept.word keeps);
+  restarts = subst (λ (k : Kept). RestartsAt kept.history before turn k.history) (sym says) restarts;
+}
+
+pub is-given : (f : Front) (turn : Turn) (before : Option (List Run)) (result : FrontTurn) → (h : HandsIn turn f.query f.kept before result)
+    → BeginsAnewAt (marks_of f) f.kept.history turn h.new.history → IsGiven f result
+is-given f turn before result h anew =
+    let same : turn ≡ beneath_of result = beneath-is turn (with_word f.query false) h.new ∙ ap beneath_of (sym h.is) in
+    record {
+      new = h.new;
+      is = h.is ∙ ap (λ (t : Turn). front_of t (with_word f.query false) h.new) same;
+      keeps = h.keeps;
+      begins_anew = subst (λ (t : Turn). BeginsAnewAt (marks_of f) f.kept.history t h.new.history) same anew;
+    }
 
 pub remembers-in : (marks_before : List (List (List Bool))) (old : History) (turn : Turn) (query : Query) (kept : Kept) (result : FrontTurn) → result ≡ front_of turn query kept
     → RemembersAt marks_before old turn kept.history → RemembersIn marks_before old result

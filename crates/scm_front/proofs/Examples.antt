@@ -5,7 +5,7 @@ use Rattle.scm_types.specs.declared.file_mode.FileMode.TheVariants.{Unix}
 use Rattle.scm_types.specs.declared.line.SectionChangedLine.{SectionChangedLine}
 use Rattle.scm_types.specs.declared.line.ChangeType.TheVariants.{Added}
 use Rattle.scm_types.specs.declared.section.Section.TheVariants.{Unchanged, Changed}
-use Rattle.scm_input.specs.KeyTable.{none, control, char, event_of}
+use Rattle.scm_input.specs.KeyTable.{none, shift, control, char, event_of}
 use Rattle.scm_input.specs.declared.events.Event.TheVariants.{ToggleItem, FocusPrevPage}
 use Rattle.scm_input.specs.declared.terminal.KeyModifiers.{KeyModifiers}
 use Rattle.scm_input.specs.declared.terminal.KeyCode.{KeyCode}
@@ -128,6 +128,13 @@ dialog_event = refl
 
 dialog_undo : action_of modes.Dialog (own (char "z") Undo ∷ []) (pressed none (char "z")) ≡ Pass (event_of (pressed none (char "z")))
 dialog_undo = refl
+
+-- a letter with shift is typed as its capital: the decoder names H so
+typed_capital : action_of modes.Asking [] (pressed shift (char "h")) ≡ Edit (Add 72)
+typed_capital = refl
+
+typed_other_capital : action_of modes.Asking [] (pressed shift (char "N")) ≡ Edit (Add 78)
+typed_other_capital = refl
 
 -- ---- ranges, and marks that were
 

@@ -29,7 +29,7 @@ use Rattle.scm_front.specs.Fronts.{files_of}
 use Rattle.scm_front.specs.Presses.{PressesLead, calls_of}
 use Rattle.scm_front.specs.declared.recording.Reach.{Reach}
 use Rattle.scm_front.specs.declared.recording.Reach.TheVariants.{Nothing, Item, All}
-use Rattle.scm_front.specs.Recording.{Records, RecordsAt, RecordsUnread, Remembers, RemembersAt, effect_of, forgets, forgets_all, forgotten, keeps, may_mark, reach_of, reach_of_all, remembered, runs_within, stays, stays_so, unchanged}
+use Rattle.scm_front.specs.Recording.{BeginsAnew, BeginsAnewAt, Records, RecordsAt, RecordsUnread, Remembers, RemembersAt, Restarts, RestartsAt, begun_anew, effect_of, forgets, forgets_all, forgotten, keeps, marks_stay, may_mark, reach_of, reach_of_all, remembered, runs_changed, runs_stay, runs_unknown, runs_within, stays, stays_so, unchanged}
 use Rattle.scm_front.proofs.EffectLemmas.{After, ArePlain, IsPlain, as_was, by_all, by_item}
 use Rattle.scm_front.proofs.ReachLemmas.{batch-quiet-reach, event-reach, files_at, reaches-shape}
 
@@ -99,6 +99,20 @@ module _ (files : List File) (all : List Run) (P : List File → Type 0) (back :
   unread-remembers after h (forgets_all e) = forgotten e
   unread-remembers after h (stays_so e is) = unchanged (none-changed files after [] refl (back-by after [] e h)) is
 
+  recorded-begins : (after : List File) → P after → Restarts old before after new → BeginsAnew (marks_of_files files) (marks_of_files after) old new
+  recorded-begins after h (runs_unknown none e) = begun_anew e
+  recorded-begins after h (runs_stay runs e none is) = marks_stay (none-changed files after runs none (back-by after runs e h)) is
+  recorded-begins after h (runs_changed runs e some is) = begun_anew is
+
+  unread-begins : (after : List File) → P after → RecordsUnread old before new → BeginsAnew (marks_of_files files) (marks_of_files after) old new
+  unread-begins after h (forgets_all e) = begun_anew e
+  unread-begins after h (stays_so e is) = marks_stay (none-changed files after [] refl (back-by after [] e h)) is
+
+  pub turn-begins-anew : (turn : Turn) → FilesAt P turn → RestartsAt old before turn new → BeginsAnewAt (marks_of_files files) old turn new
+  turn-begins-anew (turns.Waiting l) h r = recorded-begins l.session.shown.state.files h r
+  turn-begins-anew (turns.Editing a) h r = unread-begins a.session.shown.state.files h r
+  turn-begins-anew (turns.Accepted state) h r = tt
+
   pub turn-remembers : (turn : Turn) → FilesAt P turn → RecordsAt old before turn new → RemembersAt (marks_of_files files) old turn new
   turn-remembers (turns.Waiting l) h r = recorded-remembers l.session.shown.state.files h r
   turn-remembers (turns.Editing a) h r = unread-remembers a.session.shown.state.files h r
@@ -126,6 +140,12 @@ reach-remembers : (files : List File) (reach : Reach) (old new : History) (befor
 reach-remembers files reach old new before taken turn h r =
     turn-remembers files (runs_within files reach) (After files reach) (λ after k. led-back files after reach k) (within-own files reach) old new before taken turn h r
 
+-- the same of events of a program
+reach-begins-anew : (files : List File) (reach : Reach) (old new : History) (before : Option (List Run)) → IfSome before (λ (runs : List Run). runs ≡ runs_within files reach)
+    → (turn : Turn) → FilesAt (After files reach) turn → RestartsAt old before turn new → BeginsAnewAt (marks_of_files files) old turn new
+reach-begins-anew files reach old new before taken turn h r =
+    turn-begins-anew files (runs_within files reach) (After files reach) (λ after k. led-back files after reach k) (within-own files reach) old new before taken turn h r
+
 -- ---- one event
 
 pub event-after : (l : Live) (event : Event) (turn : Turn) → l.session.pending ≡ [] → EventLeads l event turn → FilesAt (After (files_of l) (reach_of l event)) turn
@@ -138,6 +158,12 @@ pub event-remembers : (l : Live) (event : Event) (turn : Turn) (old new : Histor
     → RemembersAt (marks_of_files (files_of l)) old turn new
 event-remembers l event turn old new before calm taken g r =
     reach-remembers (files_of l) (reach_of l event) old new before taken turn (event-after l event turn calm g) r
+
+pub event-begins-anew : (l : Live) (event : Event) (turn : Turn) (old new : History) (before : Option (List Run)) → l.session.pending ≡ []
+    → IfSome before (λ (runs : List Run). runs ≡ runs_within (files_of l) (reach_of l event)) → EventLeads l event turn → RestartsAt old before turn new
+    → BeginsAnewAt (marks_of_files (files_of l)) old turn new
+event-begins-anew l event turn old new before calm taken g r =
+    reach-begins-anew (files_of l) (reach_of l event) old new before taken turn (event-after l event turn calm g) r
 
 -- ---- many events
 
@@ -153,11 +179,9 @@ plain-list : (list : List Event) → list_any (λ (e : Event). may_mark (effect_
 plain-list [] h = tt
 plain-list (event ∷ rest) h = let parts = not-marking event rest h in (parts.0, plain-list rest parts.1)
 
-pub batch-remembers : (l : Live) (list : List Event) (turn : Turn) (old new : History) (before : Option (List Run)) → l.session.pending ≡ []
-    → IfSome before (λ (runs : List Run). runs ≡ runs_within (files_of l) (reach_of_all list)) → BatchLeads l list turn → RecordsAt old before turn new
-    → RemembersAt (marks_of_files (files_of l)) old turn new
-batch-remembers l list turn old new before calm taken g r =
-    reach-remembers (files_of l) (reach_of_all list) old new before taken turn (by-turn turn g (list_any (λ (e : Event). may_mark (effect_of e)) list) refl) r
+batch-after : (l : Live) (list : List Event) (turn : Turn) → l.session.pending ≡ [] → BatchLeads l list turn
+    → FilesAt (After (files_of l) (reach_of_all list)) turn
+batch-after l list turn calm g = by-turn turn g (list_any (λ (e : Event). may_mark (effect_of e)) list) refl
   where
     led : (b : Bool) (q : Point) → list_any (λ (e : Event). may_mark (effect_of e)) list ≡ b → Reaches (waiting_point l (Batch list ∷ []) [] 0) q
         → After (files_of l) (cond b All Nothing) (files_at q)
@@ -168,6 +192,18 @@ batch-remembers l list turn old new before calm taken g r =
     by-turn (turns.Waiting next) g b e = led b _ e (g [] [] 0).3
     by-turn (turns.Editing a) g b e = led b _ e (g [] [] 0).4
     by-turn (turns.Accepted state) g b e = tt
+
+pub batch-remembers : (l : Live) (list : List Event) (turn : Turn) (old new : History) (before : Option (List Run)) → l.session.pending ≡ []
+    → IfSome before (λ (runs : List Run). runs ≡ runs_within (files_of l) (reach_of_all list)) → BatchLeads l list turn → RecordsAt old before turn new
+    → RemembersAt (marks_of_files (files_of l)) old turn new
+batch-remembers l list turn old new before calm taken g r =
+    reach-remembers (files_of l) (reach_of_all list) old new before taken turn (batch-after l list turn calm g) r
+
+pub batch-begins-anew : (l : Live) (list : List Event) (turn : Turn) (old new : History) (before : Option (List Run)) → l.session.pending ≡ []
+    → IfSome before (λ (runs : List Run). runs ≡ runs_within (files_of l) (reach_of_all list)) → BatchLeads l list turn → RestartsAt old before turn new
+    → BeginsAnewAt (marks_of_files (files_of l)) old turn new
+batch-begins-anew l list turn old new before calm taken g r =
+    reach-begins-anew (files_of l) (reach_of_all list) old new before taken turn (batch-after l list turn calm g) r
 
 -- a turn that waits for an event has nothing pending, and one that waits for a message has a frame that shows a session
 abbrev pub CalmAt : Turn → Type 0

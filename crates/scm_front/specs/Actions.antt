@@ -1,5 +1,6 @@
 -- The key table of the layer: what it does with each event of a terminal.
 use Rattle.std.specs.Prelude.{Bool, true, false, List, [], ◌∷◌, ◌&&◌, if◌then◌else◌}
+use Rattle.std.specs.Char.{to_ascii_uppercase}
 use Rattle.scm_input.specs.KeyTable.{none, shift, control, char, same_modifiers, same_key, event_of}
 use Rattle.scm_input.specs.declared.terminal.KeyModifiers.{KeyModifiers}
 use Rattle.scm_input.specs.declared.terminal.KeyCode.{KeyCode}
@@ -58,10 +59,11 @@ first_action (row ∷ rows) modifiers code otherwise =
     if same_modifiers row.modifiers modifiers && same_key row.code code then row.action
     else first_action rows modifiers code otherwise
 
--- a character is added if it is typed without modifiers, or with shift
+-- A character is added if it is typed without modifiers. With shift its capital is added: the decoder says of some capitals that the small
+-- letter is typed with shift.
 abbrev pub adding : KeyModifiers → KeyCode → Action
 adding modifiers (key.Char c) =
-    if same_modifiers none modifiers then Edit (Add c) else if same_modifiers shift modifiers then Edit (Add c) else Ignore
+    if same_modifiers none modifiers then Edit (Add c) else if same_modifiers shift modifiers then Edit (Add (to_ascii_uppercase c)) else Ignore
 adding modifiers key.Up = Ignore
 adding modifiers key.Down = Ignore
 adding modifiers key.Left = Ignore

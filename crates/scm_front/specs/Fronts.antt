@@ -45,7 +45,7 @@ use Rattle.scm_front.specs.Deeds.{RoundLeads}
 use Rattle.scm_front.specs.Failing.{SessionFails}
 use Rattle.scm_front.specs.Keeping.{KeepsAs, saying, after_range, is_none, steps_of, done_word, nothing_left}
 use Rattle.scm_front.specs.Presses.{PressesLead, calls_of}
-use Rattle.scm_front.specs.Recording.{RemembersAt, Returns, back_of}
+use Rattle.scm_front.specs.Recording.{BeginsAnewAt, RemembersAt, Returns, back_of}
 
 -- the turn of the session beneath
 abbrev pub beneath_of : FrontTurn → Turn
@@ -130,6 +130,14 @@ abbrev pub RemembersIn : List (List (List Bool)) → History → FrontTurn → T
 RemembersIn before old (Waiting f) = RemembersAt before old (turns.Waiting f.beneath) f.kept.history
 RemembersIn before old (Editing a) = RemembersAt before old (turns.Editing a.beneath) a.kept.history
 RemembersIn before old (Accepted state) = RemembersAt before old (turns.Accepted state) old
+
+-- Events that a program hands in led from a front to a turn: the session beneath goes on from theirs, the question and the range stay, the
+-- layer says nothing of the last key, and if marks changed, nothing is left to undo.
+pub record IsGiven (f : Front) (result : FrontTurn) : Type 0 where
+  pub new : Kept
+  pub is : result ≡ front_of (beneath_of result) (with_word f.query false) new
+  pub keeps : KeepsAs f.kept f.kept.anchor notices.Nothing new
+  pub begins_anew : BeginsAnewAt (marks_of f) f.kept.history (beneath_of result) new.history
 
 -- whether an action restores marks
 abbrev pub is_restoring : Action → Bool
@@ -237,7 +245,7 @@ pub data Input : Type 0 where
   Done : Action → Input
   -- `press_all`: hands in events of the session
   Pressed : List Event → Input
-  -- `handle_all`: hands in events of the session as one batch
+  -- `handle_all`, `hand_in`, `hand_in_all`: hands in events of the session as one batch
   Batched : List Event → Input
   -- `answer`, `keep`: hands in the message that was asked for
   Said : List ℕ → Input

@@ -9,7 +9,7 @@ use Rattle.scm_front.specs.declared.layer.FrontTurn.{FrontTurn}
 use Rattle.scm_front.specs.Asking.{with_word}
 use Rattle.scm_front.specs.Fronts.{front_of}
 use Rattle.scm_front.specs.Keeping.{KeepsAs}
-use Rattle.scm_front.specs.Recording.{RecordsAt}
+use Rattle.scm_front.specs.Recording.{RecordsAt, RestartsAt}
 
 -- the turn with what the layer keeps: the marks `before` the events are kept if they changed, and the layer says nothing of the last key
 pub record HandsOn (turn : Turn) (query : Query) (kept : Kept) (before : Option (List Run)) (result : FrontTurn) : Type 0 where
@@ -17,3 +17,10 @@ pub record HandsOn (turn : Turn) (query : Query) (kept : Kept) (before : Option 
   pub is : result ≡ front_of turn (with_word query false) new
   pub keeps : KeepsAs kept kept.anchor notices.Nothing new
   pub records : RecordsAt kept.history before turn new.history
+
+-- the same for events that a program hands in: the history begins anew if the marks `before` the events changed
+pub record HandsIn (turn : Turn) (query : Query) (kept : Kept) (before : Option (List Run)) (result : FrontTurn) : Type 0 where
+  pub new : Kept
+  pub is : result ≡ front_of turn (with_word query false) new
+  pub keeps : KeepsAs kept kept.anchor notices.Nothing new
+  pub restarts : RestartsAt kept.history before turn new.history

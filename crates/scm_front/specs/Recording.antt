@@ -146,6 +146,21 @@ RecordsAt old before (turns.Waiting l) new = Records old before l.session.shown.
 RecordsAt old before (turns.Editing a) new = RecordsUnread old before new
 RecordsAt old before (turns.Accepted state) new = Unit {0}
 
+-- ---- what a history keeps of events that a program hands in
+
+-- `new` is kept after `old` and events of a program that left `files`, if these runs were taken before them: the history begins anew if some
+-- changed, or if the runs are not known
+pub data Restarts (old : History) (before : Option (List Run)) (files : List File) (new : History) : Type 0 where
+  runs_unknown : before ≡ None → new ≡ no_history → Restarts old before files new
+  runs_stay : (runs : List Run) → before ≡ Some runs → changed_runs files runs ≡ [] → new ≡ old → Restarts old before files new
+  runs_changed : (runs : List Run) → before ≡ Some runs → (changed_runs files runs ≡ [] → ⊥) → new ≡ no_history → Restarts old before files new
+
+-- the same by the turn to which the events led
+abbrev pub RestartsAt : History → Option (List Run) → Turn → History → Type 0
+RestartsAt old before (turns.Waiting l) new = Restarts old before l.session.shown.state.files new
+RestartsAt old before (turns.Editing a) new = RecordsUnread old before new
+RestartsAt old before (turns.Accepted state) new = Unit {0}
+
 -- ---- marks that are restored
 
 -- the items of a step with their marks in the files
@@ -176,3 +191,14 @@ RemembersAt before old (turns.Accepted state) new = Unit {0}
 -- the newest step to undo, if there is one, leads from the marks `now` to `before`
 abbrev pub Recalls : (before now : List (List (List Bool))) → History → Type 0
 Recalls before now history = (rest : List Step) (step : Step) → history.undos ≡ rest ++ step ∷ [] → marks_with step now ≡ before
+
+-- `new` is kept after `old` and events of a program that made all marks of the state `after` of `before`: if they changed some, nothing is kept
+pub data BeginsAnew (before after : List (List (List Bool))) (old new : History) : Type 0 where
+  marks_stay : after ≡ before → new ≡ old → BeginsAnew before after old new
+  begun_anew : new ≡ no_history → BeginsAnew before after old new
+
+-- the same by the turn to which the events led
+abbrev pub BeginsAnewAt : List (List (List Bool)) → History → Turn → History → Type 0
+BeginsAnewAt before old (turns.Waiting l) new = BeginsAnew before (marks_of_files l.session.shown.state.files) old new
+BeginsAnewAt before old (turns.Editing a) new = BeginsAnew before (marks_of_files a.session.shown.state.files) old new
+BeginsAnewAt before old (turns.Accepted state) new = Unit {0}

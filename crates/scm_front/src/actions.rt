@@ -63,12 +63,15 @@ pub enum Mode {
     Free,
 }
 
-/// Returns the action of pressing a key that may type a character.
+/// Returns the action of pressing a key that may type a character: of a letter with shift, its capital.
 fn adding(modifiers: KeyModifiers, code: KeyCode) -> Action
     ensures { result ≡ adding modifiers code }
 {
     match (modifiers, code) {
-        (NONE | SHIFT, KeyCode::Char(character)) => Action::Edit(Typing::Add(character)),
+        (NONE, KeyCode::Char(character)) => Action::Edit(Typing::Add(character)),
+        (SHIFT, KeyCode::Char(character)) => {
+            Action::Edit(Typing::Add(character.to_ascii_uppercase()))
+        }
         _ => Action::Ignore,
     }
 }

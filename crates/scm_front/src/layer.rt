@@ -6,7 +6,7 @@ ghost use Rattle.scm_types.specs.Keys.{is_key};
 ghost use Rattle.scm_selection.specs.KeyLists.{is_line};
 ghost use Rattle.scm_record.specs.Session.{message_text, start};
 ghost use Rattle.scm_record.specs.Live.{on_screen};
-ghost use Rattle.scm_record.specs.LiveCalls.{BatchFails, BatchLeads, Call, EventFails, MessageFails, MessageLeads, Path, Press};
+ghost use Rattle.scm_record.specs.LiveCalls.{BatchFails, BatchLeads, Call, EventFails, EventLeads, MessageFails, MessageLeads, Path, Press};
 ghost use Rattle.scm_record.specs.declared.live.Turn.TheVariants.{Waiting};
 ghost use Rattle.scm_front_items.specs.declared.items.Way.{Way as Direction};
 ghost use Rattle.scm_front_items.specs.declared.runs.Step.{Step as Past};
@@ -18,11 +18,11 @@ ghost use Rattle.scm_front.specs.Driving.{turn_of};
 ghost use Rattle.scm_front.specs.Keeping.{IsNew, KeepsAs, after_range, anchored, done_word, is_none, nothing_left, other_way, saying, steps_of};
 ghost use Rattle.scm_front.specs.Presses.{PressesFail, PressesLead};
 ghost use Rattle.scm_front.specs.Failing.{SessionFails};
-ghost use Rattle.scm_front.specs.Handing.{HandsOn};
+ghost use Rattle.scm_front.specs.Handing.{HandsIn, HandsOn};
 ghost use Rattle.scm_front.specs.Restoring.{RestoresTo};
-ghost use Rattle.scm_front.specs.Recording.{RecordsAt, Returns, back_of};
+ghost use Rattle.scm_front.specs.Recording.{RecordsAt, RestartsAt, Returns, back_of};
 ghost use Rattle.scm_front_items.specs.Runs.{marks_of_files, marks_with};
-ghost use Rattle.scm_front.specs.Fronts.{Does, FrontFails, RemembersIn, beneath_of, files_of, front, front_of, found, heard, is_elsewhere, mode_of, notice_of, restoring};
+ghost use Rattle.scm_front.specs.Fronts.{Does, FrontFails, IsGiven, RemembersIn, beneath_of, files_of, front, front_of, found, heard, is_elsewhere, mode_of, notice_of, restoring};
 
 use crate::actions::{Action, Mode, OwnKey, action_of};
 use crate::asking::{Query, Typing, after_typing, new_query, with_word};
@@ -33,7 +33,7 @@ use crate::marking::{
     Restoring, is_restored, range_deeds, restore, runs_of_range, selection_of, what_to_restore,
 };
 use crate::presses::press_each;
-use crate::recording::{history_after, runs_before, runs_before_all};
+use crate::recording::{history_after, history_after_program, runs_before, runs_before_all};
 use crate::starting::{Folds, fold_at_start, select_first};
 use scm_front_items::{History, Run, Step, Way, item_towards};
 use scm_record::keys::is_key;
@@ -160,6 +160,42 @@ fn handed<'state>(
     ensures { HandsOn (turn_of turn.entry) query kept before result }
 {
     let kept = saying(recorded(kept, before, &turn), Notice::Nothing);
+    front_turn(turn, with_word(query, false), kept)
+}
+
+/// Returns `kept` after events of a program that led to `turn`, if the marks `before` them are these.
+fn restarted(kept: Kept, before: Option<Items<Run>>, turn: &BegunTurn<'_>) -> Kept
+    ensures keeps { KeepsAs kept kept.anchor kept.word result }
+    ensures history { RestartsAt kept.history before (turn_of turn.now) result.history }
+{
+    let Kept {
+        anchor,
+        word,
+        keys,
+        history,
+        alloc,
+    } = kept;
+    let history = history_after_program(history, alloc, before, turn);
+    Kept {
+        anchor,
+        word,
+        keys,
+        history,
+        alloc,
+    }
+}
+
+/// Returns `turn`, to which events of a program led, with what the layer keeps after them, if the marks
+/// `before` them are these. What the layer said of the last key is over.
+fn handed_in<'state>(
+    turn: BegunTurn<'state>,
+    query: Query,
+    kept: Kept,
+    before: Option<Items<Run>>,
+) -> FrontTurn<'state>
+    ensures { HandsIn (turn_of turn.entry) query kept before result }
+{
+    let kept = saying(restarted(kept, before, &turn), Notice::Nothing);
     front_turn(turn, with_word(query, false), kept)
 }
 
@@ -425,6 +461,50 @@ impl<'state> Front<'state> {
         let before = runs_before_all(kept.alloc, &beneath, events);
         let turn = beneath.handle_all(events)?;
         Ok(handed(turn, query, kept, before))
+    }
+
+    /// Hands in `event` of a program to the session beneath. What a program changes is not the user's to
+    /// undo: if marks change, the history begins anew.
+    ///
+    /// # Errors
+    ///
+    /// An error ends the session: the errors are those of [`LiveSession::handle`].
+    pub fn hand_in(self, event: Event) -> Result<FrontTurn<'state>, RecordError>
+        ensures ok { IfOk result (λ turn.
+            EventLeads self.entry.beneath event (beneath_of turn)) }
+        ensures given { IfOk result (λ turn. IsGiven self.entry turn) }
+        ensures err { IfErr result (λ e. EventFails self.entry.beneath event e) }
+    {
+        let Front {
+            beneath,
+            query,
+            kept,
+        } = self;
+        let before = runs_before(kept.alloc, &beneath, event);
+        let turn = beneath.handle(event)?;
+        Ok(handed_in(turn, query, kept, before))
+    }
+
+    /// Hands in `events` of a program to the session beneath as one batch. If marks change, the history
+    /// begins anew.
+    ///
+    /// # Errors
+    ///
+    /// An error ends the session: the errors are those of [`LiveSession::handle_all`].
+    pub fn hand_in_all(self, events: &[Event]) -> Result<FrontTurn<'state>, RecordError>
+        ensures ok { IfOk result (λ turn.
+            BatchLeads self.entry.beneath events.now (beneath_of turn)) }
+        ensures given { IfOk result (λ turn. IsGiven self.entry turn) }
+        ensures err { IfErr result (λ e. BatchFails self.entry.beneath events.now e) }
+    {
+        let Front {
+            beneath,
+            query,
+            kept,
+        } = self;
+        let before = runs_before_all(kept.alloc, &beneath, events);
+        let turn = beneath.handle_all(events)?;
+        Ok(handed_in(turn, query, kept, before))
     }
 
     /// Hands `events` to the session beneath in order, up to the first that ends the session or asks

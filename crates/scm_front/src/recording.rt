@@ -4,7 +4,7 @@ ghost use Rattle.std.specs.List.{list_any};
 ghost use Rattle.scm_input.specs.declared.events.Event.{Event as Input};
 ghost use Rattle.scm_front.specs.Driving.{turn_of};
 ghost use Rattle.scm_front.specs.Fronts.{files_of};
-ghost use Rattle.scm_front.specs.Recording.{Records, RecordsAt, RecordsUnread, effect_of, may_mark, reach_by, reach_of, reach_of_all, reach_of_item, reach_of_owner, runs_within};
+ghost use Rattle.scm_front.specs.Recording.{Records, RecordsAt, RecordsUnread, Restarts, RestartsAt, effect_of, may_mark, reach_by, reach_of, reach_of_all, reach_of_item, reach_of_owner, runs_within};
 
 use crate::begun::{Begun, BegunTurn};
 use scm_front_items::{History, Run, steps};
@@ -230,6 +230,28 @@ fn recorded(
     history
 }
 
+/// Returns `history` after events of a program that left `files`: begun anew, if the marks `before` them
+/// changed or are not known.
+fn restarted(
+    history: History,
+    alloc: Global,
+    files: &[File<'_>],
+    before: Option<Items<Run>>,
+) -> History
+    ensures { Restarts history before files.now result }
+{
+    match before {
+        None => History::new(alloc),
+        Some(before) => {
+            if steps::changed_step(files, before).runs.is_empty() {
+                history
+            } else {
+                History::new(alloc)
+            }
+        }
+    }
+}
+
 /// Returns `history` after an action that led to a message that is edited. The marks after it are not
 /// read, so all steps are dropped, unless the action could change none.
 fn recorded_unread(history: History, alloc: Global, before: Option<Items<Run>>) -> History
@@ -255,6 +277,25 @@ pub(crate) fn history_after(
         BegunTurn::Waiting(session) => {
             let files = session.live().state().files.as_slice();
             recorded(history, alloc, files, before)
+        }
+        BegunTurn::Editing(_) => recorded_unread(history, alloc, before),
+        BegunTurn::Accepted(_) => history,
+    }
+}
+
+/// Returns `history` after events of a program that led to `turn`, if the marks `before` them are these.
+pub(crate) fn history_after_program(
+    history: History,
+    alloc: Global,
+    before: Option<Items<Run>>,
+    turn: &BegunTurn<'_>,
+) -> History
+    ensures { RestartsAt history before (turn_of turn.now) result }
+{
+    match turn {
+        BegunTurn::Waiting(session) => {
+            let files = session.live().state().files.as_slice();
+            restarted(history, alloc, files, before)
         }
         BegunTurn::Editing(_) => recorded_unread(history, alloc, before),
         BegunTurn::Accepted(_) => history,

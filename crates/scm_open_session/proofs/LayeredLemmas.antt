@@ -1,15 +1,14 @@
 -- How calls change a view.
-use Rattle.std.proofs.Common.{◌≡◌, List, [], ◌∷◌, Result, IfOk, IfErr, Ok, Err, subst}
+use Rattle.std.proofs.Common.{◌≡◌, List, Result, IfOk, IfErr, Ok, Err, subst}
 use Rattle.scm_errors.specs.declared.error.RecordError.{RecordError}
 use Rattle.scm_errors.specs.declared.error.RecordError.TheVariants.{OutOfMemory}
 use Rattle.scm_input.specs.declared.events.Event.{Event}
 use Rattle.scm_record.specs.Live.{Live}
-use Rattle.scm_record.specs.LiveCalls.{BatchFails, BatchLeads, Call, EventFails, Path, Press}
+use Rattle.scm_record.specs.LiveCalls.{BatchFails, BatchLeads, Call, EventFails, EventLeads, Path}
 use Rattle.scm_record.specs.declared.live.Turn.TheVariants as turns
-use Rattle.scm_front.specs.declared.actions.Action.TheVariants.{Pass}
 use Rattle.scm_front.specs.declared.layer.Front.{Front}
 use Rattle.scm_front.specs.declared.layer.FrontTurn.{FrontTurn}
-use Rattle.scm_front.specs.Fronts.{Does, FrontFails, beneath_of}
+use Rattle.scm_front.specs.Fronts.{FrontFails, IsGiven, beneath_of}
 use Rattle.scm_front_paint.specs.declared.pane.Pane.{Pane}
 use Rattle.scm_front_paint.specs.declared.view.ViewTurn.{ViewTurn}
 use Rattle.scm_front_paint.specs.Seen.{Seen}
@@ -19,24 +18,26 @@ use Rattle.scm_open_session.specs.Layered.{OrRefused, ViewPresses, ViewPressesAl
 -- what comes of an event is shown, or the terminal's screen cannot be drawn
 
 pub pressed : (v : Seen) (event : Event) (front : Front) (pane : Pane) (middle : FrontTurn) (r : Result ViewTurn RecordError)
-    → front ≡ v.front → pane ≡ v.pane → Does front (Pass event) (Press event ∷ []) middle → IfOk r (λ turn. IsShown pane middle turn)
+    → front ≡ v.front → pane ≡ v.pane → EventLeads front.beneath event (beneath_of middle) → IsGiven front middle → IfOk r (λ turn. IsShown pane middle turn)
     → IfOk r (λ turn. ViewPresses v event turn)
-pressed v event front pane middle (Ok turn) e f d s = record {
+pressed v event front pane middle (Ok turn) e f d g s = record {
   middle = middle;
-  does = subst (λ (x : Front). Does x (Pass event) (Press event ∷ []) middle) e d;
+  leads = subst (λ (x : Front). EventLeads x.beneath event (beneath_of middle)) e d;
+  given = subst (λ (x : Front). IsGiven x middle) e g;
   shown = subst (λ (p : Pane). IsShown p middle turn) f s;
 }
-pressed v event front pane middle (Err error) e f d s = tt
+pressed v event front pane middle (Err error) e f d g s = tt
 
 pub pressed_all : (v : Seen) (list : List Event) (front : Front) (pane : Pane) (middle : FrontTurn) (r : Result ViewTurn RecordError)
-    → front ≡ v.front → pane ≡ v.pane → BatchLeads front.beneath list (beneath_of middle) → IfOk r (λ turn. IsShown pane middle turn)
-    → IfOk r (λ turn. ViewPressesAll v list turn)
-pressed_all v list front pane middle (Ok turn) e f d s = record {
+    → front ≡ v.front → pane ≡ v.pane → BatchLeads front.beneath list (beneath_of middle) → IsGiven front middle
+    → IfOk r (λ turn. IsShown pane middle turn) → IfOk r (λ turn. ViewPressesAll v list turn)
+pressed_all v list front pane middle (Ok turn) e f d g s = record {
   middle = middle;
   leads = subst (λ (x : Front). BatchLeads x.beneath list (beneath_of middle)) e d;
+  given = subst (λ (x : Front). IsGiven x middle) e g;
   shown = subst (λ (p : Pane). IsShown p middle turn) f s;
 }
-pressed_all v list front pane middle (Err error) e f d s = tt
+pressed_all v list front pane middle (Err error) e f d g s = tt
 
 pub set_at : (v : Seen) (front : Front) (pane : Pane) (middle : FrontTurn) (calls : List Call) (r : Result ViewTurn RecordError)
     → front ≡ v.front → pane ≡ v.pane → Path (turns.Waiting front.beneath) calls (beneath_of middle) → IfOk r (λ turn. IsShown pane middle turn)

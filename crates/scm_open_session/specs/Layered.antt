@@ -1,17 +1,16 @@
 -- A session with a layer over it: what calls do to its view.
-use Rattle.std.specs.Prelude.{◌≡◌, ℕ, ◌==◌, List, [], ◌∷◌, Option, Some, None, if◌then◌else◌}
+use Rattle.std.specs.Prelude.{◌≡◌, ℕ, ◌==◌, List, Option, Some, None, if◌then◌else◌}
 use Rattle.scm_errors.specs.declared.error.RecordError.{RecordError}
 use Rattle.scm_errors.specs.declared.error.RecordError.TheVariants.{OutOfMemory}
 use Rattle.scm_input.specs.declared.events.Event.{Event}
 use Rattle.scm_input.specs.declared.inputs.TerminalKind.{TerminalKind}
 use Rattle.scm_input.specs.declared.inputs.TerminalKind.TheVariants.{Testing}
-use Rattle.scm_record.specs.LiveCalls.{BatchLeads, Call, Path, Press}
+use Rattle.scm_record.specs.LiveCalls.{BatchLeads, Call, EventLeads, Path}
 use Rattle.scm_record.specs.declared.live.Turn.TheVariants as turns
-use Rattle.scm_front.specs.declared.actions.Action.TheVariants.{Pass}
 use Rattle.scm_front.specs.declared.layer.FrontTurn.{FrontTurn}
 use Rattle.scm_front.specs.declared.starting.Folds.{Folds}
 use Rattle.scm_front.specs.declared.starting.Folds.TheVariants as folds
-use Rattle.scm_front.specs.Fronts.{Does, beneath_of}
+use Rattle.scm_front.specs.Fronts.{IsGiven, beneath_of}
 use Rattle.scm_front_paint.specs.declared.themes.Theme.{Theme}
 use Rattle.scm_front_paint.specs.declared.themes.Theme.TheVariants as themes
 use Rattle.scm_front_paint.specs.declared.view.ViewTurn.{ViewTurn}
@@ -21,16 +20,19 @@ use Rattle.scm_front_paint.specs.Views.{IsFitted, IsShown}
 
 -- ---- events
 
--- An event is handed to the session beneath, and what comes of it is shown on the terminal.
+-- An event of a program is handed to the session beneath, and what comes of it is shown on the terminal. If marks change, nothing is left to undo.
 pub record ViewPresses (v : Seen) (event : Event) (turn : ViewTurn) : Type 0 where
   pub middle : FrontTurn
-  pub does : Does v.front (Pass event) (Press event ∷ []) middle
+  pub leads : EventLeads v.front.beneath event (beneath_of middle)
+  pub given : IsGiven v.front middle
   pub shown : IsShown v.pane middle turn
 
--- Events are handed to the session beneath as one batch, and what comes of them is shown on the terminal.
+-- Events of a program are handed to the session beneath as one batch, and what comes of them is shown on the terminal. If marks change, nothing is
+-- left to undo.
 pub record ViewPressesAll (v : Seen) (events : List Event) (turn : ViewTurn) : Type 0 where
   pub middle : FrontTurn
   pub leads : BatchLeads v.front.beneath events (beneath_of middle)
+  pub given : IsGiven v.front middle
   pub shown : IsShown v.pane middle turn
 
 -- Folds and a selection are made by calls of the session beneath, and what comes of them is shown on the terminal.

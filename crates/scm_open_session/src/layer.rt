@@ -20,7 +20,7 @@ pub fn press(view: View<'static>, event: Event) -> Result<ViewTurn<'static>, Rec
     ensures err { IfErr result (λ e. OrRefused (EventFails view.entry.front.beneath event) e) }
 {
     let (front, pane) = view.into_parts();
-    let turn = front.handle(event)?;
+    let turn = front.hand_in(event)?;
     shown(turn, pane)
 }
 
@@ -34,7 +34,7 @@ pub fn press_all(view: View<'static>, events: &[Event]) -> Result<ViewTurn<'stat
     ensures err { IfErr result (λ e. OrRefused (BatchFails view.entry.front.beneath events.now) e) }
 {
     let (front, pane) = view.into_parts();
-    let turn = front.handle_all(events)?;
+    let turn = front.hand_in_all(events)?;
     shown(turn, pane)
 }
 

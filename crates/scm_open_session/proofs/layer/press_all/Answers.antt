@@ -6,7 +6,7 @@ use Rattle.scm_open_session.proofs.layer.press_all.Goals as goal
 pub returns-clause-ok : goal.returns-clause-ok
 returns-clause-ok c =
     pressed_all c.args.view c.args.events.now c.into_parts-front.result.0 c.into_parts-front.result.1 c.in_ok-turn.turn c.shown.result
-    c.into_parts-front.ensures.front c.into_parts-front.ensures.pane c.in_ok-turn.ensures.ok c.shown.ensures.ok
+    c.into_parts-front.ensures.front c.into_parts-front.ensures.pane c.in_ok-turn.ensures.ok c.in_ok-turn.ensures.given c.shown.ensures.ok
 
 pub returns-clause-err : goal.returns-clause-err
 returns-clause-err c = not_shown (BatchFails c.args.view.front.beneath c.args.events.now) c.shown.result c.shown.ensures.err
