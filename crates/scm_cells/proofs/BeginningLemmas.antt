@@ -388,6 +388,17 @@ Adds-last columns left old now new whole line h e pushed = record {
   shown = inl (sym (h.pieces ∙ ap (λ t. h.done ++ t) e));
 }
 
+-- nothing is behind a text and its replacement
+pub Adds-all : (columns left : ℕ) (old now new : List (List ℕ)) (whole line text r rest : List ℕ) → HasPushed columns left old now whole line → line_pieces line ≡ text ∷ (r ∷ line_pieces rest)
+    → new ≡ now ++ text ∷ (r ∷ []) → length rest ≡ 0 → Adds columns old new (line_pieces whole)
+unfolding line_pieces pieces_from chars
+Adds-all columns left old now new whole line text r [] h e pushed none = record {
+  texts = h.done ++ text ∷ (r ∷ []);
+  added = pushed ∙ ap (λ t. t ++ text ∷ (r ∷ [])) h.spans ∙ append_assoc old h.done (text ∷ (r ∷ []));
+  shown = inl (sym (h.pieces ∙ ap (λ t. h.done ++ t) e));
+}
+Adds-all columns left old now new whole line text r (b ∷ bs) h e pushed none = absurd (cc none)
+
 -- a text and its replacement are wider than what is left
 pub Adds-past : (columns left : ℕ) (old now new : List (List ℕ)) (whole line text r rest : List ℕ) → HasPushed columns left old now whole line → line_pieces line ≡ text ∷ (r ∷ line_pieces rest)
     → new ≡ now ++ text ∷ (r ∷ []) → left < text_width text + text_width r → Adds columns old new (line_pieces whole)

@@ -1,5 +1,5 @@
 -- A text of printable ASCII is its own list of clusters: each byte is one, of one column.
-use Rattle.std.proofs.Common.{◌≡◌, ℕ, suc, ◌+◌, ◌<◌, Bool, true, false, not, ◌||◌, ◌==◌, List, [], ◌∷◌, ◌++◌, length, map, refl, sym, ap, ap₂, ◌∙◌, arith, Some, sum_by, encode_utf8, encode_utf8_all, take, take_all, drop, subst, length-take, ◌≤◌}
+use Rattle.std.proofs.Common.{◌≡◌, ℕ, zero, suc, ◌+◌, ◌<◌, Bool, true, false, not, ◌||◌, ◌==◌, List, [], ◌∷◌, ◌++◌, length, map, refl, sym, ap, ap₂, ◌∙◌, arith, Some, sum_by, encode_utf8, encode_utf8_all, take, take_all, drop, subst, length-take, ◌≤◌}
 use Rattle.std.specs.Prelude.{nat_lt, position, unwrap_or}
 use Rattle.std.specs.List.{position_or_len}
 use Rattle.std.specs.Int.{is_in_range}
@@ -8,7 +8,9 @@ use Rattle.std.proofs.lemmas.Bool.{and_parts}
 use Rattle.std.proofs.lemmas.Bool.Decides.{nat_tests}
 use Rattle.std.proofs.lemmas.Str.{chars-IsAscii, encode_ascii}
 use Rattle.std.proofs.lemmas.List.{take-take}
+use Rattle.std.proofs.lemmas.List.Folds.{list_all-append}
 use Rattle.std.proofs.lemmas.List.Sums.{sum_by-cons}
+use Rattle.std.proofs.Math.Seq.{take-add}
 use Rattle.std.proofs.lemmas.Str.Ascii.{IsAscii-nil, IsAscii-cons}
 use Rattle.ucd_table.proofs.Facts.{Stepped-below}
 use Rattle.ucd_breaks.specs.GraphemeClusterBreak.{grapheme_cluster_break, grapheme_cluster_break_number}
@@ -135,26 +137,40 @@ printable-front text = by_test (nat_lt (position_or_len is_unprintable text) (le
         let all : length text ≤ position_or_len is_unprintable text = grind (arith, nat_tests) in
         rw (e, take_all (length text) text (omega arith)) (rw (take_all (position_or_len is_unprintable text) text all) at (printable-passed text))
 
--- all bytes are before it if all are printable
-position-printable : (text : List ℕ) → is_printable text ≡ true → position_or_len is_unprintable text ≡ length text
-position-printable [] h = refl
-position-printable (b ∷ bs) h =
-    let parts = and_parts (is_printable_char b) (is_printable bs) h in
+-- the bytes before it are printable ones at the beginning, and those before it in the rest
+position-passed : (text : List ℕ) (n : ℕ) → n ≤ length text → is_printable (take n text) ≡ true → position_or_len is_unprintable text ≡ n + position_or_len is_unprintable (drop n text)
+position-passed text zero le h = let same : position_or_len is_unprintable (drop 0 text) ≡ position_or_len is_unprintable text = refl in omega (arith, same)
+position-passed [] (suc n) le h = absurd (omega (arith, le))
+position-passed (b ∷ bs) (suc n) le h =
+    let parts = and_parts (is_printable_char b) (is_printable (take n bs)) h in
     let passed : is_unprintable b ≡ false = let first = parts.0 in grind (arith, nat_tests) in
-    rw (passed, position-printable bs parts.1) (one_more (length bs))
+    rw (passed, position-passed bs n (omega (arith, le)) parts.1) (omega arith)
 
-pub count-all : (text : List ℕ) → is_printable text ≡ true → length text ≡ unwrap_or (position is_unprintable text) (length text)
-count-all text h =
-    let all = position-printable text h in
-    let none : nat_lt (position_or_len is_unprintable text) (length text) ≡ false = grind (arith, nat_tests) in
-    rw none refl
+position-le : (text : List ℕ) → position_or_len is_unprintable text ≤ length text
+position-le [] = omega arith
+position-le (b ∷ bs) = by_test (is_unprintable b) refl (position-le bs)
+  where
+    by_test : (t : Bool) → is_unprintable b ≡ t → position_or_len is_unprintable bs ≤ length bs → position_or_len is_unprintable (b ∷ bs) ≤ length (b ∷ bs)
+    by_test true e le = rw e (omega arith)
+    by_test false e le = rw e (omega (arith, le))
+
+count-position : (text : List ℕ) → unwrap_or (position is_unprintable text) (length text) ≡ position_or_len is_unprintable text
+count-position text = by_test (nat_lt (position_or_len is_unprintable text) (length text)) refl
+  where
+    by_test : (t : Bool) → nat_lt (position_or_len is_unprintable text) (length text) ≡ t → unwrap_or (position is_unprintable text) (length text) ≡ position_or_len is_unprintable text
+    by_test true e = rw e refl
+    by_test false e = let le = position-le text in let all : length text ≤ position_or_len is_unprintable text = grind (arith, nat_tests) in rw e (omega (arith, le, all))
+
+pub count-passed : (text : List ℕ) (n : ℕ) → n ≤ length text → is_printable (take n text) ≡ true
+    → n + unwrap_or (position is_unprintable (drop n text)) (length (drop n text)) ≡ unwrap_or (position is_unprintable text) (length text)
+count-passed text n le h = ap (λ k. n + k) (count-position (drop n text)) ∙ sym (position-passed text n le h) ∙ sym (count-position text)
+
+-- a block of printable bytes after printable ones
+pub printable-block : (text : List ℕ) (n m : ℕ) → is_printable (take n text) ≡ true → is_printable (take m (drop n text)) ≡ true → is_printable (take (n + m) text) ≡ true
+printable-block text n m h g = rw (take-add n m text, list_all-append is_printable_char (take n text) (take m (drop n text)), h, g) refl
 
 pub count-le : (text : List ℕ) → unwrap_or (position is_unprintable text) (length text) ≤ length text
-count-le text = by_test (nat_lt (position_or_len is_unprintable text) (length text)) refl
-  where
-    by_test : (t : Bool) → nat_lt (position_or_len is_unprintable text) (length text) ≡ t → unwrap_or (position is_unprintable text) (length text) ≤ length text
-    by_test true e = let before : position_or_len is_unprintable text < length text = grind (arith, nat_tests) in rw e (omega (arith, before))
-    by_test false e = rw e (omega arith)
+count-le text = let le = position-le text in omega (arith, le, count-position text)
 
 -- the same of the first bytes of a text
 pub printable-first : (text near : List ℕ) (n m : ℕ) → near ≡ take m text → n ≡ unwrap_or (position is_unprintable near) (length near) → is_printable (take n text) ≡ true

@@ -81,7 +81,7 @@ fn bytes_to_read(line: &str, columns: usize) -> usize
     ensures { 0 < result }
 {
     let most = columns.saturating_add(2);
-    if count_first_printable(line, most) < most {
+    if most < line.len() && count_first_printable(line, most) < most {
         most.saturating_mul(2)
     } else {
         most
@@ -172,6 +172,9 @@ pub fn push_first_spans<'a>(
             }
             Some((text, replacement, rest)) => {
                 push_replaced(text, replacement, spans)?;
+                if rest.is_empty() {
+                    return Ok(());
+                }
                 match columns_after(left, text, replacement) {
                     None => return Ok(()),
                     Some(less) => left = less,

@@ -13,6 +13,6 @@ mod drawing;
 mod filling;
 pub mod laws;
 mod surface;
-mod target;
+pub mod target;
 mod trace;
 mod viewport;

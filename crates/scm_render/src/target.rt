@@ -19,7 +19,7 @@ pub trait Clickable {
 }
 
 /// Returns whether `place` lies in `from..from + size`. Never overflows.
-fn is_among(from: isize, size: usize, place: isize) -> bool
+pub fn is_among(from: isize, size: usize, place: isize) -> bool
     ensures { result ≡ (int_le from place && int_lt place (from +ℤ pos size)) }
 {
     from <= place && from.abs_diff(place) < size
@@ -27,7 +27,7 @@ fn is_among(from: isize, size: usize, place: isize) -> bool
 
 /// Returns whether the rectangle contains row `y` and column `x`. Never overflows.
 #[tactic(auto, unfolding(crate::specs::Hits::holds))]
-fn holds(rect: Rect, y: isize, x: isize) -> bool
+pub fn holds(rect: Rect, y: isize, x: isize) -> bool
     ensures { result ≡ holds rect y x }
 {
     let rows = is_among(rect.y, rect.height, y);
@@ -37,7 +37,7 @@ fn holds(rect: Rect, y: isize, x: isize) -> bool
 }
 
 /// Returns the later of the box that was found so far, if any, and the box `entry`.
-fn later_of<K: Copy + Drop>(
+pub fn later_of<K: Copy + Drop>(
     found: Option<(K, DrawnRect)>,
     entry: (K, DrawnRect),
 ) -> Option<(K, DrawnRect)>

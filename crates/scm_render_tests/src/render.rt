@@ -12,6 +12,7 @@ use crate::samples::{Caption, Column, Nest, Pair, Pane};
 use crate::tags::{Spot, Tag, boxed};
 use scm_cells::{Grid, Line, Mask, Rect, RectSize, ScreenRect, Span, text_width};
 use scm_errors::RecordError;
+use scm_render::target::{holds, is_among, later_of};
 use scm_render::{DrawTrace, DrawnRect, DrawnRects, Viewport, centered_rect, find_target, laws};
 use std::alloc::{AllocError, Global};
 use std::process::Abort;
@@ -823,4 +824,39 @@ fn targets(rt: HostRuntime) -> Result<(), RecordError> {
         check_equal(&rt, found.map(|spot| spot.number), expected);
     }
     Ok(())
+}
+
+#[test]
+fn places_in_boxes(rt: HostRuntime) {
+    let held = rect(-1, 2, 3, 1);
+    for (y, x, expected) in [
+        (2, -1, (true, true)),
+        (2, 1, (true, true)),
+        (2, 2, (false, false)),
+        (1, 0, (false, true)),
+        (3, -2, (false, false)),
+        (isize::MAX, isize::MIN, (false, false)),
+    ] {
+        let found = (holds(held, y, x), is_among(held.x, held.width, x));
+        check_equal(&rt, (y, x, found), (y, x, expected));
+    }
+}
+
+/// Returns the entry of an empty box with the id `id`, of component `timestamp`.
+fn entry(id: u8, timestamp: usize) -> (u8, DrawnRect) {
+    let rect = rect(0, 0, 0, 0);
+    (id, DrawnRect { rect, timestamp })
+}
+
+#[test]
+fn later_boxes(rt: HostRuntime) {
+    for (found, next, expected) in [
+        (None, entry(1, 4), 1),
+        (Some(entry(1, 4)), entry(2, 5), 2),
+        (Some(entry(1, 4)), entry(2, 3), 1),
+        (Some(entry(1, 4)), entry(2, 4), 2),
+    ] {
+        let later = later_of(found, next);
+        check_equal(&rt, later.map(|(id, _)| id), Some(expected));
+    }
 }

@@ -1,5 +1,5 @@
 -- Texts off the screen: as many columns covered leave the same.
-use Rattle.std.proofs.Common.{◌≡◌, ℕ, Bool, true, false, List, [], ◌∷◌, length, refl, sym, ap, ◌∙◌, arith, subst, ◌+◌, ◌<◌, ◌^◌}
+use Rattle.std.proofs.Common.{◌≡◌, ℕ, Option, Some, None, Bool, true, false, List, [], ◌∷◌, length, refl, sym, ap, ◌∙◌, arith, subst, ◌+◌, ◌<◌, ◌^◌}
 use Rattle.std.specs.Prelude.{ℤ, pos, ◌+ℤ◌, ◌-ℤ◌, ◌<ℤ◌, ◌≤ℤ◌, int_lt, if◌then◌else◌}
 use Rattle.std.proofs.lemmas.Int.{ints}
 use Rattle.std.proofs.lemmas.List.Sums.{sum_by-cons}
@@ -9,10 +9,11 @@ use Rattle.scm_cells.specs.Row.{ellipsis}
 use Rattle.scm_cells.proofs.RectLemmas.{places}
 use Rattle.scm_cells.specs.declared.rect.Rect.{Rect}
 use Rattle.scm_render.specs.Around.{AllRectsInRange}
-use Rattle.scm_render.specs.Canvas.{Canvas, Sight, with_picture}
+use Rattle.std.specs.Option.{is_some}
+use Rattle.scm_render.specs.Canvas.{Canvas, Sight, kept_area, with_picture}
 use Rattle.scm_render.specs.Drawing.{reach, has_row, row_rect, texts_width, line_picture, span_picture, text_picture}
-use Rattle.scm_render.specs.Picture.{PictureInRange, nothing, followed_by, covering}
-use Rattle.scm_render.proofs.CanvasLemmas.{with_picture-twice}
+use Rattle.scm_render.specs.Picture.{Box, PictureInRange, nothing, followed_by, covering}
+use Rattle.scm_render.proofs.CanvasLemmas.{with_picture-covering, with_picture-twice}
 use Rattle.scm_render.proofs.DrawLemmas.{with_picture-short}
 use Rattle.scm_render.proofs.PictureLemmas.{PictureInRange-left, PictureInRange-right, RectInRange-covering}
 use Rattle.scm_render.proofs.RowLemmas.{one_said}
@@ -36,6 +37,15 @@ narrow x y n r = omega (arith, places, r.x, r.end_x)
 pub texts_width-one : (t : List ℕ) → texts_width (t ∷ []) ≡ text_width t
 unfolding texts_width
 texts_width-one t = let e = sum_by-cons text_width t [] in omega (arith, e)
+
+-- ---- what is covered where no boxes are kept
+
+area-unkept : (bs : Option (List (Box ComponentId))) (a r : Rect) → is_some bs ≡ false → a ≡ kept_area bs a (r ∷ [])
+area-unkept None a r none = refl
+area-unkept (Some bs) a r none = absurd (cc none)
+
+pub covered-unkept : (c : Canvas ComponentId) (r : Rect) → is_some c.boxes ≡ false → c ≡ with_picture c (covering r)
+covered-unkept c r none = with_picture-covering c c r refl refl (area-unkept c.boxes c.area r none) refl
 
 -- ---- what is covered, by whether there is an ellipsis
 

@@ -53,13 +53,15 @@ pub fn cover_rest(viewport: &mut Viewport<ComponentId>, x: isize, y: isize)
     ensures counts { viewport.new.counts ≡ viewport.old.counts }
     ensures rect { viewport.new.canvas.sight.rect ≡ viewport.old.canvas.sight.rect }
 {
-    let rest = Rect {
-        x,
-        y,
-        width: to_end(viewport, x),
-        height: 1,
-    };
-    viewport.cover(rest);
+    if viewport.keeps_boxes() {
+        let rest = Rect {
+            x,
+            y,
+            width: to_end(viewport, x),
+            height: 1,
+        };
+        viewport.cover(rest);
+    }
 }
 
 /// Covers the columns of row `y` that lie inside the mask.
@@ -71,14 +73,16 @@ pub fn cover_row(viewport: &mut Viewport<ComponentId>, y: isize)
     ensures counts { viewport.new.counts ≡ viewport.old.counts }
     ensures rect { viewport.new.canvas.sight.rect ≡ viewport.old.canvas.sight.rect }
 {
-    let reach = viewport.mask_rect();
-    let whole = Rect {
-        x: reach.x,
-        y,
-        width: reach.width,
-        height: 1,
-    };
-    viewport.cover(whole);
+    if viewport.keeps_boxes() {
+        let reach = viewport.mask_rect();
+        let whole = Rect {
+            x: reach.x,
+            y,
+            width: reach.width,
+            height: 1,
+        };
+        viewport.cover(whole);
+    }
 }
 
 /// Covers the columns of row `y` that lie inside the mask, if `is_selected`.
