@@ -50,7 +50,7 @@ fn check_row(rt: &impl Abort, index: &LayoutIndex, whole: &FrameIndex, row: usiz
     let owners = index.row_owners(row);
     for column in 0..32 {
         let owner = whole.owner(row, column);
-        let run = index.run_on(owners, column);
+        let run = index.run_on(&owners, column);
         let last = index.owner(row, run.end - 1);
         let place = (row, column);
         check_equal(rt, (place, index.owner(row, column)), (place, owner));
