@@ -102,7 +102,7 @@ fn found_end(width: usize, owners: &RowOwners, column: usize) -> usize
 
 /// Returns the end of a run from `column` on of the columns before `end`: all in `rect`, or all beside
 /// it.
-fn rect_end(rect: Rect, column: usize, end: usize) -> usize
+pub fn rect_end(rect: Rect, column: usize, end: usize) -> usize
     requires column { column < end }
     requires end { end < 2 ^ 63 }
     ensures { IsRun (is_within rect.x rect.width) end column result }
