@@ -1,8 +1,9 @@
 -- Where a run of columns ends: no column between has another owner.
-use Rattle.std.proofs.Common.{◌≡◌, ℕ, ◌+◌, ◌<◌, ◌≤◌, Bool, true, false, ◌==◌, nat_lt, List, [], ◌∷◌, ◌++◌, length, take, get_or, subst, refl, sym, ap₂, arith}
+use Rattle.std.proofs.Common.{◌≡◌, ℕ, ◌+◌, ◌<◌, ◌≤◌, Bool, true, false, ◌==◌, nat_lt, List, [], ◌∷◌, length, take, get_or, refl, ap₂, arith}
 use Rattle.std.specs.Prelude.{nat_le, if◌then◌else◌, Option, Some, None}
 use Rattle.std.proofs.lemmas.Bool.Decides.{nat_tests}
-use Rattle.std.proofs.lemmas.List.{take_more}
+use Rattle.std.proofs.lemmas.List.Elements.{All-head, All-more, All-tail, All-weaker}
+use Rattle.std.specs.List.{All}
 use Rattle.scm_types.specs.declared.keys.SelectionKey.{SelectionKey}
 use Rattle.scm_types.specs.declared.keys.SelectionKey.TheVariants as keys
 use Rattle.scm_render.specs.Hits.{first_of_two}
@@ -87,33 +88,25 @@ context-row w s j c a f n kind h = record {
   same = λ x low high. let s0 = one-side c 2 w x low high in rw (kind, s0.above) refl;
 }
 
+-- ---- lists whose elements have all columns of a run, or none
+
+-- f has the same answer for element a and each of the columns c..e
+abbrev pub IsSteady : {A : Type 0} → (A → ℕ → Bool) → ℕ → ℕ → A → Type 0
+IsSteady f c e a = (x : ℕ) → c ≤ x → x < e → f a x ≡ f a c
+
+-- one element more, for fewer columns
+pub next-steady : {A : Type 0} (f : A → ℕ → Bool) (xs : List A) (i : ℕ) (d : A) (c e few : ℕ) → i < length xs → few ≤ e → All (IsSteady f c e) (take i xs) → IsSteady f c few (get_or xs i d)
+    → All (IsSteady f c few) (take (i + 1) xs)
+next-steady f xs i d c e few within less h one =
+    All-more (IsSteady f c few) xs i d within (All-weaker (IsSteady f c e) (IsSteady f c few) (λ a same x low high. same x low (omega (arith, less, high))) (take i xs) h) one
+
 -- ---- what lies over the document
 
--- a rectangle has all columns c..e on row y, or none
-abbrev pub HasAllOrNone : ℕ → ℕ → ℕ → OverlayRect → Type 0
-HasAllOrNone y c e r = (x : ℕ) → c ≤ x → x < e → is_at r y x ≡ is_at r y c
-
-abbrev pub HaveAllOrNone : ℕ → ℕ → ℕ → List OverlayRect → Type 0
-HaveAllOrNone y c e [] = Unit {0}
-HaveAllOrNone y c e (r ∷ rs) = HasAllOrNone y c e r × HaveAllOrNone y c e rs
-
-pub one-owner : (rs : List OverlayRect) (y c e x : ℕ) → HaveAllOrNone y c e rs → c ≤ x → x < e → overlay_owner rs y x ≡ overlay_owner rs y c
+pub one-owner : (rs : List OverlayRect) (y c e x : ℕ) → All (IsSteady (λ (r : OverlayRect). is_at r y) c e) rs → c ≤ x → x < e → overlay_owner rs y x ≡ overlay_owner rs y c
 one-owner [] y c e x h low high = refl
 one-owner (r ∷ rs) y c e x h low high =
-    ap₂ (λ (o : Option ComponentId) (b : Bool). first_of_two o (if b then Some r.id else None)) (one-owner rs y c e x h.1 low high) (h.0 x low high)
-
-fewer : (rs : List OverlayRect) (y c e d : ℕ) → d ≤ e → HaveAllOrNone y c e rs → HaveAllOrNone y c d rs
-fewer [] y c e d less h = tt
-fewer (r ∷ rs) y c e d less h = (λ x low high. h.0 x low (omega arith), fewer rs y c e d less h.1)
-
-one-more : (rs : List OverlayRect) (r : OverlayRect) (y c e : ℕ) → HaveAllOrNone y c e rs → HasAllOrNone y c e r → HaveAllOrNone y c e (rs ++ r ∷ [])
-one-more [] r y c e h one = (one, tt)
-one-more (s ∷ rs) r y c e h one = (h.0, one-more rs r y c e h.1 one)
-
-pub next-rect : (rs : List OverlayRect) (i : ℕ) (r : OverlayRect) (y c e d : ℕ) → i < length rs → d ≤ e → HaveAllOrNone y c e (take i rs) → HasAllOrNone y c d (get_or rs i r)
-    → HaveAllOrNone y c d (take (i + 1) rs)
-next-rect rs i r y c e d within less h one =
-    subst (HaveAllOrNone y c d) (sym (take_more rs i r within)) (one-more (take i rs) (get_or rs i r) y c d (fewer (take i rs) y c e d less h) one)
+    let steady = IsSteady (λ (r : OverlayRect). is_at r y) c e in
+    ap₂ (λ (o : Option ComponentId) (b : Bool). first_of_two o (if b then Some r.id else None)) (one-owner rs y c e x (All-tail steady r rs h) low high) (All-head steady r rs h x low high)
 
 -- ---- rows
 

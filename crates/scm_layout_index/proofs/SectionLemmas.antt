@@ -22,37 +22,11 @@ use Rattle.scm_layout_index.proofs.PieceLists.{section_pieces}
 
 -- ---- a search from the front
 
--- the piece of the section that has row y, counted like their own rows from row `first`, if there is one; the first section has index i
-abbrev pub section_from : SelectionKey → ℕ → FileKey → ℕ → ℕ → ℕ → List SectionRows → Option SectionPiece
-section_from selection total k first y i [] = None
-section_from selection total k first y i (r ∷ rs) =
-    if nat_le r.top y && nat_lt y r.end then Some (section_of_rows selection total (section_key_of k i) first r)
-    else section_from selection total k first y (suc i) rs
-
--- the pieces that have row y, if any; the first file has index i
-abbrev pub pieces_from : SelectionKey → ℕ → ℕ → ℕ → List FileRows → Option RowPieces
-pieces_from selection m y i [] = None
-pieces_from selection m y i (r ∷ rs) =
-    if nat_le r.top y && nat_lt y r.end
-    then Some (record { file = file_of_rows m i r; section = section_in selection i r y })
-    else pieces_from selection m y (suc i) rs
-
--- the file that has row m, in a list; the first file has index i
-abbrev pub pinned_from : ℕ → ℕ → List FileRows → List Piece
-pinned_from m i [] = []
-pinned_from m i (r ∷ rs) =
-    if nat_le r.top m && nat_lt m r.end then pieces.File (file_of_rows m i r) ∷ [] else pinned_from m (suc i) rs
-
--- ---- what an index on a row is the index of
-
-module _ {A : Type 0} (top end : A → ℕ) (row : ℕ) where
-  pub bound : (i j : ℕ) (xs : List A) → index_on top end row i xs ≡ Some j → (i ≤ j) × (j < i + length xs)
-  bound i j [] e = absurd cc
-  bound i j (x ∷ xs) e = go (nat_le (top x) row && nat_lt row (end x)) e (λ f. bound (suc i) j xs f)
-    where
-      go : (b : Bool) → (if b then Some i else index_on top end row (suc i) xs) ≡ Some j → (index_on top end row (suc i) xs ≡ Some j → (suc i ≤ j) × (j < suc i + length xs)) → (i ≤ j) × (j < i + suc (length xs))
-      go true e more = let same : i ≡ j = cc in (omega (arith, same), omega (arith, same))
-      go false e more = let m = more e in (omega (arith, m.0), omega (arith, m.1))
+-- what `make` makes of the first element that has row y, and of its index, or `none` if there is no such element; the first element has index i
+abbrev pub made_from : {A R : Type 0} → (A → ℕ) → (A → ℕ) → ℕ → (ℕ → A → R) → R → ℕ → List A → R
+made_from top end y make none i [] = none
+made_from top end y make none i (r ∷ rs) =
+    if nat_le (top r) y && nat_lt y (end r) then make i r else made_from top end y make none (suc i) rs
 
 -- the rows of a section and of a file
 abbrev section_top : SectionRows → ℕ
@@ -67,92 +41,58 @@ file_top r = r.top
 abbrev file_end : FileRows → ℕ
 file_end r = r.end
 
-module _ (selection : SelectionKey) (total : ℕ) (k : FileKey) (first row : ℕ) where
-  pub found-section : (i j : ℕ) (rs : List SectionRows) (r : SectionRows) → index_on section_top section_end row i rs ≡ Some j → r ≡ get_or rs (j - i) r
-      → section_from selection total k first row i rs ≡ Some (section_of_rows selection total (section_key_of k j) first r)
-  found-section i j [] r e p = absurd cc
-  found-section i j (a ∷ rs) r e p = go (nat_le a.top row && nat_lt row a.end) e (λ f. found-section (suc i) j rs r f)
-    where
-      go : (t : Bool) → (if t then Some i else index_on section_top section_end row (suc i) rs) ≡ Some j
-          → (index_on section_top section_end row (suc i) rs ≡ Some j → r ≡ get_or rs (j - suc i) r → section_from selection total k first row (suc i) rs ≡ Some (section_of_rows selection total (section_key_of k j) first r))
-          → (if t then Some (section_of_rows selection total (section_key_of k i) first a) else section_from selection total k first row (suc i) rs) ≡ Some (section_of_rows selection total (section_key_of k j) first r)
-      go true e more =
-          let same : i ≡ j = cc in
-          let zero : j - i ≡ 0 = omega (arith, same) in
-          let first_row : r ≡ a = p ∙ ap (λ m. get_or (a ∷ rs) m r) zero in
-          rw (same, first_row) refl
-      go false e more =
-          let low = (bound section_top section_end row (suc i) j rs e).0 in
-          let next : j - i ≡ suc (j - suc i) = omega (arith, low) in
-          more e (p ∙ ap (λ m. get_or (a ∷ rs) m r) next)
+-- the piece of the section that has row y, counted like their own rows from row `first`, if there is one; the first section has index i
+abbrev pub section_from : SelectionKey → ℕ → FileKey → ℕ → ℕ → ℕ → List SectionRows → Option SectionPiece
+section_from selection total k first y =
+    made_from section_top section_end y (λ (i : ℕ) (r : SectionRows). Some (section_of_rows selection total (section_key_of k i) first r)) None
 
-  pub found-none : (i : ℕ) (rs : List SectionRows) → index_on section_top section_end row i rs ≡ None → section_from selection total k first row i rs ≡ None
-  found-none i [] e = refl
-  found-none i (a ∷ rs) e = go (nat_le a.top row && nat_lt row a.end) e (λ f. found-none (suc i) rs f)
-    where
-      go : (t : Bool) → (if t then Some i else index_on section_top section_end row (suc i) rs) ≡ None
-          → (index_on section_top section_end row (suc i) rs ≡ None → section_from selection total k first row (suc i) rs ≡ None)
-          → (if t then Some (section_of_rows selection total (section_key_of k i) first a) else section_from selection total k first row (suc i) rs) ≡ None
-      go true e more = absurd cc
-      go false e more = more e
+-- the pieces that have row y, if any; the first file has index i
+abbrev pub pieces_from : SelectionKey → ℕ → ℕ → ℕ → List FileRows → Option RowPieces
+pieces_from selection m y =
+    made_from file_top file_end y (λ (i : ℕ) (r : FileRows). Some (record { file = file_of_rows m i r; section = section_in selection i r y })) None
 
-module _ (selection : SelectionKey) (m row : ℕ) where
-  pub found-file : (i j : ℕ) (rs : List FileRows) (r : FileRows) → index_on file_top file_end row i rs ≡ Some j → r ≡ get_or rs (j - i) r
-      → pieces_from selection m row i rs ≡ Some (record { file = file_of_rows m j r; section = section_in selection j r row })
-  found-file i j [] r e p = absurd cc
-  found-file i j (a ∷ rs) r e p = go (nat_le a.top row && nat_lt row a.end) e (λ g. found-file (suc i) j rs r g)
-    where
-      go : (t : Bool) → (if t then Some i else index_on file_top file_end row (suc i) rs) ≡ Some j
-          → (index_on file_top file_end row (suc i) rs ≡ Some j → r ≡ get_or rs (j - suc i) r → pieces_from selection m row (suc i) rs ≡ Some (record { file = file_of_rows m j r; section = section_in selection j r row }))
-          → (if t then Some (record { file = file_of_rows m i a; section = section_in selection i a row }) else pieces_from selection m row (suc i) rs) ≡ Some (record { file = file_of_rows m j r; section = section_in selection j r row })
-      go true e more =
-          let same : i ≡ j = cc in
-          let zero : j - i ≡ 0 = omega (arith, same) in
-          let first_row : r ≡ a = p ∙ ap (λ m. get_or (a ∷ rs) m r) zero in
-          rw (same, first_row) refl
-      go false e more =
-          let low = (bound file_top file_end row (suc i) j rs e).0 in
-          let next : j - i ≡ suc (j - suc i) = omega (arith, low) in
-          more e (p ∙ ap (λ m. get_or (a ∷ rs) m r) next)
+-- the file that has row m, in a list; the first file has index i
+abbrev pub pinned_from : ℕ → ℕ → List FileRows → List Piece
+pinned_from m = made_from file_top file_end m (λ (i : ℕ) (r : FileRows). pieces.File (file_of_rows m i r) ∷ []) []
 
-  pub found-nothing : (i : ℕ) (rs : List FileRows) → index_on file_top file_end row i rs ≡ None → pieces_from selection m row i rs ≡ None
-  found-nothing i [] e = refl
-  found-nothing i (a ∷ rs) e = go (nat_le a.top row && nat_lt row a.end) e (λ f. found-nothing (suc i) rs f)
-    where
-      go : (t : Bool) → (if t then Some i else index_on file_top file_end row (suc i) rs) ≡ None
-          → (index_on file_top file_end row (suc i) rs ≡ None → pieces_from selection m row (suc i) rs ≡ None)
-          → (if t then Some (record { file = file_of_rows m i a; section = section_in selection i a row }) else pieces_from selection m row (suc i) rs) ≡ None
-      go true e more = absurd cc
-      go false e more = more e
+-- ---- what an index on a row is the index of
 
--- the file on the row to which a header may be pinned
-module _ (m : ℕ) where
-  pub found-pinned : (i j : ℕ) (rs : List FileRows) (r : FileRows) → index_on file_top file_end m i rs ≡ Some j → r ≡ get_or rs (j - i) r → pinned_from m i rs ≡ pieces.File (file_of_rows m j r) ∷ []
-  found-pinned i j [] r e p = absurd cc
-  found-pinned i j (a ∷ rs) r e p = go (nat_le a.top m && nat_lt m a.end) e (λ g. found-pinned (suc i) j rs r g)
+module _ {A : Type 0} (top end : A → ℕ) (row : ℕ) where
+  pub bound : (i j : ℕ) (xs : List A) → index_on top end row i xs ≡ Some j → (i ≤ j) × (j < i + length xs)
+  bound i j [] e = absurd cc
+  bound i j (x ∷ xs) e = go (nat_le (top x) row && nat_lt row (end x)) e (λ f. bound (suc i) j xs f)
     where
-      go : (t : Bool) → (if t then Some i else index_on file_top file_end m (suc i) rs) ≡ Some j
-          → (index_on file_top file_end m (suc i) rs ≡ Some j → r ≡ get_or rs (j - suc i) r → pinned_from m (suc i) rs ≡ pieces.File (file_of_rows m j r) ∷ [])
-          → (if t then pieces.File (file_of_rows m i a) ∷ [] else pinned_from m (suc i) rs) ≡ pieces.File (file_of_rows m j r) ∷ []
-      go true e more =
-          let same : i ≡ j = cc in
-          let zero : j - i ≡ 0 = omega (arith, same) in
-          let first_row : r ≡ a = p ∙ ap (λ n. get_or (a ∷ rs) n r) zero in
-          rw (same, first_row) refl
-      go false e more =
-          let low = (bound file_top file_end m (suc i) j rs e).0 in
-          let next : j - i ≡ suc (j - suc i) = omega (arith, low) in
-          more e (p ∙ ap (λ n. get_or (a ∷ rs) n r) next)
+      go : (b : Bool) → (if b then Some i else index_on top end row (suc i) xs) ≡ Some j → (index_on top end row (suc i) xs ≡ Some j → (suc i ≤ j) × (j < suc i + length xs)) → (i ≤ j) × (j < i + suc (length xs))
+      go true e more = let same : i ≡ j = cc in (omega (arith, same), omega (arith, same))
+      go false e more = let m = more e in (omega (arith, m.0), omega (arith, m.1))
 
-  pub none-pinned : (i : ℕ) (rs : List FileRows) → index_on file_top file_end m i rs ≡ None → pinned_from m i rs ≡ []
-  none-pinned i [] e = refl
-  none-pinned i (a ∷ rs) e = go (nat_le a.top m && nat_lt m a.end) e (λ f. none-pinned (suc i) rs f)
-    where
-      go : (t : Bool) → (if t then Some i else index_on file_top file_end m (suc i) rs) ≡ None
-          → (index_on file_top file_end m (suc i) rs ≡ None → pinned_from m (suc i) rs ≡ [])
-          → (if t then pieces.File (file_of_rows m i a) ∷ [] else pinned_from m (suc i) rs) ≡ []
-      go true e more = absurd cc
-      go false e more = more e
+  module _ {R : Type 0} (make : ℕ → A → R) (none : R) where
+    pub made-found : (i j : ℕ) (rs : List A) (r : A) → index_on top end row i rs ≡ Some j → r ≡ get_or rs (j - i) r → made_from top end row make none i rs ≡ make j r
+    made-found i j [] r e p = absurd cc
+    made-found i j (a ∷ rs) r e p = go (nat_le (top a) row && nat_lt row (end a)) e (λ f. made-found (suc i) j rs r f)
+      where
+        go : (t : Bool) → (if t then Some i else index_on top end row (suc i) rs) ≡ Some j
+            → (index_on top end row (suc i) rs ≡ Some j → r ≡ get_or rs (j - suc i) r → made_from top end row make none (suc i) rs ≡ make j r)
+            → (if t then make i a else made_from top end row make none (suc i) rs) ≡ make j r
+        go true e more =
+            let same : i ≡ j = cc in
+            let zero : j - i ≡ 0 = omega (arith, same) in
+            let first_row : r ≡ a = p ∙ ap (λ m. get_or (a ∷ rs) m r) zero in
+            rw (same, first_row) refl
+        go false e more =
+            let low = (bound (suc i) j rs e).0 in
+            let next : j - i ≡ suc (j - suc i) = omega (arith, low) in
+            more e (p ∙ ap (λ m. get_or (a ∷ rs) m r) next)
+
+    pub none-made : (i : ℕ) (rs : List A) → index_on top end row i rs ≡ None → made_from top end row make none i rs ≡ none
+    none-made i [] e = refl
+    none-made i (a ∷ rs) e = go (nat_le (top a) row && nat_lt row (end a)) e (λ f. none-made (suc i) rs f)
+      where
+        go : (t : Bool) → (if t then Some i else index_on top end row (suc i) rs) ≡ None
+            → (index_on top end row (suc i) rs ≡ None → made_from top end row make none (suc i) rs ≡ none)
+            → (if t then make i a else made_from top end row make none (suc i) rs) ≡ none
+        go true e more = absurd cc
+        go false e more = more e
 
 -- ---- the search by bisection finds the same
 
@@ -172,31 +112,31 @@ section-found selection i r y = go (section_on y r.sections) refl
   where
     go : (o : Option ℕ) → section_on y r.sections ≡ o
         → option_and_then (piece_at selection i r) o ≡ section_from selection (length r.sections) (file_key_of 0 i) (r.top + 1) y 0 r.sections
-    go None e = sym (found-none selection (length r.sections) (file_key_of 0 i) (r.top + 1) y 0 r.sections e)
+    go None e = sym (none-made section_top section_end y _ None 0 r.sections e)
     go (Some j) e =
         let within = (bound section_top section_end y 0 j r.sections e).1 in
         let s = read-at r.sections j (omega (arith, within)) in
-        rw s.1 (sym (found-section selection (length r.sections) (file_key_of 0 i) (r.top + 1) y 0 j r.sections s.0 e s.2))
+        rw s.1 (sym (made-found section_top section_end y _ None 0 j r.sections s.0 e s.2))
 
 pub pieces-found : (selection : SelectionKey) (m y : ℕ) (rs : List FileRows) → pieces_on selection m y rs ≡ pieces_from selection m y 0 rs
 pieces-found selection m y rs = go (file_on y rs) refl
   where
     go : (o : Option ℕ) → file_on y rs ≡ o → option_and_then (pieces_at selection m y rs) o ≡ pieces_from selection m y 0 rs
-    go None e = sym (found-nothing selection m y 0 rs e)
+    go None e = sym (none-made file_top file_end y _ None 0 rs e)
     go (Some j) e =
         let within = (bound file_top file_end y 0 j rs e).1 in
         let r = read-at rs j (omega (arith, within)) in
-        rw r.1 (sym (found-file selection m y 0 j rs r.0 e r.2))
+        rw r.1 (sym (made-found file_top file_end y _ None 0 j rs r.0 e r.2))
 
 pub pinned-found : (m : ℕ) (rs : List FileRows) → piece_list (pinned_piece m rs) ≡ pinned_from m 0 rs
 pinned-found m rs = go (file_on m rs) refl
   where
     go : (o : Option ℕ) → file_on m rs ≡ o → piece_list (option_and_then (λ i. option_and_then (λ r. Some (pieces.File (file_of_rows m i r))) (slice_get rs i)) o) ≡ pinned_from m 0 rs
-    go None e = sym (none-pinned m 0 rs e)
+    go None e = sym (none-made file_top file_end m _ [] 0 rs e)
     go (Some j) e =
         let within = (bound file_top file_end m 0 j rs e).1 in
         let r = read-at rs j (omega (arith, within)) in
-        rw r.1 (sym (found-pinned m 0 j rs r.0 e r.2))
+        rw r.1 (sym (made-found file_top file_end m _ [] 0 j rs r.0 e r.2))
 
 -- the last file ends where all do
 pub end-none : (top : ℕ) (rs : List FileRows) → slice_get rs (length rs - 1) ≡ None → top ≡ end_of_files top rs

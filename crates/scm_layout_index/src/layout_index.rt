@@ -119,7 +119,7 @@ impl LayoutIndex {
         ensures { (w h s : ℕ) (shown : ViewState) → IsLayoutIndexOf w h s shown self.now →
             result ≡ (if nat_lt column w then owner w h s shown row column else None) }
     {
-        self.owner_on(self.row_owners(row), column)
+        self.owner_on(&self.row_owners(row), column)
     }
 
     /// If the item of `key` is visible, returns its first row in the document and its number of

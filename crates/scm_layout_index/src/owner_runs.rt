@@ -1,5 +1,5 @@
 //! Runs of columns of a row that have the same owner, so that it is asked for once.
-ghost use Rattle.std.specs.Prelude.{◌≡◌, ℕ, ◌+◌, ◌<◌, ◌≤◌, ◌^◌, nat_le, nat_lt, if◌then◌else◌, None};
+ghost use Rattle.std.specs.Prelude.{◌≡◌, ℕ, ◌+◌, ◌<◌, ◌≤◌, ◌^◌, nat_le, nat_lt, if◌then◌else◌, None, Some};
 ghost use Rattle.scm_document.specs.PieceOwners.{box_owner, rows_owner, section_owner};
 ghost use Rattle.scm_document.specs.Pieces.{files_of, sections_of};
 ghost use Rattle.scm_types.specs.declared.keys.SelectionKey.{SelectionKey};
@@ -72,31 +72,37 @@ fn section_end(width: usize, section: &SectionPiece, row: usize, column: usize) 
 }
 
 /// Returns the end of a run from `column` on of the columns of row `row` of the document, among the
-/// pieces that have the row, if any. The screen has `width` columns.
-fn found_end(width: usize, found: Option<RowPieces>, row: usize, column: usize) -> usize
+/// pieces that have the row. The screen has `width` columns.
+fn pieces_end(width: usize, found: &RowPieces, row: usize, column: usize) -> usize
     requires { column < width }
-    ensures { IsRun (rows_owner width (files_of (found_list found))
-        (sections_of (found_list found)) row) width column result }
+    ensures { IsRun (rows_owner width (files_of (found_list (Some found.now)))
+        (sections_of (found_list (Some found.now))) row) width column result }
 {
-    match found {
+    if row == found.file.top {
+        return heading_end(width, 0, column);
+    }
+    match &found.section {
         None => width,
-        Some(found) => {
-            if row == found.file.top {
-                return heading_end(width, 0, column);
-            }
-            match found.section {
-                None => width,
-                Some(section) => {
-                    section_end(width, &section, row.saturating_sub(section.top), column)
-                }
-            }
-        }
+        Some(section) => section_end(width, section, row.saturating_sub(section.top), column),
+    }
+}
+
+/// Returns the end of a run from `column` on of the columns of the row of `owners`, among the pieces
+/// that have the row, if any. The screen has `width` columns.
+fn found_end(width: usize, owners: &RowOwners, column: usize) -> usize
+    requires { column < width }
+    ensures { IsRun (rows_owner width (files_of (found_list owners.now.found))
+        (sections_of (found_list owners.now.found)) owners.now.row) width column result }
+{
+    match &owners.found {
+        None => width,
+        Some(found) => pieces_end(width, found, owners.row, column),
     }
 }
 
 /// Returns the end of a run from `column` on of the columns before `end`: all in `rect`, or all beside
 /// it.
-fn rect_end(rect: Rect, column: usize, end: usize) -> usize
+pub fn rect_end(rect: Rect, column: usize, end: usize) -> usize
     requires column { column < end }
     requires end { end < 2 ^ 63 }
     ensures { IsRun (is_within rect.x rect.width) end column result }
@@ -140,12 +146,12 @@ fn overlay_end(rects: &[OverlayRect], row: usize, column: usize, end: usize) -> 
 
 impl LayoutIndex {
     /// Returns the end of a run from `column` on of the columns of the row of `owners`.
-    fn run_end(&self, owners: RowOwners, column: usize) -> usize
-        requires owners { AreRowOwners self.now owners }
+    fn run_end(&self, owners: &RowOwners, column: usize) -> usize
+        requires owners { AreRowOwners self.now owners.now }
         requires column { column < self.now.width }
-        ensures { IsRun (owner_in self.now owners.row) self.now.width column result }
+        ensures { IsRun (owner_in self.now owners.now.row) self.now.width column result }
     {
-        let end = found_end(usize::from(self.width), owners.found, owners.row, column);
+        let end = found_end(usize::from(self.width), owners, column);
         if owners.is_covered {
             overlay_end(&self.rects, owners.row, column, end)
         } else {
@@ -155,13 +161,13 @@ impl LayoutIndex {
 
     /// Returns the owner of the place at `column` of the row of `owners`, and the end of a run of
     /// columns from there on that have the same owner.
-    pub fn run_on(&self, owners: RowOwners, column: usize) -> OwnerRun
-        requires owners { AreRowOwners self.now owners }
+    pub fn run_on(&self, owners: &RowOwners, column: usize) -> OwnerRun
+        requires owners { AreRowOwners self.now owners.now }
         requires column { column + 1 < 2 ^ 64 }
         ensures past { column < result.end }
         ensures owner { (w h s : ℕ) (shown : ViewState) → IsLayoutIndexOf w h s shown self.now →
             (x : ℕ) → column ≤ x → x < result.end →
-            result.owner ≡ (if nat_lt x w then owner w h s shown owners.row x else None) }
+            result.owner ≡ (if nat_lt x w then owner w h s shown owners.now.row x else None) }
     {
         if usize::from(self.width) <= column {
             return OwnerRun {

@@ -24,20 +24,15 @@ pub struct RowOwners {
     pub(crate) is_covered: bool,
 }
 
-/// Returns the owner of `row` and `column` among the pieces that have the row, if any. The screen
-/// has `width` columns.
-fn owner_of_found(
-    width: usize,
-    found: Option<RowPieces>,
-    row: usize,
-    column: usize,
-) -> Option<ComponentId>
-    ensures { result ≡ rows_owner width (files_of (found_list found))
-        (sections_of (found_list found)) row column }
+/// Returns the owner of the place at `column` of the row of `owners` among the pieces that have the
+/// row, if any. The screen has `width` columns.
+fn owner_of_found(width: usize, owners: &RowOwners, column: usize) -> Option<ComponentId>
+    ensures { result ≡ rows_owner width (files_of (found_list owners.now.found))
+        (sections_of (found_list owners.now.found)) owners.now.row column }
 {
-    match found {
+    match &owners.found {
         None => None,
-        Some(found) => owner_among(width, &found, row, column),
+        Some(found) => owner_among(width, found, owners.row, column),
     }
 }
 
@@ -55,9 +50,9 @@ impl LayoutIndex {
     }
 
     /// Returns the owner of the place at `column` among what lies over the document, if any.
-    fn overlay_on(&self, owners: RowOwners, column: usize) -> Option<ComponentId>
-        requires { AreRowOwners self.now owners }
-        ensures { result ≡ overlay_owner self.now.rects.items owners.row column }
+    fn overlay_on(&self, owners: &RowOwners, column: usize) -> Option<ComponentId>
+        requires { AreRowOwners self.now owners.now }
+        ensures { result ≡ overlay_owner self.now.rects.items owners.now.row column }
     {
         if owners.is_covered {
             overlay_owner(&self.rects, owners.row, column)
@@ -67,9 +62,9 @@ impl LayoutIndex {
     }
 
     /// Returns the owner of the place at `column` of the row of `owners`, if any.
-    pub(crate) fn owner_in(&self, owners: RowOwners, column: usize) -> Option<ComponentId>
-        requires { AreRowOwners self.now owners }
-        ensures { result ≡ owner_in self.now owners.row column }
+    pub(crate) fn owner_in(&self, owners: &RowOwners, column: usize) -> Option<ComponentId>
+        requires { AreRowOwners self.now owners.now }
+        ensures { result ≡ owner_in self.now owners.now.row column }
     {
         if usize::from(self.width) <= column {
             return None;
@@ -77,16 +72,16 @@ impl LayoutIndex {
         let overlay = self.overlay_on(owners, column);
         match overlay {
             Some(_) => overlay,
-            None => owner_of_found(usize::from(self.width), owners.found, owners.row, column),
+            None => owner_of_found(usize::from(self.width), owners, column),
         }
     }
 
     /// Returns the component that owns the place at `column` of the screen, on the row of `owners`,
     /// if any. Columns off the screen have no owner.
-    pub fn owner_on(&self, owners: RowOwners, column: usize) -> Option<ComponentId>
-        requires { AreRowOwners self.now owners }
+    pub fn owner_on(&self, owners: &RowOwners, column: usize) -> Option<ComponentId>
+        requires { AreRowOwners self.now owners.now }
         ensures { (w h s : ℕ) (shown : ViewState) → IsLayoutIndexOf w h s shown self.now →
-            result ≡ (if nat_lt column w then owner w h s shown owners.row column else None) }
+            result ≡ (if nat_lt column w then owner w h s shown owners.now.row column else None) }
     {
         self.owner_in(owners, column)
     }

@@ -1,6 +1,6 @@
 -- A session that can be drawn stays so: marks and short messages leave a state within the limits, and the scroll is held.
-use Rattle.std.proofs.Common.{◌≡◌, ℕ, zero, suc, ◌+◌, ◌≤◌, ◌&&◌, Bool, true, false, List, [], ◌∷◌, length, map, fold, cond, sym, ap, ◌∙◌, refl, subst, arith}
-use Rattle.std.specs.Prelude.{IsTrue, nat_le, sum_by}
+use Rattle.std.proofs.Common.{◌≡◌, ℕ, zero, suc, ◌≤◌, ◌&&◌, Bool, true, false, List, [], ◌∷◌, length, map, cond, sym, ap, ◌∙◌, refl, subst, arith}
+use Rattle.std.specs.Prelude.{IsTrue, nat_le}
 use Rattle.std.specs.List.{list_all}
 use Rattle.std.proofs.lemmas.Bool.{and_parts}
 use Rattle.scm_types.specs.declared.line.SectionChangedLine.{SectionChangedLine}
@@ -10,7 +10,7 @@ use Rattle.scm_types.specs.declared.file.File.{File}
 use Rattle.scm_types.specs.declared.state.Commit.{Commit}
 use Rattle.scm_types.specs.declared.state.RecordState.{RecordState}
 use Rattle.scm_types.specs.Edits.{modify}
-use Rattle.scm_types.specs.Limits.{max_items, section_size, file_size, is_short_text, is_short_option, has_short_texts, has_short_texts_in_file, is_accepted_state, max_scroll}
+use Rattle.scm_types.specs.Limits.{max_items, state_size, is_short_text, is_short_option, has_short_texts, has_short_texts_in_file, is_accepted_state, max_scroll}
 use Rattle.scm_types.specs.Marks.{line_with_mark, section_with_marks, file_with_marks}
 use Rattle.scm_types.proofs.EditLemmas.{length-modify}
 use Rattle.scm_input.specs.declared.events.Event.{Event}
@@ -19,22 +19,12 @@ use Rattle.scm_selection.specs.Toggle.{with_key_toggled, with_all_inverted, with
 use Rattle.scm_record.specs.Session.{Session, IsDrawable, start, padded_commits, with_message, commit_with_message}
 use Rattle.scm_record.specs.Frames.{Scene}
 use Rattle.scm_record.specs.Step.{change}
-use Rattle.scm_record.proofs.KeepingLemmas.{toggle-hidden, marked-hidden, inverted-hidden}
+use Rattle.scm_layout.proofs.BareLemmas.{all_set-hidden, inverted-hidden, toggle-hidden}
+use Rattle.scm_layout.proofs.MarkLemmas.{size-same}
 use Rattle.scm_record.proofs.StepLemmas as steps
 use Rattle.scm_record.proofs.StepLemmas.{Marks, toggled, inverted, all_set, Scrolls, unscrolled, scrolled, leads}
 
 -- ---- lists in which what counts is as before
-
-length-same : {A B : Type 0} (v : A → B) (xs : List A) → length (map v xs) ≡ length xs
-length-same v [] = refl
-length-same v (x ∷ xs) = ap suc (length-same v xs)
-
-fold-same : {A B : Type 0} (g : B → A → B) (v : A → A) → ((b : B) (x : A) → g b (v x) ≡ g b x) → (b : B) (xs : List A) → fold g b (map v xs) ≡ fold g b xs
-fold-same g v same b [] = refl
-fold-same g v same b (x ∷ xs) = fold-same g v same (g b (v x)) xs ∙ ap (λ c. fold g c xs) (same b x)
-
-sum-same : {A : Type 0} (size : A → ℕ) (v : A → A) → ((x : A) → size (v x) ≡ size x) → (xs : List A) → sum_by size (map v xs) ≡ sum_by size xs
-sum-same size v same xs = fold-same (λ n x. n + size x) v (λ n x. ap (λ m. n + m) (same x)) 0 xs
 
 all-same : {A : Type 0} (p : A → Bool) (v : A → A) → ((x : A) → p (v x) ≡ p x) → (xs : List A) → list_all p (map v xs) ≡ list_all p xs
 all-same p v same [] = refl
@@ -42,39 +32,19 @@ all-same p v same (x ∷ xs) = ap (λ b. b && list_all p (map v xs)) (same x) �
 
 -- ---- marks
 
--- how many files, sections and lines there are
-abbrev count : List File → ℕ
-count files = length files + sum_by file_size files
-
 abbrev are_short : List File → Bool
 are_short files = list_all has_short_texts_in_file files
 
 module _ (f : Bool → Bool) where
-  size-section : (s : Section) → section_size (section_with_marks f s) ≡ section_size s
-  size-section (sections.Unchanged lines) = refl
-  size-section (sections.Changed lines) = length-same (line_with_mark f) lines
-  size-section (sections.FileMode is_checked mode) = refl
-  size-section (sections.Binary is_checked old new) = refl
-
   short-section : (s : Section) → has_short_texts (section_with_marks f s) ≡ has_short_texts s
   short-section (sections.Unchanged lines) = refl
   short-section (sections.Changed lines) = all-same (λ (l : SectionChangedLine). is_short_text l.line) (line_with_mark f) (λ l. refl) lines
   short-section (sections.FileMode is_checked mode) = refl
   short-section (sections.Binary is_checked old new) = refl
 
-  size-file : (file : File) → file_size (file_with_marks f file) ≡ file_size file
-  size-file file =
-      ap (λ n. n + sum_by section_size (map (section_with_marks f) file.sections)) (length-same (section_with_marks f) file.sections)
-      ∙ ap (λ n. length file.sections + n) (sum-same section_size (section_with_marks f) size-section file.sections)
-
   short-file : (file : File) → has_short_texts_in_file (file_with_marks f file) ≡ has_short_texts_in_file file
   short-file file =
       ap (λ b. is_short_option file.old_path && is_short_text file.path && b) (all-same has_short_texts (section_with_marks f) short-section file.sections)
-
-  count-marked : (files : List File) → count (map (file_with_marks f) files) ≡ count files
-  count-marked files =
-      ap (λ n. n + sum_by file_size (map (file_with_marks f) files)) (length-same (file_with_marks f) files)
-      ∙ ap (λ n. length files + n) (sum-same file_size (file_with_marks f) size-file files)
 
   short-marked : (files : List File) → are_short (map (file_with_marks f) files) ≡ are_short files
   short-marked files = all-same has_short_texts_in_file (file_with_marks f) short-file files
@@ -91,14 +61,13 @@ is_within commits n short =
 abbrev AreMarked : List File → List File → Type 0
 AreMarked new old = map (file_with_marks (λ _. false)) new ≡ map (file_with_marks (λ _. false)) old
 
-within-same : (commits : List Commit) (new old : List File) → AreMarked new old → is_within commits (count new) (are_short new) ≡ is_within commits (count old) (are_short old)
-within-same commits new old e =
-    let counts : count new ≡ count old = sym (count-marked (λ _. false) new) ∙ ap count e ∙ count-marked (λ _. false) old in
-    let shorts : are_short new ≡ are_short old = sym (short-marked (λ _. false) new) ∙ ap are_short e ∙ short-marked (λ _. false) old in
-    ap (λ n. is_within commits n (are_short new)) counts ∙ ap (λ b. is_within commits (count old) b) shorts
-
 accepted-marked : (state : RecordState) (files : List File) → AreMarked files state.files → IsTrue (is_accepted_state state) → IsTrue (is_accepted_state (record state { files = files }))
-accepted-marked state files e h = subst (λ (b : Bool). IsTrue b) (sym (within-same state.commits files state.files e)) h
+accepted-marked state files e h =
+    let size : state_size (record state { files = files }) ≡ state_size state = size-same state files (sym e) in
+    let shorts : are_short files ≡ are_short state.files = sym (short-marked (λ _. false) files) ∙ ap are_short e ∙ short-marked (λ _. false) state.files in
+    let same : is_within state.commits (state_size (record state { files = files })) (are_short files) ≡ is_within state.commits (state_size state) (are_short state.files) =
+    ap (λ n. is_within state.commits n (are_short files)) size ∙ ap (λ b. is_within state.commits (state_size state) b) shorts in
+    subst (λ (b : Bool). IsTrue b) (sym same) h
 
 accepted-changed : (read_only : Bool) (s : Session) (f : List File → List File) → AreMarked (f s.shown.state.files) s.shown.state.files → IsTrue (is_accepted_state s.shown.state) → IsTrue (is_accepted_state (cond read_only s (record s { shown = record s.shown { state = record s.shown.state { files = f s.shown.state.files } } })).shown.state)
 accepted-changed true s f e h = h
@@ -108,7 +77,7 @@ marks-accepted : (s : Session) (state : RecordState) (flow : Flow) → Marks s s
 marks-accepted s _ _ (steps.unmarked allowed) h = h
 marks-accepted s _ _ toggled h = accepted-changed s.shown.state.is_read_only s (with_key_toggled s.shown.selection) (toggle-hidden s.shown.selection s.shown.state.files) h
 marks-accepted s _ _ inverted h = accepted-changed s.shown.state.is_read_only s with_all_inverted (inverted-hidden s.shown.state.files) h
-marks-accepted s _ _ all_set h = accepted-changed s.shown.state.is_read_only s with_all_set (marked-hidden _ s.shown.state.files) h
+marks-accepted s _ _ all_set h = accepted-changed s.shown.state.is_read_only s with_all_set (all_set-hidden s.shown.state.files) h
 
 scrolls-low : (old new : ℕ) → Scrolls old new → old ≤ max_scroll → new ≤ max_scroll
 scrolls-low old _ unscrolled h = h

@@ -13,7 +13,7 @@ use Rattle.scm_record.specs.Frames.{HasSize, IsSceneOf, Scene, columns_of, rows_
 use Rattle.scm_record.specs.RunContracts.{IsCurrent}
 
 -- sessions that show the same as far down have one frame
-same-frame : (w h : ℕ) (s t : Session) → t.shown ≡ s.shown → t.scroll ≡ s.scroll → frame_of w h t ≡ frame_of w h s
+pub same-frame : (w h : ℕ) (s t : Session) → t.shown ≡ s.shown → t.scroll ≡ s.scroll → frame_of w h t ≡ frame_of w h s
 unfolding frame_of
 same-frame w h s t e f = rw (e, f) refl
 

@@ -1,12 +1,12 @@
 -- The boxes that the screen showed have the targets of its rows, and a run of columns has one target.
-use Rattle.std.proofs.Common.{◌≡◌, ℕ, ◌+◌, ◌<◌, ◌≤◌, Bool, true, false, cond, List, [], ◌∷◌, ◌++◌, length, take, get_or, refl, sym, ap, ◌∙◌, subst, arith, fold}
+use Rattle.std.proofs.Common.{◌≡◌, ℕ, ◌+◌, ◌<◌, ◌≤◌, Bool, true, false, cond, List, [], ◌∷◌, length, take, get_or, refl, sym, ap, ◌∙◌, subst, arith, fold}
 use Rattle.std.specs.Prelude.{ℤ, pos, ◌+ℤ◌, ◌≤ℤ◌, ◌&&◌, int_le, int_lt, nat_le, nat_lt, Option, None, option_map, if◌then◌else◌}
 use Rattle.std.specs.Cmp.{IsEquivalence}
 use Rattle.std.specs.Int.{int_max}
-use Rattle.std.specs.List.{filter}
+use Rattle.std.specs.List.{All, filter}
 use Rattle.std.proofs.lemmas.Bool.{and_parts}
 use Rattle.std.proofs.lemmas.Int.{ints, clamps}
-use Rattle.std.proofs.lemmas.List.{take_more}
+use Rattle.std.proofs.lemmas.List.Elements.{All-head, All-tail}
 use Rattle.scm_cells.specs.Rect.{end_y_of}
 use Rattle.scm_cells.specs.declared.rect.Rect.{Rect}
 use Rattle.scm_render.specs.Hits.{IsLawful, holds}
@@ -18,6 +18,7 @@ use Rattle.scm_view.specs.Frame.{Frame}
 use Rattle.scm_widgets.specs.Clicks.{is_clickable}
 use Rattle.scm_widgets.specs.SameIds.{same_id}
 use Rattle.scm_widgets.specs.declared.ids.ComponentId.{ComponentId}
+use Rattle.scm_layout_index.proofs.OwnerRunLemmas.{IsSteady, next-steady}
 use Rattle.scm_record.specs.FreePlaces.{AreShown, has_row_among, holds_at, is_shown, target_in}
 use Rattle.scm_record.specs.FrameQueries.{hit}
 use Rattle.scm_record.specs.Frames.{AreFreePlaces, Scene}
@@ -110,34 +111,21 @@ shown-owner places law w frame kept row column y x at_row at_column within seen 
 
 -- a box has all columns c..e on row y, or none
 abbrev pub HasAllOrNone : ℤ → ℕ → ℕ → ComponentId × DrawnRect → Type 0
-HasAllOrNone y c e b = (x : ℕ) → c ≤ x → x < e → holds_at b.1.rect y x ≡ holds_at b.1.rect y c
+HasAllOrNone y c e = IsSteady (λ (b : ComponentId × DrawnRect) (x : ℕ). holds_at b.1.rect y x) c e
 
-abbrev pub HaveAllOrNone : ℤ → ℕ → ℕ → List (ComponentId × DrawnRect) → Type 0
-HaveAllOrNone y c e [] = Unit {0}
-HaveAllOrNone y c e (b ∷ bs) = HasAllOrNone y c e b × HaveAllOrNone y c e bs
-
-one-box : (bs : List (ComponentId × DrawnRect)) (y : ℤ) (c e x : ℕ) (found : Option (ComponentId × DrawnRect)) → HaveAllOrNone y c e bs → c ≤ x → x < e
+one-box : (bs : List (ComponentId × DrawnRect)) (y : ℤ) (c e x : ℕ) (found : Option (ComponentId × DrawnRect)) → All (HasAllOrNone y c e) bs → c ≤ x → x < e
     → fold (look is_clickable y (pos x)) found bs ≡ fold (look is_clickable y (pos c)) found bs
 one-box [] y c e x found h low high = refl
 one-box (b ∷ bs) y c e x found h low high =
-    ap (λ (t : Bool). fold (look is_clickable y (pos x)) (cond (is_clickable b.0 && t) (later_of found b) found) bs) (h.0 x low high)
-    ∙ one-box bs y c e x (look is_clickable y (pos c) found b) h.1 low high
+    ap (λ (t : Bool). fold (look is_clickable y (pos x)) (cond (is_clickable b.0 && t) (later_of found b) found) bs) (All-head (HasAllOrNone y c e) b bs h x low high)
+    ∙ one-box bs y c e x (look is_clickable y (pos c) found b) (All-tail (HasAllOrNone y c e) b bs h) low high
 
-pub one-target : (bs : List (ComponentId × DrawnRect)) (y : ℤ) (c e x : ℕ) → HaveAllOrNone y c e bs → c ≤ x → x < e → target_in bs y (pos x) ≡ target_in bs y (pos c)
+pub one-target : (bs : List (ComponentId × DrawnRect)) (y : ℤ) (c e x : ℕ) → All (HasAllOrNone y c e) bs → c ≤ x → x < e → target_in bs y (pos x) ≡ target_in bs y (pos c)
 one-target bs y c e x h low high = ap (option_map (λ (b : ComponentId × DrawnRect). b.0)) (one-box bs y c e x None h low high)
 
-fewer : (bs : List (ComponentId × DrawnRect)) (y : ℤ) (c e d : ℕ) → d ≤ e → HaveAllOrNone y c e bs → HaveAllOrNone y c d bs
-fewer [] y c e d less h = tt
-fewer (b ∷ bs) y c e d less h = (λ x low high. h.0 x low (omega arith), fewer bs y c e d less h.1)
-
-one-more : (bs : List (ComponentId × DrawnRect)) (b : ComponentId × DrawnRect) (y : ℤ) (c e : ℕ) → HaveAllOrNone y c e bs → HasAllOrNone y c e b → HaveAllOrNone y c e (bs ++ b ∷ [])
-one-more [] b y c e h one = (one, tt)
-one-more (a ∷ bs) b y c e h one = (h.0, one-more bs b y c e h.1 one)
-
-pub next-box : (bs : List (ComponentId × DrawnRect)) (i : ℕ) (b : ComponentId × DrawnRect) (y : ℤ) (c e d : ℕ) → i < length bs → d ≤ e → HaveAllOrNone y c e (take i bs) → HasAllOrNone y c d (get_or bs i b)
-    → HaveAllOrNone y c d (take (i + 1) bs)
-next-box bs i b y c e d within less h one =
-    subst (HaveAllOrNone y c d) (sym (take_more bs i b within)) (one-more (take i bs) (get_or bs i b) y c d (fewer (take i bs) y c e d less h) one)
+pub next-box : (bs : List (ComponentId × DrawnRect)) (i : ℕ) (b : ComponentId × DrawnRect) (y : ℤ) (c e d : ℕ) → i < length bs → d ≤ e → All (HasAllOrNone y c e) (take i bs) → HasAllOrNone y c d (get_or bs i b)
+    → All (HasAllOrNone y c d) (take (i + 1) bs)
+next-box bs i b y c e d = next-steady (λ (b : ComponentId × DrawnRect) (x : ℕ). holds_at b.1.rect y x) bs i b c e d
 
 -- ---- what a click hits
 

@@ -1,8 +1,9 @@
 -- The file and the section that a key of the files lies in are keys of the files.
-use Rattle.std.proofs.Common.{◌≡◌, ℕ, zero, suc, Bool, true, false, List, [], ◌∷◌, length, refl, Option, Some, None, arith, nat_lt, nat_eq}
+use Rattle.std.proofs.Common.{◌≡◌, ℕ, Bool, true, false, List, [], length, refl, Option, Some, None, arith, nat_lt, nat_eq}
 use Rattle.std.specs.Prelude.{slice_get}
 use Rattle.std.proofs.lemmas.Bool.Decides.{nat_tests}
 use Rattle.std.proofs.lemmas.Bool.{le-ltb}
+use Rattle.std.proofs.lemmas.Option.{slice_get_within}
 use Rattle.scm_types.specs.declared.section.Section.{Section}
 use Rattle.scm_types.specs.declared.section.Section.TheVariants.{Unchanged, Changed, FileMode, Binary}
 use Rattle.scm_types.specs.declared.file.File.{File}
@@ -16,11 +17,7 @@ use Rattle.scm_selection.specs.KeysAround.{is_key_of, is_editable_in, lines_in, 
 use Rattle.scm_selection.proofs.RelationLemmas.{and-left, and-right}
 
 has-item : {X : Type 0} (xs : List X) (i : ℕ) (x : X) → slice_get xs i ≡ Some x → nat_lt i (length xs) ≡ true
-has-item [] i x e = cc
-has-item (y ∷ xs) zero x e = grind (arith, nat_tests)
-has-item (y ∷ xs) (suc i) x e =
-    let more = has-item xs i x e in
-    grind (arith, nat_tests)
+has-item xs i x e = let h = slice_get_within xs i x e in grind (arith, nat_tests)
 
 of-file : (files : List File) (i : ℕ) (test : List Section → Bool) → test [] ≡ false → (r : Option File) → slice_get files i ≡ r → test (sections_in r) ≡ true → nat_lt i (length files) ≡ true
 of-file files i test none None e h = cc

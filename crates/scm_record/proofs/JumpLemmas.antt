@@ -15,7 +15,7 @@ use Rattle.scm_input.specs.declared.inputs.TerminalKind.{TerminalKind}
 use Rattle.scm_input.specs.Script.{Read, Batch, Reply}
 use Rattle.scm_selection.specs.KeysAround.{is_key_of}
 use Rattle.scm_record.specs.Session.{Session, after_frame, after_select, start, with_keys_above, with_scroll, without_pending}
-use Rattle.scm_record.specs.Frames.{Scene, scene_of, frame_of, columns_of, rows_of}
+use Rattle.scm_record.specs.Frames.{Scene, scene_of, columns_of, rows_of}
 use Rattle.scm_record.specs.FrameQueries.{free_rows_above, scroll_to_rows, scroll_to_span, scroll_to_show}
 use Rattle.scm_record.specs.Change.{Change, stays}
 use Rattle.scm_record.specs.Step.{change}
@@ -27,6 +27,7 @@ use Rattle.scm_record.specs.LiveCalls.{live_setting, fixed_reply, waiting_point,
 use Rattle.scm_record.specs.Jumps.{LeadToKey, after_jump, after_selecting, can_select}
 use Rattle.scm_record.specs.declared.live.Turn.{Turn}
 use Rattle.scm_record.specs.declared.live.Turn.TheVariants.{Waiting, Editing, Accepted}
+use Rattle.scm_record.proofs.CurrentLemmas.{same-frame}
 use Rattle.scm_record.proofs.FoldLemmas.{edited-fine, reaches-fine, start-fine}
 use Rattle.scm_record.proofs.RunLemmas.{reaches-trans}
 use Rattle.scm_view_state.proofs.KeyOrderLemmas.{Ascends}
@@ -48,10 +49,6 @@ span-again limit h s m (Some p) = again limit h s m p.0 (p.0 + p.1)
 -- a scroll that shows a key shows it still
 scroll-again : (scene : Scene) (s : ℕ) (key : SelectionKey) → scroll_to_show scene (scroll_to_show scene s key) key ≡ scroll_to_show scene s key
 scroll-again scene s key = span-again max_scroll scene.height s (free_rows_above key) (scene.frame.span key)
-
-same-frame : (w h : ℕ) (s t : Session) → t.shown ≡ s.shown → t.scroll ≡ s.scroll → frame_of w h t ≡ frame_of w h s
-unfolding frame_of
-same-frame w h s t e f = rw (e, f) refl
 
 -- what is pending is not drawn
 same-scene : (kind : TerminalKind) (s : Session) (list : List Event) → scene_of kind (record s { pending = list }) ≡ scene_of kind s

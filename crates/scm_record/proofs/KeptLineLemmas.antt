@@ -22,7 +22,7 @@ use Rattle.scm_view_state.proofs.LineSetLemmas.{with-with}
 use Rattle.scm_record.specs.declared.session.ActiveSession.TheInside.{Inside}
 use Rattle.scm_record.specs.Session.{Session, with_files_changed, with_keys_above}
 use Rattle.scm_record.specs.SessionView.{HasLayout, session_of, with_expanded}
-use Rattle.scm_record.proofs.KeepingLemmas.{inverted-hidden, marked-hidden, toggle-hidden}
+use Rattle.scm_layout.proofs.BareLemmas.{all_set-hidden, inverted-hidden, toggle-hidden}
 
 -- ---- toggles
 
@@ -55,7 +55,7 @@ inverted-keys : (fs : List File) → all_keys (with_all_inverted fs) ≡ all_key
 inverted-keys fs = same-keys (with_all_inverted fs) fs (inverted-hidden fs)
 
 set-keys : (fs : List File) → all_keys (with_all_set fs) ≡ all_keys fs
-set-keys fs = same-keys (with_all_set fs) fs (marked-hidden _ fs)
+set-keys fs = same-keys (with_all_set fs) fs (all_set-hidden fs)
 
 module _ (all : Bool) (e : List SelectionKey) where
   kept-lines : (fs gs : List File) → all_keys gs ≡ all_keys fs → with_lines all gs e ≡ with_lines all fs e

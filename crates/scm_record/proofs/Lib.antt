@@ -8,6 +8,8 @@ pub mod DrawableLemmas
 pub mod Budget
 pub mod MenuLemmas
 pub mod StepLemmas
+-- what each step keeps of a session
+pub mod InvariantLemmas
 -- what is drawn, as a frame
 pub mod FrameLemmas
 pub mod FreePlacesLemmas

@@ -1,6 +1,6 @@
 -- Inline the screen of a session in its styles is the window in its styles.
 use Rattle.std.proofs.Common.{◌≡◌, ℕ, zero, suc, ◌+◌, ◌<◌, ◌≤◌, List, ◌∷◌, map, length, set, get_or, Option, sym, ap, ◌∙◌, ⊎_elim, refl, arith}
-use Rattle.std.proofs.lemmas.Bool.{cases_eq, cases_lt}
+use Rattle.std.proofs.lemmas.Bool.{cases_eq}
 use Rattle.std.proofs.lemmas.List.{get_or-set_same, get_or-set_other}
 use Rattle.std.specs.List.{range_with_len}
 use Rattle.scm_cells.specs.Cell.{Cell}
@@ -31,10 +31,6 @@ fill-keeps xs from i s d low k before = ⊎_elim
     (λ e. absurd (omega arith))
     (λ n. get_or-set_other xs i k s d n)
     (cases_eq k i)
-
--- a place before another, or behind it
-pub by-place : {P : Type 0} (k i : ℕ) → (k < i → P) → (i ≤ k → P) → P
-by-place k i before behind = ⊎_elim before behind (cases_lt k i)
 
 -- ---- pictures
 

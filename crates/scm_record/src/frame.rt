@@ -304,19 +304,14 @@ impl DrawnFrame {
     }
 
     /// Returns the owner of `row` of the document and `column` of the screen, both counted from 0.
-    /// `owners` are those of the row, if they were found.
-    fn owner(&self, owners: Option<RowOwners>, row: usize, column: usize) -> Option<ComponentId>
+    fn owner(&self, row: usize, column: usize) -> Option<ComponentId>
         requires row { row < 2 ^ 63 }
         requires column { column < 2 ^ 63 }
-        requires owners { KnowsRow owners self.now.places row }
         ensures { (scene : Scene) → IsSceneOf scene self.now → column < scene.width
             → result ≡ scene.frame.owner row column }
     {
         match &self.places {
-            Places::Plain(index) => match owners {
-                Some(owners) => index.owner_on(owners, column),
-                None => index.owner(row, column),
-            },
+            Places::Plain(index) => index.owner(row, column),
             Places::Free(places) => places.owner(row as isize, column as isize),
         }
     }
@@ -336,17 +331,9 @@ impl DrawnFrame {
     }
 
     /// Returns the component that a click at `row` and `column` of the screen hits, if any, while
-    /// the screen is scrolled to row `scroll` of the document. All are counted from 0. `owners` are
-    /// those of the row, if they were found.
+    /// the screen is scrolled to row `scroll` of the document. All are counted from 0.
     #[tactic(auto, unfolding(scm_types::specs::Limits::max_items, scm_types::specs::Limits::max_scroll))]
-    pub(crate) fn hit_among(
-        &self,
-        owners: Option<RowOwners>,
-        scroll: usize,
-        row: usize,
-        column: usize,
-    ) -> Option<ComponentId>
-        requires { KnowsRow owners self.now.places (scroll + row) }
+    pub(crate) fn hit(&self, scroll: usize, row: usize, column: usize) -> Option<ComponentId>
         ensures { (scene : Scene) → IsSceneOf scene self.now
             → result ≡ hit scene scroll row column }
     {
@@ -354,7 +341,7 @@ impl DrawnFrame {
             && row < self.grid.height()
             && scroll <= RecordState::MAX_SCROLL
         {
-            self.owner(owners, scroll + row, column)
+            self.owner(scroll + row, column)
         } else {
             None
         }
@@ -371,21 +358,14 @@ impl DrawnFrame {
     }
 
     /// Returns what a click at `row` and `column` of the screen hits, as a run of that column alone.
-    fn one_place(
-        &self,
-        owners: Option<RowOwners>,
-        scroll: usize,
-        row: usize,
-        column: usize,
-    ) -> OwnerRun
-        requires owners { KnowsRow owners self.now.places (scroll + row) }
+    fn one_place(&self, scroll: usize, row: usize, column: usize) -> OwnerRun
         requires column { column + 1 < 2 ^ 64 }
         ensures past { column < result.end }
         ensures owner { (scene : Scene) → IsSceneOf scene self.now
             → (x : ℕ) → column ≤ x → x < result.end → result.owner ≡ hit scene scroll row x }
     {
         OwnerRun {
-            owner: self.hit_among(owners, scroll, row, column),
+            owner: self.hit(scroll, row, column),
             end: column + 1,
         }
     }
@@ -396,38 +376,29 @@ impl DrawnFrame {
     /// were found.
     pub(crate) fn run_among(
         &self,
-        owners: Option<RowOwners>,
+        owners: &Option<RowOwners>,
         scroll: usize,
         row: usize,
         column: usize,
     ) -> OwnerRun
-        requires owners { KnowsRow owners self.now.places (scroll + row) }
+        requires owners { KnowsRow owners.now self.now.places (scroll + row) }
         requires column { column + 1 < 2 ^ 64 }
         ensures past { column < result.end }
         ensures owner { (scene : Scene) → IsSceneOf scene self.now
             → (x : ℕ) → column ≤ x → x < result.end → result.owner ≡ hit scene scroll row x }
     {
         if !self.has_row(scroll, row) {
-            return self.one_place(owners, scroll, row, column);
+            return self.one_place(scroll, row, column);
         }
         match &self.places {
             Places::Plain(index) => match owners {
                 Some(found) => index.run_on(found, column),
-                None => self.one_place(owners, scroll, row, column),
+                None => self.one_place(scroll, row, column),
             },
             Places::Free(places) => {
                 places.run_on(self.grid.width(), (scroll + row) as isize, column)
             }
         }
-    }
-
-    /// Returns the component that a click at `row` and `column` of the screen hits, if any, while
-    /// the screen is scrolled to row `scroll` of the document. All are counted from 0.
-    pub(crate) fn hit(&self, scroll: usize, row: usize, column: usize) -> Option<ComponentId>
-        ensures { (scene : Scene) → IsSceneOf scene self.now
-            → result ≡ hit scene scroll row column }
-    {
-        self.hit_among(None, scroll, row, column)
     }
 
     /// Returns `scroll`, limited to the last row that the frame drew and to the maximum scroll.

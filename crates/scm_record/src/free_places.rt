@@ -7,15 +7,15 @@ ghost use Rattle.scm_errors.specs.declared.error.RecordError.TheVariants.{OutOfM
 ghost use Rattle.scm_render.specs.Hits.{holds};
 ghost use Rattle.scm_render.specs.Target.{later_of, look};
 ghost use Rattle.scm_widgets.specs.Clicks.{is_clickable};
-ghost use Rattle.scm_widgets.specs.Layers.{is_within};
 ghost use Rattle.scm_widgets.specs.SameIds.{same_id};
 ghost use Rattle.scm_view.specs.Frame.{Frame};
-ghost use Rattle.scm_layout_index.specs.OwnerRuns.{IsRun, end_before};
+ghost use Rattle.scm_layout_index.specs.OwnerRuns.{IsRun};
 ghost use Rattle.scm_record.specs.FreePlaces.{AreShown, has_row_among, holds_at, is_among, is_shown, target_in};
 ghost use Rattle.scm_record.specs.Frames.{AreFreePlaces};
 
-use scm_cells::{Rect, gap};
+use scm_cells::Rect;
 use scm_layout_index::OwnerRun;
+use scm_layout_index::owner_runs::rect_end;
 use scm_render::{Clickable, DrawnRect, DrawnRects, find_target};
 use scm_types::RecordError;
 use scm_view::{ComponentId, laws};
@@ -137,43 +137,16 @@ fn target_in(shown: &[(ComponentId, DrawnRect)], row: isize, column: isize) -> O
     Some(id)
 }
 
-/// Returns `stop` if it lies after `column` and before `end`, and otherwise `end`.
-fn end_before(column: usize, stop: usize, end: usize) -> usize
-    ensures { result ≡ end_before column stop end }
-{
-    if column < stop && stop < end {
-        stop
-    } else {
-        end
-    }
-}
-
-/// Returns the end of a run from `column` on of the columns before `end`: all in `from..from + size`,
-/// or all beside it.
-fn span_end(from: isize, size: usize, column: usize, end: usize) -> usize
-    requires column { column < end }
-    requires end { end < 2 ^ 63 }
-    ensures { IsRun (is_within from size) end column result }
-{
-    let start = gap(0, from);
-    let left = size.saturating_sub(gap(from, 0));
-    end_before(
-        column,
-        start,
-        end_before(column, start.saturating_add(left), end),
-    )
-}
-
 /// Returns the end of a run from `column` on of the columns before `end` on row `row`: all in `rect`,
 /// or all beside it.
 #[tactic(auto, unfolding(scm_render::specs::Hits::holds))]
-fn rect_end(rect: Rect, row: isize, column: usize, end: usize) -> usize
+fn box_end(rect: Rect, row: isize, column: usize, end: usize) -> usize
     requires column { column < end }
     requires end { end < 2 ^ 63 }
     ensures { IsRun (holds_at rect row) end column result }
 {
     if is_among(rect.y, rect.height, row) {
-        span_end(rect.x, rect.width, column, end)
+        rect_end(rect, column, end)
     } else {
         end
     }
@@ -188,7 +161,7 @@ fn shown_end(shown: &[(ComponentId, DrawnRect)], row: isize, column: usize, end:
 {
     let mut left = end;
     for entry in shown {
-        left = rect_end(entry.1.rect, row, column, left);
+        left = box_end(entry.1.rect, row, column, left);
     }
     left
 }

@@ -7,7 +7,9 @@ ghost use Rattle.scm_types.specs.Limits.{is_accepted_state, max_scroll};
 
 use crate::checks::check_equal;
 use crate::samples::{Part, state_with};
+use scm_cells::Rect;
 use scm_layout::StateRows;
+use scm_layout_index::owner_runs::rect_end;
 use scm_layout_index::{LayoutIndex, SharedRows, span_of_key};
 use scm_samples::{ADDED, REMOVED};
 use scm_selection::key_lists::all_keys;
@@ -50,7 +52,7 @@ fn check_row(rt: &impl Abort, index: &LayoutIndex, whole: &FrameIndex, row: usiz
     let owners = index.row_owners(row);
     for column in 0..32 {
         let owner = whole.owner(row, column);
-        let run = index.run_on(owners, column);
+        let run = index.run_on(&owners, column);
         let last = index.owner(row, run.end - 1);
         let place = (row, column);
         check_equal(rt, (place, index.owner(row, column)), (place, owner));
@@ -138,4 +140,26 @@ fn both_indexes_answer_alike(rt: HostRuntime) -> Result<(), RecordError> {
         change(&mut view_state, keys.as_slice(), seed)?;
     }
     Ok(())
+}
+
+#[test]
+fn runs_end_at_sides_of_rectangles(rt: HostRuntime) {
+    for (x, width, column, expected) in [
+        (2, 3, 0, 2),
+        (2, 3, 2, 5),
+        (2, 3, 5, 10),
+        (-1, 3, 0, 2),
+        (-1, 3, 2, 10),
+        (20, 3, 0, 10),
+    ] {
+        let rect = Rect {
+            x,
+            y: 0,
+            width,
+            height: 1,
+        };
+        assert!(rt; column < 10);
+        let end = rect_end(rect, column, 10);
+        check_equal(&rt, (x, column, end), (x, column, expected));
+    }
 }

@@ -47,7 +47,7 @@ fn set_row_styles(
     let owners = frame.row_owners(scroll, row);
     let mut column = 0;
     'runs: while column < styles.len() {
-        let run = frame.run_among(owners, scroll, row, column);
+        let run = frame.run_among(&owners, scroll, row, column);
         let end = run.end.min(styles.len());
         let style = NumberedStyle::new(view_state.style(row, run.owner));
         fill_run(styles, column, end, style);

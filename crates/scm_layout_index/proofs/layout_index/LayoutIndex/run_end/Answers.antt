@@ -5,4 +5,4 @@ use Rattle.scm_layout_index.proofs.layout_index.LayoutIndex.run_end.Goals as goa
 pub returns-else-owners : goal.returns-else-owners
 returns-else-owners c =
     let run = rw (c.from.ensures, c.requires.owners.found) at c.found_end-end.ensures in
-    bare-run c.args.self.now c.args.owners.row c.args.column _ (sym c.requires.owners.covered ∙ c.if-owners.false) run
+    bare-run c.args.self.now c.args.owners.now.row c.args.column _ (sym c.requires.owners.covered ∙ c.if-owners.false) run

@@ -1,10 +1,10 @@
 use Rattle.std.proofs.Common.{◌∙◌, Option, ap, arith}
 use Rattle.std.proofs.lemmas.List.FromFn.{fill_by_all}
 use Rattle.scm_terminal.specs.Style.{plain_style}
+use Rattle.scm_terminal.proofs.ShowingLemmas.{by-place}
 use Rattle.scm_widgets.specs.declared.ids.ComponentId.{ComponentId}
 use Rattle.scm_view_state.specs.Styles.{style_of}
 use Rattle.scm_record.specs.Painted.{style_in}
-use Rattle.scm_record.proofs.PaintedLemmas.{by-place}
 use Rattle.scm_record.proofs.live.painted.set_row_styles.Goals as goal
 
 pub runs-preserved : goal.runs-preserved
