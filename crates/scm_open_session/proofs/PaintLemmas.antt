@@ -14,9 +14,10 @@ use Rattle.scm_open_session.specs.declared.painters.Painters.{Painters}
 use Rattle.scm_open_session.specs.declared.running.Running.{Running}
 use Rattle.scm_open_session.specs.declared.running.Running.TheVariants as running
 use Rattle.scm_front_paint.specs.Below.{PaintsView}
-use Rattle.scm_open_session.specs.Results.{over}
+use Rattle.scm_c_values.specs.Buffers.{over}
 use Rattle.scm_open_session.specs.Painters.{Forget}
-use Rattle.scm_open_session.specs.Paint.{Fills, Forgets, ForgetsOpen, PaintsOpenSession, PaintsSession, ShowsPlain, ShowsRunning, ShowsView, Updates, UpdatesStage, as_update}
+use Rattle.scm_open_session.specs.Paint.{Fills, Forgets, ForgetsOpen, PaintsOpenSession, PaintsSession, ShowsPlain, ShowsRunning, ShowsView, Updates, UpdatesStage}
+use Rattle.scm_c_values.specs.Updates.{as_update}
 
 -- updates
 

@@ -1,9 +1,10 @@
 use Rattle.std.proofs.Common.{is_some, sym, ap, ◌∙◌}
 use Rattle.std.specs.List.{flat_map}
 use Rattle.scm_types.specs.declared.file.File.{File}
-use Rattle.scm_open_session.specs.Questions.{asked_state, bytes_of_section, code_of_question, marks_at}
+use Rattle.scm_open_session.specs.Questions.{asked_state}
+use Rattle.scm_c_values.specs.States.{bytes_of_section, code_of_question, marks_at}
 use Rattle.scm_open_session.specs.Boxes.{box_value}
-use Rattle.scm_open_session.proofs.QuestionLemmas.{coded_as, no_file_code, unasked_code}
+use Rattle.scm_c_values.proofs.QuestionLemmas.{coded_as, no_file_code, unasked_code}
 use Rattle.scm_open_session.proofs.question_calls.ask_marks.Goals as goal
 
 pub returns-in-None-clause-code : goal.returns-in-None-clause-code

@@ -1,7 +1,8 @@
 use Rattle.std.proofs.Common.{is_some, sym, ap, ◌∙◌}
 use Rattle.scm_open_session.specs.Boxes.{box_value}
-use Rattle.scm_open_session.specs.Questions.{asked_state, code_of_question, side_at}
-use Rattle.scm_open_session.proofs.QuestionLemmas.{coded_as, no_side_code, unasked_code}
+use Rattle.scm_open_session.specs.Questions.{asked_state}
+use Rattle.scm_c_values.specs.States.{code_of_question, side_at}
+use Rattle.scm_c_values.proofs.QuestionLemmas.{coded_as, no_side_code, unasked_code}
 use Rattle.scm_open_session.proofs.question_calls.ask_side.Goals as goal
 
 pub returns-in-None-clause-code : goal.returns-in-None-clause-code

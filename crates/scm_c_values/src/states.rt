@@ -1,0 +1,104 @@
+//! What calls tell of a state: marks, messages, and the bytes of sides.
+ghost use Rattle.std.specs.Prelude.{◌≡◌, ◌<◌, Some, option_map, true};
+ghost use Rattle.std.specs.List.{flat_map};
+ghost use Rattle.scm_c_values.specs.Codes.{IsCode};
+ghost use Rattle.scm_c_values.specs.Buffers.{TellsText};
+ghost use Rattle.scm_c_values.specs.States.{bytes_of_section, code_of_mark, index_if_any, mark_at, message_at};
+ghost use Rattle.scm_diff.specs.Bytes.{side_bytes};
+
+use crate::buffers::write_text;
+use crate::codes;
+use crate::items::marks_of;
+use crate::owners::Key;
+use scm_diff::side_bytes;
+use scm_embed::marks::mark_of;
+use scm_types::{Commit, File, RecordState, Tristate};
+use std::alloc::Global;
+
+/// Returns the code of `mark`.
+pub fn mark_code(mark: Tristate) -> u32
+    ensures { result ≡ code_of_mark mark }
+{
+    match mark {
+        Tristate::False => codes::UNCHECKED,
+        Tristate::Partial => codes::PARTLY,
+        Tristate::True => codes::CHECKED,
+    }
+}
+
+/// Returns `index`, or `None` for the greatest `usize`.
+pub fn index_if_any(index: usize) -> Option<usize>
+    ensures { result ≡ index_if_any index }
+{
+    if index == usize::MAX {
+        None
+    } else {
+        Some(index)
+    }
+}
+
+/// Returns the code of the mark of the file, the section or the line that `key` names, if there is
+/// such an item.
+pub fn mark_at(state: &RecordState<'static>, key: &Key) -> Option<u32>
+    ensures { result ≡ mark_at key.now state.now }
+{
+    let section = index_if_any(key.section);
+    let line = index_if_any(key.line);
+    match mark_of(state, key.file, section, line) {
+        Some(mark) => Some(mark_code(mark)),
+        None => None,
+    }
+}
+
+/// Returns the message of commit `commit`, if there is one.
+pub fn message_at<'s>(state: &'s RecordState<'static>, commit: usize) -> Option<&'s str>
+    ensures { option_map (λ text. text.now) result ≡ message_at commit state.now }
+{
+    match state.commits.as_slice().get(commit) {
+        Some(
+            Commit {
+                message: Some(message),
+            },
+        ) => Some(message.as_str()),
+        Some(Commit { message: None }) => None,
+        None => None,
+    }
+}
+
+/// Writes the bytes of `marks` to `out` and `written`. Returns the code of the call.
+pub fn tell_marks(alloc: Global, file: &File<'static>, out: &mut [u8], written: &mut usize) -> u32
+    ensures code { IsCode true 0 result }
+    ensures marks { result ≡ 0 → TellsText
+        (Some (flat_map bytes_of_section file.now.sections)) out.old out.new written.new }
+    ensures unwritten { 0 < result → (out.new ≡ out.old) × (written.new ≡ written.old) }
+{
+    match marks_of(alloc, file) {
+        Ok(marks) => {
+            *written = write_text(marks.as_slice(), out);
+            codes::DONE
+        }
+        Err(_) => codes::NO_MEMORY,
+    }
+}
+
+/// Writes the bytes of a side of `file` to `out` and `written`. Returns the code of the call.
+pub fn tell_side_bytes(
+    alloc: Global,
+    file: &File<'static>,
+    selected: bool,
+    out: &mut [u8],
+    written: &mut usize,
+) -> u32
+    ensures code { IsCode true 0 result }
+    ensures bytes { result ≡ 0
+        → TellsText (Some (side_bytes selected file.now)) out.old out.new written.new }
+    ensures unwritten { 0 < result → (out.new ≡ out.old) × (written.new ≡ written.old) }
+{
+    match side_bytes(alloc, file, selected) {
+        Ok(bytes) => {
+            *written = write_text(bytes.as_slice(), out);
+            codes::DONE
+        }
+        Err(_) => codes::NO_MEMORY,
+    }
+}
