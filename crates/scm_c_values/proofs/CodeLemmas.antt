@@ -13,7 +13,6 @@ use Rattle.scm_c_values.specs.Pieces.{event_of_bytes}
 use Rattle.scm_embed.specs.declared.addition.BuildError.{BuildError}
 use Rattle.scm_embed.specs.Additions.{Refuses, refuses, no_memory}
 use Rattle.scm_c_values.specs.FromBytes.{text_of_bytes}
-use Rattle.scm_c_values.specs.Texts.{GivenChange, change_with}
 
 -- the event of a word
 
@@ -120,11 +119,6 @@ long_change is_short e = rw e IsCode.known
 
 pub length_code : (is_short : Bool) → is_short ≡ true → IsCode true (if is_short then 0 else 7) 0
 length_code is_short e = rw e IsCode.known
-
-pub same_change : (path path_now old_path old_path_now old old_now new new_now : List ℕ) (old_bits new_bits : ℕ) (c : GivenChange)
-    → c ≡ change_with path old_path old old_bits new new_bits → path ≡ path_now → old_path ≡ old_path_now → old ≡ old_now → new ≡ new_now
-    → c ≡ change_with path_now old_path_now old_now old_bits new_now new_bits
-same_change path path_now old_path old_path_now old old_now new new_now old_bits new_bits c is a b d e = is ∙ rw (a, b, d, e) refl
 
 -- texts
 

@@ -1,5 +1,7 @@
 //! The owner of a place on the screen, as a C program sees it.
 ghost use Rattle.std.specs.Prelude.{◌≡◌};
+ghost use Rattle.scm_record.specs.Frames.{scene_of};
+ghost use Rattle.scm_record.specs.FrameQueries.{hit};
 ghost use Rattle.scm_c_values.specs.Keys.{
   item_of_key,
   key_of_component,
@@ -14,7 +16,9 @@ ghost use Rattle.scm_c_values.specs.Keys.{
 };
 
 use crate::codes;
-use scm_record::{ComponentId, FileKey, ItemKind, LineKey, SectionKey, SelectionKey, ViewState};
+use scm_record::{
+    ComponentId, FileKey, ItemKind, LineKey, LiveSession, SectionKey, SelectionKey, ViewState,
+};
 
 /// The indices of the item that a place belongs to, each counted from 0. `usize::MAX` is none.
 #[repr(C)]
@@ -111,7 +115,7 @@ impl Key {
     }
 
     /// Returns the key of the item that `owner` belongs to.
-    pub fn of_owner(owner: Option<ComponentId>) -> Key
+    fn of_owner(owner: Option<ComponentId>) -> Key
         ensures { result ≡ key_of_owner owner }
     {
         match owner {
@@ -159,13 +163,24 @@ fn component_code(view_state: &ViewState<'_>, id: ComponentId) -> u32
 }
 
 /// Returns the code of `owner`, in the view state `view_state`.
-pub fn owner_code(view_state: &ViewState<'_>, owner: Option<ComponentId>) -> u32
+fn owner_code(view_state: &ViewState<'_>, owner: Option<ComponentId>) -> u32
     ensures { result ≡ code_of_owner view_state.now owner }
 {
     match owner {
         None => codes::NOBODY,
         Some(id) => component_code(view_state, id),
     }
+}
+
+/// Returns the code and the key of the owner at `row`, `column` of the screen of `live`, both counted from 0.
+pub fn owner_at(live: &LiveSession<'static>, row: usize, column: usize) -> (u32, Key)
+    ensures code { result.0 ≡ code_of_owner live.now.session.shown
+        (hit (scene_of live.now.kind live.now.session) live.now.session.scroll row column) }
+    ensures key { result.1 ≡ key_of_owner
+        (hit (scene_of live.now.kind live.now.session) live.now.session.scroll row column) }
+{
+    let owner = live.owner(row, column);
+    (owner_code(live.view_state(), owner), Key::of_owner(owner))
 }
 
 /// Returns the item that `key` names.

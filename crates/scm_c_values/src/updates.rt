@@ -1,7 +1,9 @@
 //! Synchronized updates for the terminal.
 ghost use Rattle.std.specs.Prelude.{◌≡◌, IfSome, string_bytes};
-ghost use Rattle.scm_c_values.specs.Updates.{as_update};
+ghost use Rattle.scm_c_values.specs.Updates.{Shows, as_update};
+ghost use Rattle.scm_record.specs.Painted.{picture_of};
 
+use scm_record::{LiveSession, Painter};
 use std::alloc::Global;
 
 /// Returns `bytes` as one synchronized update of the terminal, with no style set at its end.
@@ -15,4 +17,19 @@ pub fn update_of(alloc: Global, bytes: &str) -> Option<String>
     update.push_str(bytes).ok()?;
     update.push_str("\x1b[0m\x1b[?2026l").ok()?;
     Some(update)
+}
+
+/// Returns the update that makes the terminal show `session`, if it shows what `painter` painted last.
+/// Returns `None` if an allocation failed.
+pub fn update_of_session(
+    alloc: Global,
+    session: &LiveSession<'static>,
+    painter: &mut Painter,
+) -> Option<String>
+    ensures shown { IfSome result
+        (λ update. Shows session.now painter.old (string_bytes update)) }
+    ensures painted { IfSome result (λ update. painter.new ≡ picture_of session.now) }
+{
+    let bytes = session.paint(painter).ok()?;
+    update_of(alloc, &bytes)
 }

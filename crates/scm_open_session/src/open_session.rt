@@ -33,7 +33,7 @@ use scm_c_values::ends::{failure_code, sentence};
 use scm_c_values::event_words::words_of;
 use scm_c_values::front_keys::{stop, told_key, told_length};
 use scm_c_values::json_state::state_of;
-use scm_c_values::owners::{Key, owner_code};
+use scm_c_values::owners::{Key, owner_at};
 use scm_c_values::screens::screen;
 use scm_c_values::texts::{TextChange, add_change};
 use scm_embed::{Addition, StateBuilder};
@@ -602,9 +602,8 @@ impl OpenSession {
     {
         match &self.stage {
             Stage::Waiting(session) => {
-                let live = session.live();
-                let owner = live.owner(row as usize, session.offset() as usize + column as usize);
-                (owner_code(live.view_state(), owner), Key::of_owner(owner))
+                let before = session.offset() as usize;
+                owner_at(session.live(), row as usize, before + column as usize)
             }
             Stage::Building(_) | Stage::Editing(_) | Stage::Accepted(_) | Stage::Ended(_) => {
                 (codes::NOBODY, Key::none())

@@ -8,12 +8,12 @@ ghost use Rattle.scm_open_session.specs.Questions.{asked_state};
 ghost use Rattle.scm_c_values.specs.Texts.{side_bytes_at};
 
 use crate::open_session::Session;
-use scm_c_values::buffers::write_text;
 use scm_c_values::codes;
-use scm_c_values::items::line_at;
 use scm_c_values::owners::Key;
-use scm_c_values::sides::{Side, tell_side};
-use scm_c_values::states::{mark_at, message_at, tell_marks, tell_side_bytes};
+use scm_c_values::sides::Side;
+use scm_c_values::states::{
+    tell_line_at, tell_mark_at, tell_marks_at, tell_message_at, tell_side_at, tell_side_bytes_at,
+};
 use scm_types::RecordState;
 use std::alloc::Global;
 
@@ -68,10 +68,7 @@ pub fn ask_side(
     ensures unwritten { 0 < result → (out.new ≡ out.old) × (told.new ≡ told.old) }
 {
     match state_of(session) {
-        Ok(state) => match state.files.as_slice().get(file) {
-            Some(file) => tell_side(alloc, file, selected, out, told),
-            None => codes::NO_ITEM,
-        },
+        Ok(state) => tell_side_at(alloc, state, file, selected, out, told),
         Err(code) => code,
     }
 }
@@ -85,13 +82,7 @@ pub fn ask_mark(session: &Session, key: &Key, mark: &mut u32) -> u32
     ensures unwritten { 0 < result → mark.new ≡ mark.old }
 {
     match state_of(session) {
-        Ok(state) => match mark_at(state, key) {
-            Some(found) => {
-                *mark = found;
-                codes::DONE
-            }
-            None => codes::NO_ITEM,
-        },
+        Ok(state) => tell_mark_at(state, key, mark),
         Err(code) => code,
     }
 }
@@ -106,13 +97,7 @@ pub fn ask_message(session: &Session, commit: usize, out: &mut [u8], written: &m
     ensures unwritten { 0 < result → (out.new ≡ out.old) × (written.new ≡ written.old) }
 {
     match state_of(session) {
-        Ok(state) => match message_at(state, commit) {
-            Some(text) => {
-                *written = write_text(text.as_bytes(), out);
-                codes::DONE
-            }
-            None => codes::NO_ITEM,
-        },
+        Ok(state) => tell_message_at(state, commit, out, written),
         Err(code) => code,
     }
 }
@@ -133,10 +118,7 @@ pub fn ask_marks(
     ensures unwritten { 0 < result → (out.new ≡ out.old) × (written.new ≡ written.old) }
 {
     match state_of(session) {
-        Ok(state) => match state.files.as_slice().get(file) {
-            Some(file) => tell_marks(alloc, file, out, written),
-            None => codes::NO_ITEM,
-        },
+        Ok(state) => tell_marks_at(alloc, state, file, out, written),
         Err(code) => code,
     }
 }
@@ -151,13 +133,7 @@ pub fn ask_line(session: &Session, key: &Key, out: &mut [u8], written: &mut usiz
     ensures unwritten { 0 < result → (out.new ≡ out.old) × (written.new ≡ written.old) }
 {
     match state_of(session) {
-        Ok(state) => match line_at(state, key) {
-            Some(text) => {
-                *written = write_text(text.as_bytes(), out);
-                codes::DONE
-            }
-            None => codes::NO_ITEM,
-        },
+        Ok(state) => tell_line_at(state, key, out, written),
         Err(code) => code,
     }
 }
@@ -180,10 +156,7 @@ pub fn ask_side_bytes(
     ensures unwritten { 0 < result → (out.new ≡ out.old) × (written.new ≡ written.old) }
 {
     match state_of(session) {
-        Ok(state) => match state.files.as_slice().get(file) {
-            Some(file) => tell_side_bytes(alloc, file, selected, out, written),
-            None => codes::NO_ITEM,
-        },
+        Ok(state) => tell_side_bytes_at(alloc, state, file, selected, out, written),
         Err(code) => code,
     }
 }
