@@ -5,7 +5,7 @@ ghost use Rattle.scm_open_session.specs.Paint.{ShowsPlain, ShowsRunning, ShowsVi
 
 use crate::boxed::BoxedPainter;
 use crate::running::Running;
-use scm_c_values::updates::update_of;
+use scm_c_values::updates::{update_of, update_of_session};
 use scm_front_paint::{Theme, View};
 use scm_record::{LiveSession, OwnedText, Painter};
 use std::alloc::Global;
@@ -69,8 +69,7 @@ impl Painters {
         ensures theme { self.new.theme ≡ self.old.theme }
         ensures accept { self.new.accept ≡ self.old.accept }
     {
-        let bytes = session.paint(&mut self.plain).ok()?;
-        update_of(alloc, &bytes)
+        update_of_session(alloc, session, &mut self.plain)
     }
 
     /// Returns the update that makes the terminal show `view`, if it shows what was painted last. Returns
