@@ -1,16 +1,17 @@
 //! Calls of the layer: search, ranges, undo, columns to the right, themes. `include/scm.h` documents each function.
 ghost use Rattle.std.specs.Prelude.{◌≡◌, ◌<◌, None, true};
 ghost use Rattle.std.specs.Str.{is_utf8};
-ghost use Rattle.scm_open_session.specs.LayerCalls.{BeginsLayer, ChangesPainters, HasTheme, SetsStart, StartsLayer, code_of_layer, code_of_number, is_view};
+ghost use Rattle.scm_open_session.specs.LayerCalls.{BeginsLayer, ChangesPainters, HasTheme, SetsStart, StartsLayer, code_of_layer, is_view};
+ghost use Rattle.scm_c_values.specs.Codes.{code_of_number, IsCode, code_of_json, code_of_message, is_message};
 ghost use Rattle.scm_open_session.specs.Layered.{folds_of, theme_of};
 ghost use Rattle.scm_open_session.specs.OwnKeys.{HasKeys, code_of_keys, keys_of_bytes};
 ghost use Rattle.scm_open_session.specs.Painters.{HaveWords};
-ghost use Rattle.scm_open_session.specs.Results.{IsCode, code_of_json, code_of_message, code_where, is_message};
+ghost use Rattle.scm_open_session.specs.Results.{code_where};
 ghost use Rattle.scm_open_session.specs.Stages.{ChangesStage, IsOpenAt};
 
 use crate::c_session::{CSession, give_back, take};
+use scm_c_values::owners::Key;
 use scm_open_session::layer_calls;
-use scm_open_session::owners::Key;
 use std::alloc::Global;
 
 /// Opens `session` with a layer over the state with the JSON form `json`. Its terminal has `width` columns

@@ -5,11 +5,16 @@
 ghost use Rattle.std.specs.Prelude.{◌≡◌, ℕ, ◌<◌, None, Some, is_some, length, true};
 ghost use Rattle.std.specs.Str.{is_utf8};
 ghost use Rattle.scm_open_session.specs.Boxes.{box_value};
-ghost use Rattle.scm_open_session.specs.Stages.{Begins, ChangesDecoder, ChangesStage, Clicks, HandsIn, Idles, IsOpenAt, Resizes, Says, Types, code_of_session, end_of_session, screen_of};
-ghost use Rattle.scm_open_session.specs.Results.{IsCode, Writes, code_of_answer, code_of_call, code_of_json, code_of_press, code_of_repaint, event_of_bytes, is_message, is_session_waiting, over, symbol_of_session, words_of_code};
+ghost use Rattle.scm_open_session.specs.Stages.{Begins, ChangesDecoder, ChangesStage, Clicks, HandsIn, Idles, IsOpenAt, Resizes, Says, Types, code_of_session, end_of_session};
+ghost use Rattle.scm_c_values.specs.Screens.{screen_of};
+ghost use Rattle.scm_c_values.specs.Codes.{IsCode, code_of_json, is_message, words_of_code};
+ghost use Rattle.scm_open_session.specs.Results.{Writes, code_of_answer, code_of_call, code_of_press, code_of_repaint, is_session_waiting, symbol_of_session};
+ghost use Rattle.scm_c_values.specs.Pieces.{event_of_bytes, events_of_bytes};
+ghost use Rattle.scm_c_values.specs.Buffers.{over};
 ghost use Rattle.scm_open_session.specs.Owners.{key_of_session, owner_of_session, selected_of_session};
-ghost use Rattle.scm_open_session.specs.Batches.{HandsInAll, code_of_batch, events_of_bytes};
-ghost use Rattle.scm_open_session.specs.Decoding.{Decodes, HearsBytes, HearsSilence};
+ghost use Rattle.scm_open_session.specs.Batches.{HandsInAll, code_of_batch};
+ghost use Rattle.scm_open_session.specs.Decoding.{Decodes};
+ghost use Rattle.scm_c_values.specs.EventWords.{HearsBytes, HearsSilence};
 ghost use Rattle.scm_open_session.specs.Paint.{Forgets, PaintsSession};
 ghost use Rattle.scm_open_session.specs.FrontKeys.{ChangesToKey};
 
@@ -20,8 +25,8 @@ mod raw_box;
 pub mod state_calls;
 
 use crate::c_session::{CSession, give_back, take};
+use scm_c_values::owners::Key;
 use scm_open_session::calls;
-use scm_open_session::owners::Key;
 use std::alloc::Global;
 
 /// Opens `session` over the state with the JSON form `json`. Its screen has `width` columns and

@@ -1,14 +1,16 @@
 //! Calls that ask for the state of a session. `include/scm.h` documents each function.
 ghost use Rattle.std.specs.Prelude.{◌≡◌, ◌<◌, Some, true};
 ghost use Rattle.scm_open_session.specs.Boxes.{box_value};
-ghost use Rattle.scm_open_session.specs.Results.{IsCode};
-ghost use Rattle.scm_open_session.specs.Questions.{TellsSide, TellsText, answer_of, asked_state, code_of_question, file_count, line_at, mark_at, marks_at, message_at, side_at};
-ghost use Rattle.scm_open_session.specs.Texts.{side_bytes_at};
+ghost use Rattle.scm_c_values.specs.Codes.{IsCode};
+ghost use Rattle.scm_c_values.specs.States.{TellsSide, answer_of, code_of_question, file_count, line_at, mark_at, marks_at, message_at, side_at};
+ghost use Rattle.scm_c_values.specs.Buffers.{TellsText};
+ghost use Rattle.scm_open_session.specs.Questions.{asked_state};
+ghost use Rattle.scm_c_values.specs.Texts.{side_bytes_at};
 
 use crate::c_session::{CSession, give_back, take};
-use scm_open_session::owners::Key;
+use scm_c_values::owners::Key;
+use scm_c_values::sides::Side;
 use scm_open_session::question_calls;
-use scm_open_session::sides::Side;
 use std::alloc::Global;
 
 /// Writes the number of files to `count`. Returns the code of the call.

@@ -3,10 +3,12 @@ ghost use Rattle.std.specs.Prelude.{◌≡◌, ◌<◌, None, Some, true};
 ghost use Rattle.scm_embed.specs.declared.addition.Addition.TheVariants as additions;
 ghost use Rattle.scm_embed.specs.declared.addition.Part.TheVariants as parts;
 ghost use Rattle.scm_open_session.specs.Boxes.{box_value};
-ghost use Rattle.scm_open_session.specs.Results.{IsCode};
-ghost use Rattle.scm_open_session.specs.Stages.{ChangesStage, IsOpenAt, screen_of};
-ghost use Rattle.scm_open_session.specs.Building.{Adds, BeginsState, Builds, StartsSession, binary_of_bytes, changes_of_bytes, code_of_addition, context_of_bytes, file_of_bytes, line_of_bytes, message_of_bytes, mode_of_bits};
-ghost use Rattle.scm_open_session.specs.Texts.{BuildsChange, code_of_change, given_change};
+ghost use Rattle.scm_c_values.specs.Codes.{IsCode};
+ghost use Rattle.scm_open_session.specs.Stages.{ChangesStage, IsOpenAt};
+ghost use Rattle.scm_c_values.specs.Screens.{screen_of};
+ghost use Rattle.scm_open_session.specs.Building.{Adds, BeginsState, Builds, StartsSession, code_of_addition, BuildsChange, code_of_change};
+ghost use Rattle.scm_c_values.specs.FromBytes.{binary_of_bytes, changes_of_bytes, context_of_bytes, file_of_bytes, line_of_bytes, message_of_bytes, mode_of_bits};
+ghost use Rattle.scm_c_values.specs.Texts.{given_change};
 
 use crate::c_session::{CSession, give_back, take};
 use scm_open_session::state_calls;

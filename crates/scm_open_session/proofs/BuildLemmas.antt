@@ -1,9 +1,8 @@
 -- How a state grows by calls, and how a session begins with it.
-use Rattle.std.proofs.Common.{◌≡◌, ℕ, List, [], Bool, true, false, IsTrue, IsUtf8, if◌then◌else◌, Option, Some, None, IfSome, option_and_then, refl, sym, ap, ◌∙◌, subst}
+use Rattle.std.proofs.Common.{◌≡◌, ℕ, List, [], Bool, true, false, IsTrue, Option, Some, None, IfSome, option_and_then, refl, ap, ◌∙◌, subst}
 use Rattle.std.specs.declared.boxed.Box.{Box}
 use Rattle.std.specs.declared.alloc.Global.{Global}
 use Rattle.serde_json.specs.Read.{read}
-use Rattle.std.proofs.lemmas.Str.{is_utf8-from_IsUtf8}
 use Rattle.scm_errors.specs.declared.error.RecordError.{RecordError}
 use Rattle.scm_errors.specs.declared.error.RecordError.TheVariants.{OutOfMemory}
 use Rattle.scm_types.specs.declared.state.RecordState.{RecordState}
@@ -12,32 +11,21 @@ use Rattle.scm_input.specs.declared.inputs.TerminalKind.{TerminalKind}
 use Rattle.scm_record.specs.Live.{Live}
 use Rattle.scm_record.specs.Session.{start}
 use Rattle.scm_embed.specs.declared.addition.Addition.{Addition}
-use Rattle.scm_embed.specs.declared.addition.BuildError.{BuildError}
 use Rattle.scm_json.specs.Form.{state_of}
 use Rattle.scm_terminal.specs.Decoders.{HasHeard}
-use Rattle.scm_embed.specs.Additions.{Refuses, refuses, no_memory, after_addition, empty_state, refusal_of}
+use Rattle.scm_embed.specs.Additions.{no_memory, after_addition, empty_state, refusal_of}
 use Rattle.scm_open_session.specs.declared.open_session.OpenSession.{OpenSession}
 use Rattle.scm_open_session.specs.declared.open_session.Stage.{Stage}
 use Rattle.scm_open_session.specs.declared.open_session.Stage.TheVariants.{Building, Waiting, Editing, Accepted, Ended}
 use Rattle.scm_open_session.specs.declared.running.Running.TheVariants as running
 use Rattle.scm_open_session.specs.Painters.{AreNew}
-use Rattle.scm_open_session.specs.Stages.{Begins, ChangesStage, screen_of}
-use Rattle.scm_open_session.specs.Results.{IsCode}
-use Rattle.scm_open_session.specs.Building.{Adds, BeginsState, Builds, Starts, StartsSession, code_at_stage, code_of_addition, code_of_error, code_of_refusal, is_building, text_of_bytes}
-use Rattle.scm_open_session.specs.Texts.{AddsFile, BuildsChange, GivenChange, change_with, code_of_change, code_of_change_at, code_of_length, code_of_text_change, has_text_paths}
-use Rattle.scm_open_session.proofs.ResultLemmas.{not_utf8}
+use Rattle.scm_open_session.specs.Stages.{Begins, ChangesStage}
+use Rattle.scm_c_values.specs.Screens.{screen_of}
+use Rattle.scm_c_values.specs.Codes.{IsCode, code_of_refusal}
+use Rattle.scm_open_session.specs.Building.{Adds, BeginsState, Builds, Starts, StartsSession, code_at_stage, code_of_addition, is_building, BuildsChange, code_of_change, code_of_change_at, code_of_text_change}
+use Rattle.scm_c_values.specs.Texts.{AddsFile, GivenChange, code_of_length, has_text_paths, change_with}
 
 -- codes
-
-error_coded : {refusal : Option BuildError} {error : BuildError} → Refuses refusal error → IsCode true (code_of_refusal refusal) (code_of_error error)
-error_coded (refuses {error = error}) = IsCode.known
-error_coded (no_memory {refusal = refusal}) = IsCode.no_memory refl
-
-pub refused_code : (refusal : Option BuildError) (error : BuildError) (answer : ℕ) → Refuses refusal error → answer ≡ code_of_error error → IsCode true (code_of_refusal refusal) answer
-refused_code refusal error answer r e = rw e (error_coded r)
-
-pub added_code : (refusal : Option BuildError) → refusal ≡ None → IsCode true (code_of_refusal refusal) 0
-added_code refusal e = rw e IsCode.known
 
 pub stage_code : (addition : Addition) (old : Stage) (state : RecordState) (answer : ℕ) → old ≡ Building state
     → IsCode true (code_of_refusal (refusal_of addition state)) answer → IsCode true (code_at_stage addition old) answer
@@ -80,12 +68,6 @@ pub adds : (addition : Addition) (given : Option Addition) (old new : Option Ope
 adds addition given old new e goes = rw e goes
 
 -- files of two versions
-
-pub long_change : (is_short : Bool) → is_short ≡ false → IsCode true (if is_short then 0 else 7) 7
-long_change is_short e = rw e IsCode.known
-
-pub length_code : (is_short : Bool) → is_short ≡ true → IsCode true (if is_short then 0 else 7) 0
-length_code is_short e = rw e IsCode.known
 
 pub builds_change : (c : GivenChange) (old new : Stage) (before after : RecordState) → old ≡ Building before → new ≡ Building after → AddsFile c before after → BuildsChange c old new
 builds_change c old new before after e f a = rw (e, f) (BuildsChange.built_change a)
@@ -168,11 +150,3 @@ begins json width height given l kind inner form a s e f heard new = record {
   unheard = heard;
   unpainted = new;
 }
-
--- texts
-
-pub text_found : (bytes text : List ℕ) → text ≡ bytes → IsUtf8 bytes → Some text ≡ text_of_bytes bytes
-text_found bytes text e u = ap Some e ∙ ap (λ (t : Bool). if t then Some bytes else None) (sym (is_utf8-from_IsUtf8 bytes u))
-
-pub no_text : (bytes : List ℕ) → ¬ (IsUtf8 bytes) → None ≡ text_of_bytes bytes
-no_text bytes n = ap (λ (t : Bool). if t then Some bytes else None) (sym (not_utf8 bytes n))

@@ -6,8 +6,9 @@ use Rattle.scm_record.specs.Typed.{SilenceMeans}
 use Rattle.scm_input.specs.declared.terminal.TerminalEvent.{TerminalEvent}
 use Rattle.scm_terminal.specs.declared.decoder.Decoder.{Decoder}
 use Rattle.scm_open_session.specs.declared.open_session.OpenSession.{OpenSession}
-use Rattle.scm_open_session.specs.Results.{over}
-use Rattle.scm_open_session.specs.Decoding.{Decodes, DecodesOpen, HearsBytes, HearsSilence, Tells, TellsEvents, with_decoder, words_of_events}
+use Rattle.scm_c_values.specs.Buffers.{over}
+use Rattle.scm_open_session.specs.Decoding.{Decodes, DecodesOpen, Tells, TellsEvents, with_decoder}
+use Rattle.scm_c_values.specs.EventWords.{HearsBytes, HearsSilence, words_of_events}
 
 pub tells_written : (inner new : OpenSession) (decoder : Decoder) (words out filled : List ℕ)
     → length words ≤ length out → new ≡ with_decoder inner decoder → filled ≡ over words out → Tells inner decoder words out new filled

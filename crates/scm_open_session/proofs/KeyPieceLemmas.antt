@@ -5,16 +5,17 @@ use Rattle.std.proofs.lemmas.Str.{is_utf8-from_IsUtf8}
 use Rattle.std.specs.Str.{is_utf8}
 use Rattle.scm_front.specs.declared.actions.OwnKey.{OwnKey}
 use Rattle.scm_open_session.specs.declared.open_session.OpenSession.{OpenSession}
-use Rattle.scm_open_session.specs.Batches.{Adds, all_of, pieces_of}
+use Rattle.scm_c_values.specs.Pieces.{Adds, all_of, pieces_of}
 use Rattle.std.specs.List.{after_first, before_first, position_or_len}
 use Rattle.scm_input.specs.declared.terminal.TerminalEvent.{TerminalEvent}
 use Rattle.scm_script.specs.Words.{key_event_of}
 use Rattle.scm_front.specs.declared.actions.Action.{Action}
 use Rattle.scm_open_session.specs.OwnKeys.{HasKeys, SetsKeys, action_of_word, code_of_keys, has_equals, is_equals, key_with, keys_of_bytes, keys_of_piece, own_key_of}
 use Rattle.scm_open_session.specs.LayerCalls.{is_view}
-use Rattle.scm_open_session.specs.Results.{IsCode, code_where}
+use Rattle.scm_c_values.specs.Codes.{IsCode}
+use Rattle.scm_open_session.specs.Results.{code_where}
 use Rattle.scm_open_session.specs.Stages.{ChangesStage}
-use Rattle.scm_open_session.proofs.PieceLemmas.{adds_as, adds_no, adds_not, adds_some}
+use Rattle.scm_c_values.proofs.PieceLemmas.{adds_as, adds_no, adds_not, adds_some}
 
 -- ---- the two parts of a piece
 

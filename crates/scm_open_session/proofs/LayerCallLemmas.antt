@@ -1,5 +1,5 @@
 -- How a session begins with a layer, and how its looks and its keys change.
-use Rattle.std.proofs.Common.{◌≡◌, ℕ, ◌-◌, min, List, [], Bool, true, false, IsTrue, option_and_then, Option, Some, None, Result, Ok, Err, IfSome, IfOk, IfErr, refl, sym, ap, ◌∙◌, subst}
+use Rattle.std.proofs.Common.{◌≡◌, ℕ, min, List, [], false, IsTrue, option_and_then, Option, Some, None, Result, Ok, Err, IfSome, IfOk, IfErr, refl, sym, ap, ◌∙◌, subst}
 use Rattle.scm_errors.specs.declared.error.RecordError.{RecordError}
 use Rattle.scm_errors.specs.declared.error.RecordError.TheVariants.{OutOfMemory}
 use Rattle.scm_types.specs.declared.state.RecordState.{RecordState}
@@ -23,10 +23,8 @@ use Rattle.scm_open_session.specs.declared.running.Running.{Running}
 use Rattle.scm_open_session.specs.declared.running.Running.TheVariants as running
 use Rattle.scm_open_session.specs.Building.{is_building}
 use Rattle.scm_open_session.specs.Layered.{ViewSets}
-use Rattle.scm_open_session.specs.LayerCalls.{BeginsLayer, ChangesPainters, HasTheme, IsNewView, SetsStart, StartsLayer, StartsView, changes_painters, code_of_number}
-use Rattle.std.specs.Str.{is_utf8}
+use Rattle.scm_open_session.specs.LayerCalls.{BeginsLayer, ChangesPainters, HasTheme, IsNewView, SetsStart, StartsLayer, StartsView, changes_painters}
 use Rattle.scm_open_session.specs.OwnKeys.{SetsKeys}
-use Rattle.scm_open_session.specs.Results.{IsCode, code_of_json}
 use Rattle.scm_open_session.specs.Painters.{AreNew, HaveTheme}
 use Rattle.scm_open_session.specs.Stages.{or_ended, stage_of_view}
 
@@ -60,9 +58,6 @@ layer_starts width height old new h before k code e f g s d p =
 pub closed_layer_starts : (width height : ℕ) (old new : Option OpenSession) → old ≡ None → new ≡ None → StartsLayer width height old new 1
 closed_layer_starts width height old new e f = rw (e, f) StartsLayer.closed
 
-pub no_memory_as : (json : List ℕ) (code : ℕ) → IsTrue (is_utf8 json) → code ≡ 8 → IsCode (is_utf8 json) (code_of_json json) code
-no_memory_as json code u e = rw e (IsCode.no_memory u)
-
 pub begins_layer : (json : List ℕ) (width height w h : ℕ) (given : RecordState) (v : Seen) (inner : OpenSession)
     → option_and_then state_of (read json) ≡ Some given → IsTrue (is_accepted_state given) → inner.stage ≡ Waiting (running.Layered v)
     → w ≡ min width 1000 → h ≡ min height 1000 → IsNewView given w h v
@@ -85,12 +80,6 @@ pub painters_change : (Goes : Painters → Painters → Type 0) (old new : Optio
     → ChangesPainters Goes old new
 painters_change Goes old new h before k e f g goes s d =
     rw (e, g) (changes_painters (subst (λ (x : OpenSession). Goes x.painter k.painter) f goes) (s ∙ ap (λ (x : OpenSession). x.stage) f) (d ∙ ap (λ (x : OpenSession). x.decoder) f))
-
-pub number_code : {A : Type 0} (given : Option A) (value : A) (code answer : ℕ) → given ≡ Some value → answer ≡ code → answer ≡ code_of_number given code
-number_code given value code answer e f = rw e f
-
-pub no_number_code : {A : Type 0} (given : Option A) (code : ℕ) → given ≡ None → 10 ≡ code_of_number given code
-no_number_code given code e = rw e refl
 
 pub has_theme : (given : Option Theme) (theme : Theme) (old new : Option OpenSession) → given ≡ Some theme → ChangesPainters (HaveTheme theme) old new → HasTheme given old new
 has_theme given theme old new e goes = rw e goes

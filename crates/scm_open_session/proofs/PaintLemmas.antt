@@ -1,11 +1,8 @@
 -- What `scm_paint` writes.
 use Rattle.std.proofs.Common.{◌≡◌, ℕ, ◌≤◌, ◌<◌, List, [], length, Option, Some, None, Result, Ok, Err, ok_or, IfSome, IfNone, OnSome, sym, ap, ◌∙◌, subst}
 use Rattle.std.specs.Result.{result_map_both}
-use Rattle.scm_terminal.specs.Promise.{Paints}
 use Rattle.scm_record.specs.Live.{Live}
-use Rattle.scm_record.specs.Frames.{columns_of}
-use Rattle.scm_record.specs.Headline.{IsInline}
-use Rattle.scm_record.specs.Painted.{picture_of, window_picture_of}
+use Rattle.scm_record.specs.Painted.{picture_of}
 use Rattle.scm_open_session.specs.declared.open_session.OpenSession.{OpenSession}
 use Rattle.scm_front_paint.specs.Seen.{Seen}
 use Rattle.scm_open_session.specs.declared.open_session.Stage.{Stage}
@@ -14,9 +11,10 @@ use Rattle.scm_open_session.specs.declared.painters.Painters.{Painters}
 use Rattle.scm_open_session.specs.declared.running.Running.{Running}
 use Rattle.scm_open_session.specs.declared.running.Running.TheVariants as running
 use Rattle.scm_front_paint.specs.Below.{PaintsView}
-use Rattle.scm_open_session.specs.Results.{over}
+use Rattle.scm_c_values.specs.Buffers.{over}
 use Rattle.scm_open_session.specs.Painters.{Forget}
-use Rattle.scm_open_session.specs.Paint.{Fills, Forgets, ForgetsOpen, PaintsOpenSession, PaintsSession, ShowsPlain, ShowsRunning, ShowsView, Updates, UpdatesStage, as_update}
+use Rattle.scm_open_session.specs.Paint.{Fills, Forgets, ForgetsOpen, PaintsOpenSession, PaintsSession, ShowsPlain, ShowsRunning, ShowsView, Updates, UpdatesStage}
+use Rattle.scm_c_values.specs.Updates.{Shows, as_update}
 
 -- updates
 
@@ -36,18 +34,12 @@ pub shows_layered : {A : Type 0} (f : A → List ℕ) (s : Running) (v : Seen) (
 shows_layered f s v old new (Some x) e h = rw e h
 shows_layered f s v old new None e h = tt
 
-pub plain_shown : {A : Type 0} (f : A → List ℕ) (l : Live) (old new : Painters) (bytes now : List ℕ) (r : Option A)
-    → Paints (columns_of l.kind) old.plain (picture_of l) bytes → (IsInline l.kind l.session → picture_of l ≡ window_picture_of l)
-    → new.plain ≡ picture_of l → new.layered ≡ old.layered → new.theme ≡ old.theme → new.accept ≡ old.accept → now ≡ bytes
-    → IfSome r (λ x. f x ≡ as_update now) → IfSome r (λ x. ShowsPlain l old new (f x))
-plain_shown f l old new bytes now (Some x) p w painted layered theme accept e is = record {
-  shows = record { bytes = bytes; paints = p; is = is ∙ ap as_update e; window = w };
-  painted = painted;
-  layered = layered;
-  theme = theme;
-  accept = accept;
-}
-plain_shown f l old new bytes now None p w painted layered theme accept e is = tt
+pub plain_shown : {A : Type 0} (f : A → List ℕ) (l : Live) (old new : Painters) (r : Option A)
+    → IfSome r (λ x. Shows l old.plain (f x)) → IfSome r (λ x. new.plain ≡ picture_of l)
+    → new.layered ≡ old.layered → new.theme ≡ old.theme → new.accept ≡ old.accept → IfSome r (λ x. ShowsPlain l old new (f x))
+plain_shown f l old new (Some x) shows painted layered theme accept =
+    record { shows = shows; painted = painted; layered = layered; theme = theme; accept = accept }
+plain_shown f l old new None shows painted layered theme accept = tt
 
 pub view_shown : {A : Type 0} (f : A → List ℕ) (v : Seen) (old new : Painters) (accept bytes now : List ℕ) (r : Option A)
     → PaintsView old.layered new.layered v accept bytes → accept ≡ old.accept → new.plain ≡ old.plain → new.theme ≡ old.theme → new.accept ≡ old.accept

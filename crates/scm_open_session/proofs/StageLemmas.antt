@@ -20,6 +20,7 @@ use Rattle.scm_open_session.specs.declared.running.MessageEdit.TheVariants as ed
 use Rattle.scm_open_session.specs.declared.running.Running.{Running}
 use Rattle.scm_open_session.specs.declared.running.Running.TheVariants as running
 use Rattle.scm_open_session.specs.Stages.{Presses, Says, Resizes, Types, Idles, ChangesStage, HandsIn, IsOpenAt, ChangesDecoder, changes_stage, changes_decoder, open_at, or_ended, stage_after, stage_of_view}
+use Rattle.scm_open_session.specs.FrontKeys.{ChangesToKey, TypesToKey}
 
 presses-by : (event : Event) (l : Live) (r : Result Turn RecordError) → IfOk r (λ turn. EventLeads l event turn) → IfErr r (λ e. EventFails l event e)
     → Presses event (Waiting (running.Plain l)) (stage_after r)
@@ -131,3 +132,8 @@ hands-in event given old new e goes = rw e goes
 
 pub opens-at : (Is : OpenSession → Type 0) (new : Option OpenSession) (h : OpenSession) → new ≡ Some h → Is h → IsOpenAt Is new
 opens-at Is new h e s = rw e (open_at s)
+
+pub typed_to_key : (bytes : List ℕ) (old : Option OpenSession) (h before k : OpenSession) (taken key : ℕ) → old ≡ Some h → before ≡ h
+    → TypesToKey bytes before k taken key → ChangesToKey bytes old (Some k) taken key
+typed_to_key bytes old h before k taken key e f types =
+    rw e (ChangesToKey.changes_to_key (subst (λ (x : OpenSession). TypesToKey bytes x k taken key) f types))

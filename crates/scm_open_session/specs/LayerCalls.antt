@@ -1,9 +1,7 @@
 -- Calls of a layer: how a session begins with it, its theme, the words of what accepting does, and the start.
-use Rattle.std.specs.Prelude.{◌≡◌, ℕ, ◌-◌, ◌==◌, min, Bool, true, false, List, [], Option, Some, None, Ok, IsTrue, option_and_then, if◌then◌else◌}
+use Rattle.std.specs.Prelude.{◌≡◌, ℕ, ◌-◌, min, Bool, false, List, [], Option, Some, None, Ok, IsTrue, option_and_then}
 use Rattle.scm_errors.specs.declared.error.RecordError.{RecordError}
 use Rattle.scm_errors.specs.declared.error.RecordError.TheVariants.{OutOfMemory}
-use Rattle.scm_types.specs.declared.keys.SelectionKey.{SelectionKey}
-use Rattle.scm_types.specs.declared.keys.SelectionKey.TheVariants as keys
 use Rattle.scm_types.specs.declared.state.RecordState.{RecordState}
 use Rattle.scm_types.specs.Limits.{is_accepted_state}
 use Rattle.scm_input.specs.declared.inputs.TerminalKind.TheVariants.{Testing}
@@ -22,12 +20,10 @@ use Rattle.serde_json.specs.Read.{read}
 use Rattle.scm_open_session.specs.declared.open_session.OpenSession.{OpenSession}
 use Rattle.scm_open_session.specs.declared.open_session.Stage.{Stage}
 use Rattle.scm_open_session.specs.declared.open_session.Stage.TheVariants.{Building, Waiting, Editing, Accepted, Ended}
-use Rattle.scm_open_session.specs.declared.owners.Key.{Key}
 use Rattle.scm_open_session.specs.declared.painters.Painters.{Painters}
 use Rattle.scm_open_session.specs.declared.running.Running.TheVariants as running
 use Rattle.scm_open_session.specs.Building.{is_building}
 use Rattle.scm_open_session.specs.Layered.{ViewSets}
-use Rattle.scm_open_session.specs.Owners.{no_index}
 use Rattle.scm_open_session.specs.Painters.{AreNew, HaveTheme}
 use Rattle.scm_open_session.specs.Results.{code_where}
 use Rattle.scm_open_session.specs.Running.{is_edit_layered, is_layered}
@@ -97,11 +93,6 @@ pub data ChangesPainters (Goes : Painters → Painters → Type 0) : Option Open
 abbrev pub code_of_layer : Option OpenSession → ℕ
 code_of_layer inner = code_where has_layer inner
 
--- The code of a call with a number, if that stands for something.
-abbrev pub code_of_number : {A : Type 0} → Option A → ℕ → ℕ
-code_of_number None code = 10
-code_of_number (Some value) code = code
-
 -- The theme of a session changes. Without a theme this is false.
 abbrev pub HasTheme : Option Theme → Option OpenSession → Option OpenSession → Type 0
 HasTheme None old new = ⊥
@@ -116,20 +107,6 @@ is_view (Waiting s) = is_layered s
 is_view (Editing a) = false
 is_view (Accepted state) = false
 is_view (Ended error) = false
-
--- The item that a key names: a line, a section, a file, or none.
-abbrev pub section_of_key : Key → SelectionKey
-section_of_key key =
-    if key.line == no_index then keys.Section (record { commit_idx = key.commit; file_idx = key.file; section_idx = key.section })
-    else keys.Line (record { commit_idx = key.commit; file_idx = key.file; section_idx = key.section; line_idx = key.line })
-
-abbrev pub file_of_key : Key → SelectionKey
-file_of_key key =
-    if key.section == no_index then keys.File (record { commit_idx = key.commit; file_idx = key.file })
-    else section_of_key key
-
-abbrev pub item_of_key : Key → SelectionKey
-item_of_key key = if key.file == no_index then keys.None else file_of_key key
 
 -- Folds and a selection are set by calls of the session beneath.
 pub data SetsStart : Stage → Stage → Type 0 where

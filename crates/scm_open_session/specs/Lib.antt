@@ -10,15 +10,13 @@ pub mod Layered
 pub mod Stages
 -- return codes, and the texts that calls write
 pub mod Results
--- the owner of a place on the screen: its code and its key
+-- the owner of a place on the screen
 pub mod Owners
 -- what calls add to a state that is made, and how a session begins with it
 pub mod Building
--- a file of its old and its new text, and the text of a side
-pub mod Texts
--- what calls tell of a state: sides of files, marks and messages
+-- the state that calls ask
 pub mod Questions
--- keys that the key table lacks, for a front end
+-- typing up to a key that the key table lacks
 pub mod FrontKeys
 -- what `scm_paint` writes
 pub mod Paint

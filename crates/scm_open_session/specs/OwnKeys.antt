@@ -16,7 +16,7 @@ use Rattle.scm_open_session.specs.declared.open_session.OpenSession.{OpenSession
 use Rattle.scm_open_session.specs.declared.open_session.Stage.{Stage}
 use Rattle.scm_open_session.specs.declared.open_session.Stage.TheVariants.{Waiting}
 use Rattle.scm_open_session.specs.declared.running.Running.TheVariants as running
-use Rattle.scm_open_session.specs.Batches.{all_of, pieces_of}
+use Rattle.scm_c_values.specs.Pieces.{all_of, pieces_of}
 use Rattle.scm_open_session.specs.LayerCalls.{is_view}
 use Rattle.scm_open_session.specs.Results.{code_where}
 use Rattle.scm_open_session.specs.Stages.{ChangesStage}

@@ -1,13 +1,8 @@
 -- What `scm_paint` writes: synchronized updates for the terminal.
-use Rattle.std.specs.Prelude.{◌≡◌, ℕ, ◌≤◌, ◌<◌, List, [], ◌∷◌, ◌++◌, length, false, Option, Some, None, Result, Ok, Err, codes}
-use Rattle.scm_terminal.specs.StyledCell.{StyledCell}
-use Rattle.scm_terminal.specs.Promise.{Paints}
-use Rattle.scm_terminal.specs.Style.{style_bytes}
+use Rattle.std.specs.Prelude.{◌≡◌, ℕ, ◌≤◌, ◌<◌, List, length, false, Option, Some, None, Result, Ok, Err}
 use Rattle.scm_view_state.specs.Styles.{plain}
-use Rattle.scm_record.specs.Frames.{columns_of}
-use Rattle.scm_record.specs.Headline.{IsInline}
 use Rattle.scm_record.specs.Live.{Live}
-use Rattle.scm_record.specs.Painted.{picture_of, window_picture_of}
+use Rattle.scm_record.specs.Painted.{picture_of}
 use Rattle.scm_open_session.specs.declared.open_session.OpenSession.{OpenSession}
 use Rattle.scm_open_session.specs.declared.open_session.Stage.{Stage}
 use Rattle.scm_open_session.specs.declared.open_session.Stage.TheVariants.{Waiting}
@@ -18,23 +13,8 @@ use Rattle.scm_front_paint.specs.Below.{PaintsView}
 use Rattle.scm_front_paint.specs.Seen.{Seen}
 use Rattle.scm_open_session.specs.Painters.{Forget}
 use Rattle.scm_open_session.specs.Stages.{is_waiting}
-use Rattle.scm_open_session.specs.Results.{over}
-
--- The bytes as one synchronized update, between `ESC [ ? 2026 h` and `ESC [ ? 2026 l`. No style is set at its end.
-abbrev pub as_update : List ℕ → List ℕ
-as_update bytes = (27 ∷ codes "[?2026h") ++ (bytes ++ (style_bytes plain ++ (27 ∷ codes "[?2026l")))
-
--- On a terminal of the screen's size that shows the rows `last`, the update shows the session with its styles. If `last` is
--- empty, the terminal may show anything.
-pub record Shows (l : Live) (last : List (List StyledCell)) (update : List ℕ) : Type 0 where
-  -- the bytes inside the update
-  pub bytes : List ℕ
-  -- they make the terminal show the picture
-  pub paints : Paints (columns_of l.kind) last (picture_of l) bytes
-  -- the update is these bytes, synchronized
-  pub is : update ≡ as_update bytes
-  -- with one commit in view, the picture is that of the window
-  pub window : IsInline l.kind l.session → picture_of l ≡ window_picture_of l
+use Rattle.scm_c_values.specs.Buffers.{over}
+use Rattle.scm_c_values.specs.Updates.{as_update, Shows}
 
 -- The update shows a session without a layer, and its painter has the picture. All else of the painters stays.
 pub record ShowsPlain (l : Live) (old new : Painters) (update : List ℕ) : Type 0 where

@@ -1,5 +1,5 @@
 -- What a session waits for (its stage), and how calls change it.
-use Rattle.std.specs.Prelude.{◌≡◌, ℕ, ◌+◌, min, List, [], Option, Some, None, Result, Ok, Err, IsTrue, Bool, true, false, option_and_then}
+use Rattle.std.specs.Prelude.{◌≡◌, ℕ, ◌+◌, List, [], Option, Some, None, Result, Ok, Err, IsTrue, Bool, true, false, option_and_then}
 use Rattle.scm_errors.specs.declared.error.RecordError.{RecordError}
 use Rattle.scm_errors.specs.declared.error.RecordError.TheVariants as errors
 use Rattle.scm_types.specs.declared.state.RecordState.{RecordState}
@@ -7,7 +7,6 @@ use Rattle.scm_types.specs.Limits.{is_accepted_state}
 use Rattle.scm_input.specs.declared.events.Event.{Event}
 use Rattle.scm_input.specs.declared.events.Event.TheVariants.{Click}
 use Rattle.scm_input.specs.declared.inputs.TerminalKind.{TerminalKind}
-use Rattle.scm_input.specs.declared.inputs.TerminalKind.TheVariants.{Testing}
 use Rattle.scm_terminal.specs.declared.decoder.Decoder.{Decoder}
 use Rattle.scm_terminal.specs.Decoders.{HasHeard}
 use Rattle.scm_record.specs.Session.{start}
@@ -30,6 +29,8 @@ use Rattle.scm_open_session.specs.declared.open_session.Stage.TheVariants.{Build
 use Rattle.scm_open_session.specs.Layered.{OrRefused, ViewPresses, ViewResizes}
 use Rattle.scm_open_session.specs.Painters.{AreNew}
 use Rattle.scm_open_session.specs.Running.{offset_of}
+use Rattle.scm_c_values.specs.Ends.{code_of_failure}
+use Rattle.scm_c_values.specs.Screens.{screen_of}
 
 -- The code of a stage.
 abbrev pub code_of_stage : Stage → ℕ
@@ -45,19 +46,6 @@ code_of_session None = 4
 code_of_session (Some inner) = code_of_stage inner.stage
 
 -- ---- ends
-
--- The code of an error that ends a session.
-abbrev pub code_of_failure : RecordError → ℕ
-code_of_failure errors.Cancelled = 2
-code_of_failure errors.OutOfMemory = 3
-code_of_failure (errors.SetUpTerminal text) = 4
-code_of_failure (errors.CleanUpTerminal text) = 5
-code_of_failure (errors.RenderFrame text) = 6
-code_of_failure (errors.ReadInput text) = 7
-code_of_failure (errors.SerializeJson text) = 8
-code_of_failure (errors.WriteFile text) = 9
-code_of_failure (errors.Other text) = 10
-code_of_failure (errors.Bug text) = 11
 
 -- The code of how a session ended. 0 at a stage where it goes on.
 abbrev pub end_of_stage : Stage → ℕ
@@ -89,12 +77,6 @@ is_editing (Waiting l) = false
 is_editing (Editing a) = true
 is_editing (Accepted state) = false
 is_editing (Ended error) = false
-
--- ---- screens
-
--- The screen of a window of `width` columns and `height` rows. Of a larger window it has 1,000 columns and 1,000 rows.
-abbrev pub screen_of : ℕ → ℕ → TerminalKind
-screen_of width height = Testing (min width 1000) (min height 1000)
 
 -- ---- stages
 

@@ -2,7 +2,7 @@
 ghost use Rattle.std.specs.Prelude.{◌≡◌, IfSome, IsTrue, false, string_bytes};
 ghost use Rattle.scm_front_paint.specs.Below.{PaintsView, no_pictures, pictures_of};
 ghost use Rattle.scm_open_session.specs.Layered.{ViewResizes};
-ghost use Rattle.scm_open_session.specs.Stages.{screen_of};
+ghost use Rattle.scm_c_values.specs.Screens.{screen_of};
 
 use scm_front::OwnKey;
 use scm_front_paint::{FrontPainter, Theme, View, ViewEditing};

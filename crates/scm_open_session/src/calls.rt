@@ -1,22 +1,28 @@
 //! Calls on a session, open or closed. Each returns its code.
-ghost use Rattle.std.specs.Prelude.{◌≡◌, ℕ, ◌<◌, IfErr, IfOk, IsTrue, None, Some, false, is_some, length, string_bytes, true};
+ghost use Rattle.std.specs.Prelude.{◌≡◌, ◌<◌, None, Some, is_some, length, true};
 ghost use Rattle.std.specs.Str.{is_utf8};
 ghost use Rattle.scm_open_session.specs.Boxes.{box_value};
-ghost use Rattle.scm_open_session.specs.Stages.{Begins, ChangesStage, Clicks, HandsIn, Idles, IsOpenAt, ChangesDecoder, Presses, Resizes, Says, Types, code_of_session, end_of_session, screen_of};
-ghost use Rattle.scm_open_session.specs.Results.{IsCode, Writes, code_of_answer, code_of_call, code_of_json, code_of_message, code_of_press, code_of_repaint, done_code, event_of_bytes, is_message, over, symbol_of_session, is_session_waiting, words_of_code};
+ghost use Rattle.scm_open_session.specs.Stages.{Begins, ChangesStage, Clicks, HandsIn, Idles, IsOpenAt, ChangesDecoder, Presses, Resizes, Says, Types, code_of_session, end_of_session};
+ghost use Rattle.scm_c_values.specs.Screens.{screen_of};
+ghost use Rattle.scm_c_values.specs.Codes.{IsCode, code_of_json, is_message, words_of_code};
+ghost use Rattle.scm_open_session.specs.Results.{Writes, code_of_answer, code_of_call, code_of_press, code_of_repaint, symbol_of_session, is_session_waiting};
+ghost use Rattle.scm_c_values.specs.Pieces.{event_of_bytes, events_of_bytes};
+ghost use Rattle.scm_c_values.specs.Buffers.{over};
 ghost use Rattle.scm_open_session.specs.Owners.{key_of_session, owner_of_session, selected_of_session};
-ghost use Rattle.scm_open_session.specs.Batches.{HandsInAll, PressesAll, code_of_batch, events_of_bytes};
-ghost use Rattle.scm_open_session.specs.Decoding.{Decodes, HearsBytes, HearsSilence};
+ghost use Rattle.scm_open_session.specs.Batches.{HandsInAll, PressesAll, code_of_batch};
+ghost use Rattle.scm_open_session.specs.Decoding.{Decodes};
+ghost use Rattle.scm_c_values.specs.EventWords.{HearsBytes, HearsSilence};
 ghost use Rattle.scm_open_session.specs.Paint.{Fills, Forgets, PaintsOpenSession, PaintsSession};
 ghost use Rattle.scm_open_session.specs.FrontKeys.{ChangesToKey};
 
-use crate::batches::events_of;
-use crate::buffers::write_text;
-use crate::codes;
 use crate::open_session::{OpenSession, Session};
-use crate::owners::Key;
-use scm_record::{Event, RecordState};
-use scm_script::read_event;
+use scm_c_values::batches::events_of;
+use scm_c_values::buffers::write_text;
+use scm_c_values::codes;
+use scm_c_values::codes::done_or_not_now;
+use scm_c_values::inputs::{event_of, message_of};
+use scm_c_values::owners::Key;
+use scm_record::Event;
 use std::alloc::Global;
 
 /// Returns a session over the state with the JSON form `json`, and the code of the call. Its screen has `width` columns and
@@ -215,25 +221,6 @@ pub fn decode_silence(
     }
 }
 
-/// Returns the event of a script's word, or `None` if the bytes are not such a word.
-fn event_of(word: &[u8]) -> Option<Event>
-    ensures { result ≡ event_of_bytes word.now }
-{
-    match str::from_utf8(word) {
-        Ok(word) => read_event(word),
-        Err(_) => None,
-    }
-}
-
-/// Returns the code of a call that was done, or that the session doesn't wait for.
-pub(crate) fn done_or_not_now(is_done: bool) -> u32
-    ensures code { result ≡ done_code is_done }
-    ensures done { result ≡ 0 → IsTrue is_done }
-    ensures not_now { 0 < result → is_done ≡ false }
-{
-    if is_done { codes::DONE } else { codes::NOT_NOW }
-}
-
 /// Answers with the message `text`, if the session waits for a message. Returns the code of the
 /// call.
 pub fn answer(alloc: Global, session: &mut Session, text: &[u8]) -> u32
@@ -251,29 +238,6 @@ pub fn answer(alloc: Global, session: &mut Session, text: &[u8]) -> u32
         Some(inner) => done_or_not_now(inner.answer(message)),
         None => codes::CLOSED,
     }
-}
-
-/// Returns `text` as a message.
-///
-/// # Errors
-/// The code of the failure: `TOO_LONG`, `NOT_TEXT` or `NO_MEMORY`.
-pub(crate) fn message_of(alloc: Global, text: &[u8]) -> Result<String, u32>
-    ensures ok { IfOk result (λ message. string_bytes message ≡ text.now) }
-    ensures good { IfOk result (λ message. IsTrue (is_message text.now)) }
-    ensures err { IfErr result (λ code. (otherwise : ℕ)
-        → IsCode (is_message text.now) (code_of_message text.now otherwise) code) }
-    ensures refused { IfErr result (λ code. 0 < code) }
-{
-    if text.len() > RecordState::MAX_TEXT {
-        return Err(codes::TOO_LONG);
-    }
-    let Ok(text) = str::from_utf8(text) else {
-        return Err(codes::NOT_TEXT);
-    };
-    let Ok(message) = String::from_str(alloc, text) else {
-        return Err(codes::NO_MEMORY);
-    };
-    Ok(message)
 }
 
 /// Resizes the screen to `width` columns and `height` rows. Returns the code of the call.

@@ -4,7 +4,7 @@ ghost use Rattle.scm_record.specs.LiveCalls.{BatchFails, EventFails};
 ghost use Rattle.scm_front.specs.Fronts.{FrontFails};
 ghost use Rattle.scm_open_session.specs.Layered.{OrRefused, ViewPresses, ViewPressesAll, ViewSets, folds_of, theme_of};
 
-use crate::codes;
+use scm_c_values::codes;
 use scm_front::Folds;
 use scm_front_paint::view::shown;
 use scm_front_paint::{Theme, View, ViewTurn};

@@ -2,20 +2,21 @@
 ghost use Rattle.std.specs.Prelude.{◌≡◌, ◌<◌, None, true};
 ghost use Rattle.std.specs.Str.{is_utf8};
 ghost use Rattle.scm_open_session.specs.Boxes.{box_value};
-ghost use Rattle.scm_open_session.specs.LayerCalls.{BeginsLayer, ChangesPainters, HasTheme, SetsStart, StartsLayer, code_of_layer, code_of_number, is_view};
+ghost use Rattle.scm_open_session.specs.LayerCalls.{BeginsLayer, ChangesPainters, HasTheme, SetsStart, StartsLayer, code_of_layer, is_view};
+ghost use Rattle.scm_c_values.specs.Codes.{code_of_number, IsCode, code_of_json, code_of_message, is_message};
 ghost use Rattle.scm_open_session.specs.Layered.{folds_of, theme_of};
 ghost use Rattle.scm_open_session.specs.OwnKeys.{HasKeys, SetsKeys, code_of_keys, keys_of_bytes};
 ghost use Rattle.scm_open_session.specs.Painters.{HaveTheme, HaveWords};
-ghost use Rattle.scm_open_session.specs.Results.{IsCode, code_of_json, code_of_message, code_where, is_message};
+ghost use Rattle.scm_open_session.specs.Results.{code_where};
 ghost use Rattle.scm_open_session.specs.Stages.{ChangesStage, IsOpenAt};
 
-use crate::calls::{done_or_not_now, message_of};
-use crate::codes;
 use crate::layer::{folds_of, theme_of};
-use crate::layered::item_of_key;
 use crate::open_session::{OpenSession, Session};
 use crate::own_keys::keys_of;
-use crate::owners::Key;
+use scm_c_values::codes;
+use scm_c_values::codes::done_or_not_now;
+use scm_c_values::inputs::message_of;
+use scm_c_values::owners::{Key, item_of_key};
 use scm_front::{Folds, OwnKey};
 use scm_front_paint::Theme;
 use scm_record::{Items, OwnedText, SelectionKey};

@@ -4,24 +4,21 @@ ghost use Rattle.scm_errors.specs.declared.error.RecordError.TheVariants.{OutOfM
 ghost use Rattle.scm_input.specs.declared.inputs.TerminalKind.TheVariants.{Testing};
 ghost use Rattle.scm_types.specs.Limits.{is_accepted_state};
 ghost use Rattle.scm_open_session.specs.declared.open_session.Stage.TheVariants.{Building};
-ghost use Rattle.scm_open_session.specs.LayerCalls.{BeginsLayer, IsNewView, SetsStart, StartsView, has_layer, is_view, item_of_key};
+ghost use Rattle.scm_open_session.specs.LayerCalls.{BeginsLayer, IsNewView, SetsStart, StartsView, has_layer, is_view};
 ghost use Rattle.scm_open_session.specs.OwnKeys.{SetsKeys};
 ghost use Rattle.scm_open_session.specs.Painters.{HaveTheme, HaveWords};
-ghost use Rattle.scm_open_session.specs.Results.{IsCode, code_of_json};
+ghost use Rattle.scm_c_values.specs.Codes.{IsCode, code_of_json};
 ghost use Rattle.std.specs.Str.{is_utf8};
 
 use crate::boxed::BoxedView;
-use crate::codes;
-use crate::open_session::{OpenSession, Stage, state_of};
-use crate::owners::Key;
+use crate::open_session::{OpenSession, Stage};
 use crate::running::{Running, after_start, set_keys};
+use scm_c_values::codes;
+use scm_c_values::json_state::state_of;
 use scm_embed::StateBuilder;
 use scm_front::{Folds, Front, OwnKey};
 use scm_front_paint::{Theme, View};
-use scm_record::{
-    FileKey, Items, LineKey, OwnedText, RecordError, RecordState, SectionKey, SelectionKey,
-    TerminalKind,
-};
+use scm_record::{Items, OwnedText, RecordError, RecordState, SelectionKey, TerminalKind};
 use std::alloc::Global;
 
 /// The most columns and rows of a terminal: a larger window shows that many.
@@ -141,33 +138,6 @@ fn has_layer(stage: &Stage) -> bool
         Stage::Waiting(session) => session.is_layered(),
         Stage::Editing(edit) => edit.is_layered(),
         Stage::Building(_) | Stage::Accepted(_) | Stage::Ended(_) => false,
-    }
-}
-
-/// Returns the item that `key` names.
-pub fn item_of_key(key: &Key) -> SelectionKey
-    ensures { result ≡ item_of_key key.now }
-{
-    if key.file == usize::MAX {
-        SelectionKey::None
-    } else if key.section == usize::MAX {
-        SelectionKey::File(FileKey {
-            commit_idx: key.commit,
-            file_idx: key.file,
-        })
-    } else if key.line == usize::MAX {
-        SelectionKey::Section(SectionKey {
-            commit_idx: key.commit,
-            file_idx: key.file,
-            section_idx: key.section,
-        })
-    } else {
-        SelectionKey::Line(LineKey {
-            commit_idx: key.commit,
-            file_idx: key.file,
-            section_idx: key.section,
-            line_idx: key.line,
-        })
     }
 }
 

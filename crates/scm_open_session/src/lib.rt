@@ -2,27 +2,16 @@
 //! and references; the library for C, `scm_c`, has the pointers.
 #![tactic(auto)]
 
-pub mod batches;
 pub mod boxed;
-pub mod buffers;
 pub mod calls;
-pub mod codes;
-pub mod ends;
-pub mod event_words;
-mod front_keys;
-pub mod items;
-pub mod laws;
 pub mod layer;
 pub mod layer_calls;
 pub mod layered;
 pub mod open_session;
 mod own_keys;
-pub mod owners;
 pub mod painters;
 pub mod question_calls;
 pub mod running;
-pub mod sides;
 pub mod state_calls;
-pub mod texts;
 
 pub use crate::open_session::{OpenSession, Session};

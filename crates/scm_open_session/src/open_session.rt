@@ -1,40 +1,42 @@
 //! An open session of a C program, and what each call does to it.
-ghost use Rattle.std.specs.Prelude.{◌≡◌, ◌<◌, [], IfErr, IfNone, IfOk, IfSome, IsTrue, Some, false, if◌then◌else◌, is_some, length, ok_or, option_and_then, string_bytes, true};
+ghost use Rattle.std.specs.Prelude.{◌≡◌, ◌<◌, [], IfErr, IfNone, IfOk, IfSome, IsTrue, Some, false, is_some, length, string_bytes, true};
 ghost use Rattle.std.specs.Str.{is_utf8};
-ghost use Rattle.serde_json.specs.Read.{read};
-ghost use Rattle.scm_types.specs.Limits.{is_accepted_state};
-ghost use Rattle.scm_json.specs.Form as form_of;
 ghost use Rattle.scm_open_session.specs.declared.open_session.Stage.TheVariants.{Building};
-ghost use Rattle.scm_open_session.specs.Stages.{Begins, Clicks, Idles, Presses, Resizes, Says, Types, click_at, is_editing, code_of_stage, end_of_stage, screen_of, is_waiting};
-ghost use Rattle.scm_open_session.specs.Results.{IsCode, IsText, code_of_json, done_code, symbol_of_stage};
+ghost use Rattle.scm_open_session.specs.Stages.{Begins, Clicks, Idles, Presses, Resizes, Says, Types, click_at, is_editing, code_of_stage, end_of_stage, is_waiting};
+ghost use Rattle.scm_c_values.specs.Screens.{screen_of};
+ghost use Rattle.scm_c_values.specs.Codes.{IsCode, code_of_json, done_code};
+ghost use Rattle.scm_open_session.specs.Results.{IsText, symbol_of_stage};
 ghost use Rattle.scm_open_session.specs.Owners.{key_of_stage, owner_of_stage, selected_of_stage};
 ghost use Rattle.scm_open_session.specs.Paint.{ForgetsOpen, Updates, UpdatesStage};
 ghost use Rattle.scm_open_session.specs.Painters.{AreNew};
 ghost use Rattle.scm_terminal.specs.Decoders.{HasHeard};
 ghost use Rattle.std.specs.Option.{option_copied};
 ghost use Rattle.std.specs.Result.{result_map_both};
-ghost use Rattle.scm_embed.specs.Additions.{after_addition, refusal_of};
-ghost use Rattle.scm_open_session.specs.Building.{BeginsState, Builds, Starts, code_at_stage, code_of_error, code_of_refusal};
+ghost use Rattle.scm_open_session.specs.Building.{BeginsState, Builds, Starts, code_at_stage, BuildsChange, code_of_change_at};
 ghost use Rattle.scm_open_session.specs.Questions.{state_of_stage};
 ghost use Rattle.scm_open_session.specs.FrontKeys.{TypesToKey, tells_keys};
 ghost use Rattle.scm_open_session.specs.Batches.{PressesAll};
-ghost use Rattle.scm_open_session.specs.Decoding.{DecodesOpen, HearsBytes, HearsSilence, Tells, TellsEvents};
-ghost use Rattle.scm_open_session.specs.Texts.{BuildsChange, code_of_change_at, seen_change};
+ghost use Rattle.scm_open_session.specs.Decoding.{DecodesOpen, Tells, TellsEvents};
+ghost use Rattle.scm_c_values.specs.EventWords.{HearsBytes, HearsSilence};
+ghost use Rattle.scm_c_values.specs.Texts.{seen_change};
 
-use crate::buffers::write_text;
-use crate::codes;
-use crate::ends::{failure_code, sentence};
-use crate::event_words::words_of;
-use crate::front_keys::{stop, told_key, told_length};
-use crate::owners::{Key, owner_code};
 use crate::painters::Painters;
 use crate::running::{
     MessageEdit, Running, after_batch, after_bytes, after_event, after_message, after_silence,
     try_resize,
 };
-use crate::texts::{TextChange, add_change};
-use scm_embed::{Addition, BuildError, StateBuilder};
-use scm_json::read_state;
+use scm_c_values::additions::add_to_builder;
+use scm_c_values::buffers::write_text;
+use scm_c_values::codes;
+use scm_c_values::codes::{resize_code, update_or_code};
+use scm_c_values::ends::{failure_code, sentence};
+use scm_c_values::event_words::words_of;
+use scm_c_values::front_keys::{stop, told_key, told_length};
+use scm_c_values::json_state::state_of;
+use scm_c_values::owners::{Key, owner_at};
+use scm_c_values::screens::screen;
+use scm_c_values::texts::{TextChange, add_change};
+use scm_embed::{Addition, StateBuilder};
 use scm_record::{
     Decoder, Event, LiveSession, RecordError, RecordState, TerminalEvent, TerminalKind,
 };
@@ -70,95 +72,6 @@ pub struct OpenSession {
 
 /// A session as a C program has it: `None` if it is closed.
 pub type Session = Option<Box<OpenSession>>;
-
-/// Returns the code of a resize that was done, or for which an allocation failed.
-fn resize_code(is_done: bool) -> u32
-    ensures { result ≡ (if is_done then 0 else 8) }
-{
-    if is_done {
-        codes::DONE
-    } else {
-        codes::NO_MEMORY
-    }
-}
-
-/// The most columns of a screen: a wider window shows that many.
-const MAX_COLUMNS: usize = 1000;
-
-/// The most rows of a screen: a higher window shows that many.
-const MAX_ROWS: usize = 1000;
-
-/// Returns the screen of a window of `width` columns and `height` rows.
-pub(crate) fn screen(width: u16, height: u16) -> TerminalKind
-    ensures { result ≡ screen_of width height }
-{
-    TerminalKind::Testing {
-        width: (width as usize).min(MAX_COLUMNS),
-        height: (height as usize).min(MAX_ROWS),
-    }
-}
-
-/// Returns the state with the JSON form `json`.
-///
-/// # Errors
-/// The code of the failure: `NOT_TEXT`, `BAD_STATE`, `NOT_ACCEPTED` or `NO_MEMORY`.
-pub(crate) fn state_of(alloc: Global, json: &[u8]) -> Result<RecordState<'static>, u32>
-    ensures text { IfOk result (λ given. IsTrue (is_utf8 json.now)) }
-    ensures form { IfOk result
-        (λ given. option_and_then form_of.state_of (read json.now) ≡ Some given) }
-    ensures accepted { IfOk result (λ given. IsTrue (is_accepted_state given)) }
-    ensures err { IfErr result (λ code. IsCode (is_utf8 json.now) (code_of_json json.now) code) }
-    ensures refused { IfErr result (λ code. 0 < code) }
-{
-    let Ok(text) = str::from_utf8(json) else {
-        return Err(codes::NOT_TEXT);
-    };
-    let state = match read_state(alloc, text) {
-        Ok(Some(state)) => state,
-        Ok(None) => return Err(codes::BAD_STATE),
-        Err(_) => return Err(codes::NO_MEMORY),
-    };
-    if state.is_accepted() {
-        Ok(state)
-    } else {
-        Err(codes::NOT_ACCEPTED)
-    }
-}
-
-/// Returns `update`, or the code of a failed allocation.
-fn update_or_code(update: Option<String>) -> Result<String, u32>
-    ensures { result ≡ ok_or update 8 }
-{
-    match update {
-        Some(update) => Ok(update),
-        None => Err(codes::NO_MEMORY),
-    }
-}
-
-/// Returns the code of `error`.
-fn error_code(error: BuildError) -> u32
-    ensures code { result ≡ code_of_error error }
-    ensures fails { 0 < result }
-{
-    match error {
-        BuildError::NoFile => codes::NO_ITEM,
-        BuildError::TooLong => codes::TOO_LONG,
-        BuildError::TooManyCommits => codes::NOT_ACCEPTED,
-        BuildError::OutOfMemory => codes::NO_MEMORY,
-    }
-}
-
-/// Adds `addition` to the state of `builder`. Returns the code of the call.
-fn add_to_builder(alloc: Global, builder: &mut StateBuilder, addition: Addition<'_>) -> u32
-    ensures code { IsCode true (code_of_refusal (refusal_of addition.entry builder.old)) result }
-    ensures added { result ≡ 0 → builder.new ≡ after_addition addition.entry builder.old }
-    ensures kept { 0 < result → builder.new ≡ builder.old }
-{
-    match builder.add(alloc, addition) {
-        Ok(()) => codes::DONE,
-        Err(error) => error_code(error),
-    }
-}
 
 /// Returns the stage and the code of a session that begins with the state of `builder`, on a screen
 /// of size `kind`.
@@ -689,9 +602,8 @@ impl OpenSession {
     {
         match &self.stage {
             Stage::Waiting(session) => {
-                let live = session.live();
-                let owner = live.owner(row as usize, session.offset() as usize + column as usize);
-                (owner_code(live.view_state(), owner), Key::of_owner(owner))
+                let before = session.offset() as usize;
+                owner_at(session.live(), row as usize, before + column as usize)
             }
             Stage::Building(_) | Stage::Editing(_) | Stage::Accepted(_) | Stage::Ended(_) => {
                 (codes::NOBODY, Key::none())

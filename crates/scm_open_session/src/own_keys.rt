@@ -2,13 +2,13 @@
 ghost use Rattle.std.specs.Prelude.{◌≡◌, ◌<◌, IfErr, IfNone, IfOk, IfSome, Option, Some, false, true};
 ghost use Rattle.std.specs.List.{after_first, before_first};
 ghost use Rattle.scm_open_session.specs.declared.open_session.OpenSession.{OpenSession};
-ghost use Rattle.scm_open_session.specs.Batches.{Adds, all_of, pieces_of};
+ghost use Rattle.scm_c_values.specs.Pieces.{Adds, all_of, pieces_of};
 ghost use Rattle.scm_open_session.specs.OwnKeys.{action_of_word, code_of_keys, has_equals, is_equals, key_with, keys_of_bytes, keys_of_piece, layer_actions, own_key_of, with_action};
-ghost use Rattle.scm_open_session.specs.Results.{IsCode};
+ghost use Rattle.scm_c_values.specs.Codes.{IsCode};
 ghost use Rattle.scm_script.specs.Words.{find_row};
 
-use crate::batches::split_piece;
-use crate::codes;
+use scm_c_values::batches::split_piece;
+use scm_c_values::codes;
 use scm_front::{Action, OwnKey, Typing, Way};
 use scm_record::TerminalEvent;
 use scm_script::{read_event, read_key};

@@ -1,10 +1,11 @@
 //! What a session is painted with: its painters, and the words of what accepting does.
 ghost use Rattle.std.specs.Prelude.{◌≡◌, IfNone, IfSome, string_bytes};
 ghost use Rattle.scm_open_session.specs.Painters.{AreNew, Forget, HaveTheme, HaveWords};
-ghost use Rattle.scm_open_session.specs.Paint.{ShowsPlain, ShowsRunning, ShowsView, as_update};
+ghost use Rattle.scm_open_session.specs.Paint.{ShowsPlain, ShowsRunning, ShowsView};
 
 use crate::boxed::BoxedPainter;
 use crate::running::Running;
+use scm_c_values::updates::{update_of, update_of_session};
 use scm_front_paint::{Theme, View};
 use scm_record::{LiveSession, OwnedText, Painter};
 use std::alloc::Global;
@@ -20,19 +21,6 @@ pub struct Painters {
     pub theme: Theme,
     /// What the status row of a layer says that accepting does.
     pub accept: OwnedText,
-}
-
-/// Returns `bytes` as one synchronized update of the terminal, with no style set at its end.
-/// Returns `None` if an allocation failed.
-#[tactic(auto, unfolding(scm_terminal::specs::Style::style_bytes))]
-fn update_of(alloc: Global, bytes: &str) -> Option<String>
-    ensures { IfSome result (λ update. string_bytes update ≡ as_update bytes.now) }
-{
-    let mut update = String::new(alloc);
-    update.push_str("\x1b[?2026h").ok()?;
-    update.push_str(bytes).ok()?;
-    update.push_str("\x1b[0m\x1b[?2026l").ok()?;
-    Some(update)
 }
 
 impl Painters {
@@ -81,8 +69,7 @@ impl Painters {
         ensures theme { self.new.theme ≡ self.old.theme }
         ensures accept { self.new.accept ≡ self.old.accept }
     {
-        let bytes = session.paint(&mut self.plain).ok()?;
-        update_of(alloc, &bytes)
+        update_of_session(alloc, session, &mut self.plain)
     }
 
     /// Returns the update that makes the terminal show `view`, if it shows what was painted last. Returns

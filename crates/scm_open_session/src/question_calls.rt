@@ -1,22 +1,20 @@
 //! Calls that ask for the state of a session. Each returns its code.
-ghost use Rattle.std.specs.Prelude.{◌≡◌, ◌<◌, Err, IfErr, MatchResult, None, Ok, Some, option_map, true, if◌then◌else◌, ◌==◌};
-ghost use Rattle.std.specs.List.{flat_map};
-ghost use Rattle.scm_types.specs.declared.tristate.Tristate.{Tristate};
+ghost use Rattle.std.specs.Prelude.{◌≡◌, ◌<◌, Err, IfErr, MatchResult, None, Ok, Some, true};
 ghost use Rattle.scm_open_session.specs.Boxes.{box_value};
-ghost use Rattle.scm_open_session.specs.Results.{IsCode};
-ghost use Rattle.scm_open_session.specs.Questions.{TellsSide, TellsText, answer_of, asked_state, bytes_of_section, code_of_mark, code_of_question, file_count, index_if_any, line_at, mark_at, marks_at, message_at, side_at};
-ghost use Rattle.scm_diff.specs.Bytes.{side_bytes};
-ghost use Rattle.scm_open_session.specs.Texts.{side_bytes_at};
+ghost use Rattle.scm_c_values.specs.Codes.{IsCode};
+ghost use Rattle.scm_c_values.specs.States.{TellsSide, answer_of, code_of_question, file_count, line_at, mark_at, marks_at, message_at, side_at};
+ghost use Rattle.scm_c_values.specs.Buffers.{TellsText};
+ghost use Rattle.scm_open_session.specs.Questions.{asked_state};
+ghost use Rattle.scm_c_values.specs.Texts.{side_bytes_at};
 
-use crate::buffers::write_text;
-use crate::codes;
-use crate::items::{line_at, marks_of};
 use crate::open_session::Session;
-use crate::owners::Key;
-use crate::sides::{Side, tell_side};
-use scm_diff::side_bytes;
-use scm_embed::marks::mark_of;
-use scm_types::{Commit, File, RecordState, Tristate};
+use scm_c_values::codes;
+use scm_c_values::owners::Key;
+use scm_c_values::sides::Side;
+use scm_c_values::states::{
+    tell_line_at, tell_mark_at, tell_marks_at, tell_message_at, tell_side_at, tell_side_bytes_at,
+};
+use scm_types::RecordState;
 use std::alloc::Global;
 
 /// Returns the state of an open session.
@@ -70,46 +68,8 @@ pub fn ask_side(
     ensures unwritten { 0 < result → (out.new ≡ out.old) × (told.new ≡ told.old) }
 {
     match state_of(session) {
-        Ok(state) => match state.files.as_slice().get(file) {
-            Some(file) => tell_side(alloc, file, selected, out, told),
-            None => codes::NO_ITEM,
-        },
+        Ok(state) => tell_side_at(alloc, state, file, selected, out, told),
         Err(code) => code,
-    }
-}
-
-/// Returns the code of `mark`.
-fn mark_code(mark: Tristate) -> u32
-    ensures { result ≡ code_of_mark mark }
-{
-    match mark {
-        Tristate::False => codes::UNCHECKED,
-        Tristate::Partial => codes::PARTLY,
-        Tristate::True => codes::CHECKED,
-    }
-}
-
-/// Returns `index`, or `None` for the greatest `usize`.
-fn index_if_any(index: usize) -> Option<usize>
-    ensures { result ≡ index_if_any index }
-{
-    if index == usize::MAX {
-        None
-    } else {
-        Some(index)
-    }
-}
-
-/// Returns the code of the mark of the file, the section or the line that `key` names, if there is
-/// such an item.
-fn mark_at(state: &RecordState<'static>, key: &Key) -> Option<u32>
-    ensures { result ≡ mark_at key.now state.now }
-{
-    let section = index_if_any(key.section);
-    let line = index_if_any(key.line);
-    match mark_of(state, key.file, section, line) {
-        Some(mark) => Some(mark_code(mark)),
-        None => None,
     }
 }
 
@@ -122,29 +82,8 @@ pub fn ask_mark(session: &Session, key: &Key, mark: &mut u32) -> u32
     ensures unwritten { 0 < result → mark.new ≡ mark.old }
 {
     match state_of(session) {
-        Ok(state) => match mark_at(state, key) {
-            Some(found) => {
-                *mark = found;
-                codes::DONE
-            }
-            None => codes::NO_ITEM,
-        },
+        Ok(state) => tell_mark_at(state, key, mark),
         Err(code) => code,
-    }
-}
-
-/// Returns the message of commit `commit`, if there is one.
-fn message_at<'s>(state: &'s RecordState<'static>, commit: usize) -> Option<&'s str>
-    ensures { option_map (λ text. text.now) result ≡ message_at commit state.now }
-{
-    match state.commits.as_slice().get(commit) {
-        Some(
-            Commit {
-                message: Some(message),
-            },
-        ) => Some(message.as_str()),
-        Some(Commit { message: None }) => None,
-        None => None,
     }
 }
 
@@ -158,30 +97,8 @@ pub fn ask_message(session: &Session, commit: usize, out: &mut [u8], written: &m
     ensures unwritten { 0 < result → (out.new ≡ out.old) × (written.new ≡ written.old) }
 {
     match state_of(session) {
-        Ok(state) => match message_at(state, commit) {
-            Some(text) => {
-                *written = write_text(text.as_bytes(), out);
-                codes::DONE
-            }
-            None => codes::NO_ITEM,
-        },
+        Ok(state) => tell_message_at(state, commit, out, written),
         Err(code) => code,
-    }
-}
-
-/// Writes the bytes of `marks` to `out` and `written`. Returns the code of the call.
-fn tell_marks(alloc: Global, file: &File<'static>, out: &mut [u8], written: &mut usize) -> u32
-    ensures code { IsCode true 0 result }
-    ensures marks { result ≡ 0 → TellsText
-        (Some (flat_map bytes_of_section file.now.sections)) out.old out.new written.new }
-    ensures unwritten { 0 < result → (out.new ≡ out.old) × (written.new ≡ written.old) }
-{
-    match marks_of(alloc, file) {
-        Ok(marks) => {
-            *written = write_text(marks.as_slice(), out);
-            codes::DONE
-        }
-        Err(_) => codes::NO_MEMORY,
     }
 }
 
@@ -201,10 +118,7 @@ pub fn ask_marks(
     ensures unwritten { 0 < result → (out.new ≡ out.old) × (written.new ≡ written.old) }
 {
     match state_of(session) {
-        Ok(state) => match state.files.as_slice().get(file) {
-            Some(file) => tell_marks(alloc, file, out, written),
-            None => codes::NO_ITEM,
-        },
+        Ok(state) => tell_marks_at(alloc, state, file, out, written),
         Err(code) => code,
     }
 }
@@ -219,36 +133,8 @@ pub fn ask_line(session: &Session, key: &Key, out: &mut [u8], written: &mut usiz
     ensures unwritten { 0 < result → (out.new ≡ out.old) × (written.new ≡ written.old) }
 {
     match state_of(session) {
-        Ok(state) => match line_at(state, key) {
-            Some(text) => {
-                *written = write_text(text.as_bytes(), out);
-                codes::DONE
-            }
-            None => codes::NO_ITEM,
-        },
+        Ok(state) => tell_line_at(state, key, out, written),
         Err(code) => code,
-    }
-}
-
-/// Writes the bytes of a side of `file` to `out` and `written`. Returns the code of the call.
-fn tell_side_bytes(
-    alloc: Global,
-    file: &File<'static>,
-    selected: bool,
-    out: &mut [u8],
-    written: &mut usize,
-) -> u32
-    ensures code { IsCode true 0 result }
-    ensures bytes { result ≡ 0
-        → TellsText (Some (side_bytes selected file.now)) out.old out.new written.new }
-    ensures unwritten { 0 < result → (out.new ≡ out.old) × (written.new ≡ written.old) }
-{
-    match side_bytes(alloc, file, selected) {
-        Ok(bytes) => {
-            *written = write_text(bytes.as_slice(), out);
-            codes::DONE
-        }
-        Err(_) => codes::NO_MEMORY,
     }
 }
 
@@ -270,10 +156,7 @@ pub fn ask_side_bytes(
     ensures unwritten { 0 < result → (out.new ≡ out.old) × (written.new ≡ written.old) }
 {
     match state_of(session) {
-        Ok(state) => match state.files.as_slice().get(file) {
-            Some(file) => tell_side_bytes(alloc, file, selected, out, written),
-            None => codes::NO_ITEM,
-        },
+        Ok(state) => tell_side_bytes_at(alloc, state, file, selected, out, written),
         Err(code) => code,
     }
 }

@@ -6,11 +6,13 @@ ghost use Rattle.scm_open_session.specs.Batches.{PressesAll};
 ghost use Rattle.scm_open_session.specs.LayerCalls.{SetsStart};
 ghost use Rattle.scm_open_session.specs.OwnKeys.{SetsKeys};
 ghost use Rattle.scm_open_session.specs.Running.{edit_of, is_asking, is_edit_layered, is_layered, live_of, offset_of};
-ghost use Rattle.scm_open_session.specs.Stages.{Idles, Presses, Resizes, Says, Types, or_ended, screen_of, stage_after, stage_of_view};
+ghost use Rattle.scm_open_session.specs.Stages.{Idles, Presses, Resizes, Says, Types, or_ended, stage_after, stage_of_view};
+ghost use Rattle.scm_c_values.specs.Screens.{screen_of};
 
 use crate::boxed::{BoxedEdit, BoxedView};
 use crate::layer::{press, press_all, set_start};
-use crate::open_session::{Stage, screen};
+use crate::open_session::Stage;
+use scm_c_values::screens::screen;
 use scm_front::{Folds, OwnKey};
 use scm_front_paint::ViewTurn;
 use scm_record::{

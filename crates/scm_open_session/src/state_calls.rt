@@ -1,19 +1,23 @@
 //! Calls that make a state and begin a session with it. Each returns its code.
-ghost use Rattle.std.specs.Prelude.{◌≡◌, ◌<◌, None, Some, option_map, true};
+ghost use Rattle.std.specs.Prelude.{◌≡◌, ◌<◌, None, Some, true};
 ghost use Rattle.scm_embed.specs.declared.addition.Addition.TheVariants as additions;
 ghost use Rattle.scm_embed.specs.declared.addition.Part.TheVariants as parts;
 ghost use Rattle.scm_open_session.specs.Boxes.{box_value};
-ghost use Rattle.scm_open_session.specs.Results.{IsCode};
-ghost use Rattle.scm_open_session.specs.Stages.{ChangesStage, IsOpenAt, screen_of};
-ghost use Rattle.scm_open_session.specs.Building.{Adds, BeginsState, Builds, StartsSession, binary_of_bytes, changes_of_bytes, code_at_stage, code_of_addition, context_of_bytes, file_of_bytes, kind_of_change, line_of_bytes, message_of_bytes, mode_of_bits, text_if_any, text_of_bytes};
-ghost use Rattle.scm_open_session.specs.Texts.{BuildsChange, code_of_change, code_of_text_change, given_change, seen_change};
+ghost use Rattle.scm_c_values.specs.Codes.{IsCode};
+ghost use Rattle.scm_open_session.specs.Stages.{ChangesStage, IsOpenAt};
+ghost use Rattle.scm_c_values.specs.Screens.{screen_of};
+ghost use Rattle.scm_open_session.specs.Building.{Adds, BeginsState, Builds, StartsSession, code_of_addition, BuildsChange, code_of_change, code_of_text_change};
+ghost use Rattle.scm_c_values.specs.FromBytes.{binary_of_bytes, changes_of_bytes, context_of_bytes, file_of_bytes, line_of_bytes, message_of_bytes, mode_of_bits, text_of_bytes};
+ghost use Rattle.scm_c_values.specs.Texts.{given_change, seen_change};
 
-use crate::codes;
 use crate::open_session::{OpenSession, Session};
-use crate::texts::{TextChange, paths_of, text_change_of};
+use scm_c_values::additions::{
+    binary_of, changes_of, context_of, file_of, line_of, message_of, mode_of,
+};
+use scm_c_values::codes;
+use scm_c_values::texts::{TextChange, paths_of, text_change_of};
 use scm_diff::text_of_bytes;
 use scm_embed::{Addition, Part};
-use scm_types::{ChangeType, FileMode, Text};
 use std::alloc::Global;
 
 /// Returns a session over a state without commits and files, which later calls make, and the code of the call. A failed call
@@ -58,30 +62,6 @@ fn add_text(alloc: Global, session: &mut Session, addition: Option<Addition<'_>>
     }
 }
 
-/// Returns the text of `bytes`, or `None` if they are not UTF-8.
-fn text_of(bytes: &[u8]) -> Option<Text<'_>>
-    ensures { result ≡ text_of_bytes bytes.now }
-{
-    match str::from_utf8(bytes) {
-        Ok(text) => Some(Text::from(text)),
-        Err(_) => None,
-    }
-}
-
-/// Returns the text of `bytes`, or no text if there are no bytes. Returns `None` if they are not
-/// UTF-8.
-fn text_if_any(bytes: &[u8]) -> Option<Option<Text<'_>>>
-    ensures { result ≡ text_if_any bytes.now }
-{
-    if bytes.is_empty() {
-        return Some(None);
-    }
-    match text_of(bytes) {
-        Some(text) => Some(Some(text)),
-        None => None,
-    }
-}
-
 /// Adds a commit without a message. Returns the code of the call.
 pub fn add_commit(alloc: Global, session: &mut Session) -> u32
     ensures code { IsCode true
@@ -93,18 +73,6 @@ pub fn add_commit(alloc: Global, session: &mut Session) -> u32
     add(alloc, session, Addition::Commit { message: None })
 }
 
-/// Returns the commit with the message `text`.
-fn message_of(text: &[u8]) -> Option<Addition<'_>>
-    ensures { result ≡ message_of_bytes text.now }
-{
-    match text_of(text) {
-        Some(text) => Some(Addition::Commit {
-            message: Some(text),
-        }),
-        None => None,
-    }
-}
-
 /// Adds a commit with the message `text`. Returns the code of the call.
 pub fn add_message(alloc: Global, session: &mut Session, text: &[u8]) -> u32
     ensures code { IsCode true
@@ -114,34 +82,6 @@ pub fn add_message(alloc: Global, session: &mut Session, text: &[u8]) -> u32
     ensures kept { 0 < result → box_value session.new ≡ box_value session.old }
 {
     add_text(alloc, session, message_of(text))
-}
-
-/// Returns the mode with these bits. `usize::MAX` is no file.
-fn mode_of(bits: usize) -> FileMode
-    ensures { result ≡ mode_of_bits bits }
-{
-    if bits == usize::MAX {
-        FileMode::Absent
-    } else {
-        FileMode::Unix(bits)
-    }
-}
-
-/// Returns the file at `path`. Without bytes it has no old path.
-fn file_of<'t>(path: &'t [u8], old_path: &'t [u8], mode: usize) -> Option<Addition<'t>>
-    ensures { result ≡ file_of_bytes path.now old_path.now mode }
-{
-    let Some(path) = text_of(path) else {
-        return None;
-    };
-    match text_if_any(old_path) {
-        Some(old_path) => Some(Addition::File {
-            old_path,
-            path,
-            file_mode: mode_of(mode),
-        }),
-        None => None,
-    }
 }
 
 /// Adds a file without sections. Returns the code of the call.
@@ -162,18 +102,6 @@ pub fn add_file(
     add_text(alloc, session, file_of(path, old_path, mode))
 }
 
-/// Returns the context lines of `text`.
-fn context_of(text: &[u8]) -> Option<Addition<'_>>
-    ensures { result ≡ context_of_bytes text.now }
-{
-    match text_of(text) {
-        Some(text) => Some(Addition::Part {
-            part: Part::Context { text },
-        }),
-        None => None,
-    }
-}
-
 /// Adds the context lines of `text` to the last file. Returns the code of the call.
 pub fn add_context(alloc: Global, session: &mut Session, text: &[u8]) -> u32
     ensures code { IsCode true
@@ -183,33 +111,6 @@ pub fn add_context(alloc: Global, session: &mut Session, text: &[u8]) -> u32
     ensures kept { 0 < result → box_value session.new ≡ box_value session.old }
 {
     add_text(alloc, session, context_of(text))
-}
-
-/// Returns the kind of a change.
-fn change_of(is_added: bool) -> ChangeType
-    ensures { result ≡ kind_of_change is_added }
-{
-    if is_added {
-        ChangeType::Added
-    } else {
-        ChangeType::Removed
-    }
-}
-
-/// Returns the changed lines of `text`.
-fn changes_of(is_added: bool, is_checked: bool, text: &[u8]) -> Option<Addition<'_>>
-    ensures { result ≡ changes_of_bytes is_added is_checked text.now }
-{
-    match text_of(text) {
-        Some(text) => Some(Addition::Part {
-            part: Part::Changes {
-                is_checked,
-                change_type: change_of(is_added),
-                text,
-            },
-        }),
-        None => None,
-    }
 }
 
 /// Adds the changed lines of `text` to the last file: added ones if `is_added`, or else removed
@@ -229,25 +130,6 @@ pub fn add_changes(
     ensures kept { 0 < result → box_value session.new ≡ box_value session.old }
 {
     add_text(alloc, session, changes_of(is_added, is_checked, text))
-}
-
-/// Returns the line that is the whole of `text`: a changed line if `is_changed`, or else a context line.
-fn line_of(is_changed: bool, is_added: bool, is_checked: bool, text: &[u8]) -> Option<Addition<'_>>
-    ensures { result ≡ line_of_bytes is_changed is_added is_checked text.now }
-{
-    let Some(line) = text_of(text) else {
-        return None;
-    };
-    let part = if is_changed {
-        Part::ChangedLine {
-            is_checked,
-            change_type: change_of(is_added),
-            line,
-        }
-    } else {
-        Part::ContextLine { line }
-    };
-    Some(Addition::Part { part })
 }
 
 /// Adds the line that is the whole of `text` to the last file: a changed line if `is_changed`, or else
@@ -303,25 +185,6 @@ pub fn add_mode(alloc: Global, session: &mut Session, is_checked: bool, mode: us
         mode: mode_of(mode),
     };
     add(alloc, session, Addition::Part { part })
-}
-
-/// Returns the change of binary contents. Without bytes there is no description.
-fn binary_of<'t>(is_checked: bool, old: &'t [u8], new: &'t [u8]) -> Option<Addition<'t>>
-    ensures { result ≡ binary_of_bytes is_checked old.now new.now }
-{
-    let Some(old_description) = text_if_any(old) else {
-        return None;
-    };
-    match text_if_any(new) {
-        Some(new_description) => Some(Addition::Part {
-            part: Part::Binary {
-                is_checked,
-                old_description,
-                new_description,
-            },
-        }),
-        None => None,
-    }
 }
 
 /// Adds a section that changes the binary contents of the last file. Returns the code of the call.

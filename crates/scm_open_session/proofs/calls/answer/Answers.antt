@@ -4,7 +4,8 @@ use Rattle.scm_open_session.specs.Boxes.{box_value}
 use Rattle.scm_open_session.specs.Stages.{Says, ChangesStage, is_editing}
 use Rattle.scm_open_session.proofs.StageLemmas.{stage-changes}
 use Rattle.scm_open_session.specs.Results.{code_where}
-use Rattle.scm_open_session.proofs.ResultLemmas.{call_code, message_code}
+use Rattle.scm_open_session.proofs.ResultLemmas.{call_code}
+use Rattle.scm_c_values.proofs.CodeLemmas.{message_code}
 use Rattle.scm_open_session.proofs.calls.answer.Goals as goal
 
 pub returns-in-Some-clause-said : goal.returns-in-Some-clause-said

@@ -1,6 +1,6 @@
 use Rattle.std.proofs.Common.{Some, refl, ap}
 use Rattle.scm_open_session.specs.Boxes.{box_value}
-use Rattle.scm_open_session.specs.Decoding.{HearsSilence}
+use Rattle.scm_c_values.specs.EventWords.{HearsSilence}
 use Rattle.scm_open_session.proofs.DecodeLemmas.{decodes-closed, decodes-done, decodes-refused}
 use Rattle.scm_open_session.proofs.calls.decode_silence.Goals as goal
 

@@ -1,9 +1,9 @@
 use Rattle.std.proofs.Common.{Some, refl}
 use Rattle.std.specs.Str.{is_utf8}
 use Rattle.scm_open_session.specs.Stages.{Begins}
-use Rattle.scm_open_session.specs.Results.{code_of_json}
+use Rattle.scm_c_values.specs.Codes.{code_of_json}
 use Rattle.scm_open_session.proofs.StageLemmas.{opens-at}
-use Rattle.scm_open_session.proofs.ResultLemmas.{known_as}
+use Rattle.scm_c_values.proofs.CodeLemmas.{known_as}
 use Rattle.scm_open_session.proofs.calls.open.Goals as goal
 
 pub returns-in-Ok-clause-begun : goal.returns-in-Ok-clause-begun

@@ -2,7 +2,7 @@ use Rattle.std.proofs.Common.{sym, ◌∙◌}
 use Rattle.scm_open_session.specs.Boxes.{box_value}
 use Rattle.scm_open_session.proofs.StageLemmas.{hands-in}
 use Rattle.scm_open_session.proofs.ResultLemmas.{press_code}
-use Rattle.scm_open_session.specs.Results.{event_of_bytes}
+use Rattle.scm_c_values.specs.Pieces.{event_of_bytes}
 use Rattle.scm_open_session.proofs.calls.press.Goals as goal
 
 pub returns-in-Some-clause-code : goal.returns-in-Some-clause-code

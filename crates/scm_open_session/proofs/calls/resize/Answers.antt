@@ -1,6 +1,7 @@
 use Rattle.std.proofs.Common.{Some, refl, ap}
 use Rattle.scm_open_session.specs.Boxes.{box_value}
-use Rattle.scm_open_session.specs.Stages.{Resizes, screen_of}
+use Rattle.scm_open_session.specs.Stages.{Resizes}
+use Rattle.scm_c_values.specs.Screens.{screen_of}
 use Rattle.scm_open_session.proofs.StageLemmas.{stage-changes}
 use Rattle.scm_open_session.proofs.ResultLemmas.{closed_code, resized_code}
 use Rattle.scm_open_session.proofs.calls.resize.Goals as goal

@@ -1,6 +1,6 @@
 use Rattle.std.proofs.Common.{ap}
 use Rattle.scm_open_session.specs.Boxes.{box_value}
-use Rattle.scm_open_session.proofs.KeyLemmas.{typed_to_key}
+use Rattle.scm_open_session.proofs.StageLemmas.{typed_to_key}
 use Rattle.scm_open_session.proofs.calls.type_to_key.Goals as goal
 
 pub returns-in-Some-hear_to_key-clause-typed : goal.returns-in-Some-hear_to_key-clause-typed

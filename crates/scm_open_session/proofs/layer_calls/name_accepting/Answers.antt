@@ -4,7 +4,8 @@ use Rattle.scm_open_session.specs.LayerCalls.{ChangesPainters, has_layer}
 use Rattle.scm_open_session.specs.Painters.{HaveWords}
 use Rattle.scm_open_session.specs.Results.{code_where}
 use Rattle.scm_open_session.proofs.LayerCallLemmas.{painters_change}
-use Rattle.scm_open_session.proofs.ResultLemmas.{call_code, message_code}
+use Rattle.scm_open_session.proofs.ResultLemmas.{call_code}
+use Rattle.scm_c_values.proofs.CodeLemmas.{message_code}
 use Rattle.scm_open_session.proofs.layer_calls.name_accepting.Goals as goal
 
 pub returns-in-Some-clause-named : goal.returns-in-Some-clause-named

@@ -2,7 +2,8 @@ use Rattle.std.proofs.Common.{sym, ◌∙◌}
 use Rattle.scm_open_session.specs.Boxes.{box_value}
 use Rattle.scm_open_session.specs.LayerCalls.{code_of_layer}
 use Rattle.scm_open_session.specs.Layered.{theme_of}
-use Rattle.scm_open_session.proofs.LayerCallLemmas.{has_theme, no_number_code, number_code}
+use Rattle.scm_open_session.proofs.LayerCallLemmas.{has_theme}
+use Rattle.scm_c_values.proofs.CodeLemmas.{no_number_code, number_code}
 use Rattle.scm_open_session.proofs.layer_calls.set_theme.Goals as goal
 
 pub returns-in-Some-clause-code : goal.returns-in-Some-clause-code

@@ -3,7 +3,7 @@ use Rattle.scm_open_session.specs.Boxes.{box_value}
 use Rattle.scm_open_session.specs.LayerCalls.{is_view}
 use Rattle.scm_open_session.specs.Layered.{folds_of}
 use Rattle.scm_open_session.specs.Results.{code_where}
-use Rattle.scm_open_session.proofs.LayerCallLemmas.{no_number_code, number_code}
+use Rattle.scm_c_values.proofs.CodeLemmas.{no_number_code, number_code}
 use Rattle.scm_open_session.proofs.layer_calls.start.Goals as goal
 
 pub returns-in-Some-clause-code : goal.returns-in-Some-clause-code

@@ -1,6 +1,6 @@
 use Rattle.std.proofs.Common.{ap, refl}
 use Rattle.scm_open_session.specs.Building.{is_building}
-use Rattle.scm_open_session.specs.Texts.{seen_change}
+use Rattle.scm_c_values.specs.Texts.{seen_change}
 use Rattle.scm_open_session.specs.declared.open_session.Stage.TheVariants.{Building}
 use Rattle.scm_open_session.proofs.BuildLemmas.{builds_change, change_code, not_building_change}
 use Rattle.scm_open_session.proofs.open_session.add_change_to_stage.Goals as goal

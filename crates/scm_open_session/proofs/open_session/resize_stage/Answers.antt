@@ -1,8 +1,9 @@
 use Rattle.std.proofs.Common.{ap, sym, subst}
 use Rattle.scm_open_session.specs.declared.open_session.Stage.{Stage}
 use Rattle.scm_open_session.specs.declared.open_session.Stage.TheVariants.{Waiting}
-use Rattle.scm_open_session.specs.Stages.{Resizes, is_waiting, screen_of}
-use Rattle.scm_open_session.proofs.ResultLemmas.{is_resized, not_due_code, resize_code}
+use Rattle.scm_open_session.specs.Stages.{Resizes, is_waiting}
+use Rattle.scm_c_values.specs.Screens.{screen_of}
+use Rattle.scm_c_values.proofs.CodeLemmas.{is_resized, not_due_code, resize_code}
 use Rattle.scm_open_session.proofs.open_session.resize_stage.Goals as goal
 
 pub returns-in-Waiting-clause-resized : goal.returns-in-Waiting-clause-resized

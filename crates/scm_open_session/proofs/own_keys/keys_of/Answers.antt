@@ -1,6 +1,6 @@
 use Rattle.std.proofs.Common.{refl}
-use Rattle.scm_open_session.specs.Results.{IsCode}
-use Rattle.scm_open_session.proofs.ResultLemmas.{not_utf8}
+use Rattle.scm_c_values.specs.Codes.{IsCode}
+use Rattle.scm_c_values.proofs.CodeLemmas.{not_utf8}
 use Rattle.scm_open_session.proofs.KeyPieceLemmas.{found_keys, no_key_code, no_text_code}
 use Rattle.scm_open_session.proofs.own_keys.keys_of.Goals as goal
 

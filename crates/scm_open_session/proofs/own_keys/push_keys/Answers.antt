@@ -1,7 +1,7 @@
 use Rattle.std.proofs.Common.{rules}
-use Rattle.scm_open_session.specs.Batches.{all_of, pieces_of}
+use Rattle.scm_c_values.specs.Pieces.{all_of, pieces_of}
 use Rattle.scm_open_session.specs.OwnKeys.{keys_of_piece}
-use Rattle.scm_open_session.proofs.PieceLemmas.{pushed_last, pushed_more, pushed_no}
+use Rattle.scm_c_values.proofs.PieceLemmas.{pushed_last, pushed_more, pushed_no}
 use Rattle.scm_open_session.proofs.own_keys.push_keys.Goals as goal
 
 pub returns-then-not-branch : goal.returns-then-not-branch

@@ -1,9 +1,9 @@
 use Rattle.std.proofs.Common.{length}
 use denote.Shadow.{shadow}
 use denote.Text.{Utf8}
-use Rattle.scm_open_session.specs.Batches.{all_of, pieces_of}
+use Rattle.scm_c_values.specs.Pieces.{all_of, pieces_of}
 use Rattle.scm_open_session.specs.OwnKeys.{keys_of_piece}
-use Rattle.scm_open_session.proofs.PieceLemmas.{Pushed}
+use Rattle.scm_c_values.proofs.PieceLemmas.{Pushed}
 use Rattle.scm_open_session.proofs.own_keys.push_keys.Given as goal
 
 abbrev pub invariant-cuts : goal.invariant-cuts

@@ -2,7 +2,8 @@ use Rattle.std.proofs.Common.{refl, subst}
 use Rattle.scm_input.specs.declared.inputs.TerminalKind.{TerminalKind}
 use Rattle.scm_open_session.specs.declared.open_session.Stage.TheVariants.{Waiting}
 use Rattle.scm_open_session.specs.declared.running.Running.TheVariants as running
-use Rattle.scm_open_session.specs.Stages.{Resizes, screen_of}
+use Rattle.scm_open_session.specs.Stages.{Resizes}
+use Rattle.scm_c_values.specs.Screens.{screen_of}
 use Rattle.scm_open_session.proofs.StageLemmas.{resizes, view-resizes}
 use Rattle.scm_open_session.proofs.running.try_resize.Goals as goal
 

@@ -1,6 +1,7 @@
 use Rattle.std.proofs.Common.{Some, refl, ap}
 use Rattle.scm_open_session.specs.Boxes.{box_value}
-use Rattle.scm_open_session.specs.Texts.{BuildsChange, seen_change}
+use Rattle.scm_open_session.specs.Building.{BuildsChange}
+use Rattle.scm_c_values.specs.Texts.{seen_change}
 use Rattle.scm_open_session.proofs.StageLemmas.{stage-changes}
 use Rattle.scm_open_session.proofs.BuildLemmas.{change_session_code, closed_change_code}
 use Rattle.scm_open_session.proofs.state_calls.add_change.Goals as goal

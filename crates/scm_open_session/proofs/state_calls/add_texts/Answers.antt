@@ -1,7 +1,7 @@
 use Rattle.std.proofs.Common.{refl, sym}
 use Rattle.scm_open_session.specs.Boxes.{box_value}
-use Rattle.scm_open_session.specs.Results.{IsCode}
-use Rattle.scm_open_session.specs.Texts.{given_change}
+use Rattle.scm_c_values.specs.Codes.{IsCode}
+use Rattle.scm_c_values.specs.Texts.{given_change}
 use Rattle.scm_open_session.proofs.BuildLemmas.{no_paths_code}
 use Rattle.scm_open_session.proofs.state_calls.add_texts.Goals as goal
 

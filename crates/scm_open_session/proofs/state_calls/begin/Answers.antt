@@ -1,5 +1,5 @@
 use Rattle.std.proofs.Common.{Some, refl, ap}
-use Rattle.scm_open_session.specs.Stages.{screen_of}
+use Rattle.scm_c_values.specs.Screens.{screen_of}
 use Rattle.scm_open_session.specs.Boxes.{box_value}
 use Rattle.scm_open_session.proofs.BuildLemmas.{closed_starts, session_starts}
 use Rattle.scm_open_session.proofs.state_calls.begin.Goals as goal

@@ -1,6 +1,6 @@
 use Rattle.std.proofs.Common.{Some, refl}
 use Rattle.scm_open_session.specs.Building.{BeginsState}
-use Rattle.scm_open_session.specs.Results.{IsCode}
+use Rattle.scm_c_values.specs.Codes.{IsCode}
 use Rattle.scm_open_session.proofs.StageLemmas.{opens-at}
 use Rattle.scm_open_session.proofs.state_calls.open.Goals as goal
 

@@ -1,6 +1,7 @@
 use Rattle.std.proofs.lemmas.Result.{err_from_is_err_and}
-use Rattle.scm_open_session.specs.Results.{IsCode}
-use Rattle.scm_open_session.proofs.LayerCallLemmas.{begins_layer, no_memory_as}
+use Rattle.scm_c_values.specs.Codes.{IsCode}
+use Rattle.scm_open_session.proofs.LayerCallLemmas.{begins_layer}
+use Rattle.scm_c_values.proofs.CodeLemmas.{no_memory_as}
 use Rattle.scm_open_session.proofs.open_session.OpenSession.layered.Goals as goal
 
 pub returns-in_err-layer-clause-err : goal.returns-in_err-layer-clause-err

@@ -1,4 +1,4 @@
-use Rattle.scm_open_session.specs.Results.{IsCode}
+use Rattle.scm_c_values.specs.Codes.{IsCode}
 use Rattle.scm_open_session.proofs.BuildLemmas.{begins}
 use Rattle.scm_open_session.proofs.open_session.OpenSession.new.Goals as goal
 
