@@ -1,5 +1,10 @@
-use Rattle.std.proofs.Common.{◌∙◌}
+use Rattle.std.proofs.Common.{◌∙◌, Bool, true, false, List, cond}
+use Rattle.scm_types.specs.declared.keys.SelectionKey.{SelectionKey}
+use Rattle.scm_types.specs.Marks.{is_editable_section}
+use Rattle.scm_selection.specs.KeyLists.{section_key}
+use Rattle.scm_selection.specs.KeySet.{with_key}
 use Rattle.scm_selection.proofs.FindLemmas.{item-at}
+use Rattle.scm_view_state.proofs.KeyOrderLemmas.{either-ascends, with-ascends}
 use Rattle.scm_view_state.proofs.LineSetLemmas.{sections-step}
 use Rattle.scm_view_state.proofs.line_keys.insert_sections.Goals as goal
 
