@@ -240,12 +240,12 @@ added-early ks set key h =
     ∙ sym (with-any (fold with_key set ks) key k))
 
 -- two lists of keys, and a key between them, may be added in either order
-pub added-turned : (as bs set : List SelectionKey) (key : SelectionKey) → Ascends set → fold with_key (with_key (fold with_key set bs) key) as ≡ fold with_key (with_key (fold with_key set as) key) bs
-added-turned as bs set key h =
-    same-set (fold with_key (with_key (fold with_key set bs) key) as) (fold with_key (with_key (fold with_key set as) key) bs)
-    (folded-ascends as (with_key (fold with_key set bs) key) (with-ascends (fold with_key set bs) key (folded-ascends bs set h)))
-    (folded-ascends bs (with_key (fold with_key set as) key) (with-ascends (fold with_key set as) key (folded-ascends as set h)))
-    (λ k. has-all as bs k ∙ turned-ends (has_key as k) (is_key k key) (has_key bs k) (has_key set k) ∙ sym (has-all bs as k))
+pub added-turned : (es bs set : List SelectionKey) (key : SelectionKey) → Ascends set → fold with_key (with_key (fold with_key set bs) key) es ≡ fold with_key (with_key (fold with_key set es) key) bs
+added-turned es bs set key h =
+    same-set (fold with_key (with_key (fold with_key set bs) key) es) (fold with_key (with_key (fold with_key set es) key) bs)
+    (folded-ascends es (with_key (fold with_key set bs) key) (with-ascends (fold with_key set bs) key (folded-ascends bs set h)))
+    (folded-ascends bs (with_key (fold with_key set es) key) (with-ascends (fold with_key set es) key (folded-ascends es set h)))
+    (λ k. has-all es bs k ∙ turned-ends (has_key es k) (is_key k key) (has_key bs k) (has_key set k) ∙ sym (has-all bs es k))
   where
     has-all : (xs ys : List SelectionKey) (k : SelectionKey) → has_key (fold with_key (with_key (fold with_key set ys) key) xs) k ≡ (has_key xs k || (is_key k key || (has_key ys k || has_key set k)))
     has-all xs ys k =
