@@ -57,12 +57,7 @@ fn is_open(unfolded: Unfolded<'_>, key: FileKey, index: usize, section: &Section
 }
 
 /// Returns whether there is section `index` of `sections`, all sections of file `key`, and it is open.
-fn is_open_at(
-    unfolded: Unfolded<'_>,
-    key: FileKey,
-    index: usize,
-    sections: &[Section<'_>],
-) -> bool
+fn is_open_at(unfolded: Unfolded<'_>, key: FileKey, index: usize, sections: &[Section<'_>]) -> bool
     requires { IsTrue unfolded.are_all → HasAllSections unfolded.keys.now key sections.now }
     ensures { result ≡ is_first_open unfolded.entry.keys.now key index (drop index sections.now) }
 {
@@ -169,12 +164,7 @@ pub(crate) fn refold_sections(
 }
 
 /// Returns 1 if `section`, which has index `index` in file `key`, has changed lines and is folded, else 0.
-fn fold_count(
-    unfolded: Unfolded<'_>,
-    key: FileKey,
-    index: usize,
-    section: &Section<'_>,
-) -> usize
+fn fold_count(unfolded: Unfolded<'_>, key: FileKey, index: usize, section: &Section<'_>) -> usize
     requires { IsTrue unfolded.are_all → is_editable_section section.now ≡ true
         → is_expanded unfolded.keys.now key index ≡ true }
     ensures count { result ≡ fold_count unfolded.entry.keys.now key index section.now }
@@ -187,11 +177,7 @@ fn fold_count(
 }
 
 /// Returns how many of `sections`, all sections of file `key`, have changed lines and are folded.
-pub(crate) fn folded_count(
-    unfolded: Unfolded<'_>,
-    key: FileKey,
-    sections: &[Section<'_>],
-) -> usize
+pub(crate) fn folded_count(unfolded: Unfolded<'_>, key: FileKey, sections: &[Section<'_>]) -> usize
     requires { IsTrue unfolded.are_all → HasAllSections unfolded.keys.now key sections.now }
     ensures { result ≡ folded_count unfolded.entry.keys.now key 0 sections.now }
 {
