@@ -1,11 +1,12 @@
 -- The rows of the files and sections of a state, from the keys that are unfolded. Indexes count from 0.
-use Rattle.std.specs.Prelude.{ℕ, suc, ◌+◌, ◌-◌, List, [], ◌∷◌, length, Bool, false, not, ◌&&◌, if◌then◌else◌}
+use Rattle.std.specs.Prelude.{◌≡◌, ℕ, suc, ◌+◌, ◌-◌, List, [], ◌∷◌, length, Bool, true, false, not, ◌&&◌, Some, slice_get, if◌then◌else◌}
 use Rattle.scm_types.specs.declared.file.File.{File}
 use Rattle.scm_types.specs.declared.keys.FileKey.{FileKey}
 use Rattle.scm_types.specs.declared.keys.SelectionKey.{SelectionKey}
 use Rattle.scm_types.specs.declared.keys.SelectionKey.TheVariants as keys
 use Rattle.scm_types.specs.declared.section.Section.{Section}
 use Rattle.scm_types.specs.Keys.{has_key, section_key_of}
+use Rattle.scm_types.specs.Marks.{is_editable_section}
 use Rattle.scm_rows.specs.declared.section_shape.SectionShape.{SectionShape}
 use Rattle.scm_rows.specs.Context.{place}
 use Rattle.scm_rows.specs.Heights.{is_section_open, shape_of, shown_height}
@@ -101,3 +102,20 @@ rows_of set commit top files = record { files = stacked top (each_file_rows set 
 -- the rows of files, moved so that the first begins on row `top`
 abbrev pub restacked : ℕ → StateRows → StateRows
 restacked top rows = record { files = stacked top rows.files }
+
+-- ---- everything unfolded
+
+-- all sections of file k that are not context are unfolded
+abbrev pub HasAllSections : List SelectionKey → FileKey → List Section → Type 0
+HasAllSections set k sections =
+    (i : ℕ) (section : Section)
+    → slice_get sections i ≡ Some section → is_editable_section section ≡ true → is_expanded set k i ≡ true
+
+-- file k is unfolded, and so are all its sections that are not context
+abbrev pub HasFile : List SelectionKey → FileKey → File → Type 0
+HasFile set k file = (has_key set (keys.File k) ≡ true) × HasAllSections set k file.sections
+
+-- all these files of a commit are unfolded, and all their sections that are not context
+abbrev pub HasAllFiles : List SelectionKey → ℕ → List File → Type 0
+HasAllFiles set commit files =
+    (i : ℕ) (file : File) → slice_get files i ≡ Some file → HasFile set (file_key_of commit i) file

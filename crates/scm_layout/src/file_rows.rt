@@ -1,13 +1,13 @@
 //! The rows of a file and of its sections.
-ghost use Rattle.std.specs.Prelude.{◌≡◌, ◌+◌, ◌≤◌, ◌<◌, ◌^◌, false, length, IfOk, if◌then◌else◌};
+ghost use Rattle.std.specs.Prelude.{◌≡◌, ◌+◌, ◌≤◌, ◌<◌, ◌^◌, false, length, IfOk, IsTrue, if◌then◌else◌};
 ghost use Rattle.scm_types.specs.declared.keys.SelectionKey.TheVariants as keys;
-ghost use Rattle.scm_types.specs.Keys.{section_key_of};
+ghost use Rattle.scm_types.specs.Keys.{has_key, section_key_of};
 ghost use Rattle.scm_types.specs.Limits.{file_size, max_items};
 ghost use Rattle.scm_layout.specs.Refolds.{AreRowsButKey};
-ghost use Rattle.scm_layout.specs.Rows.{file_rows, folded_count, sections_rows};
+ghost use Rattle.scm_layout.specs.Rows.{HasFile, file_rows, folded_count, sections_rows};
 
 use crate::section_folds::{folded_after, last_end, refold_section};
-use crate::section_rows::{SectionRows, folded_count, is_expanded, refold_sections};
+use crate::section_rows::{SectionRows, Unfolded, folded_count, is_expanded, refold_sections};
 use scm_rows::SectionShape;
 use scm_selection::key_set::KeySet;
 use scm_types::keys::FileKey;
@@ -33,6 +33,14 @@ fn height_with(is_expanded: bool, height: usize) -> usize
     ensures { result ≡ 1 + (if is_expanded then height else 0) }
 {
     if is_expanded { 1 + height } else { 1 }
+}
+
+/// Returns whether `file`, which has key `key`, is unfolded.
+fn is_file_unfolded(unfolded: Unfolded<'_>, key: FileKey, file: &File<'_>) -> bool
+    requires { IsTrue unfolded.are_all → HasFile unfolded.keys.now key file.now }
+    ensures { result ≡ has_key unfolded.entry.keys.now (keys.File key) }
+{
+    unfolded.are_all || unfolded.keys.contains(SelectionKey::File(key))
 }
 
 impl FileRows {
@@ -61,21 +69,26 @@ impl FileRows {
             folded: 0,
             sections: Items::from(sections),
         };
-        rows.refold(set, key, file);
+        let unfolded = Unfolded {
+            keys: set,
+            are_all: false,
+        };
+        rows.refold(unfolded, key, file);
         Ok(rows)
     }
 
     /// Finds the rows of `file` and its sections anew, from row 0 on.
-    pub(crate) fn refold(&mut self, set: &KeySet, key: FileKey, file: &File<'_>)
+    pub(crate) fn refold(&mut self, unfolded: Unfolded<'_>, key: FileKey, file: &File<'_>)
         requires lengths { length self.old.sections ≡ length file.now.sections }
         requires fits { file_size file.now ≤ max_items }
-        ensures { self.new ≡ file_rows set.now key file.now }
+        requires all { IsTrue unfolded.are_all → HasFile unfolded.keys.now key file.now }
+        ensures { self.new ≡ file_rows unfolded.entry.keys.now key file.now }
     {
         let sections = file.sections.as_slice();
-        let height = refold_sections(self.sections.as_mut_slice(), set, key, sections);
+        let height = refold_sections(self.sections.as_mut_slice(), unfolded, key, sections);
         self.top = 0;
-        self.end = height_with(set.contains(SelectionKey::File(key)), height);
-        self.folded = folded_count(set, key, sections);
+        self.end = height_with(is_file_unfolded(unfolded, key, file), height);
+        self.folded = folded_count(unfolded, key, sections);
     }
 
     /// Mends the rows of the sections of `file`, which has key `key`, after section `index`, if there

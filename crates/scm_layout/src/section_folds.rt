@@ -4,7 +4,7 @@ ghost use Rattle.scm_types.specs.Limits.{max_items, section_size};
 ghost use Rattle.scm_layout.specs.Refolds.{AreRowsButSection, AreWithin, folded_after, last_end, moved_rows};
 ghost use Rattle.scm_layout.specs.Rows.{sections_rows};
 
-use crate::section_rows::{SectionRows, refold_range};
+use crate::section_rows::{SectionRows, Unfolded, refold_range};
 use scm_rows::section_shape::is_changed;
 use scm_selection::key_set::KeySet;
 use scm_types::Section;
@@ -43,7 +43,11 @@ pub(crate) fn refold_section(
     let end = sections.len().min(index + 2);
     let top = rows[first].top;
     let from = rows[end - 1].end;
-    let to = refold_range(rows, set, key, sections, first, end, top);
+    let unfolded = Unfolded {
+        keys: set,
+        are_all: false,
+    };
+    let to = refold_range(rows, unfolded, key, sections, first, end, top);
     move_rows(rows, end, from, to);
 }
 

@@ -8,6 +8,7 @@ ghost use Rattle.scm_types.specs.Keys.{has_key};
 ghost use Rattle.scm_types.specs.Limits.{max_items, state_size};
 ghost use Rattle.scm_selection.specs.Toggle.{with_all_inverted, with_all_set, with_key_toggled};
 ghost use Rattle.scm_layout.specs.Layouts.{files_top, layout_of, IsLayoutBut, IsLayoutButCommits, IsLayoutOf};
+ghost use Rattle.scm_layout.specs.Rows.{HasAllFiles};
 
 use crate::state_counts::StateCounts;
 use crate::state_rows::StateRows;
@@ -65,6 +66,19 @@ impl Layout {
     {
         let top = files_top(state.commits.as_slice());
         self.rows.refold(expanded, 0, top, state.files.as_slice());
+    }
+
+    /// Finds the rows of `state` anew after all its files were unfolded, and all their sections that are
+    /// not context. It looks up no key of `expanded`, and does not allocate.
+    pub fn refold_all(&mut self, state: &RecordState<'_>, expanded: &KeySet)
+        requires layout { IsLayoutOf self.old state.now }
+        requires size { state_size state.now ≤ max_items }
+        requires all { HasAllFiles expanded.now 0 state.now.files }
+        ensures { self.new ≡ layout_of state.now expanded.now }
+    {
+        let top = files_top(state.commits.as_slice());
+        self.rows
+            .refold_all(expanded, 0, top, state.files.as_slice());
     }
 
     /// Mends the rows of `state` after `expanded`, which had `key` if `was_unfolded`, changed at most by

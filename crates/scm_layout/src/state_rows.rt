@@ -1,10 +1,11 @@
 //! The rows of the files of a state, which each fold keeps.
-ghost use Rattle.std.specs.Prelude.{◌≡◌, ℕ, ◌+◌, ◌-◌, ◌≤◌, ◌<◌, ◌^◌, length, sum_by, IfOk};
+ghost use Rattle.std.specs.Prelude.{◌≡◌, ℕ, ◌+◌, ◌-◌, ◌≤◌, ◌<◌, ◌^◌, length, sum_by, IfOk, IsTrue};
 ghost use Rattle.scm_types.specs.Limits.{file_size, max_items};
-ghost use Rattle.scm_layout.specs.Rows.{each_file_rows, restacked, rows_of, stacked};
+ghost use Rattle.scm_layout.specs.Rows.{HasAllFiles, each_file_rows, restacked, rows_of, stacked};
 ghost use Rattle.scm_layout.specs.Refolds.{AreFilesButKey, AreRowsOfFiles, file_index, index_in, total_height};
 
 use crate::file_rows::FileRows;
+use crate::section_rows::Unfolded;
 use scm_selection::key_set::KeySet;
 use scm_types::keys::FileKey;
 use scm_types::{File, Items, SelectionKey};
@@ -34,16 +35,22 @@ fn restack(rows: &mut [FileRows], top: usize)
 }
 
 /// Finds the rows of each of `files` anew, from row 0 on.
-fn refold_files(rows: &mut [FileRows], set: &KeySet, commit_idx: usize, files: &[File<'_>])
-    requires { AreRowsOfFiles rows.old files.now }
-    ensures { rows.new ≡ each_file_rows set.now commit_idx 0 files.now }
+fn refold_files(
+    rows: &mut [FileRows],
+    unfolded: Unfolded<'_>,
+    commit_idx: usize,
+    files: &[File<'_>],
+)
+    requires rows { AreRowsOfFiles rows.old files.now }
+    requires all { IsTrue unfolded.are_all → HasAllFiles unfolded.keys.now commit_idx files.now }
+    ensures { rows.new ≡ each_file_rows unfolded.entry.keys.now commit_idx 0 files.now }
 {
     for (file_idx, file) in files.iter().enumerate() {
         let key = FileKey {
             commit_idx,
             file_idx,
         };
-        rows[file_idx].refold(set, key, file);
+        rows[file_idx].refold(unfolded, key, file);
     }
 }
 
@@ -122,14 +129,50 @@ impl StateRows {
         })
     }
 
+    /// Finds all rows of `files` anew after the unfolded files and sections changed.
+    fn refold_by(
+        &mut self,
+        unfolded: Unfolded<'_>,
+        commit_idx: usize,
+        top: usize,
+        files: &[File<'_>],
+    )
+        requires top { top ≤ max_items }
+        requires rows { AreRowsOfFiles self.old.files files.now }
+        requires all { IsTrue unfolded.are_all
+            → HasAllFiles unfolded.keys.now commit_idx files.now }
+        ensures { self.new ≡ rows_of unfolded.entry.keys.now commit_idx top files.now }
+    {
+        refold_files(self.files.as_mut_slice(), unfolded, commit_idx, files);
+        restack(self.files.as_mut_slice(), top);
+    }
+
     /// Finds all rows of `files` anew after `set` changed, without an allocation.
     pub fn refold(&mut self, set: &KeySet, commit_idx: usize, top: usize, files: &[File<'_>])
         requires top { top ≤ max_items }
         requires rows { AreRowsOfFiles self.old.files files.now }
         ensures { self.new ≡ rows_of set.now commit_idx top files.now }
     {
-        refold_files(self.files.as_mut_slice(), set, commit_idx, files);
-        restack(self.files.as_mut_slice(), top);
+        let unfolded = Unfolded {
+            keys: set,
+            are_all: false,
+        };
+        self.refold_by(unfolded, commit_idx, top, files);
+    }
+
+    /// Finds all rows of `files` anew after `set` changed, and got all of them and all their sections
+    /// that are not context. It looks up no key, and does not allocate.
+    pub fn refold_all(&mut self, set: &KeySet, commit_idx: usize, top: usize, files: &[File<'_>])
+        requires top { top ≤ max_items }
+        requires rows { AreRowsOfFiles self.old.files files.now }
+        requires all { HasAllFiles set.now commit_idx files.now }
+        ensures { self.new ≡ rows_of set.now commit_idx top files.now }
+    {
+        let unfolded = Unfolded {
+            keys: set,
+            are_all: true,
+        };
+        self.refold_by(unfolded, commit_idx, top, files);
     }
 
     /// Moves the first file to row `top`, and the others below it. Each keeps its number of rows. It

@@ -11,6 +11,7 @@ use Rattle.std.specs.Cmp.Lexicographic.{on_texts, slice_cmp}
 use Rattle.scm_types.specs.declared.keys.SelectionKey.{SelectionKey}
 use Rattle.scm_selection.proofs.PartLemmas.{eq-self}
 use Rattle.scm_selection.proofs.RelationLemmas.{key-same}
+pub use Rattle.scm_view_state.specs.LineKeys.{IsBefore, Ascends}
 use Rattle.scm_selection.specs.KeySet.{key_cmp, numbers_of, same_numbers, is_key, has_key, with_key, without_key, with_key_flipped, key_set}
 
 self-numbers : (ns : List ℕ) → same_numbers ns ns ≡ true
@@ -34,16 +35,6 @@ equal-is-same a b e = equal-numbers (numbers_of a) (numbers_of b) ∙ ap is_eq e
 
 order : IsTotalOrder key_cmp
 order = on_texts numbers_of
-
--- the key comes before each key of the list
-abbrev pub IsBefore : SelectionKey → List SelectionKey → Type 0
-IsBefore key [] = Unit {0}
-IsBefore key (k ∷ ks) = (key_cmp key k ≡ Less) × IsBefore key ks
-
--- the keys ascend
-abbrev pub Ascends : List SelectionKey → Type 0
-Ascends [] = Unit {0}
-Ascends (k ∷ ks) = IsBefore k ks × Ascends ks
 
 before-all : (a b : SelectionKey) (ks : List SelectionKey) → key_cmp a b ≡ Less → IsBefore b ks → IsBefore a ks
 before-all a b [] e h = tt
@@ -89,7 +80,7 @@ without-ascends (k ∷ ks) key h = either-ascends (is_key key k) ks (k ∷ witho
 pub flipped-ascends : (ks : List SelectionKey) (key : SelectionKey) → Ascends ks → Ascends (with_key_flipped ks key)
 flipped-ascends ks key h = either-ascends (has_key ks key) (without_key ks key) (with_key ks key) (without-ascends ks key h) (with-ascends ks key h)
 
-folded-ascends : (ks set : List SelectionKey) → Ascends set → Ascends (fold with_key set ks)
+pub folded-ascends : (ks set : List SelectionKey) → Ascends set → Ascends (fold with_key set ks)
 folded-ascends [] set h = h
 folded-ascends (k ∷ ks) set h = folded-ascends ks (with_key set k) (with-ascends set k h)
 
@@ -203,3 +194,71 @@ set-has ks key = set-from-has ks [] key ∙ or-false (has_key ks key)
     or-false : (b : Bool) → (b || false) ≡ b
     or-false true = refl
     or-false false = refl
+
+-- ---- sets with the same keys
+
+or-first : (b c : Bool) → b ≡ true → (b || c) ≡ true
+or-first true c e = refl
+or-first false c e = absurd (cc e)
+
+same-rest : (a b c : Bool) → (a ≡ true → (b ≡ false) × (c ≡ false)) → (a || b) ≡ (a || c) → b ≡ c
+same-rest true b c none e = let facts = none refl in facts.0 ∙ sym facts.1
+same-rest false b c none e = e
+
+-- a key before all keys of an ascending list is not in it
+lower-away : (x y : SelectionKey) (ys : List SelectionKey) → key_cmp x y ≡ Less → IsBefore y ys → has_key (y ∷ ys) x ≡ false
+lower-away x y ys e h = not-before x (y ∷ ys) (e, before-all x y ys e h)
+
+-- two ascending lists with the same keys are the same
+pub same-set : (xs ys : List SelectionKey) → Ascends xs → Ascends ys → ((k : SelectionKey) → has_key xs k ≡ has_key ys k) → xs ≡ ys
+same-set [] [] h g same = refl
+same-set [] (y ∷ ys) h g same = absurd (cc (same y, or-first (is_key y y) (has_key ys y) (key-self y)))
+same-set (x ∷ xs) [] h g same = absurd (cc (same x, or-first (is_key x x) (has_key xs x) (key-self x)))
+same-set (x ∷ xs) (y ∷ ys) h g same = go (key_cmp x y) refl (λ rest. same-set xs ys h.1 g.1 rest)
+  where
+    go : (o : Ordering) → key_cmp x y ≡ o → (((k : SelectionKey) → has_key xs k ≡ has_key ys k) → xs ≡ ys) → x ∷ xs ≡ y ∷ ys
+    go Less e more = absurd (cc (same x, or-first (is_key x x) (has_key xs x) (key-self x), lower-away x y ys e g.0))
+    go Greater e more = absurd (cc (same y, or-first (is_key y y) (has_key ys y) (key-self y), lower-away y x xs (turned x y e) h.0))
+    go Equal e more =
+        let first : x ≡ y = key-same x y (equal-is-same x y e) in
+        let none : (k : SelectionKey) → is_key k x ≡ true → (has_key xs k ≡ false) × (has_key ys k ≡ false) =
+        λ k is. let at : k ≡ x = key-same k x is in
+        (ap (has_key xs) at ∙ not-before x xs h.0, ap (has_key ys) (at ∙ first) ∙ not-before y ys g.0) in
+        let rest : (k : SelectionKey) → has_key xs k ≡ has_key ys k =
+        λ k. same-rest (is_key k x) (has_key xs k) (has_key ys k) (none k) (same k ∙ ap (λ z. is_key k z || has_key ys k) (sym first)) in
+        ap (λ (zs : List SelectionKey). x ∷ zs) (more rest) ∙ ap (λ z. z ∷ ys) first
+
+-- a key may be added before the others or after them
+pub added-early : (ks set : List SelectionKey) (key : SelectionKey) → Ascends set → fold with_key (with_key set key) ks ≡ with_key (fold with_key set ks) key
+added-early ks set key h =
+    same-set (fold with_key (with_key set key) ks) (with_key (fold with_key set ks) key)
+    (folded-ascends ks (with_key set key) (with-ascends set key h)) (with-ascends (fold with_key set ks) key (folded-ascends ks set h))
+    (λ k. set-from-has ks (with_key set key) k
+    ∙ ap (λ b. has_key ks k || b) (with-any set key k)
+    ∙ turned-or (has_key ks k) (is_key k key) (has_key set k)
+    ∙ ap (λ b. is_key k key || b) (sym (set-from-has ks set k))
+    ∙ sym (with-any (fold with_key set ks) key k))
+
+-- two lists of keys, and a key between them, may be added in either order
+pub added-turned : (es bs set : List SelectionKey) (key : SelectionKey) → Ascends set → fold with_key (with_key (fold with_key set bs) key) es ≡ fold with_key (with_key (fold with_key set es) key) bs
+added-turned es bs set key h =
+    same-set (fold with_key (with_key (fold with_key set bs) key) es) (fold with_key (with_key (fold with_key set es) key) bs)
+    (folded-ascends es (with_key (fold with_key set bs) key) (with-ascends (fold with_key set bs) key (folded-ascends bs set h)))
+    (folded-ascends bs (with_key (fold with_key set es) key) (with-ascends (fold with_key set es) key (folded-ascends es set h)))
+    (λ k. has-all es bs k ∙ turned-ends (has_key es k) (is_key k key) (has_key bs k) (has_key set k) ∙ sym (has-all bs es k))
+  where
+    has-all : (xs ys : List SelectionKey) (k : SelectionKey) → has_key (fold with_key (with_key (fold with_key set ys) key) xs) k ≡ (has_key xs k || (is_key k key || (has_key ys k || has_key set k)))
+    has-all xs ys k =
+        set-from-has xs (with_key (fold with_key set ys) key) k
+        ∙ ap (λ b. has_key xs k || b) (with-any (fold with_key set ys) key k)
+        ∙ ap (λ b. has_key xs k || (is_key k key || b)) (set-from-has ys set k)
+
+    turned-ends : (a b c d : Bool) → (a || (b || (c || d))) ≡ (c || (b || (a || d)))
+    turned-ends true true true d = refl
+    turned-ends true true false d = refl
+    turned-ends true false true d = refl
+    turned-ends true false false d = refl
+    turned-ends false true true d = refl
+    turned-ends false true false d = refl
+    turned-ends false false true d = refl
+    turned-ends false false false d = refl

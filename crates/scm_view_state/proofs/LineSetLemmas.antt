@@ -1,5 +1,5 @@
 -- The keys of lines come after all other keys of a set. So a set has the other keys, and the lines behind them.
-use Rattle.std.proofs.Common.{◌≡◌, ℕ, suc, ◌+◌, ◌<◌, length, length-append, arith, nat_lt, drop, zero, cond, Bool, true, false, not, ◌&&◌, ◌||◌, List, [], ◌∷◌, ◌++◌, refl, sym, ap, ap₂, ◌∙◌, Some, None}
+use Rattle.std.proofs.Common.{◌≡◌, ℕ, suc, ◌+◌, ◌<◌, length, length-append, arith, nat_lt, drop, take, zero, cond, Bool, true, false, not, ◌&&◌, ◌||◌, List, [], ◌∷◌, ◌++◌, refl, sym, ap, ap₂, ◌∙◌, Some, None}
 use Rattle.std.specs.Prelude.{filter, find, fold, is_some, position, slice_get, if◌then◌else◌}
 use Rattle.std.specs.List.{list_any, position_or_len}
 use Rattle.std.specs.Option.{unwrap_or}
@@ -25,14 +25,14 @@ use Rattle.scm_layout.specs.Layouts.{files_top, layout_of}
 use Rattle.scm_rows.specs.Context.{place}
 use Rattle.scm_rows.specs.Heights.{shape_of, shown_height}
 use Rattle.scm_rows.specs.Lines.{is_changed}
-use Rattle.scm_layout.specs.Rows.{each_file_rows, file_key_of, file_rows, folded_count, is_expanded, is_first_open, is_open, rows_at, sections_height, sections_rows, stacked, visible_height}
+use Rattle.scm_layout.specs.Rows.{HasAllFiles, each_file_rows, file_key_of, file_rows, folded_count, is_expanded, is_first_open, is_open, rows_at, sections_height, sections_rows, stacked, visible_height}
 use Rattle.scm_selection.specs.KeyLists.{all_keys, file_key, files_keys, is_line, is_visible, line_keys, section_key, section_keys, sections_keys, visible_keys}
 use Rattle.scm_selection.specs.KeySet.{key_cmp, is_key, has_key, with_key, without_key, with_key_flipped, key_set, is_same_set}
-use Rattle.scm_selection.specs.KeysAround.{is_key_of}
+use Rattle.scm_selection.specs.KeysAround.{is_editable_in, is_key_of, sections_in}
 use Rattle.scm_selection.specs.Moves.{inner_key, is_inside, keys_behind}
-use Rattle.scm_selection.proofs.FindLemmas.{drop-at}
+use Rattle.scm_selection.proofs.FindLemmas.{files-take, sections-take}
 use Rattle.scm_selection.proofs.RelationLemmas.{key-same}
-use Rattle.scm_view_state.proofs.KeyOrderLemmas.{key-self, set-has}
+use Rattle.scm_view_state.proofs.KeyOrderLemmas.{Ascends, added-early, added-turned, key-self, set-has}
 use Rattle.scm_selection.proofs.WalkLemmas.{among-kept}
 use Rattle.scm_view_state.specs.LineKeys.{line_set, set_without_lines, with_lines}
 
@@ -411,6 +411,42 @@ placed-any test ks = some (nat_lt (position_or_len test ks) (length ks)) (positi
 pub other-is-none : (k : SelectionKey) (fs : List File) → is_line k ≡ false → has_key (line_set fs) k ≡ false
 other-is-none k fs other = no-other k (line_set fs) other (lines-are (all_keys fs))
 
+-- a key of the files is among all keys
+key-is-one : (k : SelectionKey) (fs : List File) → is_key_of fs k ≡ has_key (all_keys fs) k
+key-is-one k fs =
+    and-true (is_key_of fs k)
+    ∙ among-kept (λ _. true) fs k
+    ∙ ap (λ ks. is_some (position (is_key k) ks)) (filter-all (files_keys 0 fs))
+    ∙ placed-any (is_key k) (all_keys fs)
+  where
+    and-true : (b : Bool) → b ≡ (b && true)
+    and-true true = refl
+    and-true false = refl
+
+    filter-all : (ks : List SelectionKey) → filter (λ _. true) ks ≡ ks
+    filter-all [] = refl
+    filter-all (x ∷ xs) = ap (λ (l : List SelectionKey). x ∷ l) (filter-all xs)
+
+slice-in : {X : Type 0} (xs : List X) (i : ℕ) (x : X) → slice_get xs i ≡ Some x → nat_lt i (length xs) ≡ true
+slice-in [] i x e = absurd (cc e)
+slice-in (y ∷ ys) zero x e = first (length ys)
+  where
+    first : (n : ℕ) → nat_lt zero (suc n) ≡ true
+    first n = grind (arith, nat_tests)
+slice-in (y ∷ ys) (suc i) x e = later i (length ys) (slice-in ys i x e)
+  where
+    later : (m n : ℕ) → nat_lt m n ≡ true → nat_lt (suc m) (suc n) ≡ true
+    later m n h = grind (arith, nat_tests)
+
+file-there : (fs : List File) (i : ℕ) (f : File) → slice_get fs i ≡ Some f → is_key_of fs (file_key i) ≡ true
+file-there fs i f at = slice-in fs i f at
+
+section-there : (fs : List File) (i m : ℕ) (f : File) (s : Section) → slice_get fs i ≡ Some f → slice_get f.sections m ≡ Some s → is_editable_section s ≡ true → is_key_of fs (section_key i m) ≡ true
+section-there fs i m f s at within editable =
+    ap (λ r. is_editable_in (slice_get (sections_in r) m)) at
+    ∙ ap is_editable_in within
+    ∙ editable
+
 pub line-is-one : (k : SelectionKey) (fs : List File) → is_line k ≡ true → is_key_of fs k ≡ has_key (line_set fs) k
 line-is-one k fs line =
     and-true (is_key_of fs k)
@@ -470,27 +506,50 @@ section-inserted set file section (Changed lines) = ap (fold with_key (with_key 
 section-inserted set file section (FileMode is_checked mode) = refl
 section-inserted set file section (Binary is_checked old new) = refl
 
--- one more section
-pub sections-step : (set : List SelectionKey) (file i : ℕ) (ss : List Section) (s : Section) → slice_get ss i ≡ Some s
-    → fold with_key (if is_editable_section s then with_key set (section_key file i) else set) (filter (λ key. not (is_line key)) (sections_keys file (i + 1) (drop (i + 1) ss)))
-    ≡ fold with_key set (filter (λ key. not (is_line key)) (sections_keys file i (drop i ss)))
-sections-step set file i ss s at =
+-- one more section, from the last on
+pub sections-step : (set : List SelectionKey) (file i : ℕ) (ss : List Section) (s : Section) → Ascends set → slice_get ss i ≡ Some s
+    → fold with_key (if is_editable_section s then with_key set (section_key file i) else set) (filter (λ key. not (is_line key)) (sections_keys file 0 (take i ss)))
+    ≡ fold with_key set (filter (λ key. not (is_line key)) (sections_keys file 0 (take (i + 1) ss)))
+sections-step set file i ss s h at =
     let own = section_keys file i s in
-    let rest = sections_keys file (i + 1) (drop (i + 1) ss) in
+    let before = sections_keys file 0 (take i ss) in
     let others = filter (λ key. not (is_line key)) in
-    sym (ap (λ xs. fold with_key set (others (sections_keys file i xs))) (drop-at ss i s at)
-    ∙ ap (fold with_key set) (filter-append (λ key. not (is_line key)) own rest)
-    ∙ fold-append with_key set (others own) (others rest)
-    ∙ ap (λ ks. fold with_key ks (others rest)) (section-inserted set file i s))
+    sym (ap (λ ks. fold with_key set (others ks)) (sections-take file 0 i i ss s (omega arith) at)
+    ∙ ap (fold with_key set) (filter-append (λ key. not (is_line key)) before own)
+    ∙ fold-append with_key set (others before) (others own)
+    ∙ section-inserted (fold with_key set (others before)) file i s
+    ∙ either (is_editable_section s))
+  where
+    either : (b : Bool)
+        → (if b then with_key (fold with_key set (filter (λ key. not (is_line key)) (sections_keys file 0 (take i ss)))) (section_key file i) else fold with_key set (filter (λ key. not (is_line key)) (sections_keys file 0 (take i ss))))
+        ≡ fold with_key (if b then with_key set (section_key file i) else set) (filter (λ key. not (is_line key)) (sections_keys file 0 (take i ss)))
+    either true = sym (added-early (filter (λ key. not (is_line key)) (sections_keys file 0 (take i ss))) set (section_key file i) h)
+    either false = refl
 
--- one more file
-pub files-step : (set : List SelectionKey) (i : ℕ) (fs : List File) (f : File) → slice_get fs i ≡ Some f
-    → fold with_key (fold with_key (with_key set (file_key i)) (filter (λ key. not (is_line key)) (sections_keys i 0 f.sections))) (filter (λ key. not (is_line key)) (files_keys (i + 1) (drop (i + 1) fs)))
-    ≡ fold with_key set (filter (λ key. not (is_line key)) (files_keys i (drop i fs)))
-files-step set i fs f at =
+-- one more file, from the last on
+pub files-step : (set : List SelectionKey) (i : ℕ) (fs : List File) (f : File) → Ascends set → slice_get fs i ≡ Some f
+    → fold with_key (with_key (fold with_key set (filter (λ key. not (is_line key)) (sections_keys i 0 f.sections))) (file_key i)) (filter (λ key. not (is_line key)) (files_keys 0 (take i fs)))
+    ≡ fold with_key set (filter (λ key. not (is_line key)) (files_keys 0 (take (i + 1) fs)))
+files-step set i fs f h at =
     let own = sections_keys i 0 f.sections in
-    let rest = files_keys (i + 1) (drop (i + 1) fs) in
+    let before = files_keys 0 (take i fs) in
     let others = filter (λ key. not (is_line key)) in
-    sym (ap (λ xs. fold with_key set (others (files_keys i xs))) (drop-at fs i f at)
-    ∙ ap (fold with_key (with_key set (file_key i))) (filter-append (λ key. not (is_line key)) own rest)
-    ∙ fold-append with_key (with_key set (file_key i)) (others own) (others rest))
+    added-turned (others before) (others own) set (file_key i) h
+    ∙ sym (ap (λ ks. fold with_key set (others ks)) (files-take 0 i i fs f (omega arith) at)
+    ∙ ap (fold with_key set) (filter-append (λ key. not (is_line key)) before (file_key i ∷ own))
+    ∙ fold-append with_key set (others before) (file_key i ∷ others own))
+
+-- ---- everything unfolded
+
+-- where the set and the lines of a state are all keys, the set has all files, and all sections that are not context
+module _ (fs : List File) (e : List SelectionKey) (all : Bool) (is : with_lines all fs e ≡ key_set (all_keys fs)) where
+  has-of : (k : SelectionKey) → is_line k ≡ false → is_key_of fs k ≡ true → has_key e k ≡ true
+  has-of k other there =
+      sym (has-with fs e all k other)
+      ∙ ap (λ (ks : List SelectionKey). has_key ks k) is
+      ∙ set-has (all_keys fs) k
+      ∙ sym (key-is-one k fs)
+      ∙ there
+
+  pub all-unfolded : HasAllFiles e 0 fs
+  all-unfolded i f at = (has-of (file_key i) refl (file-there fs i f at), λ m s within editable. has-of (section_key i m) refl (section-there fs i m f s at within editable))

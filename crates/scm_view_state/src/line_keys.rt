@@ -5,7 +5,7 @@ ghost use Rattle.scm_types.specs.Keys.{has_key};
 ghost use Rattle.scm_types.specs.Marks.{is_editable_section};
 ghost use Rattle.scm_selection.specs.KeyLists.{all_keys, is_line, section_key, sections_keys};
 ghost use Rattle.scm_selection.specs.KeySet.{is_same_set, key_set, with_key};
-ghost use Rattle.scm_view_state.specs.LineKeys.{line_set, set_without_lines};
+ghost use Rattle.scm_view_state.specs.LineKeys.{Ascends, line_set, set_without_lines};
 
 use scm_selection::key_lists::{all_keys, file_key, section_key};
 use scm_selection::key_set::{KeySet, key_set_of};
@@ -48,11 +48,13 @@ fn insert_sections(
     file: usize,
     sections: &[Section<'_>],
 ) -> Result<(), RecordError>
+    requires { Ascends set.old }
     ensures ok { OnOk result (set.new ≡ fold with_key set.old
         (filter (λ key. not (is_line key)) (sections_keys file 0 sections.now))) }
     ensures err { IfErr result (λ e. e ≡ OutOfMemory) }
 {
-    for index in 0..sections.len() {
+    // the last key first: a set finds the place of a low key sooner than that of a high one
+    for index in (0..sections.len()).rev() {
         insert_section(set, file, index, &sections[index])?;
     }
     Ok(())
@@ -64,9 +66,9 @@ pub(crate) fn set_without_lines(alloc: Global, files: &[File<'_>]) -> Result<Key
     ensures err { IfErr result (λ e. e ≡ OutOfMemory) }
 {
     let mut set = KeySet::new(alloc);
-    for index in 0..files.len() {
-        set.insert(file_key(index))?;
+    for index in (0..files.len()).rev() {
         insert_sections(&mut set, index, files[index].sections.as_slice())?;
+        set.insert(file_key(index))?;
     }
     Ok(set)
 }

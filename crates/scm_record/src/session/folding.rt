@@ -55,7 +55,7 @@ impl<'state> ActiveSession<'state> {
         let alloc = self.allocator();
         self.view_state.expand_all(alloc)?;
         self.shared_rows = None;
-        self.view_state.refold(&mut self.layout);
+        self.view_state.refold_all(&mut self.layout);
         Ok(())
     }
 

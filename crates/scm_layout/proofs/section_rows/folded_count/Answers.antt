@@ -4,7 +4,7 @@ use Rattle.scm_layout.proofs.section_rows.folded_count.Goals as goal
 
 pub loop-index-preserved : goal.loop-index-preserved
 loop-index-preserved c =
-    let more = folded_count-more c.args.set.now c.args.key c.loop-index.index c.args.sections.now c.index-sections-index.result c.loop-index-test.true c.index-sections-index.is in
+    let more = folded_count-more c.args.unfolded.keys.now c.args.key c.loop-index.index c.args.sections.now c.index-sections-index.result c.loop-index-test.true c.index-sections-index.is in
     record {
       count = omega (arith, more, c.fold_count-folded.ensures.count);
       most = omega (arith, c.fold_count-folded.ensures.most);
@@ -12,5 +12,5 @@ loop-index-preserved c =
 
 pub returns : goal.returns
 returns c =
-    let none = folded_count-end c.args.set.now c.args.key c.loop-index.index c.args.sections.now c.loop-index-test.false in
+    let none = folded_count-end c.args.unfolded.keys.now c.args.key c.loop-index.index c.args.sections.now c.loop-index-test.false in
     omega arith

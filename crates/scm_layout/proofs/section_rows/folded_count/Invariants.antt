@@ -6,6 +6,6 @@ use Rattle.scm_layout.proofs.section_rows.folded_count.Given as goal
 abbrev pub invariant-loop-index : goal.invariant-loop-index
 invariant-loop-index l =
     record {
-      count : l.folded + folded_count l.set l.key l.index (drop l.index l.sections) ≡ folded_count l.set l.key 0 l.sections;
+      count : l.folded + folded_count l.unfolded.keys.now l.key l.index (drop l.index l.sections) ≡ folded_count l.unfolded.keys.now l.key 0 l.sections;
       most : l.folded ≤ l.index;
     }

@@ -7,11 +7,11 @@ use Rattle.scm_layout.proofs.section_rows.refold_sections.Goals as goal
 pub refold_range-requires-clause-room : goal.refold_range-requires-clause-room
 refold_range-requires-clause-room c =
     let ss = c.args.sections.now in
-    omega (arith, sections-fit c.args.set.now c.args.key (length ss) ss)
+    omega (arith, sections-fit c.args.unfolded.keys.now c.args.key (length ss) ss)
 
 pub returns : goal.returns
 returns c =
-    let ks = c.args.set.now in
+    let ks = c.args.unfolded.keys.now in
     let k = c.args.key in
     let ss = c.args.sections.now in
     let n = length ss in

@@ -1,11 +1,10 @@
 use Rattle.std.proofs.Common.{arith}
 use Rattle.scm_types.proofs.LimitLemmas.{items_room}
 use Rattle.scm_rows.specs.Context.{place}
-use Rattle.scm_layout.specs.Rows.{is_expanded}
 use Rattle.scm_layout.proofs.RowLemmas.{height-le}
 use Rattle.scm_layout.proofs.section_rows.visible_height.Goals as goal
 
 pub shown_height-requires : goal.shown_height-requires
 shown_height-requires c =
     let a = c.args in
-    rw c.is_expanded-is_unfolded.ensures (omega (arith, items_room, c.requires, height-le (place a.total a.index) (is_expanded a.set.now a.key a.index) a.section.now))
+    omega (arith, items_room, c.requires, height-le (place a.total a.index) a.is_open a.section.now)

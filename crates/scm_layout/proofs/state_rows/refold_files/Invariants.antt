@@ -8,6 +8,6 @@ use Rattle.scm_layout.proofs.state_rows.refold_files.Given as goal
 abbrev pub invariant-loop-file_idx : goal.invariant-loop-file_idx
 invariant-loop-file_idx l =
     record {
-      rows : take l.file_idx l.rows ++ each_file_rows l.set l.commit_idx l.file_idx (drop l.file_idx l.files) ≡ each_file_rows l.set l.commit_idx 0 l.files;
+      rows : take l.file_idx l.rows ++ each_file_rows l.unfolded.keys.now l.commit_idx l.file_idx (drop l.file_idx l.files) ≡ each_file_rows l.unfolded.keys.now l.commit_idx 0 l.files;
       lengths : map (λ (r : FileRows). length r.sections) (drop l.file_idx l.rows) ≡ map (λ (f : File). length f.sections) (drop l.file_idx l.files);
     }
