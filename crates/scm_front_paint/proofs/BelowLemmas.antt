@@ -1,23 +1,13 @@
 -- The session's rows and the status row below them are painted apart.
-use Rattle.std.proofs.Common.{◌≡◌, ◌≢◌, ℕ, ◌+◌, ◌<◌, ◌≤◌, ◌==◌, Bool, true, false, List, [], ◌∷◌, ◌++◌, length, get_or, set, map, take, replicate, refl, sym, ap, ap₂, ◌∙◌, subst, arith, Option, Some, None, inl, inr}
-use Rattle.std.specs.Prelude.{slice_get, if◌then◌else◌}
-use Rattle.std.specs.List.{All, flat_map, range_with_len}
-use Rattle.std.specs.Option.{option_and_then}
+use Rattle.std.proofs.Common.{◌≡◌, ℕ, ◌+◌, ◌-◌, ◌<◌, ◌≤◌, List, [], ◌++◌, length, get_or, map, take, refl, sym, ap, ap₂, ◌∙◌, subst, arith, Some, None, inl, inr}
+use Rattle.std.specs.List.{All, flat_map}
 use Rattle.std.proofs.lemmas.Bool.{cases_lt, cases_eq}
-use Rattle.std.proofs.lemmas.Bool.Decides.{nat_tests}
-use Rattle.std.proofs.lemmas.Option.{slice_get-get_or}
-use Rattle.std.proofs.lemmas.List.{get_or-map, length-map, length-take, length-set, length-replicate, get_or-take, get_or-set_other, get_or-replicate, ext_get_or, get_or_past}
+use Rattle.std.proofs.lemmas.List.{get_or-map, length-map, length-take, get_or-take, ext_get_or, get_or_past}
 use Rattle.std.proofs.lemmas.List.Concat.{flat_map-append}
-use Rattle.std.proofs.lemmas.List.Elements.{All-from_get_or, All-get_or}
-use Rattle.std.proofs.lemmas.List.FromFn.{length-range_with_len, get_or-range_with_len}
-use Rattle.scm_cells.specs.Cell.{Cell, blank}
-use Rattle.scm_cells.specs.Screen.{Screen}
-use Rattle.scm_cells.specs.Symbols.{symbol_in, symbol_of}
-use Rattle.scm_cells.specs.declared.style.Style.{Style}
-use Rattle.scm_terminal.specs.Promise.{HasChanged, MovesTo, Leads, known_spots}
+use Rattle.std.proofs.lemmas.List.Elements.{All-append, All-from_get_or, All-get_or}
+use Rattle.scm_terminal.specs.Promise.{HasChanged, MovesTo, Leads, Paints, known_spots}
 use Rattle.scm_terminal.specs.Sent.{sent_row, sent_picture}
-use Rattle.scm_terminal.specs.Style.{plain_style}
-use Rattle.scm_terminal.specs.StyledCell.{AreSameBefore, StyledCell, First, Later, HasSize, cell_of, cell_at, styled_row, picture}
+use Rattle.scm_terminal.specs.StyledCell.{StyledCell, HasSize}
 use Rattle.scm_terminal.specs.Terminal.{Terminal, Spot, IsOfSize, Command, MoveTo, SetStyle, Put, SetWrap, after_all, bytes_of}
 use Rattle.scm_terminal.proofs.RunLemmas.{Runs-append}
 use Rattle.scm_terminal.proofs.SentLemmas.{length-row}
@@ -26,10 +16,11 @@ use Rattle.scm_front_paint.specs.declared.themes.Theme.{Theme}
 use Rattle.scm_front_paint.specs.declared.words.Columns.{Columns}
 use Rattle.scm_front_paint.specs.Pane.{offset}
 use Rattle.scm_front_paint.specs.Seen.{Seen}
-use Rattle.scm_front_paint.specs.Status.{left_text, right_of, status_screen, status_style, status_picture}
-use Rattle.scm_front_paint.specs.Blank.{IsBlankAbove, blank_cells}
-use Rattle.scm_front_paint.specs.Below.{Pictures, no_pictures, PaintsBoth, AreWhole, ShowsBoth, Before, anything, painted, LeadsToBoth, StayApart, rows_shown, shown_style, width_of, view_pictures}
+use Rattle.scm_front_paint.specs.Status.{left_text, right_of}
+use Rattle.scm_front_paint.specs.Blank.{Begins, PaintsLast, blank_cells, blank_picture, blanking, from_blanks, from_known}
+use Rattle.scm_front_paint.specs.Below.{Pictures, PaintsBoth, AreWhole, ShowsBoth, Before, anything, painted, LeadsToBoth, StayApart, rows_shown, shown_style, width_of, view_pictures}
 use Rattle.scm_front_paint.proofs.SidewaysLemmas.{sideways-size}
+use Rattle.scm_front_paint.proofs.BlankLemmas.{blanked, blanking-moves, blanks-above, blanks-last, blanks-size, sent-row, status-above, status-size}
 use Rattle.scm_front_paint.proofs.PartLemmas.{Alike, Follows, all-follow}
 
 -- a row of a picture as it is sent
@@ -48,33 +39,137 @@ wide-at : (width : ℕ) (p : List (List StyledCell)) (height k : ℕ) → HasSiz
 wide-at width p height k s h =
     length-map (sent_row (get_or p k [])) Some ∙ length-row (get_or p k []) ∙ All-get_or (λ (row : List StyledCell). length row ≡ width) p k [] (subst (λ (n : ℕ). k < n) (sym s.high) h) s.all_wide
 
-module _ (width height : ℕ) (known new : Pictures) (bytes : List ℕ) (p : PaintsBoth width known new bytes) (w : AreWhole width height new) where
-  status-at : height < length new.status
-  status-at = subst (λ (n : ℕ). height < n) (sym w.status.high) (omega arith)
+-- rows of blanks, and one more below them
+record IsLast (width height : ℕ) (rows : List (List StyledCell)) : Type 0 where
+  size : HasSize width (height + 1) rows
+  blank : (k : ℕ) → k < height → get_or rows k [] ≡ blank_cells width
 
+-- ---- the last row
+
+-- the terminal after commands shows the last row of `next`, and its other rows stayed
+record RowDone (width height : ℕ) (next : List (List StyledCell)) (commands : List Command) (t : Terminal) : Type 0 where
+  end : Terminal
+  runs : after_all commands t ≡ Some end
+  size : IsOfSize end width (height + 1)
+  row : get_or end.rows height [] ≡ sent_spots (get_or next height [])
+  others : (k : ℕ) → k < height → get_or end.rows k [] ≡ get_or t.rows k []
+
+-- where the terminal shows the last row of `from`
+module _ (width height : ℕ) (from next : List (List StyledCell)) (bytes : List ℕ) (p : Paints width from next bytes) (a : IsLast width height from) (w : IsLast width height next)
+    (t : Terminal) (size : IsOfSize t width (height + 1)) (row : get_or t.rows height [] ≡ sent_spots (get_or from height [])) where
+  abbrev alone : Terminal
+  alone = record t { rows = map known_spots (sent_picture from); cursor = None }
+
+  alone-high : length alone.rows ≡ height + 1
+  alone-high = length-sent from ∙ a.size.high
+
+  from-at : height < length from
+  from-at = subst (λ (n : ℕ). height < n) (sym a.size.high) (omega arith)
+
+  next-at : height < length next
+  next-at = subst (λ (n : ℕ). height < n) (sym w.size.high) (omega arith)
+
+  alone-sized : IsOfSize alone width (length next)
+  alone-sized = record {
+    wide = size.wide;
+    high = alone-high ∙ sym w.size.high;
+    all_wide = All-from_get_or (λ (row : List Spot). length row ≡ width) alone.rows [] (λ k h.
+        let below : k < height + 1 = subst (λ (n : ℕ). k < n) alone-high h in
+        let inside : k < length from = subst (λ (n : ℕ). k < n) (sym a.size.high) below in
+        ap length (sent-at from k inside) ∙ wide-at width from (height + 1) k a.size below);
+  }
+
+  leads : Leads p.commands alone (map known_spots (sent_picture next))
+  leads = p.shows alone alone-sized (λ s. refl)
+
+  alike : Alike (λ k. k ≡ height) alone t
+  alike = record {
+    wide = refl;
+    rows = λ k e.
+        ap (λ (j : ℕ). get_or t.rows j []) e ∙ row ∙ sym (sent-at from height from-at)
+        ∙ sym (ap (λ (j : ℕ). get_or alone.rows j []) e);
+    of_first = λ k e. subst (λ (n : ℕ). k < n) (sym alone-high) (omega arith);
+    of_second = λ k e. subst (λ (n : ℕ). k < n) (sym size.high) (omega arith);
+    style = refl;
+    cursor = λ at e. absurd (cc e);
+  }
+
+  inside : (r : ℕ) → r < height + 1 → HasChanged width from next r → r ≡ height
+  inside r h changed = elim (cases_eq r height) [
+    | inl e ↦ e
+    | inr away ↦
+        let below : r < height = omega arith in
+        absurd (changed (subst (λ (n : ℕ). HasSize width n from) (sym w.size.high) a.size) (a.blank r below ∙ sym (w.blank r below)))
+  ]
+
+  done : Follows (λ k. k ≡ height) (after_all p.commands) alone leads.end t
+  done = all-follow (λ k. k ≡ height) (HasChanged width from next) (height + 1) inside p.commands alone t leads.end alike alone-high p.few leads.runs
+
+  done-row : get_or done.end.rows height [] ≡ sent_spots (get_or next height [])
+  done-row = done.alike.rows height refl ∙ ap (λ (rows : List (List Spot)). get_or rows height []) leads.shows ∙ sent-at next height next-at
+
+  row-wide : (k : ℕ) → k < length done.end.rows → length (get_or done.end.rows k []) ≡ width
+  row-wide k h = elim (cases_eq k height) [
+    | inl e ↦ ap length (ap (λ (j : ℕ). get_or done.end.rows j []) e ∙ done-row) ∙ wide-at width next (height + 1) height w.size (omega arith)
+    | inr away ↦ ap length (done.keeps.others k away) ∙ All-get_or (λ (row : List Spot). length row ≡ width) t.rows k [] (subst (λ (n : ℕ). k < n) done.keeps.high h) size.all_wide
+  ]
+
+  row-done : RowDone width height next p.commands t
+  row-done = record {
+    end = done.end;
+    runs = done.runs;
+    size = record { wide = done.keeps.wide ∙ size.wide; high = done.keeps.high ∙ size.high; all_wide = All-from_get_or (λ (row : List Spot). length row ≡ width) done.end.rows [] row-wide };
+    row = done-row;
+    others = λ k h. done.keeps.others k (λ e. absurd (omega arith));
+  }
+
+-- whatever the terminal shows, after blanks
+from-blanks : (width height row : ℕ) (next : List (List StyledCell)) (bytes : List ℕ) → row ≡ height → (p : Paints width (blank_picture width row) next bytes) → IsLast width height next
+    → (t : Terminal) → IsOfSize t width (height + 1) → RowDone width height next (blanking width row ++ p.commands) t
+from-blanks width height row next bytes e p w t size =
+    subst (λ (r : ℕ). (q : Paints width (blank_picture width r) next bytes) → RowDone width height next (blanking width r ++ q.commands) t) (sym e) at p
+  where
+    at : (q : Paints width (blank_picture width height) next bytes) → RowDone width height next (blanking width height ++ q.commands) t
+    at q =
+        let b = blanked width height t size in
+        let last : IsLast width height (blank_picture width height) = record { size = blanks-size width height; blank = blanks-above width height } in
+        let shown = b.row ∙ sym (ap sent_spots (blanks-last width height) ∙ ap known_spots (sent-row width)) in
+        let d = row-done width height (blank_picture width height) next bytes q last w b.middle b.size shown in
+        record {
+          end = d.end;
+          runs = Runs-append (blanking width height) q.commands t b.middle d.end b.runs d.runs;
+          size = d.size;
+          row = d.row;
+          others = λ k h. d.others k h ∙ b.others k h;
+        }
+
+none-known : (width : ℕ) (rows : List (List StyledCell)) (n : ℕ) → rows ≡ [] → HasSize width n rows → n ≡ 0
+none-known width rows n e s = sym s.high ∙ ap length e
+
+module _ (width height : ℕ) (known new : Pictures) (bytes : List ℕ) (p : PaintsBoth width known new bytes) (w : AreWhole width height new) where
   -- ---- the status row
 
   -- the terminal after its commands
-  record StatusDone (t : Terminal) : Type 0 where
+  record StatusDone (commands : List Command) (t : Terminal) : Type 0 where
     middle : Terminal
-    runs : after_all p.status.commands t ≡ Some middle
+    runs : after_all commands t ≡ Some middle
     size : IsOfSize middle width (height + 1)
     status : get_or middle.rows height [] ≡ sent_spots (get_or new.status height [])
     others : (k : ℕ) → k < height → HasSize width height known.session → get_or middle.rows k [] ≡ sent_spots (get_or known.session k [])
 
-  none-known : (rows : List (List StyledCell)) (n : ℕ) → rows ≡ [] → HasSize width n rows → n ≡ 0
-  none-known rows n e s = sym s.high ∙ ap length e
+  new-last : IsLast width height new.status
+  new-last = record { size = w.status; blank = w.blank }
 
-  -- nothing is known
-  anew : (t : Terminal) → known ≡ no_pictures → IsOfSize t width (height + 1) → StatusDone t
-  anew t e size =
-      let no_status : known.status ≡ [] = ap (λ (x : Pictures). x.status) e in
-      let no_session : known.session ≡ [] = ap (λ (x : Pictures). x.session) e in
+  -- nothing is known, and all rows are painted
+  all-rows : (from : List (List StyledCell)) (second : List ℕ) (q : Paints width from new.status second) → from ≡ [] → known.session ≡ []
+      → (t : Terminal) → IsOfSize t width (height + 1) → StatusDone q.commands t
+  all-rows from second q none no_session t size =
       let sized : IsOfSize t width (length new.status) = subst (λ (n : ℕ). IsOfSize t width n) (sym w.status.high) size in
-      let leads = p.status.shows t sized
-      (λ s. let none = none-known known.status (length new.status) no_status s in
+      let leads = q.shows t sized
+      (λ s. let no_rows = none-known width from (length new.status) none s in
       let one = w.status.high in
       absurd (omega arith)) in
+      let status_at : height < length new.status = subst (λ (n : ℕ). height < n) (sym w.status.high) (omega arith) in
       record {
         middle = leads.end;
         runs = leads.runs;
@@ -86,78 +181,53 @@ module _ (width height : ℕ) (known new : Pictures) (bytes : List ℕ) (p : Pai
               let inside : k < length new.status = subst (λ (n : ℕ). k < n) (sym w.status.high) below in
               ap length (ap (λ (rows : List (List Spot)). get_or rows k []) leads.shows ∙ sent-at new.status k inside) ∙ wide-at width new.status (height + 1) k w.status below);
         };
-        status = ap (λ (rows : List (List Spot)). get_or rows height []) leads.shows ∙ sent-at new.status height status-at;
-        others = λ k h s. let none = none-known known.session height no_session s in absurd (omega arith);
+        status = ap (λ (rows : List (List Spot)). get_or rows height []) leads.shows ∙ sent-at new.status height status_at;
+        others = λ k h s. let none_shown = none-known width known.session height no_session s in absurd (omega arith);
+      }
+
+  -- nothing is known
+  anew : {row : ℕ} {last from : List (List StyledCell)} {commands : List Command} → Begins width row last from commands → row ≡ height → last ≡ [] → known.session ≡ []
+      → (second : List ℕ) (q : Paints width from new.status second) (t : Terminal) → IsOfSize t width (height + 1) → StatusDone (commands ++ q.commands) t
+  anew (from_known {known = last}) e none no_session second q t size = all-rows last second q none no_session t size
+  anew {row} from_blanks e none no_session second q t size =
+      let d = from-blanks width height row new.status second e q new-last t size in
+      record {
+        middle = d.end;
+        runs = d.runs;
+        size = d.size;
+        status = d.row;
+        others = λ k h s. let none_shown = none-known width known.session height no_session s in absurd (omega arith);
       }
 
   -- both pictures are shown
-  module _ (t : Terminal) (a : AreWhole width height known) (sh : ShowsBoth width height known t) where
-    abbrev alone : Terminal
-    alone = record t { rows = map known_spots (sent_picture known.status); cursor = None }
+  over-known : {row : ℕ} {last from : List (List StyledCell)} {commands : List Command} → Begins width row last from commands → row ≡ height → IsLast width height last
+      → (second : List ℕ) (q : Paints width from new.status second) (t : Terminal) → get_or t.rows height [] ≡ sent_spots (get_or last height []) → ShowsBoth width height known t
+      → StatusDone (commands ++ q.commands) t
+  over-known (from_known {known = last}) e a second q t row sh =
+      let d = row-done width height last new.status second q a new-last t sh.size row in
+      record { middle = d.end; runs = d.runs; size = d.size; status = d.row; others = λ k h s. d.others k h ∙ sh.session k h }
+  over-known {row} from_blanks e a second q t shown sh =
+      let d = from-blanks width height row new.status second e q new-last t sh.size in
+      record { middle = d.end; runs = d.runs; size = d.size; status = d.row; others = λ k h s. d.others k h ∙ sh.session k h }
 
-    alone-high : length alone.rows ≡ height + 1
-    alone-high = length-sent known.status ∙ a.status.high
+  last-row : length new.status - 1 ≡ height
+  last-row = let high = w.status.high in omega arith
 
-    known-at : height < length known.status
-    known-at = subst (λ (n : ℕ). height < n) (sym a.status.high) (omega arith)
+  -- the commands are those of both parts
+  as-both : (t : Terminal) → StatusDone (p.status.beginning.commands ++ p.status.paints.commands) t → StatusDone p.status.commands t
+  as-both t d = subst (λ (cs : List Command). StatusDone cs t) (sym p.status.are) d
 
-    alone-sized : IsOfSize alone width (length new.status)
-    alone-sized = record {
-      wide = sh.size.wide;
-      high = alone-high ∙ sym w.status.high;
-      all_wide = All-from_get_or (λ (row : List Spot). length row ≡ width) alone.rows [] (λ k h.
-          let below : k < height + 1 = subst (λ (n : ℕ). k < n) alone-high h in
-          let inside : k < length known.status = subst (λ (n : ℕ). k < n) (sym a.status.high) below in
-          ap length (sent-at known.status k inside) ∙ wide-at width known.status (height + 1) k a.status below);
-    }
-
-    leads : Leads p.status.commands alone (map known_spots (sent_picture new.status))
-    leads = p.status.shows alone alone-sized (λ s. refl)
-
-    alike : Alike (λ k. k ≡ height) alone t
-    alike = record {
-      wide = refl;
-      rows = λ k e.
-          ap (λ (j : ℕ). get_or t.rows j []) e ∙ sh.status ∙ sym (sent-at known.status height known-at)
-          ∙ sym (ap (λ (j : ℕ). get_or alone.rows j []) e);
-      of_first = λ k e. subst (λ (n : ℕ). k < n) (sym alone-high) (omega arith);
-      of_second = λ k e. subst (λ (n : ℕ). k < n) (sym sh.size.high) (omega arith);
-      style = refl;
-      cursor = λ at e. absurd (cc e);
-    }
-
-    inside : (row : ℕ) → row < height + 1 → HasChanged width known.status new.status row → row ≡ height
-    inside row h changed = elim (cases_eq row height) [
-      | inl e ↦ e
-      | inr away ↦
-          let below : row < height = omega arith in
-          absurd (changed (subst (λ (n : ℕ). HasSize width n known.status) (sym w.status.high) a.status) (a.blank row below ∙ sym (w.blank row below)))
-    ]
-
-    done : Follows (λ k. k ≡ height) (after_all p.status.commands) alone leads.end t
-    done = all-follow (λ k. k ≡ height) (HasChanged width known.status new.status) (height + 1) inside p.status.commands alone t leads.end alike alone-high p.status.few leads.runs
-
-    done-status : get_or done.end.rows height [] ≡ sent_spots (get_or new.status height [])
-    done-status = done.alike.rows height refl ∙ ap (λ (rows : List (List Spot)). get_or rows height []) leads.shows ∙ sent-at new.status height status-at
-
-    row-wide : (k : ℕ) → k < length done.end.rows → length (get_or done.end.rows k []) ≡ width
-    row-wide k h = elim (cases_eq k height) [
-      | inl e ↦ ap length (ap (λ (j : ℕ). get_or done.end.rows j []) e ∙ done-status) ∙ wide-at width new.status (height + 1) height w.status (omega arith)
-      | inr away ↦ ap length (done.keeps.others k away) ∙ All-get_or (λ (row : List Spot). length row ≡ width) t.rows k [] (subst (λ (n : ℕ). k < n) done.keeps.high h) sh.size.all_wide
-    ]
-
-    over-known : StatusDone t
-    over-known = record {
-      middle = done.end;
-      runs = done.runs;
-      size = record { wide = done.keeps.wide ∙ sh.size.wide; high = done.keeps.high ∙ sh.size.high; all_wide = All-from_get_or (λ (row : List Spot). length row ≡ width) done.end.rows [] row-wide };
-      status = done-status;
-      others = λ k h s. done.keeps.others k (λ e. absurd (omega arith)) ∙ sh.session k h;
-    }
+  status-done : (t : Terminal) → Before width height known t → StatusDone p.status.commands t
+  status-done t (anything e size) =
+      as-both t
+      (anew p.status.beginning.begins last-row (ap (λ (x : Pictures). x.status) e) (ap (λ (x : Pictures). x.session) e) p.status.second p.status.paints t size)
+  status-done t (painted a sh) =
+      as-both t
+      (over-known p.status.beginning.begins last-row (record { size = a.status; blank = a.blank }) p.status.second p.status.paints t sh.status sh)
 
   -- ---- the session
 
-  module _ (t : Terminal) (d : StatusDone t) where
+  module _ (t : Terminal) (d : StatusDone p.status.commands t) where
     abbrev above : Terminal
     above = record d.middle { rows = take height d.middle.rows; cursor = None }
 
@@ -232,8 +302,7 @@ module _ (width height : ℕ) (known new : Pictures) (bytes : List ℕ) (p : Pai
 
   -- whatever is known
   pub leads-to-both : (t : Terminal) → Before width height known t → LeadsToBoth width height (p.status.commands ++ p.session.commands) t new
-  leads-to-both t (anything e size) = after-both t (anew t e size)
-  leads-to-both t (painted a sh) = after-both t (over-known t a sh)
+  leads-to-both t before = after-both t (status-done t before)
 
 -- ---- each stays on its rows
 
@@ -251,16 +320,28 @@ past-both width height row last next s t h =
     get_or_past last row [] (subst (λ (n : ℕ). n ≤ row) (sym s.high) h) ∙ sym (get_or_past next row [] (subst (λ (n : ℕ). n ≤ row) (sym t.high) h))
 
 module _ (width height : ℕ) (known new : Pictures) (bytes : List ℕ) (p : PaintsBoth width known new bytes) (a : AreWhole width height known) (w : AreWhole width height new) where
-  on-status : (row : ℕ) → HasChanged width known.status new.status row → row ≡ height
-  on-status row changed = elim (cases_eq row height) [
+  on-last : (from : List (List StyledCell)) → IsLast width height from → (row : ℕ) → HasChanged width from new.status row → row ≡ height
+  on-last from last row changed = elim (cases_eq row height) [
     | inl e ↦ e
     | inr away ↦
-        let no = changed (subst (λ (n : ℕ). HasSize width n known.status) (sym w.status.high) a.status) in
+        let no = changed (subst (λ (n : ℕ). HasSize width n from) (sym w.status.high) last.size) in
         elim (cases_lt row height) [
-          | inl below ↦ absurd (no (a.blank row below ∙ sym (w.blank row below)))
-          | inr above ↦ absurd (no (past-both width (height + 1) row known.status new.status a.status w.status (omega arith)))
+          | inl below ↦ absurd (no (last.blank row below ∙ sym (w.blank row below)))
+          | inr above ↦ absurd (no (past-both width (height + 1) row from new.status last.size w.status (omega arith)))
         ]
   ]
+
+  paint-moves : (from : List (List StyledCell)) → IsLast width height from → (second : List ℕ) (q : Paints width from new.status second) → All (MovesTo (λ row. row ≡ height)) q.commands
+  paint-moves from last second q = weaker-moves (λ row. row ≡ height) (HasChanged width from new.status) (on-last from last) q.commands q.few
+
+  -- the commands of the status row
+  status-moves : {row : ℕ} {last from : List (List StyledCell)} {commands : List Command} → Begins width row last from commands → row ≡ height → IsLast width height last
+      → (second : List ℕ) (q : Paints width from new.status second) → All (MovesTo (λ row. row ≡ height)) (commands ++ q.commands)
+  status-moves (from_known {known = last}) e a second q = paint-moves last a second q
+  status-moves {row} from_blanks e a second q =
+      let blanks : IsLast width height (blank_picture width row) =
+      subst (λ (r : ℕ). IsLast width height (blank_picture width r)) (sym e) (record { size = blanks-size width height; blank = blanks-above width height }) in
+      All-append (MovesTo (λ (r : ℕ). r ≡ height)) (blanking width row) q.commands (blanking-moves (λ (r : ℕ). r ≡ height) width row e) (paint-moves (blank_picture width row) blanks second q)
 
   on-session : (row : ℕ) → HasChanged width known.session new.session row → row < height
   on-session row changed = elim (cases_lt row height) [
@@ -272,102 +353,29 @@ module _ (width height : ℕ) (known new : Pictures) (bytes : List ℕ) (p : Pai
 
   pub stay-apart : StayApart height p
   stay-apart = record {
-    status = weaker-moves (λ row. row ≡ height) (HasChanged width known.status new.status) on-status p.status.commands p.status.few;
+    status =
+        subst (All (MovesTo (λ (row : ℕ). row ≡ height))) (sym p.status.are)
+        (status-moves p.status.beginning.begins (let high = w.status.high in omega arith) (record { size = a.status; blank = a.blank }) p.status.second p.status.paints);
     session = weaker-moves (λ row. row < height) (HasChanged width known.session new.session) on-session p.session.commands p.session.few;
   }
+
+-- the bytes of the status row
+last-written : {width : ℕ} {known next : List (List StyledCell)} {bytes : List ℕ} → (q : PaintsLast width known next bytes) → bytes ≡ flat_map bytes_of q.commands
+last-written q =
+    q.written ∙ ap₂ (λ (xs ys : List ℕ). xs ++ ys) q.beginning.written q.paints.written
+    ∙ sym (flat_map-append bytes_of q.beginning.commands q.paints.commands) ∙ ap (flat_map bytes_of) (sym q.are)
 
 -- the bytes of both
 pub both-written : {width : ℕ} {known new : Pictures} {bytes : List ℕ} → (p : PaintsBoth width known new bytes) → bytes ≡ flat_map bytes_of (p.status.commands ++ p.session.commands)
 both-written p =
-    p.written ∙ ap₂ (λ (xs ys : List ℕ). xs ++ ys) p.status.written p.session.written
+    p.written ∙ ap₂ (λ (xs ys : List ℕ). xs ++ ys) (last-written p.status) p.session.written
     ∙ sym (flat_map-append bytes_of p.status.commands p.session.commands)
 
 -- ---- the pictures of a front
-
-picture-size : (style : ℕ → ℕ → Style) (grid : Screen) → HasSize grid.width (length grid.rows) (picture style grid)
-picture-size style grid = record {
-  high = length-map (range_with_len 0 (length grid.rows)) (styled_row style grid) ∙ length-range_with_len 0 (length grid.rows);
-  all_wide = All-from_get_or (λ (row : List StyledCell). length row ≡ grid.width) (picture style grid) [] (λ k h.
-      let inside : k < length (range_with_len 0 (length grid.rows)) = subst (λ (n : ℕ). k < n) (length-map (range_with_len 0 (length grid.rows)) (styled_row style grid)) h in
-      ap length (get_or-map (styled_row style grid) (range_with_len 0 (length grid.rows)) k 0 [] inside)
-      ∙ length-map (range_with_len 0 grid.width) (cell_at style grid (get_or (range_with_len 0 (length grid.rows)) k 0)) ∙ length-range_with_len 0 grid.width);
-}
-
-abbrev space : ℕ → StyledCell
-space column = First (32 ∷ []) plain_style
-
--- a row of blanks in plain style
-blank-row : (style : ℕ → ℕ → Style) (grid : Screen) (k : ℕ) → slice_get grid.rows k ≡ Some (replicate grid.width blank) → ((c : ℕ) → style k c ≡ plain_style)
-    → styled_row style grid k ≡ blank_cells grid.width
-blank-row style grid k is plain =
-    ext_get_or Later (styled_row style grid k) (blank_cells grid.width) (long (cell_at style grid k) ∙ sym (long space)) (λ c h.
-    let inside : c < length (range_with_len 0 grid.width) = subst (λ (n : ℕ). c < n) (length-map (range_with_len 0 grid.width) (cell_at style grid k)) h in
-    let below : c < grid.width = subst (λ (n : ℕ). c < n) (length-range_with_len 0 grid.width) inside in
-    get_or-map (cell_at style grid k) (range_with_len 0 grid.width) c 0 Later inside
-    ∙ cell-at (get_or (range_with_len 0 grid.width) c 0) (subst (λ (n : ℕ). n < grid.width) (sym (place-is c below)) below)
-    ∙ sym (get_or-map space (range_with_len 0 grid.width) c 0 Later inside))
-  where
-    long : (f : ℕ → StyledCell) → length (map f (range_with_len 0 grid.width)) ≡ grid.width
-    long f = length-map (range_with_len 0 grid.width) f ∙ length-range_with_len 0 grid.width
-
-    place-is : (c : ℕ) → c < grid.width → get_or (range_with_len 0 grid.width) c 0 ≡ c
-    place-is c h = get_or-range_with_len 0 grid.width c 0 h ∙ omega arith
-
-    cell-at : (c : ℕ) → c < grid.width → cell_at style grid k c ≡ space c
-    cell-at c h =
-        let cell : slice_get (replicate grid.width blank) c ≡ Some blank =
-        slice_get-get_or (replicate grid.width blank) c blank (subst (λ (n : ℕ). c < n) (sym (length-replicate grid.width blank)) h)
-        ∙ ap Some (get_or-replicate grid.width c blank blank h) in
-        ap (λ (o : Option (List Cell)). cell_of (option_and_then (λ cells. symbol_in cells c) o) (style k c)) is
-        ∙ ap (λ (o : Option Cell). cell_of (option_and_then symbol_of o) (style k c)) cell
-        ∙ ap (λ (s : Style). First (32 ∷ []) s) (plain c)
-
-status-row : (w h k : ℕ) (x y : List Cell) → k < h → slice_get (set (set (replicate (h + 1) (replicate w blank)) h x) h y) k ≡ Some (replicate w blank)
-status-row w h k x y below =
-    let rows = replicate (h + 1) (replicate w blank) in
-    let long : length (set (set rows h x) h y) ≡ h + 1 = length-set (set rows h x) h y ∙ length-set rows h x ∙ length-replicate (h + 1) (replicate w blank) in
-    let inside : k < length (set (set rows h x) h y) = subst (λ (n : ℕ). k < n) (sym long) (omega arith) in
-    let away : k ≢ h = (λ e. absurd (omega arith)) in
-    slice_get-get_or (set (set rows h x) h y) k [] inside
-    ∙ ap Some (get_or-set_other (set rows h x) h k y [] away ∙ get_or-set_other rows h k x [] away ∙ get_or-replicate (h + 1) k (replicate w blank) [] (omega arith))
-
-module _ (w h : ℕ) (left right : List ℕ) where
-  screen-long : length (status_screen w h left right).rows ≡ h + 1
-  screen-long = length-set _ h _ ∙ length-set _ h _ ∙ length-replicate (h + 1) (replicate w blank)
-
-  pub status-size : HasSize w (h + 1) (status_picture w h left right)
-  status-size = subst (λ (n : ℕ). HasSize w n (status_picture w h left right)) screen-long (picture-size (status_style h) (status_screen w h left right))
-
-  plain-above : (k : ℕ) → k < h → (c : ℕ) → status_style h k c ≡ plain_style
-  plain-above k below c =
-      let away : (k == h) ≡ false = grind (arith, nat_tests) in
-      ap (λ (b : Bool). if b then record plain_style { reversed = true } else plain_style) away
-
-  pub status-blank : (k : ℕ) → k < h → get_or (status_picture w h left right) k [] ≡ blank_cells w
-  status-blank k below =
-      let rows = (status_screen w h left right).rows in
-      let inside : k < length (range_with_len 0 (length rows)) = subst (λ (n : ℕ). k < n) (sym (length-range_with_len 0 (length rows) ∙ screen-long)) (omega arith) in
-      let at : get_or (range_with_len 0 (length rows)) k 0 ≡ k = get_or-range_with_len 0 (length rows) k 0 (subst (λ (n : ℕ). k < n) (sym screen-long) (omega arith)) ∙ omega arith in
-      get_or-map (styled_row (status_style h) (status_screen w h left right)) (range_with_len 0 (length rows)) k 0 [] inside
-      ∙ ap (styled_row (status_style h) (status_screen w h left right)) at
-      ∙ blank-row (status_style h) (status_screen w h left right) k (status-row w h k _ _ below) (plain-above k below)
-
-  -- only its last row is not blank
-  pub blank-above : IsBlankAbove (status_picture w h left right)
-  blank-above width height size k below =
-      let high : height ≡ h = (let a = size.high in let b = status-size.high in omega arith) in
-      let first : 0 < length (status_picture w h left right) = (let b = status-size.high in omega arith) in
-      let wide : w ≡ width = sym (status-size.all_wide 0 [] first) ∙ size.all_wide 0 [] first in
-      status-blank k (omega arith) ∙ ap blank_cells wide
-
-  -- so a picture of that size has the same rows before it
-  pub same-above : (last : List (List StyledCell)) → IsBlankAbove last → AreSameBefore h w last (status_picture w h left right)
-  same-above last blank size k below within =
-      blank w h (subst (λ (n : ℕ). HasSize w n last) status-size.high size) k below ∙ sym (status-blank k below)
 
 pub view-whole : (theme : Theme) (words : List (List Columns)) (v : Seen) (accept : List ℕ) → AreWhole (width_of v) (rows_shown v.front.beneath) (view_pictures theme words v accept)
 view-whole theme words v accept = record {
   session = sideways-size (offset v.pane v.front.beneath) (shown_style theme words v.front.beneath) (screen_of v.front.beneath);
   status = status-size (width_of v) (rows_shown v.front.beneath) (left_text v.front) (right_of v.front accept);
-  blank = status-blank (width_of v) (rows_shown v.front.beneath) (left_text v.front) (right_of v.front accept);
+  blank = status-above (width_of v) (rows_shown v.front.beneath) (left_text v.front) (right_of v.front accept);
 }

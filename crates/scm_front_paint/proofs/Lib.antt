@@ -4,6 +4,8 @@ pub mod CutLemmas
 pub mod SidewaysLemmas
 -- commands that stay on some rows of a terminal
 pub mod PartLemmas
+-- pictures and grids of blanks with a row below, and the commands that make this row blank
+pub mod BlankLemmas
 -- the session's rows and the status row below them
 pub mod BelowLemmas
 -- what the status row says

@@ -19,12 +19,12 @@ use Rattle.scm_record.specs.Session.{Session}
 use Rattle.scm_record.specs.Live.{Live}
 use Rattle.scm_record.specs.Painted.{screen_of}
 use Rattle.scm_record.specs.Frames.{columns_of, rows_of, scene_of, frame_of}
-use Rattle.scm_front.specs.declared.layer.Front.{Front}
 use Rattle.scm_front_paint.specs.declared.painter.FrontPainter.{FrontPainter}
 use Rattle.scm_front_paint.specs.declared.themes.Theme.{Theme}
+use Rattle.scm_front_paint.specs.Blank.{PaintsLast}
 use Rattle.scm_front_paint.specs.Below.{Pictures, PaintsView, known_to, pictures_of, rows_shown, session_picture, shown_style, width_of}
 use Rattle.scm_front_paint.specs.LineValue.{LineValue}
-use Rattle.scm_front_paint.specs.Status.{left_text, right_of, status_picture, status_screen, status_style}
+use Rattle.scm_front_paint.specs.Status.{left_text, right_of, status_picture}
 use Rattle.scm_front_paint.specs.Words.{AreWords}
 use Rattle.scm_front_paint.specs.WordsView.{columns_in}
 use Rattle.scm_front_paint.specs.Pane.{is_free, offset}
@@ -136,6 +136,12 @@ paints-from : (width wide : ℕ) (old known next picture : List (List StyledCell
 paints-from width wide old known next picture bytes e k f p =
     subst (λ (rows : List (List StyledCell)). Paints wide rows picture bytes) k (paints-as width wide old next picture bytes e f p)
 
+last-from : (width wide : ℕ) (old known next picture : List (List StyledCell)) (bytes : List ℕ) → width ≡ wide → old ≡ known → next ≡ picture
+    → PaintsLast width old next bytes → PaintsLast wide known picture bytes
+last-from width wide old known next picture bytes e k f p =
+    subst (λ (rows : List (List StyledCell)). PaintsLast wide rows picture bytes) k
+    (subst (λ (w : ℕ). PaintsLast w old picture bytes) e (subst (λ (rows : List (List StyledCell)). PaintsLast width old rows bytes) f p))
+
 abbrev pictures : List (List StyledCell) → List (List StyledCell) → Pictures
 pictures s t = record { session = s; status = t }
 
@@ -147,7 +153,7 @@ module _ (old kept new : FrontPainter) (v : Seen) (accept bytes first second : L
   -- what the code painted is the picture of the view
   pub paints-view : l ≡ v.front.beneath → w ≡ width_of v → h ≡ rows_shown v.front.beneath → x ≡ offset v.pane v.front.beneath
       → theme ≡ old.theme → slice ≡ items → AreWords l (map columns_in items) → left ≡ left_text v.front → right ≡ right_of v.front accept
-      → pictures_of kept ≡ known_to old w h → Paints w kept.status (status_picture w h left right) first
+      → pictures_of kept ≡ known_to old w h → PaintsLast w kept.status (status_picture w h left right) first
       → Paints (columns_of l.kind - x) kept.session.painter painted_rows second → bytes ≡ first ++ second
       → new.status ≡ status_picture w h left right → new.session.painter ≡ painted_rows → new.size ≡ Some (w, h) → new.theme ≡ theme
       → PaintsView old new v accept bytes
@@ -172,7 +178,7 @@ module _ (old kept new : FrontPainter) (v : Seen) (accept bytes first second : L
           second = second;
           written = written;
           status =
-              paints-from w (width_of v) kept.status _ (status_picture w h left right) _ first we (ap (λ (p : Pictures). p.status) known) row first_paints;
+              last-from w (width_of v) kept.status _ (status_picture w h left right) _ first we (ap (λ (p : Pictures). p.status) known) row first_paints;
           session =
               paints-from (columns_of l.kind - x) (width_of v) kept.session.painter _ painted_rows _ second
               wide (ap (λ (p : Pictures). p.session) known) rows second_paints;

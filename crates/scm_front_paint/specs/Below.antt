@@ -12,7 +12,7 @@ use Rattle.scm_record.specs.Painted.{screen_of, style_at}
 use Rattle.scm_front_paint.specs.declared.painter.FrontPainter.{FrontPainter}
 use Rattle.scm_front_paint.specs.declared.themes.Theme.{Theme}
 use Rattle.scm_front_paint.specs.declared.words.Columns.{Columns}
-use Rattle.scm_front_paint.specs.Blank.{blank_cells}
+use Rattle.scm_front_paint.specs.Blank.{PaintsLast, blank_cells}
 use Rattle.scm_front_paint.specs.Pane.{offset}
 use Rattle.scm_front_paint.specs.Seen.{Seen}
 use Rattle.scm_front_paint.specs.Sideways.{sideways_picture}
@@ -59,13 +59,12 @@ view_pictures theme words v accept = record {
       status_picture (width_of v) (rows_shown v.front.beneath) (left_text v.front) (right_of v.front accept);
 }
 
--- The bytes paint the pictures `new`, where `known` are those painted last: first the status row, with its blanks above it if nothing
--- is known, and then the session.
+-- The bytes paint the pictures `new`, where `known` are those painted last: first the status row, and then the session.
 pub record PaintsBoth (width : ℕ) (known new : Pictures) (bytes : List ℕ) : Type 0 where
   pub first : List ℕ
   pub second : List ℕ
   pub written : bytes ≡ first ++ second
-  pub status : Paints width known.status new.status first
+  pub status : PaintsLast width known.status new.status first
   pub session : Paints width known.session new.session second
 
 -- the commands of both

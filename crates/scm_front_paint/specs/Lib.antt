@@ -20,7 +20,7 @@ pub mod Seen
 pub mod Views
 -- the status row: what it says, and what it shows
 pub mod Status
--- pictures of blanks with a row below
+-- pictures of blanks with a row below, and the commands that make this row blank
 pub mod Blank
 -- the session's rows and the status row below them on a terminal
 pub mod Below

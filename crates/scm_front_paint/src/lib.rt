@@ -4,6 +4,7 @@
 //! it.
 #![tactic(auto)]
 
+mod blanks;
 mod cut;
 pub mod laws;
 mod line_words;

@@ -138,7 +138,7 @@ pub struct FrontPainter {
     theme: Theme,
     /// The painter of the session's rows.
     session: SessionPainter,
-    /// The painter of the status row, and of blanks above it, which it writes only if it knows nothing.
+    /// The painter of the status row.
     status: StatusPainter,
     /// What is set off on each row of the session's screen that was painted last.
     words: Vec<Option<LineWords>>,
@@ -174,6 +174,16 @@ impl FrontPainter {
         self.session.painter.forget();
         self.status.forget();
         self.size = None;
+    }
+
+    /// Paints in the colours of `theme` from now on. Forgets the last picture, so that the next `paint`
+    /// writes all rows.
+    pub fn set_theme(&mut self, theme: Theme)
+        ensures pictures { pictures_of self.new ≡ no_pictures }
+        ensures theme { self.new.theme ≡ theme }
+    {
+        self.forget();
+        self.theme = theme;
     }
 
     /// Returns the bytes that make a terminal show `view`: its session from a column on, and below it the

@@ -1,8 +1,9 @@
 //! The status row: what it says, and what it shows.
-ghost use Rattle.std.specs.Prelude.{◌≡◌, ◌+◌, ◌-◌, ◌<◌, ◌≤◌, ◌^◌, count_by, sum_by, IfErr, IfOk, string_bytes};
+ghost use Rattle.std.specs.Prelude.{◌≡◌, ◌+◌, ◌-◌, ◌<◌, ◌≤◌, ◌^◌, count_by, sum_by, IfErr, IfOk, IfSome, string_bytes};
 ghost use Rattle.std.specs.List.{concat};
 ghost use Rattle.scm_errors.specs.declared.error.RecordError.TheVariants.{OutOfMemory};
 ghost use Rattle.scm_cells.specs.Replaced.{line_pieces};
+ghost use Rattle.scm_front_paint.specs.Blank.{IsBlankGrid};
 ghost use Rattle.scm_front_paint.specs.Status.{
   item_text,
   left_column,
@@ -16,6 +17,7 @@ ghost use Rattle.scm_front_paint.specs.Status.{
   text_of_notice,
 };
 
+use crate::blanks::blank_grid;
 use scm_front::{Front, Notice};
 use scm_record::{
     File, Grid, RecordError, Section, SelectionKey, push_spans_from_line, text_width,
@@ -179,15 +181,17 @@ fn left_column(over: usize) -> isize
 }
 
 /// Returns a grid of `width` columns and `height` rows of blanks, and below them the status row: `right`
-/// at its end, and before it `left`, or its tail if it is too long.
+/// at its end, and before it `left`, or its tail if it is too long. It takes the memory of `kept`.
 pub(crate) fn status_grid(
     alloc: Global,
+    kept: Option<Grid>,
     width: u16,
     height: u16,
     left: &str,
     right: &str,
 ) -> Result<Grid, RecordError>
-    requires { height < 65535 }
+    requires height { height < 65535 }
+    requires kept { IfSome kept IsBlankGrid }
     ensures ok { IfOk result (λ grid. grid ≡ status_screen width height left.now right.now) }
     ensures err { IfErr result (λ e. e ≡ OutOfMemory) }
 {
@@ -195,7 +199,7 @@ pub(crate) fn status_grid(
     let row = height as usize;
     let room = columns.saturating_sub(text_width(right));
     let over = text_width(left).saturating_sub(room);
-    let mut grid = Grid::new(alloc, width, height + 1)?;
+    let mut grid = blank_grid(alloc, kept, width, height)?;
     grid.put(row, left_column(over), left, 0, room)?;
     grid.put(row, 0_isize.strict_add_unsigned(room), right, 0, columns)?;
     Ok(grid)

@@ -1,4 +1,4 @@
-use Rattle.std.proofs.Common.{◌<◌, ◌≤◌, ◌∙◌, length, refl, arith}
+use Rattle.std.proofs.Common.{◌<◌, ◌∙◌, length, refl, arith}
 use Rattle.std.proofs.lemmas.List.{get_or_default, length-set}
 use Rattle.scm_terminal.specs.Style.{plain_style}
 use Rattle.scm_front_paint.proofs.ShownLemmas.{restyled-more, later-more}

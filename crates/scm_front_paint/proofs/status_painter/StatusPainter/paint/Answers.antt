@@ -1,17 +1,14 @@
-use Rattle.std.proofs.Common.{◌∙◌, sym, ap, subst}
-use Rattle.scm_cells.specs.Screen.{Screen}
-use Rattle.scm_terminal.specs.StyledCell.{AreSameBefore, picture}
-use Rattle.scm_front_paint.specs.Blank.{IsBlankAbove}
-use Rattle.scm_front_paint.specs.Status.{status_style}
-use Rattle.scm_front_paint.proofs.BelowLemmas.{blank-above, same-above}
+use Rattle.std.proofs.Common.{List, ◌++◌, ◌∙◌, ap, subst, string_bytes, ℕ}
+use Rattle.scm_terminal.specs.StyledCell.{StyledCell}
+use Rattle.scm_front_paint.specs.Blank.{IsBeginning}
+use Rattle.scm_front_paint.proofs.BlankLemmas.{paints-last}
 use Rattle.scm_front_paint.proofs.status_painter.StatusPainter.paint.Goals as goal
 
-pub paint_from-requires : goal.paint_from-requires
-paint_from-requires c =
-    subst (λ (s : Screen). AreSameBefore c.args.height s.width c.self.inside.painter (picture (status_style c.args.height) s))
-    (sym c.in_ok-grid.ensures.ok) (same-above c.args.width c.args.height c.args.left.now c.args.right.now c.self.inside.painter c.self.invariant)
-
-pub invariant_of-self-2 : goal.invariant_of-self-2
-invariant_of-self-2 c =
-    subst IsBlankAbove (sym (c.in_ok-text.ensures.painted ∙ ap (λ (s : Screen). picture (status_style c.args.height) s) c.in_ok-grid.ensures.ok))
-    (blank-above c.args.width c.args.height c.args.left.now c.args.right.now)
+pub returns-clause-ok : goal.returns-clause-ok
+returns-clause-ok c =
+    let begins =
+    subst (λ (rows : List (List StyledCell)). IsBeginning c.args.width c.args.height rows c.begin.new.row (string_bytes c.in_ok-text.text)) c.self.view_is
+    c.in_ok-text.ensures.ok in
+    paints-last c.args.width c.args.height c.args.self.now c.begin.new.row c.args.left.now c.args.right.now (string_bytes c.push_str.new.self)
+    (string_bytes c.in_ok-text.text) (string_bytes c.in_ok-rest.rest) begins c.in_ok-rest.ensures.ok
+    (c.in_ok-push_str.ensures.bytes ∙ ap (λ (t : List ℕ). string_bytes c.in_ok-text.text ++ t) c.as_str.ensures.value)
