@@ -64,7 +64,7 @@ pub extern "C" fn scm_theme(alloc: Global, session: &mut CSession, theme: u32) -
     ensures kept { 0 < result → session.new.pointer.value ≡ session.old.pointer.value }
 {
     let mut inner = take(alloc, session);
-    let code = layer_calls::set_theme(alloc, &mut inner, theme);
+    let code = layer_calls::set_theme(&mut inner, theme);
     give_back(alloc, session, inner);
     code
 }

@@ -265,7 +265,7 @@ pub extern "C" fn scm_repaint(alloc: Global, session: &mut CSession) -> u32
     ensures forgotten { Forgets session.old.pointer.value session.new.pointer.value }
 {
     let mut inner = take(alloc, session);
-    let code = calls::repaint(alloc, &mut inner);
+    let code = calls::repaint(&mut inner);
     give_back(alloc, session, inner);
     code
 }

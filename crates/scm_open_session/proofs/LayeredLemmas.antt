@@ -3,7 +3,6 @@ use Rattle.std.proofs.Common.{◌≡◌, List, Result, IfOk, IfErr, Ok, Err, sub
 use Rattle.scm_errors.specs.declared.error.RecordError.{RecordError}
 use Rattle.scm_errors.specs.declared.error.RecordError.TheVariants.{OutOfMemory}
 use Rattle.scm_input.specs.declared.events.Event.{Event}
-use Rattle.scm_record.specs.Live.{Live}
 use Rattle.scm_record.specs.LiveCalls.{BatchFails, BatchLeads, Call, EventFails, EventLeads, Path}
 use Rattle.scm_record.specs.declared.live.Turn.TheVariants as turns
 use Rattle.scm_front.specs.declared.layer.Front.{Front}

@@ -1,5 +1,5 @@
 -- What `scm_paint` writes.
-use Rattle.std.proofs.Common.{◌≡◌, ℕ, ◌≤◌, ◌<◌, List, [], length, Option, Some, None, Result, Ok, Err, ok_or, IfSome, IfNone, OnSome, sym, ap, ◌∙◌, subst}
+use Rattle.std.proofs.Common.{◌≡◌, ℕ, ◌≤◌, ◌<◌, List, length, Option, Some, None, Result, Ok, Err, ok_or, IfSome, IfNone, sym, ap, ◌∙◌, subst}
 use Rattle.std.specs.Result.{result_map_both}
 use Rattle.scm_record.specs.Live.{Live}
 use Rattle.scm_record.specs.Painted.{picture_of}

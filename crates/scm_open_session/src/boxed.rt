@@ -161,11 +161,11 @@ impl BoxedPainter {
     }
 
     /// Begins anew in the colours of `theme`: nothing counts as painted.
-    pub fn restart(&mut self, alloc: Global, theme: Theme)
+    pub fn restart(&mut self, theme: Theme)
         ensures unpainted { pictures_of self.new ≡ no_pictures }
         ensures theme { self.new.theme ≡ theme }
     {
-        *self.inner = FrontPainter::new(alloc, theme);
+        self.inner.set_theme(theme);
     }
 
     /// Returns the bytes that make the terminal show `view`, as `FrontPainter::paint` does. Returns `None` if an

@@ -282,33 +282,33 @@ fn paint_open_session(alloc: Global, inner: &mut OpenSession, out: &mut [u8]) ->
     ensures { PaintsOpenSession inner.old inner.new out.old out.new result }
 {
     match inner.paint(alloc) {
-        Ok(update) => Ok(write_update(alloc, inner, update.as_bytes(), out)),
+        Ok(update) => Ok(write_update(inner, update.as_bytes(), out)),
         Err(code) => Err(code),
     }
 }
 
 /// Writes `update` to `out` if it fits, or else makes the next update have every row. Returns the
 /// length of `update` in bytes.
-fn write_update(alloc: Global, inner: &mut OpenSession, update: &[u8], out: &mut [u8]) -> usize
+fn write_update(inner: &mut OpenSession, update: &[u8], out: &mut [u8]) -> usize
     ensures len { result ≡ length update.now }
     ensures filled { Fills inner.old inner.new update.now out.old out.new }
 {
     if update.len() <= out.len() {
         write_text(update, out)
     } else {
-        inner.repaint(alloc);
+        inner.repaint();
         update.len()
     }
 }
 
 /// Makes the next update write every row. Returns the code of the call.
-pub fn repaint(alloc: Global, session: &mut Session) -> u32
+pub fn repaint(session: &mut Session) -> u32
     ensures code { result ≡ code_of_repaint (box_value session.old) }
     ensures forgotten { Forgets (box_value session.old) (box_value session.new) }
 {
     match session {
         Some(inner) => {
-            inner.repaint(alloc);
+            inner.repaint();
             codes::DONE
         }
         None => codes::CLOSED,

@@ -48,7 +48,7 @@ pub fn begin(alloc: Global, session: &mut Session, width: u16, height: u16) -> u
 }
 
 /// Sets the theme of the layer to that with the number `code`. Returns the code of the call.
-pub fn set_theme(alloc: Global, session: &mut Session, code: u32) -> u32
+pub fn set_theme(session: &mut Session, code: u32) -> u32
     ensures code { result ≡ code_of_number (theme_of code)
         (code_of_layer (box_value session.old)) }
     ensures themed { result ≡ 0
@@ -56,20 +56,20 @@ pub fn set_theme(alloc: Global, session: &mut Session, code: u32) -> u32
     ensures kept { 0 < result → box_value session.new ≡ box_value session.old }
 {
     match theme_of(code) {
-        Some(theme) => paint_in(alloc, session, theme),
+        Some(theme) => paint_in(session, theme),
         None => codes::NO_NUMBER,
     }
 }
 
 /// Sets the theme of the layer. Returns the code of the call.
-fn paint_in(alloc: Global, session: &mut Session, theme: Theme) -> u32
+fn paint_in(session: &mut Session, theme: Theme) -> u32
     ensures code { result ≡ code_of_layer (box_value session.old) }
     ensures themed { result ≡ 0 → ChangesPainters (HaveTheme theme)
         (box_value session.old) (box_value session.new) }
     ensures kept { 0 < result → box_value session.new ≡ box_value session.old }
 {
     match session {
-        Some(inner) => done_or_not_now(inner.set_theme(alloc, theme)),
+        Some(inner) => done_or_not_now(inner.set_theme(theme)),
         None => codes::CLOSED,
     }
 }

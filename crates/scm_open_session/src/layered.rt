@@ -181,7 +181,7 @@ impl OpenSession {
     }
 
     /// Sets the theme of the layer, and returns whether there is one. The next update has every row.
-    pub fn set_theme(&mut self, alloc: Global, theme: Theme) -> bool
+    pub fn set_theme(&mut self, theme: Theme) -> bool
         ensures has_layer { result ≡ has_layer self.old.stage }
         ensures themed { IsTrue result → HaveTheme theme self.old.painter self.new.painter }
         ensures stage { self.new.stage ≡ self.old.stage }
@@ -190,7 +190,7 @@ impl OpenSession {
     {
         let is_due = has_layer(&self.stage);
         if is_due {
-            self.painter.set_theme(alloc, theme);
+            self.painter.set_theme(theme);
         }
         is_due
     }

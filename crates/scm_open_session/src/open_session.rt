@@ -573,10 +573,10 @@ impl OpenSession {
     }
 
     /// Forgets what was painted, so that the next update has every row.
-    pub fn repaint(&mut self, alloc: Global)
+    pub fn repaint(&mut self)
         ensures { ForgetsOpen self.old self.new }
     {
-        self.painter.forget(alloc);
+        self.painter.forget();
     }
 
     /// Returns the text of the stage: the screen's rows, the message to edit, the error's sentence,

@@ -39,10 +39,10 @@ impl Painters {
     }
 
     /// Paints a layer in the colours of `theme` from now on. The next update of a layer has every row.
-    pub fn set_theme(&mut self, alloc: Global, theme: Theme)
+    pub fn set_theme(&mut self, theme: Theme)
         ensures { HaveTheme theme self.old self.new }
     {
-        self.layered.restart(alloc, theme);
+        self.layered.restart(theme);
         self.theme = theme;
     }
 
@@ -54,11 +54,11 @@ impl Painters {
     }
 
     /// Forgets what was painted, so that the next update has every row.
-    pub fn forget(&mut self, alloc: Global)
+    pub fn forget(&mut self)
         ensures { Forget self.old self.new }
     {
         self.plain.forget();
-        self.layered.restart(alloc, self.theme);
+        self.layered.restart(self.theme);
     }
 
     /// Returns the update that makes the terminal show `session`, if it shows what was painted last.
@@ -108,7 +108,7 @@ impl Painters {
         match self.try_update(alloc, session) {
             Some(update) => Some(update),
             None => {
-                self.forget(alloc);
+                self.forget();
                 None
             }
         }

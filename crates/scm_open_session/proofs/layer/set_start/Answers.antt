@@ -1,6 +1,4 @@
-use Rattle.std.proofs.Common.{subst}
 use Rattle.std.proofs.lemmas.Result.{IfErr-weaker, err_from_is_err_and}
-use Rattle.scm_front.specs.declared.layer.Front.{Front}
 use Rattle.scm_front.specs.Failing.{refused}
 use Rattle.scm_open_session.proofs.LayeredLemmas.{front_fails, set_at}
 use Rattle.scm_open_session.proofs.layer.set_start.Goals as goal

@@ -1,4 +1,4 @@
-use Rattle.std.proofs.Common.{◌≡◌, subst, ap, ◌∙◌}
+use Rattle.std.proofs.Common.{subst}
 use Rattle.scm_open_session.specs.declared.open_session.Stage.{Stage}
 use Rattle.scm_open_session.specs.Building.{Starts}
 use Rattle.scm_input.specs.declared.inputs.TerminalKind.{TerminalKind}
