@@ -16,5 +16,7 @@ pub mod FitLemmas
 pub mod AnswerLemmas
 -- what lies over a row
 pub mod RowOwnerLemmas
+-- the owners of a row that shows a changed line
+pub mod ShownLineLemmas
 -- where a run of columns ends
 pub mod OwnerRunLemmas

@@ -109,9 +109,6 @@ module _ (key : SelectionKey) where
 
 -- ---- keys that differ
 
-file-differs : (k : FileKey) (i : ℕ) → (nat_eq k.commit_idx 0 && (nat_eq k.file_idx i && true)) ≡ is_key (keys.File k) (keys.File (file_key_of 0 i))
-file-differs k i = refl
-
 two-false : (c n i : ℕ) → (c ≡ 0 → n ≡ i → ⊥) → (nat_eq c 0 && (nat_eq n i && true)) ≡ false
 two-false c n i h = go (nat_eq c 0) (nat_eq n i) refl refl
   where

@@ -60,6 +60,8 @@ span_in i k = rows_of_key k (flat_map piece_places (piece_list (piece_of_key i.r
 
 -- i is the index of what a screen of w columns and h rows shows, if its first row is row s of the document
 pub record IsLayoutIndexOf (w h s : ℕ) (shown : ViewState) (i : LayoutIndex) : Type 0 where
+  -- it has the width of the screen
+  pub width : i.width ≡ w
   -- it says who owns each place
   pub owner : (y x : ℕ) → owner_in i y x ≡ (if nat_lt x w then owner w h s shown y x else None)
   -- it says which rows each key has

@@ -2,6 +2,8 @@
 pub mod RowPieces
 -- rows of a layout that several owners share
 pub mod SharedRows
+-- the changed line that a row shows
+pub mod ShownLines
 -- runs of columns that have the same owner
 pub mod OwnerRuns
 -- the index by a layout, and what it answers

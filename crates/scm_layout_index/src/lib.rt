@@ -12,6 +12,7 @@ pub mod owner_runs;
 pub mod row_owners;
 mod row_pieces;
 pub mod shared_rows;
+mod shown_lines;
 
 pub use key_spans::span_of_key;
 pub use layout_index::LayoutIndex;

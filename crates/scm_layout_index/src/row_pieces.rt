@@ -6,6 +6,7 @@ ghost use Rattle.scm_document.specs.HeaderRects.{pinned_rects};
 ghost use Rattle.scm_layout.specs.Searches.{FilesFollow};
 ghost use Rattle.scm_layout_index.specs.RowPieces.{end_of_files, file_of_rows, found_list, piece_at, piece_list, pieces_at, pieces_on, pinned_piece, section_in, section_of_rows, RowsFit, SectionsFit};
 
+use crate::shown_lines::{line_among, owner_on_line};
 use scm_document::index_pieces::{FilePiece, Piece, SectionPiece, push_pinned, rows_owner};
 use scm_document::section_pieces::{file_piece, section_piece};
 use scm_layout::row_search::{file_on, section_on};
@@ -136,7 +137,7 @@ pub(crate) fn pieces_on(
 
 /// Returns the owner of `row` and `column` among the pieces `found`, if any. The screen has `width`
 /// columns.
-pub(crate) fn owner_among(
+fn owner_of_pieces(
     width: usize,
     found: &RowPieces,
     row: usize,
@@ -152,6 +153,23 @@ pub(crate) fn owner_among(
             let pieces = [file, Piece::Section(section)];
             rows_owner(width, &pieces, row, column)
         }
+    }
+}
+
+/// Returns the owner of `row` and `column` among the pieces `found`, if any. The screen has `width`
+/// columns. Most rows show a changed line, so that is looked for first.
+pub(crate) fn owner_among(
+    width: usize,
+    found: &RowPieces,
+    row: usize,
+    column: usize,
+) -> Option<ComponentId>
+    ensures { result ≡ rows_owner width (files_of (found_list (Some found.now)))
+        (sections_of (found_list (Some found.now))) row column }
+{
+    match line_among(found, row) {
+        None => owner_of_pieces(width, found, row, column),
+        Some(key) => Some(owner_on_line(key, column)),
     }
 }
 

@@ -2,7 +2,7 @@
 use Rattle.std.proofs.Common.{◌≡◌, ℕ, zero, suc, ◌≤◌, ◌&&◌, Bool, true, false, List, [], ◌∷◌, length, map, cond, sym, ap, ◌∙◌, refl, subst, arith}
 use Rattle.std.specs.Prelude.{IsTrue, nat_le}
 use Rattle.std.specs.List.{list_all}
-use Rattle.std.proofs.lemmas.Bool.{and_parts}
+use Rattle.std.proofs.lemmas.Bool.{and_from, and_parts}
 use Rattle.scm_types.specs.declared.line.SectionChangedLine.{SectionChangedLine}
 use Rattle.scm_types.specs.declared.section.Section.{Section}
 use Rattle.scm_types.specs.declared.section.Section.TheVariants as sections
@@ -95,17 +95,12 @@ change-keeps-drawable scene s event h =
 
 -- ---- messages
 
-and-true : (a b : Bool) → a ≡ true → b ≡ true → (a && b) ≡ true
-and-true true true e f = refl
-and-true true false e f = f
-and-true false b e f = e
-
 short-said : (text : List ℕ) (cs : List Commit) (i : ℕ) → is_short_text text ≡ true → IsTrue (list_all (λ (c : Commit). is_short_option c.message) cs) → IsTrue (list_all (λ (c : Commit). is_short_option c.message) (modify (commit_with_message text) cs i))
 short-said text [] i e h = h
-short-said text (c ∷ cs) zero e h = and-true _ _ e (and_parts (is_short_option c.message) _ h).1
+short-said text (c ∷ cs) zero e h = and_from _ _ e (and_parts (is_short_option c.message) _ h).1
 short-said text (c ∷ cs) (suc i) e h =
     let parts = and_parts (is_short_option c.message) (list_all (λ (c : Commit). is_short_option c.message) cs) h in
-    and-true _ _ parts.0 (short-said text cs i e parts.1)
+    and_from _ _ parts.0 (short-said text cs i e parts.1)
 
 pub message-keeps-drawable : (s : Session) (commit : ℕ) (text : List ℕ) → is_short_text text ≡ true → IsDrawable s → IsDrawable (with_message s commit text)
 message-keeps-drawable s commit text e h =
@@ -115,7 +110,7 @@ message-keeps-drawable s commit text e h =
     let few : nat_le (length (modify (commit_with_message text) s.shown.state.commits commit)) 2 ≡ true =
     ap (λ n. nat_le n 2) (length-modify (commit_with_message text) s.shown.state.commits commit) ∙ said.0 in
     record {
-      accepted = and-true _ _ (and-true _ _ (and-true _ _ few (short-said text s.shown.state.commits commit e said.1)) counted.1) all.1;
+      accepted = and_from _ _ (and_from _ _ (and_from _ _ few (short-said text s.shown.state.commits commit e said.1)) counted.1) all.1;
       scroll = h.scroll;
     }
 
@@ -128,7 +123,7 @@ padded-few (first ∷ second ∷ rest) h = h
 
 padded-short : (commits : List Commit) → IsTrue (list_all (λ (c : Commit). is_short_option c.message) commits) → IsTrue (list_all (λ (c : Commit). is_short_option c.message) (padded_commits commits))
 padded-short [] h = refl
-padded-short (first ∷ []) h = and-true _ _ (and_parts (is_short_option first.message) _ h).0 refl
+padded-short (first ∷ []) h = and_from _ _ (and_parts (is_short_option first.message) _ h).0 refl
 padded-short (first ∷ second ∷ rest) h = h
 
 -- the session of an accepted state can be drawn
@@ -138,6 +133,6 @@ start-drawable given h =
     let counted = and_parts _ _ all.0 in
     let said = and_parts _ _ counted.0 in
     record {
-      accepted = and-true _ _ (and-true _ _ (and-true _ _ (padded-few given.commits said.0) (padded-short given.commits said.1)) counted.1) all.1;
+      accepted = and_from _ _ (and_from _ _ (and_from _ _ (padded-few given.commits said.0) (padded-short given.commits said.1)) counted.1) all.1;
       scroll = omega arith;
     }

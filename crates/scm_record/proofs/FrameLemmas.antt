@@ -1,10 +1,11 @@
 -- What drawing a view returns is its frame.
-use Rattle.std.proofs.Common.{◌≡◌, ℕ, ◌+◌, ◌≤◌, Bool, true, false, replicate, Option, None, refl, sym, ap, subst, ◌∙◌, arith}
+use Rattle.std.proofs.Common.{◌≡◌, ℕ, ◌+◌, ◌<◌, ◌≤◌, Bool, true, false, replicate, Option, Some, None, refl, sym, ap, subst, ◌∙◌, arith}
 use Rattle.std.proofs.lemmas.Bool.{and_parts}
 use Rattle.std.proofs.lemmas.Bool.Decides.{nat_tests}
 use Rattle.std.specs.Prelude.{ℤ, pos, option_map, List, ◌&&◌, nat_le, nat_lt, if◌then◌else◌}
 use Rattle.std.specs.HashMap.{HashMap, IsFromIterResult}
-use Rattle.scm_types.specs.Limits.{is_accepted_state, max_scroll}
+use Rattle.scm_types.specs.declared.keys.LineKey.{LineKey}
+use Rattle.scm_types.specs.Limits.{max_scroll}
 use Rattle.scm_cells.specs.Screen.{Screen, blank_screen}
 use Rattle.scm_render.specs.Canvas.{Row, Sight, paint_rows}
 use Rattle.scm_render.specs.Picture.{part}
@@ -12,6 +13,7 @@ use Rattle.scm_render.specs.Places.{screen_rect, whole_sight, with_times}
 use Rattle.scm_render.specs.declared.trace.DrawnRect.{DrawnRect}
 use Rattle.scm_render.specs.Laws.{HasLastBoxes}
 use Rattle.scm_view.specs.AppView.{app_picture, app_view_of, AppsAreDrawnAlike, ShowsSession}
+use Rattle.scm_document.specs.PieceOwners.{line_owner}
 use Rattle.scm_widgets.specs.Blanks.{blank_row}
 use Rattle.scm_widgets.specs.Clicks.{is_clickable}
 use Rattle.scm_view.specs.Frame.{Frame, frame_of_document, frame_of_picture, frame_of_view, is_plain, picture_of}
@@ -22,12 +24,12 @@ use Rattle.scm_view.specs.ViewState.{ViewState}
 use Rattle.scm_view.specs.Window.{owner, rows_of_box, height_of_box, window}
 use Rattle.scm_view.specs.declared.app_view.AppView.{AppView}
 use Rattle.scm_document.specs.declared.commit_view.CommitViewMode.{CommitViewMode}
-use Rattle.scm_document.specs.declared.commit_view.CommitViewMode.TheVariants.{Inline, Adjacent}
+use Rattle.scm_document.specs.declared.commit_view.CommitViewMode.TheVariants.{Inline}
 use Rattle.scm_widgets.specs.declared.ids.ComponentId.{ComponentId}
 use Rattle.scm_widgets.specs.declared.ids.ComponentId.TheVariants as ids
 use Rattle.scm_input.specs.declared.inputs.TerminalKind.{TerminalKind}
 use Rattle.scm_layout_index.specs.declared.layout_index.LayoutIndex.{LayoutIndex}
-use Rattle.scm_layout_index.specs.LayoutIndex.{IsInline, IsLayoutIndexOf}
+use Rattle.scm_layout_index.specs.LayoutIndex.{IsLayoutIndexOf}
 use Rattle.scm_record.specs.declared.frame.Places.{Places}
 use Rattle.scm_record.specs.FrameQueries.{hit}
 use Rattle.scm_record.specs.Frames.{IsIndexFor, IsMapOf, KnowsPlaces, Scene, columns_of, rows_of, scene_of, frame_of}
@@ -77,13 +79,6 @@ drawn-rows laws w h s a grid y rows cleared place drawn =
 pub view-is : AppsAreDrawnAlike → (w h scroll : ℕ) (a : AppView) (shown : ViewState) → ShowsSession a shown → frame_of_view w h scroll a ≡ frame_of_view w h scroll (app_view_of shown)
 view-is alike w h scroll a shown shows = ap (frame_of_picture w h scroll) (alike shown a (sight w h scroll) (pos 0) (pos 0) shows)
 
-pub plain-inline : (w h scroll : ℕ) (shown : ViewState) → is_plain w h shown.view_mode ≡ true → w ≤ 65535 → h ≤ 65535 → is_accepted_state shown.state ≡ true → scroll ≤ max_scroll → IsInline shown w h scroll
-plain-inline w h scroll shown e p q accepted low = go shown.view_mode refl e
-  where
-    go : (mode : CommitViewMode) → shown.view_mode ≡ mode → is_plain w h mode ≡ true → IsInline shown w h scroll
-    go Inline m f = record { accepted = accepted; view_mode = m; wide = grind (arith, nat_tests); high = grind (arith, nat_tests); width = p; height = q; scroll = low }
-    go Adjacent m f = absurd (cc f)
-
 pub plain-mode : (w h : ℕ) (mode : CommitViewMode) → mode ≡ Inline → 10 ≤ w → 2 ≤ h → is_plain w h mode ≡ true
 plain-mode w h mode e p q = ap (is_plain w h) e ∙ grind (arith, nat_tests)
 
@@ -107,50 +102,61 @@ free-is w h s e = rw e refl
 abbrev pub Answers : ℕ → Frame → List Row → Places → Type 0
 Answers w frame rows places = (rows ≡ frame.rows) × KnowsPlaces w frame places
 
+shows : (kind : TerminalKind) (s : Session) (shown : ViewState) (scroll w h : ℕ) (b : Bool) (frame : ℕ → ℕ → ℕ → ViewState → Frame) (rows : List Row) (places : Places)
+    → w ≡ columns_of kind → h ≡ rows_of kind → s.shown ≡ shown → s.scroll ≡ scroll → is_plain w h shown.view_mode ≡ b
+    → (is_plain (columns_of kind) (rows_of kind) s.shown.view_mode ≡ b → frame_of (columns_of kind) (rows_of kind) s ≡ frame (columns_of kind) (rows_of kind) s.scroll s.shown)
+    → Answers w (frame w h scroll shown) rows places → Answers (columns_of kind) (scene_of kind s).frame rows places
+shows kind s shown scroll w h b frame rows places ew eh same place mode is here =
+    let there : is_plain (columns_of kind) (rows_of kind) s.shown.view_mode ≡ b =
+    subst (λ (k : ViewState). is_plain (columns_of kind) (rows_of kind) k.view_mode ≡ b) (sym same)
+    (subst (λ n. is_plain (columns_of kind) n shown.view_mode ≡ b) eh (subst (λ n. is_plain n h shown.view_mode ≡ b) ew mode)) in
+    subst (λ f. Answers (columns_of kind) f rows places) (sym (is there))
+    (subst (λ (k : ViewState). Answers (columns_of kind) (frame (columns_of kind) (rows_of kind) s.scroll k) rows places) (sym same)
+    (subst (λ n. Answers (columns_of kind) (frame (columns_of kind) (rows_of kind) n shown) rows places) (sym place)
+    (subst (λ n. Answers (columns_of kind) (frame (columns_of kind) n scroll shown) rows places) eh
+    (subst (λ n. Answers n (frame n h scroll shown) rows places) ew here))))
+
 pub plain-shows : (kind : TerminalKind) (s : Session) (shown : ViewState) (scroll w h : ℕ) (rows : List Row) (places : Places) → w ≡ columns_of kind → h ≡ rows_of kind
     → s.shown ≡ shown → s.scroll ≡ scroll → is_plain w h shown.view_mode ≡ true
     → rows ≡ window w h scroll shown → KnowsPlaces w (frame_of_document w h scroll shown) places
     → Answers (columns_of kind) (scene_of kind s).frame rows places
 plain-shows kind s shown scroll w h rows places ew eh same place plain drawn kept =
-    let here : Answers w (frame_of_document w h scroll shown) rows places = (drawn, kept) in
-    let mode : is_plain (columns_of kind) (rows_of kind) s.shown.view_mode ≡ true =
-    subst (λ (k : ViewState). is_plain (columns_of kind) (rows_of kind) k.view_mode ≡ true) (sym same)
-    (subst (λ n. is_plain (columns_of kind) n shown.view_mode ≡ true) eh (subst (λ n. is_plain n h shown.view_mode ≡ true) ew plain)) in
-    let there : Answers (columns_of kind) (frame_of_document (columns_of kind) (rows_of kind) s.scroll s.shown) rows places =
-    subst (λ (k : ViewState). Answers (columns_of kind) (frame_of_document (columns_of kind) (rows_of kind) s.scroll k) rows places) (sym same)
-    (subst (λ n. Answers (columns_of kind) (frame_of_document (columns_of kind) (rows_of kind) n shown) rows places) (sym place)
-    (subst (λ n. Answers (columns_of kind) (frame_of_document (columns_of kind) n scroll shown) rows places) eh
-    (subst (λ n. Answers n (frame_of_document n h scroll shown) rows places) ew here))) in
-    subst (λ frame. Answers (columns_of kind) frame rows places) (sym (plain-is (columns_of kind) (rows_of kind) s mode)) there
+    shows kind s shown scroll w h true frame_of_document rows places ew eh same place plain (plain-is (columns_of kind) (rows_of kind) s) (drawn, kept)
 
 pub free-shows : (kind : TerminalKind) (s : Session) (shown : ViewState) (scroll w h : ℕ) (rows : List Row) (places : Places) → w ≡ columns_of kind → h ≡ rows_of kind
     → s.shown ≡ shown → s.scroll ≡ scroll → is_plain w h shown.view_mode ≡ false
     → rows ≡ (frame_of_view w h scroll (app_view_of shown)).rows → KnowsPlaces w (frame_of_view w h scroll (app_view_of shown)) places
     → Answers (columns_of kind) (scene_of kind s).frame rows places
 free-shows kind s shown scroll w h rows places ew eh same place free drawn kept =
-    let here : Answers w (frame_of_view w h scroll (app_view_of shown)) rows places = (drawn, kept) in
-    let mode : is_plain (columns_of kind) (rows_of kind) s.shown.view_mode ≡ false =
-    subst (λ (k : ViewState). is_plain (columns_of kind) (rows_of kind) k.view_mode ≡ false) (sym same)
-    (subst (λ n. is_plain (columns_of kind) n shown.view_mode ≡ false) eh (subst (λ n. is_plain n h shown.view_mode ≡ false) ew free)) in
-    let there : Answers (columns_of kind) (frame_of_view (columns_of kind) (rows_of kind) s.scroll (app_view_of s.shown)) rows places =
-    subst (λ (k : ViewState). Answers (columns_of kind) (frame_of_view (columns_of kind) (rows_of kind) s.scroll (app_view_of k)) rows places) (sym same)
-    (subst (λ n. Answers (columns_of kind) (frame_of_view (columns_of kind) (rows_of kind) n (app_view_of shown)) rows places) (sym place)
-    (subst (λ n. Answers (columns_of kind) (frame_of_view (columns_of kind) n scroll (app_view_of shown)) rows places) eh
-    (subst (λ n. Answers n (frame_of_view n h scroll (app_view_of shown)) rows places) ew here))) in
-    subst (λ frame. Answers (columns_of kind) frame rows places) (sym (free-is (columns_of kind) (rows_of kind) s mode)) there
+    shows kind s shown scroll w h false (λ w h scroll shown. frame_of_view w h scroll (app_view_of shown)) rows places ew eh same place free
+    (free-is (columns_of kind) (rows_of kind) s) (drawn, kept)
 
 -- what an index answers on a row of the screen is what a click there hits
-pub run-hit : (scene : Scene) (index : LayoutIndex) (s row x y : ℕ) (o : Option ComponentId) → IsIndexFor scene.width scene.frame index → y ≡ s + row → (nat_lt row scene.height && nat_le s max_scroll) ≡ true
-    → ((w h t : ℕ) (shown : ViewState) → IsLayoutIndexOf w h t shown index → o ≡ (if nat_lt x w then owner w h t shown y x else None))
-    → o ≡ hit scene s row x
-run-hit scene index s row x y o is e there owned =
+index-hit : (scene : Scene) (index : LayoutIndex) (s row x y : ℕ) (o : Option ComponentId) (is : IsIndexFor scene.width scene.frame index) → y ≡ s + row → (nat_lt row scene.height && nat_le s max_scroll) ≡ true
+    → o ≡ (if nat_lt x scene.width then owner scene.width is.height is.scroll is.shown y x else None) → o ≡ hit scene s row x
+index-hit scene index s row x y o is e there owned =
     let parts = and_parts (nat_lt row scene.height) (nat_le s max_scroll) there in
     let own : Option ComponentId = owner scene.width is.height is.scroll is.shown (s + row) x in
     let frame : scene.frame.owner (s + row) x ≡ own = ap (λ (f : Frame). f.owner (s + row) x) is.is_frame in
-    owned scene.width is.height is.scroll is.shown is.is_index
+    owned
     ∙ ap (λ (n : ℕ). if nat_lt x scene.width then owner scene.width is.height is.scroll is.shown n x else None) e
     ∙ go (nat_lt x scene.width) (nat_lt row scene.height) (nat_le s max_scroll) own (scene.frame.owner (s + row) x) parts.0 parts.1 (sym frame)
   where
     go : (b c d : Bool) (p q : Option ComponentId) → c ≡ true → d ≡ true → p ≡ q → ◌≡◌ {A = Option ComponentId} (if b then p else None) (if (b && c) && d then q else None)
     go true c d p q is_row is_low same = rw (is_row, is_low) same
     go false c d p q is_row is_low same = refl
+
+pub run-hit : (scene : Scene) (index : LayoutIndex) (s row x y : ℕ) (o : Option ComponentId) → IsIndexFor scene.width scene.frame index → y ≡ s + row → (nat_lt row scene.height && nat_le s max_scroll) ≡ true
+    → ((w h t : ℕ) (shown : ViewState) → IsLayoutIndexOf w h t shown index → o ≡ (if nat_lt x w then owner w h t shown y x else None))
+    → o ≡ hit scene s row x
+run-hit scene index s row x y o is e there owned =
+    index-hit scene index s row x y o is e there (owned scene.width is.height is.scroll is.shown is.is_index)
+
+-- on the row of a changed line it is the line's checkbox or the line
+pub line-hit : (scene : Scene) (index : LayoutIndex) (s row x y : ℕ) (key : LineKey) → IsIndexFor scene.width scene.frame index → y ≡ s + row → (nat_lt row scene.height && nat_le s max_scroll) ≡ true
+    → x < scene.width → ((w h t : ℕ) (shown : ViewState) → IsLayoutIndexOf w h t shown index → x < w → owner w h t shown y x ≡ Some (line_owner key x))
+    → hit scene s row x ≡ Some (line_owner key x)
+line-hit scene index s row x y key is e there within owned =
+    let inside : nat_lt x scene.width ≡ true = grind (arith, nat_tests) in
+    sym (index-hit scene index s row x y (Some (line_owner key x)) is e there
+    (rw inside (sym (owned scene.width is.height is.scroll is.shown is.is_index within))))

@@ -1,7 +1,7 @@
 -- A jump to a key is what a batch of moves leads to.
 use Rattle.std.proofs.Common.{◌≡◌, ℕ, zero, suc, ◌+◌, min, Bool, true, false, cond, List, [], ◌∷◌, ◌++◌, refl, sym, ap, ◌∙◌, subst, Option, Some, None, arith}
 use Rattle.std.specs.Prelude.{is_some, not}
-use Rattle.std.proofs.lemmas.Bool.{and_parts}
+use Rattle.std.proofs.lemmas.Bool.{and_parts, not-true}
 use Rattle.std.proofs.lemmas.Bool.Decides.{nat_tests}
 use Rattle.scm_types.specs.Limits.{max_scroll}
 use Rattle.scm_types.specs.declared.file.File.{File}
@@ -183,10 +183,6 @@ reached given kind calls l key path closed is =
 closed-by : (dialog : Option QuitDialog) → is_some dialog ≡ false → dialog ≡ None
 closed-by None e = refl
 closed-by (Some dialog) e = cc
-
-not-true : (b : Bool) → not b ≡ true → b ≡ false
-not-true true e = cc
-not-true false e = refl
 
 -- a key that can be selected at once is one that moves reach
 pub jumped : (given : RecordState) (kind : TerminalKind) (calls : List Call) (l : Live) (key : SelectionKey) → Path (Waiting (record { session = start given; kind = kind })) calls (Waiting l)

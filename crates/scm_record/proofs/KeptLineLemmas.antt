@@ -85,13 +85,13 @@ marked-layout old new has same follows rows size shared = record {
 }
 
 -- the session after the files changed
-pub marked-session : (s : Session) (change : List File → List File) (state : RecordState) (expanded : List SelectionKey)
-    → s.shown.state.is_read_only ≡ false → state ≡ record s.shown.state { files = change s.shown.state.files } → expanded ≡ s.shown.expanded
-    → ◌≡◌ {A = Session} (record s { shown = record s.shown { state = state; expanded = expanded } }) (with_files_changed change s)
-marked-session s change state expanded free is same =
-    let made : RecordState → List SelectionKey → Session = λ x ks. record s { shown = record s.shown { state = x; expanded = ks } } in
-    let last : Session = made (record s.shown.state { files = change s.shown.state.files }) s.shown.expanded in
-    ap₂ made is same ∙ sym (ap (λ (b : Bool). if b then s else last) free)
+pub marked-session : {before now : Session} → before ≡ now → (change : Session → List File → List File) (state : RecordState) (expanded : List SelectionKey)
+    → before.shown.state.is_read_only ≡ false → state ≡ record before.shown.state { files = change before before.shown.state.files } → expanded ≡ before.shown.expanded
+    → ◌≡◌ {A = Session} (record before { shown = record before.shown { state = state; expanded = expanded } }) (with_files_changed (change now) now)
+marked-session {before} same change state expanded free is kept =
+    let made : RecordState → List SelectionKey → Session = λ x ks. record before { shown = record before.shown { state = x; expanded = ks } } in
+    let last : Session = made (record before.shown.state { files = change before before.shown.state.files }) before.shown.expanded in
+    ap₂ made is kept ∙ sym (ap (λ (b : Bool). if b then before else last) free) ∙ ap (λ (s : Session). with_files_changed (change s) s) same
 
 -- ---- folds of files and sections
 

@@ -1,7 +1,9 @@
 -- Inline the screen of a session in its styles is the window in its styles.
-use Rattle.std.proofs.Common.{◌≡◌, ℕ, zero, suc, ◌+◌, ◌<◌, ◌≤◌, List, ◌∷◌, map, length, set, get_or, Option, sym, ap, ◌∙◌, ⊎_elim, refl, arith}
+use Rattle.std.proofs.Common.{◌≡◌, ℕ, zero, suc, ◌+◌, ◌<◌, ◌≤◌, true, false, nat_lt, List, ◌∷◌, map, length, set, get_or, Option, Some, sym, ap, ◌∙◌, ⊎_elim, refl, arith}
 use Rattle.std.proofs.lemmas.Bool.{cases_eq}
+use Rattle.std.proofs.lemmas.Bool.Decides.{nat_tests}
 use Rattle.std.proofs.lemmas.List.{get_or-set_same, get_or-set_other}
+use Rattle.std.specs.Prelude.{nat_le}
 use Rattle.std.specs.List.{range_with_len}
 use Rattle.scm_cells.specs.Cell.{Cell}
 use Rattle.scm_cells.specs.Counts.{no_counts}
@@ -10,7 +12,11 @@ use Rattle.scm_cells.specs.Symbols.{symbol_at}
 use Rattle.scm_cells.specs.declared.style.Style.{Style}
 use Rattle.scm_terminal.specs.StyledCell.{picture, cell_at, cell_of, styled_row}
 use Rattle.scm_types.specs.Limits.{max_scroll}
+use Rattle.scm_types.specs.declared.keys.LineKey.{LineKey}
+use Rattle.scm_types.specs.declared.keys.SelectionKey.TheVariants as keys
+use Rattle.scm_document.specs.PieceOwners.{line_owner}
 use Rattle.scm_widgets.specs.declared.ids.ComponentId.{ComponentId}
+use Rattle.scm_widgets.specs.declared.ids.ComponentId.TheVariants as ids
 use Rattle.scm_view_state.specs.Styles.{style_of}
 use Rattle.scm_record.specs.Frames.{columns_of, rows_of}
 use Rattle.scm_record.specs.Headline.{IsInline}
@@ -31,6 +37,23 @@ fill-keeps xs from i s d low k before = ⊎_elim
     (λ e. absurd (omega arith))
     (λ n. get_or-set_other xs i k s d n)
     (cases_eq k i)
+
+-- ---- the columns of a changed line
+
+pub before-box : (k : LineKey) (x : ℕ) → x < 4 → Some (line_owner k x) ≡ Some (ids.SelectableItem (keys.Line k))
+before-box k x h = let low : nat_le 4 x ≡ false = grind (arith, nat_tests) in rw low refl
+
+pub in-box : (k : LineKey) (x : ℕ) → 4 ≤ x → x < 7 → Some (line_owner k x) ≡ Some (ids.ToggleBox (keys.Line k))
+in-box k x h g =
+    let low : nat_le 4 x ≡ true = grind (arith, nat_tests) in
+    let high : nat_lt x 7 ≡ true = grind (arith, nat_tests) in
+    rw (low, high) refl
+
+pub behind-box : (k : LineKey) (x : ℕ) → 7 ≤ x → Some (line_owner k x) ≡ Some (ids.SelectableItem (keys.Line k))
+behind-box k x h =
+    let low : nat_le 4 x ≡ true = grind (arith, nat_tests) in
+    let high : nat_lt x 7 ≡ false = grind (arith, nat_tests) in
+    rw (low, high) refl
 
 -- ---- pictures
 

@@ -2,6 +2,7 @@
 use Rattle.std.proofs.Common.{◌≡◌, ℕ, zero, suc, ◌+◌, ◌<◌, ◌≤◌, Bool, true, false, List, [], ◌∷◌, length, ◌&&◌, Option, Some, None, cond, ◌⊎◌, inl, inr, sym, ap, ◌∙◌, refl, subst}
 use Rattle.std.specs.Prelude.{MatchOption, is_some, nat_le, nat_lt, slice_get}
 use Rattle.std.proofs.lemmas.Bool.{lt-ltb, le-leb}
+use Rattle.std.proofs.lemmas.Option.{same_Some}
 use Rattle.scm_errors.specs.declared.error.RecordError.{RecordError}
 use Rattle.scm_errors.specs.Fault.{Fault, fault_of}
 use Rattle.scm_types.specs.Edits.{modify}
@@ -69,13 +70,10 @@ clicks-hit-owners w0 drawable drawn w done left row column h plain is_row is_col
 abbrev Texts : Type 0
 Texts = List (Option (List ℕ))
 
-some-same : {A : Type 0} (x y : A) → Some x ≡ Some y → x ≡ y
-some-same x y e = cc
-
 -- what is at an index of a list in which one index was set
 set-or-had : {A : Type 0} (x y : A) (xs : List A) (i j : ℕ) → slice_get (modify (λ _. x) xs i) j ≡ Some y → (slice_get xs j ≡ Some y) ⊎ ((i ≡ j) × (x ≡ y))
 set-or-had x y [] i j e = inl e
-set-or-had x y (z ∷ zs) zero zero e = inr (refl, some-same x y e)
+set-or-had x y (z ∷ zs) zero zero e = inr (refl, same_Some x y e)
 set-or-had x y (z ∷ zs) zero (suc j) e = inl e
 set-or-had x y (z ∷ zs) (suc i) zero e = inl e
 set-or-had x y (z ∷ zs) (suc i) (suc j) e = elim (set-or-had x y zs i j e) [
@@ -101,8 +99,8 @@ module _ (w0 : World) where
         shot = shot;
         taken = h;
         at_place = k.0;
-        of_scene = sym (some-same _ text k.1);
-        inline = λ plain. sym (some-same _ text k.1) ∙ inline-text w0 h plain;
+        of_scene = sym (same_Some _ text k.1);
+        inline = λ plain. sym (same_Some _ text k.1) ∙ inline-text w0 h plain;
       })
     ]
 

@@ -25,10 +25,6 @@ module _ (ks : List SelectionKey) (once : Once ks) (a b : SelectionKey) (rest : 
   pub step-next : (o : SelectionKey) → next_key ks a o ≡ b
   step-next o = next-is ks a o ∙ stepped (parted (is_key a) ks) (sym (behind-is ks a) ∙ is) o
 
-  tail-of : List SelectionKey → List SelectionKey
-  tail-of [] = []
-  tail-of (k ∷ l) = l
-
   left-by : (x : Bool) → is_key a (next_key ks a a) ≡ x → keys_behind ks b ≡ rest
   left-by true e =
       let none : keys_behind ks a ≡ [] = step-stays ks once a e in

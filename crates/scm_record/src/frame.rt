@@ -1,8 +1,10 @@
 //! The frame last drawn: the screen, and where each component was drawn on it.
-ghost use Rattle.std.specs.Prelude.{◌≡◌, ℕ, ◌<◌, ◌≤◌, ◌+◌, ◌^◌, ◌&&◌, nat_le, nat_lt, true, false, IfErr, IfOk, IsTrue, OnOk, length, min, string_bytes};
+ghost use Rattle.std.specs.Prelude.{◌≡◌, ℕ, ◌<◌, ◌≤◌, ◌+◌, ◌^◌, ◌&&◌, nat_le, nat_lt, true, false, IfErr, IfOk, IsTrue, OnOk, Some, length, min, string_bytes};
 ghost use Rattle.scm_render.specs.Picture.{PictureInRange, part};
 ghost use Rattle.scm_errors.specs.declared.error.RecordError.TheVariants.{OutOfMemory};
 ghost use Rattle.scm_types.specs.Limits.{is_accepted_state, max_scroll};
+ghost use Rattle.scm_document.specs.PieceOwners.{line_owner};
+ghost use Rattle.scm_types.specs.declared.keys.LineKey.{LineKey};
 ghost use Rattle.scm_widgets.specs.declared.ids.ComponentId.TheVariants as ids;
 ghost use Rattle.scm_view.specs.AppView.{app_view_of};
 ghost use Rattle.scm_view.specs.Window.{rows_of_box, window};
@@ -20,7 +22,7 @@ use scm_input::TerminalKind;
 use scm_layout::{Layout, StateRows};
 use scm_layout_index::{LayoutIndex, OwnerRun, RowOwners, SharedRows, span_of_key};
 use scm_render::{DrawnRects, Viewport};
-use scm_types::{RecordError, RecordState};
+use scm_types::{LineKey, RecordError, RecordState};
 use scm_view::{AppView, CommitViewMode, ComponentId, SelectionKey, laws};
 use scm_view_state::ViewState;
 use scm_view_state::visible_views::visible_views_show_windows;
@@ -398,6 +400,36 @@ impl DrawnFrame {
             Places::Free(places) => {
                 places.run_on(self.grid.width(), (scroll + row) as isize, column)
             }
+        }
+    }
+
+    /// Returns the changed line that `row` of the screen shows, if it shows one and nothing lies over
+    /// it, while the screen is scrolled to row `scroll` of the document. `owners` are those of the row,
+    /// if they were found. Returns `None` if the screen has fewer than `columns` columns.
+    pub(crate) fn line_among(
+        &self,
+        owners: &Option<RowOwners>,
+        scroll: usize,
+        row: usize,
+        columns: usize,
+    ) -> Option<LineKey>
+        requires { KnowsRow owners.now self.now.places (scroll + row) }
+        ensures { (scene : Scene) → IsSceneOf scene self.now → (key : LineKey)
+            → result ≡ Some key → (x : ℕ) → x < columns
+            → hit scene scroll row x ≡ Some (line_owner key x) }
+    {
+        if self.grid.width() < columns {
+            return None;
+        }
+        if !self.has_row(scroll, row) {
+            return None;
+        }
+        match &self.places {
+            Places::Plain(index) => match owners {
+                Some(found) => index.line_on(found),
+                None => None,
+            },
+            Places::Free(_) => None,
         }
     }
 

@@ -4,18 +4,18 @@ ghost use Rattle.std.specs.Prelude.{◌≡◌, ℕ, ℤ, ◌+◌, ◌<◌, ◌�
 ghost use Rattle.std.specs.HashMap.{IsUnique};
 ghost use Rattle.std.specs.List.{filter};
 ghost use Rattle.scm_errors.specs.declared.error.RecordError.TheVariants.{OutOfMemory};
-ghost use Rattle.scm_render.specs.Hits.{holds};
-ghost use Rattle.scm_render.specs.Target.{later_of, look};
+ghost use Rattle.scm_render.specs.Target.{look};
 ghost use Rattle.scm_widgets.specs.Clicks.{is_clickable};
 ghost use Rattle.scm_widgets.specs.SameIds.{same_id};
 ghost use Rattle.scm_view.specs.Frame.{Frame};
 ghost use Rattle.scm_layout_index.specs.OwnerRuns.{IsRun};
-ghost use Rattle.scm_record.specs.FreePlaces.{AreShown, has_row_among, holds_at, is_among, is_shown, target_in};
+ghost use Rattle.scm_record.specs.FreePlaces.{AreShown, has_row_among, holds_at, is_shown, target_in};
 ghost use Rattle.scm_record.specs.Frames.{AreFreePlaces};
 
 use scm_cells::Rect;
 use scm_layout_index::OwnerRun;
 use scm_layout_index::owner_runs::rect_end;
+use scm_render::target::{holds, is_among, later_of};
 use scm_render::{Clickable, DrawnRect, DrawnRects, find_target};
 use scm_types::RecordError;
 use scm_view::{ComponentId, laws};
@@ -33,13 +33,6 @@ pub(crate) struct FreePlaces {
     first: isize,
     /// The end of the rows that the screen showed, exclusive.
     end: isize,
-}
-
-/// Returns whether `place` lies in `from..from + size`. Never overflows.
-fn is_among(from: isize, size: usize, place: isize) -> bool
-    ensures { result ≡ is_among from size place }
-{
-    from <= place && from.abs_diff(place) < size
 }
 
 /// Returns whether `rect` has one of the rows `first..end`.
@@ -78,36 +71,6 @@ fn shown_boxes(
         }
     }
     Ok(shown)
-}
-
-/// Returns the later of the box that was found so far, if any, and the box `entry`.
-fn later_of(
-    found: Option<(ComponentId, DrawnRect)>,
-    entry: (ComponentId, DrawnRect),
-) -> Option<(ComponentId, DrawnRect)>
-    ensures { result ≡ later_of found entry }
-{
-    match found {
-        Some(best) => {
-            if best.1.timestamp <= entry.1.timestamp {
-                Some(entry)
-            } else {
-                Some(best)
-            }
-        }
-        None => Some(entry),
-    }
-}
-
-/// Returns whether the rectangle contains row `row` and column `column`. Never overflows.
-#[tactic(auto, unfolding(scm_render::specs::Hits::holds))]
-fn holds(rect: Rect, row: isize, column: isize) -> bool
-    ensures { result ≡ holds rect row column }
-{
-    let rows = is_among(rect.y, rect.height, row);
-    let columns = is_among(rect.x, rect.width, column);
-    // `&`: one branch for the prover
-    rows & columns
 }
 
 /// Returns the latest clickable box of `shown` that contains row `row` and column `column`, with its

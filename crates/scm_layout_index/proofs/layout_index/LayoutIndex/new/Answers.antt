@@ -1,4 +1,4 @@
-use Rattle.std.proofs.Common.{◌∙◌, ◌+◌, ap, arith}
+use Rattle.std.proofs.Common.{◌∙◌, ◌+◌, ap, arith, refl}
 use Rattle.std.specs.Prelude.{◌++◌, if◌then◌else◌, is_some, None, Some, option_map}
 use Rattle.scm_types.proofs.LimitLemmas.{scroll_room}
 use Rattle.scm_widgets.specs.Screens.{screen}
@@ -65,6 +65,7 @@ returns-clause-ok c =
     let quit = (rw c.screen-screen.ensures at c.in_ok-quit.ensures.rows) ∙ ap (λ (v : ViewState). option_map (λ q. dialog_run (screen w h s) (quit_dialog q)) v.quit_dialog) same in
     let help = (rw c.screen-screen.ensures at c.in_ok-help.ensures.rows) ∙ ap (λ (v : ViewState). if v.is_help_open then Some (dialog_run (screen w h s) help_dialog) else None) same in
     record {
+      width = refl;
       owner = new-owner w h s shown c.requires.shown rows c.push_message.new.rects.items c.push_pinned_on.new.rects.items c.push_rects.new.rects.items c.push_quit.new.rects.items c.push_help.new.rects.items
           c.view_state.inside.selection c.requires.rows (ap (λ (v : ViewState). v.selection) same) e0 e1 e2 e3 e4;
       span = λ k. new-span shown rows k c.requires.rows;

@@ -1,4 +1,4 @@
-use Rattle.std.proofs.Common.{◌≡◌, ◌∙◌, ap, refl, subst, sym}
+use Rattle.std.proofs.Common.{◌∙◌, ap, refl, subst, sym}
 use Rattle.scm_types.specs.declared.state.RecordState.{RecordState}
 use Rattle.scm_selection.specs.Toggle.{with_all_inverted}
 use Rattle.scm_view_state.specs.LineKeys.{with_lines}
@@ -17,14 +17,7 @@ invariant_of-self c =
 pub returns-then-not-self : goal.returns-then-not-self
 returns-then-not-self c =
     let v = c.self-inside.inside.0.0 in
-    let now = c.args.self.now in
     let state = c.invert_all.new.state in
-    let expanded = with_lines v.has_all_lines state.files v.expanded in
-    let session = ap session_of c.self-inside.view_is ∙ c.self.view_is in
-    let lines : expanded ≡ with_lines v.has_all_lines v.state.files v.expanded =
-    ap (λ (x : RecordState). with_lines v.has_all_lines x.files v.expanded) c.invert_all.ensures.state ∙ inverted-lines v.has_all_lines v.expanded v.state.files in
-    ap (λ (s : Session). record s { shown = record s.shown { state = state; expanded = expanded } }) session
-    ∙ marked-session now with_all_inverted state expanded
-    (ap (λ (s : Session). s.shown.state.is_read_only) (sym session) ∙ c.if-not-self.true)
-    (c.invert_all.ensures.state ∙ ap (λ (s : Session). record s.shown.state { files = with_all_inverted s.shown.state.files }) session)
-    (lines ∙ ap (λ (s : Session). s.shown.expanded) session)
+    marked-session (ap session_of c.self-inside.view_is ∙ c.self.view_is) (λ (s : Session). with_all_inverted) state (with_lines v.has_all_lines state.files v.expanded)
+    c.if-not-self.true c.invert_all.ensures.state
+    (ap (λ (x : RecordState). with_lines v.has_all_lines x.files v.expanded) c.invert_all.ensures.state ∙ inverted-lines v.has_all_lines v.expanded v.state.files)

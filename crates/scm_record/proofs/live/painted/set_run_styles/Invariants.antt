@@ -2,7 +2,7 @@ use Rattle.std.proofs.Common.{◌≡◌, ℕ, ◌-◌, ◌<◌, ◌≤◌, get_o
 use Rattle.scm_terminal.specs.Style.{plain_style}
 use Rattle.scm_record.specs.Frames.{IsSceneOf, Scene}
 use Rattle.scm_record.specs.Painted.{style_in}
-use Rattle.scm_record.proofs.live.painted.set_row_styles.Given as goal
+use Rattle.scm_record.proofs.live.painted.set_run_styles.Given as goal
 
 abbrev pub invariant-runs : goal.invariant-runs
 invariant-runs l = record {
