@@ -91,7 +91,7 @@ CALLS = dict(call.split(":") for call in """
     state_mode:BN state_binary:BTNTN state_texts:TNTNTNNTNN begin:HH new:TNHH stage: end: type:TN type_to_key:TNPP idle: press:TN press_all:TN
     decode:TNTNP decode_idle:TNP click:HH answer:TN resize:HH paint:TNP repaint: owner:HHP selected:P symbol:HHTN text:TNP files:P
     side:NBTNP side_bytes:NBTNP mark:PP marks:NTNP line:PTNP message:NTNP run:IT free: begin_layer:HH new_layer:TNHH theme:U
-    accept_text:TN start:UP keys:TN""".split())
+    accept_text:TN start:UP keys:TN log: logged:TNP""".split())
 TYPES = {"B": ctypes.c_bool, "T": ctypes.c_char_p, "N": ctypes.c_size_t, "H": ctypes.c_uint16, "U": ctypes.c_uint32, "I": ctypes.c_int, "P": ctypes.c_void_p}
 
 library = open_library(library_path())
@@ -218,6 +218,14 @@ class Session:
     def set_keys(self, text: Text) -> None:
         """Sets the keys of the user's own: parts KEY=WORD, separated by spaces, as "ctrl-n=j x=undo"."""
         self.call("keys", *sized(text))
+
+    def log(self) -> None:
+        """Begins to log the calls of the session beneath the layer, before the first of them."""
+        self.call("log")
+
+    def logged(self) -> str:
+        """Returns the logged calls, a line each, as `scm.h` says."""
+        return self.read("logged").decode()
 
     # ---- the user's input, and the screen
 

@@ -111,8 +111,49 @@ def drive_a_layer():
         assert session.end == "cancelled"
 
 
+def log_a_layer():
+    with scm.Session() as session:
+        session.add_commit("first\n")
+        session.add_file("f", 0o100644)
+        session.add_changes("one\ntwo\n", True)
+        assert refused(session.log) == refused(session.logged) == "not_now"
+        session.begin_layer(60, 10)
+        assert refused(session.logged) == "not_now"
+        session.log()
+        session.log()
+        calls = "size 60 9\n"
+        assert session.logged() == calls
+        session.press_all("shift-F j j")
+        session.type("/two\r")
+        session.resize(50, 8)
+        # the range is the selected line: a jump to it, a toggle, and a jump back
+        session.type("v ?")
+        calls += "batch shift-F j j \nselect 0 0 1\nsize 50 7\nselect 0 0 1\nbatch space \nselect 0 0 1\n"
+        calls += "batch ? \n"
+        assert session.logged() == calls
+        session.type("?e")
+        calls += "batch ? \nbatch e \n"
+        assert session.stage == scm.EDITING and session.logged() == calls
+        session.answer('a "b" \\ \n')
+        calls += 'answer "a \\"b\\" \\\\ \\u000a"\n'
+        assert session.logged() == calls
+        session.press("c")
+        assert session.end == "accepted" and session.logged() == calls + "batch c \n" and refused(session.log) == "not_now"
+    with scm.Session() as session:
+        session.begin_layer(60, 10)
+        session.log()
+        session.press("q")
+        assert session.end == "cancelled" and refused(session.logged) == "not_now"
+    with scm.Session() as session:
+        session.begin_layer(60, 10)
+        session.press("none")
+        assert refused(session.log) == refused(session.logged) == "not_now"
+    assert refused(session.log) == refused(session.logged) == "closed"
+
+
 def main():
     drive_a_layer()
+    log_a_layer()
     with scm.Session() as session:
         assert session.stage == scm.BUILDING and len(session) == 0
         assert refused(session.add_context, "a") == "no_item"

@@ -132,6 +132,24 @@ static void refuse_calls(uint32_t code) {
     refuse_paint(code == SCM_CLOSED ? SCM_CLOSED : SCM_DONE);
 }
 
+/* The log of the calls beneath a layer, where there is none. */
+static void refuse_logged(uint32_t code) {
+    char out[] = "........";
+    size_t length = 77;
+    refused(scm_logged(&session, out, sizeof out, &length), code);
+    assert(length == 77 && strcmp(out, "........") == 0);
+}
+
+/* The logged calls begin with these. */
+static void check_logged(const char *calls) {
+    char log[2048];
+    size_t length = 77, wanted = strlen(calls);
+    refused(scm_logged(&session, log, 3, &length), SCM_DONE);
+    assert(length >= wanted && memcmp(log, calls, 3) == 0);
+    refused(scm_logged(&session, log, sizeof log, &length), SCM_DONE);
+    assert(length < sizeof log && memcmp(log, calls, wanted) == 0);
+}
+
 /* Every call of a layer, where there is none. */
 static void refuse_layer(uint32_t code) {
     scm_key key = {SCM_NO_INDEX, SCM_NO_INDEX, SCM_NO_INDEX, SCM_NO_INDEX};
@@ -143,6 +161,7 @@ static void refuse_layer(uint32_t code) {
     refused(scm_start(&session, SCM_OPEN_IF_IT_FITS + 1, &key), SCM_NO_NUMBER);
     refused(scm_keys(&session, "x=undo", 6), code);
     refused(scm_keys(&session, "x", 1), SCM_NO_KEY);
+    refused(scm_log(&session), code);
     refused(scm_begin_layer(&session, WIDTH, HEIGHT), code);
 }
 
@@ -177,9 +196,11 @@ static void refuse_where_closed(void) {
     close_session();
     refuse_calls(SCM_CLOSED);
     refuse_layer(SCM_CLOSED);
+    refuse_logged(SCM_CLOSED);
     decode();
     done(begin(STATE), SCM_WAITING);
     refuse_layer(SCM_NOT_NOW);
+    refuse_logged(SCM_NOT_NOW);
     decode();
     close_session();
     close_session();
@@ -310,6 +331,9 @@ static void take_layer(void) {
     done(scm_new_layer(&session, STATE, length, WIDTH, HEIGHT + 1), SCM_WAITING);
     assert(is_owner(2, 1, SCM_BUTTON, 0, SCM_NO_INDEX, SCM_NO_INDEX, SCM_NO_INDEX));
     assert(owner(HEIGHT, 0).code == SCM_NOBODY && scm_symbol(&session, HEIGHT, 0, out, sizeof out) == 0);
+    refuse_logged(SCM_NOT_NOW);
+    refused(scm_log(&session), SCM_DONE);
+    check_logged("size 24 4\n");
     refused(scm_begin_layer(&session, WIDTH, HEIGHT), SCM_NOT_NOW);
     refused(scm_theme(&session, SCM_NO_COLOURS + 1), SCM_NO_NUMBER);
     refused(scm_accept_text(&session, "\xff", 1), SCM_NOT_TEXT);
@@ -345,14 +369,20 @@ static void take_layer(void) {
     done(type("e"), SCM_EDITING);
     refused(scm_theme(&session, SCM_DARK), SCM_DONE);
     refused(scm_keys(&session, "x=undo", 6), SCM_NOT_NOW);
+    check_logged("size 24 4\nbatch shift-F \nselect 0 0 0\nbatch space \n");
+    refused(scm_log(&session), SCM_NOT_NOW);
     done(answer("bye"), SCM_WAITING);
+    check_logged("size 24 4\nbatch shift-F \nselect 0 0 0\nbatch space \n");
     done(press("c"), SCM_ACCEPTED);
     refuse_layer(SCM_NOT_NOW);
+    check_logged("size 24 4\nbatch shift-F \nselect 0 0 0\nbatch space \n");
     done(scm_state_new(&session, false), SCM_BUILDING);
     refused(scm_theme(&session, SCM_DARK), SCM_NOT_NOW);
     done(scm_begin_layer(&session, WIDTH, HEIGHT), SCM_WAITING);
+    refused(scm_log(&session), SCM_DONE);
 #ifdef __GLIBC__
     is_refused = true;
+    uint32_t code_of_logged = scm_logged(&session, out, sizeof out, &length);
     uint32_t code_of_size = scm_resize(&session, UINT16_MAX, UINT16_MAX), code_of_keys = scm_keys(&session, "x=undo", 6);
     uint32_t code_of_words = scm_accept_text(&session, "c", 1), code_of_paint = scm_paint(&session, out, sizeof out, &length);
     is_refused = false;
@@ -360,6 +390,7 @@ static void take_layer(void) {
     refused(code_of_keys, SCM_NO_MEMORY);
     refused(code_of_words, SCM_NO_MEMORY);
     refused(code_of_paint, SCM_NO_MEMORY);
+    refused(code_of_logged, SCM_NO_MEMORY);
 #endif
     done(type("q"), SCM_ENDED);
 }

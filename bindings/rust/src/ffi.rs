@@ -71,6 +71,8 @@ extern "C" {
     pub fn scm_accept_text(session: Session, text: Bytes, length: usize) -> u32;
     pub fn scm_start(session: Session, folds: u32, first: *const Key) -> u32;
     pub fn scm_keys(session: Session, text: Bytes, length: usize) -> u32;
+    pub fn scm_log(session: Session) -> u32;
+    pub fn scm_logged(session: Asked, out: Room, length: usize, written: *mut usize) -> u32;
     pub fn scm_stage(session: Asked) -> u32;
     pub fn scm_end(session: Asked) -> u32;
     pub fn scm_type(session: Session, bytes: Bytes, length: usize) -> u32;

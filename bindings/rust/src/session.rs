@@ -662,6 +662,24 @@ impl Session {
         done(unsafe { ffi::scm_keys(self.at(), text, length) })
     }
 
+    /// Begins to log the calls of the session beneath the layer, before the first of them.
+    ///
+    /// # Errors
+    ///
+    /// `NotNow` if a call was made before, or the session has no layer or waits for no event.
+    pub fn log(&mut self) -> Result<(), Error> {
+        done(unsafe { ffi::scm_log(self.at()) })
+    }
+
+    /// Returns the logged calls, a line each. `scm.h` says what each line is.
+    ///
+    /// # Errors
+    ///
+    /// `NotNow` if there is no log, or the session has ended in an error, or `NoMemory`.
+    pub fn logged(&self) -> Result<String, Error> {
+        text_of(|out, room, length| unsafe { ffi::scm_logged(self.at(), out, room, length) })
+    }
+
     // ---- the user's input
 
     /// Returns what the session waits for.

@@ -114,6 +114,23 @@ fn a_layer_hears_the_terminal_first() {
 }
 
 #[test]
+fn calls_beneath_a_layer_are_logged() {
+    let mut session = Session::new(false).unwrap();
+    session.add_file("f", None, MODE).unwrap();
+    session.add_lines(ADDED, "one\ntwo\n").unwrap();
+    assert_eq!(session.log(), Err(Error::NotNow));
+    session.begin_layer(60, 10).unwrap();
+    assert_eq!(session.logged(), Err(Error::NotNow));
+    session.log().unwrap();
+    session.press("shift-F").unwrap();
+    session.type_bytes(b"/two\r").unwrap();
+    let calls = "size 60 9\nbatch shift-F \nselect 0 0 1\n";
+    assert_eq!(session.logged().as_deref(), Ok(calls));
+    session.press("c").unwrap();
+    assert_eq!(session.logged(), Ok(format!("{calls}batch c \n")));
+}
+
+#[test]
 fn a_state_in_json_has_a_layer() {
     let json = r#"{"is_read_only":false,"commits":[{"message":null}],"files":[]}"#;
     let mut session = Session::layer_of_json(json, 40, 8).unwrap();

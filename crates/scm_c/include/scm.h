@@ -377,6 +377,28 @@ uint32_t scm_start(scm_session *session, uint32_t folds, const scm_key *first);
  * SCM_NO_MEMORY. */
 uint32_t scm_keys(scm_session *session, const char *text, size_t length);
 
+/* Begins to log the calls of the session beneath the layer. Call this before the first of them, right behind `scm_begin_layer` or
+ * `scm_new_layer`. The log stays behind an accepted state, and takes memory for each call. If an allocation fails for the log, the
+ * session goes on without it.
+ *
+ * Returns SCM_DONE, SCM_CLOSED, or SCM_NOT_NOW if a call was made before, or the session has no layer or waits for no event. */
+uint32_t scm_log(scm_session *session);
+
+/* Writes the calls that `scm_log` began to log to `out`, clipped to its `length` bytes, and their whole length to `written`. A
+ * session without a layer that begins with the same state, and to which the same calls are made, gets to where the session
+ * beneath is. Each line is a call:
+ *
+ *     size 80 23          the columns and rows of the screen: on the first line, and where it gets another size (`scm_resize`)
+ *     batch j space       events, as one batch (`scm_press_all`)
+ *     select 0 2 5        a jump to line 5 of section 2 of file 0, each counted from 0; to a section or a file by fewer numbers
+ *     answer "fix it"     the message that was asked for, as a string of JSON (`scm_answer`)
+ *
+ * docs/RULES.md says, under "The log of a layer", which moves do what a jump does, and how the lines are a script.
+ *
+ * Returns SCM_DONE, SCM_CLOSED, SCM_NOT_NOW if there is no log or the session has ended in an error, or SCM_NO_MEMORY, also if an
+ * allocation failed before for the log. */
+SCM_USE_CODE uint32_t scm_logged(const scm_session *session, char *out, size_t length, size_t *written);
+
 /* ---- The user's input ---- */
 
 /* Returns the stage: SCM_WAITING to SCM_BUILDING. */

@@ -8,6 +8,7 @@ ghost use Rattle.scm_open_session.specs.OwnKeys.{HasKeys, code_of_keys, keys_of_
 ghost use Rattle.scm_open_session.specs.Painters.{HaveWords};
 ghost use Rattle.scm_open_session.specs.Results.{code_where};
 ghost use Rattle.scm_open_session.specs.Stages.{ChangesStage, IsOpenAt};
+ghost use Rattle.scm_open_session.specs.Logging.{IsLogCode, IsLoggedCode, WritesScript};
 
 use crate::c_session::{CSession, give_back, take};
 use scm_c_values::owners::Key;
@@ -110,6 +111,40 @@ pub extern "C" fn scm_keys(alloc: Global, session: &mut CSession, text: &[u8]) -
 {
     let mut inner = take(alloc, session);
     let code = layer_calls::set_keys(alloc, &mut inner, text);
+    give_back(alloc, session, inner);
+    code
+}
+
+/// Begins to log the calls of the session beneath the layer, if none was made yet. Returns the code of the
+/// call.
+#[unsafe(no_mangle)]
+pub extern "C" fn scm_log(alloc: Global, session: &mut CSession) -> u32
+    ensures code { IsLogCode session.old.pointer.value result }
+    ensures kept { session.new.pointer.value ≡ session.old.pointer.value }
+{
+    let mut inner = take(alloc, session);
+    let code = layer_calls::log(&mut inner);
+    give_back(alloc, session, inner);
+    code
+}
+
+/// Writes to `out` the script of the logged calls, clipped to the length of `out`, and its whole length in
+/// bytes to `written`. Returns the code of the call.
+#[unsafe(no_mangle)]
+pub extern "C" fn scm_logged(
+    alloc: Global,
+    session: &mut CSession,
+    out: &mut [u8],
+    written: &mut usize,
+) -> u32
+    ensures code { IsLoggedCode session.old.pointer.value result }
+    ensures script { result ≡ 0
+        → WritesScript session.old.pointer.value out.old out.new written.new }
+    ensures unwritten { 0 < result → (out.new ≡ out.old) × (written.new ≡ written.old) }
+    ensures kept { session.new.pointer.value ≡ session.old.pointer.value }
+{
+    let inner = take(alloc, session);
+    let code = layer_calls::logged(alloc, &inner, out, written);
     give_back(alloc, session, inner);
     code
 }

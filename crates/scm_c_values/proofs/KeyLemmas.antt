@@ -1,12 +1,12 @@
 -- The first key for a front end among the events of bytes.
-use Rattle.std.proofs.Common.{arith, ◌≡◌, ◌<◌, ◌==◌, ◌+◌, ◌-◌, ◌++◌, ℕ, zero, suc, get_or, Option, Some, List, [], ◌∷◌, length, take, Bool, true, false, if◌then◌else◌, refl, sym, ap, ◌∙◌, subst}
+use Rattle.std.proofs.Common.{arith, ◌≡◌, ◌<◌, ◌==◌, ◌+◌, ◌-◌, ◌++◌, ℕ, suc, get_or, List, [], ◌∷◌, length, take, Bool, true, false, if◌then◌else◌, refl, sym, ◌∙◌, subst}
 use Rattle.std.proofs.lemmas.Bool.{false≢true}
 use Rattle.scm_input.specs.declared.terminal.TerminalEvent.{TerminalEvent}
 use Rattle.scm_terminal.specs.declared.decoder.Decoder.{Decoder}
 use Rattle.scm_terminal.specs.declared.decoder.EventPair.{EventPair}
 use Rattle.scm_terminal.specs.Decoders.{Adds, HasRead, Hears, events_of}
 use Rattle.scm_terminal.specs.Silences.{Start}
-use Rattle.scm_terminal.proofs.HeardLemmas.{adds_more, adds_none}
+use Rattle.scm_terminal.proofs.HeardLemmas.{adds_more}
 use Rattle.std.proofs.Math.Seq.{take-suc}
 use Rattle.scm_c_values.specs.KeyCodes.{FindsKey, StopsAt, first_front_key, front_key}
 
@@ -27,9 +27,6 @@ keys_skipped (e ∷ es) fs h =
 
 finds : (old now : Decoder) (bytes : List ℕ) → NoKeyYet old now bytes → FindsKey old bytes 0
 finds old now bytes n = record { new = now; events = n.0; adds = n.1; is = sym n.2 }
-
-pub no_key_at_first : (d : Decoder) (bytes : List ℕ) → bytes ≡ [] → NoKeyYet d d bytes
-no_key_at_first d bytes e = ([], adds_none d bytes [] e, refl)
 
 abbrev pub Pushes : Decoder → Decoder → ℕ → EventPair → Type 0
 Pushes d new b pair = (start : Start) (bytes : List ℕ) → HasRead d start bytes → Hears new (b ∷ []) (events_of pair) start bytes
@@ -53,13 +50,6 @@ key_found old d new all i b pair key n pushes is some more = record {
   };
   all = λ e. absurd (some e);
   first = λ h. subst (λ (k : ℕ). FindsKey old (take k all) 0) (let e : i ≡ i + 1 - 1 = omega arith in e) (finds old d (take i all) n);
-}
-
-pub no_key_in_all : (old now : Decoder) (all : List ℕ) (i : ℕ) → NoKeyYet old now (take i all) → i ≡ length all → StopsAt old all (length all) 0
-no_key_in_all old now all i n e = record {
-  finds = finds old now (take (length all) all) (subst (λ (k : ℕ). NoKeyYet old now (take k all)) e n);
-  all = λ _. refl;
-  first = λ h. absurd (omega (arith, h));
 }
 
 one_more : (all : List ℕ) (i : ℕ) → i < length all → take (i + 1) all ≡ take i all ++ (get_or all i 0 ∷ [])

@@ -80,13 +80,6 @@ pub record Pushed {A : Type 0} (before now : List A) (all rest : Option (List A)
   pub joined : now ≡ before ++ done
   pub left : all ≡ option_map (λ (more : List A). done ++ more) rest
 
-same_map : {A : Type 0} (o : Option (List A)) → o ≡ option_map (λ (more : List A). [] ++ more) o
-same_map {A} None = refl
-same_map {A} (Some x) = refl
-
-pub pushed_none : {A : Type 0} (before : List A) (all : Option (List A)) → Pushed before before all all
-pushed_none {A} before all = record { done = []; joined = sym (append-nil before); left = same_map all }
-
 joined_maps : {A : Type 0} (done found : List A) (o : Option (List A))
     → option_map (λ (more : List A). done ++ more) (option_map (λ (more : List A). found ++ more) o)
     ≡ option_map (λ (more : List A). (done ++ found) ++ more) o

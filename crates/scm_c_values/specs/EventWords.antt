@@ -91,6 +91,10 @@ word_of_event event = name_of event ++ (place_of event ++ codes " ")
 abbrev pub words_of_events : List TerminalEvent → List ℕ
 words_of_events list = flat_map (λ (event : TerminalEvent). word_of_event (event_of event)) list
 
+-- The words of events: each with a space behind it.
+abbrev pub words_of_list : List Event → List ℕ
+words_of_list list = flat_map (λ (event : Event). word_of_event event) list
+
 -- ---- what a decoder hears
 
 -- The decoder reads bytes, which complete these events.

@@ -12,6 +12,8 @@ pub mod Keys
 pub mod Pieces
 -- the words of what a terminal sends
 pub mod EventWords
+-- a text between the quotation marks of JSON
+pub mod Quoting
 -- keys that the key table lacks, for a front end
 pub mod KeyCodes
 -- additions to a state, from bytes

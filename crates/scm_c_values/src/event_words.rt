@@ -1,6 +1,6 @@
 //! The words of events that a terminal sends.
 ghost use Rattle.std.specs.Prelude.{◌≡◌, ◌++◌, IfOk, OnOk, string_bytes};
-ghost use Rattle.scm_c_values.specs.EventWords.{name_of, place_of, word_of_event, words_of_events};
+ghost use Rattle.scm_c_values.specs.EventWords.{name_of, place_of, word_of_event, words_of_events, words_of_list};
 
 use scm_record::{Event, TerminalEvent};
 use std::alloc::{AllocError, Global};
@@ -92,13 +92,24 @@ fn push_word(alloc: Global, words: &mut String, event: Event) -> Result<(), Allo
     words.push_str(" ")
 }
 
-/// Returns the words of `events`, each with a space behind it.
+/// Returns the words of `events` of a terminal, each with a space behind it.
 pub fn words_of(alloc: Global, events: &[TerminalEvent]) -> Result<String, AllocError>
     ensures { IfOk result (λ words. string_bytes words ≡ words_of_events events.now) }
 {
     let mut words = String::new(alloc);
     for event in events {
         push_word(alloc, &mut words, Event::from(*event))?;
+    }
+    Ok(words)
+}
+
+/// Returns the words of `events`, each with a space behind it.
+pub fn words_of_list(alloc: Global, events: &[Event]) -> Result<String, AllocError>
+    ensures { IfOk result (λ words. string_bytes words ≡ words_of_list events.now) }
+{
+    let mut words = String::new(alloc);
+    for event in events {
+        push_word(alloc, &mut words, *event)?;
     }
     Ok(words)
 }

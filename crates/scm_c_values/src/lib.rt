@@ -14,6 +14,7 @@ pub mod items;
 pub mod json_state;
 pub mod laws;
 pub mod owners;
+pub mod quoting;
 pub mod screens;
 pub mod sides;
 pub mod states;

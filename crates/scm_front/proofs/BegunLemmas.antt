@@ -1,15 +1,15 @@
 -- Sessions that have begun, and jumps of them.
 use Rattle.std.proofs.Common.{◌≡◌, ℕ, Bool, true, false, List, [], ◌∷◌, ◌++◌, refl, sym, ap, subst}
-use Rattle.std.specs.Prelude.{Result, Ok, Err, OnErr, OnOk, if◌then◌else◌}
+use Rattle.std.specs.Prelude.{if◌then◌else◌}
 use Rattle.scm_errors.specs.declared.error.RecordError.{RecordError}
 use Rattle.scm_types.specs.declared.keys.SelectionKey.{SelectionKey}
 use Rattle.scm_input.specs.declared.events.Event.{Event}
 use Rattle.scm_types.specs.declared.state.RecordState.{RecordState}
 use Rattle.scm_input.specs.declared.inputs.TerminalKind.{TerminalKind}
 use Rattle.scm_record.specs.Session.{start}
-use Rattle.scm_record.specs.Live.{Live, LiveEdit, on_screen}
+use Rattle.scm_record.specs.Live.{Live, LiveEdit}
 use Rattle.scm_record.specs.Jumps.{can_select, after_jump, after_selecting}
-use Rattle.scm_record.specs.LiveCalls.{Call, Press, PressAll, Say, Resize, Path, still, press, press_all, say, resize, BatchLeads, EventFails, EventLeads, MessageLeads}
+use Rattle.scm_record.specs.LiveCalls.{Call, Press, PressAll, Say, Path, still, press, press_all, say, BatchLeads, EventFails, EventLeads, MessageLeads}
 use Rattle.scm_record.specs.declared.live.Turn.{Turn}
 use Rattle.scm_record.specs.declared.live.Turn.TheVariants.{Waiting, Editing}
 use Rattle.scm_record.proofs.PathLemmas.{path-after}
@@ -71,11 +71,6 @@ pub jump-of : (l self next : Live) (key : SelectionKey) → HasBegun (Waiting l)
 jump-of l self next key b e same =
     let way = jump-leads l key b in
     (way.0, subst (λ (x : Live). JumpLeads x key way.0 next) e (subst (λ (x : Live). JumpLeads l key way.0 x) (sym same) way.1))
-
-pub by-screen : (result : Result Unit RecordError) (old new : Live) (kind : TerminalKind) → OnOk result (new ≡ on_screen old kind) → OnErr result (new ≡ old)
-    → HasBegun (Waiting old) → HasBegun (Waiting new)
-by-screen (Ok x) old new kind e f b = subst (λ (l : Live). HasBegun (Waiting l)) (sym e) (begun-on (Resize kind ∷ []) (resize still) b)
-by-screen (Err error) old new kind e f b = subst (λ (l : Live). HasBegun (Waiting l)) (sym f) b
 
 -- ---- calls one after another
 

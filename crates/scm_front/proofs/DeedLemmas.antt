@@ -44,10 +44,6 @@ deed-done l mid deed turn e j g = record {
   event = subst (λ (next : Live). EventLeads next (event_of deed) turn) e g;
 }
 
-pub deed-fails : (l mid : Live) (deed : Deed) (error : RecordError) → ((calls : List Call) × JumpLeads l (key_of deed) calls mid)
-    → EventFails mid (event_of deed) error → SessionFails l error
-deed-fails l mid deed error j h = failed j.0 mid (event_of deed) (jump-path j.1) h
-
 -- ---- a list of deeds
 
 same-live-of : {a b : Live} → Waiting a ≡ Waiting b → b ≡ a

@@ -32,8 +32,10 @@ use Rattle.scm_front.specs.Asking.{after_typing, with_word}
 use Rattle.scm_front.specs.Begun.{JumpLeads}
 use Rattle.scm_front.specs.Deeds.{RoundLeads}
 use Rattle.scm_front.specs.Keeping.{KeepsAs, saying, anchored, after_range, steps_of, done_word, nothing_left, other_way}
-use Rattle.scm_front.specs.Handing.{HandsIn, HandsOn}
-use Rattle.scm_front.specs.Recording.{BeginsAnewAt, RecordsAt, RemembersAt, RestartsAt, Returns, back_of}
+use Rattle.scm_front.specs.declared.recording.Author.{Author}
+use Rattle.scm_front.specs.declared.recording.Author.TheVariants.{User, Program}
+use Rattle.scm_front.specs.Handing.{HandsOn}
+use Rattle.scm_front.specs.Recording.{BeginsAnewAt, RecordsAt, RemembersAt, Returns, back_of}
 use Rattle.scm_front.specs.Restoring.{RestoresTo}
 use Rattle.scm_front.specs.Fronts.{Does, passes, types, misses, jumps, seeks, ranges, marks, lacks, restores, front, front_of, found, heard, is_elsewhere, HasMarks, IsGiven, RemembersIn, beneath_of, files_of, marks_of, selection_of, range_deeds, restoring}
 use Rattle.scm_front.proofs.FrontLemmas.{beneath-is}
@@ -51,28 +53,17 @@ pub own-word : (old new : Kept) (anchor : SelectionKey) (word : Notice) → Keep
 own-word old new anchor word k = record { anchor = k.anchor; word = refl; keys = k.keys }
 
 -- what is made of a turn to which events led
-pub handed-on : (turn : Turn) (query q : Query) (kept mid new : Kept) (before : Option (List Run)) (result : FrontTurn) → result ≡ front_of turn q new
-    → q ≡ with_word query false → new ≡ saying mid notices.Nothing → KeepsAs kept kept.anchor kept.word mid → RecordsAt kept.history before turn mid.history
-    → HandsOn turn query kept before result
-handed-on turn query q kept mid new before result e word says keeps records = record {
+pub handed-on : (turn : Turn) (query q : Query) (kept mid new : Kept) (author : Author) (before : Option (List Run)) (result : FrontTurn) → result ≡ front_of turn q new
+    → q ≡ with_word query false → new ≡ saying mid notices.Nothing → KeepsAs kept kept.anchor kept.word mid → RecordsAt author kept.history before turn mid.history
+    → HandsOn turn query kept author before result
+handed-on turn query q kept mid new author before result e word says keeps records = record {
   new = new;
   is = e ∙ ap (λ (x : Query). front_of turn x new) word;
   keeps = subst (KeepsAs kept kept.anchor notices.Nothing) (sym says) (saying-keeps kept mid kept.anchor notices.Nothing kept.word keeps);
-  records = subst (λ (k : Kept). RecordsAt kept.history before turn k.history) (sym says) records;
+  records = subst (λ (k : Kept). RecordsAt author kept.history before turn k.history) (sym says) records;
 }
 
--- the same of events of a program
-pub handed-in : (turn : Turn) (query q : Query) (kept mid new : Kept) (before : Option (List Run)) (result : FrontTurn) → result ≡ front_of turn q new
-    → q ≡ with_word query false → new ≡ saying mid notices.Nothing → KeepsAs kept kept.anchor kept.word mid → RestartsAt kept.history before turn mid.history
-    → HandsIn turn query kept before result
-handed-in turn query q kept mid new before result e word says keeps restarts = record {
-  new = new;
-  is = e ∙ ap (λ (x : Query). front_of turn x new) word;
-  keeps = subst (KeepsAs kept kept.anchor notices.Nothing) (sym says) (saying-keeps kept mid kept.anchor notices.Nothing kept.word keeps);
-  restarts = subst (λ (k : Kept). RestartsAt kept.history before turn k.history) (sym says) restarts;
-}
-
-pub is-given : (f : Front) (turn : Turn) (before : Option (List Run)) (result : FrontTurn) → (h : HandsIn turn f.query f.kept before result)
+pub is-given : (f : Front) (turn : Turn) (before : Option (List Run)) (result : FrontTurn) → (h : HandsOn turn f.query f.kept Program before result)
     → BeginsAnewAt (marks_of f) f.kept.history turn h.new.history → IsGiven f result
 is-given f turn before result h anew =
     let same : turn ≡ beneath_of result = beneath-is turn (with_word f.query false) h.new ∙ ap beneath_of (sym h.is) in
@@ -96,7 +87,7 @@ module _ (f : Front) where
   abbrev marks_now : List (List (List Bool))
   marks_now = marks_of_files (files_of f.beneath)
 
-  pub passed : (event : Event) (turn : Turn) (before : Option (List Run)) (result : FrontTurn) → (h : HandsOn turn f.query f.kept before result) → EventLeads f.beneath event turn
+  pub passed : (event : Event) (turn : Turn) (before : Option (List Run)) (result : FrontTurn) → (h : HandsOn turn f.query f.kept User before result) → EventLeads f.beneath event turn
       → RemembersAt marks_now f.kept.history turn h.new.history → Does f (Pass event) (Press event ∷ []) result
   passed event turn before result h leads remembers =
       subst (λ (t : FrontTurn). Does f (Pass event) (Press event ∷ []) t) (sym h.is) (passes turn h.new leads h.keeps remembers)

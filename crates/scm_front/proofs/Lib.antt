@@ -6,6 +6,8 @@ pub mod TurnLemmas
 pub mod ReplayLemmas
 -- sessions that have begun, and jumps of them
 pub mod BegunLemmas
+-- calls that are logged
+pub mod LoggingLemmas
 -- deeds that are done one after another
 pub mod DeedLemmas
 -- deeds that fold again, whatever lines are expanded

@@ -28,6 +28,7 @@ use Rattle.scm_front_items.proofs.ShapeLemmas.{shape-toggled}
 use Rattle.scm_front.specs.Deeds.{DeedDone, DeedsLead, RoundLeads, does, done, ends, event_of, is_due, leaves, returns, skips}
 use Rattle.scm_front.specs.Fronts.{files_of, range_deeds, range_lines, selection_of}
 use Rattle.scm_front.specs.declared.recording.Reach.TheVariants.{Item, Nothing}
+use Rattle.scm_front.specs.declared.recording.Author.TheVariants.{User}
 use Rattle.scm_front.specs.Recording.{RecordsAt, RemembersAt, reach_of}
 use Rattle.scm_front.proofs.EffectLemmas.{After, as_was, by_all, by_item}
 use Rattle.scm_front.proofs.RangeLemmas.{selecting-files}
@@ -160,7 +161,7 @@ module _ (l : Live) (anchor : SelectionKey) where
   -- so what is kept of a range leads back
   pub range-remembers : (turn : Turn) (old new : History) (before : Option (List Run)) {deeds : List Deed} {back : SelectionKey} → l.session.pending ≡ []
       → IfSome before (λ (runs : List Run). runs ≡ runs_of_range anchor (selection_of l) (files_of l)) → deeds ≡ range_deeds l anchor
-      → ((calls : List Call) × RoundLeads l deeds back calls turn) → RecordsAt old before turn new → RemembersAt (marks_of_files (files_of l)) old turn new
+      → ((calls : List Call) × RoundLeads l deeds back calls turn) → RecordsAt User old before turn new → RemembersAt (marks_of_files (files_of l)) old turn new
   range-remembers turn old new before {deeds} {back} calm taken same led r =
       let round = subst (λ (list : List Deed). RoundLeads l list back led.0 turn) same led.1 in
       turn-remembers (files_of l) (runs_of_range anchor (selection_of l) (files_of l)) (Stays (files_of l) first_file last_file)

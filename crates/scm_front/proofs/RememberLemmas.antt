@@ -27,9 +27,10 @@ use Rattle.scm_front_items.proofs.ToggleRunLemmas.{toggle-restores}
 use Rattle.scm_front.specs.Begun.{HasBegun}
 use Rattle.scm_front.specs.Fronts.{files_of}
 use Rattle.scm_front.specs.Presses.{PressesLead, calls_of}
+use Rattle.scm_front.specs.declared.recording.Author.TheVariants.{User, Program}
 use Rattle.scm_front.specs.declared.recording.Reach.{Reach}
 use Rattle.scm_front.specs.declared.recording.Reach.TheVariants.{Nothing, Item, All}
-use Rattle.scm_front.specs.Recording.{BeginsAnew, BeginsAnewAt, Records, RecordsAt, RecordsUnread, Remembers, RemembersAt, Restarts, RestartsAt, begun_anew, effect_of, forgets, forgets_all, forgotten, keeps, marks_stay, may_mark, reach_of, reach_of_all, remembered, runs_changed, runs_stay, runs_unknown, runs_within, stays, stays_so, unchanged}
+use Rattle.scm_front.specs.Recording.{BeginsAnew, BeginsAnewAt, Records, RecordsAt, RecordsUnread, Remembers, RemembersAt, Restarts, begun_anew, effect_of, forgets, forgets_all, forgotten, keeps, marks_stay, may_mark, reach_of, reach_of_all, remembered, runs_changed, runs_stay, runs_unknown, runs_within, stays, stays_so, unchanged}
 use Rattle.scm_front.proofs.EffectLemmas.{After, ArePlain, IsPlain, as_was, by_all, by_item}
 use Rattle.scm_front.proofs.ReachLemmas.{batch-quiet-reach, event-reach, files_at, reaches-shape}
 
@@ -108,12 +109,12 @@ module _ (files : List File) (all : List Run) (P : List File → Type 0) (back :
   unread-begins after h (forgets_all e) = begun_anew e
   unread-begins after h (stays_so e is) = marks_stay (none-changed files after [] refl (back-by after [] e h)) is
 
-  pub turn-begins-anew : (turn : Turn) → FilesAt P turn → RestartsAt old before turn new → BeginsAnewAt (marks_of_files files) old turn new
+  pub turn-begins-anew : (turn : Turn) → FilesAt P turn → RecordsAt Program old before turn new → BeginsAnewAt (marks_of_files files) old turn new
   turn-begins-anew (turns.Waiting l) h r = recorded-begins l.session.shown.state.files h r
   turn-begins-anew (turns.Editing a) h r = unread-begins a.session.shown.state.files h r
   turn-begins-anew (turns.Accepted state) h r = tt
 
-  pub turn-remembers : (turn : Turn) → FilesAt P turn → RecordsAt old before turn new → RemembersAt (marks_of_files files) old turn new
+  pub turn-remembers : (turn : Turn) → FilesAt P turn → RecordsAt User old before turn new → RemembersAt (marks_of_files files) old turn new
   turn-remembers (turns.Waiting l) h r = recorded-remembers l.session.shown.state.files h r
   turn-remembers (turns.Editing a) h r = unread-remembers a.session.shown.state.files h r
   turn-remembers (turns.Accepted state) h r = tt
@@ -136,13 +137,13 @@ some-changed files runs step b is e f none =
 
 -- what is remembered of an action within a reach
 reach-remembers : (files : List File) (reach : Reach) (old new : History) (before : Option (List Run)) → IfSome before (λ (runs : List Run). runs ≡ runs_within files reach)
-    → (turn : Turn) → FilesAt (After files reach) turn → RecordsAt old before turn new → RemembersAt (marks_of_files files) old turn new
+    → (turn : Turn) → FilesAt (After files reach) turn → RecordsAt User old before turn new → RemembersAt (marks_of_files files) old turn new
 reach-remembers files reach old new before taken turn h r =
     turn-remembers files (runs_within files reach) (After files reach) (λ after k. led-back files after reach k) (within-own files reach) old new before taken turn h r
 
 -- the same of events of a program
 reach-begins-anew : (files : List File) (reach : Reach) (old new : History) (before : Option (List Run)) → IfSome before (λ (runs : List Run). runs ≡ runs_within files reach)
-    → (turn : Turn) → FilesAt (After files reach) turn → RestartsAt old before turn new → BeginsAnewAt (marks_of_files files) old turn new
+    → (turn : Turn) → FilesAt (After files reach) turn → RecordsAt Program old before turn new → BeginsAnewAt (marks_of_files files) old turn new
 reach-begins-anew files reach old new before taken turn h r =
     turn-begins-anew files (runs_within files reach) (After files reach) (λ after k. led-back files after reach k) (within-own files reach) old new before taken turn h r
 
@@ -154,13 +155,13 @@ event-after l event (turns.Editing a) calm g = event-reach l event _ calm (g [] 
 event-after l event (turns.Accepted state) calm g = tt
 
 pub event-remembers : (l : Live) (event : Event) (turn : Turn) (old new : History) (before : Option (List Run)) → l.session.pending ≡ []
-    → IfSome before (λ (runs : List Run). runs ≡ runs_within (files_of l) (reach_of l event)) → EventLeads l event turn → RecordsAt old before turn new
+    → IfSome before (λ (runs : List Run). runs ≡ runs_within (files_of l) (reach_of l event)) → EventLeads l event turn → RecordsAt User old before turn new
     → RemembersAt (marks_of_files (files_of l)) old turn new
 event-remembers l event turn old new before calm taken g r =
     reach-remembers (files_of l) (reach_of l event) old new before taken turn (event-after l event turn calm g) r
 
 pub event-begins-anew : (l : Live) (event : Event) (turn : Turn) (old new : History) (before : Option (List Run)) → l.session.pending ≡ []
-    → IfSome before (λ (runs : List Run). runs ≡ runs_within (files_of l) (reach_of l event)) → EventLeads l event turn → RestartsAt old before turn new
+    → IfSome before (λ (runs : List Run). runs ≡ runs_within (files_of l) (reach_of l event)) → EventLeads l event turn → RecordsAt Program old before turn new
     → BeginsAnewAt (marks_of_files (files_of l)) old turn new
 event-begins-anew l event turn old new before calm taken g r =
     reach-begins-anew (files_of l) (reach_of l event) old new before taken turn (event-after l event turn calm g) r
@@ -194,13 +195,13 @@ batch-after l list turn calm g = by-turn turn g (list_any (λ (e : Event). may_m
     by-turn (turns.Accepted state) g b e = tt
 
 pub batch-remembers : (l : Live) (list : List Event) (turn : Turn) (old new : History) (before : Option (List Run)) → l.session.pending ≡ []
-    → IfSome before (λ (runs : List Run). runs ≡ runs_within (files_of l) (reach_of_all list)) → BatchLeads l list turn → RecordsAt old before turn new
+    → IfSome before (λ (runs : List Run). runs ≡ runs_within (files_of l) (reach_of_all list)) → BatchLeads l list turn → RecordsAt User old before turn new
     → RemembersAt (marks_of_files (files_of l)) old turn new
 batch-remembers l list turn old new before calm taken g r =
     reach-remembers (files_of l) (reach_of_all list) old new before taken turn (batch-after l list turn calm g) r
 
 pub batch-begins-anew : (l : Live) (list : List Event) (turn : Turn) (old new : History) (before : Option (List Run)) → l.session.pending ≡ []
-    → IfSome before (λ (runs : List Run). runs ≡ runs_within (files_of l) (reach_of_all list)) → BatchLeads l list turn → RestartsAt old before turn new
+    → IfSome before (λ (runs : List Run). runs ≡ runs_within (files_of l) (reach_of_all list)) → BatchLeads l list turn → RecordsAt Program old before turn new
     → BeginsAnewAt (marks_of_files (files_of l)) old turn new
 batch-begins-anew l list turn old new before calm taken g r =
     reach-begins-anew (files_of l) (reach_of_all list) old new before taken turn (batch-after l list turn calm g) r
@@ -267,7 +268,7 @@ plain-turn l event (turns.Editing a) h calm g = batch-quiet-reach l (event ∷ [
 plain-turn l event (turns.Accepted state) h calm g = tt
 
 pub presses-remember : (l : Live) (list : List Event) (turn : Turn) (old new : History) (before : Option (List Run)) → l.session.pending ≡ []
-    → IfSome before (λ (runs : List Run). runs ≡ runs_within (files_of l) (reach_of_all list)) → PressesLead l list turn → RecordsAt old before turn new
+    → IfSome before (λ (runs : List Run). runs ≡ runs_within (files_of l) (reach_of_all list)) → PressesLead l list turn → RecordsAt User old before turn new
     → RemembersAt (marks_of_files (files_of l)) old turn new
 presses-remember l list turn old new before calm taken g r =
     reach-remembers (files_of l) (reach_of_all list) old new before taken turn (led (list_any (λ (e : Event). may_mark (effect_of e)) list) refl) r

@@ -6,21 +6,16 @@ use Rattle.scm_front.specs.declared.asking.Query.{Query}
 use Rattle.scm_front.specs.declared.kept.Kept.{Kept}
 use Rattle.scm_front.specs.declared.kept.Notice.TheVariants as notices
 use Rattle.scm_front.specs.declared.layer.FrontTurn.{FrontTurn}
+use Rattle.scm_front.specs.declared.recording.Author.{Author}
 use Rattle.scm_front.specs.Asking.{with_word}
 use Rattle.scm_front.specs.Fronts.{front_of}
 use Rattle.scm_front.specs.Keeping.{KeepsAs}
-use Rattle.scm_front.specs.Recording.{RecordsAt, RestartsAt}
+use Rattle.scm_front.specs.Recording.{RecordsAt}
 
--- the turn with what the layer keeps: the marks `before` the events are kept if they changed, and the layer says nothing of the last key
-pub record HandsOn (turn : Turn) (query : Query) (kept : Kept) (before : Option (List Run)) (result : FrontTurn) : Type 0 where
+-- The turn with what the layer keeps: the layer says nothing of the last key. If the marks `before` the events changed, those of the user are
+-- kept, and after those of a program the history begins anew.
+pub record HandsOn (turn : Turn) (query : Query) (kept : Kept) (author : Author) (before : Option (List Run)) (result : FrontTurn) : Type 0 where
   pub new : Kept
   pub is : result ≡ front_of turn (with_word query false) new
   pub keeps : KeepsAs kept kept.anchor notices.Nothing new
-  pub records : RecordsAt kept.history before turn new.history
-
--- the same for events that a program hands in: the history begins anew if the marks `before` the events changed
-pub record HandsIn (turn : Turn) (query : Query) (kept : Kept) (before : Option (List Run)) (result : FrontTurn) : Type 0 where
-  pub new : Kept
-  pub is : result ≡ front_of turn (with_word query false) new
-  pub keeps : KeepsAs kept kept.anchor notices.Nothing new
-  pub restarts : RestartsAt kept.history before turn new.history
+  pub records : RecordsAt author kept.history before turn new.history

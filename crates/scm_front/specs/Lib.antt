@@ -1,5 +1,7 @@
 -- the session beneath: one that has begun, and jumps of it
 pub mod Begun
+-- the log of its calls
+pub mod Logging
 -- what its calls lead to
 pub mod Driving
 -- how it ends in an error

@@ -21,6 +21,8 @@ use Rattle.scm_front_items.specs.Histories.{KeepsStep, no_history}
 use Rattle.scm_front_items.specs.Runs.{marks_of_files, marks_with}
 use Rattle.scm_front_items.specs.Steps.{changed_runs, changed_step, runs_now, runs_of_files, runs_of_key}
 use Rattle.scm_front.specs.Keeping.{other_way, steps_of}
+use Rattle.scm_front.specs.declared.recording.Author.{Author}
+use Rattle.scm_front.specs.declared.recording.Author.TheVariants.{User, Program}
 use Rattle.scm_front.specs.declared.recording.Effect.{Effect}
 use Rattle.scm_front.specs.declared.recording.Effect.TheVariants as effects
 use Rattle.scm_front.specs.declared.recording.Reach.{Reach}
@@ -140,12 +142,6 @@ pub data RecordsUnread (old : History) (before : Option (List Run)) (new : Histo
   forgets_all : new ≡ no_history → RecordsUnread old before new
   stays_so : before ≡ Some [] → new ≡ old → RecordsUnread old before new
 
--- the same by the turn to which the action led; a session that has ended keeps nothing
-abbrev pub RecordsAt : History → Option (List Run) → Turn → History → Type 0
-RecordsAt old before (turns.Waiting l) new = Records old before l.session.shown.state.files new
-RecordsAt old before (turns.Editing a) new = RecordsUnread old before new
-RecordsAt old before (turns.Accepted state) new = Unit {0}
-
 -- ---- what a history keeps of events that a program hands in
 
 -- `new` is kept after `old` and events of a program that left `files`, if these runs were taken before them: the history begins anew if some
@@ -155,11 +151,18 @@ pub data Restarts (old : History) (before : Option (List Run)) (files : List Fil
   runs_stay : (runs : List Run) → before ≡ Some runs → changed_runs files runs ≡ [] → new ≡ old → Restarts old before files new
   runs_changed : (runs : List Run) → before ≡ Some runs → (changed_runs files runs ≡ [] → ⊥) → new ≡ no_history → Restarts old before files new
 
--- the same by the turn to which the events led
-abbrev pub RestartsAt : History → Option (List Run) → Turn → History → Type 0
-RestartsAt old before (turns.Waiting l) new = Restarts old before l.session.shown.state.files new
-RestartsAt old before (turns.Editing a) new = RecordsUnread old before new
-RestartsAt old before (turns.Accepted state) new = Unit {0}
+-- ---- by who made the change
+
+-- what is kept after an action that left `files`
+abbrev pub Changes : Author → History → Option (List Run) → List File → History → Type 0
+Changes User old before files new = Records old before files new
+Changes Program old before files new = Restarts old before files new
+
+-- the same by the turn to which the action led; a session that has ended keeps nothing
+abbrev pub RecordsAt : Author → History → Option (List Run) → Turn → History → Type 0
+RecordsAt author old before (turns.Waiting l) new = Changes author old before l.session.shown.state.files new
+RecordsAt author old before (turns.Editing a) new = RecordsUnread old before new
+RecordsAt author old before (turns.Accepted state) new = Unit {0}
 
 -- ---- marks that are restored
 

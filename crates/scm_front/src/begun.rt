@@ -1,6 +1,8 @@
 //! The session beneath a layer. It began with a state, and calls led to where it is, so a jump to an
-//! item is a batch of moves.
-use scm_record::{Editing, LiveSession, RecordState};
+//! item is a batch of moves. What is logged of the calls led there.
+use crate::accepted::AcceptedState;
+use crate::logging::Logging;
+use scm_record::{Editing, LiveSession};
 use std::marker::Model;
 
 /// A live session that waits for an event.
@@ -8,18 +10,20 @@ use std::marker::Model;
 pub struct Begun<'state> {
     /// The session.
     pub(crate) live: LiveSession<'state>,
+    /// What is logged of its calls.
+    pub(crate) logging: Logging,
 }
 
 impl<'state> Model for Begun<'state> {
     ghost use Rattle.scm_record.specs.Live.{Live};
     ghost use Rattle.scm_record.specs.declared.live.Turn.TheVariants.{Waiting};
-    ghost use Rattle.scm_front.specs.Begun.{HasBegun};
+    ghost use Rattle.scm_front.specs.Logging.{IsBegun};
 
     ghost Value = { Live };
 
     ghost view = { λ s. s.live };
 
-    ghost invariant = { λ s. HasBegun (Waiting s.live) };
+    ghost invariant = { λ s. IsBegun s.logging (Waiting s.live) };
 }
 
 /// A live session that waits for the message of a commit.
@@ -27,6 +31,8 @@ impl<'state> Model for Begun<'state> {
 pub struct BegunEdit<'state> {
     /// The session.
     pub(crate) editing: Editing<'state>,
+    /// What is logged of its calls.
+    pub(crate) logging: Logging,
 }
 
 impl<'state> Model for BegunEdit<'state> {
@@ -34,7 +40,7 @@ impl<'state> Model for BegunEdit<'state> {
     ghost use Rattle.scm_record.specs.Live.{LiveEdit};
     ghost use Rattle.scm_record.specs.contracts.frame.DrawnFrame as drawn;
     ghost use Rattle.scm_record.specs.declared.live.Turn.TheVariants.{Editing};
-    ghost use Rattle.scm_front.specs.Begun.{HasBegun};
+    ghost use Rattle.scm_front.specs.Logging.{IsBegun};
 
     ghost Value = { LiveEdit };
 
@@ -42,7 +48,7 @@ impl<'state> Model for BegunEdit<'state> {
 
     ghost view = { λ s. s.editing };
 
-    ghost invariant = { λ s. HasBegun (Editing s.editing) };
+    ghost invariant = { λ s. IsBegun s.logging (Editing s.editing) };
 }
 
 /// What a call of a session leads to.
@@ -53,5 +59,5 @@ pub enum BegunTurn<'state> {
     /// The session waits for the message of a commit.
     Editing(BegunEdit<'state>),
     /// The session has ended, with the changes of this state accepted.
-    Accepted(RecordState<'state>),
+    Accepted(AcceptedState<'state>),
 }

@@ -16,6 +16,7 @@ ghost use Rattle.scm_input.specs.declared.inputs.TerminalKind.{TerminalKind};
 ghost use Rattle.scm_record.specs.Session.{start};
 ghost use Rattle.scm_record.specs.Keeping.{IsKept};
 ghost use Rattle.scm_record.specs.LiveCalls.{AreRuns, Call, Path};
+ghost use Rattle.scm_record.specs.declared.live.Turn.{Turn};
 ghost use Rattle.scm_record.specs.declared.live.Turn.TheVariants.{Waiting, Accepted};
 ghost use Rattle.scm_front.specs.Presses.{PressesLead};
 ghost use Rattle.scm_types.specs.declared.keys.SelectionKey.{SelectionKey};
@@ -24,6 +25,8 @@ ghost use Rattle.scm_front.specs.Deeds.{RoundLeads};
 ghost use Rattle.scm_front.specs.Free.{IsFree};
 ghost use Rattle.scm_front.specs.Fronts.{Does, FrontPath, Input, beneath_of, files_of, is_restoring, marks_of, range_deeds, selection_of};
 ghost use Rattle.scm_front.specs.Recording.{Recalls};
+ghost use Rattle.scm_front.specs.Logging.{HasLog};
+ghost use Rattle.scm_front.specs.declared.logging.CallLog.{CallLog};
 ghost use Rattle.scm_front.specs.declared.actions.Action.{Action};
 ghost use Rattle.scm_front.specs.declared.actions.Action.TheVariants.{Mark, Pass, Redo, Undo};
 ghost use Rattle.scm_front.specs.declared.kept.Notice.TheVariants.{Redone, Undone};
@@ -55,6 +58,26 @@ pub fn fronts_are_runs()
         → beneath_of turn ≡ Waiting (record { session = start given; kind = kind })
         → FrontPath turn inputs calls last → beneath_of last ≡ Accepted state
         → IsKept given state }
+{
+    sessions_are_runs();
+}
+
+/// Proves that the logged calls are calls of the session beneath, and lead to where it is.
+///
+/// The log begins at the start of a state. It has each call, in order: an event, a batch, a message or
+/// a new size. A jump has its item there, and is one batch of moves. So the same calls of a live session
+/// without a layer are runs that lead there.
+///
+/// This is a law: the function does nothing, and is there for its contract.
+pub fn logged_calls_are_runs()
+    ensures path { (log : CallLog) (turn : Turn) (h : HasLog log turn)
+        → Path (Waiting (record { session = start h.given; kind = log.kind })) h.calls turn }
+    // so they are runs
+    ensures runs { (log : CallLog) (turn : Turn) (h : HasLog log turn)
+        → AreRuns (start h.given) log.kind h.calls turn }
+    // and an accepted state is the one at the start but for marks and messages
+    ensures kept { (log : CallLog) (state : RecordState) (h : HasLog log (Accepted state))
+        → IsKept h.given state }
 {
     sessions_are_runs();
 }

@@ -7,7 +7,7 @@ ghost use Rattle.scm_selection.specs.KeyLists.{is_line};
 ghost use Rattle.scm_record.specs.Session.{message_text, start};
 ghost use Rattle.scm_record.specs.Live.{on_screen};
 ghost use Rattle.scm_record.specs.LiveCalls.{BatchFails, BatchLeads, Call, EventFails, EventLeads, MessageFails, MessageLeads, Path, Press};
-ghost use Rattle.scm_record.specs.declared.live.Turn.TheVariants.{Waiting};
+ghost use Rattle.scm_record.specs.declared.live.Turn.TheVariants.{Editing as EditingTurn, Waiting};
 ghost use Rattle.scm_front_items.specs.declared.items.Way.{Way as Direction};
 ghost use Rattle.scm_front_items.specs.declared.runs.Step.{Step as Past};
 ghost use Rattle.scm_front.specs.declared.kept.Notice.TheVariants.{NotRestored};
@@ -17,23 +17,26 @@ ghost use Rattle.scm_front.specs.Sideways.{sideways_click};
 ghost use Rattle.scm_front.specs.Driving.{turn_of};
 ghost use Rattle.scm_front.specs.Keeping.{IsNew, KeepsAs, after_range, anchored, done_word, is_none, nothing_left, other_way, saying, steps_of};
 ghost use Rattle.scm_front.specs.Presses.{PressesFail, PressesLead};
+ghost use Rattle.scm_front.specs.Logging.{IsLogged};
 ghost use Rattle.scm_front.specs.Failing.{SessionFails};
-ghost use Rattle.scm_front.specs.Handing.{HandsIn, HandsOn};
+ghost use Rattle.scm_front.specs.Handing.{HandsOn};
 ghost use Rattle.scm_front.specs.Restoring.{RestoresTo};
-ghost use Rattle.scm_front.specs.Recording.{RecordsAt, RestartsAt, Returns, back_of};
+ghost use Rattle.scm_front.specs.Recording.{RecordsAt, Returns, back_of};
 ghost use Rattle.scm_front_items.specs.Runs.{marks_of_files, marks_with};
 ghost use Rattle.scm_front.specs.Fronts.{Does, FrontFails, IsGiven, RemembersIn, beneath_of, files_of, front, front_of, found, heard, is_elsewhere, mode_of, notice_of, restoring};
 
+use crate::accepted::AcceptedState;
 use crate::actions::{Action, Mode, OwnKey, action_of};
 use crate::asking::{Query, Typing, after_typing, new_query, with_word};
 use crate::begun::{Begun, BegunEdit, BegunTurn};
 use crate::deeds::do_round;
 use crate::kept::{Kept, Notice};
+use crate::logging::Logging;
 use crate::marking::{
     Restoring, is_restored, range_deeds, restore, runs_of_range, selection_of, what_to_restore,
 };
 use crate::presses::press_each;
-use crate::recording::{history_after, history_after_program, runs_before, runs_before_all};
+use crate::recording::{Author, history_after, runs_before, runs_before_all};
 use crate::starting::{Folds, fold_at_start, select_first};
 use scm_front_items::{History, Run, Step, Way, item_towards};
 use scm_record::keys::is_key;
@@ -73,7 +76,7 @@ pub enum FrontTurn<'state> {
     /// The session beneath waits for the message of a commit.
     Editing(FrontEditing<'state>),
     /// The session has ended, with the changes of this state accepted.
-    Accepted(RecordState<'state>),
+    Accepted(AcceptedState<'state>),
 }
 
 /// Returns `turn` of the session beneath with what the layer keeps.
@@ -127,10 +130,10 @@ fn anchored(kept: Kept, anchor: SelectionKey) -> Kept
     kept
 }
 
-/// Returns `kept` after an action that led to `turn`, if the marks `before` it are these.
-fn recorded(kept: Kept, before: Option<Items<Run>>, turn: &BegunTurn<'_>) -> Kept
+/// Returns `kept` after an action of `author` that led to `turn`, if the marks `before` it are these.
+fn recorded(kept: Kept, author: Author, before: Option<Items<Run>>, turn: &BegunTurn<'_>) -> Kept
     ensures keeps { KeepsAs kept kept.anchor kept.word result }
-    ensures history { RecordsAt kept.history before (turn_of turn.now) result.history }
+    ensures history { RecordsAt author kept.history before (turn_of turn.now) result.history }
 {
     let Kept {
         anchor,
@@ -139,7 +142,7 @@ fn recorded(kept: Kept, before: Option<Items<Run>>, turn: &BegunTurn<'_>) -> Kep
         history,
         alloc,
     } = kept;
-    let history = history_after(history, alloc, before, turn);
+    let history = history_after(history, alloc, author, before, turn);
     Kept {
         anchor,
         word,
@@ -149,53 +152,18 @@ fn recorded(kept: Kept, before: Option<Items<Run>>, turn: &BegunTurn<'_>) -> Kep
     }
 }
 
-/// Returns `turn`, to which events led, with what the layer keeps after them, if the marks `before` them
-/// are these. What the layer said of the last key is over.
+/// Returns `turn`, to which events of `author` led, with what the layer keeps after them, if the marks
+/// `before` them are these. What the layer said of the last key is over.
 fn handed<'state>(
     turn: BegunTurn<'state>,
     query: Query,
     kept: Kept,
+    author: Author,
     before: Option<Items<Run>>,
 ) -> FrontTurn<'state>
-    ensures { HandsOn (turn_of turn.entry) query kept before result }
+    ensures { HandsOn (turn_of turn.entry) query kept author before result }
 {
-    let kept = saying(recorded(kept, before, &turn), Notice::Nothing);
-    front_turn(turn, with_word(query, false), kept)
-}
-
-/// Returns `kept` after events of a program that led to `turn`, if the marks `before` them are these.
-fn restarted(kept: Kept, before: Option<Items<Run>>, turn: &BegunTurn<'_>) -> Kept
-    ensures keeps { KeepsAs kept kept.anchor kept.word result }
-    ensures history { RestartsAt kept.history before (turn_of turn.now) result.history }
-{
-    let Kept {
-        anchor,
-        word,
-        keys,
-        history,
-        alloc,
-    } = kept;
-    let history = history_after_program(history, alloc, before, turn);
-    Kept {
-        anchor,
-        word,
-        keys,
-        history,
-        alloc,
-    }
-}
-
-/// Returns `turn`, to which events of a program led, with what the layer keeps after them, if the marks
-/// `before` them are these. What the layer said of the last key is over.
-fn handed_in<'state>(
-    turn: BegunTurn<'state>,
-    query: Query,
-    kept: Kept,
-    before: Option<Items<Run>>,
-) -> FrontTurn<'state>
-    ensures { HandsIn (turn_of turn.entry) query kept before result }
-{
-    let kept = saying(restarted(kept, before, &turn), Notice::Nothing);
+    let kept = saying(recorded(kept, author, before, &turn), Notice::Nothing);
     front_turn(turn, with_word(query, false), kept)
 }
 
@@ -438,7 +406,7 @@ impl<'state> Front<'state> {
         } = self;
         let before = runs_before(kept.alloc, &beneath, event);
         let turn = beneath.handle(event)?;
-        Ok(handed(turn, query, kept, before))
+        Ok(handed(turn, query, kept, Author::User, before))
     }
 
     /// Hands `events` to the session beneath as one batch, as [`LiveSession::handle_all`] does.
@@ -460,7 +428,7 @@ impl<'state> Front<'state> {
         } = self;
         let before = runs_before_all(kept.alloc, &beneath, events);
         let turn = beneath.handle_all(events)?;
-        Ok(handed(turn, query, kept, before))
+        Ok(handed(turn, query, kept, Author::User, before))
     }
 
     /// Hands in `event` of a program to the session beneath. What a program changes is not the user's to
@@ -482,7 +450,7 @@ impl<'state> Front<'state> {
         } = self;
         let before = runs_before(kept.alloc, &beneath, event);
         let turn = beneath.handle(event)?;
-        Ok(handed_in(turn, query, kept, before))
+        Ok(handed(turn, query, kept, Author::Program, before))
     }
 
     /// Hands in `events` of a program to the session beneath as one batch. If marks change, the history
@@ -504,7 +472,7 @@ impl<'state> Front<'state> {
         } = self;
         let before = runs_before_all(kept.alloc, &beneath, events);
         let turn = beneath.handle_all(events)?;
-        Ok(handed_in(turn, query, kept, before))
+        Ok(handed(turn, query, kept, Author::Program, before))
     }
 
     /// Hands `events` to the session beneath in order, up to the first that ends the session or asks
@@ -527,7 +495,7 @@ impl<'state> Front<'state> {
         } = self;
         let before = runs_before_all(kept.alloc, &beneath, events);
         let turn = press_each(beneath, events)?;
-        let kept = recorded(kept, before, &turn);
+        let kept = recorded(kept, Author::User, before, &turn);
         Ok(front_turn(turn, query, kept))
     }
 
@@ -707,7 +675,10 @@ impl<'state> Front<'state> {
         let deeds = range_deeds(kept.alloc, &beneath, anchor)?;
         let back = selection_of(&beneath);
         let turn = do_round(beneath, deeds.as_slice(), back)?;
-        let kept = anchored(recorded(kept, before, &turn), SelectionKey::None);
+        let kept = anchored(
+            recorded(kept, Author::User, before, &turn),
+            SelectionKey::None,
+        );
         Ok(front_turn(turn, with_word(query, false), saying(kept, Notice::Nothing)))
     }
 
@@ -797,6 +768,25 @@ impl<'state> Front<'state> {
         self.beneath.resize(kind)
     }
 
+    /// Begins to log the calls of the session beneath, if none was made yet, and returns whether they are
+    /// logged. The log goes on to the accepted state ([`AcceptedState::logging`]). An error drops it with
+    /// the session.
+    ///
+    /// If an allocation fails for the log, the session goes on without it: [`Front::logging`] returns
+    /// [`Logging::Lost`] then.
+    pub fn log(&mut self) -> bool
+        ensures { self.new ≡ self.old }
+    {
+        self.beneath.log(self.kept.alloc)
+    }
+
+    /// Returns what is logged of the calls of the session beneath.
+    pub fn logging(&self) -> &Logging
+        ensures { IsLogged result.now (Waiting self.now.beneath) }
+    {
+        self.beneath.logging()
+    }
+
     /// Returns the session beneath, to read.
     pub fn beneath(&self) -> &LiveSession<'state>
         ensures { result.now ≡ self.now.beneath }
@@ -835,6 +825,13 @@ impl<'state> Front<'state> {
 }
 
 impl<'state> FrontEditing<'state> {
+    /// Returns what is logged of the calls of the session beneath.
+    pub fn logging(&self) -> &Logging
+        ensures { IsLogged result.now (EditingTurn self.now.beneath) }
+    {
+        self.beneath.logging()
+    }
+
     /// Returns the session beneath, to read the message that is edited.
     pub fn beneath(&self) -> &Editing<'state>
         ensures { result.now ≡ self.now.beneath }

@@ -5,6 +5,7 @@
 //! typed, the session beneath goes through calls of a live session ([`laws::fronts_are_runs`]).
 #![tactic(auto)]
 
+mod accepted;
 mod actions;
 mod asking;
 mod begun;
@@ -13,15 +14,18 @@ mod driving;
 mod kept;
 pub mod laws;
 pub mod layer;
+mod logging;
 mod marking;
 mod presses;
 mod recording;
 mod starting;
 mod typed;
 
+pub use accepted::AcceptedState;
 pub use actions::{Action, Mode, OwnKey, action_of};
 pub use asking::{Query, Typing};
 pub use kept::{Kept, Notice};
 pub use layer::{Front, FrontEditing, FrontTurn};
+pub use logging::{CallLog, LoggedCall, Logging};
 pub use scm_front_items::{Way, item_towards};
 pub use starting::Folds;

@@ -4,12 +4,21 @@ ghost use Rattle.std.specs.List.{list_any};
 ghost use Rattle.scm_input.specs.declared.events.Event.{Event as Input};
 ghost use Rattle.scm_front.specs.Driving.{turn_of};
 ghost use Rattle.scm_front.specs.Fronts.{files_of};
-ghost use Rattle.scm_front.specs.Recording.{Records, RecordsAt, RecordsUnread, Restarts, RestartsAt, effect_of, may_mark, reach_by, reach_of, reach_of_all, reach_of_item, reach_of_owner, runs_within};
+ghost use Rattle.scm_front.specs.Recording.{Changes, Records, RecordsAt, RecordsUnread, Restarts, effect_of, may_mark, reach_by, reach_of, reach_of_all, reach_of_item, reach_of_owner, runs_within};
 
 use crate::begun::{Begun, BegunTurn};
 use scm_front_items::{History, Run, steps};
 use scm_record::{ComponentId, Event, File, Items, SelectionKey, menus};
 use std::alloc::Global;
+
+/// Who changes marks.
+#[derive(Clone, Copy)]
+pub enum Author {
+    /// The user. What the user changes can be undone.
+    User,
+    /// A program. What it changes is not the user's to undo.
+    Program,
+}
 
 /// What an event does with marks.
 #[derive(Clone, Copy)]
@@ -263,39 +272,37 @@ fn recorded_unread(history: History, alloc: Global, before: Option<Items<Run>>) 
     }
 }
 
-/// Returns `history` after an action that led to `turn`, if the marks `before` it are these. If the
-/// session has ended, nothing is kept of the action.
-pub(crate) fn history_after(
+/// Returns `history` after an action of `author` that left `files`, if the marks `before` it are these.
+fn changed(
     history: History,
     alloc: Global,
+    files: &[File<'_>],
+    author: Author,
     before: Option<Items<Run>>,
-    turn: &BegunTurn<'_>,
 ) -> History
-    ensures { RecordsAt history before (turn_of turn.now) result }
+    ensures { Changes author history before files.now result }
 {
-    match turn {
-        BegunTurn::Waiting(session) => {
-            let files = session.live().state().files.as_slice();
-            recorded(history, alloc, files, before)
-        }
-        BegunTurn::Editing(_) => recorded_unread(history, alloc, before),
-        BegunTurn::Accepted(_) => history,
+    match author {
+        Author::User => recorded(history, alloc, files, before),
+        Author::Program => restarted(history, alloc, files, before),
     }
 }
 
-/// Returns `history` after events of a program that led to `turn`, if the marks `before` them are these.
-pub(crate) fn history_after_program(
+/// Returns `history` after an action of `author` that led to `turn`, if the marks `before` it are these.
+/// If the session has ended, nothing is kept of the action.
+pub(crate) fn history_after(
     history: History,
     alloc: Global,
+    author: Author,
     before: Option<Items<Run>>,
     turn: &BegunTurn<'_>,
 ) -> History
-    ensures { RestartsAt history before (turn_of turn.now) result }
+    ensures { RecordsAt author history before (turn_of turn.now) result }
 {
     match turn {
         BegunTurn::Waiting(session) => {
             let files = session.live().state().files.as_slice();
-            restarted(history, alloc, files, before)
+            changed(history, alloc, files, author, before)
         }
         BegunTurn::Editing(_) => recorded_unread(history, alloc, before),
         BegunTurn::Accepted(_) => history,

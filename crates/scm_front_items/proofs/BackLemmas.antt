@@ -2,7 +2,7 @@
 use Rattle.std.proofs.Common.{◌≡◌, ◌≢◌, ℕ, zero, suc, ◌+◌, ◌-◌, ◌<◌, ◌≤◌, min, Bool, true, false, ◌&&◌, List, [], ◌∷◌, fold, set, length, take, drop, refl, sym, ap, ◌∙◌, subst, ◌⊎◌, inl, inr, arith}
 use Rattle.std.specs.Prelude.{nat_le, nat_lt, slice_get}
 use Rattle.std.specs.List.{list_all}
-use Rattle.std.proofs.lemmas.Bool.{and_parts, cases_eq}
+use Rattle.std.proofs.lemmas.Bool.{and_parts, cases_eq, false≢true}
 use Rattle.std.proofs.lemmas.Bool.Decides.{nat_tests}
 use Rattle.std.proofs.lemmas.List.{length-drop, length-take}
 use Rattle.std.proofs.lemmas.Option.{slice_get_cases, slice_get_past}
@@ -46,13 +46,10 @@ abbrev is_inside : ℕ → ℕ → ℕ → Bool
 is_inside first n i = nat_le first i && nat_lt i (first + n)
 
 outside-differs : (first n i : ℕ) → is_inside first (suc n) i ≡ false → first ≢ i
-outside-differs first n i out is = no (sym out ∙ ap (λ (k : ℕ). is_inside first (suc n) k) (sym is) ∙ at-first)
+outside-differs first n i out is = false≢true (sym out ∙ ap (λ (k : ℕ). is_inside first (suc n) k) (sym is) ∙ at-first)
   where
     at-first : is_inside first (suc n) first ≡ true
     at-first = grind (arith, nat_tests)
-
-    no : false ≡ true → ⊥
-    no e = cc e
 
 outside-next : (first n i : ℕ) → is_inside first (suc n) i ≡ false → is_inside (first + 1) n i ≡ false
 outside-next first n i out = grind (arith, nat_tests, out)

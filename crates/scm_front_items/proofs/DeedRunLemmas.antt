@@ -2,7 +2,7 @@
 use Rattle.std.proofs.Common.{◌≡◌, ◌≢◌, ℕ, ◌<◌, ◌≤◌, min, max, Bool, true, false, cond, ◌&&◌, ◌||◌, List, [], ◌∷◌, length, refl, sym, ap, ◌∙◌, Option, arith}
 use Rattle.std.specs.Prelude.{not, nat_le, nat_lt, filter, slice_get}
 use Rattle.std.specs.List.{list_all}
-use Rattle.std.proofs.lemmas.Bool.{and_parts}
+use Rattle.std.proofs.lemmas.Bool.{and_parts, false≢true}
 use Rattle.std.proofs.lemmas.Bool.Decides.{nat_tests}
 use Rattle.std.proofs.lemmas.Option.{slice_get_within}
 use Rattle.scm_types.specs.declared.file.File.{File}
@@ -92,10 +92,7 @@ deed-outside files (Fold key) f ne = refl
 
 -- a file outside is not that of a key inside
 pub number-outside : (first last f n : ℕ) → (nat_le first f && nat_le f last) ≡ false → (nat_le first n && nat_le n last) ≡ true → n ≢ f
-number-outside first last f n outside inside is = absurd (false-is-not-true (sym outside ∙ sym (ap (λ (x : ℕ). nat_le first x && nat_le x last) is) ∙ inside))
-  where
-    false-is-not-true : false ≡ true → ⊥
-    false-is-not-true e = cc e
+number-outside first last f n outside inside is = absurd (false≢true (sym outside ∙ sym (ap (λ (x : ℕ). nat_le first x && nat_le x last) is) ∙ inside))
 
 deeds-outside : (files : List File) (deeds : List Deed) (first last : ℕ) → list_all (λ (d : Deed). is_file_within first last (key_of d)) deeds ≡ true
     → StaysOutside first last files (after_deeds files deeds)
@@ -116,10 +113,7 @@ not-less m n b e = by_test (nat_lt m n) refl
   where
     by_test : (t : Bool) → nat_lt m n ≡ t → n ≤ m
     by_test false less = grind (arith, nat_tests, less)
-    by_test true less = absurd (true-twice (sym (ap (λ (x : Bool). not (x || b)) less) ∙ e))
-      where
-        true-twice : false ≡ true → ⊥
-        true-twice x = cc x
+    by_test true less = absurd (false≢true (sym (ap (λ (x : Bool). not (x || b)) less) ∙ e))
 
 from-first : (p k : SelectionKey) → is_line k ≡ true → not (is_above k p) ≡ true → file_number p ≤ file_number k
 from-first p keys.None line e = absurd (cc line)

@@ -1,5 +1,5 @@
 -- Steps that are kept within the bounds.
-use Rattle.std.proofs.Common.{◌≡◌, ◌==◌, ℕ, suc, Bool, true, false, List, [], ◌∷◌, length, drop, refl, sym, ap, ◌∙◌, subst, arith}
+use Rattle.std.proofs.Common.{◌≡◌, ◌==◌, ℕ, suc, Bool, true, false, List, [], ◌∷◌, length, drop, true≢false, refl, sym, ap, ◌∙◌, subst, arith}
 use Rattle.std.specs.Prelude.{IsTrue}
 use Rattle.scm_front_items.specs.declared.runs.Step.{Step}
 use Rattle.scm_front_items.specs.Histories.{bounded, fits}
@@ -9,15 +9,12 @@ pub bounded-fits : (steps : List Step) → fits steps ≡ true → bounded steps
 bounded-fits [] e = refl
 bounded-fits (s ∷ ss) e = rw e refl
 
-true-is-not-false : true ≡ false → ⊥
-true-is-not-false e = cc
-
 -- and so does nothing
 pub bounded-none : (steps : List Step) (len : ℕ) → length steps ≡ len → true ≡ (len == 0) → bounded steps ≡ steps
 bounded-none [] len e f = refl
 bounded-none (s ∷ ss) len e f =
     let some : (length (s ∷ ss) == 0) ≡ false = grind arith in
-    absurd (true-is-not-false (f ∙ ap (λ (n : ℕ). n == 0) (sym e) ∙ some))
+    absurd (true≢false (f ∙ ap (λ (n : ℕ). n == 0) (sym e) ∙ some))
 
 -- else the oldest is dropped
 pub bounded-less : (steps : List Step) → fits steps ≡ false → bounded steps ≡ bounded (drop 1 steps)

@@ -2,7 +2,7 @@
 use Rattle.std.proofs.Common.{◌≡◌, ◌≢◌, ℕ, zero, suc, Bool, true, false, cond, ◌&&◌, ◌||◌, List, [], ◌∷◌, map, refl, sym, ap, ◌∙◌, subst, Option, Some, None, inl, inr, arith}
 use Rattle.std.specs.Prelude.{filter, nat_eq, nat_lt, not, length, option_map, option_and_then, slice_get}
 use Rattle.std.specs.List.{list_all, list_any}
-use Rattle.std.proofs.lemmas.Bool.{and_parts, cases_eq}
+use Rattle.std.proofs.lemmas.Bool.{and_parts, and_right, cases_eq, or_parts}
 use Rattle.std.proofs.lemmas.Bool.Decides.{nat_tests}
 use Rattle.std.proofs.lemmas.Option.{slice_get-map, slice_get_within}
 use Rattle.scm_types.specs.Edits.{modify}
@@ -156,14 +156,6 @@ line-kept files k j ne = elim (cases_eq k.file_idx j.file_idx) [
 
 -- ---- the keys of a list
 
-and-false : (b : Bool) → (b && false) ≡ false
-and-false true = refl
-and-false false = refl
-
-neither : (a b : Bool) → (a || b) ≡ false → (a ≡ false) × (b ≡ false)
-neither true b e = absurd (cc e)
-neither false b e = (refl, e)
-
 the-first : (a b : Bool) → (a || b) ≡ true → b ≡ false → a ≡ true
 the-first true b e f = refl
 the-first false b e f = cc
@@ -218,7 +210,7 @@ step-sets files mark j c = by_line (at files j) refl
     by_mark : (l : Line) → at files j ≡ Some l → (b : Bool) → is_as mark l.is_checked ≡ b → wanted (at (after_target files (target (keys.Line j) mark)) j) ≡ true
     by_mark l e true is =
         let marked : wanted (at files j) ≡ true = ap wanted e ∙ is in
-        after-test false (ap (λ (w : Bool). is_key_of files (keys.Line j) && not w) marked ∙ and-false (is_key_of files (keys.Line j))) marked
+        after-test false (ap (λ (w : Bool). is_key_of files (keys.Line j) && not w) marked ∙ and_right (is_key_of files (keys.Line j)) false refl) marked
     by_mark l e false is =
         let there : is_key_of files (keys.Line j) ≡ true = within j.commit_idx (lines_at (sections_at files j.file_idx) j.section_idx) j.line_idx l c e in
         let undone : (is_key_of files (keys.Line j) && not (wanted (at files j))) ≡ true = ap (λ (h : Bool). h && not (wanted (at files j))) there ∙ ap not (ap wanted e ∙ is) in
@@ -227,7 +219,7 @@ step-sets files mark j c = by_line (at files j) refl
     by_line : (o : Option Line) → at files j ≡ o → wanted (at (after_target files (target (keys.Line j) mark)) j) ≡ true
     by_line None e =
         let marked : wanted (at files j) ≡ true = ap wanted e in
-        after-test false (ap (λ (w : Bool). is_key_of files (keys.Line j) && not w) marked ∙ and-false (is_key_of files (keys.Line j))) marked
+        after-test false (ap (λ (w : Bool). is_key_of files (keys.Line j) && not w) marked ∙ and_right (is_key_of files (keys.Line j)) false refl) marked
     by_line (Some l) e = by_mark l e (is_as mark l.is_checked) refl
 
 module _ (mark : Bool) (j : LineKey) (c : j.commit_idx ≡ 0) where
@@ -236,7 +228,7 @@ module _ (mark : Bool) (j : LineKey) (c : j.commit_idx ≡ 0) where
   keeps-all [] files l h = refl
   keeps-all (k ∷ ks) files l h =
       let parts = and_parts (is_line k) (list_all is_line ks) l in
-      let others = neither (is_key (keys.Line j) k) (has_key ks (keys.Line j)) h in
+      let others = or_parts (is_key (keys.Line j) k) (has_key ks (keys.Line j)) h in
       keeps-all ks (after_target files (target k mark)) parts.1 others.1 ∙ step-kept files mark k j c parts.0 others.0
 
   pub sets-all : (ks : List SelectionKey) (files : List File) → list_all is_line ks ≡ true → has_key ks (keys.Line j) ≡ true
@@ -293,7 +285,7 @@ mode-same (sections.Binary is_checked old new) e = refl
 all-same : (g : Section → Section) → ((s : Section) → is_mode_section s ≡ false → g s ≡ s) → (list : List Section) → list_any is_mode_section list ≡ false → map g list ≡ list
 all-same g f [] e = refl
 all-same g f (s ∷ ss) e =
-    let parts = neither (is_mode_section s) (list_any is_mode_section ss) e in
+    let parts = or_parts (is_mode_section s) (list_any is_mode_section ss) e in
     rw (f s parts.0, all-same g f ss parts.1) refl
 
 either-same : (b : Bool) (list : List Section) → list_any is_mode_section list ≡ false → cond b (map with_mode_checked list) list ≡ list

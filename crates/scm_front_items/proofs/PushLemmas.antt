@@ -1,7 +1,6 @@
 -- Lists that grow by a loop, item by item.
-use Rattle.std.proofs.Common.{◌≡◌, ℕ, ◌+◌, ◌<◌, Bool, true, false, List, [], ◌∷◌, ◌++◌, length, drop, get_or, map, sym, ap, ◌∙◌, append_assoc}
+use Rattle.std.proofs.Common.{◌≡◌, ℕ, ◌+◌, ◌<◌, Bool, true, false, List, [], ◌∷◌, ◌++◌, length, drop, sym, ap, ◌∙◌, append_assoc}
 use Rattle.std.specs.Prelude.{filter, if◌then◌else◌}
-use Rattle.std.proofs.lemmas.List.{drop_more}
 use Rattle.scm_types.specs.declared.line.SectionChangedLine.{SectionChangedLine}
 use Rattle.scm_types.specs.declared.keys.SelectionKey.{SelectionKey}
 use Rattle.scm_selection.specs.KeyLists.{line_key, line_keys}
@@ -24,17 +23,3 @@ range-more a b keys now file section i lines h e =
     ap (λ (ks : List SelectionKey). ks ++ rest) e
     ∙ either-more (is_between a b (line_key file section i)) keys (line_key file section i) rest
     ∙ ap (λ (ks : List SelectionKey). keys ++ filter (is_in_range a b) ks) (sym (line_keys-drop file section i i lines h))
-
--- one element more, of a list that is made element by element
-pub map-more : {X Y : Type 0} (f : X → Y) (done : List Y) (xs : List X) (i : ℕ) (d : X) → i < length xs
-    → (done ++ f (get_or xs i d) ∷ []) ++ map f (drop (i + 1) xs) ≡ done ++ map f (drop i xs)
-map-more f done xs i d h =
-    append_assoc done (f (get_or xs i d) ∷ []) (map f (drop (i + 1) xs))
-    ∙ ap (λ (list : List _). done ++ map f list) (sym (drop_more xs i d h))
-
--- the same where each element adds a list
-pub lists-more : {X Y : Type 0} (F : List X → List Y) (f : X → List Y) → ((x : X) (xs : List X) → F (x ∷ xs) ≡ f x ++ F xs)
-    → (done : List Y) (xs : List X) (i : ℕ) (d : X) → i < length xs → (done ++ f (get_or xs i d)) ++ F (drop (i + 1) xs) ≡ done ++ F (drop i xs)
-lists-more F f step done xs i d h =
-    append_assoc done (f (get_or xs i d)) (F (drop (i + 1) xs))
-    ∙ ap (λ (list : List _). done ++ list) (sym (step (get_or xs i d) (drop (i + 1) xs)) ∙ ap F (sym (drop_more xs i d h)))

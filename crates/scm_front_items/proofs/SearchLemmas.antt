@@ -1,18 +1,13 @@
 -- The item that a search finds, item by item.
-use Rattle.std.proofs.Common.{◌≡◌, ℕ, ◌+◌, ◌≤◌, Bool, true, false, List, [], ◌∷◌, length, drop, fold, refl, sym, ap, ◌∙◌, Option, Some, None}
-use Rattle.std.specs.Prelude.{slice_get, if◌then◌else◌}
+use Rattle.std.proofs.Common.{◌≡◌, ℕ, ◌≤◌, Bool, true, false, List, [], ◌∷◌, length, drop, fold, refl, sym, ap, ◌∙◌, Option, Some, None}
+use Rattle.std.specs.Prelude.{if◌then◌else◌}
 use Rattle.std.specs.Option.{option_or}
 use Rattle.std.proofs.lemmas.List.{drop_all}
-use Rattle.std.proofs.lemmas.List.Sums.{fold-append}
 use Rattle.scm_types.specs.declared.file.File.{File}
-use Rattle.scm_types.specs.declared.line.SectionChangedLine.{SectionChangedLine}
-use Rattle.scm_types.specs.declared.section.Section.{Section}
 use Rattle.scm_types.specs.declared.keys.SelectionKey.{SelectionKey}
-use Rattle.scm_selection.specs.KeyLists.{line_key}
-use Rattle.scm_selection.proofs.FindLemmas.{drop-at}
 use Rattle.scm_front_items.specs.declared.items.Way.{Way}
 use Rattle.scm_front_items.specs.declared.items.Way.TheVariants.{Up, Down}
-use Rattle.scm_front_items.specs.Search.{Item, item, line_items, section_items, sections_items, file_items, files_items, first_passing, last_passing, nearest, kept, found_after}
+use Rattle.scm_front_items.specs.Search.{Item, files_items, first_passing, last_passing, nearest, kept, found_after}
 
 -- ---- what is found after all items is the nearest
 
@@ -51,26 +46,6 @@ module _ (test : Item → Bool) where
 -- ---- the items that are left
 
 module _ (way : Way) (test : Item → Bool) where
-  pub lines-next : (file section i : ℕ) (ls : List SectionChangedLine) (l : SectionChangedLine) (found : Option SelectionKey) → slice_get ls i ≡ Some l
-      → fold (found_after way test) found (line_items file section i (drop i ls))
-      ≡ fold (found_after way test) (found_after way test found (item (line_key file section i) l.line)) (line_items file section (i + 1) (drop (i + 1) ls))
-  lines-next file section i ls l found e =
-      ap (λ (rest : List SectionChangedLine). fold (found_after way test) found (line_items file section i rest)) (drop-at ls i l e)
-
-  pub sections-next : (file i : ℕ) (ss : List Section) (s : Section) (found : Option SelectionKey) → slice_get ss i ≡ Some s
-      → fold (found_after way test) found (sections_items file i (drop i ss))
-      ≡ fold (found_after way test) (fold (found_after way test) found (section_items file i s)) (sections_items file (i + 1) (drop (i + 1) ss))
-  sections-next file i ss s found e =
-      ap (λ (rest : List Section). fold (found_after way test) found (sections_items file i rest)) (drop-at ss i s e)
-      ∙ fold-append (found_after way test) found (section_items file i s) (sections_items file (i + 1) (drop (i + 1) ss))
-
-  pub files-next : (i : ℕ) (fs : List File) (f : File) (found : Option SelectionKey) → slice_get fs i ≡ Some f
-      → fold (found_after way test) found (files_items i (drop i fs))
-      ≡ fold (found_after way test) (fold (found_after way test) found (file_items i f)) (files_items (i + 1) (drop (i + 1) fs))
-  files-next i fs f found e =
-      ap (λ (rest : List File). fold (found_after way test) found (files_items i rest)) (drop-at fs i f e)
-      ∙ fold-append (found_after way test) found (file_items i f) (files_items (i + 1) (drop (i + 1) fs))
-
   -- all files are passed
   pub files-end : (i : ℕ) (fs : List File) (found : Option SelectionKey) → length fs ≤ i
       → fold (found_after way test) found (files_items i (drop i fs)) ≡ fold (found_after way test) None (files_items 0 fs)

@@ -2,7 +2,7 @@
 use Rattle.std.proofs.Common.{◌≡◌, ◌≢◌, ℕ, ◌<◌, Bool, true, false, cond, List, [], ◌++◌, map, length, refl, sym, ap, ◌∙◌, subst, Option, Some, None, inl, inr, arith}
 use Rattle.std.specs.Prelude.{not, slice_get, option_map, option_and_then}
 use Rattle.std.proofs.lemmas.Bool.{cases_eq}
-use Rattle.std.proofs.lemmas.Option.{slice_get-map, slice_get_cases}
+use Rattle.std.proofs.lemmas.Option.{same_Some, slice_get-map, slice_get_cases}
 use Rattle.scm_types.specs.declared.line.SectionChangedLine.{SectionChangedLine}
 use Rattle.scm_types.specs.declared.file.File.{File}
 use Rattle.scm_types.specs.declared.file_mode.FileMode.{FileMode}
@@ -232,15 +232,12 @@ module _ (files : List File) (k : SectionKey) where
         covered (among-left (sections_runs true k.file_idx 0 list_of) _ k.file_idx s i (among-sections true k.file_idx list_of s i sec in-list mode h))
     plain-toggled selected e plain false mode = elim (cases_eq k.section_idx s) [
       | inl here ↦
-          let selected_is : selected ≡ sec = some-same (sym e ∙ ap (λ (x : ℕ). slice_get file.sections x) here ∙ at) in
+          let selected_is : selected ≡ sec = same_Some selected sec (sym e ∙ ap (λ (x : ℕ). slice_get file.sections x) here ∙ at) in
           subst (λ (x : ℕ). HeldBy (sections_runs true k.file_idx 0 list_of ++ whole_run k.file_idx k.section_idx (section_marks selected)) x i) here
           (covered (among-right (sections_runs true k.file_idx 0 list_of) _ k.file_idx k.section_idx i
           (among-whole k.file_idx k.section_idx i (section_marks selected) (subst (λ (x : Section). i < length (section_marks x)) (sym selected_is) h))))
       | inr away ↦ left-by _ (Some selected) e (set-leaves file k.section_idx s i sec at mode away selected (mark_after (tristate_of (section_marks selected))) plain)
     ]
-      where
-        some-same : {x y : Section} → Some x ≡ Some y → x ≡ y
-        some-same q = cc q
 
     by-mode : (selected : Section) → slice_get file.sections k.section_idx ≡ Some selected → (b : Bool) → is_mode_section selected ≡ b
         → HeldBy (cond b (sections_runs false k.file_idx 0 list_of) (sections_runs true k.file_idx 0 list_of ++ whole_run k.file_idx k.section_idx (section_marks selected))) s i

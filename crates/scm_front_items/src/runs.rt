@@ -133,7 +133,7 @@ pub(crate) fn is_mode(section: &Section<'_>) -> bool
 }
 
 /// Returns whether `section` has exactly `marks`.
-pub(crate) fn has_marks(section: &Section<'_>, marks: &[bool]) -> bool
+fn has_marks(section: &Section<'_>, marks: &[bool]) -> bool
     ensures { IsTrue result → section_marks section.now ≡ marks.now }
 {
     if mark_count(section) != marks.len() {
@@ -149,7 +149,7 @@ pub(crate) fn has_marks(section: &Section<'_>, marks: &[bool]) -> bool
 }
 
 /// Returns whether `sections` have exactly `marks`, one list a section.
-pub(crate) fn have_marks(sections: &[Section<'_>], marks: &[Items<bool>]) -> bool
+fn have_marks(sections: &[Section<'_>], marks: &[Items<bool>]) -> bool
     ensures { IsTrue result → map section_marks sections.now ≡ marks.now }
 {
     if sections.len() != marks.len() {

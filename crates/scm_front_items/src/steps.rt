@@ -293,7 +293,7 @@ fn is_mark_as(section: &Section<'_>, index: usize, mark: bool) -> bool
 }
 
 /// Returns whether the marks of `section` from item `first` on are `marks`, as far as there are any.
-fn agree(section: &Section<'_>, first: usize, marks: &[bool]) -> bool
+pub(crate) fn agree(section: &Section<'_>, first: usize, marks: &[bool]) -> bool
     ensures { result ≡ agree first marks.now (section_marks section.now) }
 {
     let end = mark_count(section);

@@ -74,11 +74,6 @@ rows-below v is h = let e = rows-are v is in omega arith
 
 -- ---- pictures
 
--- a picture depends on the width and the rows alone
-pub same-picture : (style : ℕ → ℕ → Style) (s t : Screen) → s.width ≡ t.width → s.rows ≡ t.rows → picture style s ≡ picture style t
-same-picture style s t e f =
-    ap₂ (λ (w : ℕ) (rows : List (List Cell)). picture style (record { width = w; rows = rows; counts = no_counts })) e f
-
 pub same-sideways : (x : ℕ) (style : ℕ → ℕ → Style) (s t : Screen) → s.width ≡ t.width → s.rows ≡ t.rows → sideways_picture x style s ≡ sideways_picture x style t
 same-sideways x style s t e f =
     ap₂ (λ (w : ℕ) (rows : List (List Cell)). sideways_picture x style (record { width = w; rows = rows; counts = no_counts })) e f

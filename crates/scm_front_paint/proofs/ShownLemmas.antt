@@ -1,5 +1,5 @@
 -- The styles of a row, with words set off, in a theme.
-use Rattle.std.proofs.Common.{◌≡◌, ℕ, ◌+◌, ◌<◌, ◌≤◌, Bool, List, [], length, get_or, set, map, sym, ap, ap₂, ◌∙◌, subst, arith, ⊎_elim}
+use Rattle.std.proofs.Common.{◌≡◌, ℕ, ◌+◌, ◌<◌, ◌≤◌, Bool, List, length, get_or, set, map, sym, ap, ap₂, ◌∙◌, subst, arith, ⊎_elim}
 use Rattle.std.specs.List.{list_any, range_with_len}
 use Rattle.std.proofs.lemmas.Bool.{cases_eq}
 use Rattle.std.proofs.lemmas.List.{get_or-map, length-map, get_or-set_other, get_or-set_same}
@@ -7,14 +7,9 @@ use Rattle.std.proofs.lemmas.List.FromFn.{fill_by_all, get_or-range_with_len, le
 use Rattle.scm_cells.specs.declared.style.Style.{Style}
 use Rattle.scm_terminal.specs.Style.{plain_style}
 use Rattle.scm_front_paint.specs.declared.themes.Theme.{Theme}
-use Rattle.scm_front_paint.specs.declared.themes.Theme.TheVariants.{Dark}
 use Rattle.scm_front_paint.specs.declared.words.Columns.{Columns}
 use Rattle.scm_front_paint.specs.Themes.{themed}
 use Rattle.scm_front_paint.specs.Words.{has_column, set_off, with_words}
-
--- without words the dark theme keeps a style
-pub kept-dark : (columns : List Columns) → columns ≡ [] → (c : ℕ) (style : Style) → themed Dark (with_words columns c style) ≡ style
-kept-dark columns e c style = ap (λ (cs : List Columns). with_words cs c style) e
 
 -- styles that were restyled place by place
 pub restyled : (theme : Theme) (columns own : List Columns) (style : ℕ → Style) (n : ℕ) (mid new : List Style) → columns ≡ own

@@ -1,5 +1,5 @@
 -- The words that differ in two lines.
-use Rattle.std.proofs.Common.{◌≡◌, ℕ, zero, suc, ◌+◌, ◌<◌, Bool, List, [], ◌∷◌, ◌++◌, length, map, get_or, sym, ap, ◌∙◌, subst, arith, Option, None, inl, inr}
+use Rattle.std.proofs.Common.{◌≡◌, ℕ, zero, suc, ◌+◌, ◌<◌, List, [], ◌∷◌, ◌++◌, length, map, get_or, sym, ap, ◌∙◌, subst, arith, Option, None, inl, inr}
 use Rattle.std.proofs.lemmas.Bool.{cases_lt}
 use Rattle.std.proofs.lemmas.List.{get_or_append_left, get_or_push, get_or-map, length-map, length_push}
 use Rattle.scm_diff.specs.Words.{AreSpans, AreSpansFrom}
@@ -8,8 +8,8 @@ use Rattle.scm_front_paint.specs.declared.words.Columns.{Columns}
 use Rattle.scm_front_paint.specs.LineValue.{LineValue}
 use Rattle.scm_record.specs.Frames.{scene_of}
 use Rattle.scm_record.specs.Live.{Live}
-use Rattle.scm_front_paint.specs.Words.{AreColumns, AreColumnsFor, AreWords, HasBorders, Pair, pair_on}
-use Rattle.scm_front_paint.specs.WordsView.{AreFor, columns_in}
+use Rattle.scm_front_paint.specs.Words.{AreColumnsFor, AreWords, HasBorders, pair_on}
+use Rattle.scm_front_paint.specs.WordsView.{columns_in}
 
 borders-from : (old new : List ℕ) (i j : ℕ) (spans : List WordSpan) (d : WordSpan) → AreSpansFrom old new i j spans → (k : ℕ) → k < length spans → HasBorders old new (get_or spans k d)
 borders-from old new i j [] d are k h = absurd (omega arith)
@@ -24,14 +24,6 @@ borders-from old new i j (s ∷ ss) d are (suc k) h = borders-from old new s.old
 -- each differing part has borders of characters
 pub borders : (old new : List ℕ) (spans : List WordSpan) (d : WordSpan) → AreSpans old new spans → (k : ℕ) → k < length spans → HasBorders old new (get_or spans k d)
 borders old new spans d are k h = borders-from old new 0 0 spans d are k h
-
--- words that were found for a pair are its words
-pub columns-for : (words : LineValue) (pair : Pair) → AreFor words pair → AreColumns words.old words.new words.is_old words.columns
-    → AreColumns pair.old pair.new pair.is_old words.columns
-columns-for words pair e are =
-    subst (λ (b : Bool). AreColumns pair.old pair.new b words.columns) e.is_old
-    (subst (λ (text : List ℕ). AreColumns pair.old text words.is_old words.columns) e.new
-    (subst (λ (text : List ℕ). AreColumns text words.new words.is_old words.columns) e.old are))
 
 -- ---- rows
 

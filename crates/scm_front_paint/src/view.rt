@@ -9,8 +9,8 @@ ghost use Rattle.scm_front_paint.specs.Seen.{IsSeen};
 ghost use Rattle.scm_front_paint.specs.Views.{IsFitted, IsHanded, IsShown, ViewBytes, ViewDoes, ViewFails, ViewHears, ViewSayFails, ViewSays, ViewSilence, heard_by, is_kind};
 
 use crate::pane::{Heard, Pane, heard_as, is_free, kind_for, offset, with_size, with_x};
-use scm_front::{Front, FrontEditing, FrontTurn, OwnKey};
-use scm_record::{Decoder, Items, RecordError, RecordState, TerminalEvent, TerminalKind};
+use scm_front::{AcceptedState, Front, FrontEditing, FrontTurn, OwnKey};
+use scm_record::{Decoder, Items, RecordError, TerminalEvent, TerminalKind};
 use std::alloc::Global;
 use std::marker::Model;
 
@@ -64,7 +64,7 @@ pub enum ViewTurn<'state> {
     /// The session beneath waits for the message of a commit.
     Editing(ViewEditing<'state>),
     /// The session has ended, with the changes of this state accepted.
-    Accepted(RecordState<'state>),
+    Accepted(AcceptedState<'state>),
 }
 
 /// Returns whether two screens have the same size.
@@ -313,6 +313,14 @@ impl<'state> View<'state> {
         ensures pane { self.new.pane ≡ self.old.pane }
     {
         self.front.set_keys(keys);
+    }
+
+    /// Begins to log the calls of the session beneath, as [`Front::log`] does, and returns whether they are
+    /// logged.
+    pub fn log(&mut self) -> bool
+        ensures { self.new ≡ self.old }
+    {
+        self.front.log()
     }
 
     /// Returns the front, and where the terminal stands over the session. [`shown`] makes a view of them

@@ -23,7 +23,7 @@ use Rattle.scm_open_session.specs.Stages.{Begins, ChangesStage}
 use Rattle.scm_c_values.specs.Screens.{screen_of}
 use Rattle.scm_c_values.specs.Codes.{IsCode, code_of_refusal}
 use Rattle.scm_open_session.specs.Building.{Adds, BeginsState, Builds, Starts, StartsSession, code_at_stage, code_of_addition, is_building, BuildsChange, code_of_change, code_of_change_at, code_of_text_change}
-use Rattle.scm_c_values.specs.Texts.{AddsFile, GivenChange, code_of_length, has_text_paths, change_with}
+use Rattle.scm_c_values.specs.Texts.{AddsFile, GivenChange, code_of_length, has_text_paths}
 
 -- codes
 
@@ -90,21 +90,9 @@ change_session_code c old h before answer e f code = rw e (subst (λ (x : OpenSe
 pub closed_change_code : (c : GivenChange) (old : Option OpenSession) → old ≡ None → IsCode true (code_of_text_change c old) 1
 closed_change_code c old e = rw e IsCode.known
 
--- a change whose paths are UTF-8, or are not
-pub paths_code : (c given : GivenChange) (old : Option OpenSession) (answer : ℕ) → c ≡ given → has_text_paths given ≡ true
-    → IsCode true (code_of_text_change c old) answer → IsCode true (code_of_change given old) answer
-paths_code c given old answer e is_text code = rw is_text (subst (λ (g : GivenChange). IsCode true (code_of_text_change g old) answer) e code)
-
+-- a change whose paths are not UTF-8
 pub no_paths_code : (given : GivenChange) (old : Option OpenSession) → has_text_paths given ≡ false → IsCode true (code_of_change given old) 4
 no_paths_code given old e = rw e IsCode.known
-
-pub same_change : (path path_now old_path old_path_now old old_now new new_now : List ℕ) (old_bits new_bits : ℕ) (c : GivenChange)
-    → c ≡ change_with path old_path old old_bits new new_bits → path ≡ path_now → old_path ≡ old_path_now → old ≡ old_now → new ≡ new_now
-    → c ≡ change_with path_now old_path_now old_now old_bits new_now new_bits
-same_change path path_now old_path old_path_now old old_now new new_now old_bits new_bits c is a b d e = is ∙ rw (a, b, d, e) refl
-
-pub adds_given : (c given : GivenChange) (old new : Option OpenSession) → c ≡ given → ChangesStage (BuildsChange c) old new → ChangesStage (BuildsChange given) old new
-adds_given c given old new e goes = subst (λ (g : GivenChange). ChangesStage (BuildsChange g) old new) e goes
 
 -- beginnings
 

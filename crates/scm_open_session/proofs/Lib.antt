@@ -16,3 +16,5 @@ pub mod DecodeLemmas
 pub mod KeyPieceLemmas
 -- calls of a layer
 pub mod LayerCallLemmas
+-- the log of the calls beneath a layer
+pub mod LoggingLemmas

@@ -1,20 +1,17 @@
 -- What `scm_paint` writes.
-use Rattle.std.proofs.Common.{◌≡◌, ℕ, ◌≤◌, ◌<◌, List, length, Option, Some, None, Result, Ok, Err, ok_or, IfSome, IfNone, sym, ap, ◌∙◌, subst}
+use Rattle.std.proofs.Common.{◌≡◌, ℕ, ◌≤◌, ◌<◌, List, length, Option, Some, None, Result, Ok, Err, ok_or, IfSome, IfNone, sym, ◌∙◌, subst}
 use Rattle.std.specs.Result.{result_map_both}
 use Rattle.scm_record.specs.Live.{Live}
 use Rattle.scm_record.specs.Painted.{picture_of}
 use Rattle.scm_open_session.specs.declared.open_session.OpenSession.{OpenSession}
-use Rattle.scm_front_paint.specs.Seen.{Seen}
 use Rattle.scm_open_session.specs.declared.open_session.Stage.{Stage}
 use Rattle.scm_open_session.specs.declared.open_session.Stage.TheVariants.{Waiting}
 use Rattle.scm_open_session.specs.declared.painters.Painters.{Painters}
 use Rattle.scm_open_session.specs.declared.running.Running.{Running}
-use Rattle.scm_open_session.specs.declared.running.Running.TheVariants as running
-use Rattle.scm_front_paint.specs.Below.{PaintsView}
 use Rattle.scm_c_values.specs.Buffers.{over}
 use Rattle.scm_open_session.specs.Painters.{Forget}
-use Rattle.scm_open_session.specs.Paint.{Fills, Forgets, ForgetsOpen, PaintsOpenSession, PaintsSession, ShowsPlain, ShowsRunning, ShowsView, Updates, UpdatesStage}
-use Rattle.scm_c_values.specs.Updates.{Shows, as_update}
+use Rattle.scm_open_session.specs.Paint.{Fills, Forgets, ForgetsOpen, PaintsOpenSession, PaintsSession, ShowsPlain, ShowsRunning, Updates, UpdatesStage}
+use Rattle.scm_c_values.specs.Updates.{Shows}
 
 -- updates
 
@@ -24,35 +21,12 @@ pub updates : {A : Type 0} (f : A → List ℕ) (stage : Stage) (s : Running) (o
 updates f stage s old new (Some x) answer e is h n = rw (e, is) (UpdatesStage.shown h)
 updates f stage s old new None answer e is h n = rw (e, is) (UpdatesStage.refused n)
 
-pub shows_plain : {A : Type 0} (f : A → List ℕ) (s : Running) (l : Live) (old new : Painters) (r : Option A) → s ≡ running.Plain l
-    → IfSome r (λ x. ShowsPlain l old new (f x)) → IfSome r (λ x. ShowsRunning s old new (f x))
-shows_plain f s l old new (Some x) e h = rw e h
-shows_plain f s l old new None e h = tt
-
-pub shows_layered : {A : Type 0} (f : A → List ℕ) (s : Running) (v : Seen) (old new : Painters) (r : Option A) → s ≡ running.Layered v
-    → IfSome r (λ x. ShowsView v old new (f x)) → IfSome r (λ x. ShowsRunning s old new (f x))
-shows_layered f s v old new (Some x) e h = rw e h
-shows_layered f s v old new None e h = tt
-
 pub plain_shown : {A : Type 0} (f : A → List ℕ) (l : Live) (old new : Painters) (r : Option A)
     → IfSome r (λ x. Shows l old.plain (f x)) → IfSome r (λ x. new.plain ≡ picture_of l)
     → new.layered ≡ old.layered → new.theme ≡ old.theme → new.accept ≡ old.accept → IfSome r (λ x. ShowsPlain l old new (f x))
 plain_shown f l old new (Some x) shows painted layered theme accept =
     record { shows = shows; painted = painted; layered = layered; theme = theme; accept = accept }
 plain_shown f l old new None shows painted layered theme accept = tt
-
-pub view_shown : {A : Type 0} (f : A → List ℕ) (v : Seen) (old new : Painters) (accept bytes now : List ℕ) (r : Option A)
-    → PaintsView old.layered new.layered v accept bytes → accept ≡ old.accept → new.plain ≡ old.plain → new.theme ≡ old.theme → new.accept ≡ old.accept
-    → now ≡ bytes → IfSome r (λ x. f x ≡ as_update now) → IfSome r (λ x. ShowsView v old new (f x))
-view_shown f v old new accept bytes now (Some x) p same plain theme accepted e is = record {
-  bytes = bytes;
-  paints = subst (λ (words : List ℕ). PaintsView old.layered new.layered v words bytes) same p;
-  is = is ∙ ap as_update e;
-  plain = plain;
-  theme = theme;
-  accept = accepted;
-}
-view_shown f v old new accept bytes now None p same plain theme accepted e is = tt
 
 pub forgets_all : (old middle new : Painters) → Forget middle new → middle.theme ≡ old.theme → middle.accept ≡ old.accept → Forget old new
 forgets_all old middle new f theme accept = record {

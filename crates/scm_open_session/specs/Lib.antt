@@ -28,3 +28,5 @@ pub mod Decoding
 pub mod LayerCalls
 -- keys of the user's own
 pub mod OwnKeys
+-- the log of the calls beneath a layer, as a script
+pub mod Logging

@@ -109,6 +109,13 @@ impl BoxedView {
     {
         self.inner.set_keys(keys);
     }
+
+    /// Begins to log the calls beneath the layer, as `View::log` does, and returns whether they are logged.
+    pub fn log(&mut self) -> bool
+        ensures { self.new ≡ self.old }
+    {
+        self.inner.log()
+    }
 }
 
 /// Shows `view` on a terminal of `width` columns and `height` rows, and returns whether it did. If an

@@ -9,10 +9,12 @@ ghost use Rattle.scm_open_session.specs.OwnKeys.{HasKeys, SetsKeys, code_of_keys
 ghost use Rattle.scm_open_session.specs.Painters.{HaveTheme, HaveWords};
 ghost use Rattle.scm_open_session.specs.Results.{code_where};
 ghost use Rattle.scm_open_session.specs.Stages.{ChangesStage, IsOpenAt};
+ghost use Rattle.scm_open_session.specs.Logging.{IsLogCode, IsLoggedCode, WritesScript};
 
 use crate::layer::{folds_of, theme_of};
 use crate::open_session::{OpenSession, Session};
 use crate::own_keys::keys_of;
+use scm_c_values::buffers::write_text;
 use scm_c_values::codes;
 use scm_c_values::codes::done_or_not_now;
 use scm_c_values::inputs::message_of;
@@ -115,6 +117,37 @@ fn start_at(session: &mut Session, folds: Folds, first: SelectionKey) -> u32
 {
     match session {
         Some(inner) => done_or_not_now(inner.start(folds, first)),
+        None => codes::CLOSED,
+    }
+}
+
+/// Begins to log the calls beneath the layer, if none was made yet. Returns the code of the call.
+pub fn log(session: &mut Session) -> u32
+    ensures code { IsLogCode (box_value session.old) result }
+    ensures kept { box_value session.new ≡ box_value session.old }
+{
+    match session {
+        Some(inner) => done_or_not_now(inner.begin_log()),
+        None => codes::CLOSED,
+    }
+}
+
+/// Writes to `out` the script of the logged calls, clipped to the length of `out`, and its whole length in
+/// bytes to `written`. Returns the code of the call.
+pub fn logged(alloc: Global, session: &Session, out: &mut [u8], written: &mut usize) -> u32
+    ensures code { IsLoggedCode (box_value session.now) result }
+    ensures script { result ≡ 0
+        → WritesScript (box_value session.now) out.old out.new written.new }
+    ensures unwritten { 0 < result → (out.new ≡ out.old) × (written.new ≡ written.old) }
+{
+    match session {
+        Some(inner) => match inner.script(alloc) {
+            Ok(script) => {
+                *written = write_text(script.as_slice(), out);
+                codes::DONE
+            }
+            Err(code) => code,
+        },
         None => codes::CLOSED,
     }
 }

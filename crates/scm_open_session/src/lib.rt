@@ -7,6 +7,7 @@ pub mod calls;
 pub mod layer;
 pub mod layer_calls;
 pub mod layered;
+mod logging;
 pub mod open_session;
 mod own_keys;
 pub mod painters;

@@ -37,6 +37,7 @@ use scm_c_values::owners::{Key, owner_at};
 use scm_c_values::screens::screen;
 use scm_c_values::texts::{TextChange, add_change};
 use scm_embed::{Addition, StateBuilder};
+use scm_front::AcceptedState;
 use scm_record::{
     Decoder, Event, LiveSession, RecordError, RecordState, TerminalEvent, TerminalKind,
 };
@@ -54,7 +55,7 @@ pub enum Stage {
     /// The session waits for the message of a commit.
     Editing(MessageEdit),
     /// The changes are accepted.
-    Accepted(RecordState<'static>),
+    Accepted(AcceptedState<'static>),
     /// The session ended with an error.
     Ended(RecordError),
 }
@@ -351,7 +352,7 @@ impl OpenSession {
         match &self.stage {
             Stage::Building(builder) => Some(builder.state()),
             Stage::Waiting(session) => Some(session.live().state()),
-            Stage::Accepted(state) => Some(state),
+            Stage::Accepted(accepted) => Some(accepted.state()),
             Stage::Editing(_) | Stage::Ended(_) => None,
         }
     }
@@ -589,7 +590,7 @@ impl OpenSession {
             Stage::Building(_) => Some(String::new(alloc)),
             Stage::Waiting(session) => session.live().grid().view().ok(),
             Stage::Editing(edit) => String::from_str(alloc, edit.live().message()).ok(),
-            Stage::Accepted(state) => accepted_text(alloc, state),
+            Stage::Accepted(accepted) => accepted_text(alloc, accepted.state()),
             Stage::Ended(error) => sentence(alloc, error),
         }
     }

@@ -2,6 +2,8 @@
 ghost use Rattle.std.specs.Prelude.{◌≡◌, IfSome, IsTrue, false, string_bytes};
 ghost use Rattle.scm_open_session.specs.declared.open_session.Stage.TheVariants.{Editing as EditingStage, Waiting};
 ghost use Rattle.scm_record.specs.Live.{on_screen};
+ghost use Rattle.scm_record.specs.declared.live.Turn.TheVariants as turns;
+ghost use Rattle.scm_front.specs.Logging.{IsLogged};
 ghost use Rattle.scm_open_session.specs.Batches.{PressesAll};
 ghost use Rattle.scm_open_session.specs.LayerCalls.{SetsStart};
 ghost use Rattle.scm_open_session.specs.OwnKeys.{SetsKeys};
@@ -13,7 +15,7 @@ use crate::boxed::{BoxedEdit, BoxedView};
 use crate::layer::{press, press_all, set_start};
 use crate::open_session::Stage;
 use scm_c_values::screens::screen;
-use scm_front::{Folds, OwnKey};
+use scm_front::{AcceptedState, Folds, Logging, OwnKey};
 use scm_front_paint::ViewTurn;
 use scm_record::{
     Decoder, Editing, Event, Items, LiveSession, RecordError, SelectionKey, TerminalKind, Turn,
@@ -45,7 +47,7 @@ fn stage_of(answer: Result<Turn<'static>, RecordError>) -> Stage
     match answer {
         Ok(Turn::Waiting(session)) => Stage::Waiting(Running::Plain(session)),
         Ok(Turn::Editing(editing)) => Stage::Editing(MessageEdit::Plain(editing)),
-        Ok(Turn::Accepted(state)) => Stage::Accepted(state),
+        Ok(Turn::Accepted(state)) => Stage::Accepted(AcceptedState::unlogged(state)),
         Err(error) => Stage::Ended(error),
     }
 }
@@ -109,6 +111,29 @@ impl Running {
         }
     }
 
+    /// Begins to log the calls beneath the layer, if there is a layer and no call was made yet. Returns
+    /// whether they are logged.
+    pub fn log(&mut self) -> bool
+        ensures is_layered { IsTrue result → IsTrue (is_layered self.old) }
+        ensures kept { self.new ≡ self.old }
+    {
+        match self {
+            Running::Plain(_) => false,
+            Running::Layered(layer) => layer.log(),
+        }
+    }
+
+    /// Returns what is logged of the calls beneath the layer, if there is a layer.
+    pub fn logging(&self) -> Option<&Logging>
+        ensures { IfSome result (λ logging.
+            IsLogged logging.now (turns.Waiting (live_of self.now))) }
+    {
+        match self {
+            Running::Plain(_) => None,
+            Running::Layered(layer) => Some(layer.read().front().logging()),
+        }
+    }
+
     /// Returns whether the layer asks for a text.
     pub fn is_asking(&self) -> bool
         ensures { result ≡ is_asking self.now }
@@ -128,6 +153,17 @@ impl MessageEdit {
         match self {
             MessageEdit::Plain(editing) => editing,
             MessageEdit::Layered(layer) => layer.read().beneath().beneath(),
+        }
+    }
+
+    /// Returns what is logged of the calls beneath the layer, if there is a layer.
+    pub fn logging(&self) -> Option<&Logging>
+        ensures { IfSome result (λ logging.
+            IsLogged logging.now (turns.Editing (edit_of self.now))) }
+    {
+        match self {
+            MessageEdit::Plain(_) => None,
+            MessageEdit::Layered(layer) => Some(layer.read().beneath().logging()),
         }
     }
 

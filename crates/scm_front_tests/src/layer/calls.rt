@@ -1,6 +1,6 @@
 //! Calls without a session.
 use crate::layer::states::state_of_files;
-use scm_front::{Action, Mode, Typing, Way, action_of, item_towards};
+use scm_front::{AcceptedState, Action, Logging, Mode, Typing, Way, action_of, item_towards};
 use scm_record::key_lists::{file_key, line_key};
 use scm_record::keys::is_key;
 use scm_record::{
@@ -39,5 +39,16 @@ fn items_are_found_without_a_session(rt: HostRuntime) -> Result<(), Fail> {
     assert!(rt; matches!(below, Some(key) if is_key(key, line_key(0, 1, 1))));
     let above = found(rt.alloc(), Way::Up, "two")?;
     assert!(rt; above.is_none());
+    Ok(())
+}
+
+#[test]
+fn accepted_states_are_given_back(rt: HostRuntime) -> Result<(), Fail> {
+    let accepted = AcceptedState::unlogged(state_of_files(rt.alloc())?);
+    assert!(rt; matches!(accepted.logging(), Logging::Off));
+    let count = accepted.state().files.len();
+    assert!(rt; count == 4);
+    let state = accepted.into_state();
+    assert!(rt; state.files.len() == 4);
     Ok(())
 }
