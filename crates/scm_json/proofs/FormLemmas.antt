@@ -1,16 +1,14 @@
 -- The forms of a state that are read from tokens, member by member.
-use Rattle.std.proofs.Common.{◌≡◌, ℕ, suc, ◌≤◌, List, [], ◌∷◌, Bool, true, false, Option, Some, None, option_map, option_and_then, refl, sym, ap, ◌∙◌, subst, arith}
+use Rattle.std.proofs.Common.{◌≡◌, ℕ, suc, ◌≤◌, List, ◌∷◌, Bool, true, false, Option, Some, None, option_map, option_and_then, refl, sym, ap, ◌∙◌, subst, arith}
 use Rattle.std.specs.Prelude.{IfSome, codes, if◌then◌else◌}
 use Rattle.std.specs.Option.{option_or}
 use Rattle.std.specs.Str.{bytes_eq}
 use Rattle.std.proofs.lemmas.Slice.Eq.{bytes_eq-Decides}
 use Rattle.json.specs.Token.{Token, begin_object}
 use Rattle.json.specs.Token as token
-use Rattle.json.specs.Lex.{tokens}
-use Rattle.json.specs.Json.{if_last, read_key, value}
+use Rattle.json.specs.Json.{read_key}
 use Rattle.serde_json.specs.Data.{Data, string, object, no_members, member, put}
 use Rattle.serde_json.specs.Find.{as_bool, as_str}
-use Rattle.serde_json.specs.Read.{of_json, read}
 use Rattle.scm_types.specs.declared.file_mode.FileMode.{FileMode}
 use Rattle.scm_types.specs.declared.file_mode.FileMode.TheVariants.{Unix}
 use Rattle.scm_types.specs.declared.line.ChangeType.{ChangeType}
@@ -19,7 +17,6 @@ use Rattle.scm_types.specs.declared.section.Section.{Section}
 use Rattle.scm_types.specs.declared.section.Section.TheVariants as section
 use Rattle.scm_types.specs.declared.file.File.{File}
 use Rattle.scm_types.specs.declared.state.Commit.{Commit}
-use Rattle.scm_types.specs.declared.state.RecordState.{RecordState}
 use Rattle.scm_json.specs.Form.{absent_of, binary_of, bits_of, change_type_of, changed_of, commit_of, fields_of, file_mode_of, file_of, line_of, list_of, mode_of, optional, section_of, state_of, unchanged_of}
 use Rattle.scm_json.specs.Tokens.{IsRead, IsReadMember}
 use Rattle.scm_json.proofs.TokenLemmas.{IfRead-form, name-read, object-read, part-more, part-none}
@@ -143,10 +140,3 @@ state-read t0 t1 t2 t3 r b commits files x y z e =
         ap (option_and_then (λ r. option_and_then (λ cs. option_map (λ fs. record { is_read_only = r; commits = cs; files = fs }) (list_of file_of dz)) (list_of commit_of dy))) p
         ∙ ap (option_and_then (λ cs. option_map (λ fs. record { is_read_only = b; commits = cs; files = fs }) (list_of file_of dz))) q
         ∙ ap (option_map (λ fs. record { is_read_only = b; commits = commits; files = fs })) s
-
--- a whole text
-pub text-is-state : (text : List ℕ) (first : Token) (now : List Token) (x : RecordState) → tokens text ≡ first ∷ now → IsRead state_of 8 (first ∷ now) x [] → option_and_then state_of (read text) ≡ Some x
-text-is-state text first now x e r =
-    ap (λ ts. option_and_then state_of (option_and_then of_json (option_and_then (λ p. if_last p.0 p.1) (value 127 ts)))) e
-    ∙ ap (λ o. option_and_then state_of (option_and_then of_json (option_and_then (λ p. if_last p.0 p.1) o))) (r.found 127 (omega arith))
-    ∙ ap (option_and_then state_of) r.is_data ∙ r.is_form

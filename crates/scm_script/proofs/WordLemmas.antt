@@ -5,7 +5,7 @@ use Rattle.std.specs.List.{list_all}
 use Rattle.std.specs.Str.Parse.{ParsesUnsigned, digits_value}
 use Rattle.std.specs.Str.Pattern.{FindsTextPrefix, StripsPrefix}
 use Rattle.std.specs.Result.{result_ok}
-use Rattle.std.proofs.lemmas.Option.{none-some}
+use Rattle.std.proofs.lemmas.Option.{none-some, same_Some}
 use Rattle.std.proofs.lemmas.Str.{chars_past_char}
 use Rattle.std.proofs.lemmas.Str.Parse.{IsNumeralModel, numerals_by_value, parse_digits}
 use Rattle.scm_input.specs.declared.terminal.KeyModifiers.{KeyModifiers}
@@ -21,11 +21,8 @@ both_true : (t : Bool) (o : Option (List ℕ)) (rest : List ℕ) → (if t then 
 both_true true o rest e = (refl, e)
 both_true false o rest e = absurd (none-some rest e)
 
-some_is : (a b : List ℕ) → ◌≡◌ {A = Option (List ℕ)} (Some a) (Some b) → a ≡ b
-some_is a b e = cc
-
 pub front_behind : (front text rest : List ℕ) → rest_after front text ≡ Some rest → text ≡ front ++ rest
-front_behind [] text rest e = some_is text rest e
+front_behind [] text rest e = same_Some text rest e
 front_behind (f ∷ front) [] rest e = absurd (none-some rest e)
 front_behind (f ∷ front) (b ∷ text) rest e =
     let first = both_true (b == f) (rest_after front text) rest e in
@@ -63,13 +60,6 @@ decimal_is {E} text (Ok n) h digits =
 decimal_is {E} text (Err e) h digits =
     let k = parse_digits own {E = E} 16 text (Err e) h digits in
     sym (fits_not (nat_lt 0 (length text)) (list_all is_ascii_digit text) (nat_lt (digits_value 10 text) 65536) (digits_value 10 text) (λ some small. k (ltb-true 0 (length text) some, ltb-true (digits_value 10 text) 65536 small)))
-
-pub no_decimal : (text : List ℕ) → list_all is_ascii_digit text ≡ false → None ≡ decimal_of text
-no_decimal text other = by_length (nat_lt 0 (length text))
-  where
-    by_length : (a : Bool) → None ≡ (if a && (list_all is_ascii_digit text && nat_lt (digits_value 10 text) 65536) then Some (digits_value 10 text) else None)
-    by_length true = rw other refl
-    by_length false = refl
 
 -- one character
 

@@ -163,20 +163,22 @@ fn check_styles(
     }
 }
 
-#[test]
-fn rows_of_both_commits_have_the_styles_of_their_places(
-    rt: HostRuntime,
-) -> Result<(), RecordError> {
-    let kind = TerminalKind::Testing {
-        width: 41,
-        height: 12,
-    };
-    let session = session_of(&rt, rt.alloc(), kind, "!x7y0mb,t", "Fvllpjj")?;
-    let mut styles = vec![in rt.alloc(); NumberedStyle::new(Style::PLAIN); 43]?;
+/// Checks the styles of rows after `keys`, in 43 columns, on a screen of `width` columns.
+fn check_rows(rt: &impl Abort, alloc: Global, width: usize, keys: &str) -> Result<(), RecordError> {
+    let kind = TerminalKind::Testing { width, height: 12 };
+    let session = session_of(rt, alloc, kind, "!x7y0mb,t", keys)?;
+    let mut styles = vec![in alloc; NumberedStyle::new(Style::PLAIN); 43]?;
     for row in 0..13 {
-        check_styles(&rt, &session, row, styles.as_mut_slice());
+        check_styles(rt, &session, row, styles.as_mut_slice());
     }
     Ok(())
+}
+
+#[test]
+fn rows_have_the_styles_of_their_places(rt: HostRuntime) -> Result<(), RecordError> {
+    check_rows(&rt, rt.alloc(), 41, "Fvllpjj")?;
+    check_rows(&rt, rt.alloc(), 41, "Fllpjj")?;
+    check_rows(&rt, rt.alloc(), 43, "Fllpjj")
 }
 
 #[test]
