@@ -44,25 +44,10 @@ not-plain-utf8 bs n = at (is_utf8 bs) refl
     at true e = absurd (n (IsUtf8-from_is_utf8 bs e))
     at false e = ap (λ t. t && not (list_any is_reserved (chars bs))) e
 
-pub not-plain-chars : (bs : List ℕ) → IsUtf8 bs → list_any is_reserved (chars bs) ≡ true → is_plain bs ≡ false
-not-plain-chars bs u e = ap (λ t. t && not (list_any is_reserved (chars bs))) (is_utf8-from_IsUtf8 bs u) ∙ ap not e
-
 -- ---- the length of the first character
 
 pub plain-one : (bs : List ℕ) → is_plain (take 1 bs) ≡ true → plain_len bs ≡ 1
 plain-one bs a = rw a refl
-
-pub plain-two : (bs : List ℕ) → is_plain (take 1 bs) ≡ false → is_plain (take 2 bs) ≡ true → plain_len bs ≡ 2
-plain-two bs a b = rw (a, b) refl
-
-pub plain-three : (bs : List ℕ) → is_plain (take 1 bs) ≡ false → is_plain (take 2 bs) ≡ false → is_plain (take 3 bs) ≡ true → plain_len bs ≡ 3
-plain-three bs a b c = rw (a, b, c) refl
-
-pub plain-four : (bs : List ℕ) → is_plain (take 1 bs) ≡ false → is_plain (take 2 bs) ≡ false → is_plain (take 3 bs) ≡ false → is_plain (take 4 bs) ≡ true → plain_len bs ≡ 4
-plain-four bs a b c d = rw (a, b, c, d) refl
-
-pub plain-none : (bs : List ℕ) → is_plain (take 1 bs) ≡ false → is_plain (take 2 bs) ≡ false → is_plain (take 3 bs) ≡ false → is_plain (take 4 bs) ≡ false → plain_len bs ≡ 0
-plain-none bs a b c d = rw (a, b, c, d) refl
 
 -- the first character is plain
 pub plain-take : (bs : List ℕ) → 0 < plain_len bs → is_plain (take (plain_len bs) bs) ≡ true
@@ -271,14 +256,6 @@ piece-plain (b ∷ bs) old new piece l e p m =
       joined = ap (λ xs. new ++ text_of_bytes xs) (drop-taken n all) ∙ ap (λ xs. xs ++ text_of_bytes (drop n all)) (m ∙ ap (λ xs. old ++ xs) e)
           ∙ append_assoc old (take n all) (text_of_bytes (drop n all)) ∙ ap (λ xs. old ++ xs) (sym (text-plain b bs p));
     })
-
-pub piece-coded : (rest old new : List ℕ) → 0 < length rest → plain_len rest ≡ 0 → new ≡ old ++ encode_utf8 (reserved_char (get_or rest 0 0)) → IsPiece rest old new 1
-piece-coded [] old new l e m = absurd (omega arith)
-piece-coded (b ∷ bs) old new l e m = record {
-  some = omega arith;
-  within = omega arith;
-  joined = ap (λ xs. xs ++ text_of_bytes bs) m ∙ append_assoc old (encode_utf8 (reserved_char b)) (text_of_bytes bs) ∙ ap (λ xs. old ++ xs) (sym (text-coded b bs e));
-}
 
 -- ---- line ends stay
 

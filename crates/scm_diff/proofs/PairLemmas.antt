@@ -155,12 +155,3 @@ paired-more r a i x y ls half more s h k e f m n = record {
   merged = merge-pair r a i i x y ls half more s.merged h k e f m n;
   pairs = pair-more s.merged.entries x y s.pairs;
 }
-
-pub paired-all : (r a : List (List ℕ)) (i : ℕ) (ls : List SectionChangedLine) → IsPairedTo r a i ls → length r ≤ i → length r ≡ length a → IsMerge r a ls
-paired-all r a i ls s h e = record {
-  entries = s.merged.entries;
-  lines_are = s.merged.lines_are;
-  removed_are = s.merged.removed_are ∙ take_all i r h;
-  added_are = s.merged.added_are ∙ take_all i a (omega (arith, e));
-  one_by_one = λ _. s.pairs;
-}

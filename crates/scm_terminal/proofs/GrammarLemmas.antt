@@ -191,10 +191,6 @@ unknown-token : (q : Sequence) (b : ℕ) → q.kind ≡ Unknown → token_of q b
 unfolding token_of
 unknown-token q b e = ap (λ (k : SequenceKind). token_by k q b) e
 
-unknown-trail : (q : Sequence) (b : ℕ) → q.kind ≡ Unknown → trailing_bytes q b ≡ 0
-unfolding trailing_bytes
-unknown-trail q b e = rw e refl
-
 unknown-none : (bs : List ℕ) (q : Sequence) (n : ℕ) → q.kind ≡ Unknown → IsNone (sequence q n bs)
 unknown-none [] q n e = tt
 unknown-none (b ∷ bs) q n e = at (is_parameter b) (is_final b) (trailing_bytes q b == 0) (unknown-none bs (with_parameter q b) (n + 1) (stays q e))

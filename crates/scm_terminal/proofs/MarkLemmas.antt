@@ -167,10 +167,6 @@ pub data IsSpoilt (q : Sequence) : Type 0 where
   divided : 0 < q.semicolons → IsSpoilt q
   long : 4 ≤ q.bytes → IsSpoilt q
 
-if-end : (t : Bool) (x y : Token) → is_end (if t then x else y) ≡ true → (t ≡ true → is_end x ≡ false) → is_end y ≡ true
-if-end true x y h g = let f = g refl in absurd (cc)
-if-end false x y h g = h
-
 mark-not : (q : Sequence) (number : ℕ) → IsSpoilt q → is_csi q.kind ≡ true → is_mark q number ≡ false
 mark-not q number (other_kind h) csi = absurd (cc)
 mark-not q number (divided h) csi = let not : (q.semicolons == 0) ≡ false = grind (arith, nat_tests) in at (q.bytes == 3) (q.semicolons == 0) (q.last == number) not

@@ -111,20 +111,6 @@ pass-far w pass row column end n pen after blank cells was start e high behind o
     ∙ ap (λ t. was ++ t) (sym run)
     ∙ inv
 
--- the three passes of a row
-pub row-passes : (row : ℕ) (cells : List StyledCell) (t0 t1 t2 t3 : List ℕ)
-    → t1 ≡ t0 ++ bytes (pass_commands Blanks row 0 new_pen cells) → t2 ≡ t1 ++ bytes (pass_commands Symbols row 0 new_pen cells) → t3 ≡ t2 ++ bytes (pass_commands Letters row 0 new_pen cells)
-    → t3 ≡ t0 ++ bytes (row_commands row cells)
-unfolding row_commands
-row-passes row cells t0 t1 t2 t3 e f g =
-    let blanks = pass_commands Blanks row 0 new_pen cells in
-    let symbols = pass_commands Symbols row 0 new_pen cells in
-    let letters = pass_commands Letters row 0 new_pen cells in
-    g ∙ ap (λ t. t ++ bytes letters) (f ∙ ap (λ t. t ++ bytes symbols) e)
-    ∙ append_assoc (t0 ++ bytes blanks) (bytes symbols) (bytes letters)
-    ∙ append_assoc t0 (bytes blanks) (bytes symbols ++ bytes letters)
-    ∙ ap (λ t. t0 ++ t) (ap (λ t. bytes blanks ++ t) (sym (flat_map-append bytes_of symbols letters)) ∙ sym (flat_map-append bytes_of blanks (symbols ++ letters)))
-
 painting-cons : (row : ℕ) (line : Line) (lines : List Line) → bytes (painting row (line ∷ lines)) ≡ bytes (line_commands row line) ++ bytes (painting (row + 1) lines)
 unfolding painting
 painting-cons row line lines = flat_map-append bytes_of (line_commands row line) (painting (row + 1) lines)

@@ -67,14 +67,3 @@ sized f xs width height a says = (
   where
     both : (a b : Bool) → a ≡ true → b ≡ true → (a && b) ≡ true
     both a b h g = rw (h, g) refl
-
-pub HasSize-none : (width : ℕ) → HasSize width 0 []
-HasSize-none width = record { high = refl; all_wide = All-nil (IsWide width) }
-
-pub HasSize-push : {X : Type 0} (f : X → List StyledCell) (width n : ℕ) (xs : List X) (x : X) → HasSize width n (map f xs) → length (f x) ≡ width → HasSize width (n + 1) (map f (xs ++ x ∷ []))
-HasSize-push f width n xs x size e =
-    let pushed = map_push f xs x in
-    subst (HasSize width (n + 1)) (sym pushed) (record {
-      high = length_push (map f xs) (f x) ∙ ap (λ k. k + 1) size.high;
-      all_wide = All-append (IsWide width) (map f xs) (f x ∷ []) size.all_wide (All-cons (IsWide width) (f x) [] e (All-nil (IsWide width)));
-    })

@@ -20,12 +20,6 @@ modify-past f [] i h = refl
 modify-past f (x ∷ xs) zero h = absurd (omega arith)
 modify-past f (x ∷ xs) (suc i) h = ap (λ ys. x ∷ ys) (modify-past f xs i (omega arith))
 
--- where f changes nothing, nor does the change
-pub modify-same : {A : Type 0} (f : A → A) (xs : List A) (i : ℕ) → ((x : A) → f x ≡ x) → modify f xs i ≡ xs
-modify-same f [] i e = refl
-modify-same f (x ∷ xs) zero e = ap (λ y. y ∷ xs) (e x)
-modify-same f (x ∷ xs) (suc i) e = ap (λ ys. x ∷ ys) (modify-same f xs i e)
-
 -- what the elements show, where the change of an element shows as a change of what it shows
 pub map-modify : {A B : Type 0} (view : A → B) (f : A → A) (g : B → B) (xs : List A) (i : ℕ) → ((x : A) → view (f x) ≡ g (view x)) → map view (modify f xs i) ≡ modify g (map view xs) i
 map-modify view f g [] i e = refl

@@ -3,14 +3,6 @@ use Rattle.std.proofs.Common.{◌≡◌, ◌≤◌, ◌^◌, refl, arith}
 use Rattle.scm_types.specs.declared.state.TheConstants.RecordState.{MAX_ITEMS, MAX_SCROLL, MAX_TEXT}
 use Rattle.scm_types.specs.Limits.{max_items, max_scroll, max_text}
 
-pub items_limit : MAX_ITEMS ≡ max_items
-unfolding max_items
-items_limit = refl
-
-pub scroll_limit : MAX_SCROLL ≡ max_scroll
-unfolding max_items max_scroll
-scroll_limit = refl
-
 pub text_limit : MAX_TEXT ≡ max_text
 text_limit = refl
 
