@@ -214,10 +214,6 @@ pub record HasClusters (text : List ℕ) (width : ℕ) (left : List (List ℕ)) 
   pub split : graphemes true text ≡ read ++ left
   pub columns : width ≤ columns_of (visible_clusters read)
 
-pub HasClusters-none : (text : List ℕ) (left : List (List ℕ)) → left ≡ graphemes true text → HasClusters text 0 left
-unfolding visible_clusters
-HasClusters-none text left e = record { read = []; split = sym e; columns = omega arith }
-
 -- a piece has the columns that are measured of it
 columns-piece : (piece : List ℕ) → columns_of (visible_clusters (piece ∷ [])) ≡ unwrap_or (visible_width piece) 0
 unfolding visible_clusters with_width
@@ -345,48 +341,8 @@ pub record HasPushed (columns left : ℕ) (old now : List (List ℕ)) (whole lin
   pub pieces : line_pieces whole ≡ done ++ line_pieces line
   pub room : columns ≡ left + sum_by text_width done
 
-pub HasPushed-none : (columns : ℕ) (old : List (List ℕ)) (whole : List ℕ) → HasPushed columns columns old old whole whole
-HasPushed-none columns old whole = record { done = []; spans = sym (append-nil old); pieces = refl; room = omega arith }
-
 two-width : (text r : List ℕ) → sum_by text_width (text ∷ (r ∷ [])) ≡ text_width text + text_width r
 two-width text r = omega (arith, sum_by-cons text_width text (r ∷ []), sum_by-cons text_width r [])
-
-pub HasPushed-more : (columns left less : ℕ) (old now next : List (List ℕ)) (whole line text r rest : List ℕ) → HasPushed columns left old now whole line
-    → line_pieces line ≡ text ∷ (r ∷ line_pieces rest) → next ≡ now ++ text ∷ (r ∷ []) → left ≡ less + (text_width text + text_width r) → HasPushed columns less old next whole rest
-HasPushed-more columns left less old now next whole line text r rest h e pushed room = record {
-  done = h.done ++ text ∷ (r ∷ []);
-  spans = pushed ∙ ap (λ t. t ++ text ∷ (r ∷ [])) h.spans ∙ append_assoc old h.done (text ∷ (r ∷ []));
-  pieces = h.pieces ∙ ap (λ t. h.done ++ t) e ∙ sym (append_assoc h.done (text ∷ (r ∷ [])) (line_pieces rest));
-  room = omega (arith, h.room, room, sum_by-append text_width h.done (text ∷ (r ∷ [])), two-width text r);
-}
-
--- the first piece is cut
-pub Adds-first : (columns left : ℕ) (old now new : List (List ℕ)) (whole line first : List ℕ) → HasPushed columns left old now whole line → IsFirst left first line → new ≡ now ++ first ∷ []
-    → Adds columns old new (line_pieces whole)
-Adds-first columns left old now new whole line first h f pushed = record {
-  texts = h.done ++ first ∷ [];
-  added = pushed ∙ ap (λ t. t ++ first ∷ []) h.spans ∙ append_assoc old h.done (first ∷ []);
-  shown = inr (record {
-    front = h.done;
-    last = first;
-    whole = f.whole;
-    after = f.after;
-    more = f.more;
-    cut = refl;
-    texts = h.pieces ∙ ap (λ t. h.done ++ t) f.pieces;
-    begins = f.begins;
-    wide = omega (arith, h.room, f.wide, sum_by-append text_width h.done (first ∷ []), sum_by-cons text_width first []);
-  });
-}
-
--- the line ends
-pub Adds-last : (columns left : ℕ) (old now new : List (List ℕ)) (whole line : List ℕ) → HasPushed columns left old now whole line → line_pieces line ≡ last_piece line → new ≡ now ++ last_piece line
-    → Adds columns old new (line_pieces whole)
-Adds-last columns left old now new whole line h e pushed = record {
-  texts = h.done ++ last_piece line;
-  added = pushed ∙ ap (λ t. t ++ last_piece line) h.spans ∙ append_assoc old h.done (last_piece line);
-  shown = inl (sym (h.pieces ∙ ap (λ t. h.done ++ t) e));
-}
 
 -- nothing is behind a text and its replacement
 pub Adds-all : (columns left : ℕ) (old now new : List (List ℕ)) (whole line text r rest : List ℕ) → HasPushed columns left old now whole line → line_pieces line ≡ text ∷ (r ∷ line_pieces rest)

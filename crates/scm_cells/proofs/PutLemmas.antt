@@ -1,5 +1,5 @@
 -- How many columns a row has after a put, and puts that leave it as it was.
-use Rattle.std.proofs.Common.{◌≡◌, ℕ, zero, suc, ◌+◌, ◌-◌, ◌<◌, ◌≤◌, List, [], ◌∷◌, ◌++◌, length, take, drop, replicate, append-nil, length-append, length-take, length-drop, refl, ap, ◌∙◌, arith, ◌⊎◌, inl, inr, ⊎_elim}
+use Rattle.std.proofs.Common.{◌≡◌, ℕ, zero, suc, ◌+◌, ◌-◌, ◌<◌, ◌≤◌, List, [], ◌∷◌, ◌++◌, length, take, drop, replicate, append-nil, length-append, length-take, length-drop, refl, sym, ap, ◌∙◌, arith, ◌⊎◌, inl, inr, ⊎_elim}
 use Rattle.std.specs.Prelude.{ℤ, pos, negsuc, ◌+ℤ◌, ◌-ℤ◌, ◌≤ℤ◌, ◌<ℤ◌}
 use Rattle.std.specs.Int.{int_min, int_max}
 use Rattle.std.proofs.lemmas.Bool.{cases_lt}
@@ -131,6 +131,36 @@ length-put row column text low high h =
     ⊎_elim
     (λ (some : low < high). put-length row column text low high h (fits (clusters text) column low high (AllKept-clusters text) some))
     (λ (none : high ≤ low). put-length row column text low high h (inl (written-closed (clusters text) column low high none)))
+    (cases_lt low high)
+
+-- a put writes cells before the high limit
+pub record EndsBefore (row : List Cell) (high : ℕ) (new : List Cell) : Type 0 where
+  pub from : ℕ
+  pub cells : List Cell
+  pub is : new ≡ overlay row from cells
+  pub within : from + length cells ≤ high
+
+tail-of : (row : List Cell) (column : ℤ) (text : List ℕ) (low high : ℕ) → NoneOrFits low high column (written column (clusters text) low high)
+    → EndsBefore row high (put row column text low high)
+unfolding put
+tail-of row column text low high (inl none) = record {
+  from = 0;
+  cells = [];
+  is = rw none (overlay-none row (or_zero (int_max column (pos low))) [] refl ∙ sym (overlay-none row 0 [] refl));
+  within = omega arith;
+}
+tail-of row column text low high (inr f) = record {
+  from = or_zero (int_max column (pos low));
+  cells = written column (clusters text) low high;
+  is = refl;
+  within = f;
+}
+
+pub put-tail : (row : List Cell) (column : ℤ) (text : List ℕ) (low high : ℕ) → EndsBefore row high (put row column text low high)
+put-tail row column text low high =
+    ⊎_elim
+    (λ (some : low < high). tail-of row column text low high (fits (clusters text) column low high (AllKept-clusters text) some))
+    (λ (none : high ≤ low). tail-of row column text low high (inl (written-closed (clusters text) column low high none)))
     (cases_lt low high)
 
 -- ---- puts that leave the row as it was

@@ -1,4 +1,4 @@
-use Rattle.std.proofs.Common.{◌*◌, ◌≤◌, Bool, true, false, sum_by, ◌≡◌, ℕ, ◌+◌, List, [], ◌∷◌, ◌++◌, length, encode_utf8, Option, Some, None, refl, sym, ap, ◌∙◌, ◌<◌, arith, append_assoc, append-nil, length-append, length-take-le, take, take_at, take-append-drop, drop, subst, slice_range, ◌-◌}
+use Rattle.std.proofs.Common.{◌*◌, ◌≤◌, Bool, true, false, sum_by, ◌≡◌, ℕ, ◌+◌, List, [], ◌∷◌, ◌++◌, length, encode_utf8, Option, Some, None, refl, sym, ap, ◌∙◌, ◌<◌, arith, append_assoc, append-nil, length-append, length-take-le, take, take_at, take-append-drop, drop, drop-cons, subst, slice_range, ◌-◌, suc, get_or, ap₂}
 use Rattle.std.specs.Prelude.{if◌then◌else◌, nat_lt, ◌==◌, position, unwrap_or}
 use Rattle.std.specs.List.{list_all}
 use Rattle.std.specs.Str.{chars, IsUtf8, IsCharBoundary, all_scalars}
@@ -9,13 +9,13 @@ use Rattle.unicode_segmentation.proofs.Computing.{unicode_segmentation}
 use Rattle.unicode_width.proofs.Computing.{unicode_width}
 use Rattle.unicode_width.proofs.Rules.{is_simple, width_or_zero, str_width-simple, str_width-printable}
 use Rattle.unicode_width.specs.Width.{char_width}
-use Rattle.std.proofs.lemmas.List.{nil_from_length}
-use Rattle.std.proofs.lemmas.Str.{chars_past_char, chars-nil, IsUtf8-past_char, length-encode, len_utf8_bounds, IsCharBoundary-at_seam}
+use Rattle.std.proofs.lemmas.List.{nil_from_length, drop_all}
+use Rattle.std.proofs.lemmas.Str.{encode_ascii, chars_past_char, chars-nil, IsUtf8-past_char, length-encode, len_utf8_bounds, IsCharBoundary-at_seam}
 use Rattle.scm_cells.specs.Cluster.{is_printable, is_unprintable}
 use Rattle.scm_cells.proofs.PrintableLemmas.{is_printable_char, printable-encodes, printable-front, count-le}
 use Rattle.scm_cells.specs.Clusters.{text_width, clusters, visible_clusters, with_width, visible_width, has_control}
 use Rattle.scm_cells.proofs.BoundLemmas.{size, size-some, sizes-le, encode-size, text_width-le, text_width-utf8}
-use Rattle.scm_cells.specs.Replaced.{replacement, pieces_from, line_pieces, last_piece}
+use Rattle.scm_cells.specs.Replaced.{replacement, pieces_from, line_pieces, last_piece, printable_line}
 
 -- the first `n` bytes of the line have no replaced character, and `rest` follows
 pub record HasRead (line : List ℕ) (n : ℕ) (rest : List ℕ) : Type 0 where
@@ -110,6 +110,38 @@ pieces-end line rest n h e =
 
 pub HasRead-boundary : (line rest : List ℕ) (n : ℕ) → HasRead line n rest → IsCharBoundary line n
 HasRead-boundary line rest n h = subst (IsCharBoundary line) h.size (IsCharBoundary-at_seam line h.read rest h.parts h.utf8)
+
+-- ---- a line of printable ASCII
+
+no_pieces : line_pieces [] ≡ []
+unfolding line_pieces pieces_from
+no_pieces = ap (pieces_from []) chars-nil ∙ pieces_from-end []
+
+-- the last byte of a line
+last_byte : (line : List ℕ) (n : ℕ) → n + 1 ≡ length line → get_or line n 0 ≡ 10 → drop n line ≡ 10 ∷ []
+last_byte line n size e =
+    let none : drop (suc n) line ≡ [] = drop_all (suc n) line (omega (arith, size)) in
+    drop-cons line n 0 (omega (arith, size)) ∙ ap₂ (λ x xs. x ∷ xs) e none
+
+newline : Some (encode_utf8 0x23CE) ≡ replacement 10
+unfolding replacement
+newline = refl
+
+pub pieces-printable : (line : List ℕ) (n : ℕ) → IsUtf8 line → n + 1 ≡ length line → get_or line n 0 ≡ 10 → is_printable (take n line) ≡ true
+    → line_pieces line ≡ take n line ∷ (encode_utf8 0x23CE ∷ [])
+pieces-printable line n u size e printable =
+    let whole : n - 0 ≡ n = omega arith in
+    let end : drop n line ≡ encode_utf8 10 ++ [] = last_byte line n size e ∙ sym (ap (λ t. t ++ []) (encode_ascii 10 (omega arith))) in
+    pieces-cut line (drop n line) [] (encode_utf8 0x23CE) (take n line) n 10 (HasRead-first line (drop n line) n u (omega (arith, size)) printable refl) end (sym newline) (ap (λ k. take k line) (sym whole))
+    ∙ ap (λ t. take n line ∷ (encode_utf8 0x23CE ∷ t)) no_pieces
+
+pub printable_line-is : (line front : List ℕ) (n : ℕ) → n ≡ length line - 1 → get_or line n 0 ≡ 10 → front ≡ take n line → is_printable front ≡ true
+    → Some (front, encode_utf8 0x23CE) ≡ printable_line line
+printable_line-is line front n size e f p =
+    let last : get_or line (length line - 1) 0 ≡ 10 = ap (λ k. get_or line k 0) (sym size) ∙ e in
+    let same : front ≡ take (length line - 1) line = f ∙ ap (λ k. take k line) size in
+    let printable : is_printable (take (length line - 1) line) ≡ true = ap is_printable (sym same) ∙ p in
+    rw (last, printable) (ap (λ t. Some (t, encode_utf8 0x23CE)) same)
 
 -- ---- columns
 

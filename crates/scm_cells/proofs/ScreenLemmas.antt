@@ -3,32 +3,20 @@ use Rattle.std.proofs.Common.{◌≡◌, ℕ, zero, suc, ◌+◌, ◌<◌, ◌�
 use Rattle.std.specs.Prelude.{Vec}
 use Rattle.std.specs.List.{All, flat_map}
 use Rattle.std.specs.Vec.{with_items}
-use Rattle.std.proofs.lemmas.List.{with_items_is, length-map, map-set, get_or-map, map_more}
+use Rattle.std.proofs.lemmas.List.{with_items_is, get_or_default, take_more}
 use Rattle.std.proofs.lemmas.List.Concat.{flat_map-append}
 use Rattle.std.proofs.lemmas.List.Elements.{All-head, All-tail, All-replicate, All-set}
 use Rattle.scm_cells.specs.Cell.{Cell, blank}
 use Rattle.scm_cells.specs.Counts.{Counts, no_counts}
 use Rattle.scm_cells.specs.Row.{IsWhole, row_text}
 use Rattle.scm_cells.specs.Screen.{Screen, IsScreen, blank_screen}
-use Rattle.scm_cells.specs.GridView.{row_of}
 use Rattle.scm_cells.proofs.WholeLemmas.{IsWhole-blanks}
-use Rattle.scm_cells.proofs.MapFrom.{map_from, so_far, so_far-more, so_far-all}
+use Rattle.scm_cells.proofs.MapFrom.{map_from, so_far, so_far-all}
 
 -- ---- every row is cleared
 
 abbrev pub cleared_row : ℕ → List Cell → List Cell
 cleared_row i row = replicate (length row) blank
-
-pub rows-cleared : {Z : Type 0} (items init : List (Vec Cell Z)) (i : ℕ) (d : Vec Cell Z) (new cols : List Cell) → i < length items → length items ≡ length init
-    → map row_of items ≡ so_far cleared_row (map row_of init) i → cols ≡ (get_or items i d).items → length new ≡ (get_or items i d).len → new ≡ replicate (length cols) blank
-    → map row_of (set items i (with_items (get_or items i d) new)) ≡ so_far cleared_row (map row_of init) (i + 1)
-rows-cleared items init i d new cols h same inv from size shows =
-    let v = get_or items i d in
-    let inside : i < length (map row_of init) = omega (arith, length-map init row_of) in
-    let row : row_of (with_items v new) ≡ cleared_row i (get_or (map row_of items) i (row_of d)) =
-    with_items_is v new size ∙ shows ∙ ap (λ n. replicate n blank) (ap length from)
-    ∙ ap (λ r. replicate (length r) blank) (sym (get_or-map row_of items i d (row_of d) h)) in
-    map-set row_of items i (with_items v new) ∙ so_far-more cleared_row (map row_of init) (map row_of items) i (row_of d) (row_of (with_items v new)) inside inv row
 
 all-cleared : (width i : ℕ) (rows : List (List Cell)) → All (λ row. length row ≡ width) rows → map_from cleared_row i rows ≡ replicate (length rows) (replicate width blank)
 all-cleared width i [] h = refl
@@ -37,12 +25,10 @@ all-cleared width i (row ∷ rows) h =
     ∙ ap (λ t. replicate width blank ∷ t) (all-cleared width (suc i) rows (All-tail (λ (r : List Cell). length r ≡ width) row rows h))
 
 -- after the loop the grid is one of spaces
-pub screen-cleared : {Z : Type 0} {k : Counts} (items init old final : List (Vec Cell Z)) (i width : ℕ) → init ≡ old → final ≡ items → length init ≤ i → IsScreen (record { width = width; rows = map row_of old; counts = k })
-    → map row_of items ≡ so_far cleared_row (map row_of init) i → ◌≡◌ {A = Screen} (record { width = width; rows = map row_of final; counts = no_counts }) (blank_screen width (length (map row_of old)))
+pub screen-cleared : {k : Counts} (items init old final : List (List Cell)) (i width : ℕ) → init ≡ old → final ≡ items → length init ≤ i → IsScreen (record { width = width; rows = old; counts = k })
+    → items ≡ so_far cleared_row init i → ◌≡◌ {A = Screen} (record { width = width; rows = final; counts = no_counts }) (blank_screen width (length old))
 screen-cleared items init old final i width was same le h inv =
-    let past : length (map row_of init) ≤ i = omega (arith, length-map init row_of) in
-    ap (λ rows. record { width = width; rows = rows; counts = no_counts }) (ap (map row_of) same ∙ inv ∙ so_far-all cleared_row (map row_of init) i past ∙ ap (λ rows. map_from cleared_row 0 (map row_of rows)) was
-    ∙ all-cleared width 0 (map row_of old) h.columns)
+    ap (λ rows. record { width = width; rows = rows; counts = no_counts }) (same ∙ inv ∙ so_far-all cleared_row init i le ∙ ap (map_from cleared_row 0) was ∙ all-cleared width 0 old h.columns)
 
 length-blanks : (n : ℕ) → length (replicate n blank) ≡ n
 length-blanks zero = refl
@@ -68,28 +54,19 @@ IsScreen-same a b e h = subst IsScreen (sym e) h
 pub length-with_items : {Z : Type 0} (v : Vec Cell Z) (new : List Cell) (width : ℕ) → length new ≡ v.len → length new ≡ width → length (with_items v new).items ≡ width
 length-with_items v new width size e = ap length (with_items_is v new size) ∙ e
 
-pub rows-set : {Z : Type 0} (rows : List (Vec Cell Z)) (i : ℕ) (v : Vec Cell Z) (new : List Cell) → length new ≡ v.len
-    → map row_of (set rows i (with_items v new)) ≡ set (map row_of rows) i new
-rows-set rows i v new size = map-set row_of rows i (with_items v new) ∙ ap (set (map row_of rows) i) (with_items_is v new size)
-
 -- the row that was read
-pub row-read : {Z : Type 0} (rows : List (Vec Cell Z)) (i : ℕ) (v : Vec Cell Z) (cols : List Cell) → i < length rows → v ≡ get_or rows i v → cols ≡ v.items
-    → cols ≡ get_or (map row_of rows) i []
-row-read rows i v cols h e same = same ∙ ap row_of e ∙ sym (get_or-map row_of rows i v [] h)
+pub row-read : (rows : List (List Cell)) (i : ℕ) (row : List Cell) → i < length rows → row ≡ get_or rows i row → row ≡ get_or rows i []
+row-read rows i row h e = e ∙ get_or_default rows i row [] h
 
 -- the row's columns are the grid's
-pub length-read : {Z : Type 0} {k : Counts} (rows : List (Vec Cell Z)) (i width : ℕ) (v : Vec Cell Z) (cols : List Cell) → i < length rows → v ≡ get_or rows i v → cols ≡ v.items
-    → IsScreen (record { width = width; rows = map row_of rows; counts = k }) → length cols ≡ width
-length-read rows i width v cols h e same screen =
-    let inside : i < length (map row_of rows) = omega (arith, length-map rows row_of) in
-    ap length (row-read rows i v cols h e same) ∙ screen.columns i [] inside
+pub length-read : {k : Counts} (rows : List (List Cell)) (i width : ℕ) (row : List Cell) → i < length rows → row ≡ get_or rows i row
+    → IsScreen (record { width = width; rows = rows; counts = k }) → length row ≡ width
+length-read rows i width row h e screen = ap length (row-read rows i row h e) ∙ screen.columns i [] h
 
 -- and of whole symbols
-pub whole-read : {Z : Type 0} {k : Counts} (rows : List (Vec Cell Z)) (i width : ℕ) (v : Vec Cell Z) (cols : List Cell) → i < length rows → v ≡ get_or rows i v → cols ≡ v.items
-    → IsScreen (record { width = width; rows = map row_of rows; counts = k }) → IsWhole cols
-whole-read rows i width v cols h e same screen =
-    let inside : i < length (map row_of rows) = omega (arith, length-map rows row_of) in
-    subst IsWhole (sym (row-read rows i v cols h e same)) (screen.symbols i [] inside)
+pub whole-read : {k : Counts} (rows : List (List Cell)) (i width : ℕ) (row : List Cell) → i < length rows → row ≡ get_or rows i row
+    → IsScreen (record { width = width; rows = rows; counts = k }) → IsWhole row
+whole-read rows i width row h e screen = subst IsWhole (sym (row-read rows i row h e)) (screen.symbols i [] h)
 
 pub IsScreen-set : (s : Screen) (i : ℕ) (row : List Cell) → IsScreen s → length row ≡ s.width → IsWhole row → IsScreen (record s { rows = set s.rows i row })
 IsScreen-set s i row h e whole = record {
@@ -109,10 +86,10 @@ rows-unchanged rows i row e = ap (set rows i) e ∙ set-same rows i
 
 -- ---- the rows as text
 
-pub view-more : {Z : Type 0} (rows : List (Vec Cell Z)) (i : ℕ) (d : Vec Cell Z) (text new : List ℕ) (cols : List Cell) → i < length rows → text ≡ flat_map row_text (map row_of (take i rows))
-    → cols ≡ (get_or rows i d).items → new ≡ text ++ row_text cols → new ≡ flat_map row_text (map row_of (take (i + 1) rows))
+pub view-more : (rows : List (List Cell)) (i : ℕ) (d : List Cell) (text new : List ℕ) (cols : List Cell) → i < length rows → text ≡ flat_map row_text (take i rows)
+    → cols ≡ get_or rows i d → new ≡ text ++ row_text cols → new ≡ flat_map row_text (take (i + 1) rows)
 view-more rows i d text new cols h inv same e =
-    let more : flat_map row_text (map row_of (take (i + 1) rows)) ≡ flat_map row_text (map row_of (take i rows)) ++ row_text (row_of (get_or rows i d)) =
-    ap (flat_map row_text) (map_more row_of rows i d h) ∙ flat_map-append row_text (map row_of (take i rows)) (row_of (get_or rows i d) ∷ [])
-    ∙ ap (λ t. flat_map row_text (map row_of (take i rows)) ++ t) (append-nil (row_text (row_of (get_or rows i d)))) in
-    e ∙ ap (λ t. t ++ row_text cols) inv ∙ ap (λ t. flat_map row_text (map row_of (take i rows)) ++ row_text t) same ∙ sym more
+    let more : flat_map row_text (take (i + 1) rows) ≡ flat_map row_text (take i rows) ++ row_text (get_or rows i d) =
+    ap (flat_map row_text) (take_more rows i d h) ∙ flat_map-append row_text (take i rows) (get_or rows i d ∷ [])
+    ∙ ap (λ t. flat_map row_text (take i rows) ++ t) (append-nil (row_text (get_or rows i d))) in
+    e ∙ ap (λ t. t ++ row_text cols) inv ∙ ap (λ t. flat_map row_text (take i rows) ++ row_text t) same ∙ sym more

@@ -69,11 +69,11 @@ after-start (c ∷ cs) all (suc n) start =
     ap (whole_after 0) back ∙ others (sym (start-past (cells_of c) more (suc n) past) ∙ start) ∙ sym back)
     (cases_lt (suc n) c.1)
 
-whole_before-start : (row : List Cell) (n : ℕ) → IsWhole row → is_start row n ≡ true → whole_before (take n row) ≡ take n row
+pub whole_before-start : (row : List Cell) (n : ℕ) → IsWhole row → is_start row n ≡ true → whole_before (take n row) ≡ take n row
 whole_before-start row n h start =
     subst (λ (r : List Cell). whole_before (take n r) ≡ take n r) (sym h.cells) (before-start h.symbols h.wide n (ap (λ r. is_start r n) (sym h.cells) ∙ start))
 
-whole_after-start : (row : List Cell) (n : ℕ) → IsWhole row → is_start row n ≡ true → whole_after 0 (drop n row) ≡ drop n row
+pub whole_after-start : (row : List Cell) (n : ℕ) → IsWhole row → is_start row n ≡ true → whole_after 0 (drop n row) ≡ drop n row
 whole_after-start row n h start =
     subst (λ (r : List Cell). whole_after 0 (drop n r) ≡ drop n r) (sym h.cells) (after-start h.symbols h.wide n (ap (λ r. is_start r n) (sym h.cells) ∙ start))
 

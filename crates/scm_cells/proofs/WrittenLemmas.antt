@@ -23,16 +23,11 @@ use Rattle.unicode_segmentation.specs.Grapheme.{graphemes, is_grapheme_break}
 use Rattle.unicode_width.specs.Width.{str_width}
 use Rattle.scm_cells.specs.Rect.{or_zero}
 use Rattle.scm_cells.specs.Cluster.{Cluster, bytes_as_clusters}
-use Rattle.scm_cells.specs.Clusters.{clusters, text_width, clusters_left, rest_left, visible_clusters, with_width, visible_width, has_control, IsMeasured}
-use Rattle.scm_cells.specs.declared.text.Clusters.{Clusters}
-use Rattle.scm_cells.specs.declared.text.Rest.{Rest}
-use Rattle.scm_cells.specs.declared.text.Rest.TheVariants.{Bytes, Graphemes}
+use Rattle.scm_cells.specs.Clusters.{clusters, text_width, visible_clusters, with_width, visible_width, has_control, IsMeasured}
 use Rattle.scm_cells.specs.Cell.{Cell, blank}
 use Rattle.scm_cells.specs.Row.{with_columns, passes, cells_past, cells_of, written, overlay, put}
 use Rattle.scm_cells.specs.Laying.{fit, columns_of, IsPassed, IsBegun}
-use Rattle.scm_cells.specs.FrameText.{chars_as_clusters, fast_clusters_left}
-use Rattle.scm_cells.specs.declared.fast_clusters.FastClusters.{FastClusters}
-use Rattle.scm_cells.specs.declared.fast_clusters.FastClusters.TheVariants as cuts
+use Rattle.scm_cells.specs.FrameText.{chars_as_clusters}
 use Rattle.scm_cells.specs.declared.row.Laid.{Laid}
 use Rattle.scm_cells.proofs.RectLemmas.{places}
 use Rattle.scm_cells.proofs.SingleLemmas.{IsSingle, single-graphemes}
@@ -73,24 +68,14 @@ unfolding bytes_as_clusters
 AllKept-bytes [] = tt
 AllKept-bytes (b ∷ bs) = (record { bytes = omega arith; columns = omega arith }, AllKept-bytes bs)
 
-AllKept-rest : (rest : Rest) → AllKept (rest_left rest)
-unfolding visible_clusters
-AllKept-rest (Bytes text) = AllKept-bytes _
-AllKept-rest (Graphemes pieces) = AllKept-pieces _
-
-pub AllKept-left : (s : Clusters) → AllKept (clusters_left s)
-unfolding clusters_left
-AllKept-left s = AllKept-rest s.rest
-
-AllKept-chars : (cs : List ℕ) → AllKept (chars_as_clusters cs)
+pub AllKept-chars : (cs : List ℕ) → AllKept (chars_as_clusters cs)
 unfolding chars_as_clusters
 AllKept-chars [] = tt
 AllKept-chars (c ∷ cs) = (record { bytes = grind (arith, nat_tests, length-encode c); columns = omega arith }, AllKept-chars cs)
 
-pub AllKept-cut : (s : FastClusters) → AllKept (fast_clusters_left s)
+pub AllKept-visible : (pieces : List (List ℕ)) → AllKept (visible_clusters pieces)
 unfolding visible_clusters
-AllKept-cut (cuts.FrameText text) = AllKept-chars _
-AllKept-cut (cuts.Graphemes pieces) = AllKept-pieces _
+AllKept-visible pieces = AllKept-pieces pieces
 
 pub AllKept-clusters : (text : List ℕ) → AllKept (clusters text)
 unfolding clusters visible_clusters
@@ -377,9 +362,16 @@ columns_of-more cs rest c e = ap columns_of e ∙ sum_by-cons (λ (k : Cluster).
 pub columns_of-none : (cs rest : List Cluster) → cs ≡ [] → rest ≡ [] → columns_of cs ≡ columns_of rest
 columns_of-none cs rest e f = ap columns_of (e ∙ sym f)
 
+pub clusters-pieces : (text : List ℕ) (pieces : List (List ℕ)) → pieces ≡ graphemes true text → visible_clusters pieces ≡ clusters text
+unfolding clusters
+clusters-pieces text pieces e = ap visible_clusters e
+
 pub columns_of-text : (text : List ℕ) (cs : List Cluster) → cs ≡ clusters text → columns_of cs ≡ text_width text
 unfolding text_width
 columns_of-text text cs e = ap columns_of e
+
+pub columns_of-pieces : (text : List ℕ) (pieces : List (List ℕ)) → pieces ≡ graphemes true text → columns_of (visible_clusters pieces) ≡ text_width text
+columns_of-pieces text pieces e = columns_of-text text (visible_clusters pieces) (clusters-pieces text pieces e)
 
 -- ---- the first column that is written
 

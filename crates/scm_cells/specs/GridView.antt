@@ -1,16 +1,11 @@
 -- The fields of `Grid` as a screen.
-use Rattle.std.specs.Prelude.{◌≡◌, List, length, map, Vec}
-use Rattle.scm_cells.specs.Cell.{Cell}
+use Rattle.std.specs.Prelude.{◌≡◌, length}
 use Rattle.scm_cells.specs.Screen.{Screen, IsScreen}
 use Rattle.scm_cells.specs.declared.grid.Grid.TheInside.{Inside}
 
--- a row of columns as cells
-abbrev pub row_of : {Z : Type 0} → Vec Cell Z → List Cell
-row_of row = row.items
-
 -- the fields of `Grid` as a screen
 abbrev pub screen_of : Inside → Screen
-screen_of g = record { width = g.width; rows = map row_of g.rows.items; counts = record { rows = g.rows_drawn; calls = g.calls } }
+screen_of g = record { width = g.width; rows = g.rows.items; counts = record { rows = g.rows_drawn; calls = g.calls } }
 
 -- each row of the grid has its width, and whole symbols; the laid columns have its width
 abbrev pub HasRows : Inside → Type 0

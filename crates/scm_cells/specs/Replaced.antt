@@ -1,8 +1,9 @@
 -- The characters of a line that a screen cannot show, and their replacements.
-use Rattle.std.specs.Prelude.{ℕ, false, ◌+◌, ◌==◌, nat_lt, List, [], ◌∷◌, ◌++◌, if◌then◌else◌, Option, Some, None, unwrap_or, encode_utf8}
+use Rattle.std.specs.Prelude.{ℕ, false, ◌+◌, ◌-◌, ◌==◌, ◌&&◌, nat_lt, List, [], ◌∷◌, ◌++◌, length, take, slice_index_or, if◌then◌else◌, Option, Some, None, unwrap_or, encode_utf8}
 use Rattle.std.specs.Option.{option_map_or}
 use Rattle.std.specs.Str.{chars}
 use Rattle.unicode_width.specs.Width.{char_width}
+use Rattle.scm_cells.specs.Cluster.{is_printable}
 
 -- the replacement of a character, if it has one: an arrow and three spaces for a tab, the return symbol for a newline,
 -- the Unicode picture of another control character of ASCII, and U+FFFD for another character of width 0
@@ -29,3 +30,9 @@ pieces_from piece (c ∷ cs) =
 -- the pieces of a line: for each replaced character the text before it and the replacement; then the rest, unless it is empty
 unfoldable pub line_pieces : List ℕ → List (List ℕ)
 line_pieces line = pieces_from [] (chars line)
+
+-- the two pieces of a line of printable ASCII and a newline, or `None` of any other line
+abbrev pub printable_line : List ℕ → Option (List ℕ × List ℕ)
+printable_line line =
+    if (slice_index_or line (length line - 1) 0 == 10) && is_printable (take (length line - 1) line)
+    then Some (take (length line - 1) line, encode_utf8 0x23CE) else None

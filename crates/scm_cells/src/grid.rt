@@ -1,8 +1,9 @@
 //! A grid of cells, the content of a screen.
-ghost use Rattle.std.specs.Prelude.{◌≡◌, ◌+◌, ◌<◌, ◌≤◌, IsTrue, IfOk, IfErr, OnOk, OnErr, length, option_map, replicate, slice_index_or, [], string_bytes};
+ghost use Rattle.std.specs.Prelude.{◌≡◌, ℕ, pos, Some, ◌+◌, ◌<◌, ◌≤◌, IsTrue, IfOk, IfErr, IfNone, IfSome, OnOk, OnErr, length, option_map, replicate, slice_index_or, [], string_bytes};
+ghost use Rattle.unicode_segmentation.specs.Iter.{graphemes_left};
 ghost use Rattle.scm_cells.specs.Cluster.{is_printable};
-ghost use Rattle.scm_cells.specs.Clusters.{text_width};
-ghost use Rattle.scm_cells.specs.FrameText.{fast_clusters_left};
+ghost use Rattle.scm_cells.specs.Clusters.{text_width, visible_clusters};
+ghost use Rattle.scm_cells.specs.FrameText.{frame_width};
 ghost use Rattle.scm_cells.specs.Laying.{columns_of};
 ghost use Rattle.scm_cells.specs.Counts.{one_row, one_call};
 ghost use Rattle.scm_cells.specs.Screen.{IsScreen, blank_screen, after_count, put_on, view_of};
@@ -10,12 +11,15 @@ ghost use Rattle.scm_cells.specs.Symbols.{symbol_at};
 ghost use Rattle.scm_errors.specs.declared.error.RecordError.TheVariants.{OutOfMemory};
 
 use crate::column::Column;
-use crate::fast_clusters::FastClusters;
+use crate::frame_text::frame_width;
+use crate::grid_row::GridRow;
 use crate::printable::is_printable;
 use crate::row;
+use crate::text::NextCluster;
 use scm_errors::RecordError;
 use std::alloc::{AllocError, Global};
 use std::marker::Model;
+use unicode_segmentation::Graphemes;
 
 /// Rows of symbols; rows and columns are counted from 0. Each row consists of whole symbols, whose
 /// widths sum to the width of the grid. The grid also counts rows of a document and draw calls, for
@@ -27,8 +31,8 @@ pub struct Grid {
     /// The number of columns of each row.
     width: usize,
 
-    /// The columns of each row, from the top.
-    rows: Vec<Vec<Column>>,
+    /// The rows, from the top.
+    rows: Vec<GridRow>,
 
     /// The columns on which a text is laid before a row takes them, as many as a row has.
     laid: Vec<Column>,
@@ -65,7 +69,7 @@ impl Grid {
         let laid = row::blank_row(alloc, width)?;
         let mut rows = Vec::with_capacity(alloc, height)?;
         'rows: for _ in 0..height {
-            rows.push(row::blank_row(alloc, width)?)?;
+            rows.push(GridRow::new(alloc, width)?)?;
         }
         Ok(Grid {
             alloc,
@@ -130,8 +134,8 @@ impl Grid {
     {
         self.rows_drawn = 0;
         self.calls = 0;
-        'rows: for columns in self.rows.iter_mut() {
-            row::clear_row(columns.as_mut_slice());
+        'rows: for cells in self.rows.iter_mut() {
+            cells.clear();
         }
     }
 
@@ -156,8 +160,7 @@ impl Grid {
         ensures unchanged { OnErr result (self.new ≡ self.old) }
         ensures err { IfErr result (λ e. e ≡ OutOfMemory) }
     {
-        if is_printable(text) {
-            self.put_printable(row, column, text, low, high);
+        if self.put_in_place(row, column, text, low, high).is_some() {
             return Ok(());
         }
         self.put_text(row, column, text, low, high)?;
@@ -184,9 +187,8 @@ impl Grid {
         ensures unchanged { OnErr result (self.new ≡ self.old) }
         ensures err { IfErr result (λ e. e ≡ OutOfMemory) }
     {
-        if is_printable(text) {
-            self.put_printable(row, column, text, low, high);
-            return Ok(text.len());
+        if let Some(width) = self.put_in_place(row, column, text, low, high) {
+            return Ok(width);
         }
         let (rest, before) = self.put_text(row, column, text, low, high)?;
         Ok(before + rest.columns_left())
@@ -200,7 +202,45 @@ impl Grid {
         ensures { self.new ≡ put_on self.old row column (replicate width 32) low high }
     {
         let cells = &mut self.rows[row];
-        row::put_spaces(cells.as_mut_slice(), column, width, low, high);
+        cells.put_spaces(column, width, low, high);
+    }
+
+    /// Puts a text like `put`, if that needs no memory for symbols, and returns its width. That is so
+    /// for printable ASCII, and for a frame text that begins at the column `low` or right of it.
+    fn put_in_place(
+        &mut self,
+        row: usize,
+        column: isize,
+        text: &str,
+        low: usize,
+        high: usize,
+    ) -> Option<usize>
+        requires row { row < length self.old.rows }
+        requires high { high ≤ self.old.width }
+        ensures some { IfSome result (λ n. self.new ≡ put_on self.old row column text.now low high) }
+        ensures columns { IfSome result (λ n. n ≡ text_width text.now) }
+        ensures none { IfNone result (self.new ≡ self.old) }
+    {
+        if is_printable(text) {
+            self.put_printable(row, column, text, low, high);
+            return Some(text.len());
+        }
+        let from = row::column_from(column, low)?;
+        let width = frame_width(text)?;
+        self.put_frame_text(row, from, text, width, high);
+        Some(width)
+    }
+
+    /// Puts a frame text of `width` characters like `put`, from the column `from` on.
+    fn put_frame_text(&mut self, row: usize, from: usize, text: &str, width: usize, high: usize)
+        requires frame { frame_width text.now ≡ Some width }
+        requires row { row < length self.old.rows }
+        requires high { high ≤ self.old.width }
+        ensures { (low : ℕ) → low ≤ from
+            → self.new ≡ put_on self.old row (pos from) text.now low high }
+    {
+        let cells = &mut self.rows[row];
+        cells.put_frame_text(from, text, width, high);
     }
 
     /// Puts a text of printable ASCII like `put`. It does not allocate.
@@ -211,7 +251,7 @@ impl Grid {
         ensures { self.new ≡ put_on self.old row column text.now low high }
     {
         let cells = &mut self.rows[row];
-        row::put_printable(cells.as_mut_slice(), column, text, low, high);
+        cells.put_printable(column, text, low, high);
     }
 
     /// Puts a text like `put`. Returns its remaining clusters, and the width of the clusters before
@@ -223,17 +263,17 @@ impl Grid {
         text: &'a str,
         low: usize,
         high: usize,
-    ) -> Result<(FastClusters<'a>, usize), AllocError>
+    ) -> Result<(Graphemes<'a>, usize), AllocError>
         requires row { row < length self.old.rows }
         requires high { high ≤ self.old.width }
         ensures ok { OnOk result (self.new ≡ put_on self.old row column text.now low high) }
         ensures taken { IfOk result (λ r.
-            text_width text.now ≡ r.1 + columns_of (fast_clusters_left r.0)) }
+            text_width text.now ≡ r.1 + columns_of (visible_clusters (graphemes_left r.0))) }
         ensures unchanged { OnErr result (self.new ≡ self.old) }
     {
         let columns = &mut self.rows[row];
         let laid = self.laid.as_mut_slice();
-        let rest = row::put_row(columns.as_mut_slice(), laid, column, text, low, high)?;
+        let rest = columns.put_text(laid, column, text, low, high)?;
         Ok(rest)
     }
 
@@ -242,8 +282,8 @@ impl Grid {
     pub fn symbol(&self, row: usize, column: usize) -> Option<&str>
         ensures { option_map (λ s. s.now) result ≡ symbol_at self.now.rows row column }
     {
-        let columns = self.rows.get(row)?;
-        row::symbol_in(columns.as_slice(), column)
+        let cells = self.rows.get(row)?;
+        row::symbol_in(cells.columns(), column)
     }
 
     /// Returns the columns of row `row`. Returns none outside the grid.
@@ -251,7 +291,7 @@ impl Grid {
         ensures { result.now ≡ slice_index_or self.now.rows row [] }
     {
         match self.rows.get(row) {
-            Some(columns) => columns.as_slice(),
+            Some(cells) => cells.columns(),
             None => &[],
         }
     }
@@ -266,8 +306,8 @@ impl Grid {
         ensures err { IfErr result (λ e. e ≡ OutOfMemory) }
     {
         let mut text = String::new(self.alloc);
-        'rows: for columns in &self.rows {
-            row::push_row(&mut text, columns.as_slice())?;
+        'rows: for cells in &self.rows {
+            row::push_row(&mut text, cells.columns())?;
         }
         Ok(text)
     }

@@ -1,11 +1,11 @@
 //! Replacements for characters that a screen cannot show: control characters, and characters of
 //! width 0.
 ghost use Rattle.std.specs.Prelude.{◌≡◌, ◌++◌, ◌∷◌, [], ◌+◌, ◌<◌, ◌≤◌, length, encode_utf8, option_map, IfNone, IfSome, OnOk, OnErr, IfErr, vec_len, vec_capacity};
-ghost use Rattle.scm_cells.specs.Replaced.{replacement, line_pieces, last_piece};
+ghost use Rattle.scm_cells.specs.Replaced.{replacement, line_pieces, last_piece, printable_line};
 ghost use Rattle.scm_cells.specs.Spans.{span_texts};
 ghost use Rattle.scm_errors.specs.declared.error.RecordError.TheVariants.{OutOfMemory};
 
-use crate::printable::count_printable;
+use crate::printable::{count_printable, is_printable};
 use crate::text::Span;
 use scm_errors::RecordError;
 use unicode_width::UnicodeWidthChar;
@@ -94,6 +94,26 @@ pub(crate) fn cut_at_replaced(line: &str) -> Option<(&str, &'static str, &str)>
         read += character.len_utf8();
     }
     None
+}
+
+/// Returns the texts of the two spans that [`push_spans_from_line`] adds for `line`, if it is printable
+/// ASCII and a newline at its end. Returns `None` for any other line. Reads the whole line.
+pub fn printable_line(line: &str) -> Option<(&str, &'static str)>
+    ensures value { option_map (λ p. (p.0.now, p.1.now)) result ≡ printable_line line.now }
+    ensures pieces { IfSome result (λ p.
+        line_pieces line.now ≡ p.0.now ∷ (p.1.now ∷ [])) }
+{
+    let count = line.len().checked_sub(1)?;
+    let bytes = line.as_bytes();
+    if bytes[count] != b'\n' {
+        return None;
+    }
+    let (text, _) = line.split_at(count);
+    if is_printable(text) {
+        Some((text, "⏎"))
+    } else {
+        None
+    }
 }
 
 /// Returns the number of spans that `push_spans_from_line` adds for the line.

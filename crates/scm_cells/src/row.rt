@@ -1,20 +1,23 @@
 //! A row of the grid as columns, and how a text is put on it.
-ghost use Rattle.std.specs.Prelude.{◌≡◌, IsTrue, is_some, ◌+◌, ◌-◌, ◌^◌, ◌<◌, ◌≤◌, ◌++◌, pos, IfOk, OnOk, OnErr, length, take, drop, slice_range, replicate, min, map, option_map, string_bytes};
+ghost use Rattle.std.specs.Prelude.{◌≡◌, ℕ, IsTrue, is_some, Some, ◌+◌, ◌-◌, ◌^◌, ◌<◌, ◌≤◌, ◌++◌, pos, IfOk, IfSome, OnOk, OnErr, length, take, drop, slice_range, replicate, min, map, option_map, string_bytes};
 ghost use Rattle.std.specs.Int.{int_max};
+ghost use Rattle.std.specs.Str.{chars};
+ghost use Rattle.unicode_segmentation.specs.Iter.{graphemes_left};
 ghost use Rattle.scm_cells.specs.Rect.{or_zero};
-ghost use Rattle.scm_cells.specs.Cell.{blank, byte_cell};
+ghost use Rattle.scm_cells.specs.Cell.{blank, byte_cell, char_cell};
 ghost use Rattle.scm_cells.specs.Cluster.{is_printable};
-ghost use Rattle.scm_cells.specs.Clusters.{text_width};
+ghost use Rattle.scm_cells.specs.Clusters.{text_width, visible_clusters};
 ghost use Rattle.scm_cells.specs.Row.{IsWhole, cells_of, later_cells, whole_before, whole_after, overlay, put, row_text};
-ghost use Rattle.scm_cells.specs.FrameText.{fast_clusters_left};
+ghost use Rattle.scm_cells.specs.FrameText.{frame_width, is_frame_text};
 ghost use Rattle.scm_cells.specs.Symbols.{symbol_in};
+ghost use Rattle.scm_cells.specs.Tail.{IsBlankFrom};
 ghost use Rattle.scm_cells.specs.Laying.{fit, columns_of, IsPassed, IsBegun};
 
 use crate::column::Column;
-use crate::fast_clusters::FastClusters;
 use crate::rect::gap;
 use crate::text::NextCluster;
 use std::alloc::{AllocError, Global};
+use unicode_segmentation::{Graphemes, UnicodeSegmentation};
 
 /// Returns a row of `width` spaces.
 pub(crate) fn blank_row(alloc: Global, width: usize) -> Result<Vec<Column>, AllocError>
@@ -34,6 +37,15 @@ pub(crate) fn clear_row(columns: &mut [Column])
     for column in columns.iter_mut() {
         column.clear();
     }
+}
+
+/// Makes each column a space, if each from the column `end` on is one.
+pub(crate) fn clear_front(columns: &mut [Column], end: usize)
+    requires { IsBlankFrom end columns.old }
+    ensures { columns.new ≡ replicate (length columns.old) blank }
+{
+    let count = end.min(columns.len());
+    clear_row(&mut columns[..count]);
 }
 
 /// Replaces a symbol that is cut by the end of `columns` by spaces. Does nothing if `is_whole`.
@@ -83,6 +95,21 @@ fn write_bytes(columns: &mut [Column], bytes: &[u8])
     }
 }
 
+/// Makes each column the symbol of the character at its place.
+fn write_characters(columns: &mut [Column], text: &str)
+    requires frame { IsTrue (is_frame_text text.now) }
+    requires size { length columns.old ≤ length (chars text.now) }
+    ensures { columns.new ≡ map char_cell (take (length columns.old) (chars text.now)) }
+{
+    let mut characters = text.chars();
+    for column in columns.iter_mut() {
+        let Some(character) = characters.next() else {
+            return;
+        };
+        column.set_character(character);
+    }
+}
+
 /// Lays the columns of a symbol of `width` columns after its first.
 fn lay_rest(columns: &mut [Column], width: usize)
     requires count { length columns.old + 1 ≡ width }
@@ -122,19 +149,19 @@ struct Laid {
 }
 
 /// Lays clusters from the column `start`, up to the first that does not fit.
-fn lay_each<'a, C: NextCluster<'a>>(
+fn lay_clusters(
     columns: &mut [Column],
-    clusters: &mut C,
+    clusters: &mut Graphemes<'_>,
     start: usize,
 ) -> Result<Laid, AllocError>
     requires width { length columns.old < 2 ^ 16 }
     requires start { start ≤ length columns.old }
-    requires few { columns_of (C.left clusters.old) < 2 ^ 64 }
+    requires few { columns_of (visible_clusters (graphemes_left clusters.old)) < 2 ^ 64 }
     ensures within { IfOk result (λ r. r.end ≤ length columns.old) }
     ensures laid { IfOk result (λ r. take r.end columns.new ≡ take start columns.old
-        ++ fit (length columns.old - start) (C.left clusters.old)) }
-    ensures taken { IfOk result (λ r.
-        columns_of (C.left clusters.old) ≡ r.taken + columns_of (C.left clusters.new)) }
+        ++ fit (length columns.old - start) (visible_clusters (graphemes_left clusters.old))) }
+    ensures taken { IfOk result (λ r. columns_of (visible_clusters (graphemes_left clusters.old))
+        ≡ r.taken + columns_of (visible_clusters (graphemes_left clusters.new))) }
 {
     let mut end = start;
     'clusters: while let Some((symbol, width)) = clusters.next_cluster() {
@@ -149,35 +176,13 @@ fn lay_each<'a, C: NextCluster<'a>>(
     Ok(Laid { end, taken })
 }
 
-/// Lays clusters like `lay_each`, with one loop per kind of text. A single loop that chooses at
-/// each cluster is slower.
-fn lay_clusters(
-    columns: &mut [Column],
-    clusters: &mut FastClusters<'_>,
-    start: usize,
-) -> Result<Laid, AllocError>
-    requires width { length columns.old < 2 ^ 16 }
-    requires start { start ≤ length columns.old }
-    requires few { columns_of (fast_clusters_left clusters.old) < 2 ^ 64 }
-    ensures within { IfOk result (λ r. r.end ≤ length columns.old) }
-    ensures laid { IfOk result (λ r. take r.end columns.new ≡ take start columns.old
-        ++ fit (length columns.old - start) (fast_clusters_left clusters.old)) }
-    ensures taken { IfOk result (λ r. columns_of (fast_clusters_left clusters.old)
-        ≡ r.taken + columns_of (fast_clusters_left clusters.new)) }
-{
-    match clusters {
-        FastClusters::FrameText(text) => lay_each(columns, text, start),
-        FastClusters::Graphemes(pieces) => lay_each(columns, pieces, start),
-    }
-}
-
 /// Skips the clusters that begin within the next `columns` columns. Returns their width.
-fn pass_over(clusters: &mut FastClusters<'_>, columns: usize) -> usize
-    requires few { columns_of (fast_clusters_left clusters.old) < 2 ^ 64 }
-    ensures passed { IsPassed columns (fast_clusters_left clusters.old)
-        (result - columns) (fast_clusters_left clusters.new) }
-    ensures taken { columns_of (fast_clusters_left clusters.old)
-        ≡ result + columns_of (fast_clusters_left clusters.new) }
+fn pass_over(clusters: &mut Graphemes<'_>, columns: usize) -> usize
+    requires few { columns_of (visible_clusters (graphemes_left clusters.old)) < 2 ^ 64 }
+    ensures passed { IsPassed columns (visible_clusters (graphemes_left clusters.old))
+        (result - columns) (visible_clusters (graphemes_left clusters.new)) }
+    ensures taken { columns_of (visible_clusters (graphemes_left clusters.old))
+        ≡ result + columns_of (visible_clusters (graphemes_left clusters.new)) }
 {
     let mut passed = 0;
     'clusters: while passed < columns {
@@ -203,14 +208,14 @@ struct Start {
 }
 
 /// Skips the clusters that begin before the column `low`, if the first begins at `column`.
-fn begin(clusters: &mut FastClusters<'_>, column: isize, low: usize) -> Start
+fn begin(clusters: &mut Graphemes<'_>, column: isize, low: usize) -> Start
     requires low { low < 2 ^ 63 }
-    requires few { columns_of (fast_clusters_left clusters.old) < 2 ^ 64 }
+    requires few { columns_of (visible_clusters (graphemes_left clusters.old)) < 2 ^ 64 }
     ensures from { result.from ≡ or_zero (int_max column (pos low)) }
-    ensures begun { IsBegun column low (fast_clusters_left clusters.old)
-        result.from result.blanks (fast_clusters_left clusters.new) }
-    ensures taken { columns_of (fast_clusters_left clusters.old)
-        ≡ result.passed + columns_of (fast_clusters_left clusters.new) }
+    ensures begun { IsBegun column low (visible_clusters (graphemes_left clusters.old))
+        result.from result.blanks (visible_clusters (graphemes_left clusters.new)) }
+    ensures taken { columns_of (visible_clusters (graphemes_left clusters.old))
+        ≡ result.passed + columns_of (visible_clusters (graphemes_left clusters.new)) }
 {
     let limit = low as isize;
     if column < limit {
@@ -252,6 +257,9 @@ fn mend_around(columns: &mut [Column], from: usize, end: usize)
 {
     let is_from_start = is_start(columns, from);
     let is_end_start = is_start(columns, end);
+    if is_from_start & is_end_start {
+        return;
+    }
     let (front, rest) = columns.split_at_mut(from);
     let (_, back) = rest.split_at_mut(end - from);
     mend_before(front, is_from_start);
@@ -276,7 +284,8 @@ fn show(columns: &mut [Column], from: usize, laid: &mut [Column])
 fn clear_between(columns: &mut [Column], from: usize, end: usize)
     requires end { end ≤ length columns.old }
     requires whole { IsWhole columns.old }
-    ensures { columns.new ≡ overlay columns.old from (replicate (end - from) blank) }
+    ensures row { columns.new ≡ overlay columns.old from (replicate (end - from) blank) }
+    ensures tail { (n : ℕ) → IsBlankFrom n columns.old → IsBlankFrom n columns.new }
 {
     if from < end {
         mend_around(columns, from, end);
@@ -298,20 +307,35 @@ fn write_over(columns: &mut [Column], from: usize, bytes: &[u8])
     write_bytes(&mut columns[from..after], bytes);
 }
 
+/// Writes the first characters of a text on the columns `from..past`. The other columns of a symbol
+/// that they cover in part become spaces.
+fn write_text_over(columns: &mut [Column], from: usize, past: usize, text: &str)
+    requires frame { IsTrue (is_frame_text text.now) }
+    requires some { from < past }
+    requires size { past - from ≤ length (chars text.now) }
+    requires end { past ≤ length columns.old }
+    requires whole { IsWhole columns.old }
+    ensures { columns.new
+        ≡ overlay columns.old from (map char_cell (take (past - from) (chars text.now))) }
+{
+    mend_around(columns, from, past);
+    write_characters(&mut columns[from..past], text);
+}
+
 /// Lays `blanks` spaces and then clusters, as far as they fit.
 fn lay(
     columns: &mut [Column],
     blanks: usize,
-    clusters: &mut FastClusters<'_>,
+    clusters: &mut Graphemes<'_>,
 ) -> Result<Laid, AllocError>
     requires width { length columns.old < 2 ^ 16 }
-    requires few { columns_of (fast_clusters_left clusters.old) < 2 ^ 64 }
+    requires few { columns_of (visible_clusters (graphemes_left clusters.old)) < 2 ^ 64 }
     ensures within { IfOk result (λ r. r.end ≤ length columns.old) }
     ensures laid { IfOk result (λ r. take r.end columns.new
         ≡ replicate (min blanks (length columns.old)) blank
-        ++ fit (length columns.old - blanks) (fast_clusters_left clusters.old)) }
-    ensures taken { IfOk result (λ r. columns_of (fast_clusters_left clusters.old)
-        ≡ r.taken + columns_of (fast_clusters_left clusters.new)) }
+        ++ fit (length columns.old - blanks) (visible_clusters (graphemes_left clusters.old))) }
+    ensures taken { IfOk result (λ r. columns_of (visible_clusters (graphemes_left clusters.old))
+        ≡ r.taken + columns_of (visible_clusters (graphemes_left clusters.new))) }
 {
     let blanks = blanks.min(columns.len());
     clear_row(&mut columns[..blanks]);
@@ -327,7 +351,7 @@ pub(crate) fn put_row<'a>(
     text: &'a str,
     low: usize,
     high: usize,
-) -> Result<(FastClusters<'a>, usize), AllocError>
+) -> Result<(Graphemes<'a>, usize), AllocError>
     requires width { length columns.old < 2 ^ 16 }
     requires high { high ≤ length columns.old }
     requires laid { length laid.old ≡ length columns.old }
@@ -335,9 +359,9 @@ pub(crate) fn put_row<'a>(
     ensures ok { OnOk result (columns.new ≡ put columns.old column text.now low high) }
     ensures err { OnErr result (columns.new ≡ columns.old) }
     ensures taken { IfOk result (λ r.
-        text_width text.now ≡ r.1 + columns_of (fast_clusters_left r.0)) }
+        text_width text.now ≡ r.1 + columns_of (visible_clusters (graphemes_left r.0))) }
 {
-    let mut clusters = FastClusters::new(text);
+    let mut clusters = text.graphemes(true);
     if low >= high {
         return Ok((clusters, 0));
     }
@@ -354,29 +378,70 @@ pub(crate) fn put_row<'a>(
     Ok((clusters, start.passed + outcome.taken))
 }
 
-/// Puts a text of printable ASCII on the row: each byte is a symbol of one column.
+/// Returns `column` as a column of a row, if it is not left of the column `low`.
+pub(crate) fn column_from(column: isize, low: usize) -> Option<usize>
+    ensures { IfSome result (λ from. (pos from ≡ column) × (low ≤ from)) }
+{
+    if column < 0 {
+        return None;
+    }
+    let from = column as usize;
+    if from < low { None } else { Some(from) }
+}
+
+/// Puts a frame text of `width` characters on the row, from the column `from` on: each character is
+/// a symbol of one column. Returns the column behind the last one that is written, or 0 if none is.
+pub(crate) fn put_frame_text(
+    columns: &mut [Column],
+    from: usize,
+    text: &str,
+    width: usize,
+    high: usize,
+) -> usize
+    requires frame { frame_width text.now ≡ Some width }
+    requires high { high ≤ length columns.old }
+    requires whole { IsWhole columns.old }
+    ensures row { (low : ℕ) → low ≤ from
+        → columns.new ≡ put columns.old (pos from) text.now low high }
+    ensures tail { (n : ℕ) → result ≤ n → IsBlankFrom n columns.old → IsBlankFrom n columns.new }
+{
+    let limit = high.min(from.saturating_add(width));
+    if from < limit {
+        write_text_over(columns, from, limit, text);
+        limit
+    } else {
+        0
+    }
+}
+
+/// Puts a text of printable ASCII on the row: each byte is a symbol of one column. Returns the column
+/// behind the last one that is written, or 0 if none is.
 pub(crate) fn put_printable(
     columns: &mut [Column],
     column: isize,
     text: &str,
     low: usize,
     high: usize,
-)
+) -> usize
     requires printable { IsTrue (is_printable text.now) }
     requires width { length columns.old < 2 ^ 16 }
     requires high { high ≤ length columns.old }
     requires whole { IsWhole columns.old }
-    ensures { columns.new ≡ put columns.old column text.now low high }
+    ensures row { columns.new ≡ put columns.old column text.now low high }
+    ensures tail { (n : ℕ) → result ≤ n → IsBlankFrom n columns.old → IsBlankFrom n columns.new }
 {
     let from = low.max(gap(0, column));
     if from >= high {
-        return;
+        return 0;
     }
     let bytes = text.as_bytes();
     let skipped = gap(column, low as isize);
     if skipped < bytes.len() {
         let count = (high - from).min(bytes.len() - skipped);
         write_over(columns, from, &bytes[skipped..skipped + count]);
+        from + count
+    } else {
+        0
     }
 }
 
@@ -390,7 +455,8 @@ pub(crate) fn put_spaces(
 )
     requires high { high ≤ length columns.old }
     requires whole { IsWhole columns.old }
-    ensures { columns.new ≡ put columns.old column (replicate width 32) low high }
+    ensures row { columns.new ≡ put columns.old column (replicate width 32) low high }
+    ensures tail { (n : ℕ) → IsBlankFrom n columns.old → IsBlankFrom n columns.new }
 {
     let start = gap(0, column);
     let visible = width.saturating_sub(gap(column, 0));

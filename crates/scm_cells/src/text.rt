@@ -7,7 +7,7 @@ ghost use Rattle.scm_cells.specs.Cluster.{Cluster, cluster, bytes_as_clusters};
 ghost use Rattle.scm_cells.specs.Clusters.{has_control, visible_width, visible_clusters, text_width};
 ghost use Rattle.scm_cells.specs.Laying.{columns_of};
 
-use crate::fast_clusters::FastClusters;
+use crate::frame_text::frame_width;
 use crate::printable::{Printable, is_printable};
 use unicode_segmentation::{Graphemes, UnicodeSegmentation};
 use unicode_width::UnicodeWidthStr;
@@ -161,5 +161,8 @@ pub fn text_width(text: &str) -> usize
     if is_printable(text) {
         return text.len();
     }
-    FastClusters::new(text).columns_left()
+    if let Some(width) = frame_width(text) {
+        return width;
+    }
+    text.graphemes(true).columns_left()
 }

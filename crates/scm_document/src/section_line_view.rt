@@ -1,5 +1,5 @@
 //! The view of a line of a section.
-ghost use Rattle.std.specs.Prelude.{◌≡◌, ◌+◌, OnOk, IfErr};
+ghost use Rattle.std.specs.Prelude.{◌≡◌, ◌+◌, ◌∷◌, [], IfSome, OnOk, IfErr};
 ghost use Rattle.scm_render.specs.Picture.{PictureInRange};
 ghost use Rattle.scm_render.specs.Canvas.{with_picture};
 ghost use Rattle.scm_render.specs.Drawing.{texts_width};
@@ -15,7 +15,7 @@ ghost use Rattle.scm_render.specs.Draws.{CanDraw, HasDrawn};
 
 use crate::texts::{number_text, sign_text};
 use crate::widths::{number_width, pieces_width};
-use scm_cells::{Span, gap, push_first_spans, push_spans_from_line, text_width};
+use scm_cells::{Span, gap, printable_line, push_first_spans, push_spans_from_line, text_width};
 use scm_render::{Component, Viewport};
 use scm_types::{ChangeType, LineKey, RecordError, SelectionKey};
 use scm_widgets::clipped_drawing::{begin_row, cover_texts, is_on_screen, show_box, show_text};
@@ -87,6 +87,41 @@ fn push_visible_spans<'a>(
     }
 }
 
+/// How many bytes of a line are read, whatever is shown of it, to draw it without a list of spans.
+const SHORT: usize = 256;
+
+/// Returns the two texts that a screen shows of `line`, if it is short, and printable ASCII but for
+/// its line end.
+fn short_line(line: &str) -> Option<(&str, &'static str)>
+    ensures { IfSome result (λ p. line_pieces line.now ≡ p.0.now ∷ (p.1.now ∷ [])) }
+{
+    if line.len() <= SHORT {
+        printable_line(line)
+    } else {
+        None
+    }
+}
+
+/// Draws `front` and the text of `line` by a list of spans.
+fn draw_spans(
+    alloc: Global,
+    viewport: &mut Viewport<ComponentId>,
+    x: isize,
+    y: isize,
+    front: &str,
+    line: &str,
+) -> Result<(), RecordError>
+    requires { CanDraw viewport.old (line_texts_call (line_texts front.now line.now) x y) }
+    ensures { HasDrawn viewport.old viewport.new result
+        (line_texts_call (line_texts front.now line.now) x y) }
+{
+    let mut spans = Vec::new(alloc);
+    spans.push(Span(front))?;
+    push_visible_spans(viewport, x, line, &mut spans)?;
+    show_text(viewport, x, y, spans.as_slice())?;
+    Ok(())
+}
+
 /// Draws `front`, a line's number or sign, and the text of `line` as a screen can show it.
 fn draw_line_texts(
     alloc: Global,
@@ -100,15 +135,16 @@ fn draw_line_texts(
     ensures { HasDrawn viewport.old viewport.new result
         (line_texts_call (line_texts front.now line.now) x y) }
 {
-    if is_on_screen(viewport, y) {
-        let mut spans = Vec::new(alloc);
-        spans.push(Span(front))?;
-        push_visible_spans(viewport, x, line, &mut spans)?;
-        show_text(viewport, x, y, spans.as_slice())?;
-        Ok(())
-    } else {
+    if !is_on_screen(viewport, y) {
         cover_line(viewport, x, y, text_width(front), line);
-        Ok(())
+        return Ok(());
+    }
+    match short_line(line) {
+        Some((text, end)) => {
+            viewport.draw_text(x, y, &[Span(front), Span(text), Span(end)])?;
+            Ok(())
+        }
+        None => draw_spans(alloc, viewport, x, y, front, line),
     }
 }
 

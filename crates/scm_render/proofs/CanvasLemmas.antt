@@ -157,11 +157,6 @@ module _ {K : Type 0} where
   unfolding with_picture
   with_picture-passed c m none same = canvas-same (with_picture c m) c refl same (rw none refl) (rw none refl)
 
-  -- no boxes are kept after a picture only if none were kept before
-  pub kept-not : (bs : Option (List (Box K))) (cs : List (Box K)) → kept bs cs ≡ None → bs ≡ None
-  kept-not None cs e = refl
-  kept-not (Some bs) cs e = absurd (cc e)
-
   -- what a part leaves on the rows, and among the boxes
   pub part-rows : (c d : Canvas K) (id : K) (m : Picture K) → d ≡ with_picture c (part id m) → d.rows ≡ paint_rows c.sight.rect m.puts c.sight.rect.y c.rows
   unfolding part

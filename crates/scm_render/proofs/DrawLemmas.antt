@@ -284,26 +284,29 @@ module _ {K : Type 0} where
   unfolding frame_picture
   frame_in_range s r title body p = p.areas.0
 
-  -- a text that goes past what drawing reaches
-  pub ellipsis_in_range : (c d : Canvas K) (m : Rect) (end x y : ℤ) (ts : List (List ℕ)) → d ≡ with_picture c (line_picture c.sight x y ts) → m ≡ reach d.sight → end ≡ end_x_of m
+  -- a text that goes past what drawing reaches, which is the same after it is drawn
+  pub sight-after : (c d : Canvas K) (x y : ℤ) (ts : List (List ℕ)) → d ≡ with_picture c (line_picture c.sight x y ts) → d.sight ≡ c.sight
+  sight-after c d x y ts h = ap (λ v. v.sight) h ∙ with_picture-sight c (line_picture c.sight x y ts)
+
+  pub reach-after : (c d : Canvas K) (m : Rect) (x y : ℤ) (ts : List (List ℕ)) → d ≡ with_picture c (line_picture c.sight x y ts) → m ≡ reach c.sight → m ≡ reach d.sight
+  reach-after c d m x y ts h e = e ∙ ap reach (sym (sight-after c d x y ts h))
+
+  pub ellipsis_in_range : (c d : Canvas K) (m : Rect) (end x y : ℤ) (ts : List (List ℕ)) → d ≡ with_picture c (line_picture c.sight x y ts) → m ≡ reach c.sight → end ≡ end_x_of m
       → end <ℤ (x +ℤ pos (texts_width ts)) → PictureInRange {K = K} (text_picture c.sight x y ts) → PictureInRange {K = K} (span_picture d.sight (end -ℤ pos 1) y ellipsis)
   ellipsis_in_range c d m end x y ts h e f l r =
-      let s : d.sight ≡ c.sight = ap (λ v. v.sight) h ∙ with_picture-sight c (line_picture c.sight x y ts) in
-      let at : end ≡ end_x_of (reach c.sight) = f ∙ ap end_x_of (e ∙ ap reach s) in
-      rw (s, at) (PictureInRange-right _ _ (rw (text_picture-long c.sight x y ts (rw at at l)) at r))
+      let at : end ≡ end_x_of (reach c.sight) = f ∙ ap end_x_of e in
+      rw (sight-after c d x y ts h, at) (PictureInRange-right _ _ (rw (text_picture-long c.sight x y ts (rw at at l)) at r))
 
-  pub with_picture-long : (c d e : Canvas K) (m : Rect) (end x y : ℤ) (ts : List (List ℕ)) → d ≡ with_picture c (line_picture c.sight x y ts) → m ≡ reach d.sight → end ≡ end_x_of m
+  pub with_picture-long : (c d e : Canvas K) (m : Rect) (end x y : ℤ) (ts : List (List ℕ)) → d ≡ with_picture c (line_picture c.sight x y ts) → m ≡ reach c.sight → end ≡ end_x_of m
       → end <ℤ (x +ℤ pos (texts_width ts)) → e ≡ with_picture d (span_picture d.sight (end -ℤ pos 1) y ellipsis) → e ≡ with_picture c (text_picture c.sight x y ts)
   with_picture-long c d e m end x y ts h p f l k =
-      let s : d.sight ≡ c.sight = ap (λ v. v.sight) h ∙ with_picture-sight c (line_picture c.sight x y ts) in
-      let at : end ≡ end_x_of (reach c.sight) = f ∙ ap end_x_of (p ∙ ap reach s) in
+      let at : end ≡ end_x_of (reach c.sight) = f ∙ ap end_x_of p in
       with_picture-twice c d e (line_picture c.sight x y ts) (span_picture c.sight (end_x_of (reach c.sight) -ℤ pos 1) y ellipsis) h
-      (k ∙ ap (λ w. with_picture d (span_picture w (end -ℤ pos 1) y ellipsis)) s ∙ ap (λ w. with_picture d (span_picture c.sight (w -ℤ pos 1) y ellipsis)) at)
+      (k ∙ ap (λ w. with_picture d (span_picture w (end -ℤ pos 1) y ellipsis)) (sight-after c d x y ts h) ∙ ap (λ w. with_picture d (span_picture c.sight (w -ℤ pos 1) y ellipsis)) at)
       ∙ ap (with_picture c) (sym (text_picture-long c.sight x y ts (rw at at l)))
 
-  pub with_picture-fitting : (c d : Canvas K) (m : Rect) (end x y : ℤ) (ts : List (List ℕ)) → d ≡ with_picture c (line_picture c.sight x y ts) → m ≡ reach d.sight → end ≡ end_x_of m
+  pub with_picture-fitting : (c d : Canvas K) (m : Rect) (end x y : ℤ) (ts : List (List ℕ)) → d ≡ with_picture c (line_picture c.sight x y ts) → m ≡ reach c.sight → end ≡ end_x_of m
       → (x +ℤ pos (texts_width ts)) ≤ℤ end → d ≡ with_picture c (text_picture c.sight x y ts)
   with_picture-fitting c d m end x y ts h p f l =
-      let s : d.sight ≡ c.sight = ap (λ v. v.sight) h ∙ with_picture-sight c (line_picture c.sight x y ts) in
-      let at : end ≡ end_x_of (reach c.sight) = f ∙ ap end_x_of (p ∙ ap reach s) in
+      let at : end ≡ end_x_of (reach c.sight) = f ∙ ap end_x_of p in
       h ∙ sym (with_picture-short c (line_picture c.sight x y ts)) ∙ ap (with_picture c) (sym (text_picture-short c.sight x y ts (rw at at l)))

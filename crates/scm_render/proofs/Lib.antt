@@ -18,5 +18,6 @@ pub mod PaintLemmas
 pub mod RowLemmas
 pub mod SpanLemmas
 pub mod PlaceLemmas
+mod RowPlaceLemmas
 pub mod TargetLemmas
 pub mod FillLemmas

@@ -22,6 +22,8 @@ pub mod Target
 pub mod Bounds
 -- A row of the screen after texts are put on it.
 pub mod Rows
+-- Where texts are put on a row of the screen.
+pub mod RowPlaces
 -- Values of consecutive rows.
 pub mod Lines
 -- The remaining picture of a loop that draws part by part.

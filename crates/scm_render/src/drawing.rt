@@ -3,7 +3,8 @@ ghost use Rattle.std.specs.Prelude.{◌≡◌, IfOk};
 ghost use Rattle.scm_cells.specs.Spans.{span_texts};
 ghost use Rattle.scm_cells.specs.Clusters.{text_width};
 ghost use Rattle.scm_cells.specs.Counts.{added, one_call};
-ghost use Rattle.scm_render.specs.Drawing.{texts_width, row_rect, body_texts};
+ghost use Rattle.scm_cells.specs.Rect.{RectInRange};
+ghost use Rattle.scm_render.specs.Drawing.{texts_width, reach, row_rect, body_texts};
 ghost use Rattle.scm_render.specs.Draws.{CanDraw, HasDrawn};
 ghost use Rattle.scm_render.specs.DrawCalls.{
   blank_call,
@@ -44,7 +45,8 @@ impl<K: Copy + Eq + Hash + Drop> Viewport<K> {
         ensures drawn { IfOk result (λ r. r ≡ row_rect x y (text_width span.now.0.now)) }
     {
         self.count_call();
-        self.add_text(x, y, span.0)
+        let within = self.mask_rect();
+        self.add_text(within, x, y, span.0)
     }
 
     /// Draws the spans of `line` side by side from column `x` of row `y`, clipped to the mask.
@@ -60,7 +62,8 @@ impl<K: Copy + Eq + Hash + Drop> Viewport<K> {
             r ≡ row_rect x y (texts_width (span_texts line.now.0.items))) }
     {
         self.count_call();
-        self.add_spans(x, y, line.0.as_slice())
+        let within = self.mask_rect();
+        self.add_spans(within, x, y, line.0.as_slice())
     }
 
     /// Draws `spans` side by side from column `x` of row `y`, clipped to the mask. If they end past
@@ -123,27 +126,41 @@ impl<K: Copy + Eq + Hash + Drop> Viewport<K> {
         self.surface.add_call();
     }
 
-    /// Draws a text like `draw_span`, without counting a call.
-    fn add_text(&mut self, x: isize, y: isize, text: &str) -> Result<Rect, RecordError>
-        requires { CanDraw self.old (span_call x y text.now) }
+    /// Draws a text like `draw_span`, without counting a call. `within` is what the mask lets through.
+    fn add_text(
+        &mut self,
+        within: Rect,
+        x: isize,
+        y: isize,
+        text: &str,
+    ) -> Result<Rect, RecordError>
+        requires within { within ≡ reach self.old.canvas.sight }
+        requires in_range { RectInRange within }
+        requires picture { CanDraw self.old (span_call x y text.now) }
         ensures draws { HasDrawn self.old self.new result (uncounted (span_call x y text.now)) }
         ensures drawn { IfOk result (λ r. r ≡ row_rect x y (text_width text.now)) }
     {
-        let within = self.mask_rect();
         let columns = self.surface.put_text(within, x, y, text)?;
         let drawn = row_rect(x, y, columns);
         self.area = grown_in(&self.boxes, self.area, drawn);
         Ok(drawn)
     }
 
-    /// Draws spans like `draw_line`, without counting a call.
-    fn add_spans(&mut self, x: isize, y: isize, spans: &[Span]) -> Result<Rect, RecordError>
-        requires { CanDraw self.old (line_call x y (span_texts spans.now)) }
+    /// Draws spans like `draw_line`, without counting a call. `within` is what the mask lets through.
+    fn add_spans(
+        &mut self,
+        within: Rect,
+        x: isize,
+        y: isize,
+        spans: &[Span],
+    ) -> Result<Rect, RecordError>
+        requires within { within ≡ reach self.old.canvas.sight }
+        requires in_range { RectInRange within }
+        requires picture { CanDraw self.old (line_call x y (span_texts spans.now)) }
         ensures draws { HasDrawn self.old self.new result
             (uncounted (line_call x y (span_texts spans.now))) }
         ensures drawn { IfOk result (λ r. r ≡ row_rect x y (texts_width (span_texts spans.now))) }
     {
-        let within = self.mask_rect();
         let columns = self.surface.put_spans(within, x, y, spans)?;
         let drawn = row_rect(x, y, columns);
         self.area = grown_in(&self.boxes, self.area, drawn);
@@ -157,10 +174,11 @@ impl<K: Copy + Eq + Hash + Drop> Viewport<K> {
             (uncounted (text_call x y (span_texts spans.now))) }
         ensures drawn { IfOk result (λ r. r ≡ row_rect x y (texts_width (span_texts spans.now))) }
     {
-        let drawn = self.add_spans(x, y, spans)?;
-        let end = self.mask_rect().end_x();
+        let within = self.mask_rect();
+        let drawn = self.add_spans(within, x, y, spans)?;
+        let end = within.end_x();
         if end < drawn.end_x() {
-            self.add_text(end - 1, y, "…")?;
+            self.add_text(within, end - 1, y, "…")?;
         }
         Ok(drawn)
     }

@@ -1,11 +1,12 @@
 //! A grid that shows a part of a document.
-ghost use Rattle.std.specs.Prelude.{◌≡◌, ◌<◌, ◌≤◌, ◌^◌, ◌+ℤ◌, pos, ◌∷◌, [], length, replicate, OnOk, IfOk, IfErr, IsTrue, ◌≤ℤ◌, ◌<ℤ◌, ◌↔◌};
+ghost use Rattle.std.specs.Prelude.{◌≡◌, ℤ, ◌<◌, ◌≤◌, ◌^◌, ◌+ℤ◌, pos, ◌∷◌, [], length, replicate, OnOk, IfOk, IfErr, IfSome, IsTrue, ◌≤ℤ◌, ◌<ℤ◌, ◌↔◌};
 ghost use Rattle.scm_cells.specs.Rect.{RectInRange, InRange, end_y_of};
 ghost use Rattle.scm_cells.specs.Clusters.{text_width};
 ghost use Rattle.scm_cells.specs.Counts.{added, one_row, one_call};
 ghost use Rattle.scm_cells.specs.Spans.{span_texts};
 ghost use Rattle.scm_render.specs.Canvas.{with_puts};
 ghost use Rattle.scm_render.specs.Rows.{limit};
+ghost use Rattle.scm_render.specs.RowPlaces.{FitsIn, IsPlace, IsPlaceOf, put_on};
 ghost use Rattle.scm_render.specs.Drawing.{has_row, whole_put, title_room, body_room, text_puts, texts_puts, texts_width, row_text, fill_puts, FillingIsInRange, lines_puts, body_texts, frame_puts};
 ghost use Rattle.scm_errors.specs.declared.error.RecordError.TheVariants.{OutOfMemory};
 
@@ -53,6 +54,19 @@ fn body_room(frame: Rect) -> Rect
         width: frame.width.saturating_sub(2),
         height: frame.height.saturating_sub(2),
     }
+}
+
+/// Where texts are put: the columns of a row of the grid to which they are clipped.
+#[derive(Clone, Copy)]
+struct Place {
+    /// The row, counted from 0.
+    row: usize,
+
+    /// The first of the columns.
+    low: usize,
+
+    /// The column behind the last of them.
+    high: usize,
 }
 
 /// A grid, and the part of the document that it shows, of the same size. Texts are put at columns
@@ -142,31 +156,70 @@ impl Surface {
         self.rect.width.min(gap(self.rect.x, x))
     }
 
-    /// Puts a text on a row that the grid shows. Returns the width of the whole text.
-    fn put_row(
-        &mut self,
-        within: Rect,
-        x: isize,
-        y: isize,
-        text: &str,
-    ) -> Result<usize, RecordError>
+    /// Returns where texts of row `y` are put that are clipped to `within`. The grid shows the row.
+    fn place_on(&self, within: Rect, y: isize) -> Place
         requires within { RectInRange within }
-        requires x { InRange x }
-        requires top { self.old.rect.y ≤ℤ y }
-        requires bottom { y <ℤ end_y_of self.old.rect }
-        ensures ok { OnOk result (
-            self.new ≡ with_puts (whole_put within x y text.now ∷ []) self.old) }
+        requires shown { IsTrue (has_row within y) }
+        requires top { self.now.rect.y ≤ℤ y }
+        requires bottom { y <ℤ end_y_of self.now.rect }
+        ensures { IsPlace result self.now.rect within y }
+    {
+        Place {
+            row: self.rect.y.abs_diff(y),
+            low: self.column(within.x),
+            high: self.column(within.end_x()),
+        }
+    }
+
+    /// Returns where texts of row `y` are put that are clipped to `within`, if `within` and the grid
+    /// have the row.
+    fn place(&self, within: Rect, y: isize) -> Option<Place>
+        requires { RectInRange within }
+        ensures { IsPlaceOf result self.now.rect within y }
+    {
+        if has_row(within, y) && has_row(self.rect, y) {
+            Some(self.place_on(within, y))
+        } else {
+            None
+        }
+    }
+
+    /// Puts a text on a row of the grid, at `column` of the grid. Returns the width of the whole
+    /// text.
+    fn put_on(&mut self, place: Place, column: isize, text: &str) -> Result<usize, RecordError>
+        requires { FitsIn place self.old.rect }
+        ensures ok { OnOk result (self.new ≡ put_on place column text.now self.old) }
         ensures columns { IfOk result (λ n. n ≡ text_width text.now) }
         ensures rect { self.new.rect ≡ self.old.rect }
         ensures err { IfErr result (λ e. e ≡ OutOfMemory) }
     {
-        let low = self.column(within.x);
-        let high = self.column(within.end_x());
-        let row = self.rect.y.abs_diff(y);
         let columns = self
             .grid
-            .put_measured(row, x - self.rect.x, text, low, high)?;
+            .put_measured(place.row, column, text, place.low, place.high)?;
         Ok(columns)
+    }
+
+    /// Puts a text at `place`, if there is a place. Returns the width of the whole text.
+    fn put_at(
+        &mut self,
+        place: Option<Place>,
+        x: isize,
+        text: &str,
+    ) -> Result<usize, RecordError>
+        requires x { InRange x }
+        requires place { IfSome place (λ p. FitsIn p self.old.rect) }
+        ensures ok { OnOk result ((within : Rect) → (y : ℤ)
+            → IsPlaceOf place self.old.rect within y
+            → self.new ≡ with_puts (text_puts within x y text.now) self.old) }
+        ensures columns { IfOk result (λ n. n ≡ text_width text.now) }
+        ensures rect { self.new.rect ≡ self.old.rect }
+        ensures err { IfErr result (λ e. e ≡ OutOfMemory) }
+    {
+        let column = x - self.rect.x;
+        match place {
+            Some(place) => self.put_on(place, column, text),
+            None => Ok(text_width(text)),
+        }
     }
 
     /// Puts a text, if `within` and the grid have its row. Returns the width of the whole text.
@@ -184,10 +237,8 @@ impl Surface {
         ensures rect { self.new.rect ≡ self.old.rect }
         ensures err { IfErr result (λ e. e ≡ OutOfMemory) }
     {
-        if has_row(within, y) && has_row(self.rect, y) {
-            return self.put_row(within, x, y, text);
-        }
-        Ok(text_width(text))
+        let place = self.place(within, y);
+        self.put_at(place, x, text)
     }
 
     /// Puts the texts of spans side by side. Returns their width.
@@ -207,9 +258,10 @@ impl Surface {
         ensures rect { self.new.rect ≡ self.old.rect }
         ensures err { IfErr result (λ e. e ≡ OutOfMemory) }
     {
+        let place = self.place(within, y);
         let mut columns = 0;
         for span in spans {
-            let width = self.put_text(within, x.strict_add_unsigned(columns), y, span.0)?;
+            let width = self.put_at(place, x.strict_add_unsigned(columns), span.0)?;
             columns += width;
         }
         Ok(columns)

@@ -63,6 +63,21 @@ fn rows_above(y: isize, row: isize, count: usize) -> usize
     gap(y, row).min(count)
 }
 
+/// Returns the part of `rect` that `mask` lets through, or `rect` if there is no mask.
+#[tactic(auto, unfolding(crate::specs::Drawing::reach))]
+fn reach(mask: Option<Mask>, rect: Rect) -> Rect
+    requires mask { MaskIsInRange mask }
+    requires rect { RectInRange rect }
+    ensures value { result ≡ reach (record { rect = rect; mask = mask }) }
+    ensures in_range { RectInRange result }
+{
+    let clip = match mask {
+        Some(set) => set,
+        None => Mask::from(rect),
+    };
+    clip.apply(rect)
+}
+
 /// A part of a document on a grid. Drawing outside that part, or outside the mask if one is set, is
 /// invisible. It still counts for the boxes of components. The grid counts rows that are begun and
 /// draw calls, visible or not.
@@ -75,6 +90,9 @@ pub struct Viewport<K> {
 
     /// The mask, if one is set.
     mask: Option<Mask>,
+
+    /// The part of the document on the grid that the mask lets through.
+    within: Rect,
 
     /// The least rectangle around all that the current component drew so far, if boxes are kept.
     pub(crate) area: Rect,
@@ -102,12 +120,16 @@ impl<K> Model for Viewport<K> {
       counts = v.surface.counts;
     } };
 
+    ghost use Rattle.std.specs.Prelude.{◌≡◌};
     ghost use Rattle.scm_cells.specs.Rect.{RectInRange};
     ghost use Rattle.scm_render.specs.Canvas.{MaskIsInRange};
+    ghost use Rattle.scm_render.specs.Drawing.{reach};
 
     ghost invariant = { λ v. record {
       mask : MaskIsInRange v.mask;
       area : RectInRange v.area;
+      within : v.within ≡ reach (record { rect = v.surface.rect; mask = v.mask });
+      in_range : RectInRange v.within;
     } };
 }
 
@@ -167,6 +189,7 @@ impl<K: Copy + Eq + Hash + Drop> Viewport<K> {
             alloc,
             surface: Surface::new(grid, rect),
             mask: None,
+            within: reach(None, rect),
             area: Rect::default(),
             boxes,
             scratch: String::new(alloc),
@@ -205,12 +228,11 @@ impl<K: Copy + Eq + Hash + Drop> Viewport<K> {
     }
 
     /// Returns the part of the viewport's rectangle that the mask lets through.
-    #[tactic(auto, unfolding(crate::specs::Drawing::reach))]
     pub fn mask_rect(&self) -> Rect
         ensures value { result ≡ reach self.now.canvas.sight }
         ensures in_range { RectInRange result }
     {
-        self.mask().apply(self.surface.rect())
+        self.within
     }
 
     /// Sets the mask of the viewport to `mask`, or removes it. Returns the previous mask.
@@ -221,6 +243,7 @@ impl<K: Copy + Eq + Hash + Drop> Viewport<K> {
         ensures counts { self.new.counts ≡ self.old.counts }
         ensures in_range { MaskIsInRange result }
     {
+        self.within = reach(mask, self.surface.rect());
         mem::replace(&mut self.mask, mask)
     }
 

@@ -4,8 +4,8 @@ ghost use Rattle.std.specs.Prelude.{◌≡◌};
 
 use crate::checks::{check_equal, check_view};
 use scm_cells::{
-    Clusters, Column, Grid, Line, Mask, Rect, RectSize, ScreenRect, Span, push_spans_from_line,
-    replace_control_character, text_width,
+    Clusters, Column, Grid, Line, Mask, Rect, RectSize, ScreenRect, Span, printable_line,
+    push_spans_from_line, replace_control_character, text_width,
 };
 use scm_errors::RecordError;
 use std::alloc::Global;
@@ -144,6 +144,16 @@ fn spans_of_a_line(rt: HostRuntime) -> Result<(), RecordError> {
     let line = Line(spans);
     check_pieces(&rt, line.0.as_slice(), &["a", "→   ", "b"]);
     Ok(())
+}
+
+#[test]
+fn texts_of_a_printable_line(rt: HostRuntime) {
+    check_equal(&rt, printable_line("a b\n"), Some(("a b", "⏎")));
+    check_equal(&rt, printable_line("\n"), Some(("", "⏎")));
+    check_equal(&rt, printable_line("a b"), None);
+    check_equal(&rt, printable_line("a\tb\n"), None);
+    check_equal(&rt, printable_line("ä\n"), None);
+    check_equal(&rt, printable_line(""), None);
 }
 
 /// Cuts `line` into spans, and checks that there are `pieces` spans of `columns` columns in all.

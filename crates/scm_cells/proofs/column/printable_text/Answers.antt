@@ -16,6 +16,6 @@ get_or-ascending first (suc n) (suc i) h = get_or-ascending (suc first) n i (ome
 pub returns : goal.returns
 unfolding ascending
 returns c =
-    let low : 32 ≤ c.args.byte = grind (arith, nat_tests) in
-    let high : c.args.byte ≤ 126 = grind (arith, nat_tests) in
-    c.character_at.ensures ∙ ap (λ b. b ∷ []) (get_or-ascending 32 95 (c.args.byte - 32) (omega arith) ∙ omega arith)
+    let low : 32 ≤ c.args.code = grind (arith, nat_tests) in
+    let high : c.args.code ≤ 126 = grind (arith, nat_tests) in
+    c.character_at.ensures ∙ ap (λ b. b ∷ []) (get_or-ascending 32 95 (c.args.code - 32) (omega arith) ∙ omega arith)

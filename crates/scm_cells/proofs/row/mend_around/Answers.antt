@@ -1,8 +1,9 @@
 use Rattle.std.proofs.Common.{◌≡◌, ◌∙◌, ◌+◌, ◌-◌, arith, sym, ap, length, length-take-le, take, take_at, drop}
+use Rattle.std.proofs.lemmas.Bool.{and_parts}
 use Rattle.std.proofs.lemmas.List.{drop-drop}
 use Rattle.scm_cells.specs.Row.{whole_before, whole_after}
 use Rattle.scm_cells.proofs.RowLemmas.{take-middle, drop-middle, length-between}
-use Rattle.scm_cells.proofs.StartLemmas.{whole_front, whole_back}
+use Rattle.scm_cells.proofs.StartLemmas.{whole_before-start, whole_after-start, whole_front, whole_back}
 use Rattle.scm_cells.proofs.row.mend_around.Goals as goal
 
 pub mend_before-requires : goal.mend_before-requires
@@ -13,6 +14,14 @@ pub mend_after-requires : goal.mend_after-requires
 mend_after-requires c = λ start.
     whole_back c.args.columns.now _ c.args.from c.args.end c.requires.whole c.requires.from
     (c.split_at_mut-back.ensures.back ∙ ap (drop (c.args.end - c.args.from)) c.split_at_mut-front.ensures.back) (sym c.is_start-is_end_start.ensures ∙ start)
+
+pub returns-then-is_from_start-is_end_start-clause-front : goal.returns-then-is_from_start-is_end_start-clause-front
+returns-then-is_from_start-is_end_start-clause-front c =
+    sym (whole_before-start c.args.columns.now c.args.from c.requires.whole (sym c.is_start-is_from_start.ensures ∙ (and_parts _ _ c.if-is_from_start-is_end_start.true).0))
+
+pub returns-then-is_from_start-is_end_start-clause-back : goal.returns-then-is_from_start-is_end_start-clause-back
+returns-then-is_from_start-is_end_start-clause-back c =
+    sym (whole_after-start c.args.columns.now c.args.end c.requires.whole (sym c.is_start-is_end_start.ensures ∙ (and_parts _ _ c.if-is_from_start-is_end_start.true).1))
 
 pub returns-clause-front : goal.returns-clause-front
 returns-clause-front c =

@@ -1,9 +1,9 @@
 use Rattle.std.proofs.Common.{arith, refl, zero-add, sym}
-use Rattle.scm_cells.proofs.WrittenLemmas.{HasPassed-none, HasPassed-more, HasPassed-end, AllKept-cut, columns_of-more, columns_of-none}
+use Rattle.scm_cells.proofs.WrittenLemmas.{HasPassed-none, HasPassed-more, HasPassed-end, AllKept-visible, columns_of-more, columns_of-none}
 use Rattle.scm_cells.proofs.row.pass_over.Goals as goal
 
 pub clusters-init : goal.clusters-init
-clusters-init c = record { passed = HasPassed-none _ _ (AllKept-cut _); taken = sym (zero-add _) }
+clusters-init c = record { passed = HasPassed-none _ _ (AllKept-visible _); taken = sym (zero-add _) }
 
 pub overflow_add-passed : goal.overflow_add-passed
 overflow_add-passed c = let more = columns_of-more _ _ _ c.in-Some.ensures.steps in omega (arith, more, c.clusters.invariant.taken, c.requires)
@@ -12,7 +12,7 @@ pub clusters-preserved : goal.clusters-preserved
 clusters-preserved c =
     let more = columns_of-more _ _ _ c.in-Some.ensures.steps in
     record {
-      passed = HasPassed-more c.args.columns c.clusters.passed c.in-Some.width _ _ _ _ (AllKept-cut _) c.clusters.invariant.passed (omega arith) c.in-Some.ensures.steps refl;
+      passed = HasPassed-more c.args.columns c.clusters.passed c.in-Some.width _ _ _ _ (AllKept-visible _) c.clusters.invariant.passed (omega arith) c.in-Some.ensures.steps refl;
       taken = omega (arith, more, c.clusters.invariant.taken);
     }
 

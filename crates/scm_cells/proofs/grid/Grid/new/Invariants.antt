@@ -1,7 +1,6 @@
-use Rattle.std.proofs.Common.{◌≡◌, map, replicate}
+use Rattle.std.proofs.Common.{◌≡◌, replicate}
 use Rattle.scm_cells.specs.Cell.{blank}
-use Rattle.scm_cells.specs.GridView.{row_of}
 use Rattle.scm_cells.proofs.grid.Grid.new.Given as goal
 
 abbrev pub invariant-rows : goal.invariant-rows
-invariant-rows l = map row_of l.rows.items ≡ replicate l.counter (replicate l.width blank)
+invariant-rows l = l.rows.items ≡ replicate l.counter (replicate l.width blank)

@@ -1,11 +1,10 @@
-use Rattle.std.proofs.Common.{◌∙◌, ◌<◌, ap, sym, subst, arith, length, List, map, replicate, set, rules, FitsSigned, w64}
+use Rattle.std.proofs.Common.{◌∙◌, ◌<◌, ap, sym, subst, arith, length, List, set, replicate, rules, FitsSigned, w64}
 use Rattle.std.proofs.lemmas.Int.{to_z-of_z}
-use Rattle.std.proofs.lemmas.List.{length-map}
 use Rattle.scm_cells.specs.Cell.{Cell}
 use Rattle.scm_cells.specs.Row.{IsWhole, put}
 use Rattle.scm_cells.specs.Screen.{Screen, put_on}
-use Rattle.scm_cells.specs.GridView.{row_of}
-use Rattle.scm_cells.proofs.ScreenLemmas.{rows-set, row-read, whole-read, length-read, IsScreen-set, IsScreen-same}
+use Rattle.scm_cells.proofs.PutLemmas.{length-put}
+use Rattle.scm_cells.proofs.ScreenLemmas.{row-read, whole-read, length-read, IsScreen-set, IsScreen-same}
 use Rattle.scm_cells.proofs.SpaceLemmas.{IsUtf8-spaces}
 use Rattle.scm_cells.proofs.WholeLemmas.{IsWhole-put}
 use Rattle.scm_cells.proofs.grid.Grid.put_blank.Goals as goal
@@ -14,31 +13,32 @@ pub put_spaces-requires-clause-high : goal.put_spaces-requires-clause-high
 put_spaces-requires-clause-high c =
     let rows = c.self.inside.rows.items in
     let same = ap (λ (s : Screen). length s.rows) c.self.view_is in
+    let inside : c.args.row < length rows = omega (arith, same) in
     let wide = ap (λ (s : Screen). s.width) c.self.view_is in
-    let inside : c.args.row < length rows = omega (arith, length-map rows row_of, same) in
-    let size = length-read rows c.args.row c.self.inside.width c.index_mut-cells.result.now c.as_mut_slice.result.now inside c.index_mut-cells.ensures.value c.as_mut_slice.ensures.value c.self.invariant.screen in
+    let size = length-read rows c.args.row c.self.inside.width c.index_mut-cells.result.now inside c.index_mut-cells.ensures.value c.self.invariant.screen in
     omega (arith, wide, size, c.requires.high)
 
 pub put_spaces-requires-clause-whole : goal.put_spaces-requires-clause-whole
 put_spaces-requires-clause-whole c =
     let rows = c.self.inside.rows.items in
     let same = ap (λ (s : Screen). length s.rows) c.self.view_is in
-    let inside : c.args.row < length rows = omega (arith, length-map rows row_of, same) in
-    whole-read rows c.args.row c.self.inside.width c.index_mut-cells.result.now c.as_mut_slice.result.now inside c.index_mut-cells.ensures.value c.as_mut_slice.ensures.value c.self.invariant.screen
+    let inside : c.args.row < length rows = omega (arith, same) in
+    whole-read rows c.args.row c.self.inside.width c.index_mut-cells.result.now inside c.index_mut-cells.ensures.value c.self.invariant.screen
 
 pub invariant_of-self : goal.invariant_of-self
 invariant_of-self c =
     let fits : FitsSigned w64 c.args.column = search rules in
     let rows = c.self.inside.rows.items in
     let same = ap (λ (s : Screen). length s.rows) c.self.view_is in
-    let inside : c.args.row < length rows = omega (arith, length-map rows row_of, same) in
-    let size = length-read rows c.args.row c.self.inside.width c.index_mut-cells.result.now c.as_mut_slice.result.now inside c.index_mut-cells.ensures.value c.as_mut_slice.ensures.value c.self.invariant.screen in
-    let whole = whole-read rows c.args.row c.self.inside.width c.index_mut-cells.result.now c.as_mut_slice.result.now inside c.index_mut-cells.ensures.value c.as_mut_slice.ensures.value c.self.invariant.screen in
+    let inside : c.args.row < length rows = omega (arith, same) in
+    let wide = ap (λ (s : Screen). s.width) c.self.view_is in
+    let size = length-read rows c.args.row c.self.inside.width c.index_mut-cells.result.now inside c.index_mut-cells.ensures.value c.self.invariant.screen in
+    let whole = whole-read rows c.args.row c.self.inside.width c.index_mut-cells.result.now inside c.index_mut-cells.ensures.value c.self.invariant.screen in
+    let made = simp to_z-of_z at c.put_spaces.ensures in
     record {
-      screen = IsScreen-same _ _ (ap (λ (rs : List (List Cell)). record { width = c.self.inside.width; rows = rs; counts = record { rows = c.self.inside.rows_drawn; calls = c.self.inside.calls } })
-          (rows-set rows c.args.row c.index_mut-cells.result.now c.put_spaces.new.columns (c.put_spaces.auto.columns ∙ c.as_mut_slice.ensures.len)))
-          (IsScreen-set _ c.args.row c.put_spaces.new.columns c.self.invariant.screen (c.put_spaces.auto.columns ∙ size)
-          (subst IsWhole (sym (simp to_z-of_z at c.put_spaces.ensures)) (IsWhole-put _ c.args.column (replicate c.args.width 32) c.args.low c.args.high (IsUtf8-spaces c.args.width) whole)));
+      screen = IsScreen-set _ c.args.row c.put_spaces.new.self c.self.invariant.screen
+          (ap length made ∙ length-put c.index_mut-cells.result.now c.args.column (replicate c.args.width 32) c.args.low c.args.high (omega (arith, wide, size, c.requires.high)) ∙ size)
+          (subst IsWhole (sym made) (IsWhole-put _ c.args.column (replicate c.args.width 32) c.args.low c.args.high (IsUtf8-spaces c.args.width) whole));
       laid = c.self.invariant.laid;
     }
 
@@ -47,10 +47,9 @@ returns c =
     let fits : FitsSigned w64 c.args.column = search rules in
     let rows = c.self.inside.rows.items in
     let same = ap (λ (s : Screen). length s.rows) c.self.view_is in
-    let inside : c.args.row < length rows = omega (arith, length-map rows row_of, same) in
-    let read = row-read rows c.args.row c.index_mut-cells.result.now c.as_mut_slice.result.now inside c.index_mut-cells.ensures.value c.as_mut_slice.ensures.value in
+    let inside : c.args.row < length rows = omega (arith, same) in
+    let read = row-read rows c.args.row c.index_mut-cells.result.now inside c.index_mut-cells.ensures.value in
     let made = simp to_z-of_z at c.put_spaces.ensures in
     ap (λ (rs : List (List Cell)). record { width = c.self.inside.width; rows = rs; counts = record { rows = c.self.inside.rows_drawn; calls = c.self.inside.calls } })
-    (rows-set rows c.args.row c.index_mut-cells.result.now c.put_spaces.new.columns (c.put_spaces.auto.columns ∙ c.as_mut_slice.ensures.len)
-    ∙ ap (set (map row_of rows) c.args.row) (made ∙ ap (λ row. put row c.args.column (replicate c.args.width 32) c.args.low c.args.high) read))
+    (ap (set rows c.args.row) (made ∙ ap (λ row. put row c.args.column (replicate c.args.width 32) c.args.low c.args.high) read))
     ∙ ap (λ (s : Screen). put_on s c.args.row c.args.column (replicate c.args.width 32) c.args.low c.args.high) c.self.view_is

@@ -1,6 +1,5 @@
-use Rattle.std.proofs.Common.{◌∙◌, sym, arith}
+use Rattle.std.proofs.Common.{arith}
 use Rattle.scm_cells.proofs.BoundLemmas.{text_width-utf8}
-use Rattle.scm_cells.proofs.PrintableLemmas.{text_width-printable}
 use Rattle.scm_cells.proofs.grid.Grid.put_measured.Goals as goal
 
 pub columns_left-requires : goal.columns_left-requires
@@ -8,6 +7,3 @@ columns_left-requires c = omega (arith, c.in_ok-rest.ensures.taken, text_width-u
 
 pub overflow_add-result : goal.overflow_add-result
 overflow_add-result c = omega (arith, c.in_ok-rest.ensures.taken, c.columns_left.ensures, text_width-utf8 _ c.utf8.text)
-
-pub returns-then-is_printable-clause-columns : goal.returns-then-is_printable-clause-columns
-returns-then-is_printable-clause-columns c = sym (text_width-printable c.args.text.now (sym c.is_printable.ensures ∙ c.if-is_printable.true))

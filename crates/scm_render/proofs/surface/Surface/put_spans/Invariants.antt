@@ -11,5 +11,5 @@ invariant-loop-span l =
     record {
       rect : l.self.rect ≡ l.fn.self.rect;
       columns : l.columns + texts_width rest ≡ texts_width (span_texts l.spans);
-      left : with_puts (texts_puts l.within (l.x +ℤ pos l.columns) l.y rest) l.self ≡ with_puts (texts_puts l.within l.x l.y (span_texts l.spans)) l.fn.self;
+      left : with_puts (texts_puts l.fn.within (l.x +ℤ pos l.columns) l.y rest) l.self ≡ with_puts (texts_puts l.fn.within l.x l.y (span_texts l.spans)) l.fn.self;
     }

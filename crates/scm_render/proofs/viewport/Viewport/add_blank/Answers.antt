@@ -1,3 +1,4 @@
+use Rattle.scm_cells.specs.declared.rect.Rect.{Rect}
 use Rattle.scm_render.proofs.CanvasLemmas.{RectInRange-kept}
 use Rattle.std.proofs.Common.{rules, ◌∙◌, sym, ap, refl}
 use Rattle.scm_cells.specs.Rect.{intersect_of}
@@ -33,4 +34,6 @@ invariant_of-self-2 g c =
     record {
       mask = c.self.invariant.mask;
       area = rw c.grown_in-self-inside.ensures (RectInRange-kept _ _ _ c.self.invariant.area (blank_in_range _ _ c.requires));
+      within = c.self.invariant.within ∙ ap (λ (r : Rect). reach (record { rect = r; mask = c.self.inside.mask })) (sym c.in_ok-fill.ensures.rect);
+      in_range = c.self.invariant.in_range;
     }

@@ -1,3 +1,4 @@
+use Rattle.scm_cells.specs.declared.rect.Rect.{Rect}
 use Rattle.scm_render.specs.Kept.{kept_items}
 use Rattle.scm_render.specs.Canvas.{kept_area}
 use Rattle.scm_render.proofs.CanvasLemmas.{RectInRange-kept}
@@ -53,10 +54,14 @@ invariant_of-self-2 g c = elim c.if-rect-gt0.branch [
       rw (w.self-inside-is, c.grown_in-self-inside.ensures) (record {
         mask = c.self.invariant.mask;
         area = rw w.self-inside-is (RectInRange-kept _ _ _ c.self.invariant.area (frame_in_range _ _ _ _ c.requires));
+        within = c.self.invariant.within ∙ ap (λ (r : Rect). reach (record { rect = r; mask = c.self.inside.mask })) (sym w.in_ok-put_frame.ensures.rect);
+        in_range = c.self.invariant.in_range;
       })
   | else-rect-gt0 w ↦
       rw (w.self-inside-is, c.grown_in-self-inside.ensures) (record {
         mask = c.self.invariant.mask;
         area = rw w.self-inside-is (RectInRange-kept _ _ _ c.self.invariant.area (frame_in_range _ _ _ _ c.requires));
+        within = c.self.invariant.within;
+        in_range = c.self.invariant.in_range;
       })
 ]

@@ -1,3 +1,4 @@
+use Rattle.scm_cells.specs.declared.rect.Rect.{Rect}
 use Rattle.scm_render.specs.Kept.{kept_items}
 use Rattle.scm_render.specs.Canvas.{kept_area}
 use Rattle.scm_render.proofs.CanvasLemmas.{RectInRange-kept}
@@ -14,18 +15,18 @@ use Rattle.scm_render.proofs.viewport.Viewport.add_spans.Goals as goal
 pub put_spans-requires-clause-x : goal.put_spans-requires-clause-x
 put_spans-requires-clause-x g c =
     let fx : FitsSigned w64 c.args.x = c.ranges.x in
-    simp to_z-of_z (line_in_range _ _ _ _ c.requires).x
+    simp to_z-of_z (line_in_range _ _ _ _ c.requires.picture).x
 
 pub put_spans-requires-clause-end : goal.put_spans-requires-clause-end
 put_spans-requires-clause-end g c =
     let fx : FitsSigned w64 c.args.x = c.ranges.x in
-    simp to_z-of_z (line_in_range _ _ _ _ c.requires).end_x
+    simp to_z-of_z (line_in_range _ _ _ _ c.requires.picture).end_x
 
 pub grown_in-self-inside-requires-clause-rect : goal.grown_in-self-inside-requires-clause-rect
 grown_in-self-inside-requires-clause-rect g c =
     let fx : FitsSigned w64 c.args.x = c.ranges.x in
     let fy : FitsSigned w64 c.args.y = c.ranges.y in
-    rw (c.row_rect-drawn.ensures, c.in_ok-columns.ensures.columns) (simp to_z-of_z (line_in_range _ _ _ _ c.requires))
+    rw (c.row_rect-drawn.ensures, c.in_ok-columns.ensures.columns) (simp to_z-of_z (line_in_range _ _ _ _ c.requires.picture))
 
 pub returns-clause-draws : goal.returns-clause-draws
 returns-clause-draws g c =
@@ -37,8 +38,8 @@ returns-clause-draws g c =
     record {
       ok =
           rw (sym c.self.view_is)
-          (with_picture-line _ _ _ c.mask_rect-within.result c.args.x c.args.y (span_texts c.args.spans.now)
-          (c.mask_rect-within.ensures.value ∙ ap (λ v. reach v.canvas.sight) (sym c.self.view_is))
+          (with_picture-line _ _ _ c.args.within c.args.x c.args.y (span_texts c.args.spans.now)
+          (c.requires.within ∙ ap (λ v. reach v.canvas.sight) (sym c.self.view_is))
           rows refl
           (c.grown_in-self-inside.ensures ∙ ap (λ r. kept_area (kept_items c.self.inside.boxes) c.self.inside.area (r ∷ [])) drawn)
           refl);
@@ -51,8 +52,10 @@ pub invariant_of-self-2 : goal.invariant_of-self-2
 invariant_of-self-2 g c =
     let fx : FitsSigned w64 c.args.x = c.ranges.x in
     let fy : FitsSigned w64 c.args.y = c.ranges.y in
-    let drawn : RectInRange c.row_rect-drawn.result = rw (c.row_rect-drawn.ensures, c.in_ok-columns.ensures.columns) (simp to_z-of_z (line_in_range _ _ _ _ c.requires)) in
+    let drawn : RectInRange c.row_rect-drawn.result = rw (c.row_rect-drawn.ensures, c.in_ok-columns.ensures.columns) (simp to_z-of_z (line_in_range _ _ _ _ c.requires.picture)) in
     record {
       mask = c.self.invariant.mask;
       area = rw c.grown_in-self-inside.ensures (RectInRange-kept _ _ _ c.self.invariant.area drawn);
+      within = c.self.invariant.within ∙ ap (λ (r : Rect). reach (record { rect = r; mask = c.self.inside.mask })) (sym c.in_ok-columns.ensures.rect);
+      in_range = c.self.invariant.in_range;
     }

@@ -10,4 +10,6 @@ invariant_of-self g c =
     record {
       mask = c.self.invariant.mask;
       area = rw c.grown_in-self-inside.ensures (RectInRange-kept _ _ _ c.self.invariant.area c.requires);
+      within = c.self.invariant.within;
+      in_range = c.self.invariant.in_range;
     }

@@ -70,4 +70,6 @@ invariant_of-self-3 g c =
     record {
       mask = c.self-2.invariant.mask;
       area = rw c.grown-self-inside.ensures (RectInRange-join _ _ c.self.invariant.area c.self-2.invariant.area);
+      within = c.self-2.invariant.within;
+      in_range = c.self-2.invariant.in_range;
     }

@@ -18,4 +18,6 @@ invariant_of-self-2 g c =
     record {
       mask = c.self.invariant.mask;
       area = rw c.grown_in-area.ensures (RectInRange-kept _ _ _ c.self.invariant.area c.requires);
+      within = c.self.invariant.within;
+      in_range = c.self.invariant.in_range;
     }
