@@ -29,13 +29,6 @@ use Rattle.scm_layout.proofs.ModeLemmas.{after_lines-kept}
 pub items_of_lines : (lines : List SectionChangedLine) → length (map (λ (l : SectionChangedLine). l.is_checked) lines) ≡ length lines
 items_of_lines lines = length-map lines (λ (l : SectionChangedLine). l.is_checked)
 
-pub checked_of_lines : (lines : List SectionChangedLine) → checked_count (map (λ (l : SectionChangedLine). l.is_checked) lines) ≡ count_by (λ (l : SectionChangedLine). l.is_checked) lines
-checked_of_lines [] = refl
-checked_of_lines (l ∷ ls) =
-    sum_by-cons (λ b. cond b 1 0) l.is_checked (map (λ (m : SectionChangedLine). m.is_checked) ls)
-    ∙ ap (λ n. cond l.is_checked 1 0 + n) (checked_of_lines ls)
-    ∙ sym (sum_by-cons (λ (m : SectionChangedLine). cond m.is_checked 1 0) l ls)
-
 pub checked_of_mark : (b : Bool) → (if b then 1 else 0) ≡ checked_count (b ∷ [])
 checked_of_mark true = refl
 checked_of_mark false = refl

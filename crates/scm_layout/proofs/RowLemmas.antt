@@ -1,6 +1,6 @@
 -- The rows of sections and files: how many there are at most, and the loops that find them.
 use Rattle.std.proofs.Common.{◌≡◌, ℕ, suc, ◌+◌, ◌*◌, ◌<◌, ◌≤◌, Bool, true, false, ◌||◌, List, [], ◌∷◌, ◌++◌, length, take, drop, get_or, set, refl, sym, ap, ◌∙◌, append_assoc, arith}
-use Rattle.std.specs.Prelude.{not, ◌&&◌, min, nat_eq, sum_by, if◌then◌else◌}
+use Rattle.std.specs.Prelude.{◌&&◌, min, nat_eq, sum_by, if◌then◌else◌}
 use Rattle.std.proofs.lemmas.List.{drop_all, take_more_set}
 use Rattle.std.proofs.lemmas.List.Sums.{sum_by-cons}
 use Rattle.scm_types.specs.declared.file.File.{File}
@@ -16,7 +16,6 @@ use Rattle.scm_layout.proofs.ZipLemmas.{cut-at}
 use Rattle.scm_rows.specs.declared.section_place.SectionPlace.{SectionPlace}
 use Rattle.scm_rows.specs.Context.{are_all_shown, context_height, dots_height, has_dots, is_first, lines_above, lines_height, place}
 use Rattle.scm_rows.specs.Heights.{height_of, shape_of, shown_height}
-use Rattle.scm_rows.specs.Lines.{is_changed}
 use Rattle.scm_layout.specs.Rows.{file_height, fold_count, folded_count, is_expanded, is_first_open, is_open, rows_at, sections_height, sections_rows, visible_height}
 
 -- ---- how many rows there are at most
@@ -137,9 +136,3 @@ open-height p b before (Unchanged lines) after = refl
 open-height p b before (Changed lines) after = refl
 open-height p b before (FileMode is_checked mode) after = refl
 open-height p b before (Binary is_checked old new) after = refl
-
-pub open-count : (b : Bool) (s : Section) → (is_changed s && not (is_editable_section s && b)) ≡ (is_changed s && not b)
-open-count b (Unchanged lines) = refl
-open-count b (Changed lines) = refl
-open-count b (FileMode is_checked mode) = refl
-open-count b (Binary is_checked old new) = refl

@@ -3,11 +3,6 @@ use Rattle.std.proofs.Common.{◌≡◌, ℕ, zero, suc, ◌+◌, ◌<◌, List,
 use Rattle.scm_types.specs.Edits.{modify}
 use Rattle.scm_layout.specs.Recounts.{zipped}
 
-pub length-zipped : {A B : Type 0} (f : A → B → A) (xs : List A) (ys : List B) → length (zipped f xs ys) ≡ length xs
-length-zipped f xs [] = refl
-length-zipped f [] (y ∷ ys) = refl
-length-zipped f (x ∷ xs) (y ∷ ys) = ap suc (length-zipped f xs ys)
-
 -- what stands at an index that was not reached
 zipped-unreached : {A B : Type 0} (f : A → B → A) (xs : List A) (ys : List B) (i : ℕ) (d : A) → get_or (zipped f xs (take i ys)) i d ≡ get_or xs i d
 zipped-unreached f xs ys zero d = refl

@@ -12,6 +12,3 @@ pub own-near : (i : FrameIndex) (y : ℕ) (ps : List Piece) → i.first ≤ y �
 own-near i y ps low high e = λ has w x.
     ap (λ (list : List Piece). rows_owner w (files_of list) (sections_of list) y x) (e ∙ has)
     ∙ rows-near i.first i.last w y x low high i.pieces.items
-
-pub own-all : (i : FrameIndex) (y : ℕ) (ps : List Piece) → ps ≡ i.pieces.items → OwnAlike i y ps
-own-all i y ps e = λ has w x. ap (λ (list : List Piece). rows_owner w (files_of list) (sections_of list) y x) e

@@ -1,6 +1,6 @@
 -- The view of a section of a file, by the counts of the layout.
 use Rattle.std.proofs.Common.{◌≡◌, ℕ, zero, suc, ◌+◌, ◌<◌, ◌≤◌, Bool, true, false, List, [], ◌∷◌, length, get_or, refl, sym, ap, ap₂, subst, ◌∙◌, arith}
-use Rattle.std.specs.Prelude.{sum_by, map, if◌then◌else◌}
+use Rattle.std.specs.Prelude.{sum_by, if◌then◌else◌}
 use Rattle.std.proofs.lemmas.List.Sums.{sum_by-cons}
 use Rattle.scm_types.specs.declared.file.File.{File}
 use Rattle.scm_types.specs.declared.keys.FileKey.{FileKey}
@@ -11,13 +11,11 @@ use Rattle.scm_document.specs.declared.file_view.FileView.{FileView}
 use Rattle.scm_document.specs.declared.section_view.SectionView.{SectionView}
 use Rattle.scm_rows.specs.Lines.{old_lines}
 use Rattle.scm_view.specs.ViewState.{Totals, ViewState, section_view_of, section_views_of}
-use Rattle.scm_layout.specs.declared.file_counts.FileCounts.{FileCounts}
 use Rattle.scm_layout.specs.declared.section_counts.SectionCounts.{SectionCounts}
-use Rattle.scm_layout.specs.Counts.{file_counts, section_counts, sections_counts}
+use Rattle.scm_layout.specs.Counts.{section_counts, sections_counts}
 use Rattle.scm_layout.specs.Rows.{file_key_of}
 use Rattle.scm_view_state.specs.declared.stretches.Stretch.{Stretch}
 use Rattle.scm_view_state.specs.Stretches.{file_part_of, file_parts_of, is_unfolded, section_range}
-use Rattle.scm_view_state.proofs.FilePartLemmas.{range_by}
 
 -- section x with index n has the counts c and the view v
 pub record IsCounted (s : ViewState) (t : Totals) (k : FileKey) (editable lines : ℕ) (n : ℕ) (x : Section) (c : SectionCounts) (v : SectionView) : Type 0 where
@@ -96,22 +94,11 @@ unfolding file_parts_of
 parts-length s st i [] = refl
 parts-length s st i (f ∷ fs) = ap suc (parts-length s st (suc i) fs)
 
-pub counts-at : (n : ℕ) (df : File) (dc : FileCounts) (fs : List File) → n < length fs → get_or (map file_counts fs) n dc ≡ file_counts (get_or fs n df)
-counts-at n df dc [] h = absurd (omega (arith, h))
-counts-at zero df dc (f ∷ fs) h = refl
-counts-at (suc n) df dc (f ∷ fs) h = counts-at n df dc fs (omega (arith, h))
-
 -- an element within a list is the same with any default
 pub get-any : {A : Type 0} (n : ℕ) (d e : A) (xs : List A) → n < length xs → get_or xs n d ≡ get_or xs n e
 get-any n d e [] h = absurd (omega (arith, h))
 get-any zero d e (x ∷ xs) h = refl
 get-any (suc n) d e (x ∷ xs) h = get-any n d e xs (omega (arith, h))
-
--- the end of a range is within a file
-pub range-within : (unfolded is_first is_last : Bool) (a e n : ℕ) → (is_last ≡ true → e ≤ n) → (range_by unfolded is_first is_last a e n).end ≤ n
-range-within true is_first true a e n h = h refl
-range-within true is_first false a e n h = omega arith
-range-within false is_first is_last a e n h = omega arith
 
 -- section x, with index n, has the counts c and the view that these give
 pub record IsCountedHere (s : ViewState) (t : Totals) (k : FileKey) (n : ℕ) (xs : List Section) (x : Section) (c : SectionCounts) : Type 0 where

@@ -333,12 +333,6 @@ part-count s k range f =
 more-views : (v : FileView) (vs : List FileView) → view_count (v ∷ vs) ≡ 1 + length v.section_views + view_count vs
 more-views v vs = sum_by-cons (λ (u : FileView). 1 + length u.section_views) v vs
 
-rows-rise : (top j : ℕ) (d : FileRows) (rs : List FileRows) → j < length rs → top ≤ (get_or (stacked top rs) j d).top
-unfolding stacked
-rows-rise top j d [] h = absurd (omega (arith, h))
-rows-rise top zero d (r ∷ rs) h = omega arith
-rows-rise top (suc j) d (r ∷ rs) h = omega (arith, rows-rise (top + (r.end - r.top)) j d rs (omega (arith, h)))
-
 each-count : (s : ViewState) (i : ℕ) (fs : List File) → length (each_file_rows s.expanded 0 i fs) ≡ length fs
 unfolding each_file_rows
 each-count s i [] = refl

@@ -91,21 +91,6 @@ other-key (keys.Section n) keys.None e f = absurd (cc f)
 other-key (keys.Section n) (keys.File m) e f = absurd (cc f)
 other-key (keys.Section n) (keys.Section m) e f = absurd (cc f)
 
-other-line : (k l : SelectionKey) → is_line k ≡ false → is_line l ≡ true → is_key l k ≡ false
-other-line keys.None (keys.Line m) e f = refl
-other-line (keys.File n) (keys.Line m) e f = refl
-other-line (keys.Section n) (keys.Line m) e f = refl
-other-line (keys.Line n) l e f = absurd (cc e)
-other-line keys.None keys.None e f = absurd (cc f)
-other-line keys.None (keys.File m) e f = absurd (cc f)
-other-line keys.None (keys.Section m) e f = absurd (cc f)
-other-line (keys.File n) keys.None e f = absurd (cc f)
-other-line (keys.File n) (keys.File m) e f = absurd (cc f)
-other-line (keys.File n) (keys.Section m) e f = absurd (cc f)
-other-line (keys.Section n) keys.None e f = absurd (cc f)
-other-line (keys.Section n) (keys.File m) e f = absurd (cc f)
-other-line (keys.Section n) (keys.Section m) e f = absurd (cc f)
-
 -- ---- a set of other keys, and lines behind it
 
 -- lines have no other key
@@ -197,17 +182,6 @@ pub set-behind : (ks : List SelectionKey) → key_set ks ≡ key_set (filter (λ
 set-behind ks = set-from ks [] [] tt tt
 
 -- the parts of the set
-filter-others : (ks ys0 : List SelectionKey) → HaveNoLine ys0 → HaveNoLine (fold with_key ys0 (filter (λ k. not (is_line k)) ks))
-filter-others [] ys0 h = h
-filter-others (k ∷ ks) ys0 h = go (is_line k) refl (λ bs i. filter-others ks bs i)
-  where
-    go : (b : Bool) → is_line k ≡ b → ((bs : List SelectionKey) → HaveNoLine bs → HaveNoLine (fold with_key bs (filter (λ x. not (is_line x)) ks)))
-        → HaveNoLine (fold with_key ys0 (if not b then k ∷ filter (λ x. not (is_line x)) ks else filter (λ x. not (is_line x)) ks))
-    go true e more = more ys0 h
-    go false e more = more (with_key ys0 k) (none-line k ys0 e h)
-
-pub others-have-none : (ks : List SelectionKey) → HaveNoLine (key_set (filter (λ k. not (is_line k)) ks))
-others-have-none ks = filter-others ks [] tt
 
 filter-lines : (ks ls : List SelectionKey) → AreLines ls → AreLines (fold with_key ls (filter is_line ks))
 filter-lines [] ls h = h

@@ -46,10 +46,6 @@ shown_before before zero vs = 0
 shown_before before (suc n) [] = 0
 shown_before before (suc n) (v ∷ vs) = counted (is_section_visible before v.section.now (is_first_open vs)) (shown_before (is_open v) n vs)
 
-pub before-none : (before : Bool) (n : ℕ) → shown_before before n [] ≡ 0
-before-none before zero = refl
-before-none before (suc n) = refl
-
 -- more sections have no fewer shown ones
 counted-more : (b : Bool) (m n : ℕ) → m ≤ n → counted b m ≤ counted b n
 counted-more true m n h = omega (arith, h)
