@@ -71,7 +71,7 @@ show-first zero shown vs commit h = tt
 show-first (suc k) shown [] commit h = tt
 show-first (suc k) shown (v ∷ vs) commit h = (h.0, show-first k shown vs (suc commit) h.1)
 
-few-views : (mode : CommitViewMode) (vs : List CommitView) → length (take (view_count mode) vs) ≤ 2
+pub few-views : (mode : CommitViewMode) (vs : List CommitView) → length (take (view_count mode) vs) ≤ 2
 few-views Inline vs = omega (arith, length-take 1 vs)
 few-views Adjacent vs = omega (arith, length-take 2 vs)
 

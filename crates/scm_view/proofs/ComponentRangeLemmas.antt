@@ -5,7 +5,6 @@ use Rattle.scm_cells.specs.Rect.{end_x_of}
 use Rattle.std.specs.Prelude.{min, ◌&&◌, if◌then◌else◌, nat_le, sum_by, codes, Option, Some, None}
 use Rattle.std.specs.List.{list_all}
 use Rattle.std.proofs.Math.Nat.{div-le_self}
-use Rattle.std.proofs.lemmas.List.{length-take}
 use Rattle.std.proofs.lemmas.List.Sums.{sum_by-cons}
 use Rattle.scm_types.specs.Limits.{is_short_text, is_short_option, has_short_texts, section_size}
 use Rattle.scm_cells.specs.Clusters.{text_width}
@@ -54,6 +53,7 @@ use Rattle.scm_widgets.proofs.Near.{IsNear}
 use Rattle.scm_document.proofs.Near.{SightIsNear, AreNarrowSections, IsNarrowFile, AreNarrowFiles}
 use Rattle.scm_overlay.proofs.Ranges.{button_columns}
 use Rattle.scm_document.proofs.NearLemmas.{heading-in, changed-in, context-in, rows-near, file-near, message-near, document-near}
+use Rattle.scm_view.proofs.AppRangeLemmas.{few-views}
 use Rattle.scm_view.proofs.LimitLemmas.{first_true, second_true, short, box-narrow, line-narrow, length-sign, length-number, path-narrow, heading-narrow, message-narrow, rows-narrow, sections-append, shown-narrow, shown_if-narrow, shown-few}
 use Rattle.scm_document.proofs.SectionsLemmas.{length-sections}
 use Rattle.scm_overlay.proofs.RangeLemmas.{IsFewItems, menu-here, bar-here, dialog-here}
@@ -256,10 +256,6 @@ unfolding named_dialog_picture
 help-here s r = PictureInRange-as_part ids.HelpDialog _ (dialog-here help_dialog s r (omega (arith, short_help)))
 
 -- ---- all that the selector shows
-
-few-views : (mode : CommitViewMode) (vs : List CommitView) → length (take (view_count mode) vs) ≤ 2
-few-views Inline vs = omega (arith, length-take 1 vs)
-few-views Adjacent vs = omega (arith, length-take 2 vs)
 
 held-here : (x a e : ℤ) → IsInDrawBounds x → IsInDrawBounds a → IsInDrawBounds e → IsInDrawBounds (int_min (int_max x a) e)
 held-here x a e p q r = record { low = omega (arith, places, p.low, q.low, r.low); high = omega (arith, places, r.high) }

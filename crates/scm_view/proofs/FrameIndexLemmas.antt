@@ -63,7 +63,7 @@ use Rattle.scm_widgets.proofs.ButtonLemmas.{no-owner}
 use Rattle.scm_document.proofs.DocumentLemmas.{length-message}
 use Rattle.scm_view.proofs.DocumentOwnerLemmas.{message-cell}
 use Rattle.scm_overlay.proofs.OverlayLemmas.{owned-append}
-use Rattle.scm_view.proofs.LimitLemmas.{session-few}
+use Rattle.scm_view.proofs.LimitLemmas.{message-most, session-few}
 use Rattle.scm_view.proofs.SessionLemmas.{session-ids}
 use Rattle.scm_document.proofs.ViewPieceLemmas.{file-strips-length, owner_of, upper, lower, files-owned, file-height}
 use Rattle.scm_document.proofs.PieceLemmas.{files-places}
@@ -88,7 +88,7 @@ message-owner w commit y x None = no-message-strips w commit y x
 message-owner w commit y x (Some t) = message-button y x commit ∙ message-cell w commit t (pos 1) (pos y) x
 
 -- no file stands above the first
-files-above : (w m top y x : ℕ) (o : Option ComponentId) (vs : List FileView) → y < top → files_owner w (file_piece_list m top vs) o y x ≡ None
+pub files-above : (w m top y x : ℕ) (o : Option ComponentId) (vs : List FileView) → y < top → files_owner w (file_piece_list m top vs) o y x ≡ None
 files-above w m top y x o [] h = refl
 files-above w m top y x o (v ∷ vs) h =
     let out : is_from top (top + file_height v) y ≡ false = grind (arith, nat_tests, h) in
@@ -225,15 +225,11 @@ unfolding files_rows
 files-rows-height [] = refl
 files-rows-height (v ∷ vs) = length-append (file_rows (shown_file v)) (files_rows (map shown_file vs)) ∙ ap₂ (λ a b. a + b) (file-height v) (files-rows-height vs)
 
-message-few : (message : Option (List ℕ)) → message_height message ≤ 3
-message-few None = omega arith
-message-few (Some t) = omega arith
-
 pub index-few : (shown : ViewState) (v : CommitView) → is_accepted_state shown.state ≡ true → Shows v shown 0 → 1 + message_height (document_of v).message + files_height v.file_views < 2 ^ 62
 index-few shown v a shows =
     let few = session-few shown 0 v a shows in
     let size = files-rows-height v.file_views in
-    let message = message-few (document_of v).message in
+    let message = message-most (document_of v).message in
     omega (arith, few, size, message)
 
 first-shows : (vs : List CommitView) (shown : ViewState) (v : CommitView) → ShowInOrder vs shown 0 → 1 ≤ length vs → v ≡ get_or vs 0 v → Shows v shown 0

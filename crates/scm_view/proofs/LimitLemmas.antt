@@ -8,6 +8,7 @@ use Rattle.std.specs.Str.{trim, trim_start, trim_end, chars, chars_after, skip_l
 use Rattle.std.proofs.lemmas.List.Sums.{sum_by-cons}
 use Rattle.std.proofs.lemmas.List.{length-take}
 use Rattle.std.proofs.lemmas.Str.{length-encode, len_utf8_bounds}
+use Rattle.std.proofs.lemmas.Bool.Decides.{nat_tests}
 use Rattle.scm_types.proofs.LimitLemmas.{items_room, scroll_room}
 use Rattle.scm_types.specs.declared.file.File.{File}
 use Rattle.scm_types.specs.declared.line.SectionChangedLine.{SectionChangedLine}
@@ -398,6 +399,10 @@ close-here z c = record { low = omega (arith, places, c.low); high = omega (arit
 pub sight-here : (s : Sight) → SightIsInScrollBounds s → SightIsInDrawBounds s
 sight-here s c = record { x = close-here _ c.x; end_x = close-here _ c.end_x; mask_x = close-here _ c.mask_x; mask_y = close-here _ c.mask_y }
 
+-- an accepted state has few files, sections and lines
+pub state-few : (shown : ViewState) → is_accepted_state shown.state ≡ true → state_size shown.state ≤ max_items
+state-few shown a = grind (arith, nat_tests)
+
 -- the texts of an accepted state are narrow
 pub session-narrow : (shown : ViewState) (commit : ℕ) → is_accepted_state shown.state ≡ true → IsNarrowDocument (document_of (commit_view_of shown commit))
 session-narrow shown commit a =
@@ -414,30 +419,16 @@ pub commits-in-range : (shown : ViewState) (commit : ℕ) (v : CommitView) (s : 
     → SightIsInScrollBounds s → IsInScrollBounds x → IsInScrollBounds y → PictureInRange (commit_picture v s x y)
 unfolding commit_picture
 commits-in-range shown commit v s x y a e c p q =
-    let cs = shown.state.commits in
-    let fs = shown.state.files in
-    let messages = list_all (λ (c : Commit). is_short_option c.message) cs in
-    let size = nat_le (state_size shown.state) max_items in
-    let texts = list_all has_short_texts_in_file fs in
-    let two = nat_le (length cs) 2 in
-    let first = first_true ((two && messages) && size) texts a in
-    let few : state_size shown.state ≤ max_items = within (state_size shown.state) max_items (second_true (two && messages) size first) in
-    rw e (document-near (document_of (commit_view_of shown commit)) s x y (sight-here s c) (close-here x p) (close-here y q) (omega (arith, files-few shown commit 0 fs, few, items_room))
-    (record { message = message-narrow _ (short-commit commit cs (second_true two messages (first_true (two && messages) size first))); files = files-narrow shown commit 0 fs (second_true ((two && messages) && size) texts a) }))
+    let few = state-few shown a in
+    rw e (document-near (document_of (commit_view_of shown commit)) s x y (sight-here s c) (close-here x p) (close-here y q)
+    (omega (arith, files-few shown commit 0 shown.state.files, few, items_room)) (session-narrow shown commit a))
 
 -- an accepted state has few rows
 pub few-rows : (shown : ViewState) (commit : ℕ) (v : CommitView) → is_accepted_state shown.state ≡ true → Shows v shown commit → length (files_rows (map shown_file v.file_views)) ≤ 2 ^ 42
 few-rows shown commit v a e =
-    let cs = shown.state.commits in
-    let fs = shown.state.files in
-    let messages = list_all (λ (c : Commit). is_short_option c.message) cs in
-    let size = nat_le (state_size shown.state) max_items in
-    let texts = list_all has_short_texts_in_file fs in
-    let two = nat_le (length cs) 2 in
-    let first = first_true ((two && messages) && size) texts a in
-    let few : state_size shown.state ≤ max_items = within (state_size shown.state) max_items (second_true (two && messages) size first) in
+    let few = state-few shown a in
     let same = ap (λ (d : Document). length (files_rows d.files)) e in
-    omega (arith, same, files-few shown commit 0 fs, few, items_room)
+    omega (arith, same, files-few shown commit 0 shown.state.files, few, items_room)
 
 pub message-most : (m : Option (List ℕ)) → message_height m ≤ 3
 message-most None = omega arith
