@@ -17,8 +17,6 @@ use Rattle.scm_render.proofs.HitLemmas.{two_none, two_assoc}
 use Rattle.scm_widgets.specs.declared.ids.ComponentId.{ComponentId}
 use Rattle.scm_widgets.specs.declared.ids.ComponentId.TheVariants as ids
 use Rattle.scm_view.specs.declared.app_view.AppView.{AppView}
-use Rattle.scm_view.specs.declared.frame_index.FrameIndex.{FrameIndex}
-use Rattle.scm_view.specs.Index.{HasParts, IsIndexOf}
 use Rattle.scm_document.specs.declared.commit_view.CommitView.{CommitView}
 use Rattle.scm_document.specs.declared.commit_view.CommitViewMode.{CommitViewMode}
 use Rattle.scm_document.specs.declared.file_view.FileView.{FileView}
@@ -43,8 +41,7 @@ use Rattle.scm_overlay.specs.Menus.{menu_layer, open_menu}
 use Rattle.scm_overlay.specs.Tables.{menus_with, quit_dialog, help_dialog}
 use Rattle.scm_widgets.specs.OverlayRects.{is_from, overlay_owner}
 use Rattle.scm_document.specs.PieceOwners.{files_owner, rows_owner, sections_owner}
-use Rattle.scm_document.specs.declared.index_pieces.Piece.{Piece}
-use Rattle.scm_document.specs.Pieces.{files_of, files_pieces, piece_places, sections_of}
+use Rattle.scm_document.specs.Pieces.{files_pieces, piece_places}
 use Rattle.scm_document.specs.ViewPieces.{file_height, files_height, file_piece_list, sections_in_files}
 use Rattle.scm_document.specs.HeaderRects.{message_rects, pinned_rects}
 use Rattle.scm_overlay.specs.OverlayRects.{menu_bar_rects, quit_dialog_rects, help_dialog_rects, dialog_run, open_menu_height}
@@ -391,14 +388,4 @@ answers-extent w h s a shown v run below n e none quit help plain shows er eb en
     er ∙ ap₂ joined_with (ap₂ joined_with (ap₂ joined (ap (λ z. (s, z)) bar) doc) q) k in
     ap (λ (r : ℕ × ℕ). r.1 - r.0) all ∙ index-extent w h s shown v shows plain.high
 
--- an index with these parts answers by them
-pub of-parts : (w h s : ℕ) (shown : ViewState) (rs : List OverlayRect) (ps : List Piece) (n : ℕ) (i : FrameIndex) → HasParts w h s rs ps n i
-    → ((y x : ℕ) → (if nat_lt x w then first_of_two (overlay_owner rs y x) (rows_owner w (files_of ps) (sections_of ps) y x) else None) ≡ (if nat_lt x w then owner w h s shown y x else None))
-    → ((k : SelectionKey) → rows_of_key k (flat_map piece_places ps) ≡ span shown k) → n ≡ extent w h s shown
-    → IsIndexOf w h s shown i
-of-parts w h s shown rs ps n i has own keys all = record {
-  near = has.near;
-  owner = λ y x. rw (has.width, has.rects, has.pieces) (own y x);
-  span = λ k. ap (λ (qs : List Piece). rows_of_key k (flat_map piece_places qs)) has.pieces ∙ keys k;
-  extent = has.extent ∙ all;
 }
