@@ -276,13 +276,13 @@ no_files-near s x y n p q p2 q2 =
 here-near : (z : ℤ) (n : ℕ) → IsInDrawBounds z → n ≤ 2 ^ 59 → IsNear (z +ℤ pos n)
 here-near z n c h = record { low = omega (arith, places); high = omega (arith, places) }
 
-still-near : (z : ℤ) → IsInDrawBounds z → IsNear z
+pub still-near : (z : ℤ) → IsInDrawBounds z → IsNear z
 still-near z c = record { low = omega (arith, places); high = omega (arith, places) }
 
 then-near : (z : ℤ) (n m : ℕ) → IsInDrawBounds z → n ≤ 3 → m ≤ 2 ^ 59 → IsNear ((z +ℤ pos n) +ℤ pos m)
 then-near z n m c h k = record { low = omega (arith, places); high = omega (arith, places) }
 
-height-small : (m : Option (List ℕ)) → message_height m ≤ 3
+pub height-small : (m : Option (List ℕ)) → message_height m ≤ 3
 height-small None = omega arith
 height-small (Some m) = omega arith
 

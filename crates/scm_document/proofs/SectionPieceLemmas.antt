@@ -1,4 +1,5 @@
 -- A section's place answers for the rows of its view: who owns their columns.
+use mathlib.Core.Bool.{or-false}
 use Rattle.std.proofs.Common.{◌≡◌, ℕ, zero, suc, ◌+◌, ◌-◌, ◌<◌, ◌≤◌, ◌==◌, Bool, true, false, not, ◌&&◌, ◌||◌, cond, List, [], ◌∷◌, ◌++◌, length, map, take, drop, get_or, nat_lt, refl, sym, ap, ap₂, ◌∙◌, arith}
 use Rattle.std.specs.Prelude.{pos, ◌+ℤ◌, int_le, int_lt, if◌then◌else◌, nat_le, Option, Some, None, option_map}
 use Rattle.std.specs.List.{list_any}
@@ -191,10 +192,6 @@ any-dots : (v : SectionView) (b : Bool) → list_any is_whole (dots_rows v b) �
 any-dots v true = refl
 any-dots v false = refl
 
-or_false : (b : Bool) → (b || false) ≡ b
-or_false true = refl
-or_false false = refl
-
 some-left : (a b n : ℕ) → a ≡ n - b → nat_lt 0 a ≡ nat_lt b n
 some-left a b n e = go (nat_lt b n) refl
   where
@@ -238,8 +235,8 @@ wide-is v (Changed ls) = ap (λ b. is_selected v || b) (go (is_fold_open v.expan
     go : (b : Bool) → list_any is_whole (if b then changed_rows v 0 ls else []) ≡ nat_lt 1 (if b then 1 + length ls else 1)
     go true = let more : nat_lt 0 (length ls) ≡ nat_lt 1 (1 + length ls) = grind (arith, nat_tests) in any-changed v 0 ls ∙ more
     go false = refl
-wide-is v (FileMode checked mode) = or_false (is_selected v)
-wide-is v (Binary checked old new) = or_false (is_selected v)
+wide-is v (FileMode checked mode) = or-false (is_selected v)
+wide-is v (Binary checked old new) = or-false (is_selected v)
 
 -- ---- who owns a section's columns
 

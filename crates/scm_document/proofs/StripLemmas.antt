@@ -239,7 +239,7 @@ IsReachedFrom y seen m = (z : ℤ) → y ≤ℤ z → IsReached seen m z
 abbrev pub shows_of : {K : Type 0} → Strip K → Row → Row
 shows_of s = s.shows
 
-shows-owned : (i : ComponentId) (test : ℕ → Bool) (ss : List (Strip ComponentId)) → map shows_of (map (owned i test) ss) ≡ map shows_of ss
+pub shows-owned : (i : ComponentId) (test : ℕ → Bool) (ss : List (Strip ComponentId)) → map shows_of (map (owned i test) ss) ≡ map shows_of ss
 shows-owned i test [] = refl
 shows-owned i test (s ∷ ss) = ap (λ fs. s.shows ∷ fs) (shows-owned i test ss)
 

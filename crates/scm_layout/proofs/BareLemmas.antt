@@ -52,13 +52,13 @@ changed-hidden checked (sections.Changed lines) = marks-hidden (λ _. checked) (
 changed-hidden checked (sections.FileMode is_checked mode) = refl
 changed-hidden checked (sections.Binary is_checked old new) = refl
 
-deletion-hidden : (s : Section) → bare_section (with_deletion_unchecked s) ≡ bare_section s
+pub deletion-hidden : (s : Section) → bare_section (with_deletion_unchecked s) ≡ bare_section s
 deletion-hidden (sections.Unchanged lines) = refl
 deletion-hidden (sections.Changed lines) = refl
 deletion-hidden (sections.FileMode is_checked mode) = refl
 deletion-hidden (sections.Binary is_checked old new) = refl
 
-mode-hidden : (s : Section) → bare_section (with_mode_checked s) ≡ bare_section s
+pub mode-hidden : (s : Section) → bare_section (with_mode_checked s) ≡ bare_section s
 mode-hidden (sections.Unchanged lines) = refl
 mode-hidden (sections.Changed lines) = refl
 mode-hidden (sections.FileMode is_checked mode) = refl

@@ -21,7 +21,7 @@ use Rattle.scm_layout.specs.declared.section_counts.SectionCounts.{SectionCounts
 use Rattle.scm_layout.specs.declared.file_counts.FileCounts.{FileCounts}
 use Rattle.scm_layout.specs.Counts.{checked_in, editable_after, file_counts, items_in, modes_in, section_counts, sections_counts}
 use Rattle.scm_layout.specs.Recounts.{AreCountsButLine, AreCountsButMarks, checked_after_mark, may_follow, recounted, remarked, stepped, total_checked, total_items, with_file_line_counted, with_line_counted, with_sections, zipped}
-use Rattle.scm_layout.proofs.BareLemmas.{after_lines-hidden, bare, bare_file, bare_section, editable-same, editables-same, items-same, line-hidden, modes-same, old_lines-same, size-same}
+use Rattle.scm_layout.proofs.BareLemmas.{after_lines-hidden, bare, bare_file, bare_section, editable-same, editables-same, items-same, line-hidden, modes-same, old_lines-same, size-same, deletion-hidden, mode-hidden}
 use Rattle.scm_layout.proofs.ModeLemmas.{after_lines-kept}
 
 -- ---- the items of a section
@@ -369,23 +369,11 @@ remarked-same editable lines (s ∷ ss) =
     ap (λ n. counts_with (items_in s) n editable lines ∷ zipped remarked (sections_counts (editable_after editable s) (lines + old_lines s) ss) ss) (unchanged-marked s)
     ∙ ap (λ cs. section_counts editable lines s ∷ cs) (remarked-same (editable_after editable s) (lines + old_lines s) ss)
 
-deletion-hidden : (s : Section) → bare_section (with_deletion_unchecked s) ≡ bare_section s
-deletion-hidden (Unchanged lines) = refl
-deletion-hidden (Changed lines) = refl
-deletion-hidden (FileMode is_checked mode) = refl
-deletion-hidden (Binary is_checked old new) = refl
-
 deletion-marked : (s : Section) → checked_after_mark (checked_in s) (with_deletion_unchecked s) ≡ checked_in (with_deletion_unchecked s)
 deletion-marked (Unchanged lines) = refl
 deletion-marked (Changed lines) = refl
 deletion-marked (FileMode is_checked mode) = checked_of_mark (if is_absent mode then false else is_checked)
 deletion-marked (Binary is_checked old new) = checked_of_mark is_checked
-
-mode-hidden : (s : Section) → bare_section (with_mode_checked s) ≡ bare_section s
-mode-hidden (Unchanged lines) = refl
-mode-hidden (Changed lines) = refl
-mode-hidden (FileMode is_checked mode) = refl
-mode-hidden (Binary is_checked old new) = refl
 
 mode-marked : (s : Section) → checked_after_mark (checked_in s) (with_mode_checked s) ≡ checked_in (with_mode_checked s)
 mode-marked (Unchanged lines) = refl

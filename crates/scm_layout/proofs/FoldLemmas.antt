@@ -5,7 +5,7 @@ use Rattle.std.specs.declared.cmp.Ordering.{Ordering}
 use Rattle.std.specs.declared.cmp.Ordering.TheVariants.{Less, Equal, Greater}
 use Rattle.std.specs.Ordering.{match_ordering}
 use Rattle.std.proofs.lemmas.List.Sums.{sum_by-cons}
-use Rattle.std.proofs.lemmas.Bool.{and_parts, eqb-true}
+use Rattle.std.proofs.lemmas.Bool.{and_parts, eqb-true, and_right, and_left, or_right}
 use Rattle.std.proofs.lemmas.Bool.Decides.{nat_tests}
 use Rattle.scm_types.specs.declared.file.File.{File}
 use Rattle.scm_types.specs.declared.keys.FileKey.{FileKey}
@@ -172,13 +172,6 @@ and-second : (a b c : Bool) → b ≡ false → (a && (b && c)) ≡ false
 and-second true b c e = ap (λ d. d && c) e
 and-second false b c e = refl
 
-and-then : (a b : Bool) → b ≡ false → (a && b) ≡ false
-and-then true b e = e
-and-then false b e = refl
-
-and-first : (a b : Bool) → a ≡ false → (a && b) ≡ false
-and-first a b e = ap (λ c. c && b) e
-
 index-is : (here : Bool) (a b : ℕ) → (if here then Some a else None) ≡ Some b → a ≡ b
 index-is true a b e = cc
 index-is false a b e = absurd cc
@@ -227,14 +220,14 @@ differ-but ks ls key commit index h at i other = record {
 module _ (commit i : ℕ) where
   no-file : (key : SelectionKey) → file_index commit key ≡ None → is_key (keys.File (file_key_of commit i)) key ≡ false
   no-file keys.None e = refl
-  no-file (keys.File key) e = and-first (nat_eq commit key.commit_idx) (nat_eq i key.file_idx && true) (elsewhere key.commit_idx commit key.file_idx e)
+  no-file (keys.File key) e = and_left (nat_eq commit key.commit_idx) (nat_eq i key.file_idx && true) (elsewhere key.commit_idx commit key.file_idx e)
   no-file (keys.Section key) e = refl
   no-file (keys.Line key) e = refl
 
   no-section : (j : ℕ) (key : SelectionKey) → file_index commit key ≡ None → is_key (keys.Section (section_key_of (file_key_of commit i) j)) key ≡ false
   no-section j keys.None e = refl
   no-section j (keys.File key) e = refl
-  no-section j (keys.Section key) e = and-first (nat_eq commit key.commit_idx) (nat_eq i key.file_idx && (nat_eq j key.section_idx && true)) (elsewhere key.commit_idx commit key.file_idx e)
+  no-section j (keys.Section key) e = and_left (nat_eq commit key.commit_idx) (nat_eq i key.file_idx && (nat_eq j key.section_idx && true)) (elsewhere key.commit_idx commit key.file_idx e)
   no-section j (keys.Line key) e = refl
 
 -- then the sets agree on all files, as on those past the last
@@ -248,7 +241,7 @@ differ-none ks ls key commit h none i = record {
 pub section-others : (ks ls : List SelectionKey) (k : FileKey) (j : ℕ) → DifferIn ks ls (keys.Section (section_key_of k j)) → (m : ℕ) → m ≢ j → is_expanded ks k m ≡ is_expanded ls k m
 section-others ks ls k j h m other =
     h.others (keys.Section (section_key_of k m))
-    (and-then (nat_eq k.commit_idx k.commit_idx) (nat_eq k.file_idx k.file_idx && (nat_eq m j && true))
+    (and_right (nat_eq k.commit_idx k.commit_idx) (nat_eq k.file_idx k.file_idx && (nat_eq m j && true))
     (and-second (nat_eq k.file_idx k.file_idx) (nat_eq m j) true (differ m j other)))
 
 -- the file of a key
@@ -260,20 +253,16 @@ file-found commit index (keys.Line key) e = absurd cc
 
 -- ---- a key that is added again
 
-or-right : (a b : Bool) → b ≡ true → (a || b) ≡ true
-or-right true b e = refl
-or-right false b e = e
-
 or-still : (a b c : Bool) → (b ≡ true → c ≡ true) → (a || b) ≡ true → (a || c) ≡ true
 or-still true b c h e = refl
 or-still false b c h e = h e
 
-still-has : (ks : List SelectionKey) (key x : SelectionKey) → has_key ks x ≡ true → has_key (with_key ks key) x ≡ true
+pub still-has : (ks : List SelectionKey) (key x : SelectionKey) → has_key ks x ≡ true → has_key (with_key ks key) x ≡ true
 still-has [] key x e = absurd cc
 still-has (k ∷ ks) key x e = go (key_cmp key k) (still-has ks key x)
   where
     go : (o : Ordering) → (has_key ks x ≡ true → has_key (with_key ks key) x ≡ true) → has_key (match_ordering o (key ∷ k ∷ ks) (k ∷ ks) (k ∷ with_key ks key)) x ≡ true
-    go Less h = or-right (is_key x key) (is_key x k || has_key ks x) e
+    go Less h = or_right (is_key x key) (is_key x k || has_key ks x) e
     go Equal h = e
     go Greater h = or-still (is_key x k) (has_key ks x) (has_key (with_key ks key) x) h e
 

@@ -52,7 +52,7 @@ use Rattle.scm_view.specs.ComponentRanges.{text_of_line, IsShortSection, IsShort
 use Rattle.scm_widgets.proofs.Near.{IsNear}
 use Rattle.scm_document.proofs.Near.{SightIsNear, AreNarrowSections, IsNarrowFile, AreNarrowFiles}
 use Rattle.scm_overlay.proofs.Ranges.{button_columns}
-use Rattle.scm_document.proofs.NearLemmas.{heading-in, changed-in, context-in, rows-near, file-near, message-near, document-near}
+use Rattle.scm_document.proofs.NearLemmas.{heading-in, changed-in, context-in, rows-near, file-near, message-near, document-near, still-near}
 use Rattle.scm_view.proofs.AppRangeLemmas.{few-views}
 use Rattle.scm_view.proofs.LimitLemmas.{first_true, second_true, short, box-narrow, line-narrow, length-sign, length-number, path-narrow, heading-narrow, message-narrow, rows-narrow, sections-append, shown-narrow, shown_if-narrow, shown-few}
 use Rattle.scm_document.proofs.SectionsLemmas.{length-sections}
@@ -61,14 +61,11 @@ use Rattle.scm_overlay.proofs.FixedLemmas.{short_quit, short_help}
 
 -- ---- places
 
-near : (z : ℤ) → IsInDrawBounds z → IsNear z
-near z h = record { low = omega (arith, places, h.low); high = omega (arith, places, h.high) }
-
 near-after : (z : ℤ) (n : ℕ) → IsInDrawBounds z → n ≤ 2 ^ 50 → IsNear (z +ℤ pos n)
 near-after z n h k = record { low = omega (arith, places, h.low); high = omega (arith, places, h.high, k) }
 
 sight-near : (s : Sight) → SightIsInDrawBounds s → SightIsNear s
-sight-near s h = record { x = near _ h.x; end_x = near _ h.end_x; mask_x = near _ h.mask_x }
+sight-near s h = record { x = still-near _ h.x; end_x = still-near _ h.end_x; mask_x = still-near _ h.mask_x }
 
 -- ---- boxes and buttons
 
@@ -111,13 +108,13 @@ header-here : (v : FileViewHeader) (s : Sight) (x y : ℤ) → SightIsInDrawBoun
     → PictureInRange (header_picture v s x y)
 unfolding header_picture
 header-here v s x y n p q h k =
-    heading-in (header_heading v) s x y (sight-near s n) (near x p) (near y q) (heading-narrow (header_heading v) (path-narrow (lent_text v.old_path) v.path.now h k))
+    heading-in (header_heading v) s x y (sight-near s n) (still-near x p) (still-near y q) (heading-narrow (header_heading v) (path-narrow (lent_text v.old_path) v.path.now h k))
 
 inner-here : (i : SectionLineViewInner) (s : Sight) (x y : ℤ) → SightIsInDrawBounds s → IsInDrawBounds x → IsInDrawBounds y → is_short_text (text_of_line i) ≡ true → PictureInRange (inner_picture i s x y)
 inner-here (inner.Unchanged line number) s x y n p q h =
-    context-in (line_texts (number_text number) line.now) s x y (sight-near s n) (omega (arith, places, p.low)) (omega (arith, places, p.high)) (near y q) (line-narrow (number_text number) line.now (length-number number) h)
+    context-in (line_texts (number_text number) line.now) s x y (sight-near s n) (omega (arith, places, p.low)) (omega (arith, places, p.high)) (still-near y q) (line-narrow (number_text number) line.now (length-number number) h)
 inner-here (inner.Changed box change line) s x y n p q h =
-    changed-in box (line_texts (sign_text change) line.now) s x y (sight-near s n) (omega (arith, places, p.low)) (omega (arith, places, p.high)) (near y q) (box-narrow box)
+    changed-in box (line_texts (sign_text change) line.now) s x y (sight-near s n) (omega (arith, places, p.low)) (omega (arith, places, p.high)) (still-near y q) (box-narrow box)
     (line-narrow (sign_text change) line.now (length-sign change) h)
 
 -- ---- sections and files
@@ -126,7 +123,7 @@ section-here : (v : SectionView) (s : Sight) (x y : ℤ) → SightIsInDrawBounds
 unfolding section_picture section_rows sections_rows
 section-here v s x y n p q h =
     let rows : length (rows_of v v.section.now ++ []) ≤ 2 * section_size v.section.now + 1 = shown-few true v in
-    rows-near (rows_of v v.section.now) s x y (sight-near s n) (near x p) (near y q) (near-after y _ q (omega (arith, rows, length-append (rows_of v v.section.now) [], h.lines))) (rows-narrow v v.section.now h.texts)
+    rows-near (rows_of v v.section.now) s x y (sight-near s n) (still-near x p) (still-near y q) (near-after y _ q (omega (arith, rows, length-append (rows_of v v.section.now) [], h.lines))) (rows-narrow v v.section.now h.texts)
 
 abbrev texts_of : SectionView → Bool
 texts_of w = has_short_texts w.section.now
@@ -167,12 +164,12 @@ file-here : (v : FileView) (s : Sight) (x y : ℤ) → SightIsInDrawBounds s →
 unfolding file_picture
 file-here v s x y n p q h =
     let narrow = file-narrow v h in
-    file-near (shown_file v) s x y (sight-near s n) (near x p) (near-after x 2 p (omega arith)) (near y q) (near-after y _ q (omega (arith, file-few v h))) narrow.heading narrow.sections
+    file-near (shown_file v) s x y (sight-near s n) (still-near x p) (near-after x 2 p (omega arith)) (still-near y q) (near-after y _ q (omega (arith, file-few v h))) narrow.heading narrow.sections
 
 -- ---- commits
 
 message-here : (commit : ℕ) (m : Option (List ℕ)) (s : Sight) (x y : ℤ) → SightIsInDrawBounds s → IsInDrawBounds x → IsInDrawBounds y → is_short_option m ≡ true → PictureInRange (message_picture commit m s x y)
-message-here commit m s x y n p q h = message-near commit m s x y (sight-near s n) (near x p) (near y q) (near-after y 1 q (omega arith)) (message-narrow m h)
+message-here commit m s x y n p q h = message-near commit m s x y (sight-near s n) (still-near x p) (still-near y q) (near-after y 1 q (omega arith)) (message-narrow m h)
 
 files-narrow : (vs : List FileView) → AreShortFiles vs → AreNarrowFiles (map shown_file vs)
 files-narrow [] h = tt

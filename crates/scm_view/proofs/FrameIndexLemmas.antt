@@ -60,12 +60,13 @@ use Rattle.scm_widgets.proofs.ButtonLemmas.{no-owner}
 use Rattle.scm_document.proofs.DocumentLemmas.{length-message}
 use Rattle.scm_view.proofs.DocumentOwnerLemmas.{message-cell}
 use Rattle.scm_overlay.proofs.OverlayLemmas.{owned-append}
-use Rattle.scm_view.proofs.LimitLemmas.{message-most, session-few}
+use Rattle.scm_view.proofs.LimitLemmas.{session-few}
 use Rattle.scm_view.proofs.SessionLemmas.{session-ids}
 use Rattle.scm_document.proofs.ViewPieceLemmas.{file-strips-length, owner_of, upper, lower, files-owned, file-height}
 use Rattle.scm_document.proofs.PieceLemmas.{files-places}
 use Rattle.scm_widgets.proofs.OverlayRectLemmas.{on_row, spots-append, within-among}
 use Rattle.scm_document.proofs.OverlayRectLemmas.{pinned-spots}
+use Rattle.scm_document.proofs.NearLemmas.{height-small}
 use Rattle.scm_overlay.proofs.OverlayOwnerLemmas.{overlays-owner, length-bar}
 
 -- ---- the message
@@ -226,7 +227,7 @@ pub index-few : (shown : ViewState) (v : CommitView) → is_accepted_state shown
 index-few shown v a shows =
     let few = session-few shown 0 v a shows in
     let size = files-rows-height v.file_views in
-    let message = message-most (document_of v).message in
+    let message = height-small (document_of v).message in
     omega (arith, few, size, message)
 
 first-shows : (vs : List CommitView) (shown : ViewState) (v : CommitView) → ShowInOrder vs shown 0 → 1 ≤ length vs → v ≡ get_or vs 0 v → Shows v shown 0

@@ -39,7 +39,7 @@ use Rattle.scm_document.specs.declared.commit_view.CommitView.{CommitView}
 use Rattle.scm_widgets.specs.Texts.{icon_text, bracketed, box_text}
 use Rattle.scm_document.specs.Texts.{path_text, section_text, mode_change_text, binary_text, number_text, sign_text, dots_text, message_text}
 use Rattle.scm_rows.specs.Context.{are_all_shown, first_below, has_dots, is_first, lines_above, lines_height}
-use Rattle.scm_rows.specs.Heights.{is_section_visible, message_height}
+use Rattle.scm_rows.specs.Heights.{is_section_visible}
 use Rattle.scm_document.specs.Rows.{Document, Heading, DocRow, DotsRow, BlankRow, ShownSection, line_texts, line_box, section_box, rows_below, shown_lines, context_rows, section_height, changed_rows, numbered_rows, rows_of, section_rows, is_open, is_first_open, shown_section, shown_sections, sections_rows, shown_file, lent_text, file_rows, document_of, line_number, section_heading, place_of}
 use Rattle.scm_widgets.specs.Boxes.{IdBox, is_fold_open}
 use Rattle.scm_document.specs.FilesRows.{files_rows}
@@ -429,10 +429,6 @@ few-rows shown commit v a e =
     let few = state-few shown a in
     let same = ap (λ (d : Document). length (files_rows d.files)) e in
     omega (arith, same, files-few shown commit 0 shown.state.files, few, items_room)
-
-pub message-most : (m : Option (List ℕ)) → message_height m ≤ 3
-message-most None = omega arith
-message-most (Some text) = omega arith
 
 -- and a document of an accepted session too
 pub session-few : (shown : ViewState) (commit : ℕ) (v : CommitView) → is_accepted_state shown.state ≡ true → Shows v shown commit → length (files_rows (document_of v).files) ≤ 2 ^ 43

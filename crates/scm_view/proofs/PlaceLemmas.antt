@@ -25,7 +25,7 @@ use Rattle.scm_document.proofs.PlaceLemmas.{AllHaveRows, some-rows, rows-append}
 key-same : (a b : SelectionKey) → is_key a b ≡ true → a ≡ b
 key-same a b e = sym (key-back a) ∙ ap key_at (numbers-same (numbers_of a) (numbers_of b) e) ∙ key-back b
 
-key-self : (a : SelectionKey) → is_key a a ≡ true
+pub key-self : (a : SelectionKey) → is_key a a ≡ true
 key-self a = numbers-self (numbers_of a)
 
 pub all-append : (ps qs : List Place) → AllHaveRows ps → AllHaveRows qs → AllHaveRows (ps ++ qs)

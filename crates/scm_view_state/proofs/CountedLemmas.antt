@@ -70,11 +70,6 @@ section-at s t k n dx dc dv xs h =
       above = omega (arith, a);
     }
 
-pub counts-length : (editable lines : ℕ) (xs : List Section) → length (sections_counts editable lines xs) ≡ length xs
-unfolding sections_counts
-counts-length editable lines [] = refl
-counts-length editable lines (x ∷ xs) = ap suc (counts-length (if is_editable_section x then editable + 1 else editable) (lines + old_lines x) xs)
-
 -- ---- files
 
 pub part-at : (s : ViewState) (st : Stretch) (i n : ℕ) (df : File) (dv : FileView) (fs : List File) → n < length fs
@@ -93,12 +88,6 @@ pub parts-length : (s : ViewState) (st : Stretch) (i : ℕ) (fs : List File) →
 unfolding file_parts_of
 parts-length s st i [] = refl
 parts-length s st i (f ∷ fs) = ap suc (parts-length s st (suc i) fs)
-
--- an element within a list is the same with any default
-pub get-any : {A : Type 0} (n : ℕ) (d e : A) (xs : List A) → n < length xs → get_or xs n d ≡ get_or xs n e
-get-any n d e [] h = absurd (omega (arith, h))
-get-any zero d e (x ∷ xs) h = refl
-get-any (suc n) d e (x ∷ xs) h = get-any n d e xs (omega (arith, h))
 
 -- section x, with index n, has the counts c and the view that these give
 pub record IsCountedHere (s : ViewState) (t : Totals) (k : FileKey) (n : ℕ) (xs : List Section) (x : Section) (c : SectionCounts) : Type 0 where

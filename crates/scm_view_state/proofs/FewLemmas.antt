@@ -25,7 +25,7 @@ use Rattle.scm_view_state.specs.Views.{lent_file, lent_files, lent_section}
 use Rattle.scm_view_state.specs.VisibleViews.{view_count}
 use Rattle.scm_view_state.proofs.CoverLemmas.{count-high, count-low, count-more, count-most, layout-length, rows_of_files, sections-length}
 use Rattle.scm_view_state.proofs.FilePartLemmas.{is-other, is-same, range_by}
-use Rattle.scm_view_state.proofs.PartRowLemmas.{rows-length, stacked-top}
+use Rattle.scm_view_state.proofs.PartRowLemmas.{rows-length, stacked-top, each-length}
 use Rattle.scm_view_state.proofs.RiseLemmas.{files-rise}
 
 -- ---- how many sections have a row
@@ -333,11 +333,6 @@ part-count s k range f =
 more-views : (v : FileView) (vs : List FileView) → view_count (v ∷ vs) ≡ 1 + length v.section_views + view_count vs
 more-views v vs = sum_by-cons (λ (u : FileView). 1 + length u.section_views) v vs
 
-each-count : (s : ViewState) (i : ℕ) (fs : List File) → length (each_file_rows s.expanded 0 i fs) ≡ length fs
-unfolding each_file_rows
-each-count s i [] = refl
-each-count s i (f ∷ fs) = ap suc (each-count s (suc i) fs)
-
 module _ (s : ViewState) (st : Stretch) (first last : ℕ) (order : first ≤ last) where
   abbrev part : ℕ → File → FileView
   part m f = file_part_of s (file_key_of 0 m) (section_range (is_unfolded s m) st m (length f.sections)) f
@@ -399,7 +394,7 @@ module _ (s : ViewState) (st : Stretch) (first last : ℕ) (order : first ≤ la
       let tall_here = tall s k top f (is_unfolded s m) in
       let a = start ∙ ap (λ n. first_section_of s n first (moved_to top (file_rows s.expanded k f)) f) here in
       let below = next (omega arith) in
-      let first_top = stacked-top (top + (1 + tall_here - 0)) dr (each_file_rows s.expanded 0 (suc m) fs) (omega (arith, h, each-count s (suc m) fs)) in
+      let first_top = stacked-top (top + (1 + tall_here - 0)) dr (each_file_rows s.expanded 0 (suc m) fs) (omega (arith, h, each-length s (suc m) fs)) in
       let count = count-by m f true false (is-same m st.first_file here) (is-other m st.last_file (λ p. omega (arith, p, to))) in
       let few = first-few s k top f (is_unfolded s m) first st.first_section st.end_section (length f.sections) a (omega (arith, below, first_top)) in
       let more = more-views (part m f) (take (suc j) (file_parts_of s st (suc m) fs)) in

@@ -1,4 +1,5 @@
 -- The keys of lines come after all other keys of a set. So a set has the other keys, and the lines behind them.
+use mathlib.Core.Bool.{and-false}
 use Rattle.std.proofs.Common.{◌≡◌, ℕ, suc, ◌+◌, ◌<◌, length, length-append, arith, nat_lt, drop, take, zero, cond, Bool, true, false, not, ◌&&◌, ◌||◌, List, [], ◌∷◌, ◌++◌, refl, sym, ap, ap₂, ◌∙◌, Some, None}
 use Rattle.std.specs.Prelude.{filter, find, fold, is_some, position, slice_get, if◌then◌else◌}
 use Rattle.std.specs.List.{list_any, position_or_len}
@@ -10,6 +11,7 @@ use Rattle.std.proofs.lemmas.Bool.Decides.{nat_tests}
 use Rattle.std.proofs.lemmas.List.Elements.{filter-append}
 use Rattle.std.proofs.lemmas.List.Folds.{list_any-append}
 use Rattle.std.proofs.lemmas.List.Sums.{fold-append}
+use Rattle.std.proofs.lemmas.Bool.{or_right}
 use Rattle.scm_types.specs.declared.keys.SelectionKey.{SelectionKey}
 use Rattle.scm_types.specs.declared.keys.SelectionKey.TheVariants as keys
 use Rattle.scm_types.specs.declared.file.File.{File}
@@ -31,10 +33,11 @@ use Rattle.scm_selection.specs.KeySet.{key_cmp, is_key, has_key, with_key, witho
 use Rattle.scm_selection.specs.KeysAround.{is_editable_in, is_key_of, sections_in}
 use Rattle.scm_selection.specs.Moves.{inner_key, is_inside, keys_behind}
 use Rattle.scm_selection.proofs.FindLemmas.{files-take, sections-take}
-use Rattle.scm_selection.proofs.RelationLemmas.{key-same}
-use Rattle.scm_view_state.proofs.KeyOrderLemmas.{Ascends, added-early, added-turned, key-self, set-has}
+use Rattle.scm_selection.proofs.RelationLemmas.{key-same, and-right}
+use Rattle.scm_view_state.proofs.KeyOrderLemmas.{Ascends, added-early, added-turned, set-has}
 use Rattle.scm_selection.proofs.WalkLemmas.{among-kept}
 use Rattle.scm_view_state.specs.LineKeys.{line_set, set_without_lines, with_lines}
+use Rattle.scm_view.proofs.PlaceLemmas.{key-self}
 
 -- ---- lines come last
 
@@ -201,10 +204,6 @@ same-self : (ls : List SelectionKey) → is_same_set ls ls ≡ true
 same-self [] = refl
 same-self (l ∷ ls) = ap₂ (λ (a b : Bool). a && b) (key-self l) (same-self ls)
 
-and-false : (b : Bool) → (b && false) ≡ false
-and-false true = refl
-and-false false = refl
-
 shorter : (xs ys : List SelectionKey) → length xs < length ys → is_same_set xs ys ≡ false
 shorter xs [] h = absurd (omega (arith, h))
 shorter [] (y ∷ ys) h = refl
@@ -226,10 +225,6 @@ same-both (x ∷ xs) (c ∷ cs) ls = ap (λ b. is_key x c && b) (same-both xs cs
 and-left : (x y : Bool) → (x && y) ≡ true → x ≡ true
 and-left true y e = refl
 and-left false y e = absurd (cc e)
-
-and-right : (x y : Bool) → (x && y) ≡ true → y ≡ true
-and-right true y e = e
-and-right false y e = absurd (cc e)
 
 same-list : (xs ys : List SelectionKey) → is_same_set xs ys ≡ true → xs ≡ ys
 same-list [] [] e = refl
@@ -435,20 +430,16 @@ line-is-one k fs line =
 
 -- ---- the first line
 
-or-right : (a b : Bool) → b ≡ true → (a || b) ≡ true
-or-right true b e = refl
-or-right false b e = e
-
 dropped-has : (n : ℕ) (ks : List SelectionKey) (k : SelectionKey) → has_key (drop n ks) k ≡ true → has_key ks k ≡ true
 dropped-has zero ks k e = e
 dropped-has (suc n) [] k e = e
-dropped-has (suc n) (x ∷ xs) k e = or-right (is_key k x) (has_key xs k) (dropped-has n xs k e)
+dropped-has (suc n) (x ∷ xs) k e = or_right (is_key k x) (has_key xs k) (dropped-has n xs k e)
 
 -- what is true of a key and of all keys of a list is true of the first of these that passes a test, or of that key
 module _ (P : SelectionKey → Type 0) where
   found-keeps : (test : SelectionKey → Bool) (ks : List SelectionKey) (key : SelectionKey) → P key → ((k : SelectionKey) → has_key ks k ≡ true → P k) → P (unwrap_or (find test ks) key)
   found-keeps test [] key p each = p
-  found-keeps test (k ∷ ks) key p each = go (test k) (found-keeps test ks key p (λ x there. each x (or-right (is_key x k) (has_key ks x) there)))
+  found-keeps test (k ∷ ks) key p each = go (test k) (found-keeps test ks key p (λ x there. each x (or_right (is_key x k) (has_key ks x) there)))
     where
       go : (b : Bool) → P (unwrap_or (find test ks) key) → P (unwrap_or (cond b (Some k) (find test ks)) key)
       go true more = each k (ap (λ b. b || has_key ks k) (key-self k))

@@ -21,6 +21,7 @@ use Rattle.scm_layout.specs.declared.file_rows.FileRows.{FileRows}
 use Rattle.scm_layout.specs.declared.section_rows.SectionRows.{SectionRows}
 use Rattle.scm_rows.specs.Heights.{is_section_visible}
 use Rattle.scm_layout.specs.Rows.{each_file_rows, file_height, file_key_of, file_rows, folded_count, is_first_open, is_open, moved_to, sections_height, sections_rows, stacked, visible_height}
+use Rattle.scm_layout.proofs.StackLemmas.{length-stacked}
 use Rattle.scm_view_state.proofs.ViewRowLemmas.{file-box, open-is, visible-is}
 use Rattle.scm_view_state.proofs.SectionPartLemmas.{counted, shown_before}
 
@@ -139,18 +140,13 @@ unfolding stacked
 stacked-top t d [] h = absurd (omega (arith, h))
 stacked-top t d (r ∷ rs) h = refl
 
-stacked-length : (t : ℕ) (rs : List FileRows) → length (stacked t rs) ≡ length rs
-unfolding stacked
-stacked-length t [] = refl
-stacked-length t (r ∷ rs) = ap suc (stacked-length (t + (r.end - r.top)) rs)
-
-each-length : (s : ViewState) (i : ℕ) (fs : List File) → length (each_file_rows s.expanded 0 i fs) ≡ length fs
+pub each-length : (s : ViewState) (i : ℕ) (fs : List File) → length (each_file_rows s.expanded 0 i fs) ≡ length fs
 unfolding each_file_rows
 each-length s i [] = refl
 each-length s i (f ∷ fs) = ap suc (each-length s (suc i) fs)
 
 pub rows-length : (s : ViewState) (top i : ℕ) (fs : List File) → length (stacked top (each_file_rows s.expanded 0 i fs)) ≡ length fs
-rows-length s top i fs = stacked-length top (each_file_rows s.expanded 0 i fs) ∙ each-length s i fs
+rows-length s top i fs = length-stacked top (each_file_rows s.expanded 0 i fs) ∙ each-length s i fs
 
 pub views-length : (s : ViewState) (i : ℕ) (fs : List File) → length (map shown_file (file_views_of s 0 i fs)) ≡ length fs
 unfolding file_views_of

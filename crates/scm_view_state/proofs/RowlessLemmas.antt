@@ -2,7 +2,8 @@
 use Rattle.std.proofs.Common.{◌≡◌, ℕ, zero, suc, ◌+◌, ◌-◌, ◌<◌, ◌≤◌, ◌⊎◌, inl, inr, min, nat_le, nat_lt, Bool, true, false, not, ◌&&◌, ◌||◌, List, [], ◌∷◌, ◌++◌, length, take, drop, get_or, refl, sym, ap, ap₂, ◌∙◌, arith}
 use Rattle.std.specs.Prelude.{◌==◌, if◌then◌else◌}
 use Rattle.std.proofs.lemmas.Bool.Decides.{nat_tests}
-use Rattle.std.proofs.lemmas.List.{append-nil, length-drop, length-take}
+use Rattle.std.proofs.lemmas.List.{append-nil, length-drop, length-take, get_or_default}
+use Rattle.std.proofs.lemmas.Bool.{and_left}
 use Rattle.scm_types.specs.declared.file.File.{File}
 use Rattle.scm_types.specs.declared.keys.FileKey.{FileKey}
 use Rattle.scm_types.specs.declared.section.Section.{Section}
@@ -44,10 +45,6 @@ unseen false true after e = absurd (cc e)
 unseen false false true e = absurd (cc e)
 unseen false false false e = (refl, (refl, refl))
 
-closed : (editable unfolded : Bool) → editable ≡ false → (editable && unfolded) ≡ false
-closed true unfolded e = absurd (cc e)
-closed false unfolded e = refl
-
 first-kept : (before : Bool) (rs : List SectionRows) (vs : List SectionView) → length rs ≡ length vs → Bare before rs vs
     → views.is_first_open (views_with_rows rs vs) ≡ views.is_first_open vs
 unfolding views_with_rows
@@ -61,7 +58,7 @@ first-kept before (r ∷ rs) (v ∷ vs) e w = go (has_row r) refl (first-kept (v
     go true p more = refl
     go false p more =
         let u = unseen (is_editable_section v.section.now) before (views.is_first_open vs) (w.0 p) in
-        more ∙ u.1.1 ∙ sym (closed (is_editable_section v.section.now) (is_fold_open v.expand_box) u.0)
+        more ∙ u.1.1 ∙ sym (and_left (is_editable_section v.section.now) (is_fold_open v.expand_box) u.0)
 
 -- the others are shown as before
 kept-same : (before : Bool) (rs : List SectionRows) (vs : List SectionView) → length rs ≡ length vs → Bare before rs vs
@@ -80,7 +77,7 @@ kept-same before (r ∷ rs) (v ∷ vs) e w =
         ap₂ (λ b ps. shown_section (is_section_visible before v.section.now b) v ++ ps) (first-kept (views.is_open v) rs vs (omega (arith, e)) w.1) more
     go false p more =
         let u = unseen (is_editable_section v.section.now) before (views.is_first_open vs) (w.0 p) in
-        let same = u.1.0 ∙ sym (closed (is_editable_section v.section.now) (is_fold_open v.expand_box) u.0) in
+        let same = u.1.0 ∙ sym (and_left (is_editable_section v.section.now) (is_fold_open v.expand_box) u.0) in
         ap (λ b. shown_sections b (views_with_rows rs vs)) same ∙ more
         ∙ sym (ap (λ b. shown_section b v ++ shown_sections (views.is_open v) vs) (w.0 p))
 
@@ -261,12 +258,6 @@ module _ (a : ℕ) (rs : List SectionRows) (vs : List SectionView) (count : leng
 
 -- ---- the section that comes next
 
--- an element within a list is the same with any default
-get-any : {A : Type 0} (n : ℕ) (d e : A) (xs : List A) → n < length xs → get_or xs n d ≡ get_or xs n e
-get-any n d e [] h = absurd (omega (arith, h))
-get-any zero d e (x ∷ xs) h = refl
-get-any (suc n) d e (x ∷ xs) h = get-any n d e xs (omega (arith, h))
-
 module _ {A : Type 0} (top end : A → ℕ) where
   follow-at : (t n : ℕ) (d : A) (xs : List A) → FollowFrom top end t xs → suc n < length xs → end (get_or xs n d) ≡ top (get_or xs (suc n) d)
   follow-at t n d [] h within = absurd (omega (arith, within))
@@ -287,7 +278,7 @@ bare-between rs follow j i e d inside after below =
     let most = count-most top (get_or rs j e).end rs in
     let next = follow-at top end follow.top i d rs follow.follow (omega (arith, below, most)) in
     let own = follow-at top end follow.top j e rs follow.follow (omega (arith, below, most, after)) in
-    let same = get-any (suc j) d e rs (omega (arith, below, most, after)) in
+    let same = get_or_default rs (suc j) d e (omega (arith, below, most, after)) in
     let same_top = ap top same in
     let rise = follow-rise top end follow.top rs follow.follow (suc j) i d (omega (arith, after)) (omega (arith, below, most)) in
     let low = count-low top (get_or rs j e).end (suc i) d rs (omega (arith, below)) in

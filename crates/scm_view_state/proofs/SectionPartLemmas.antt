@@ -1,8 +1,9 @@
 -- Views of some of a file's sections, one below another, show the part of the file that these sections make, if the sections at its
 -- edges show the same without their neighbours.
-use Rattle.std.proofs.Common.{◌≡◌, ℕ, zero, suc, ◌<◌, ◌≤◌, Bool, true, false, ◌&&◌, ◌||◌, List, [], ◌∷◌, ◌++◌, length, take, drop, get_or, refl, sym, ap, ap₂, ◌∙◌, arith}
+use Rattle.std.proofs.Common.{◌≡◌, ℕ, zero, suc, ◌<◌, ◌≤◌, Bool, true, false, ◌||◌, List, [], ◌∷◌, ◌++◌, length, take, drop, get_or, refl, sym, ap, ap₂, ◌∙◌, arith}
 use Rattle.std.specs.Prelude.{if◌then◌else◌}
 use Rattle.std.proofs.lemmas.List.{take_all}
+use Rattle.std.proofs.lemmas.Bool.{and_left}
 use Rattle.scm_types.specs.Marks.{is_editable_section}
 use Rattle.scm_widgets.specs.Boxes.{is_fold_open}
 use Rattle.scm_document.specs.declared.section_view.SectionView.{SectionView}
@@ -119,10 +120,6 @@ editable_view_at n [] = false
 editable_view_at zero (v ∷ vs) = is_editable_view v
 editable_view_at (suc n) (v ∷ vs) = editable_view_at n vs
 
-not-editable : (b c : Bool) → b ≡ false → (b && c) ≡ false
-not-editable true c e = absurd (cc e)
-not-editable false c e = refl
-
 editable-shown : (b x y : Bool) → b ≡ true → (b || x) ≡ (b || y)
 editable-shown true x y e = refl
 editable-shown false x y e = absurd (cc e)
@@ -132,7 +129,7 @@ pub ends-before : (n : ℕ) (vs : List SectionView) → editable_view_at n vs �
 ends-before zero vs e = tt
 ends-before (suc zero) [] e = tt
 ends-before (suc zero) (v ∷ []) e = λ before. refl
-ends-before (suc zero) (v ∷ (u ∷ vs)) e = λ before. ap (is_section_visible before v.section.now) (sym (not-editable (is_editable_view u) (is_fold_open u.expand_box) e))
+ends-before (suc zero) (v ∷ (u ∷ vs)) e = λ before. ap (is_section_visible before v.section.now) (sym (and_left (is_editable_view u) (is_fold_open u.expand_box) e))
 ends-before (suc (suc n)) [] e = tt
 ends-before (suc (suc n)) (v ∷ vs) e = ends-before (suc n) vs e
 
@@ -174,7 +171,7 @@ last-shown before (suc n) (v ∷ vs) =
 closed-before : (before : Bool) (n end : ℕ) (vs : List SectionView) → editable_view_at n vs ≡ false → open_before before (suc n) (take end vs) ≡ false
 closed-before before n end [] e = ap (open_before before (suc n)) (take-none end)
 closed-before before n zero (v ∷ vs) e = refl
-closed-before before zero (suc end) (v ∷ vs) e = not-editable (is_editable_view v) (is_fold_open v.expand_box) e
+closed-before before zero (suc end) (v ∷ vs) e = and_left (is_editable_view v) (is_fold_open v.expand_box) e
 closed-before before (suc n) (suc end) (v ∷ vs) e = closed-before (is_open v) n end vs e
 
 pub starts-after : (n : ℕ) (vs : List SectionView) → editable_view_at n vs ≡ false → StartsWell (suc n) vs
