@@ -96,7 +96,7 @@ module _ (s : ViewState) (t : Totals) (k : FileKey) where
 
 -- ---- files
 
-file-height : (s : ViewState) (k : FileKey) (f : File) → file_height s.expanded k f ≡ pieces.file_height (file_view_of s k f)
+pub file-height : (s : ViewState) (k : FileKey) (f : File) → file_height s.expanded k f ≡ pieces.file_height (file_view_of s k f)
 file-height s k f =
     let t = totals_of f.sections in
     ap (λ n. 1 + (if has_key s.expanded (keys.File k) then n else 0)) (sym (heights-are s t k 0 0 0 false false f.sections refl))
