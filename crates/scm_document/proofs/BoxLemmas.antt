@@ -231,8 +231,4 @@ has_box r y n w wide h = record {
   where
     from : (wide : Bool) (x : ℕ) → (int_le (pos (left_of wide)) (pos x) && true) ≡ (wide || nat_le 2 x)
     from true x = let a : int_le (pos 0) (pos x) ≡ true = grind (arith, ints) in rw a refl
-    from false x = go (nat_le 2 x)
-      where
-        go : (b : Bool) → (b && true) ≡ b
-        go true = refl
-        go false = refl
+    from false x = elim (nat_le 2 x) as (λ b. (b && true) ≡ b) [ true ↦ refl | false ↦ refl ]

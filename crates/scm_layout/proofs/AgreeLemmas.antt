@@ -114,8 +114,4 @@ module _ (ks ls : List SelectionKey) (k : FileKey) where
 pub folds-le : (ks : List SelectionKey) (k : FileKey) (i : ℕ) (ss : List Section) → folded_count ks k i ss ≤ length ss
 unfolding folded_count
 folds-le ks k i [] = omega arith
-folds-le ks k i (s ∷ ss) = omega (arith, one-le (is_changed s && not (is_expanded ks k i)), folds-le ks k (suc i) ss)
-  where
-    one-le : (b : Bool) → (if b then 1 else 0) ≤ 1
-    one-le true = omega arith
-    one-le false = omega arith
+folds-le ks k i (s ∷ ss) = omega (arith, (elim (is_changed s && not (is_expanded ks k i)) as (λ b. (if b then 1 else 0) ≤ 1) [ true ↦ omega arith | false ↦ omega arith ]), folds-le ks k (suc i) ss)

@@ -159,11 +159,7 @@ other-removed (k ∷ ks) key x e = go (is_key key k) refl (other-removed ks key 
     go false same h = ap (λ b. is_key x k || b) h
 
 pub other-flipped : (ks : List SelectionKey) (key x : SelectionKey) → is_key x key ≡ false → has_key (with_key_flipped ks key) x ≡ has_key ks x
-other-flipped ks key x e = go (has_key ks key)
-  where
-    go : (b : Bool) → has_key (if b then without_key ks key else with_key ks key) x ≡ has_key ks x
-    go true = other-removed ks key x e
-    go false = other-added ks key x e
+other-flipped ks key x e = elim (has_key ks key) as (λ b. has_key (if b then without_key ks key else with_key ks key) x ≡ has_key ks x) [ true ↦ other-removed ks key x e | false ↦ other-added ks key x e ]
 
 differ : (i j : ℕ) → i ≢ j → nat_eq i j ≡ false
 differ i j h = grind (arith, nat_tests)
@@ -177,11 +173,7 @@ index-is true a b e = cc
 index-is false a b e = absurd cc
 
 elsewhere : (a b : ℕ) (index : ℕ) → (if nat_eq a b then Some index else None) ≡ None → nat_eq b a ≡ false
-elsewhere a b index e = go (nat_eq a b) refl e
-  where
-    go : (here : Bool) → nat_eq a b ≡ here → (if here then Some index else None) ≡ None → nat_eq b a ≡ false
-    go true same f = absurd cc
-    go false other f = grind (arith, nat_tests)
+elsewhere a b index e = (elim (nat_eq a b) as (λ here. nat_eq a b ≡ here → (if here then Some index else None) ≡ None → nat_eq b a ≡ false) [ true ↦ (λ same f. absurd cc) | false ↦ (λ other f. grind (arith, nat_tests)) ]) refl e
 
 found-at : (here : Bool) (commit index c i : ℕ) → nat_eq c commit ≡ here → (if here then Some i else None) ≡ Some index → file_key_of c i ≡ file_key_of commit index
 found-at true commit index c i same e =

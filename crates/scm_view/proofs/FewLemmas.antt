@@ -185,11 +185,7 @@ document-few d s y = go (length d.files == 0) refl
         record { rows = omega (arith, message.rows, one, before-most v below); calls = omega (arith, message.calls, words.calls) }
       where
         row-most : (v : Rect) (z : ℤ) (n : ℕ) → (on_row v z (drawn 1 n)).rows ≤ 1
-        row-most v z n = at (has_row v z) refl
-          where
-            at : (b : Bool) → has_row v z ≡ b → (on_row v z (drawn 1 n)).rows ≤ 1
-            at true k = rw (on_row-shown v z (drawn 1 n) k) (omega arith)
-            at false k = rw (on_row-hidden v z (drawn 1 n) k) (omega arith)
+        row-most v z n = (elim (has_row v z) as (λ b. has_row v z ≡ b → (on_row v z (drawn 1 n)).rows ≤ 1) [ true ↦ (λ k. rw (on_row-shown v z (drawn 1 n) k) (omega arith)) | false ↦ (λ k. rw (on_row-hidden v z (drawn 1 n) k) (omega arith)) ]) refl
     go false e =
         let message = few-message d.message v y in
         let files = files-few d.files v (mask_row s) below in

@@ -108,11 +108,7 @@ length-encoded (c ∷ cs) = omega (arith, length-append (encode_utf8 c) (encode_
 
 length-skipped : (cs : List ℕ) → length (skip_leading_whitespace cs) ≤ length cs
 length-skipped [] = omega arith
-length-skipped (c ∷ cs) = go (is_whitespace c) (length-skipped cs)
-  where
-    go : (b : Bool) → length (skip_leading_whitespace cs) ≤ length cs → length (cond b (skip_leading_whitespace cs) (c ∷ cs)) ≤ suc (length cs)
-    go true h = omega (arith, h)
-    go false h = omega arith
+length-skipped (c ∷ cs) = (elim (is_whitespace c) as (λ b. length (skip_leading_whitespace cs) ≤ length cs → length (cond b (skip_leading_whitespace cs) (c ∷ cs)) ≤ suc (length cs)) [ true ↦ (λ h. omega (arith, h)) | false ↦ (λ h. omega arith) ]) (length-skipped cs)
 
 length-dropped : (cs : List ℕ) → length (drop_trailing_whitespace cs) ≤ length cs
 length-dropped [] = omega arith
@@ -327,23 +323,11 @@ files-narrow s commit i (f ∷ fs) h =
 -- ---- numbers of rows
 
 lines-few : (v : SectionView) (n : ℕ) → lines_height (place_of v) n ≤ 2 * n + 1
-lines-few v n = omega (arith, at_most (are_all_shown (place_of v) n) (is_first (place_of v)) n, one (has_dots (place_of v) n))
-  where
-    one : (b : Bool) → (if b then 1 else 0) ≤ 1
-    one true = omega arith
-    one false = omega arith
+lines-few v n = omega (arith, at_most (are_all_shown (place_of v) n) (is_first (place_of v)) n, (elim (has_dots (place_of v) n) as (λ b. (if b then 1 else 0) ≤ 1) [ true ↦ omega arith | false ↦ omega arith ]))
 
 rows-few : (v : SectionView) (section : Section) → section_height v section ≤ 2 * section_size section + 1
-rows-few v (Unchanged ls) = go (length ls == 0)
-  where
-    go : (b : Bool) → (if b then 1 else lines_height (place_of v) (length ls)) ≤ 2 * length ls + 1
-    go true = omega arith
-    go false = lines-few v (length ls)
-rows-few v (Changed ls) = go (is_fold_open v.expand_box)
-  where
-    go : (b : Bool) → (if b then 1 + length ls else 1) ≤ 2 * length ls + 1
-    go true = omega arith
-    go false = omega arith
+rows-few v (Unchanged ls) = elim (length ls == 0) as (λ b. (if b then 1 else lines_height (place_of v) (length ls)) ≤ 2 * length ls + 1) [ true ↦ omega arith | false ↦ lines-few v (length ls) ]
+rows-few v (Changed ls) = elim (is_fold_open v.expand_box) as (λ b. (if b then 1 + length ls else 1) ≤ 2 * length ls + 1) [ true ↦ omega arith | false ↦ omega arith ]
 rows-few v (FileMode checked m) = omega arith
 rows-few v (Binary checked old new) = omega arith
 

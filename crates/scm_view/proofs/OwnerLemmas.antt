@@ -56,19 +56,11 @@ none-seen w z h =
 
 one-owner : (a b : Strip ComponentId) → ((x : ℕ) → a.owner x ≡ b.owner x) → (y z : ℤ) (x : ℕ) → (line clear (a ∷ []) y z).owner x ≡ (line clear (b ∷ []) y z).owner x
 unfolding line
-one-owner a b e y z x = go (int_eq z y)
-  where
-    go : (t : Bool) → (cond t a clear).owner x ≡ (cond t b clear).owner x
-    go true = e x
-    go false = refl
+one-owner a b e y z x = elim (int_eq z y) as (λ t. (cond t a clear).owner x ≡ (cond t b clear).owner x) [ true ↦ e x | false ↦ refl ]
 
 pub no-owner : (a : Strip ComponentId) → ((x : ℕ) → a.owner x ≡ None) → (y z : ℤ) (x : ℕ) → (line clear (a ∷ []) y z).owner x ≡ None
 unfolding line
-no-owner a e y z x = go (int_eq z y)
-  where
-    go : (t : Bool) → (cond t a clear).owner x ≡ None
-    go true = e x
-    go false = refl
+no-owner a e y z x = elim (int_eq z y) as (λ t. (cond t a clear).owner x ≡ None) [ true ↦ e x | false ↦ refl ]
 
 module _ (same : ComponentId → ComponentId → Bool) where
   pub owns-as : (w : ℕ) (P : ComponentId → Type 0) (m n : IdPicture) (y : ℤ) (ss ts : List (Strip ComponentId)) → m.boxes ≡ n.boxes
@@ -98,11 +90,7 @@ module _ (same : ComponentId → ComponentId → Bool) where
   -- a box owns its three columns
   cell : (b : IdBox) (c low high : ℕ) (y z : ℤ) (x : ℕ) → cond (int_eq z y && (nat_le c x && nat_lt x (c + 3))) (Some b.id) None ≡ (line clear (box_strip c b low high ∷ []) y z).owner x
   unfolding line
-  cell b c low high y z x = go (int_eq z y)
-    where
-      go : (t : Bool) → cond (t && (nat_le c x && nat_lt x (c + 3))) (Some b.id) None ≡ (cond t (box_strip c b low high) clear).owner x
-      go true = refl
-      go false = refl
+  cell b c low high y z x = elim (int_eq z y) as (λ t. cond (t && (nat_le c x && nat_lt x (c + 3))) (Some b.id) None ≡ (cond t (box_strip c b low high) clear).owner x) [ true ↦ refl | false ↦ refl ]
 
   box_owns : (b : IdBox) (s : Sight) (w c low high : ℕ) (y : ℤ) → is_clickable b.id ≡ true → Owns same w (IsId b.id) (box_part b s (pos c) y) y (box_strip c b low high ∷ [])
   unfolding part box_picture span_picture box_rect hit has_id

@@ -39,11 +39,7 @@ use Rattle.scm_view_state.proofs.PartRowLemmas.{IsFileAt, file-of, no-rows, rows
 module _ {A : Type 0} (top : A → ℕ) where
   pub count-most : (row : ℕ) (xs : List A) → count_to top row xs ≤ length xs
   count-most row [] = omega arith
-  count-most row (x ∷ xs) = go (nat_le (top x) row) (count-most row xs)
-    where
-      go : (b : Bool) → count_to top row xs ≤ length xs → cond b (1 + count_to top row xs) 0 ≤ suc (length xs)
-      go true h = omega (arith, h)
-      go false h = omega arith
+  count-most row (x ∷ xs) = (elim (nat_le (top x) row) as (λ b. count_to top row xs ≤ length xs → cond b (1 + count_to top row xs) 0 ≤ suc (length xs)) [ true ↦ (λ h. omega (arith, h)) | false ↦ (λ h. omega arith) ]) (count-most row xs)
 
   pub count-low : (row n : ℕ) (d : A) (xs : List A) → n < count_to top row xs → top (get_or xs n d) ≤ row
   count-low row n d [] h = absurd (omega (arith, h))
@@ -179,11 +175,7 @@ module _ (s : ViewState) (k : FileKey) (f : File) where
     pub low : 0 < a → r.top + 1 + rows_before a ≤ row
 
   start-well : (first : ℕ) → StartsWell (start_of first f.sections) own
-  start-well zero = go (is_editable_at 0 f.sections)
-    where
-      go : (b : Bool) → StartsWell (if b then 0 else 0) own
-      go true = starts-first own
-      go false = starts-first own
+  start-well zero = elim (is_editable_at 0 f.sections) as (λ b. StartsWell (if b then 0 else 0) own) [ true ↦ starts-first own | false ↦ starts-first own ]
   start-well (suc n) =
       let same : suc n - 1 ≡ n = omega arith in
       subst (λ (m : ℕ). StartsWell (if is_editable_at m f.sections then m else suc n) own) (sym same) (go (is_editable_at n f.sections) (own-editable n))
@@ -193,11 +185,7 @@ module _ (s : ViewState) (k : FileKey) (f : File) where
       go false e = starts-after n own e
 
   start-most : (first : ℕ) → start_of first f.sections ≤ first
-  start-most first = go (is_editable_at (first - 1) f.sections)
-    where
-      go : (b : Bool) → (if b then first - 1 else first) ≤ first
-      go true = omega arith
-      go false = omega arith
+  start-most first = elim (is_editable_at (first - 1) f.sections) as (λ b. (if b then first - 1 else first) ≤ first) [ true ↦ omega arith | false ↦ omega arith ]
 
   -- of a folded file no section has begun
   begun-cases : (row : ℕ) (r : FileRows) → (sections_begun unfolded row r ≡ 0) ⊎ ((unfolded ≡ true) × ((r.top < row) × (sections_begun unfolded row r ≡ count_to (λ (q : SectionRows). q.top) (row - r.top - 1) r.sections)))
@@ -266,18 +254,10 @@ module _ (s : ViewState) (k : FileKey) (f : File) where
       go false e = ends-before n own e
 
   end-within : (n : ℕ) → n ≤ length f.sections → end_of n f.sections ≤ length f.sections
-  end-within n h = go (is_editable_at n f.sections) refl
-    where
-      go : (b : Bool) → is_editable_at n f.sections ≡ b → (if b then n + 1 else n) ≤ length f.sections
-      go true e = let inside = editable-within n f.sections e in omega (arith, inside)
-      go false e = h
+  end-within n h = (elim (is_editable_at n f.sections) as (λ b. is_editable_at n f.sections ≡ b → (if b then n + 1 else n) ≤ length f.sections) [ true ↦ (λ e. let inside = editable-within n f.sections e in omega (arith, inside)) | false ↦ (λ e. h) ]) refl
 
   end-least : (n : ℕ) → n ≤ end_of n f.sections
-  end-least n = go (is_editable_at n f.sections)
-    where
-      go : (b : Bool) → n ≤ (if b then n + 1 else n)
-      go true = omega arith
-      go false = omega arith
+  end-least n = elim (is_editable_at n f.sections) as (λ b. n ≤ (if b then n + 1 else n)) [ true ↦ omega arith | false ↦ omega arith ]
 
   begun-is : (row : ℕ) (r : FileRows) → unfolded ≡ true → r.top < row → sections_begun unfolded row r ≡ count_to (λ (q : SectionRows). q.top) (row - r.top - 1) r.sections
   begun-is row r e h =

@@ -42,18 +42,10 @@ among zero (suc e) (r ∷ rs) = one r + among zero e rs
 among (suc a) (suc e) (r ∷ rs) = among a e rs
 
 one-most : (r : SectionRows) → one r ≤ 1
-one-most r = go (has_row r)
-  where
-    go : (b : Bool) → (if b then 1 else 0) ≤ 1
-    go true = omega arith
-    go false = omega arith
+one-most r = elim (has_row r) as (λ b. (if b then 1 else 0) ≤ 1) [ true ↦ omega arith | false ↦ omega arith ]
 
 one-tall : (top tall : ℕ) → (if nat_lt top (top + tall) then 1 else 0) ≤ tall
-one-tall top tall = go (nat_lt top (top + tall)) refl
-  where
-    go : (b : Bool) → nat_lt top (top + tall) ≡ b → (if b then 1 else 0) ≤ tall
-    go true e = grind (arith, nat_tests)
-    go false e = omega arith
+one-tall top tall = (elim (nat_lt top (top + tall)) as (λ b. nat_lt top (top + tall) ≡ b → (if b then 1 else 0) ≤ tall) [ true ↦ (λ e. grind (arith, nat_tests)) | false ↦ (λ e. omega arith) ]) refl
 
 none-to : (a : ℕ) (rs : List SectionRows) → among a 0 rs ≡ 0
 none-to a [] = refl
@@ -210,18 +202,10 @@ module _ (s : ViewState) (k : FileKey) (total : ℕ) where
 -- ---- the sections of a file that are kept
 
 start-least : (first : ℕ) (xs : List Section) → first ≤ start_of first xs + 1
-start-least first xs = go (is_editable_at (first - 1) xs)
-  where
-    go : (b : Bool) → first ≤ (if b then first - 1 else first) + 1
-    go true = omega arith
-    go false = omega arith
+start-least first xs = elim (is_editable_at (first - 1) xs) as (λ b. first ≤ (if b then first - 1 else first) + 1) [ true ↦ omega arith | false ↦ omega arith ]
 
 end-most : (n : ℕ) (xs : List Section) → end_of n xs ≤ suc n
-end-most n xs = go (is_editable_at n xs)
-  where
-    go : (b : Bool) → (if b then n + 1 else n) ≤ suc n
-    go true = omega arith
-    go false = omega arith
+end-most n xs = elim (is_editable_at n xs) as (λ b. (if b then n + 1 else n) ≤ suc n) [ true ↦ omega arith | false ↦ omega arith ]
 
 -- how many sections of a file have begun, if it is unfolded
 begun-below : (row : ℕ) (r : FileRows) → r.top < row → sections_begun true row r ≡ count_to (λ (q : SectionRows). q.top) (row - r.top - 1) r.sections

@@ -167,11 +167,7 @@ set-from-has (k ∷ ks) set key =
 
 -- the set of a list has the keys of the list
 pub set-has : (ks : List SelectionKey) (key : SelectionKey) → has_key (key_set ks) key ≡ has_key ks key
-set-has ks key = set-from-has ks [] key ∙ or-false (has_key ks key)
-  where
-    or-false : (b : Bool) → (b || false) ≡ b
-    or-false true = refl
-    or-false false = refl
+set-has ks key = set-from-has ks [] key ∙ (elim (has_key ks key) as (λ b. (b || false) ≡ b) [ true ↦ refl | false ↦ refl ])
 
 -- ---- sets with the same keys
 

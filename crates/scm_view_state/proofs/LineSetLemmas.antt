@@ -234,11 +234,7 @@ same-list (x ∷ xs) (y ∷ ys) e =
     ap₂ (λ (k : SelectionKey) (ks : List SelectionKey). k ∷ ks) (key-same x y (and-left (is_key x y) (is_same_set xs ys) e)) (same-list xs ys (and-right (is_key x y) (is_same_set xs ys) e))
 
 pub lacks-key : (xs ks : List SelectionKey) (l : SelectionKey) → has_key ks l ≡ true → has_key xs l ≡ false → is_same_set xs (key_set ks) ≡ false
-lacks-key xs ks l there e = go (is_same_set xs (key_set ks)) refl
-  where
-    go : (b : Bool) → is_same_set xs (key_set ks) ≡ b → b ≡ false
-    go false p = refl
-    go true p = absurd (cc (e, ap (λ set. has_key set l) (same-list xs (key_set ks) p), set-has ks l, there))
+lacks-key xs ks l there e = (elim (is_same_set xs (key_set ks)) as (λ b. is_same_set xs (key_set ks) ≡ b → b ≡ false) [ true ↦ (λ p. absurd (cc (e, ap (λ set. has_key set l) (same-list xs (key_set ks) p), set-has ks l, there))) | false ↦ (λ p. refl) ]) refl
 
 -- ---- the layout and the visible keys ask for files and sections alone
 
@@ -343,11 +339,7 @@ module _ (fs : List File) (e : List SelectionKey) where
   -- a key is in the set itself, or among the lines
   pub has-any : (all : Bool) (k : SelectionKey) → has_key (with_lines all fs e) k ≡ (has_key e k || (all && has_key (line_set fs) k))
   has-any true k = list_any-append (is_key k) e (line_set fs)
-  has-any false k = or-false (has_key e k)
-    where
-      or-false : (b : Bool) → b ≡ (b || false)
-      or-false true = refl
-      or-false false = refl
+  has-any false k = elim (has_key e k) as (λ b. b ≡ (b || false)) [ true ↦ refl | false ↦ refl ]
 
   -- all lines behind a set are the lines behind all others if the set has all others
   pub same-with : is_same_set e (set_without_lines fs) ≡ is_same_set (e ++ line_set fs) (key_set (all_keys fs))

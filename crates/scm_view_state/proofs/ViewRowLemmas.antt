@@ -26,11 +26,7 @@ use Rattle.scm_view_state.specs.ViewRows.{FoldsAreCounted, HaveRowsOf, RowsAreOf
 
 -- whether the view of a section is unfolded
 pub section-box : (s : ViewState) (k : FileKey) (i : ℕ) → is_fold_open (expand_box_of s (keys.Section (section_key_of k i)) (section_fold s (section_key_of k i))) ≡ is_expanded s.expanded k i
-section-box s k i = go (is_expanded s.expanded k i)
-  where
-    go : (b : Bool) → is_fold_open (expand_box_of s (keys.Section (section_key_of k i)) (if b then tristate.True else tristate.False)) ≡ b
-    go true = refl
-    go false = refl
+section-box s k i = elim (is_expanded s.expanded k i) as (λ b. is_fold_open (expand_box_of s (keys.Section (section_key_of k i)) (if b then tristate.True else tristate.False)) ≡ b) [ true ↦ refl | false ↦ refl ]
 
 -- whether the view of a file is unfolded
 pub file-box : (s : ViewState) (k : FileKey) (f : File) → is_fold_open (file_view_of s k f).expand_box ≡ has_key s.expanded (keys.File k)
