@@ -28,10 +28,11 @@ use Rattle.scm_types.specs.Keys.{line_key_of}
 use Rattle.scm_document.specs.Strips.{row_strip, is_whole, is_wide, is_of_section, section_strips}
 use Rattle.scm_document.specs.PieceOwners.{box_owner, line_owner, context_line, part_owner, section_owner}
 use Rattle.scm_rows.specs.Heights.{shape_of}
+use Rattle.scm_rows.proofs.HeightLemmas.{above-le}
 use Rattle.scm_document.specs.SectionPieces.{context_kinds, is_wide_section, kinds_of}
 use Rattle.scm_document.specs.ViewPieces.{section_piece_of}
 use Rattle.scm_document.proofs.RowsLemmas.{length-numbered, length-taken}
-use Rattle.scm_document.proofs.SectionsLemmas.{at_most, most-below, height-of, section-size}
+use Rattle.scm_document.proofs.SectionsLemmas.{most-below, height-of, section-size}
 use Rattle.scm_widgets.proofs.DrawsStrips.{line-owned}
 
 -- ---- who owns a row's columns
@@ -122,7 +123,7 @@ shown-part : (w x j : ℕ) (v : SectionView) (ls : List (List ℕ)) → j < line
     ≡ option_map (λ n. line_id (line_key_of v.section_key n)) (context_line (lines_above (place_of v) (length ls)) (lines_above (place_of v) (length ls) + dots_height (place_of v) (length ls)) (length ls) (lines_height (place_of v) (length ls)) j)
 shown-part w x j v ls within =
     let n = length ls in
-    let most = at_most (are_all_shown (place_of v) n) (is_first (place_of v)) n in
+    let most = above-le (are_all_shown (place_of v) n) (is_first (place_of v)) n in
     let low = most-below (are_all_shown (place_of v) n) (is_last (place_of v)) n in
     let top : List DocRow = numbered_rows v 0 (take (lines_above (place_of v) n) ls) in
     let end : List DocRow = numbered_rows v (first_below (place_of v) n) (drop (first_below (place_of v) n) ls) in
@@ -202,7 +203,7 @@ some-left a b n e = go (nat_lt b n) refl
 any-shown : (v : SectionView) (ls : List (List ℕ)) → list_any is_whole (shown_lines v ls) ≡ (nat_lt 0 (lines_above (place_of v) (length ls)) || nat_lt (first_below (place_of v) (length ls)) (length ls))
 any-shown v ls =
     let n = length ls in
-    let most = at_most (are_all_shown (place_of v) n) (is_first (place_of v)) n in
+    let most = above-le (are_all_shown (place_of v) n) (is_first (place_of v)) n in
     let taken : length (take (lines_above (place_of v) n) ls) ≡ lines_above (place_of v) n = omega (arith, most, length-take (lines_above (place_of v) n) ls) in
     let top : List DocRow = numbered_rows v 0 (take (lines_above (place_of v) n) ls) in
     let end : List DocRow = numbered_rows v (first_below (place_of v) n) (drop (first_below (place_of v) n) ls) in

@@ -8,6 +8,7 @@ use Rattle.scm_types.specs.Marks.{is_editable_section}
 use Rattle.scm_rows.specs.Lines.{is_changed}
 use Rattle.scm_rows.specs.Context.{place}
 use Rattle.scm_rows.specs.Heights.{height_of, shape_of}
+use Rattle.scm_rows.proofs.HeightLemmas.{one-le}
 use Rattle.scm_layout.specs.Rows.{fold_count, folded_count, is_expanded, is_first_open, is_open, rows_at, sections_height, sections_rows, visible_height}
 use Rattle.scm_layout.specs.Refolds.{folded_after, is_open_above, last_end}
 
@@ -114,4 +115,4 @@ module _ (ks ls : List SelectionKey) (k : FileKey) where
 pub folds-le : (ks : List SelectionKey) (k : FileKey) (i : ℕ) (ss : List Section) → folded_count ks k i ss ≤ length ss
 unfolding folded_count
 folds-le ks k i [] = omega arith
-folds-le ks k i (s ∷ ss) = omega (arith, (elim (is_changed s && not (is_expanded ks k i)) as (λ b. (if b then 1 else 0) ≤ 1) [ true ↦ omega arith | false ↦ omega arith ]), folds-le ks k (suc i) ss)
+folds-le ks k i (s ∷ ss) = omega (arith, one-le (is_changed s && not (is_expanded ks k i)), folds-le ks k (suc i) ss)

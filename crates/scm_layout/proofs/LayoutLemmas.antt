@@ -1,5 +1,5 @@
 -- A layout of a state: what its parts are ready for, and what it is after one of them changed.
-use Rattle.std.proofs.Common.{◌≡◌, ℕ, ◌+◌, ◌<◌, ◌≤◌, ◌^◌, List, [], ◌∷◌, Bool, true, not, Option, Some, None, length, map, ap, sym, ◌∙◌, arith}
+use Rattle.std.proofs.Common.{◌≡◌, ℕ, ◌+◌, ◌<◌, ◌≤◌, ◌^◌, List, [], ◌∷◌, Bool, true, not, length, map, ap, sym, ◌∙◌, arith}
 use Rattle.scm_types.specs.declared.keys.SelectionKey.{SelectionKey}
 use Rattle.scm_types.specs.declared.state.Commit.{Commit}
 use Rattle.scm_types.specs.declared.state.RecordState.{RecordState}
@@ -11,16 +11,12 @@ use Rattle.scm_layout.specs.declared.state_counts.StateCounts.{StateCounts}
 use Rattle.scm_layout.specs.declared.state_rows.StateRows.{StateRows}
 use Rattle.scm_layout.specs.declared.state_layout.Layout.{Layout}
 use Rattle.scm_layout.specs.Counts.{counts_of}
-use Rattle.scm_rows.specs.Heights.{message_height}
+use Rattle.scm_rows.proofs.HeightLemmas.{message-le}
 use Rattle.scm_layout.specs.Layouts.{files_top, layout_of, IsLayoutBut, IsLayoutButCommits}
 use Rattle.scm_layout.specs.Refolds.{AreFilesButKey, AreRowsOfFiles, total_height}
 use Rattle.scm_layout.specs.Rows.{each_file_rows, restacked, rows_of, stacked}
 use Rattle.scm_layout.proofs.FoldLemmas.{again-agrees, each-agree, other-added, other-flipped, other-removed, same-agree, stacked-again, total-stacked}
 use Rattle.scm_layout.proofs.StackLemmas.{each-fit, rows-of-files}
-
-message-le : (message : Option (List ℕ)) → message_height message ≤ 3
-message-le None = omega arith
-message-le (Some text) = omega arith
 
 pub top-le : (commits : List Commit) → files_top commits ≤ 4
 top-le [] = omega arith

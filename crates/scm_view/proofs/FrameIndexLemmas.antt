@@ -28,6 +28,7 @@ use Rattle.scm_document.specs.declared.index_pieces.SectionPiece.{SectionPiece}
 use Rattle.scm_widgets.specs.Layers.{Strip, Layer, clear, is_within, strip_at, owned_by, end_of, rows_around}
 use Rattle.scm_widgets.specs.Screens.{screen}
 use Rattle.scm_rows.specs.Heights.{message_height}
+use Rattle.scm_rows.proofs.HeightLemmas.{message-le}
 use Rattle.scm_document.specs.Rows.{Document, document_of, shown_file, file_rows}
 use Rattle.scm_view.specs.ViewState.{ViewState, Shows}
 use Rattle.scm_view.specs.AppView.{ShowInOrder, has_help}
@@ -66,7 +67,6 @@ use Rattle.scm_document.proofs.ViewPieceLemmas.{file-strips-length, owner_of, up
 use Rattle.scm_document.proofs.PieceLemmas.{files-places}
 use Rattle.scm_widgets.proofs.OverlayRectLemmas.{on_row, spots-append, within-among}
 use Rattle.scm_document.proofs.OverlayRectLemmas.{pinned-spots}
-use Rattle.scm_document.proofs.NearLemmas.{height-small}
 use Rattle.scm_overlay.proofs.OverlayOwnerLemmas.{overlays-owner, length-bar}
 
 -- ---- the message
@@ -227,7 +227,7 @@ pub index-few : (shown : ViewState) (v : CommitView) → is_accepted_state shown
 index-few shown v a shows =
     let few = session-few shown 0 v a shows in
     let size = files-rows-height v.file_views in
-    let message = height-small (document_of v).message in
+    let message = message-le (document_of v).message in
     omega (arith, few, size, message)
 
 first-shows : (vs : List CommitView) (shown : ViewState) (v : CommitView) → ShowInOrder vs shown 0 → 1 ≤ length vs → v ≡ get_or vs 0 v → Shows v shown 0

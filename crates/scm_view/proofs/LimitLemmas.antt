@@ -38,20 +38,21 @@ use Rattle.scm_document.specs.declared.section_view.SectionView.{SectionView}
 use Rattle.scm_document.specs.declared.commit_view.CommitView.{CommitView}
 use Rattle.scm_widgets.specs.Texts.{icon_text, bracketed, box_text}
 use Rattle.scm_document.specs.Texts.{path_text, section_text, mode_change_text, binary_text, number_text, sign_text, dots_text, message_text}
-use Rattle.scm_rows.specs.Context.{are_all_shown, first_below, has_dots, is_first, lines_above, lines_height}
+use Rattle.scm_rows.specs.Context.{first_below, has_dots, lines_above}
 use Rattle.scm_rows.specs.Heights.{is_section_visible}
-use Rattle.scm_document.specs.Rows.{Document, Heading, DocRow, DotsRow, BlankRow, ShownSection, line_texts, line_box, section_box, rows_below, shown_lines, context_rows, section_height, changed_rows, numbered_rows, rows_of, section_rows, is_open, is_first_open, shown_section, shown_sections, sections_rows, shown_file, lent_text, file_rows, document_of, line_number, section_heading, place_of}
+use Rattle.scm_document.specs.Rows.{Document, Heading, DocRow, DotsRow, BlankRow, ShownSection, line_texts, line_box, section_box, rows_below, shown_lines, context_rows, changed_rows, numbered_rows, rows_of, section_rows, is_open, is_first_open, shown_section, shown_sections, sections_rows, shown_file, lent_text, file_rows, document_of, line_number, section_heading, place_of}
 use Rattle.scm_widgets.specs.Boxes.{IdBox, is_fold_open}
 use Rattle.scm_document.specs.FilesRows.{files_rows}
 use Rattle.scm_document.specs.Pictures.{commit_picture}
 use Rattle.scm_types.specs.Keys.{section_key_of}
 use Rattle.scm_rows.specs.Lines.{old_lines}
+use Rattle.scm_rows.proofs.HeightLemmas.{height-le}
 use Rattle.scm_view.specs.ViewState.{ViewState, Shows, borrow_of, Totals, totals_of, section_view_of, section_views_of, file_view_of, file_views_of, commit_at, commit_view_of}
 use Rattle.scm_document.specs.ScrollBounds.{IsInScrollBounds, SightIsInScrollBounds}
 use Rattle.scm_widgets.specs.DrawBounds.{IsInDrawBounds}
 use Rattle.scm_document.specs.DrawBounds.{SightIsInDrawBounds}
 use Rattle.scm_document.proofs.Near.{IsNarrow, IsNarrowBox, IsNarrowHeading, AreNarrow, AreNarrowSections, IsNarrowFile, AreNarrowFiles, IsNarrowMessage, IsNarrowDocument}
-use Rattle.scm_document.proofs.SectionsLemmas.{at_most, height-of, length-sections}
+use Rattle.scm_document.proofs.SectionsLemmas.{height-of, length-sections}
 use Rattle.scm_document.proofs.NearLemmas.{document-near}
 
 -- ---- tests that pass
@@ -322,18 +323,9 @@ files-narrow s commit i (f ∷ fs) h =
 
 -- ---- numbers of rows
 
-lines-few : (v : SectionView) (n : ℕ) → lines_height (place_of v) n ≤ 2 * n + 1
-lines-few v n = omega (arith, at_most (are_all_shown (place_of v) n) (is_first (place_of v)) n, (elim (has_dots (place_of v) n) as (λ b. (if b then 1 else 0) ≤ 1) [ true ↦ omega arith | false ↦ omega arith ]))
-
-rows-few : (v : SectionView) (section : Section) → section_height v section ≤ 2 * section_size section + 1
-rows-few v (Unchanged ls) = elim (length ls == 0) as (λ b. (if b then 1 else lines_height (place_of v) (length ls)) ≤ 2 * length ls + 1) [ true ↦ omega arith | false ↦ lines-few v (length ls) ]
-rows-few v (Changed ls) = elim (is_fold_open v.expand_box) as (λ b. (if b then 1 + length ls else 1) ≤ 2 * length ls + 1) [ true ↦ omega arith | false ↦ omega arith ]
-rows-few v (FileMode checked m) = omega arith
-rows-few v (Binary checked old new) = omega arith
-
 pub shown-few : (b : Bool) (v : SectionView) → length (sections_rows (shown_section b v)) ≤ 2 * section_size v.section.now + 1
 unfolding sections_rows section_rows
-shown-few true v = omega (arith, length-append (rows_of v v.section.now) [], height-of v v.section.now, rows-few v v.section.now)
+shown-few true v = omega (arith, length-append (rows_of v v.section.now) [], height-of v v.section.now, height-le (place_of v) (is_fold_open v.expand_box) v.section.now)
 shown-few false v = omega arith
 
 sections-few : (s : ViewState) (totals : Totals) (k : FileKey) (before : Bool) (i editable line : ℕ) (sections : List Section)
