@@ -5,15 +5,16 @@ use Rattle.std.specs.declared.cmp.Ordering.{Ordering}
 use Rattle.std.specs.declared.cmp.Ordering.TheVariants.{Less, Equal, Greater}
 use Rattle.std.specs.Ordering.{match_ordering}
 use Rattle.std.proofs.lemmas.List.Sums.{sum_by-cons}
-use Rattle.std.proofs.lemmas.Bool.{and_parts, eqb-true, and_right, and_left, or_right}
+use Rattle.std.proofs.lemmas.Bool.{eqb-true, and_right, and_left, or_right, ne_eqb}
 use Rattle.std.proofs.lemmas.Bool.Decides.{nat_tests}
 use Rattle.scm_types.specs.declared.file.File.{File}
 use Rattle.scm_types.specs.declared.keys.FileKey.{FileKey}
 use Rattle.scm_types.specs.declared.keys.SelectionKey.{SelectionKey}
 use Rattle.scm_types.specs.declared.keys.SelectionKey.TheVariants as keys
-use Rattle.scm_types.specs.Keys.{file_of, has_key, is_key, numbers_of, same_numbers, section_key_of}
+use Rattle.scm_types.specs.Keys.{file_of, has_key, is_key, section_key_of}
 use Rattle.scm_types.specs.Limits.{file_size, max_items}
 use Rattle.scm_selection.specs.KeySet.{key_cmp, with_key, with_key_flipped, without_key}
+use Rattle.scm_selection.proofs.RelationLemmas.{key-same}
 use Rattle.scm_layout.specs.declared.file_rows.FileRows.{FileRows}
 use Rattle.scm_layout.specs.declared.section_rows.SectionRows.{SectionRows}
 use Rattle.scm_layout.specs.Rows.{each_file_rows, file_height, file_key_of, file_rows, folded_count, is_expanded, moved_to, sections_height, sections_rows, stacked}
@@ -131,14 +132,6 @@ total-set u rs i r = sym (total-stacked 0 (set (stacked u rs) i r)) ∙ ap (λ x
 
 -- ---- a key that is added or removed
 
-same-numbers : (ms ns : List ℕ) → same_numbers ms ns ≡ true → ms ≡ ns
-same-numbers [] [] e = refl
-same-numbers [] (n ∷ ns) e = absurd cc
-same-numbers (m ∷ ms) [] e = absurd cc
-same-numbers (m ∷ ms) (n ∷ ns) e =
-    let parts = and_parts (nat_eq m n) (same_numbers ms ns) e in
-    ap (λ k. k ∷ ms) (eqb-true m n parts.0) ∙ ap (λ ks. n ∷ ks) (same-numbers ms ns parts.1)
-
 pub other-added : (ks : List SelectionKey) (key x : SelectionKey) → is_key x key ≡ false → has_key (with_key ks key) x ≡ has_key ks x
 other-added [] key x e = ap (λ b. b || false) e
 other-added (k ∷ ks) key x e = go (key_cmp key k) (other-added ks key x e)
@@ -154,15 +147,12 @@ other-removed (k ∷ ks) key x e = go (is_key key k) refl (other-removed ks key 
   where
     go : (b : Bool) → is_key key k ≡ b → has_key (without_key ks key) x ≡ has_key ks x → has_key (if b then ks else k ∷ without_key ks key) x ≡ (is_key x k || has_key ks x)
     go true same h =
-        let unlike : is_key x k ≡ false = ap (λ ns. same_numbers (numbers_of x) ns) (sym (same-numbers (numbers_of key) (numbers_of k) same)) ∙ e in
+        let unlike : is_key x k ≡ false = ap (λ (j : SelectionKey). is_key x j) (sym (key-same key k same)) ∙ e in
         sym (ap (λ b. b || has_key ks x) unlike)
     go false same h = ap (λ b. is_key x k || b) h
 
 pub other-flipped : (ks : List SelectionKey) (key x : SelectionKey) → is_key x key ≡ false → has_key (with_key_flipped ks key) x ≡ has_key ks x
 other-flipped ks key x e = elim (has_key ks key) as (λ b. has_key (if b then without_key ks key else with_key ks key) x ≡ has_key ks x) [ true ↦ other-removed ks key x e | false ↦ other-added ks key x e ]
-
-differ : (i j : ℕ) → i ≢ j → nat_eq i j ≡ false
-differ i j h = grind (arith, nat_tests)
 
 and-second : (a b c : Bool) → b ≡ false → (a && (b && c)) ≡ false
 and-second true b c e = ap (λ d. d && c) e
@@ -189,7 +179,7 @@ module _ (commit i index : ℕ) (h : i ≢ index) where
   other-file keys.None e = refl
   other-file (keys.File key) e =
       let same : key.file_idx ≡ index = index-is (nat_eq key.commit_idx commit) key.file_idx index e in
-      and-second (nat_eq commit key.commit_idx) (nat_eq i key.file_idx) true (differ i key.file_idx (λ d. h (d ∙ same)))
+      and-second (nat_eq commit key.commit_idx) (nat_eq i key.file_idx) true (ne_eqb i key.file_idx (λ d. h (d ∙ same)))
   other-file (keys.Section key) e = refl
   other-file (keys.Line key) e = refl
 
@@ -198,7 +188,7 @@ module _ (commit i index : ℕ) (h : i ≢ index) where
   other-section j (keys.File key) e = refl
   other-section j (keys.Section key) e =
       let same : key.file_idx ≡ index = index-is (nat_eq key.commit_idx commit) key.file_idx index e in
-      and-second (nat_eq commit key.commit_idx) (nat_eq i key.file_idx) (nat_eq j key.section_idx && true) (differ i key.file_idx (λ d. h (d ∙ same)))
+      and-second (nat_eq commit key.commit_idx) (nat_eq i key.file_idx) (nat_eq j key.section_idx && true) (ne_eqb i key.file_idx (λ d. h (d ∙ same)))
   other-section j (keys.Line key) e = refl
 
 -- sets that differ in a key agree on all other files
@@ -234,7 +224,7 @@ pub section-others : (ks ls : List SelectionKey) (k : FileKey) (j : ℕ) → Dif
 section-others ks ls k j h m other =
     h.others (keys.Section (section_key_of k m))
     (and_right (nat_eq k.commit_idx k.commit_idx) (nat_eq k.file_idx k.file_idx && (nat_eq m j && true))
-    (and-second (nat_eq k.file_idx k.file_idx) (nat_eq m j) true (differ m j other)))
+    (and-second (nat_eq k.file_idx k.file_idx) (nat_eq m j) true (ne_eqb m j other)))
 
 -- the file of a key
 file-found : (commit index : ℕ) (key : SelectionKey) → file_index commit key ≡ Some index → file_of key ≡ keys.File (file_key_of commit index)
@@ -258,18 +248,14 @@ still-has (k ∷ ks) key x e = go (key_cmp key k) (still-has ks key x)
     go Equal h = e
     go Greater h = or-still (is_key x k) (has_key ks x) (has_key (with_key ks key) x) h e
 
-same-has : (ks : List SelectionKey) (key x : SelectionKey) → numbers_of x ≡ numbers_of key → has_key ks x ≡ has_key ks key
-same-has [] key x e = refl
-same-has (k ∷ ks) key x e = ap (λ ns. same_numbers ns (numbers_of k) || has_key ks x) e ∙ ap (λ b. is_key key k || b) (same-has ks key x e)
-
 -- sets that agree on all other keys agree on all keys if they agree on this one
 pub same-keys : (ks ls : List SelectionKey) (key x : SelectionKey) → has_key ks key ≡ has_key ls key → ((y : SelectionKey) → is_key y key ≡ false → has_key ks y ≡ has_key ls y) → has_key ks x ≡ has_key ls x
 same-keys ks ls key x at others = go (is_key x key) refl
   where
     go : (b : Bool) → is_key x key ≡ b → has_key ks x ≡ has_key ls x
     go true same =
-        let numbers : numbers_of x ≡ numbers_of key = same-numbers (numbers_of x) (numbers_of key) same in
-        same-has ks key x numbers ∙ at ∙ sym (same-has ls key x numbers)
+        let one = key-same x key same in
+        ap (λ (y : SelectionKey). has_key ks y) one ∙ at ∙ sym (ap (λ (y : SelectionKey). has_key ls y) one)
     go false other = others x other
 
 pub same-agree : (ks ls : List SelectionKey) (key : SelectionKey) (k : FileKey) → has_key ks key ≡ has_key ls key → ((y : SelectionKey) → is_key y key ≡ false → has_key ks y ≡ has_key ls y) → AgreeOn ks ls k
