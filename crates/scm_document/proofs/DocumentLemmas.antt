@@ -252,8 +252,7 @@ context-inner v ls = go (length ls == 0)
 rows-inner : (v : SectionView) (section : Section) → AreInner (rows_of v section)
 rows-inner v (Unchanged ls) = context-inner v ls
 rows-inner v (Changed ls) = (refl, some-inner (is_fold_open v.expand_box) (changed_rows v 0 ls) (changed-inner v 0 ls))
-rows-inner v (FileMode checked m) = (refl, tt)
-rows-inner v (Binary checked old new) = (refl, tt)
+rows-inner v _ = (refl, tt)
 
 sections-inner : (before : Bool) (vs : List SectionView) → AreInnerSections (shown_sections before vs)
 unfolding shown_sections section_rows

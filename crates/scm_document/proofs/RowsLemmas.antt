@@ -29,11 +29,8 @@ pub row-end : (r : DocRow) (s : Sight) (x y : ℤ) → PictureInRange (row_pictu
 unfolding row_picture changed_picture context_picture
 row-end (HeaderRow k h) s x y r = (heading-rect h s x y (PictureInRange-part _ _ r)).end_y
 row-end (SectionRow b h) s x y r = (heading-rect h s x y (PictureInRange-left _ _ r)).end_y
-row-end (LineRow k b ts) s x y r = (RectInRange-covering _ (PictureInRange-left _ _ r)).end_y
-row-end (MarkRow b c t) s x y r = (RectInRange-covering _ (PictureInRange-left _ _ r)).end_y
-row-end (ContextRow k ts) s x y r = (RectInRange-covering _ (PictureInRange-left _ _ r)).end_y
-row-end (DotsRow t) s x y r = (RectInRange-covering _ (PictureInRange-left _ _ r)).end_y
 row-end BlankRow s x y r = (blank_in_range {K = ComponentId} s (rest_of_row s x y) r).end_y
+row-end _ s x y r = (RectInRange-covering _ (PictureInRange-left _ _ r)).end_y
 
 pub rows_picture-more : (rows : List DocRow) (r : DocRow) (rs : List DocRow) (s : Sight) (x y : ℤ) → rows ≡ r ∷ rs → rows_picture rows s x y ≡ followed_by (row_picture r s x y) (rows_picture rs s x (y +ℤ pos 1))
 unfolding rows_picture

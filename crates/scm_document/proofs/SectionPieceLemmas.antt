@@ -115,8 +115,7 @@ dots-length w v false = refl
 dots-owner : (w x : ℕ) (v : SectionView) (b : Bool) (k : ℕ) → k < length (map (row_strip w) (dots_rows v b)) → (get_or (map (row_strip w) (dots_rows v b)) k clear).owner x ≡ None
 unfolding row_strip
 dots-owner w x v true zero h = refl
-dots-owner w x v true (suc k) h = absurd (omega (arith, h))
-dots-owner w x v false k h = absurd (omega (arith, h))
+dots-owner w x v _ _ h = absurd (omega (arith, h))
 
 shown-part : (w x j : ℕ) (v : SectionView) (ls : List (List ℕ)) → j < lines_height (place_of v) (length ls)
     → (get_or (map (row_strip w) (shown_lines v ls)) j clear).owner x
@@ -172,10 +171,9 @@ part-at w x (suc j) v (Changed ls) e h =
     let some : (suc j == 0) ≡ false = grind arith in
     let here : suc j - 1 ≡ j = omega arith in
     rw (some, here) (opened-part w x j v ls (is_fold_open v.expand_box) h)
-part-at w x zero v (FileMode checked mode) e h = one_box (is_among 2 3 x) (ids.ToggleBox (selection.Section v.section_key))
 part-at w x (suc j) v (FileMode checked mode) e h = absurd (omega (arith, h))
-part-at w x zero v (Binary checked old new) e h = one_box (is_among 2 3 x) (ids.ToggleBox (selection.Section v.section_key))
 part-at w x (suc j) v (Binary checked old new) e h = absurd (omega (arith, h))
+part-at w x _ v _ e h = one_box (is_among 2 3 x) (ids.ToggleBox (selection.Section v.section_key))
 
 -- ---- whether a section owns columns 0 and 1
 

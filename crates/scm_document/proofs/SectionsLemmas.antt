@@ -54,8 +54,7 @@ pub height-of : (v : SectionView) (s : Section) → length (rows_of v s) ≡ sec
 unfolding context_rows
 height-of v (Unchanged ls) = elim (length ls == 0) as (λ b. length (if b then BlankRow ∷ [] else shown_lines v ls) ≡ (if b then 1 else lines_height (place_of v) (length ls))) [ true ↦ refl | false ↦ lines-height v ls ]
 height-of v (Changed ls) = elim (is_fold_open v.expand_box) as (λ b. suc (length (if b then changed_rows v 0 ls else [])) ≡ (if b then 1 + length ls else 1)) [ true ↦ omega (arith, length-changed v 0 ls) | false ↦ refl ]
-height-of v (FileMode checked mode) = refl
-height-of v (Binary checked old new) = refl
+height-of v _ = refl
 
 pub section-size : (v : SectionView) → length (section_rows v) ≡ section_height v v.section.now
 unfolding section_rows

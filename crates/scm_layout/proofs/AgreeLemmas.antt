@@ -100,11 +100,9 @@ module _ (ks ls : List SelectionKey) (k : FileKey) where
     after-cases : (changed old new : Bool) (before after : ℕ) → new ≡ not old
         → after + (if changed && not old then 1 else 0) ≡ before + (if changed && not new then 1 else 0)
         → after ≡ (if changed then (if new then before - 1 else before + 1) else before)
-    after-cases false old new before after flip e = omega arith
     after-cases true true true before after flip e = absurd cc
-    after-cases true true false before after flip e = omega arith
-    after-cases true false true before after flip e = omega arith
     after-cases true false false before after flip e = absurd cc
+    after-cases _ _ _ before after flip e = omega arith
 
     -- the number of folded sections steps by one
     pub folds-after : (ss : List Section) (s : Section) → j < length ss → s ≡ get_or ss j s → is_expanded ks k j ≡ not (is_expanded ls k j)

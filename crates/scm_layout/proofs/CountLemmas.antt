@@ -61,10 +61,8 @@ old_lines-more i sections d h =
     rw more (sum_by-cons old_lines (get_or sections i d) (drop (i + 1) sections))
 
 old_lines-le : (section : Section) → old_lines section ≤ section_size section
-old_lines-le (Unchanged lines) = omega arith
 old_lines-le (Changed lines) = count_by-le-length is_removed lines
-old_lines-le (FileMode checked mode) = omega arith
-old_lines-le (Binary checked old new) = omega arith
+old_lines-le _ = omega arith
 
 pub old_lines-fit : (sections : List Section) → sum_by old_lines sections ≤ sum_by section_size sections
 old_lines-fit [] = omega arith
@@ -96,10 +94,8 @@ total_items-marks editable lines (s ∷ ss) =
     ∙ sym (length-append (section_marks s) (marks ss))
 
 items-le : (s : Section) → items_in s ≤ 1 + section_size s
-items-le (Unchanged lines) = omega arith
 items-le (Changed lines) = omega (arith, items_of_lines lines)
-items-le (FileMode checked mode) = omega arith
-items-le (Binary checked old new) = omega arith
+items-le _ = omega arith
 
 marks-le : (ss : List Section) → length (marks ss) ≤ length ss + sum_by section_size ss
 marks-le [] = omega arith
@@ -260,10 +256,9 @@ stepped-is true n m h = h
 stepped-is false n m h = omega arith
 
 steps-mark : (checked b : Bool) (n : ℕ) → b ≡ not checked → Steps checked (cond b 1 0 + n) (cond (not b) 1 0 + n)
-steps-mark true true n h = absurd cc
 steps-mark true false n h = omega arith
 steps-mark false true n h = omega arith
-steps-mark false false n h = absurd cc
+steps-mark _ _ n h = absurd cc
 
 -- the marks of changed lines
 abbrev line_marks : List SectionChangedLine → List Bool
@@ -290,10 +285,8 @@ lines-step checked (l ∷ ls) (suc line) h =
     (steps-below checked (cond l.is_checked 1 0) _ _ (lines-step checked ls line h))
 
 section-step : (checked : Bool) (s : Section) (line : ℕ) → line_mark line s ≡ Some (not checked) → Steps checked (checked_in s) (checked_in (with_line_inverted line s))
-section-step checked (Unchanged lines) line h = no_mark (not checked) h
 section-step checked (Changed lines) line h = lines-step checked lines line h
-section-step checked (FileMode is_checked mode) line h = no_mark (not checked) h
-section-step checked (Binary is_checked old new) line h = no_mark (not checked) h
+section-step checked _ line h = no_mark (not checked) h
 
 -- the mark of a line of a file's sections
 abbrev mark_at : ℕ → ℕ → List Section → Option Bool
@@ -357,10 +350,9 @@ zipped-remarked change hidden marked editable lines (s ∷ ss) =
     ∙ ap (λ cs. section_counts editable lines t ∷ cs) (sym (after-same editable lines t s (map change ss) (hidden s)))
 
 unchanged-marked : (s : Section) → checked_after_mark (checked_in s) s ≡ checked_in s
-unchanged-marked (Unchanged lines) = refl
-unchanged-marked (Changed lines) = refl
 unchanged-marked (FileMode is_checked mode) = checked_of_mark is_checked
 unchanged-marked (Binary is_checked old new) = checked_of_mark is_checked
+unchanged-marked _ = refl
 
 remarked-same : (editable lines : ℕ) (ss : List Section) → zipped remarked (sections_counts editable lines ss) ss ≡ sections_counts editable lines ss
 unfolding sections_counts
@@ -370,16 +362,14 @@ remarked-same editable lines (s ∷ ss) =
     ∙ ap (λ cs. section_counts editable lines s ∷ cs) (remarked-same (editable_after editable s) (lines + old_lines s) ss)
 
 deletion-marked : (s : Section) → checked_after_mark (checked_in s) (with_deletion_unchecked s) ≡ checked_in (with_deletion_unchecked s)
-deletion-marked (Unchanged lines) = refl
-deletion-marked (Changed lines) = refl
 deletion-marked (FileMode is_checked mode) = checked_of_mark (if is_absent mode then false else is_checked)
 deletion-marked (Binary is_checked old new) = checked_of_mark is_checked
+deletion-marked _ = refl
 
 mode-marked : (s : Section) → checked_after_mark (checked_in s) (with_mode_checked s) ≡ checked_in (with_mode_checked s)
-mode-marked (Unchanged lines) = refl
-mode-marked (Changed lines) = refl
 mode-marked (FileMode is_checked mode) = checked_of_mark true
 mode-marked (Binary is_checked old new) = checked_of_mark is_checked
+mode-marked _ = refl
 
 creation-remarked : (is_new : Bool) (ss : List Section) → zipped remarked (sections_counts 0 0 ss) (if is_new then map with_mode_checked ss else ss) ≡ sections_counts 0 0 (if is_new then map with_mode_checked ss else ss)
 creation-remarked true ss = zipped-remarked with_mode_checked mode-hidden mode-marked 0 0 ss

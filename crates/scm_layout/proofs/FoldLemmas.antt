@@ -176,20 +176,16 @@ found-at false commit index c i other e = absurd cc
 -- a key is not that of another file or section
 module _ (commit i index : ℕ) (h : i ≢ index) where
   other-file : (key : SelectionKey) → file_index commit key ≡ Some index → is_key (keys.File (file_key_of commit i)) key ≡ false
-  other-file keys.None e = refl
   other-file (keys.File key) e =
       let same : key.file_idx ≡ index = index-is (nat_eq key.commit_idx commit) key.file_idx index e in
       and-second (nat_eq commit key.commit_idx) (nat_eq i key.file_idx) true (ne_eqb i key.file_idx (λ d. h (d ∙ same)))
-  other-file (keys.Section key) e = refl
-  other-file (keys.Line key) e = refl
+  other-file _ e = refl
 
   other-section : (j : ℕ) (key : SelectionKey) → file_index commit key ≡ Some index → is_key (keys.Section (section_key_of (file_key_of commit i) j)) key ≡ false
-  other-section j keys.None e = refl
-  other-section j (keys.File key) e = refl
   other-section j (keys.Section key) e =
       let same : key.file_idx ≡ index = index-is (nat_eq key.commit_idx commit) key.file_idx index e in
       and-second (nat_eq commit key.commit_idx) (nat_eq i key.file_idx) (nat_eq j key.section_idx && true) (ne_eqb i key.file_idx (λ d. h (d ∙ same)))
-  other-section j (keys.Line key) e = refl
+  other-section j _ e = refl
 
 -- sets that differ in a key agree on all other files
 differ-but : (ks ls : List SelectionKey) (key : SelectionKey) (commit index : ℕ) → DifferIn ks ls key → file_index commit key ≡ Some index → AgreeBut ks ls commit index
@@ -201,16 +197,12 @@ differ-but ks ls key commit index h at i other = record {
 -- a key that is in no file of the commit is no key of it
 module _ (commit i : ℕ) where
   no-file : (key : SelectionKey) → file_index commit key ≡ None → is_key (keys.File (file_key_of commit i)) key ≡ false
-  no-file keys.None e = refl
   no-file (keys.File key) e = and_left (nat_eq commit key.commit_idx) (nat_eq i key.file_idx && true) (elsewhere key.commit_idx commit key.file_idx e)
-  no-file (keys.Section key) e = refl
-  no-file (keys.Line key) e = refl
+  no-file _ e = refl
 
   no-section : (j : ℕ) (key : SelectionKey) → file_index commit key ≡ None → is_key (keys.Section (section_key_of (file_key_of commit i) j)) key ≡ false
-  no-section j keys.None e = refl
-  no-section j (keys.File key) e = refl
   no-section j (keys.Section key) e = and_left (nat_eq commit key.commit_idx) (nat_eq i key.file_idx && (nat_eq j key.section_idx && true)) (elsewhere key.commit_idx commit key.file_idx e)
-  no-section j (keys.Line key) e = refl
+  no-section j _ e = refl
 
 -- then the sets agree on all files, as on those past the last
 differ-none : (ks ls : List SelectionKey) (key : SelectionKey) (commit : ℕ) → DifferIn ks ls key → file_index commit key ≡ None → (i : ℕ) → AgreeOn ks ls (file_key_of commit i)
@@ -228,10 +220,9 @@ section-others ks ls k j h m other =
 
 -- the file of a key
 file-found : (commit index : ℕ) (key : SelectionKey) → file_index commit key ≡ Some index → file_of key ≡ keys.File (file_key_of commit index)
-file-found commit index keys.None e = absurd cc
 file-found commit index (keys.File key) e = ap keys.File (found-at (nat_eq key.commit_idx commit) commit index key.commit_idx key.file_idx refl e)
 file-found commit index (keys.Section key) e = ap keys.File (found-at (nat_eq key.commit_idx commit) commit index key.commit_idx key.file_idx refl e)
-file-found commit index (keys.Line key) e = absurd cc
+file-found commit index _ e = absurd cc
 
 -- ---- a key that is added again
 

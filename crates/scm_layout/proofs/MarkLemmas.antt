@@ -27,25 +27,19 @@ use Rattle.scm_layout.proofs.BareLemmas.{bare, bare_file, bare_section, editable
 use Rattle.scm_layout.proofs.CountLemmas.{file_length-same, file_size-same, head-same, none-same, sections-same, tail-same}
 
 height-bare : (total i : ℕ) (b : Bool) (s : Section) → height_of (place total i) b (bare_section s) ≡ height_of (place total i) b s
-height-bare total i b (Unchanged lines) = refl
 height-bare total i b (Changed lines) = ap (λ n. if b then 1 + n else 1) (length-map lines (line_with_mark (λ _. false)))
-height-bare total i b (FileMode is_checked mode) = refl
-height-bare total i b (Binary is_checked old new) = refl
+height-bare total i b _ = refl
 
 shape-bare : (s : Section) → shape_of (bare_section s) ≡ shape_of s
 shape-bare (Unchanged lines) = refl
-shape-bare (Changed lines) = refl
-shape-bare (FileMode is_checked mode) = refl
-shape-bare (Binary is_checked old new) = refl
+shape-bare _ = refl
 
 shape-same : (s t : Section) → bare_section s ≡ bare_section t → shape_of s ≡ shape_of t
 shape-same s t e = sym (shape-bare s) ∙ ap (λ u. shape_of u) e ∙ shape-bare t
 
 changed-bare : (s : Section) → is_changed (bare_section s) ≡ is_changed s
 changed-bare (Unchanged lines) = refl
-changed-bare (Changed lines) = refl
-changed-bare (FileMode is_checked mode) = refl
-changed-bare (Binary is_checked old new) = refl
+changed-bare _ = refl
 
 module _ (ks : List SelectionKey) (k : FileKey) where
   open-same : (i : ℕ) (s t : Section) → bare_section s ≡ bare_section t → is_open ks k i s ≡ is_open ks k i t

@@ -105,6 +105,4 @@ open-all false unfolded h = refl
 -- only a section that is not context has other rows if it is unfolded
 pub open-height : (p : SectionPlace) (b before : Bool) (s : Section) (after : Bool) → shown_height p (is_editable_section s && b) before s after ≡ shown_height p b before s after
 open-height p b before (Unchanged lines) after = refl
-open-height p b before (Changed lines) after = refl
-open-height p b before (FileMode is_checked mode) after = refl
-open-height p b before (Binary is_checked old new) after = refl
+open-height p b before _ after = refl

@@ -34,8 +34,7 @@ changed-le false n = omega arith
 pub height-le : (p : SectionPlace) (b : Bool) (s : Section) → height_of p b s ≤ 1 + 2 * section_size s
 height-le p b (Unchanged lines) = context-le p (length lines)
 height-le p b (Changed lines) = changed-le b (length lines)
-height-le p b (FileMode is_checked mode) = omega arith
-height-le p b (Binary is_checked old new) = omega arith
+height-le p b _ = omega arith
 
 pub message-le : (message : Option (List ℕ)) → message_height message ≤ 3
 message-le None = omega arith

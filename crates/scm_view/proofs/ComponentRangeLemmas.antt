@@ -218,12 +218,11 @@ headers-wide (m ∷ ms) h =
 
 opened-few : (c : ℕ) (ms : List Menu) (k : Option ℕ) → list_all is_short_menu ms ≡ true → c + headers_width ms ≤ 2 ^ 50 → IsFewItems (open_menu_with_column c ms k)
 unfolding open_menu_with_column headers_width
-opened-few c ms None h w = tt
-opened-few c [] (Some k) h w = tt
 opened-few c (m ∷ ms) (Some zero) h w =
     let items = menu-items m (first_true (is_short_menu m) (list_all is_short_menu ms) h) in
     (omega (arith, w), (omega (arith, items.0), omega (arith, items.1)))
 opened-few c (m ∷ ms) (Some (suc k)) h w = opened-few (c + header_step m) ms (Some k) (second_true (is_short_menu m) (list_all is_short_menu ms) h) (omega (arith, w))
+opened-few c _ _ h w = tt
 
 bar-in : (b : MenuBar) (s : Sight) (x y : ℤ) → RectIsInDrawBounds s.rect → IsInDrawBounds x → IsInDrawBounds y → is_short_bar b ≡ true → PictureInRange (menu_bar_picture b s x y)
 bar-in b s x y r p q h =
@@ -280,9 +279,8 @@ two-views (v ∷ (u ∷ [])) s x n l h w p =
 two-views (v ∷ (u ∷ (t ∷ vs))) s x n l h w p = absurd (omega (arith, l))
 
 commits-taken : (k : ℕ) (vs : List CommitView) → AreShortCommits vs → AreShortCommits (take k vs)
-commits-taken zero vs h = tt
-commits-taken (suc k) [] h = tt
 commits-taken (suc k) (v ∷ vs) h = (h.0, commits-taken k vs h.1)
+commits-taken _ _ h = tt
 
 least-width : (w n : ℕ) → n ≤ w - 1 → min 120 n ≤ w
 least-width w n h = omega (arith, h)

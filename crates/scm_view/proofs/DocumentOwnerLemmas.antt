@@ -109,22 +109,14 @@ no-message w commit y z x = refl
 
 -- a part of a file is one of the document
 part-file : (i : ComponentId) (k : FileKey) → file_of i ≡ Some k → part_of i ≡ Body
-part-file ids.App k e = absurd (cc e)
 part-file ids.AppFiles k e = refl
-part-file ids.MenuBar k e = absurd (cc e)
-part-file ids.MenuHeader k e = absurd (cc e)
-part-file (ids.Menu n) k e = absurd (cc e)
-part-file (ids.MenuItem n) k e = absurd (cc e)
 part-file ids.CommitMessageView k e = refl
 part-file (ids.CommitEditMessageButton n) k e = refl
 part-file (ids.FileViewHeader n) k e = refl
 part-file (ids.SelectableItem n) k e = refl
 part-file (ids.ToggleBox n) k e = refl
 part-file (ids.ExpandBox n) k e = refl
-part-file ids.QuitDialog k e = absurd (cc e)
-part-file (ids.QuitDialogButton b) k e = absurd (cc e)
-part-file ids.HelpDialog k e = absurd (cc e)
-part-file ids.HelpDialogQuitButton k e = absurd (cc e)
+part-file _ k e = absurd (cc e)
 
 part-message : (commit : ℕ) (i : ComponentId) → IsOfMessage commit i → IsPart Body i
 part-message commit i (inl e) = ap part_of e

@@ -142,5 +142,4 @@ parts-show w h s p d menu quit help high seen =
     least : (i a : ℕ) → (0 < i + a → message_height d.message + (rows_left_out i a d.files + header_kept a) ≤ s) → message_height d.message ≤ s
         → rows_left_out i a (files_to p.last_file p.end_section d.files) ≡ rows_left_out i a d.files → message_height d.message ≤ s - rows_left_out i a (files_to p.last_file p.end_section d.files)
     least zero zero above h e = let none = none-out d.files in omega (arith, none, e, h)
-    least zero (suc a) above h e = let r = above (omega arith) in omega (arith, r, e)
-    least (suc i) a above h e = let r = above (omega arith) in omega (arith, r, e)
+    least _ _ above h e = let r = above (omega arith) in omega (arith, r, e)

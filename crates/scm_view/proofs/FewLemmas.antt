@@ -71,12 +71,7 @@ few-row v y n h = go (has_row v y) refl
 
 few-calls : (r : DocRow) → row_calls r ≤ 4
 few-calls (HeaderRow key h) = omega arith
-few-calls (SectionRow selected h) = omega arith
-few-calls (LineRow key b ts) = omega arith
-few-calls (MarkRow selected b t) = omega arith
-few-calls (ContextRow key ts) = omega arith
-few-calls (DotsRow t) = omega arith
-few-calls BlankRow = omega arith
+few-calls _ = omega arith
 
 few-to : (v : Rect) (x y z : ℤ) (c : Counts) → y ≡ z → Few v x y c → Few v x z c
 few-to v x y z c e p = rw e at p
@@ -197,11 +192,7 @@ document-few d s y = go (length d.files == 0) refl
 menu-few : (k : Option ℕ) → open_calls (open_menu_with_column 0 all_menus k) ≤ 18
 unfolding open_menu_with_column
 menu-few None = omega arith
-menu-few (Some zero) = omega arith
-menu-few (Some (suc zero)) = omega arith
-menu-few (Some (suc (suc zero))) = omega arith
-menu-few (Some (suc (suc (suc zero)))) = omega arith
-menu-few (Some (suc (suc (suc (suc n))))) = omega arith
+menu-few _ = omega arith
 
 bar-few : (m : Option ℕ) → bar_calls (menus_with m) ≤ 23
 unfolding bar_calls

@@ -64,29 +64,16 @@ file_of ids.HelpDialog = None
 file_of ids.HelpDialogQuitButton = None
 
 key-file : (i : ComponentId) (k : SelectionKey) (m : SectionKey) → file_of i ≡ key_file k → section_of (ids.SelectableItem k) ≡ Some m → file_of i ≡ Some (file_of_section m)
-key-file i selection.None m f e = absurd (cc e)
-key-file i (selection.File k) m f e = absurd (cc e)
 key-file i (selection.Section k) m f e = let same : k ≡ m = cc e in f ∙ ap (λ k. Some (file_of_section k)) same
 key-file i (selection.Line k) m f e = let same : section_of_line k ≡ m = cc e in f ∙ ap (λ k. Some (file_of_section k)) same
+key-file i _ m f e = absurd (cc e)
 
 -- a part of a section is one of the section's file
 section-file : (i : ComponentId) (m : SectionKey) → section_of i ≡ Some m → file_of i ≡ Some (file_of_section m)
-section-file ids.App m e = absurd (cc e)
-section-file ids.AppFiles m e = absurd (cc e)
-section-file ids.MenuBar m e = absurd (cc e)
-section-file ids.MenuHeader m e = absurd (cc e)
-section-file (ids.Menu k) m e = absurd (cc e)
-section-file (ids.MenuItem k) m e = absurd (cc e)
-section-file ids.CommitMessageView m e = absurd (cc e)
-section-file (ids.CommitEditMessageButton k) m e = absurd (cc e)
-section-file (ids.FileViewHeader k) m e = absurd (cc e)
 section-file (ids.SelectableItem k) m e = key-file (ids.SelectableItem k) k m refl e
 section-file (ids.ToggleBox k) m e = key-file (ids.ToggleBox k) k m refl e
 section-file (ids.ExpandBox k) m e = key-file (ids.ExpandBox k) k m refl e
-section-file ids.QuitDialog m e = absurd (cc e)
-section-file (ids.QuitDialogButton b) m e = absurd (cc e)
-section-file ids.HelpDialog m e = absurd (cc e)
-section-file ids.HelpDialogQuitButton m e = absurd (cc e)
+section-file _ m e = absurd (cc e)
 
 -- one of the two boxes of a file's heading
 abbrev pub IsBoxOf : FileKey → ComponentId → Type 0

@@ -69,9 +69,8 @@ within : (n m : ℕ) → nat_le n m ≡ true → n ≤ m
 within n m h = grind (arith, h)
 
 all-take : {X : Type 0} (p : X → Bool) (n : ℕ) (xs : List X) → list_all p xs ≡ true → list_all p (take n xs) ≡ true
-all-take p zero xs h = refl
-all-take p (suc n) [] h = refl
 all-take p (suc n) (x ∷ xs) h = rw (first_true (p x) (list_all p xs) h) (all-take p n xs (second_true (p x) (list_all p xs) h))
+all-take p _ _ h = refl
 
 all-drop : {X : Type 0} (p : X → Bool) (n : ℕ) (xs : List X) → list_all p xs ≡ true → list_all p (drop n xs) ≡ true
 all-drop p zero xs h = h
@@ -93,10 +92,9 @@ unfolding digits
 length-digits base upper n = omega (arith, length-digits_onto 64 base upper n [])
 
 length-chars_after : (n c : ℕ) (bs : List ℕ) → length (chars_after n c bs) ≤ length bs + 1
-length-chars_after zero c [] = omega arith
 length-chars_after zero c (b ∷ bs) = omega (arith, length-chars_after (continuation_len b) (lead_bits b) bs)
-length-chars_after (suc n) c [] = omega arith
 length-chars_after (suc n) c (b ∷ bs) = omega (arith, length-chars_after n (c * 64 + (b - 128)) bs)
+length-chars_after _ c _ = omega arith
 
 length-chars : (bs : List ℕ) → length (chars bs) ≤ length bs
 unfolding chars

@@ -303,12 +303,9 @@ module _ (same : ComponentId → ComponentId → Bool) (law : IsLawful same) whe
 
   after-more : (k : SectionKey) (n : ℕ) (d : DocRow) → IsRowOf k n d → n ≤ after_row n d
   after-more k n (HeaderRow key h) e = absurd e
-  after-more k n (SectionRow selected h) e = omega (arith, e.0)
-  after-more k n (LineRow key b ts) e = omega (arith, e.0)
-  after-more k n (MarkRow selected b t) e = omega (arith, e.0)
-  after-more k n (ContextRow key ts) e = omega (arith, e.0)
   after-more k n (DotsRow t) e = omega arith
   after-more k n BlankRow e = omega arith
+  after-more k n _ e = omega (arith, e.0)
 
   pub rows_own : (k : SectionKey) (n : ℕ) (ds : List DocRow) (s : Sight) (w : ℕ) (y : ℤ) → 10 ≤ w → IsOpen s w → AreRowsOf k n ds
       → Owns same w (IsFrom k n) (rows_picture ds s (pos 2) y) y (map (row_strip w) ds)

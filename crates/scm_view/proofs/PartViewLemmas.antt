@@ -136,9 +136,8 @@ shows-document a d menu quit help w h s shows plain =
 -- ---- a part is in range
 
 narrow-take : (b : ℕ) (ps : List ShownSection) → AreNarrowSections ps → AreNarrowSections (take b ps)
-narrow-take zero ps n = tt
-narrow-take (suc b) [] n = tt
 narrow-take (suc b) (p ∷ ps) n = (n.0, narrow-take b ps n.1)
+narrow-take _ _ n = tt
 
 narrow-drop : (a : ℕ) (ps : List ShownSection) → AreNarrowSections ps → AreNarrowSections (drop a ps)
 narrow-drop zero ps n = n

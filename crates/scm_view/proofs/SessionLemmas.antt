@@ -28,21 +28,17 @@ use Rattle.scm_document.proofs.FilesOf.{HaveRows, IsFileOf, AreFilesOf, HasItsId
 
 row-earlier : (k : SectionKey) (n m : ℕ) (d : DocRow) → n ≤ m → IsRowOf k m d → IsRowOf k n d
 row-earlier k n m (HeaderRow key h) less e = e
-row-earlier k n m (SectionRow selected h) less e = (omega (arith, less, e.0), e.1, e.2)
-row-earlier k n m (LineRow key b ts) less e = (omega (arith, less, e.0), e.1, e.2)
 row-earlier k n m (MarkRow selected b t) less e = (omega (arith, less, e.0), e.1)
 row-earlier k n m (ContextRow key ts) less e = (omega (arith, less, e.0), e.1)
 row-earlier k n m (DotsRow t) less e = tt
 row-earlier k n m BlankRow less e = tt
+row-earlier k n m _ less e = (omega (arith, less, e.0), e.1, e.2)
 
 after-earlier : (k : SectionKey) (n m : ℕ) (d : DocRow) → n ≤ m → after_row n d ≤ after_row m d
 after-earlier k n m (HeaderRow key h) less = less
-after-earlier k n m (SectionRow selected h) less = omega arith
-after-earlier k n m (LineRow key b ts) less = omega arith
-after-earlier k n m (MarkRow selected b t) less = omega arith
-after-earlier k n m (ContextRow key ts) less = omega arith
 after-earlier k n m (DotsRow t) less = less
 after-earlier k n m BlankRow less = less
+after-earlier k n m _ less = omega arith
 
 rows-earlier : (k : SectionKey) (n m : ℕ) (ds : List DocRow) → n ≤ m → AreRowsOf k m ds → AreRowsOf k n ds
 rows-earlier k n m [] less e = tt
@@ -75,10 +71,8 @@ changed-are v n i (l ∷ ls) h = ((h, refl, refl), changed-are v (suc (suc i)) (
 -- no more lines stand above the dots than there are before the first one below them
 above-below : (first last few : Bool) (n : ℕ) → nat_le n 6 ≡ few
     → (if not first && (not last && few) then n else if first then 0 else min n 3) ≤ (if not first && (not last && few) then n else if last then n else n - 3)
-above-below true last few n e = omega arith
-above-below false true few n e = omega arith
-above-below false false true n e = omega arith
 above-below false false false n e = let many : 6 < n = grind (arith, nat_tests) in omega (arith, many)
+above-below _ _ _ n e = omega arith
 
 above-all : (first last few : Bool) (n : ℕ) → (if not first && (not last && few) then n else if first then 0 else min n 3) ≤ n
 above-all true last few n = omega arith
@@ -126,8 +120,7 @@ folded-are k n false rs e = tt
 rows-are : (v : SectionView) (section : Section) → HasBoxesOf v.section_key v → AreRowsOf v.section_key 0 (rows_of v section)
 rows-are v (Unchanged ls) h = context-are v ls
 rows-are v (Changed ls) h = ((refl, h.toggle, h.fold), folded-are v.section_key 1 (is_fold_open v.expand_box) (changed_rows v 0 ls) (changed-are v 1 0 ls (omega arith)))
-rows-are v (FileMode checked mode) h = ((refl, refl), tt)
-rows-are v (Binary checked old new) h = ((refl, refl), tt)
+rows-are v _ h = ((refl, refl), tt)
 
 -- ---- a section has a row, but for one of context that is both the first and the last
 
@@ -147,9 +140,8 @@ lines-shown : (first last few : Bool) (n : ℕ) → nat_le n 6 ≡ few → 0 < n
     → (0 < (if not first && (not last && few) then n else if first then 0 else min n 3)) ⊎ ((if not first && (not last && few) then n else if last then n else n - 3) < n)
 lines-shown true true few n e some h = absurd (cc (h refl))
 lines-shown true false few n e some h = inr (omega (arith, some))
-lines-shown false true few n e some h = inl (omega (arith, some))
 lines-shown false false true n e some h = inl some
-lines-shown false false false n e some h = inl (omega (arith, some))
+lines-shown _ _ _ n e some h = inl (omega (arith, some))
 
 context-some : (v : SectionView) (ls : List (List ℕ)) → (is_first (place_of v) ≡ true → is_last (place_of v) ≡ false) → 0 < length (context_rows v ls)
 unfolding context_rows
@@ -182,9 +174,7 @@ context-some v ls h = go (length ls == 0) refl
 rows-some : (v : SectionView) (section : Section) → (is_editable_section section ≡ true) ⊎ (is_first (place_of v) ≡ true → is_last (place_of v) ≡ false) → 0 < length (rows_of v section)
 rows-some v (Unchanged ls) (inl e) = absurd (cc e)
 rows-some v (Unchanged ls) (inr h) = context-some v ls h
-rows-some v (Changed ls) h = omega arith
-rows-some v (FileMode checked mode) h = omega arith
-rows-some v (Binary checked old new) h = omega arith
+rows-some v _ h = omega arith
 
 -- ---- the sections of a file
 

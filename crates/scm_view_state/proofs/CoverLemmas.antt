@@ -75,9 +75,8 @@ module _ {A : Type 0} (top : A → ℕ) where
 
 editable-view : (s : ViewState) (t : Totals) (k : FileKey) (i editable line n : ℕ) (xs : List Section) → editable_view_at n (section_views_of s t k i editable line xs) ≡ is_editable_at n xs
 unfolding section_views_of
-editable-view s t k i editable line n [] = refl
-editable-view s t k i editable line zero (x ∷ xs) = refl
 editable-view s t k i editable line (suc n) (x ∷ xs) = editable-view s t k (suc i) (if is_editable_section x then editable + 1 else editable) (line + old_lines x) n xs
+editable-view s t k i editable line _ _ = refl
 
 pub sections-length : (s : ViewState) (t : Totals) (k : FileKey) (i editable line : ℕ) (xs : List Section) → length (section_views_of s t k i editable line xs) ≡ length xs
 unfolding section_views_of
@@ -194,8 +193,7 @@ module _ (s : ViewState) (k : FileKey) (f : File) where
       go : (u b : Bool) → nat_lt r.top row ≡ b → ((if u && b then count_to (λ (q : SectionRows). q.top) (row - r.top - 1) r.sections else 0) ≡ 0)
           ⊎ ((u ≡ true) × ((r.top < row) × ((if u && b then count_to (λ (q : SectionRows). q.top) (row - r.top - 1) r.sections else 0) ≡ count_to (λ (q : SectionRows). q.top) (row - r.top - 1) r.sections)))
       go true true e = inr (refl, (grind (arith, nat_tests), refl))
-      go true false e = inl refl
-      go false b e = inl refl
+      go _ _ e = inl refl
 
   top-zero : (r : FileRows) → r.sections ≡ (file_rows s.expanded k f).sections → top_at 0 r.sections ≡ rows_before 0
   top-zero r same =

@@ -107,10 +107,9 @@ with-same (k ∷ ks) key h e = go (key_cmp key k) refl (is_key key k) refl (λ f
     go : (o : Ordering) → key_cmp key k ≡ o → (b : Bool) → is_key key k ≡ b → (has_key ks key ≡ true → with_key ks key ≡ ks) → (b || has_key ks key) ≡ true
         → match_ordering o (key ∷ k ∷ ks) (k ∷ ks) (k ∷ with_key ks key) ≡ k ∷ ks
     go Equal c b s more e = refl
-    go Greater c true s more e = let equal = same-is-equal key k s in cc
     go Greater c false s more e = ap (λ (l : List SelectionKey). k ∷ l) (more e)
-    go Less c true s more e = let equal = same-is-equal key k s in cc
     go Less c false s more e = let none : has_key ks key ≡ false = not-before key ks (before-all key k ks c h.0) in cc
+    go _ c _ s more e = let equal = same-is-equal key k s in cc
 
 -- a key that was added is in the set
 pub with-has : (ks : List SelectionKey) (key : SelectionKey) → has_key (with_key ks key) key ≡ true

@@ -50,49 +50,19 @@ HaveNoLine [] = Unit {0}
 HaveNoLine (k ∷ ks) = (is_line k ≡ false) × HaveNoLine ks
 
 before-line : (k l : SelectionKey) → is_line k ≡ false → is_line l ≡ true → key_cmp k l ≡ Less
-before-line keys.None (keys.Line m) e f = refl
-before-line (keys.File n) (keys.Line m) e f = refl
-before-line (keys.Section n) (keys.Line m) e f = refl
 before-line (keys.Line n) l e f = absurd (cc e)
-before-line keys.None keys.None e f = absurd (cc f)
-before-line keys.None (keys.File m) e f = absurd (cc f)
-before-line keys.None (keys.Section m) e f = absurd (cc f)
-before-line (keys.File n) keys.None e f = absurd (cc f)
-before-line (keys.File n) (keys.File m) e f = absurd (cc f)
-before-line (keys.File n) (keys.Section m) e f = absurd (cc f)
-before-line (keys.Section n) keys.None e f = absurd (cc f)
-before-line (keys.Section n) (keys.File m) e f = absurd (cc f)
-before-line (keys.Section n) (keys.Section m) e f = absurd (cc f)
+before-line _ (keys.Line m) e f = refl
+before-line _ _ e f = absurd (cc f)
 
 after-other : (k l : SelectionKey) → is_line k ≡ false → is_line l ≡ true → key_cmp l k ≡ Greater
-after-other keys.None (keys.Line m) e f = refl
-after-other (keys.File n) (keys.Line m) e f = refl
-after-other (keys.Section n) (keys.Line m) e f = refl
 after-other (keys.Line n) l e f = absurd (cc e)
-after-other keys.None keys.None e f = absurd (cc f)
-after-other keys.None (keys.File m) e f = absurd (cc f)
-after-other keys.None (keys.Section m) e f = absurd (cc f)
-after-other (keys.File n) keys.None e f = absurd (cc f)
-after-other (keys.File n) (keys.File m) e f = absurd (cc f)
-after-other (keys.File n) (keys.Section m) e f = absurd (cc f)
-after-other (keys.Section n) keys.None e f = absurd (cc f)
-after-other (keys.Section n) (keys.File m) e f = absurd (cc f)
-after-other (keys.Section n) (keys.Section m) e f = absurd (cc f)
+after-other _ (keys.Line m) e f = refl
+after-other _ _ e f = absurd (cc f)
 
 other-key : (k l : SelectionKey) → is_line k ≡ false → is_line l ≡ true → is_key k l ≡ false
-other-key keys.None (keys.Line m) e f = refl
-other-key (keys.File n) (keys.Line m) e f = refl
-other-key (keys.Section n) (keys.Line m) e f = refl
 other-key (keys.Line n) l e f = absurd (cc e)
-other-key keys.None keys.None e f = absurd (cc f)
-other-key keys.None (keys.File m) e f = absurd (cc f)
-other-key keys.None (keys.Section m) e f = absurd (cc f)
-other-key (keys.File n) keys.None e f = absurd (cc f)
-other-key (keys.File n) (keys.File m) e f = absurd (cc f)
-other-key (keys.File n) (keys.Section m) e f = absurd (cc f)
-other-key (keys.Section n) keys.None e f = absurd (cc f)
-other-key (keys.Section n) (keys.File m) e f = absurd (cc f)
-other-key (keys.Section n) (keys.Section m) e f = absurd (cc f)
+other-key _ (keys.Line m) e f = refl
+other-key _ _ e f = absurd (cc f)
 
 -- ---- a set of other keys, and lines behind it
 
@@ -112,9 +82,8 @@ with-behind k (x ∷ xs) ls e h = go (key_cmp k x) (with-behind k xs ls e h)
   where
     go : (o : Ordering) → with_key (xs ++ ls) k ≡ with_key xs k ++ ls
         → match_ordering o (k ∷ x ∷ xs ++ ls) (x ∷ xs ++ ls) (x ∷ with_key (xs ++ ls) k) ≡ match_ordering o (k ∷ x ∷ xs) (x ∷ xs) (x ∷ with_key xs k) ++ ls
-    go Less more = refl
-    go Equal more = refl
     go Greater more = ap (λ ys. x ∷ ys) more
+    go _ more = refl
 
 -- a line is added behind
 with-line : (l : SelectionKey) (ks ls : List SelectionKey) → is_line l ≡ true → HaveNoLine ks → with_key (ks ++ ls) l ≡ ks ++ with_key ls l
@@ -228,10 +197,9 @@ and-left false y e = absurd (cc e)
 
 same-list : (xs ys : List SelectionKey) → is_same_set xs ys ≡ true → xs ≡ ys
 same-list [] [] e = refl
-same-list [] (y ∷ ys) e = absurd (cc e)
-same-list (x ∷ xs) [] e = absurd (cc e)
 same-list (x ∷ xs) (y ∷ ys) e =
     ap₂ (λ (k : SelectionKey) (ks : List SelectionKey). k ∷ ks) (key-same x y (and-left (is_key x y) (is_same_set xs ys) e)) (same-list xs ys (and-right (is_key x y) (is_same_set xs ys) e))
+same-list _ _ e = absurd (cc e)
 
 pub lacks-key : (xs ks : List SelectionKey) (l : SelectionKey) → has_key ks l ≡ true → has_key xs l ≡ false → is_same_set xs (key_set ks) ≡ false
 lacks-key xs ks l there e = (elim (is_same_set xs (key_set ks)) as (λ b. is_same_set xs (key_set ks) ≡ b → b ≡ false) [ true ↦ (λ p. absurd (cc (e, ap (λ set. has_key set l) (same-list xs (key_set ks) p), set-has ks l, there))) | false ↦ (λ p. refl) ]) refl
@@ -294,10 +262,9 @@ module _ (e ls : List SelectionKey) (lines : AreLines ls) where
   layout-behind state = ap (λ rs. record { counts = counts_of state.files; rows = record { files = stacked (files_top state.commits) rs } }) (files-behind 0 0 state.files)
 
   seen-behind : (k : SelectionKey) → is_visible (has_key (e ++ ls)) k ≡ is_visible (has_key e) k
-  seen-behind keys.None = refl
-  seen-behind (keys.File k) = refl
   seen-behind (keys.Section k) = has-behind (keys.File (file_of_section k)) e ls refl lines
   seen-behind (keys.Line k) = ap₂ (λ (a b : Bool). a && b) (has-behind (keys.File (file_of_line k)) e ls refl lines) (has-behind (keys.Section (section_of_line k)) e ls refl lines)
+  seen-behind _ = refl
 
   filter-behind : (ks : List SelectionKey) → filter (is_visible (has_key (e ++ ls))) ks ≡ filter (is_visible (has_key e)) ks
   filter-behind [] = refl
@@ -423,9 +390,8 @@ line-is-one k fs line =
 -- ---- the first line
 
 dropped-has : (n : ℕ) (ks : List SelectionKey) (k : SelectionKey) → has_key (drop n ks) k ≡ true → has_key ks k ≡ true
-dropped-has zero ks k e = e
-dropped-has (suc n) [] k e = e
 dropped-has (suc n) (x ∷ xs) k e = or_right (is_key k x) (has_key xs k) (dropped-has n xs k e)
+dropped-has _ _ k e = e
 
 -- what is true of a key and of all keys of a list is true of the first of these that passes a test, or of that key
 module _ (P : SelectionKey → Type 0) where
@@ -458,10 +424,8 @@ lines-alone file section first (l ∷ ls) = lines-alone file section (first + 1)
 
 section-inserted : (set : List SelectionKey) (file section : ℕ) (s : Section)
     → fold with_key set (filter (λ key. not (is_line key)) (section_keys file section s)) ≡ (if is_editable_section s then with_key set (section_key file section) else set)
-section-inserted set file section (Unchanged lines) = refl
 section-inserted set file section (Changed lines) = ap (fold with_key (with_key set (section_key file section))) (lines-alone file section 0 lines)
-section-inserted set file section (FileMode is_checked mode) = refl
-section-inserted set file section (Binary is_checked old new) = refl
+section-inserted set file section _ = refl
 
 -- one more section, from the last on
 pub sections-step : (set : List SelectionKey) (file i : ℕ) (ss : List Section) (s : Section) → Ascends set → slice_get ss i ≡ Some s

@@ -40,10 +40,8 @@ Bare before (r ∷ rs) (v ∷ vs) =
 
 -- what is known of a section that is not visible
 unseen : (editable before after : Bool) → (editable || (before || after)) ≡ false → (editable ≡ false) × ((before ≡ false) × (after ≡ false))
-unseen true before after e = absurd (cc e)
-unseen false true after e = absurd (cc e)
-unseen false false true e = absurd (cc e)
 unseen false false false e = (refl, (refl, refl))
+unseen _ _ _ e = absurd (cc e)
 
 first-kept : (before : Bool) (rs : List SectionRows) (vs : List SectionView) → length rs ≡ length vs → Bare before rs vs
     → views.is_first_open (views_with_rows rs vs) ≡ views.is_first_open vs
@@ -82,11 +80,9 @@ kept-same before (r ∷ rs) (v ∷ vs) e w =
         ∙ sym (ap (λ b. shown_section b v ++ shown_sections (views.is_open v) vs) (w.0 p))
 
 no-elements : {A : Type 0} (e a : ℕ) (xs : List A) → e ≤ a → ◌≡◌ {A = List A} (drop a (take e xs)) []
-no-elements zero zero xs h = refl
-no-elements zero (suc a) xs h = refl
 no-elements (suc e) zero xs h = absurd (omega (arith, h))
-no-elements (suc e) (suc a) [] h = refl
 no-elements (suc e) (suc a) (x ∷ xs) h = no-elements e a xs (omega (arith, h))
+no-elements _ _ _ h = refl
 
 -- ---- parts of the lists
 
@@ -95,28 +91,24 @@ bare-none before [] = tt
 bare-none before (r ∷ rs) = tt
 
 bare-first : (before : Bool) (rs : List SectionRows) (vs : List SectionView) → Bare before rs vs → Bare false rs vs
-bare-first before [] vs w = tt
-bare-first before (r ∷ rs) [] w = tt
 bare-first before (r ∷ rs) (v ∷ vs) w = (
   λ p. let u = unseen (is_editable_section v.section.now) before (views.is_first_open vs) (w.0 p) in
       ap₂ (λ (a b : Bool). a || (false || b)) u.0 u.1.1,
   w.1,
+bare-first before _ _ w = tt
 )
 
 bare-take : (before : Bool) (n : ℕ) (rs : List SectionRows) (vs : List SectionView) → Bare before rs vs → Bare before (take n rs) (take n vs)
-bare-take before zero rs vs w = tt
-bare-take before (suc n) [] vs w = tt
-bare-take before (suc n) (r ∷ rs) [] w = tt
 bare-take before (suc n) (r ∷ rs) (v ∷ vs) w = (
   λ p. let u = unseen (is_editable_section v.section.now) before (views.is_first_open vs) (w.0 p) in
       ap₂ (λ (a b : Bool). a || b) u.0 (ap₂ (λ (a b : Bool). a || b) u.1.0 (first-taken n vs u.1.1)),
   bare-take (views.is_open v) n rs vs w.1,
+bare-take before _ _ _ w = tt
 )
   where
     first-taken : (n : ℕ) (us : List SectionView) → views.is_first_open us ≡ false → views.is_first_open (take n us) ≡ false
-    first-taken zero us e = refl
-    first-taken (suc n) [] e = refl
     first-taken (suc n) (u ∷ us) e = e
+    first-taken _ _ e = refl
 
 bare-drop : (before : Bool) (n : ℕ) (rs : List SectionRows) (vs : List SectionView) → Bare before rs vs → Bare false (drop n rs) (drop n vs)
 bare-drop before zero rs vs w = bare-first before rs vs w
