@@ -28,15 +28,13 @@ from-none n = omega arith
 module _ (ks : List SelectionKey) (k : FileKey) (total : ℕ) where
   -- the row on which section n begins, counted from section i on, or on which they end
   abbrev pub row_at : ℕ → ℕ → ℕ → Bool → List Section → ℕ
-  row_at zero i top before ss = top
-  row_at (suc n) i top before [] = top
   row_at (suc n) i top before (s ∷ ss) = row_at n (suc i) (top + visible_height ks k total i before s (is_first_open ks k (suc i) ss)) (is_open ks k i s) ss
+  row_at _ i top before _ = top
 
   -- whether the section above it is open
   abbrev pub open_at : ℕ → ℕ → Bool → List Section → Bool
-  open_at zero i before ss = before
-  open_at (suc n) i before [] = before
   open_at (suc n) i before (s ∷ ss) = open_at n (suc i) (is_open ks k i s) ss
+  open_at _ i before _ = before
 
   pub drop-rows : (n i top : ℕ) (before : Bool) (ss : List Section)
       → drop n (sections_rows ks k total i top before ss) ≡ sections_rows ks k total (i + n) (row_at n i top before ss) (open_at n i before ss) (drop n ss)

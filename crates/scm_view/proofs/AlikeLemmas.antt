@@ -16,9 +16,8 @@ use Rattle.scm_view.specs.AppView.{views_picture, has_help, help_dialog_if_open,
 -- views of the same documents, one for one
 abbrev AreAlike : List CommitView → List CommitView → Type 0
 AreAlike [] [] = Unit {0}
-AreAlike [] (w ∷ ws) = ⊥
-AreAlike (v ∷ vs) [] = ⊥
 AreAlike (v ∷ vs) (w ∷ ws) = (document_of v ≡ document_of w) × AreAlike vs ws
+AreAlike _ _ = ⊥
 
 view-alike : (v u : CommitView) (s : Sight) (x y : ℤ) → document_of v ≡ document_of u → commit_picture v s x y ≡ commit_picture u s x y
 unfolding commit_picture

@@ -46,22 +46,11 @@ key_file (selection.Line k) = Some (file_of_section (section_of_line k))
 
 -- the file of a part of the document
 abbrev pub file_of : ComponentId → Option FileKey
-file_of ids.App = None
-file_of ids.AppFiles = None
-file_of ids.MenuBar = None
-file_of ids.MenuHeader = None
-file_of (ids.Menu k) = None
-file_of (ids.MenuItem k) = None
-file_of ids.CommitMessageView = None
-file_of (ids.CommitEditMessageButton k) = None
 file_of (ids.FileViewHeader k) = Some k
 file_of (ids.SelectableItem k) = key_file k
 file_of (ids.ToggleBox k) = key_file k
 file_of (ids.ExpandBox k) = key_file k
-file_of ids.QuitDialog = None
-file_of (ids.QuitDialogButton b) = None
-file_of ids.HelpDialog = None
-file_of ids.HelpDialogQuitButton = None
+file_of _ = None
 
 key-file : (i : ComponentId) (k : SelectionKey) (m : SectionKey) → file_of i ≡ key_file k → section_of (ids.SelectableItem k) ≡ Some m → file_of i ≡ Some (file_of_section m)
 key-file i (selection.Section k) m f e = let same : k ≡ m = cc e in f ∙ ap (λ k. Some (file_of_section k)) same

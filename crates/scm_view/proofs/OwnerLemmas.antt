@@ -125,72 +125,31 @@ heading-boxes h s w c y some o =
 -- ---- whose the ids are
 
 abbrev key_section : SelectionKey → Option SectionKey
-key_section selection.None = None
-key_section (selection.File k) = None
 key_section (selection.Section k) = Some k
 key_section (selection.Line k) = Some (section_of_line k)
+key_section _ = None
 
 -- lines count from 1, and the section itself is 0
 abbrev key_rank : SelectionKey → ℕ
-key_rank selection.None = 0
-key_rank (selection.File k) = 0
-key_rank (selection.Section k) = 0
 key_rank (selection.Line k) = suc k.line_idx
+key_rank _ = 0
 
 abbrev pub section_of : ComponentId → Option SectionKey
-section_of ids.App = None
-section_of ids.AppFiles = None
-section_of ids.MenuBar = None
-section_of ids.MenuHeader = None
-section_of (ids.Menu k) = None
-section_of (ids.MenuItem k) = None
-section_of ids.CommitMessageView = None
-section_of (ids.CommitEditMessageButton k) = None
-section_of (ids.FileViewHeader k) = None
 section_of (ids.SelectableItem k) = key_section k
 section_of (ids.ToggleBox k) = key_section k
 section_of (ids.ExpandBox k) = key_section k
-section_of ids.QuitDialog = None
-section_of (ids.QuitDialogButton b) = None
-section_of ids.HelpDialog = None
-section_of ids.HelpDialogQuitButton = None
+section_of _ = None
 
 abbrev pub rank_of : ComponentId → ℕ
-rank_of ids.App = 0
-rank_of ids.AppFiles = 0
-rank_of ids.MenuBar = 0
-rank_of ids.MenuHeader = 0
-rank_of (ids.Menu k) = 0
-rank_of (ids.MenuItem k) = 0
-rank_of ids.CommitMessageView = 0
-rank_of (ids.CommitEditMessageButton k) = 0
-rank_of (ids.FileViewHeader k) = 0
 rank_of (ids.SelectableItem k) = suc (key_rank k)
 rank_of (ids.ToggleBox k) = suc (key_rank k)
 rank_of (ids.ExpandBox k) = suc (key_rank k)
-rank_of ids.QuitDialog = 0
-rank_of (ids.QuitDialogButton b) = 0
-rank_of ids.HelpDialog = 0
-rank_of ids.HelpDialogQuitButton = 0
+rank_of _ = 0
 
 -- whether the id is that of a file, a section or a line, and not that of a box of it
 abbrev pub is_item : ComponentId → Bool
-is_item ids.App = false
-is_item ids.AppFiles = false
-is_item ids.MenuBar = false
-is_item ids.MenuHeader = false
-is_item (ids.Menu k) = false
-is_item (ids.MenuItem k) = false
-is_item ids.CommitMessageView = false
-is_item (ids.CommitEditMessageButton k) = false
-is_item (ids.FileViewHeader k) = false
 is_item (ids.SelectableItem k) = true
-is_item (ids.ToggleBox k) = false
-is_item (ids.ExpandBox k) = false
-is_item ids.QuitDialog = false
-is_item (ids.QuitDialogButton b) = false
-is_item ids.HelpDialog = false
-is_item ids.HelpDialogQuitButton = false
+is_item _ = false
 
 -- a part of a section, of these ranks; and not the section itself
 pub record IsAmong (k : SectionKey) (n m : ℕ) (i : ComponentId) : Type 0 where

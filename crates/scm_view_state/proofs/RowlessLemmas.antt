@@ -33,10 +33,9 @@ use Rattle.scm_view_state.proofs.SectionPartLemmas.{more-taken, none-taken, with
 
 -- each section without a row is not visible
 abbrev Bare : Bool → List SectionRows → List SectionView → Type 0
-Bare before [] vs = Unit {0}
-Bare before (r ∷ rs) [] = Unit {0}
 Bare before (r ∷ rs) (v ∷ vs) =
     (has_row r ≡ false → is_section_visible before v.section.now (views.is_first_open vs) ≡ false) × Bare (views.is_open v) rs vs
+Bare before _ _ = Unit {0}
 
 -- what is known of a section that is not visible
 unseen : (editable before after : Bool) → (editable || (before || after)) ≡ false → (editable ≡ false) × ((before ≡ false) × (after ≡ false))

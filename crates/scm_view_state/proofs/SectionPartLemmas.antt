@@ -42,9 +42,8 @@ counted b n = if b then suc n else n
 
 -- of the first n sections, as they are shown among all of them
 abbrev pub shown_before : Bool → ℕ → List SectionView → ℕ
-shown_before before zero vs = 0
-shown_before before (suc n) [] = 0
 shown_before before (suc n) (v ∷ vs) = counted (is_section_visible before v.section.now (is_first_open vs)) (shown_before (is_open v) n vs)
+shown_before before _ _ = 0
 
 -- more sections have no fewer shown ones
 counted-more : (b : Bool) (m n : ℕ) → m ≤ n → counted b m ≤ counted b n
@@ -60,11 +59,9 @@ before-more before _ _ _ h = omega arith
 
 -- the last of the first n sections shows the same without the section after it
 abbrev pub EndsWell : ℕ → List SectionView → Type 0
-EndsWell zero vs = Unit {0}
-EndsWell (suc zero) [] = Unit {0}
 EndsWell (suc zero) (v ∷ vs) = (before : Bool) → is_section_visible before v.section.now false ≡ is_section_visible before v.section.now (is_first_open vs)
-EndsWell (suc (suc n)) [] = Unit {0}
 EndsWell (suc (suc n)) (v ∷ vs) = EndsWell (suc n) vs
+EndsWell _ _ = Unit {0}
 
 ends-next : (n : ℕ) (v : SectionView) (vs : List SectionView) → EndsWell (suc n) (v ∷ vs) → EndsWell n vs
 ends-next zero v vs w = tt
