@@ -8,7 +8,7 @@ use Rattle.scm_types.specs.declared.file.File.{File}
 use Rattle.scm_types.specs.declared.file_mode.FileMode.{FileMode as Mode}
 use Rattle.scm_types.specs.declared.line.SectionChangedLine.{SectionChangedLine}
 use Rattle.scm_types.specs.declared.section.Section.{Section}
-use Rattle.scm_types.specs.declared.section.Section.TheVariants.{Unchanged, Changed, FileMode, Binary}
+use Rattle.scm_types.specs.declared.section.Section.TheVariants.{Changed, FileMode, Binary}
 use Rattle.scm_types.specs.Edits.{modify}
 use Rattle.scm_types.specs.Limits.{file_size, max_items, section_size}
 use Rattle.scm_types.specs.Marks.{checked_count, file_marks, is_editable_section, line_with_mark, section_marks}
@@ -50,10 +50,6 @@ sections_counts-more editable lines i sections d h =
 pub sections_counts-end : (editable lines i : ℕ) (sections : List Section) → length sections ≤ i → sections_counts editable lines (drop i sections) ≡ []
 unfolding sections_counts
 sections_counts-end editable lines i sections h = rw (drop_all i sections h) refl
-
-pub pushed : {A : Type 0} (made : List A) (next : A) (left : List A) → (made ++ next ∷ []) ++ left ≡ made ++ (next ∷ left)
-pushed [] next left = refl
-pushed (x ∷ xs) next left = ap (λ ys. x ∷ ys) (pushed xs next left)
 
 pub old_lines-more : (i : ℕ) (sections : List Section) (d : Section) → i < length sections → sum_by old_lines (drop i sections) ≡ old_lines (get_or sections i d) + sum_by old_lines (drop (i + 1) sections)
 old_lines-more i sections d h =

@@ -5,6 +5,7 @@ use Rattle.std.specs.Ordering.{int_eq}
 use Rattle.std.proofs.lemmas.Int.{ints}
 use Rattle.std.proofs.lemmas.Bool.Decides.{Decides-int_eq}
 use Rattle.std.proofs.lemmas.List.{length-map}
+use Rattle.std.proofs.lemmas.Bool.{or_right}
 use Rattle.scm_render.specs.Picture.{Box, nothing, followed_by, part, box_rect}
 use Rattle.scm_render.specs.Canvas.{Sight, under}
 use Rattle.scm_render.specs.Drawing.{span_picture}
@@ -181,22 +182,10 @@ module _ (same : ComponentId → ComponentId → Bool) (law : IsLawful same) whe
   unfolding row_picture part has_id followed_by box_picture span_picture
   has-head k h s w y i fits o e p = rw (heading-boxes h s w 0 y (omega (arith, fits)) o) (go p)
     where
-      third : (a b : Bool) → (a || (b || (true || false))) ≡ true
-      third true b = refl
-      third false true = refl
-      third false false = refl
-
-      second : (a c : Bool) → (a || (true || c)) ≡ true
-      second true c = refl
-      second false c = refl
-
-      first : (c : Bool) → (true || c) ≡ true
-      first c = refl
-
       go : IsHeadOf k i → (same i (ids.FileViewHeader k) || (same i h.fold.id || (same i h.toggle.id || false))) ≡ true
       go (inl q) = let t : same i (ids.FileViewHeader k) ≡ true = rw q (law.self (ids.FileViewHeader k)) in rw t refl
-      go (inr (inl q)) = let t : same i h.toggle.id ≡ true = rw (q, e.toggle) (law.self (ids.ToggleBox (selection.File k))) in rw t (third (same i (ids.FileViewHeader k)) (same i h.fold.id))
-      go (inr (inr q)) = let t : same i h.fold.id ≡ true = rw (q, e.fold) (law.self (ids.ExpandBox (selection.File k))) in rw t (second (same i (ids.FileViewHeader k)) (same i h.toggle.id || false))
+      go (inr (inl q)) = let t : same i h.toggle.id ≡ true = rw (q, e.toggle) (law.self (ids.ToggleBox (selection.File k))) in rw t (or_right (same i (ids.FileViewHeader k)) (same i h.fold.id || (true || false)) (or_right (same i h.fold.id) (true || false) refl))
+      go (inr (inr q)) = let t : same i h.fold.id ≡ true = rw (q, e.fold) (law.self (ids.ExpandBox (selection.File k))) in rw t (or_right (same i (ids.FileViewHeader k)) (true || (same i h.toggle.id || false)) refl)
 
   -- the pinned header draws these ids again, and no others
   redrawn : (f : ShownFile) (b : Bool) (s : Sight) (w m : ℕ) (i : ComponentId) → 10 ≤ w → IsOpen s w → IsHeadingOf f.key f.heading → IsHeadOf f.key i
@@ -210,9 +199,6 @@ module _ (same : ComponentId → ComponentId → Bool) (law : IsLawful same) whe
 
   section-head : (k : FileKey) (i j : ComponentId) → IsSectionFrom k 0 i → IsHeadOf k j → same i j ≡ false
   section-head k i j p q = differ same law i j (λ e. let none = head-section k j q in let some = p.section in cc (none, some, ap section_of e))
-
-  file-head : (k : FileKey) (j : ComponentId) → IsHeadOf k j → same (file_id k) j ≡ false
-  file-head k j q = not-file same law k j (inl q)
 
   one_file-owns : (commit n : ℕ) (f : ShownFile) (s : Sight) (w m top : ℕ) (z : ℤ) (x : ℕ) (rep : ComponentId → Bool) → 10 ≤ w → IsOpen s w → mask_row s ≡ pos m → IsFileOf commit n f
       → ((i : ComponentId) → IsOfFile f.key i → rep i ≡ false) → x < w
@@ -230,7 +216,7 @@ module _ (same : ComponentId → ComponentId → Bool) (law : IsLawful same) whe
       (whole_file-owns same law commit n f b after (under (file_mask s (pos 0) (pos top)) s) w (pos top) z x fits (under-open s w (pos top) None o) e
       (λ i p. or-known (rep i) (has_id same i pinned.boxes) b (live i (head-file f.key i p)) (redrawn f b s w m i fits o e.heading p))
       (λ i p. or-known (rep i) (has_id same i pinned.boxes) false (live i (section-file i p.key p.section ∙ ap Some p.file)) (none_of same is_clickable (IsHeadOf f.key) i pinned.boxes (λ j q. section-head f.key i j p q) again.ids))
-      (or-known (rep (file_id f.key)) (has_id same (file_id f.key) pinned.boxes) false (live (file_id f.key) refl) (none_of same is_clickable (IsHeadOf f.key) (file_id f.key) pinned.boxes (λ j q. file-head f.key j q) again.ids))
+      (or-known (rep (file_id f.key)) (has_id same (file_id f.key) pinned.boxes) false (live (file_id f.key) refl) (none_of same is_clickable (IsHeadOf f.key) (file_id f.key) pinned.boxes (λ j q. not-file same law f.key j (inl q)) again.ids))
       within))
 
   file-part : (k : FileKey) (i : ComponentId) → IsHeadOf k i ⊎ IsSectionFrom k 0 i → IsOfFile k i

@@ -213,7 +213,7 @@ not-last : (i n total : ℕ) → total ≡ i + suc n → 0 < n → (i + 1 == tot
 not-last i n total e h = grind (arith, e, h)
 
 -- a section that is shown can be edited, or is not the first, or not the last
-shown-which : (before editable after first last : Bool) → (editable || (before || after)) ≡ true → (before ≡ true → first ≡ false) → (after ≡ true → last ≡ false)
+pub shown-which : (before editable after first last : Bool) → (editable || (before || after)) ≡ true → (before ≡ true → first ≡ false) → (after ≡ true → last ≡ false)
     → (editable ≡ true) ⊎ (first ≡ true → last ≡ false)
 shown-which before true after first last h p q = inl refl
 shown-which true false after first last h p q = inr (λ e. absurd (cc (e, p refl)))

@@ -1,5 +1,5 @@
 -- The view of a section of a file, by the counts of the layout.
-use Rattle.std.proofs.Common.{◌≡◌, ℕ, zero, suc, ◌+◌, ◌<◌, ◌≤◌, Bool, true, false, List, [], ◌∷◌, length, get_or, refl, sym, ap, ap₂, subst, ◌∙◌, arith}
+use Rattle.std.proofs.Common.{◌≡◌, ℕ, zero, suc, ◌+◌, ◌<◌, ◌≤◌, List, [], ◌∷◌, length, get_or, refl, sym, ap, ap₂, subst, ◌∙◌, arith}
 use Rattle.std.specs.Prelude.{sum_by, if◌then◌else◌}
 use Rattle.std.proofs.lemmas.List.Sums.{sum_by-cons}
 use Rattle.scm_types.specs.declared.file.File.{File}
@@ -14,6 +14,7 @@ use Rattle.scm_view.specs.ViewState.{Totals, ViewState, section_view_of, section
 use Rattle.scm_layout.specs.declared.section_counts.SectionCounts.{SectionCounts}
 use Rattle.scm_layout.specs.Counts.{section_counts, sections_counts}
 use Rattle.scm_layout.specs.Rows.{file_key_of}
+use Rattle.scm_layout.proofs.CountLemmas.{at_most_one_more}
 use Rattle.scm_view_state.specs.declared.stretches.Stretch.{Stretch}
 use Rattle.scm_view_state.specs.Stretches.{file_part_of, file_parts_of, is_unfolded, section_range}
 
@@ -23,10 +24,6 @@ pub record IsCounted (s : ViewState) (t : Totals) (k : FileKey) (editable lines 
   pub view : v ≡ section_view_of s t (section_key_of k n) c.editable_before c.lines_before x
   pub before : c.editable_before ≤ editable
   pub above : c.lines_before ≤ lines
-
-editable-more : (b : Bool) (n : ℕ) → (if b then n + 1 else n) ≤ n + 1
-editable-more true n = omega arith
-editable-more false n = omega arith
 
 counted-at : (s : ViewState) (t : Totals) (k : FileKey) (i editable line line' n : ℕ) (dx : Section) (dc : SectionCounts) (dv : SectionView) (xs : List Section) → line' ≡ line → n < length xs
     → IsCounted s t k (editable + n) (line + sum_by old_lines xs) (i + n) (get_or xs n dx) (get_or (sections_counts editable line' xs) n dc) (get_or (section_views_of s t k i editable line xs) n dv)
@@ -44,7 +41,7 @@ counted-at s t k i editable line line' (suc n) dx dc dv (x ∷ xs) e h =
     let editable' = if is_editable_section x then editable + 1 else editable in
     let rest = counted-at s t k (suc i) editable' (line + old_lines x) (line' + old_lines x) n dx dc dv xs (omega (arith, e)) (omega (arith, h)) in
     let next : suc i + n ≡ i + suc n = omega arith in
-    let more = editable-more (is_editable_section x) editable in
+    let more = at_most_one_more (is_editable_section x) editable editable (omega arith) in
     let all = sum_by-cons old_lines x xs in
     let b = rest.before in
     let a = rest.above in

@@ -27,7 +27,8 @@ use Rattle.scm_layout.specs.Searches.{FollowFrom, SectionsFollow, count_to}
 use Rattle.scm_layout.proofs.SearchLemmas.{follow-rise}
 use Rattle.scm_view_state.proofs.CoverLemmas.{count-low, count-most, layout-length, sections-length}
 use Rattle.scm_view_state.proofs.ViewRowLemmas.{first-is, open-is}
-use Rattle.scm_view_state.proofs.SectionPartLemmas.{more-taken, none-taken, with_sections}
+use Rattle.scm_view_state.proofs.SectionPartLemmas.{more-taken, with_sections}
+use Rattle.scm_view.proofs.SessionLemmas.{shown-which}
 
 -- ---- lists
 
@@ -141,13 +142,6 @@ height-some total i false (Changed lines) h = omega arith
 height-some total i unfolded (FileMode is_checked mode) h = omega arith
 height-some total i unfolded (Binary is_checked old new) h = omega arith
 
-which : (editable before after first last : Bool) → (editable || (before || after)) ≡ true → (before ≡ true → first ≡ false) → (after ≡ true → last ≡ false)
-    → (editable ≡ true) ⊎ (first ≡ true → last ≡ false)
-which true before after first last h p q = inl refl
-which false true after first last h p q = inr (λ e. absurd (cc (e, p refl)))
-which false false true first last h p q = inr (λ e. q refl)
-which false false false first last h p q = absurd (cc h)
-
 bare-by : (seen : Bool) (top n : ℕ) → (seen ≡ true → 0 < n) → nat_lt top (top + (if seen then n else 0)) ≡ false → seen ≡ false
 bare-by true top n some e = let s = some refl in absurd (grind (arith, nat_tests))
 bare-by false top n some e = refl
@@ -181,7 +175,7 @@ module _ (s : ViewState) (t : Totals) (k : FileKey) where
 
       tall : seen ≡ true → 0 < height_of (place t.sections i) (is_expanded s.expanded k i) x
       tall e = height-some t.sections i (is_expanded s.expanded k i) x
-          (which (is_editable_section x) before' after (i == 0) (i + 1 == t.sections) e
+          (shown-which before' (is_editable_section x) after (i == 0) (i + 1 == t.sections) e
           (λ p. let low = h p in grind (arith, nat_tests, low))
           (λ p. let more = open-more s k (suc i) xs p in grind (arith, nat_tests, size, more)))
 
@@ -240,7 +234,7 @@ module _ (a : ℕ) (rs : List SectionRows) (vs : List SectionView) (count : leng
   -- no section yet
   pub none-yet : views_to a ≡ []
   unfolding views_with_rows
-  none-yet = ap (λ qs. views_with_rows qs (drop a (take a vs))) (none-taken a rs)
+  none-yet = ap (λ qs. views_with_rows qs (drop a (take a vs))) (no-elements a a rs (omega arith))
 
   -- an end above the beginning
   pub none-between : (e : ℕ) → e ≤ a → views_to e ≡ []

@@ -22,11 +22,6 @@ more-taken zero (suc i) d (x ∷ xs) low within = ap (λ ys. x ∷ ys) (more-tak
 more-taken (suc a) zero d (x ∷ xs) low within = absurd (omega (arith, low))
 more-taken (suc a) (suc i) d (x ∷ xs) low within = more-taken a i d xs (omega (arith, low)) (omega (arith, within))
 
--- no element yet
-pub none-taken : {A : Type 0} (a : ℕ) (xs : List A) → ◌≡◌ {A = List A} (drop a (take a xs)) []
-none-taken (suc a) (x ∷ xs) = none-taken a xs
-none-taken _ _ = refl
-
 pub take-none : {A : Type 0} (n : ℕ) → ◌≡◌ {A = List A} (take n []) []
 take-none zero = refl
 take-none (suc n) = refl
