@@ -2,11 +2,10 @@
 use Rattle.std.proofs.Common.{◌≡◌, ℕ, zero, suc, ◌+◌, ◌-◌, ◌*◌, ◌/◌, ◌≤◌, ◌^◌, ℤ, pos, ◌+ℤ◌, Bool, true, false, List, [], ◌∷◌, ◌++◌, length, length-append, map, take, refl, arith}
 use Rattle.std.specs.Int.{int_min, int_max}
 use Rattle.scm_cells.specs.Rect.{end_x_of}
-use Rattle.std.specs.Prelude.{min, ◌&&◌, if◌then◌else◌, nat_le, sum_by, codes, Option, Some, None}
+use Rattle.std.specs.Prelude.{min, ◌&&◌, if◌then◌else◌, nat_le, codes, Option, Some, None, sum_by}
 use Rattle.std.specs.List.{list_all}
 use Rattle.std.proofs.Math.Nat.{div-le_self}
-use Rattle.std.proofs.lemmas.List.Sums.{sum_by-cons}
-use Rattle.scm_types.specs.Limits.{is_short_text, is_short_option, has_short_texts, section_size}
+use Rattle.scm_types.specs.Limits.{is_short_text, is_short_option, section_size}
 use Rattle.scm_cells.specs.Clusters.{text_width}
 use Rattle.scm_cells.proofs.BoundLemmas.{text_width-le}
 use Rattle.scm_cells.proofs.RectLemmas.{places}
@@ -36,9 +35,9 @@ use Rattle.scm_view.specs.AppView.{shown_views, views_picture, has_help, app_pic
 use Rattle.scm_view.proofs.AppLemmas.{apply-columns}
 use Rattle.scm_widgets.specs.Texts.{box_text, button_text}
 use Rattle.scm_document.specs.Texts.{number_text, sign_text}
-use Rattle.scm_widgets.specs.Boxes.{IdBox, is_fold_open}
+use Rattle.scm_widgets.specs.Boxes.{IdBox}
 use Rattle.scm_rows.specs.Heights.{is_section_visible}
-use Rattle.scm_document.specs.Rows.{line_texts, lent_text, header_heading, rows_of, section_rows, is_open, is_first_open, shown_section, shown_sections, sections_rows, shown_file, file_rows, document_of}
+use Rattle.scm_document.specs.Rows.{line_texts, lent_text, header_heading, rows_of, section_rows, sections_rows, shown_file, file_rows, document_of}
 use Rattle.scm_document.specs.FilesRows.{files_rows}
 use Rattle.scm_widgets.specs.Pictures.{box_picture, button_picture}
 use Rattle.scm_document.specs.Pictures.{header_picture, inner_picture, line_picture, section_picture, file_picture, message_picture, commit_message_picture, commit_picture}
@@ -50,12 +49,11 @@ use Rattle.scm_widgets.specs.DrawBounds.{IsInDrawBounds, RectIsInDrawBounds}
 use Rattle.scm_document.specs.DrawBounds.{SightIsInDrawBounds}
 use Rattle.scm_view.specs.ComponentRanges.{text_of_line, IsShortSection, IsShortFile, AreShortFiles, IsShortCommit, AreShortCommits, IsShortApp, AppIsInDrawBounds, is_short_item, is_short_menu, is_short_bar, is_short_button, are_short_buttons, ComponentsAreInRange}
 use Rattle.scm_widgets.proofs.Near.{IsNear}
-use Rattle.scm_document.proofs.Near.{SightIsNear, AreNarrowSections, IsNarrowFile, AreNarrowFiles}
+use Rattle.scm_document.proofs.Near.{SightIsNear, AreNarrowFiles}
 use Rattle.scm_overlay.proofs.Ranges.{button_columns}
 use Rattle.scm_document.proofs.NearLemmas.{heading-in, changed-in, context-in, rows-near, file-near, message-near, document-near, still-near}
 use Rattle.scm_view.proofs.AppRangeLemmas.{few-views}
-use Rattle.scm_view.proofs.LimitLemmas.{first_true, second_true, short, box-narrow, line-narrow, length-sign, length-number, path-narrow, heading-narrow, message-narrow, rows-narrow, sections-append, shown-narrow, shown_if-narrow, shown-few}
-use Rattle.scm_document.proofs.SectionsLemmas.{length-sections}
+use Rattle.scm_view.proofs.LimitLemmas.{first_true, second_true, short, box-narrow, line-narrow, length-sign, length-number, path-narrow, heading-narrow, message-narrow, rows-narrow, shown-few, file-few, file-narrow, size_of}
 use Rattle.scm_overlay.proofs.RangeLemmas.{IsFewItems, menu-here, bar-here, dialog-here}
 use Rattle.scm_overlay.proofs.FixedLemmas.{short_quit, short_help}
 
@@ -125,46 +123,16 @@ section-here v s x y n p q h =
     let rows : length (rows_of v v.section.now ++ []) ≤ 2 * section_size v.section.now + 1 = shown-few true v in
     rows-near (rows_of v v.section.now) s x y (sight-near s n) (still-near x p) (still-near y q) (near-after y _ q (omega (arith, rows, length-append (rows_of v v.section.now) [], h.lines))) (rows-narrow v v.section.now h.texts)
 
-abbrev texts_of : SectionView → Bool
-texts_of w = has_short_texts w.section.now
-
-abbrev size_of : SectionView → ℕ
-size_of w = section_size w.section.now
-
-sections-narrow : (before : Bool) (vs : List SectionView) → list_all texts_of vs ≡ true → AreNarrowSections (shown_sections before vs)
-unfolding shown_sections
-sections-narrow before [] h = tt
-sections-narrow before (v ∷ vs) h =
-    sections-append (shown_section _ v) _ (shown-narrow _ v (first_true (texts_of v) (list_all texts_of vs) h)) (sections-narrow (is_open v) vs (second_true (texts_of v) (list_all texts_of vs) h))
-
-sections-few : (before : Bool) (vs : List SectionView) → length (sections_rows (shown_sections before vs)) ≤ 2 * sum_by size_of vs + length vs
-unfolding shown_sections sections_rows
-sections-few before [] = omega arith
-sections-few before (v ∷ vs) =
-    let b = is_section_visible before v.section.now (is_first_open vs) in
-    omega (arith, length-sections (shown_section b v) (shown_sections (is_open v) vs), shown-few b v, sections-few (is_open v) vs, sum_by-cons size_of v vs)
-
-file-few : (v : FileView) → IsShortFile v → length (file_rows (shown_file v)) ≤ 2 ^ 42
-unfolding file_rows shown_file sections_rows
-file-few v h = go (is_fold_open v.expand_box) (sections-few false v.section_views) h.lines
-  where
-    go : (b : Bool) → length (sections_rows (shown_sections false v.section_views)) ≤ 2 * sum_by size_of v.section_views + length v.section_views → length v.section_views + sum_by size_of v.section_views ≤ 2 ^ 40
-        → suc (length (sections_rows (if b then shown_sections false v.section_views else []))) ≤ 2 ^ 42
-    go true k l = omega (arith, k, l)
-    go false k l = omega arith
-
-file-narrow : (v : FileView) → IsShortFile v → IsNarrowFile (shown_file v)
-unfolding shown_file
-file-narrow v h = record {
-  heading = heading-narrow (shown_file v).heading (path-narrow (lent_text v.old_path) v.path.now h.old_path h.path);
-  sections = shown_if-narrow (is_fold_open v.expand_box) (shown_sections false v.section_views) (sections-narrow false v.section_views h.texts);
-}
+file-tall : (v : FileView) → IsShortFile v → length (file_rows (shown_file v)) ≤ 2 ^ 42
+file-tall v h =
+    let lines : length v.section_views + sum_by size_of v.section_views ≤ 2 ^ 40 = h.lines in
+    omega (arith, file-few v, lines)
 
 file-here : (v : FileView) (s : Sight) (x y : ℤ) → SightIsInDrawBounds s → IsInDrawBounds x → IsInDrawBounds y → IsShortFile v → PictureInRange (file_picture v s x y)
 unfolding file_picture
 file-here v s x y n p q h =
-    let narrow = file-narrow v h in
-    file-near (shown_file v) s x y (sight-near s n) (still-near x p) (near-after x 2 p (omega arith)) (still-near y q) (near-after y _ q (omega (arith, file-few v h))) narrow.heading narrow.sections
+    let narrow = file-narrow v h.old_path h.path h.texts in
+    file-near (shown_file v) s x y (sight-near s n) (still-near x p) (near-after x 2 p (omega arith)) (still-near y q) (near-after y _ q (omega (arith, file-tall v h))) narrow.heading narrow.sections
 
 -- ---- commits
 
@@ -173,12 +141,12 @@ message-here commit m s x y n p q h = message-near commit m s x y (sight-near s 
 
 files-narrow : (vs : List FileView) → AreShortFiles vs → AreNarrowFiles (map shown_file vs)
 files-narrow [] h = tt
-files-narrow (v ∷ vs) h = (file-narrow v h.0, files-narrow vs h.1)
+files-narrow (v ∷ vs) h = (file-narrow v h.0.old_path h.0.path h.0.texts, files-narrow vs h.1)
 
 files-few : (vs : List FileView) → AreShortFiles vs → length (files_rows (map shown_file vs)) ≤ 4398046511104 * length vs
 unfolding files_rows
 files-few [] h = omega arith
-files-few (v ∷ vs) h = omega (arith, length-append (file_rows (shown_file v)) (files_rows (map shown_file vs)), file-few v h.0, files-few vs h.1)
+files-few (v ∷ vs) h = omega (arith, length-append (file_rows (shown_file v)) (files_rows (map shown_file vs)), file-tall v h.0, files-few vs h.1)
 
 commit-here : (v : CommitView) (s : Sight) (x y : ℤ) → SightIsInDrawBounds s → IsInDrawBounds x → IsInDrawBounds y → IsShortCommit v → PictureInRange (commit_picture v s x y)
 unfolding commit_picture

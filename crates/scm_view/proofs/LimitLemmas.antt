@@ -54,6 +54,7 @@ use Rattle.scm_document.specs.DrawBounds.{SightIsInDrawBounds}
 use Rattle.scm_document.proofs.Near.{IsNarrow, IsNarrowBox, IsNarrowHeading, AreNarrow, AreNarrowSections, IsNarrowFile, AreNarrowFiles, IsNarrowMessage, IsNarrowDocument}
 use Rattle.scm_document.proofs.SectionsLemmas.{height-of, length-sections}
 use Rattle.scm_document.proofs.NearLemmas.{document-near}
+use Rattle.scm_document.specs.declared.file_view.FileView.{FileView}
 
 -- ---- tests that pass
 
@@ -285,29 +286,38 @@ unfolding section_rows
 shown-narrow true v h = (rows-narrow v v.section.now h, tt)
 shown-narrow false v h = tt
 
-sections-narrow : (s : ViewState) (totals : Totals) (k : FileKey) (before : Bool) (i editable line : ℕ) (sections : List Section) → list_all has_short_texts sections ≡ true
-    → AreNarrowSections (shown_sections before (section_views_of s totals k i editable line sections))
-unfolding shown_sections section_views_of
-sections-narrow s totals k before i editable line [] h = tt
-sections-narrow s totals k before i editable line (section ∷ more) h =
-    let v = section_view_of s totals (section_key_of k i) editable line section in
-    sections-append (shown_section _ v) _ (shown-narrow _ v (first_true (has_short_texts section) (list_all has_short_texts more) h))
-    (sections-narrow s totals k (is_open v) (suc i) _ _ more (second_true (has_short_texts section) (list_all has_short_texts more) h))
+abbrev pub texts_of : SectionView → Bool
+texts_of v = has_short_texts v.section.now
+
+sections-narrow : (before : Bool) (vs : List SectionView) → list_all texts_of vs ≡ true → AreNarrowSections (shown_sections before vs)
+unfolding shown_sections
+sections-narrow before [] h = tt
+sections-narrow before (v ∷ vs) h =
+    sections-append (shown_section _ v) _ (shown-narrow _ v (first_true (texts_of v) (list_all texts_of vs) h)) (sections-narrow (is_open v) vs (second_true (texts_of v) (list_all texts_of vs) h))
 
 pub shown_if-narrow : (b : Bool) (ps : List ShownSection) → AreNarrowSections ps → AreNarrowSections (if b then ps else [])
 shown_if-narrow true ps h = h
 shown_if-narrow false ps h = tt
 
-file-narrow : (s : ViewState) (k : FileKey) (f : File) → has_short_texts_in_file f ≡ true → IsNarrowFile (shown_file (file_view_of s k f))
+pub file-narrow : (v : FileView) → is_short_option (lent_text v.old_path) ≡ true → is_short_text v.path.now ≡ true → list_all texts_of v.section_views ≡ true → IsNarrowFile (shown_file v)
 unfolding shown_file
-file-narrow s k f h =
+file-narrow v old path texts = record {
+  heading = heading-narrow (shown_file v).heading (path-narrow (lent_text v.old_path) v.path.now old path);
+  sections = shown_if-narrow (is_fold_open v.expand_box) (shown_sections false v.section_views) (sections-narrow false v.section_views texts);
+}
+
+texts-same : (s : ViewState) (totals : Totals) (k : FileKey) (i editable line : ℕ) (sections : List Section) → list_all texts_of (section_views_of s totals k i editable line sections) ≡ list_all has_short_texts sections
+unfolding section_views_of
+texts-same s totals k i editable line [] = refl
+texts-same s totals k i editable line (section ∷ more) =
+    ap (λ b. has_short_texts section && b) (texts-same s totals k (suc i) (if is_editable_section section then editable + 1 else editable) (line + old_lines section) more)
+
+session-file : (s : ViewState) (k : FileKey) (f : File) → has_short_texts_in_file f ≡ true → IsNarrowFile (shown_file (file_view_of s k f))
+session-file s k f h =
     let paths = first_true (is_short_option f.old_path && is_short_text f.path) (list_all has_short_texts f.sections) h in
     let texts = second_true (is_short_option f.old_path && is_short_text f.path) (list_all has_short_texts f.sections) h in
-    let v = file_view_of s k f in
-    record {
-      heading = heading-narrow (shown_file v).heading (path-narrow (lent_text v.old_path) f.path (old f.old_path (first_true (is_short_option f.old_path) (is_short_text f.path) paths)) (second_true (is_short_option f.old_path) (is_short_text f.path) paths));
-      sections = shown_if-narrow (is_fold_open v.expand_box) (shown_sections false v.section_views) (sections-narrow s (totals_of f.sections) k false 0 0 0 f.sections texts);
-    }
+    file-narrow (file_view_of s k f) (old f.old_path (first_true (is_short_option f.old_path) (is_short_text f.path) paths)) (second_true (is_short_option f.old_path) (is_short_text f.path) paths)
+    (texts-same s (totals_of f.sections) k 0 0 0 f.sections ∙ texts)
   where
     old : (o : Option (List ℕ)) → is_short_option o ≡ true → is_short_option (option_map (λ b. b.now) (option_map borrow_of o)) ≡ true
     old None h = refl
@@ -317,7 +327,7 @@ files-narrow : (s : ViewState) (commit i : ℕ) (fs : List File) → list_all ha
 unfolding file_views_of
 files-narrow s commit i [] h = tt
 files-narrow s commit i (f ∷ fs) h =
-    (file-narrow s (record { commit_idx = commit; file_idx = i }) f (first_true (has_short_texts_in_file f) (list_all has_short_texts_in_file fs) h), files-narrow s commit (suc i) fs (second_true (has_short_texts_in_file f) (list_all has_short_texts_in_file fs) h))
+    (session-file s (record { commit_idx = commit; file_idx = i }) f (first_true (has_short_texts_in_file f) (list_all has_short_texts_in_file fs) h), files-narrow s commit (suc i) fs (second_true (has_short_texts_in_file f) (list_all has_short_texts_in_file fs) h))
 
 -- ---- numbers of rows
 
@@ -326,37 +336,42 @@ unfolding sections_rows section_rows
 shown-few true v = omega (arith, length-append (rows_of v v.section.now) [], height-of v v.section.now, height-le (place_of v) (is_fold_open v.expand_box) v.section.now)
 shown-few false v = omega arith
 
-sections-few : (s : ViewState) (totals : Totals) (k : FileKey) (before : Bool) (i editable line : ℕ) (sections : List Section)
-    → length (sections_rows (shown_sections before (section_views_of s totals k i editable line sections))) ≤ 2 * sum_by section_size sections + length sections
-unfolding shown_sections section_views_of sections_rows
-sections-few s totals k before i editable line [] = omega arith
-sections-few s totals k before i editable line (section ∷ more) =
-    let v = section_view_of s totals (section_key_of k i) editable line section in
-    let rest = shown_sections (is_open v) (section_views_of s totals k (suc i) (if is_editable_section section then editable + 1 else editable) (line + old_lines section) more) in
-    let first = shown_section (is_section_visible before v.section.now (is_first_open (section_views_of s totals k (suc i) (if is_editable_section section then editable + 1 else editable) (line + old_lines section) more))) v in
-    omega (
-      arith,
-      length-sections first rest,
-      shown-few (is_section_visible before v.section.now (is_first_open (section_views_of s totals k (suc i) (if is_editable_section section then editable + 1 else editable) (line + old_lines section) more))) v,
-      sections-few s totals k (is_open v) (suc i) (if is_editable_section section then editable + 1 else editable) (line + old_lines section) more,
-      sum_by-cons section_size section more,
-    )
+abbrev pub size_of : SectionView → ℕ
+size_of v = section_size v.section.now
 
-file-few : (s : ViewState) (k : FileKey) (f : File) → length (file_rows (shown_file (file_view_of s k f))) ≤ 2 * file_size f + 1
+sections-few : (before : Bool) (vs : List SectionView) → length (sections_rows (shown_sections before vs)) ≤ 2 * sum_by size_of vs + length vs
+unfolding shown_sections sections_rows
+sections-few before [] = omega arith
+sections-few before (v ∷ vs) =
+    let b = is_section_visible before v.section.now (is_first_open vs) in
+    omega (arith, length-sections (shown_section b v) (shown_sections (is_open v) vs), shown-few b v, sections-few (is_open v) vs, sum_by-cons size_of v vs)
+
+pub file-few : (v : FileView) → length (file_rows (shown_file v)) ≤ 1 + (2 * sum_by size_of v.section_views + length v.section_views)
 unfolding file_rows shown_file sections_rows
-file-few s k f = go _ (sections-few s (totals_of f.sections) k false 0 0 0 f.sections)
+file-few v = go (is_fold_open v.expand_box) (sections-few false v.section_views)
   where
-    go : (b : Bool) → length (sections_rows (shown_sections false (section_views_of s (totals_of f.sections) k 0 0 0 f.sections))) ≤ 2 * sum_by section_size f.sections + length f.sections
-        → suc (length (sections_rows (if b then shown_sections false (section_views_of s (totals_of f.sections) k 0 0 0 f.sections) else []))) ≤ 2 * file_size f + 1
+    go : (b : Bool) → length (sections_rows (shown_sections false v.section_views)) ≤ 2 * sum_by size_of v.section_views + length v.section_views
+        → suc (length (sections_rows (if b then shown_sections false v.section_views else []))) ≤ 1 + (2 * sum_by size_of v.section_views + length v.section_views)
     go true h = omega (arith, h)
     go false h = omega arith
+
+-- the views of a session have its sections
+sizes-same : (s : ViewState) (totals : Totals) (k : FileKey) (i editable line : ℕ) (sections : List Section)
+    → 2 * sum_by size_of (section_views_of s totals k i editable line sections) + length (section_views_of s totals k i editable line sections) ≡ 2 * sum_by section_size sections + length sections
+unfolding section_views_of
+sizes-same s totals k i editable line [] = refl
+sizes-same s totals k i editable line (section ∷ more) =
+    let v = section_view_of s totals (section_key_of k i) editable line section in
+    let vs = section_views_of s totals k (suc i) (if is_editable_section section then editable + 1 else editable) (line + old_lines section) more in
+    let rest = sizes-same s totals k (suc i) (if is_editable_section section then editable + 1 else editable) (line + old_lines section) more in
+    omega (arith, sum_by-cons size_of v vs, sum_by-cons section_size section more, rest)
 
 files-few : (s : ViewState) (commit i : ℕ) (fs : List File) → length (files_rows (map shown_file (file_views_of s commit i fs))) ≤ 2 * sum_by file_size fs + length fs
 unfolding file_views_of files_rows
 files-few s commit i [] = omega arith
 files-few s commit i (f ∷ fs) =
     let k : FileKey = record { commit_idx = commit; file_idx = i } in
-    omega (arith, length-append (file_rows (shown_file (file_view_of s k f))) (files_rows (map shown_file (file_views_of s commit (suc i) fs))), file-few s k f, files-few s commit (suc i) fs, sum_by-cons file_size f fs)
+    omega (arith, length-append (file_rows (shown_file (file_view_of s k f))) (files_rows (map shown_file (file_views_of s commit (suc i) fs))), file-few (file_view_of s k f), sizes-same s (totals_of f.sections) k 0 0 0 f.sections, files-few s commit (suc i) fs, sum_by-cons file_size f fs)
 
 -- ---- an accepted state
 
