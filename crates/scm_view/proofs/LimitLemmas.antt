@@ -9,6 +9,7 @@ use Rattle.std.proofs.lemmas.List.Sums.{sum_by-cons}
 use Rattle.std.proofs.lemmas.List.{length-take}
 use Rattle.std.proofs.lemmas.Str.{length-encode, len_utf8_bounds}
 use Rattle.std.proofs.lemmas.Bool.Decides.{nat_tests}
+use Rattle.std.proofs.lemmas.Bool.{cond_both}
 use Rattle.scm_types.proofs.LimitLemmas.{items_room, scroll_room}
 use Rattle.scm_types.specs.declared.file.File.{File}
 use Rattle.scm_types.specs.declared.line.SectionChangedLine.{SectionChangedLine}
@@ -261,17 +262,13 @@ context-narrow v ls h = go (length ls == 0)
     go true = (tt, tt)
     go false = shown
 
-some-narrow : (b : Bool) (rs : List DocRow) → AreNarrow rs → AreNarrow (if b then rs else [])
-some-narrow true rs h = h
-some-narrow false rs h = tt
-
 pub heading-narrow : (h : Heading) → IsNarrow (h.title ∷ []) → IsNarrowHeading h
 heading-narrow h w = record { toggle = box-narrow h.toggle; fold = box-narrow h.fold; title = w }
 
 pub rows-narrow : (v : SectionView) (section : Section) → has_short_texts section ≡ true → AreNarrow (rows_of v section)
 rows-narrow v (Unchanged ls) h = context-narrow v ls h
 rows-narrow v (Changed ls) h =
-    (heading-narrow (section_heading v) (section-narrow v.editable_section_num v.total_num_editable_sections), some-narrow (is_fold_open v.expand_box) (changed_rows v 0 ls) (changed-narrow v 0 ls h))
+    (heading-narrow (section_heading v) (section-narrow v.editable_section_num v.total_num_editable_sections), cond_both (is_fold_open v.expand_box) (changed_rows v 0 ls) [] AreNarrow (λ _. changed-narrow v 0 ls h) (λ _. tt))
 rows-narrow v (FileMode checked m) h = ((box-narrow (section_box v checked), mode-narrow m), tt)
 rows-narrow v (Binary checked old new) h = ((box-narrow (section_box v checked), binary-narrow old new (first_true (is_short_option old) (is_short_option new) h) (second_true (is_short_option old) (is_short_option new) h)), tt)
 
@@ -295,15 +292,11 @@ sections-narrow before [] h = tt
 sections-narrow before (v ∷ vs) h =
     sections-append (shown_section _ v) _ (shown-narrow _ v (first_true (texts_of v) (list_all texts_of vs) h)) (sections-narrow (is_open v) vs (second_true (texts_of v) (list_all texts_of vs) h))
 
-pub shown_if-narrow : (b : Bool) (ps : List ShownSection) → AreNarrowSections ps → AreNarrowSections (if b then ps else [])
-shown_if-narrow true ps h = h
-shown_if-narrow false ps h = tt
-
 pub file-narrow : (v : FileView) → is_short_option (lent_text v.old_path) ≡ true → is_short_text v.path.now ≡ true → list_all texts_of v.section_views ≡ true → IsNarrowFile (shown_file v)
 unfolding shown_file
 file-narrow v old path texts = record {
   heading = heading-narrow (shown_file v).heading (path-narrow (lent_text v.old_path) v.path.now old path);
-  sections = shown_if-narrow (is_fold_open v.expand_box) (shown_sections false v.section_views) (sections-narrow false v.section_views texts);
+  sections = cond_both (is_fold_open v.expand_box) (shown_sections false v.section_views) [] AreNarrowSections (λ _. sections-narrow false v.section_views texts) (λ _. tt);
 }
 
 texts-same : (s : ViewState) (totals : Totals) (k : FileKey) (i editable line : ℕ) (sections : List Section) → list_all texts_of (section_views_of s totals k i editable line sections) ≡ list_all has_short_texts sections

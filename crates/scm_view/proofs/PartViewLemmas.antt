@@ -1,8 +1,8 @@
 -- Painting a view of a document on a cleared screen leaves the document's window; what is drawn of a part of a session is in range.
-use Rattle.std.proofs.Common.{◌≡◌, ℕ, zero, suc, ◌+◌, ◌-◌, ◌<◌, ◌≤◌, Bool, true, false, List, [], ◌∷◌, ◌++◌, length, take, drop, replicate, refl, sym, ap, ap₂, subst, ◌∙◌, arith, ⊎_elim}
-use Rattle.std.specs.Prelude.{pos, ◌+ℤ◌, Option, None, if◌then◌else◌}
+use Rattle.std.proofs.Common.{◌≡◌, ℕ, zero, suc, ◌+◌, ◌-◌, ◌<◌, ◌≤◌, Bool, true, List, [], ◌∷◌, ◌++◌, length, take, drop, replicate, refl, sym, ap, ap₂, subst, ◌∙◌, arith, ⊎_elim}
+use Rattle.std.specs.Prelude.{pos, ◌+ℤ◌, Option, None}
 use Rattle.std.proofs.lemmas.Int.{ints}
-use Rattle.std.proofs.lemmas.Bool.{cases_lt}
+use Rattle.std.proofs.lemmas.Bool.{cases_lt, cond_both}
 use Rattle.scm_types.specs.Limits.{is_accepted_state, max_scroll}
 use Rattle.scm_cells.specs.declared.rect.Rect.{Rect}
 use Rattle.scm_render.specs.Canvas.{Row, under, paint, paint_rows}
@@ -156,12 +156,8 @@ narrow-from i a [] n = tt
 narrow-from zero a (f ∷ fs) n = (record { heading = n.0.heading; sections = narrow-drop a f.sections n.0.sections }, n.1)
 narrow-from (suc i) a (f ∷ fs) n = narrow-from i a fs n.1
 
-narrow-message : (b : Bool) (m : Option (List ℕ)) → IsNarrowMessage m → IsNarrowMessage (if b then m else None)
-narrow-message true m n = n
-narrow-message false m n = tt
-
 part-narrow : (p : DocumentPart) (d : Document) → IsNarrowDocument d → IsNarrowDocument (part_of p d)
-part-narrow p d n = record { message = narrow-message p.has_message d.message n.message; files = narrow-from p.first_file p.first_section (files_to p.last_file p.end_section d.files) (narrow-to p.last_file p.end_section d.files n.files) }
+part-narrow p d n = record { message = cond_both p.has_message d.message None IsNarrowMessage (λ _. n.message) (λ _. tt); files = narrow-from p.first_file p.first_section (files_to p.last_file p.end_section d.files) (narrow-to p.last_file p.end_section d.files n.files) }
 
 pub part-few : (p : DocumentPart) (d : Document) → length (files_rows (part_of p d).files) ≤ length (files_rows d.files)
 part-few p d = omega (arith, less-from p.first_file p.first_section (files_to p.last_file p.end_section d.files), less-to p.last_file p.end_section d.files)
