@@ -1,6 +1,6 @@
 -- A toggle changes marks alone: without their marks, the files before and after it are the same.
 use Rattle.std.proofs.Common.{◌≡◌, ℕ, Bool, true, false, not, List, [], ◌∷◌, ◌&&◌, ◌+◌, map, slice_get, Option, Some, None, cond, sym, ap, ◌∙◌, refl}
-use Rattle.std.specs.Prelude.{option_and_then, count_by}
+use Rattle.std.specs.Prelude.{option_and_then, count_by, sum_by}
 use Rattle.scm_types.specs.declared.file_mode.FileMode.{FileMode}
 use Rattle.scm_types.specs.declared.section.Section.{Section}
 use Rattle.scm_types.specs.declared.section.Section.TheVariants as sections
@@ -140,15 +140,18 @@ inverted-hidden files =
 
 -- ---- what sections have in common that are the same without their marks
 
-count-mapped : {A : Type 0} (p : A → Bool) (v : A → A) → ((x : A) → p (v x) ≡ p x) → (xs : List A) → count_by p (map v xs) ≡ count_by p xs
-count-mapped p v same [] = refl
-count-mapped p v same (x ∷ xs) =
-    sum_by-cons (λ y. cond (p y) 1 0) (v x) (map v xs)
-    ∙ ap (λ b. cond b 1 0 + count_by p (map v xs)) (same x)
-    ∙ ap (λ n. cond (p x) 1 0 + n) (count-mapped p v same xs)
-    ∙ sym (sum_by-cons (λ y. cond (p y) 1 0) x xs)
+pub sum-mapped : {A : Type 0} (n : A → ℕ) (v : A → A) → ((x : A) → n (v x) ≡ n x) → (xs : List A) → sum_by n (map v xs) ≡ sum_by n xs
+sum-mapped n v same [] = refl
+sum-mapped n v same (x ∷ xs) =
+    sum_by-cons n (v x) (map v xs)
+    ∙ ap (λ m. m + sum_by n (map v xs)) (same x)
+    ∙ ap (λ m. n x + m) (sum-mapped n v same xs)
+    ∙ sym (sum_by-cons n x xs)
 
-items-bare : (s : Section) → items_in (bare_section s) ≡ items_in s
+count-mapped : {A : Type 0} (p : A → Bool) (v : A → A) → ((x : A) → p (v x) ≡ p x) → (xs : List A) → count_by p (map v xs) ≡ count_by p xs
+count-mapped p v same xs = sum-mapped (λ y. cond (p y) 1 0) v (λ x. ap (λ b. cond b 1 0) (same x)) xs
+
+pub items-bare : (s : Section) → items_in (bare_section s) ≡ items_in s
 items-bare (sections.Changed lines) = simp length-map refl
 items-bare _ = refl
 
@@ -156,11 +159,11 @@ old_lines-bare : (s : Section) → old_lines (bare_section s) ≡ old_lines s
 old_lines-bare (sections.Changed lines) = count-mapped is_removed (line_with_mark (λ _. false)) (λ l. refl) lines
 old_lines-bare _ = refl
 
-size-bare : (s : Section) → section_size (bare_section s) ≡ section_size s
+pub size-bare : (s : Section) → section_size (bare_section s) ≡ section_size s
 size-bare (sections.Changed lines) = length-map lines (line_with_mark (λ _. false))
 size-bare _ = refl
 
-editable-bare : (s : Section) → is_editable_section (bare_section s) ≡ is_editable_section s
+pub editable-bare : (s : Section) → is_editable_section (bare_section s) ≡ is_editable_section s
 editable-bare (sections.Unchanged lines) = refl
 editable-bare _ = refl
 
@@ -184,9 +187,6 @@ module _ (s t : Section) (e : bare_section s ≡ bare_section t) where
 
   pub old_lines-same : old_lines s ≡ old_lines t
   old_lines-same = sym (old_lines-bare s) ∙ ap (λ u. old_lines u) e ∙ old_lines-bare t
-
-  pub size-same : section_size s ≡ section_size t
-  size-same = sym (size-bare s) ∙ ap (λ u. section_size u) e ∙ size-bare t
 
   pub editable-same : is_editable_section s ≡ is_editable_section t
   editable-same = sym (editable-bare s) ∙ ap (λ u. is_editable_section u) e ∙ editable-bare t

@@ -15,13 +15,13 @@ use Rattle.scm_types.specs.Marks.{checked_count, file_marks, is_editable_section
 use Rattle.scm_types.specs.Mode.{is_absent}
 use Rattle.scm_types.specs.Repair.{with_deletion_unchecked, with_mode_checked}
 use Rattle.scm_types.proofs.EditLemmas.{map-modify-same}
-use Rattle.scm_selection.specs.Toggle.{after_lines, line_mark, with_line_inverted, with_line_toggled}
+use Rattle.scm_selection.specs.Toggle.{after_lines, line_mark, with_line_alone_inverted, with_line_inverted, with_line_toggled}
 use Rattle.scm_rows.specs.Lines.{is_removed, old_lines}
 use Rattle.scm_layout.specs.declared.section_counts.SectionCounts.{SectionCounts}
 use Rattle.scm_layout.specs.declared.file_counts.FileCounts.{FileCounts}
 use Rattle.scm_layout.specs.Counts.{checked_in, editable_after, file_counts, items_in, modes_in, section_counts, sections_counts}
 use Rattle.scm_layout.specs.Recounts.{AreCountsButLine, AreCountsButMarks, checked_after_mark, may_follow, recounted, remarked, stepped, total_checked, total_items, with_file_line_counted, with_line_counted, with_sections, zipped}
-use Rattle.scm_layout.proofs.BareLemmas.{after_lines-hidden, bare, bare_file, bare_section, editable-same, editables-same, items-same, line-hidden, modes-same, old_lines-same, size-same, deletion-hidden, mode-hidden}
+use Rattle.scm_layout.proofs.BareLemmas.{after_lines-hidden, bare, bare_file, bare_section, editable-same, editables-same, items-bare, items-same, line-hidden, modes-same, old_lines-same, size-bare, sum-mapped, deletion-hidden, mode-hidden}
 use Rattle.scm_layout.proofs.ModeLemmas.{after_lines-kept}
 
 -- ---- the items of a section
@@ -109,9 +109,6 @@ old_lines-fit_file file = omega (arith, old_lines-fit file.sections)
 
 -- ---- what files have in common that are the same without their marks
 
-length-same : (ss ts : List Section) → bare ss ≡ bare ts → length ss ≡ length ts
-length-same ss ts e = sym (length-map ss bare_section) ∙ ap (λ us. length us) e ∙ length-map ts bare_section
-
 pub head-same : {A B : Type 0} (f : A → B) (x y : A) (xs ys : List A) → map f (x ∷ xs) ≡ map f (y ∷ ys) → f x ≡ f y
 head-same f x y xs ys e = cc
 
@@ -121,37 +118,31 @@ tail-same f x y xs ys e = cc
 pub none-same : {A B : Type 0} {C : Type 0} (f : A → B) (x : A) (xs : List A) → map f [] ≡ map f (x ∷ xs) → C
 none-same f x xs e = absurd cc
 
-lengths-same : (ss ts : List Section) → bare ss ≡ bare ts → length (marks ss) ≡ length (marks ts)
-lengths-same [] [] e = refl
-lengths-same [] (t ∷ ts) e = none-same bare_section t ts e
-lengths-same (s ∷ ss) [] e = none-same bare_section s ss (sym e)
-lengths-same (s ∷ ss) (t ∷ ts) e =
-    length-append (section_marks s) (marks ss)
-    ∙ ap (λ n. n + length (marks ss)) (items-same s t (head-same bare_section s t ss ts e))
-    ∙ ap (λ n. items_in t + n) (lengths-same ss ts (tail-same bare_section s t ss ts e))
-    ∙ sym (length-append (section_marks t) (marks ts))
+lengths-bare : (ss : List Section) → length (marks (bare ss)) ≡ length (marks ss)
+lengths-bare [] = refl
+lengths-bare (s ∷ ss) =
+    length-append (section_marks (bare_section s)) (marks (bare ss))
+    ∙ ap (λ n. n + length (marks (bare ss))) (items-bare s)
+    ∙ ap (λ n. items_in s + n) (lengths-bare ss)
+    ∙ sym (length-append (section_marks s) (marks ss))
 
-sizes-same : (ss ts : List Section) → bare ss ≡ bare ts → sum_by section_size ss ≡ sum_by section_size ts
-sizes-same [] [] e = refl
-sizes-same [] (t ∷ ts) e = none-same bare_section t ts e
-sizes-same (s ∷ ss) [] e = none-same bare_section s ss (sym e)
-sizes-same (s ∷ ss) (t ∷ ts) e =
-    sum_by-cons section_size s ss
-    ∙ ap (λ n. n + sum_by section_size ss) (size-same s t (head-same bare_section s t ss ts e))
-    ∙ ap (λ n. section_size t + n) (sizes-same ss ts (tail-same bare_section s t ss ts e))
-    ∙ sym (sum_by-cons section_size t ts)
+lengths-same : (ss ts : List Section) → bare ss ≡ bare ts → length (marks ss) ≡ length (marks ts)
+lengths-same ss ts e = sym (lengths-bare ss) ∙ ap (λ us. length (marks us)) e ∙ lengths-bare ts
 
 -- the sections of files that are the same without their marks
 pub sections-same : (f g : File) → bare_file f ≡ bare_file g → bare f.sections ≡ bare g.sections
 sections-same f g e = ap (λ (h : File). h.sections) e
 
 pub file_length-same : (f g : File) → bare_file f ≡ bare_file g → length f.sections ≡ length g.sections
-file_length-same f g e = length-same f.sections g.sections (sections-same f g e)
+file_length-same f g e = sym (length-map f.sections bare_section) ∙ ap (λ (h : File). length h.sections) e ∙ length-map g.sections bare_section
 
-pub file_size-same : (f g : File) → bare_file f ≡ bare_file g → file_size f ≡ file_size g
-file_size-same f g e =
-    ap (λ n. n + sum_by section_size f.sections) (file_length-same f g e)
-    ∙ ap (λ n. length g.sections + n) (sizes-same f.sections g.sections (sections-same f g e))
+pub file_size-bare : (f : File) → file_size (bare_file f) ≡ file_size f
+file_size-bare f =
+    ap (λ n. n + sum_by section_size (bare f.sections)) (length-map f.sections bare_section)
+    ∙ ap (λ n. length f.sections + n) (sum-mapped section_size bare_section size-bare f.sections)
+
+file_size-same : (f g : File) → bare_file f ≡ bare_file g → file_size f ≡ file_size g
+file_size-same f g e = sym (file_size-bare f) ∙ ap (λ (h : File). file_size h) e ∙ file_size-bare g
 
 pub length-sections_counts : (editable lines : ℕ) (ss : List Section) → length (sections_counts editable lines ss) ≡ length ss
 unfolding sections_counts
@@ -311,15 +302,11 @@ sections-line checked editable lines (s ∷ ss) zero line h =
 sections-line checked editable lines (s ∷ ss) (suc section) line h =
     ap (λ cs. section_counts editable lines s ∷ cs) (sections-line checked (editable_after editable s) (lines + old_lines s) ss section line h)
 
--- the file with a line inverted, without the marks that follow
-abbrev with_this_line : ℕ → ℕ → File → File
-with_this_line section line f = record f { sections = modify (with_line_inverted line) f.sections section }
-
 this_line-hidden : (section line : ℕ) (ss : List Section) → bare (modify (with_line_inverted line) ss section) ≡ bare ss
 this_line-hidden section line ss = map-modify-same bare_section (with_line_inverted line) ss section (line-hidden line)
 
 line-counted : (checked : Bool) (section line : ℕ) (f : File) → mark_at section line f.sections ≡ Some (not checked)
-    → with_file_line_counted checked section (file_counts f) ≡ file_counts (with_this_line section line f)
+    → with_file_line_counted checked section (file_counts f) ≡ file_counts (with_line_alone_inverted section line f)
 line-counted checked section line f h =
     let ss = f.sections in
     let ts = modify (with_line_inverted line) ss section in
@@ -391,14 +378,14 @@ follow-is checked f false e = ap (λ (ss : List Section). file_counts (record f 
 -- ---- a file counted after a line was toggled
 
 toggled-line : (section line : ℕ) (f : File) (checked : Bool) → mark_at section line f.sections ≡ Some (not checked)
-    → with_line_toggled section line f ≡ followed checked (with_this_line section line f)
+    → with_line_toggled section line f ≡ followed checked (with_line_alone_inverted section line f)
 toggled-line section line f true h = rw h refl
 toggled-line section line f false h = rw h refl
 
 module _ (c : FileCounts) (g : File) (section : ℕ) (checked : Bool) (h : AreCountsButLine c g section checked) where
   -- the file with the line inverted, without the marks that follow
   abbrev between : File
-  between = with_this_line section h.line h.before
+  between = with_line_alone_inverted section h.line h.before
 
   after-is : g ≡ followed checked between
   after-is = h.after ∙ toggled-line section h.line h.before checked h.mark

@@ -29,7 +29,7 @@ pub record AgreeOn (ks ls : List SelectionKey) (k : FileKey) : Type 0 where
   pub sections : (i : ℕ) → is_expanded ks k i ≡ is_expanded ls k i
 
 -- the rows of a file by their numbers
-abbrev rows_with : ℕ → ℕ → List SectionRows → FileRows
+abbrev pub rows_with : ℕ → ℕ → List SectionRows → FileRows
 rows_with height folded sections = record { top = 0; end = height; folded = folded; sections = sections }
 
 file-agree : (ks ls : List SelectionKey) (k : FileKey) (f : File) → AgreeOn ks ls k → file_rows ks k f ≡ file_rows ls k f
