@@ -5,6 +5,7 @@ use Rattle.scm_cells.specs.Rect.{end_x_of}
 use Rattle.std.specs.Prelude.{min, ◌&&◌, if◌then◌else◌, nat_le, codes, Option, Some, None, sum_by}
 use Rattle.std.specs.List.{list_all}
 use Rattle.std.proofs.Math.Nat.{div-le_self}
+use Rattle.std.proofs.lemmas.Bool.{and_parts}
 use Rattle.scm_types.specs.Limits.{is_short_text, is_short_option, section_size}
 use Rattle.scm_cells.specs.Clusters.{text_width}
 use Rattle.scm_cells.proofs.BoundLemmas.{text_width-le}
@@ -53,7 +54,7 @@ use Rattle.scm_document.proofs.Near.{SightIsNear, AreNarrowFiles}
 use Rattle.scm_overlay.proofs.Ranges.{button_columns}
 use Rattle.scm_document.proofs.NearLemmas.{heading-in, changed-in, context-in, rows-near, file-near, message-near, document-near, still-near}
 use Rattle.scm_view.proofs.AppRangeLemmas.{few-views}
-use Rattle.scm_view.proofs.LimitLemmas.{first_true, second_true, short, box-narrow, line-narrow, length-sign, length-number, path-narrow, heading-narrow, message-narrow, rows-narrow, shown-few, file-few, file-narrow, size_of}
+use Rattle.scm_view.proofs.LimitLemmas.{short, box-narrow, line-narrow, length-sign, length-number, path-narrow, heading-narrow, message-narrow, rows-narrow, shown-few, file-few, file-narrow, size_of}
 use Rattle.scm_overlay.proofs.RangeLemmas.{IsFewItems, menu-here, bar-here, dialog-here}
 use Rattle.scm_overlay.proofs.FixedLemmas.{short_quit, short_help}
 
@@ -163,12 +164,12 @@ items-wide : (ts : List MenuItem) → list_all is_short_item ts ≡ true → wid
 unfolding widest_item
 items-wide [] h = omega arith
 items-wide (t ∷ ts) h =
-    omega (arith, button-wide (item_button 0 t) (first_true (is_short_item t) (list_all is_short_item ts) h), items-wide ts (second_true (is_short_item t) (list_all is_short_item ts) h))
+    omega (arith, button-wide (item_button 0 t) (and_parts (is_short_item t) (list_all is_short_item ts) h).0, items-wide ts (and_parts (is_short_item t) (list_all is_short_item ts) h).1)
 
 menu-items : (m : Menu) → is_short_menu m ≡ true → (widest_item m.items ≤ 5000000) × (length m.items ≤ 1000)
 menu-items m h =
-    let rest = second_true (is_short_text m.label) (nat_le (length m.items) 1000 && list_all is_short_item m.items) h in
-    (items-wide m.items (second_true (nat_le (length m.items) 1000) (list_all is_short_item m.items) rest), few (length m.items) (first_true (nat_le (length m.items) 1000) (list_all is_short_item m.items) rest))
+    let rest = (and_parts (is_short_text m.label) (nat_le (length m.items) 1000 && list_all is_short_item m.items) h).1 in
+    (items-wide m.items (and_parts (nat_le (length m.items) 1000) (list_all is_short_item m.items) rest).1, few (length m.items) (and_parts (nat_le (length m.items) 1000) (list_all is_short_item m.items) rest).0)
 
 menu-in : (m : Menu) (s : Sight) (x y : ℤ) → IsInDrawBounds x → IsInDrawBounds y → is_short_menu m ≡ true → PictureInRange (menu_picture m.items s x y)
 menu-in m s x y p q h =
@@ -176,26 +177,26 @@ menu-in m s x y p q h =
     menu-here s x y m.items p.low (omega (arith, places, p.high)) q.low (omega (arith, places, q.high)) (omega (arith, items.0)) (omega (arith, items.1))
 
 header-wide : (m : Menu) → is_short_menu m ≡ true → header_step m ≤ 5000001
-header-wide m h = omega (arith, button-wide (header_button 0 m) (first_true (is_short_text m.label) (nat_le (length m.items) 1000 && list_all is_short_item m.items) h))
+header-wide m h = omega (arith, button-wide (header_button 0 m) (and_parts (is_short_text m.label) (nat_le (length m.items) 1000 && list_all is_short_item m.items) h).0)
 
 headers-wide : (ms : List Menu) → list_all is_short_menu ms ≡ true → headers_width ms ≤ 5000001 * length ms
 unfolding headers_width
 headers-wide [] h = omega arith
 headers-wide (m ∷ ms) h =
-    omega (arith, header-wide m (first_true (is_short_menu m) (list_all is_short_menu ms) h), headers-wide ms (second_true (is_short_menu m) (list_all is_short_menu ms) h))
+    omega (arith, header-wide m (and_parts (is_short_menu m) (list_all is_short_menu ms) h).0, headers-wide ms (and_parts (is_short_menu m) (list_all is_short_menu ms) h).1)
 
 opened-few : (c : ℕ) (ms : List Menu) (k : Option ℕ) → list_all is_short_menu ms ≡ true → c + headers_width ms ≤ 2 ^ 50 → IsFewItems (open_menu_with_column c ms k)
 unfolding open_menu_with_column headers_width
 opened-few c (m ∷ ms) (Some zero) h w =
-    let items = menu-items m (first_true (is_short_menu m) (list_all is_short_menu ms) h) in
+    let items = menu-items m (and_parts (is_short_menu m) (list_all is_short_menu ms) h).0 in
     (omega (arith, w), (omega (arith, items.0), omega (arith, items.1)))
-opened-few c (m ∷ ms) (Some (suc k)) h w = opened-few (c + header_step m) ms (Some k) (second_true (is_short_menu m) (list_all is_short_menu ms) h) (omega (arith, w))
+opened-few c (m ∷ ms) (Some (suc k)) h w = opened-few (c + header_step m) ms (Some k) (and_parts (is_short_menu m) (list_all is_short_menu ms) h).1 (omega (arith, w))
 opened-few c _ _ h w = tt
 
 bar-in : (b : MenuBar) (s : Sight) (x y : ℤ) → RectIsInDrawBounds s.rect → IsInDrawBounds x → IsInDrawBounds y → is_short_bar b ≡ true → PictureInRange (menu_bar_picture b s x y)
 bar-in b s x y r p q h =
-    let menus = second_true (nat_le (length b.menus) 1000) (list_all is_short_menu b.menus) h in
-    let count = few (length b.menus) (first_true (nat_le (length b.menus) 1000) (list_all is_short_menu b.menus) h) in
+    let menus = (and_parts (nat_le (length b.menus) 1000) (list_all is_short_menu b.menus) h).1 in
+    let count = few (length b.menus) (and_parts (nat_le (length b.menus) 1000) (list_all is_short_menu b.menus) h).0 in
     let wide = headers-wide b.menus menus in
     bar-here b s x y r p q (omega (arith, wide, count)) (opened-few 0 b.menus b.expanded_menu_idx menus (omega (arith, wide, count)))
 
@@ -205,11 +206,11 @@ columns-few : (bs : List (Button ComponentId)) → list_all is_short_button bs �
 unfolding button_columns
 columns-few [] h = omega arith
 columns-few (b ∷ bs) h =
-    omega (arith, button-wide b (first_true (is_short_button b) (list_all is_short_button bs) h), columns-few bs (second_true (is_short_button b) (list_all is_short_button bs) h))
+    omega (arith, button-wide b (and_parts (is_short_button b) (list_all is_short_button bs) h).0, columns-few bs (and_parts (is_short_button b) (list_all is_short_button bs) h).1)
 
 buttons-few : (bs : List (Button ComponentId)) → are_short_buttons bs ≡ true → button_columns bs ≤ 2 ^ 50
 buttons-few bs h =
-    omega (arith, columns-few bs (second_true (nat_le (length bs) 1000) (list_all is_short_button bs) h), few (length bs) (first_true (nat_le (length bs) 1000) (list_all is_short_button bs) h))
+    omega (arith, columns-few bs (and_parts (nat_le (length bs) 1000) (list_all is_short_button bs) h).1, few (length bs) (and_parts (nat_le (length bs) 1000) (list_all is_short_button bs) h).0)
 
 quit-here : (q : QuitDialog) (s : Sight) → RectIsInDrawBounds s.rect → PictureInRange (named_dialog_picture (quit_dialog q) s)
 unfolding named_dialog_picture

@@ -61,7 +61,7 @@ use Rattle.scm_widgets.proofs.ButtonLemmas.{no-owner}
 use Rattle.scm_document.proofs.DocumentLemmas.{length-message}
 use Rattle.scm_view.proofs.DocumentOwnerLemmas.{message-cell}
 use Rattle.scm_overlay.proofs.OverlayLemmas.{owned-append}
-use Rattle.scm_view.proofs.LimitLemmas.{session-few}
+use Rattle.scm_view.proofs.LimitLemmas.{few-rows}
 use Rattle.scm_view.proofs.SessionLemmas.{session-ids}
 use Rattle.scm_document.proofs.ViewPieceLemmas.{file-strips-length, owner_of, upper, lower, files-owned, file-height}
 use Rattle.scm_document.proofs.PieceLemmas.{files-places}
@@ -225,7 +225,7 @@ files-rows-height (v ∷ vs) = length-append (file_rows (shown_file v)) (files_r
 
 pub index-few : (shown : ViewState) (v : CommitView) → is_accepted_state shown.state ≡ true → Shows v shown 0 → 1 + message_height (document_of v).message + files_height v.file_views < 2 ^ 62
 index-few shown v a shows =
-    let few = session-few shown 0 v a shows in
+    let few = few-rows shown 0 v a shows in
     let size = files-rows-height v.file_views in
     let message = message-le (document_of v).message in
     omega (arith, few, size, message)

@@ -9,7 +9,7 @@ use Rattle.std.proofs.lemmas.List.Sums.{sum_by-cons}
 use Rattle.std.proofs.lemmas.List.{length-take}
 use Rattle.std.proofs.lemmas.Str.{length-encode, len_utf8_bounds}
 use Rattle.std.proofs.lemmas.Bool.Decides.{nat_tests}
-use Rattle.std.proofs.lemmas.Bool.{cond_both}
+use Rattle.std.proofs.lemmas.Bool.{cond_both, and_parts, leb-true}
 use Rattle.scm_types.proofs.LimitLemmas.{items_room, scroll_room}
 use Rattle.scm_types.specs.declared.file.File.{File}
 use Rattle.scm_types.specs.declared.line.SectionChangedLine.{SectionChangedLine}
@@ -59,25 +59,14 @@ use Rattle.scm_document.specs.declared.file_view.FileView.{FileView}
 
 -- ---- tests that pass
 
-pub first_true : (a b : Bool) → (a && b) ≡ true → a ≡ true
-first_true true b h = refl
-first_true false b h = absurd (cc h)
-
-pub second_true : (a b : Bool) → (a && b) ≡ true → b ≡ true
-second_true true b h = h
-second_true false b h = absurd (cc h)
-
-within : (n m : ℕ) → nat_le n m ≡ true → n ≤ m
-within n m h = grind (arith, h)
-
 all-take : {X : Type 0} (p : X → Bool) (n : ℕ) (xs : List X) → list_all p xs ≡ true → list_all p (take n xs) ≡ true
-all-take p (suc n) (x ∷ xs) h = rw (first_true (p x) (list_all p xs) h) (all-take p n xs (second_true (p x) (list_all p xs) h))
+all-take p (suc n) (x ∷ xs) h = rw (and_parts (p x) (list_all p xs) h).0 (all-take p n xs (and_parts (p x) (list_all p xs) h).1)
 all-take p _ _ h = refl
 
 all-drop : {X : Type 0} (p : X → Bool) (n : ℕ) (xs : List X) → list_all p xs ≡ true → list_all p (drop n xs) ≡ true
 all-drop p zero xs h = h
 all-drop p (suc n) [] h = refl
-all-drop p (suc n) (x ∷ xs) h = all-drop p n xs (second_true (p x) (list_all p xs) h)
+all-drop p (suc n) (x ∷ xs) h = all-drop p n xs (and_parts (p x) (list_all p xs) h).1
 
 -- ---- lengths of texts
 
@@ -176,7 +165,7 @@ mode-narrow (mode.Unix bits) = narrow-one (mode_change_text (mode.Unix bits)) (o
 mode-narrow mode.Absent = narrow-one (mode_change_text mode.Absent) (omega arith)
 
 pub short : (t : List ℕ) → is_short_text t ≡ true → length t ≤ max_text
-short t h = within (length t) max_text h
+short t h = leb-true (length t) max_text h
 
 binary-narrow : (old new : Option (List ℕ)) → is_short_option old ≡ true → is_short_option new ≡ true → IsNarrow (binary_text old new ∷ [])
 binary-narrow (Some old) (Some new) p q =
@@ -232,16 +221,16 @@ numbered-narrow : (v : SectionView) (i : ℕ) (ls : List (List ℕ)) → list_al
 unfolding numbered_rows
 numbered-narrow v i [] h = tt
 numbered-narrow v i (l ∷ ls) h = (
-  line-narrow (number_text (line_number v.line_start_num i)) l (length-number (line_number v.line_start_num i)) (first_true (is_short_text l) (list_all is_short_text ls) h),
-  numbered-narrow v (suc i) ls (second_true (is_short_text l) (list_all is_short_text ls) h),
+  line-narrow (number_text (line_number v.line_start_num i)) l (length-number (line_number v.line_start_num i)) (and_parts (is_short_text l) (list_all is_short_text ls) h).0,
+  numbered-narrow v (suc i) ls (and_parts (is_short_text l) (list_all is_short_text ls) h).1,
 )
 
 changed-narrow : (v : SectionView) (i : ℕ) (ls : List SectionChangedLine) → list_all (λ (l : SectionChangedLine). is_short_text l.line) ls ≡ true → AreNarrow (changed_rows v i ls)
 unfolding changed_rows
 changed-narrow v i [] h = tt
 changed-narrow v i (l ∷ ls) h = (
-  (box-narrow (line_box v i l.is_checked), line-narrow (sign_text l.change_type) l.line (length-sign l.change_type) (first_true (is_short_text l.line) (list_all (λ (k : SectionChangedLine). is_short_text k.line) ls) h)),
-  changed-narrow v (suc i) ls (second_true (is_short_text l.line) (list_all (λ (k : SectionChangedLine). is_short_text k.line) ls) h),
+  (box-narrow (line_box v i l.is_checked), line-narrow (sign_text l.change_type) l.line (length-sign l.change_type) (and_parts (is_short_text l.line) (list_all (λ (k : SectionChangedLine). is_short_text k.line) ls) h).0),
+  changed-narrow v (suc i) ls (and_parts (is_short_text l.line) (list_all (λ (k : SectionChangedLine). is_short_text k.line) ls) h).1,
 )
 
 dots_row-narrow : (b : Bool) (v : SectionView) → AreNarrow (if b then DotsRow (dots_text v.use_unicode) ∷ [] else [])
@@ -270,7 +259,7 @@ rows-narrow v (Unchanged ls) h = context-narrow v ls h
 rows-narrow v (Changed ls) h =
     (heading-narrow (section_heading v) (section-narrow v.editable_section_num v.total_num_editable_sections), cond_both (is_fold_open v.expand_box) (changed_rows v 0 ls) [] AreNarrow (λ _. changed-narrow v 0 ls h) (λ _. tt))
 rows-narrow v (FileMode checked m) h = ((box-narrow (section_box v checked), mode-narrow m), tt)
-rows-narrow v (Binary checked old new) h = ((box-narrow (section_box v checked), binary-narrow old new (first_true (is_short_option old) (is_short_option new) h) (second_true (is_short_option old) (is_short_option new) h)), tt)
+rows-narrow v (Binary checked old new) h = ((box-narrow (section_box v checked), binary-narrow old new (and_parts (is_short_option old) (is_short_option new) h).0 (and_parts (is_short_option old) (is_short_option new) h).1), tt)
 
 -- ---- narrow sections and files
 
@@ -290,7 +279,7 @@ sections-narrow : (before : Bool) (vs : List SectionView) → list_all texts_of 
 unfolding shown_sections
 sections-narrow before [] h = tt
 sections-narrow before (v ∷ vs) h =
-    sections-append (shown_section _ v) _ (shown-narrow _ v (first_true (texts_of v) (list_all texts_of vs) h)) (sections-narrow (is_open v) vs (second_true (texts_of v) (list_all texts_of vs) h))
+    sections-append (shown_section _ v) _ (shown-narrow _ v (and_parts (texts_of v) (list_all texts_of vs) h).0) (sections-narrow (is_open v) vs (and_parts (texts_of v) (list_all texts_of vs) h).1)
 
 pub file-narrow : (v : FileView) → is_short_option (lent_text v.old_path) ≡ true → is_short_text v.path.now ≡ true → list_all texts_of v.section_views ≡ true → IsNarrowFile (shown_file v)
 unfolding shown_file
@@ -307,9 +296,9 @@ texts-same s totals k i editable line (section ∷ more) =
 
 session-file : (s : ViewState) (k : FileKey) (f : File) → has_short_texts_in_file f ≡ true → IsNarrowFile (shown_file (file_view_of s k f))
 session-file s k f h =
-    let paths = first_true (is_short_option f.old_path && is_short_text f.path) (list_all has_short_texts f.sections) h in
-    let texts = second_true (is_short_option f.old_path && is_short_text f.path) (list_all has_short_texts f.sections) h in
-    file-narrow (file_view_of s k f) (old f.old_path (first_true (is_short_option f.old_path) (is_short_text f.path) paths)) (second_true (is_short_option f.old_path) (is_short_text f.path) paths)
+    let paths = (and_parts (is_short_option f.old_path && is_short_text f.path) (list_all has_short_texts f.sections) h).0 in
+    let texts = (and_parts (is_short_option f.old_path && is_short_text f.path) (list_all has_short_texts f.sections) h).1 in
+    file-narrow (file_view_of s k f) (old f.old_path (and_parts (is_short_option f.old_path) (is_short_text f.path) paths).0) (and_parts (is_short_option f.old_path) (is_short_text f.path) paths).1
     (texts-same s (totals_of f.sections) k 0 0 0 f.sections ∙ texts)
   where
     old : (o : Option (List ℕ)) → is_short_option o ≡ true → is_short_option (option_map (λ b. b.now) (option_map borrow_of o)) ≡ true
@@ -320,7 +309,7 @@ files-narrow : (s : ViewState) (commit i : ℕ) (fs : List File) → list_all ha
 unfolding file_views_of
 files-narrow s commit i [] h = tt
 files-narrow s commit i (f ∷ fs) h =
-    (session-file s (record { commit_idx = commit; file_idx = i }) f (first_true (has_short_texts_in_file f) (list_all has_short_texts_in_file fs) h), files-narrow s commit (suc i) fs (second_true (has_short_texts_in_file f) (list_all has_short_texts_in_file fs) h))
+    (session-file s (record { commit_idx = commit; file_idx = i }) f (and_parts (has_short_texts_in_file f) (list_all has_short_texts_in_file fs) h).0, files-narrow s commit (suc i) fs (and_parts (has_short_texts_in_file f) (list_all has_short_texts_in_file fs) h).1)
 
 -- ---- numbers of rows
 
@@ -371,8 +360,8 @@ files-few s commit i (f ∷ fs) =
 short-commit : (n : ℕ) (cs : List Commit) → list_all (λ (c : Commit). is_short_option c.message) cs ≡ true → is_short_option (commit_at n cs).message ≡ true
 unfolding commit_at
 short-commit n [] h = refl
-short-commit zero (c ∷ cs) h = first_true (is_short_option c.message) (list_all (λ (c : Commit). is_short_option c.message) cs) h
-short-commit (suc n) (c ∷ cs) h = short-commit n cs (second_true (is_short_option c.message) (list_all (λ (c : Commit). is_short_option c.message) cs) h)
+short-commit zero (c ∷ cs) h = (and_parts (is_short_option c.message) (list_all (λ (c : Commit). is_short_option c.message) cs) h).0
+short-commit (suc n) (c ∷ cs) h = short-commit n cs (and_parts (is_short_option c.message) (list_all (λ (c : Commit). is_short_option c.message) cs) h).1
 
 -- close places are here
 pub close-here : (z : ℤ) → IsInScrollBounds z → IsInDrawBounds z
@@ -394,8 +383,8 @@ session-narrow shown commit a =
     let size = nat_le (state_size shown.state) max_items in
     let texts = list_all has_short_texts_in_file fs in
     let two = nat_le (length cs) 2 in
-    let first = first_true ((two && messages) && size) texts a in
-    record { message = message-narrow _ (short-commit commit cs (second_true two messages (first_true (two && messages) size first))); files = files-narrow shown commit 0 fs (second_true ((two && messages) && size) texts a) }
+    let first = (and_parts ((two && messages) && size) texts a).0 in
+    record { message = message-narrow _ (short-commit commit cs (and_parts two messages (and_parts (two && messages) size first).0).1); files = files-narrow shown commit 0 fs (and_parts ((two && messages) && size) texts a).1 }
 
 pub commits-in-range : (shown : ViewState) (commit : ℕ) (v : CommitView) (s : Sight) (x y : ℤ) → is_accepted_state shown.state ≡ true → Shows v shown commit
     → SightIsInScrollBounds s → IsInScrollBounds x → IsInScrollBounds y → PictureInRange (commit_picture v s x y)
@@ -406,12 +395,8 @@ commits-in-range shown commit v s x y a e c p q =
     (omega (arith, files-few shown commit 0 shown.state.files, few, items_room)) (session-narrow shown commit a))
 
 -- an accepted state has few rows
-pub few-rows : (shown : ViewState) (commit : ℕ) (v : CommitView) → is_accepted_state shown.state ≡ true → Shows v shown commit → length (files_rows (map shown_file v.file_views)) ≤ 2 ^ 42
+pub few-rows : (shown : ViewState) (commit : ℕ) (v : CommitView) → is_accepted_state shown.state ≡ true → Shows v shown commit → length (files_rows (document_of v).files) ≤ 2 ^ 42
 few-rows shown commit v a e =
     let few = state-few shown a in
     let same = ap (λ (d : Document). length (files_rows d.files)) e in
     omega (arith, same, files-few shown commit 0 shown.state.files, few, items_room)
-
--- and a document of an accepted session too
-pub session-few : (shown : ViewState) (commit : ℕ) (v : CommitView) → is_accepted_state shown.state ≡ true → Shows v shown commit → length (files_rows (document_of v).files) ≤ 2 ^ 43
-session-few shown commit v a e = omega (arith, few-rows shown commit v a e)

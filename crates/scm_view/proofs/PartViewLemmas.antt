@@ -29,7 +29,7 @@ use Rattle.scm_view.specs.AppView.{app_view_of, app_picture}
 use Rattle.scm_view.specs.Window.{inline_document, body_layers, rows_from}
 use Rattle.scm_document.proofs.Near.{AreNarrowSections, AreNarrowFiles, IsNarrowMessage, IsNarrowDocument}
 use Rattle.scm_document.proofs.NearLemmas.{document-near}
-use Rattle.scm_view.proofs.LimitLemmas.{close-here, sight-here, session-narrow, session-few}
+use Rattle.scm_view.proofs.LimitLemmas.{close-here, sight-here, session-narrow, few-rows}
 use Rattle.scm_view.proofs.AppRangeLemmas.{close-sight, close-row, apps-in-range}
 use Rattle.scm_document.proofs.AppShapeLemmas.{below_bar}
 use Rattle.scm_view.proofs.AppShapeLemmas.{whole-mask, one-view, app-inline}
@@ -171,7 +171,7 @@ part-in-range : (shown : ViewState) (p : DocumentPart) (v : CommitView) (w h s :
 unfolding commit_picture
 part-in-range shown p v w h s a e plain low =
     let d = inline_document shown in
-    let few = session-few shown 0 (commit_view_of shown 0) a refl in
+    let few = few-rows shown 0 (commit_view_of shown 0) a refl in
     let less = part-few p d in
     let close = rw (whole-mask w h s) at (close-sight w h s w (pos 0) plain.width low) in
     rw e (document-near (part_of p d) (under (below_bar w s) (sight w h s)) (pos 0) (pos 1) (sight-here (under (below_bar w s) (sight w h s)) close) (close-here (pos 0) close-first) (close-here (pos 1) close-row) (omega (arith, few, less))

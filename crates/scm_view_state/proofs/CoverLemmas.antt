@@ -1,7 +1,7 @@
 -- The stretch of files and sections that the layout finds covers the screen.
 use Rattle.std.proofs.Common.{◌≡◌, ℕ, zero, suc, ◌+◌, ◌-◌, ◌<◌, ◌≤◌, ◌⊎◌, inl, inr, ⊎_elim, min, nat_le, nat_lt, Bool, true, false, ◌&&◌, cond, List, [], ◌∷◌, length, take, get_or, map, refl, sym, ap, ap₂, subst, ◌∙◌, arith}
 use Rattle.std.specs.Prelude.{nat_eq, if◌then◌else◌}
-use Rattle.std.proofs.lemmas.Bool.{cases_lt}
+use Rattle.std.proofs.lemmas.Bool.{cases_lt, eqb-true}
 use Rattle.std.proofs.lemmas.Bool.Decides.{nat_tests}
 use Rattle.std.proofs.lemmas.List.{length-append}
 use Rattle.scm_types.specs.declared.file.File.{File}
@@ -350,9 +350,6 @@ kept-none (suc n) e = absurd (omega (arith, e))
 not-zero : (n : ℕ) → nat_eq n 0 ≡ false → 0 < n
 not-zero n e = grind (arith, nat_tests)
 
-is-zero : (n : ℕ) → nat_eq n 0 ≡ true → n ≡ 0
-is-zero n e = grind (arith, nat_tests)
-
 -- the layout's rows of the session's files
 abbrev pub rows_of_files : ViewState → List FileRows
 rows_of_files s = stacked (files_top s.state.commits) (each_file_rows s.expanded 0 0 s.state.files)
@@ -466,7 +463,7 @@ module _ (s : ViewState) (h scroll : ℕ) (st : Stretch) (df : File) (dr : FileR
     has-none e = not-zero c1 (sym is.has_message ∙ e)
 
     has-all : st.has_message ≡ true → c1 ≡ 0
-    has-all e = is-zero c1 (sym is.has_message ∙ e)
+    has-all e = eqb-true c1 0 (sym is.has_message ∙ e)
 
     -- the first file begins on the first visible row or above, if the message is left out
     first-top : 0 < c1 → (rows st.first_file).top ≤ scroll + 1

@@ -11,14 +11,14 @@ use Rattle.std.proofs.lemmas.Bool.Decides.{nat_tests}
 use Rattle.std.proofs.lemmas.List.Elements.{filter-append}
 use Rattle.std.proofs.lemmas.List.Folds.{list_any-append}
 use Rattle.std.proofs.lemmas.List.Sums.{fold-append}
-use Rattle.std.proofs.lemmas.Bool.{or_right}
+use Rattle.std.proofs.lemmas.Bool.{or_right, and_parts}
 use Rattle.scm_types.specs.declared.keys.SelectionKey.{SelectionKey}
 use Rattle.scm_types.specs.declared.keys.SelectionKey.TheVariants as keys
 use Rattle.scm_types.specs.declared.file.File.{File}
 use Rattle.scm_types.specs.declared.keys.FileKey.{FileKey}
 use Rattle.scm_types.specs.declared.line.SectionChangedLine.{SectionChangedLine}
 use Rattle.scm_types.specs.declared.section.Section.{Section}
-use Rattle.scm_types.specs.declared.section.Section.TheVariants.{Unchanged, Changed, FileMode, Binary}
+use Rattle.scm_types.specs.declared.section.Section.TheVariants.{Changed}
 use Rattle.scm_types.specs.declared.state.RecordState.{RecordState}
 use Rattle.scm_types.specs.Keys.{file_of_line, file_of_section, section_key_of, section_of_line}
 use Rattle.scm_types.specs.Marks.{is_editable_section}
@@ -33,7 +33,7 @@ use Rattle.scm_selection.specs.KeySet.{key_cmp, is_key, has_key, with_key, witho
 use Rattle.scm_selection.specs.KeysAround.{is_editable_in, is_key_of, sections_in}
 use Rattle.scm_selection.specs.Moves.{inner_key, is_inside, keys_behind}
 use Rattle.scm_selection.proofs.FindLemmas.{files-take, sections-take}
-use Rattle.scm_selection.proofs.RelationLemmas.{key-same, and-right}
+use Rattle.scm_selection.proofs.RelationLemmas.{key-same}
 use Rattle.scm_view_state.proofs.KeyOrderLemmas.{Ascends, added-early, added-turned, set-has}
 use Rattle.scm_selection.proofs.WalkLemmas.{among-kept}
 use Rattle.scm_view_state.specs.LineKeys.{line_set, set_without_lines, with_lines}
@@ -190,17 +190,13 @@ same-both [] (c ∷ cs) ls = shorter ls (c ∷ cs ++ ls) (omega (arith, length-a
 same-both (x ∷ xs) [] ls = longer (x ∷ xs ++ ls) ls (omega (arith, length-append xs ls))
 same-both (x ∷ xs) (c ∷ cs) ls = ap (λ b. is_key x c && b) (same-both xs cs ls)
 
--- a set that lacks a key is not one that has it
-and-left : (x y : Bool) → (x && y) ≡ true → x ≡ true
-and-left true y e = refl
-and-left false y e = absurd (cc e)
-
 same-list : (xs ys : List SelectionKey) → is_same_set xs ys ≡ true → xs ≡ ys
 same-list [] [] e = refl
 same-list (x ∷ xs) (y ∷ ys) e =
-    ap₂ (λ (k : SelectionKey) (ks : List SelectionKey). k ∷ ks) (key-same x y (and-left (is_key x y) (is_same_set xs ys) e)) (same-list xs ys (and-right (is_key x y) (is_same_set xs ys) e))
+    ap₂ (λ (k : SelectionKey) (ks : List SelectionKey). k ∷ ks) (key-same x y (and_parts (is_key x y) (is_same_set xs ys) e).0) (same-list xs ys (and_parts (is_key x y) (is_same_set xs ys) e).1)
 same-list _ _ e = absurd (cc e)
 
+-- a set that lacks a key is not one that has it
 pub lacks-key : (xs ks : List SelectionKey) (l : SelectionKey) → has_key ks l ≡ true → has_key xs l ≡ false → is_same_set xs (key_set ks) ≡ false
 lacks-key xs ks l there e = (elim (is_same_set xs (key_set ks)) as (λ b. is_same_set xs (key_set ks) ≡ b → b ≡ false) [ true ↦ (λ p. absurd (cc (e, ap (λ set. has_key set l) (same-list xs (key_set ks) p), set-has ks l, there))) | false ↦ (λ p. refl) ]) refl
 
