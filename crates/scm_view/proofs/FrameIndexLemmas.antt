@@ -317,9 +317,6 @@ unfolding around
 help-around w h s true r high = dialog-around w h s help_dialog r high
 help-around w h s false r high = refl
 
-bar-end : (w s : ℕ) (b : MenuBar) → end_of (menu_layer w s b) ≡ s + (1 + open_menu_height (open_menu b))
-bar-end w s b = length-bar w s b
-
 pub index-extent : (w h s : ℕ) (shown : ViewState) (v : CommitView) → Shows v shown 0 → 2 ≤ h
     → let b = menus_with shown.open_menu in
     let d = document_of v in
@@ -335,7 +332,7 @@ index-extent w h s shown v shows high =
     let help = help_layers w h s shown.is_help_open in
     let all : around (s, end_of (menu_layer w s b)) (rows ++ (quit ++ help)) ≡ joined_with (joined_with (joined (s, s + (1 + open_menu_height (open_menu b))) (document_run (h - 1) (message_height d.message) (length v.file_views == 0) (1 + message_height d.message + files_height v.file_views)))
     (option_map (λ q. dialog_run (screen w h s) (quit_dialog q)) shown.quit_dialog)) (if shown.is_help_open then Some (dialog_run (screen w h s) help_dialog) else None) =
-    ap (λ e. around (s, e) (rows ++ (quit ++ help))) (bar-end w s b)
+    ap (λ e. around (s, e) (rows ++ (quit ++ help))) (length-bar w s b)
     ∙ around-append rows (quit ++ help) _ ∙ ap (λ r. around r (quit ++ help)) (document-around w (h - 1) (s + 1) d.commit d.message v.file_views _)
     ∙ around-append quit help _ ∙ ap (λ r. around r help) (quit-around w h s shown.quit_dialog _ high) ∙ help-around w h s shown.is_help_open _ high in
     ap (λ (r : ℕ × ℕ). r.1 - r.0) (sym all ∙ around-is (rows ++ (quit ++ help)) s (end_of (menu_layer w s b)))

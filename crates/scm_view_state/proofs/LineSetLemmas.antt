@@ -362,9 +362,6 @@ slice-in (y ∷ ys) (suc i) x e = later i (length ys) (slice-in ys i x e)
     later : (m n : ℕ) → nat_lt m n ≡ true → nat_lt (suc m) (suc n) ≡ true
     later m n h = grind (arith, nat_tests)
 
-file-there : (fs : List File) (i : ℕ) (f : File) → slice_get fs i ≡ Some f → is_key_of fs (file_key i) ≡ true
-file-there fs i f at = slice-in fs i f at
-
 section-there : (fs : List File) (i m : ℕ) (f : File) (s : Section) → slice_get fs i ≡ Some f → slice_get f.sections m ≡ Some s → is_editable_section s ≡ true → is_key_of fs (section_key i m) ≡ true
 section-there fs i m f s at within editable =
     ap (λ r. is_editable_in (slice_get (sections_in r) m)) at
@@ -469,4 +466,4 @@ module _ (fs : List File) (e : List SelectionKey) (all : Bool) (is : with_lines 
       ∙ there
 
   pub all-unfolded : HasAllFiles e 0 fs
-  all-unfolded i f at = (has-of (file_key i) refl (file-there fs i f at), λ m s within editable. has-of (section_key i m) refl (section-there fs i m f s at within editable))
+  all-unfolded i f at = (has-of (file_key i) refl (slice-in fs i f at), λ m s within editable. has-of (section_key i m) refl (section-there fs i m f s at within editable))
