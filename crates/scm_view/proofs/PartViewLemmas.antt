@@ -92,8 +92,7 @@ module _ (v : CommitView) (menu : Option ℕ) (quit : Option QuitDialog) (help :
 
   row-first : (w h s : ℕ) → IsPlainScreen w h → RowIs w h s s
   row-first w h s plain =
-      let high = plain.high in
-      over-it w h s s plain (omega arith) (omega (arith, high))
+      over-it w h s s plain (omega arith) (omega (arith, plain.high))
       ∙ hides w s (menus_with menu) (quit_layers w h s quit ++ help_layers w h s help) _ _
       (length-paint (screen w h s) (body_drawn w h s).puts (pos s) (blank_row w) (blank-length w)) (first-keeps w h s (document_of v) (blank_row w) (blank-length w))
       ∙ both w h s s (blank_row w)

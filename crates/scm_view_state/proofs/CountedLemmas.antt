@@ -43,13 +43,11 @@ counted-at s t k i editable line line' (suc n) dx dc dv (x ∷ xs) e h =
     let next : suc i + n ≡ i + suc n = omega arith in
     let more = at_most_one_more (is_editable_section x) editable editable (omega arith) in
     let all = sum_by-cons old_lines x xs in
-    let b = rest.before in
-    let a = rest.above in
     record {
       counts = rest.counts;
       view = rest.view ∙ ap (λ j. section_view_of s t (section_key_of k j) (get_or (sections_counts editable' (line' + old_lines x) xs) n dc).editable_before (get_or (sections_counts editable' (line' + old_lines x) xs) n dc).lines_before (get_or xs n dx)) next;
-      before = omega (arith, b, more);
-      above = omega (arith, a, all);
+      before = omega (arith, rest.before, more);
+      above = omega (arith, rest.above, all);
     }
 
 -- section n of a file
@@ -58,13 +56,11 @@ pub section-at : (s : ViewState) (t : Totals) (k : FileKey) (n : ℕ) (dx : Sect
 section-at s t k n dx dc dv xs h =
     let r = counted-at s t k 0 0 0 0 n dx dc dv xs refl h in
     let zero_and : 0 + n ≡ n = omega arith in
-    let b = r.before in
-    let a = r.above in
     record {
       counts = r.counts;
       view = r.view ∙ ap (λ j. section_view_of s t (section_key_of k j) (get_or (sections_counts 0 0 xs) n dc).editable_before (get_or (sections_counts 0 0 xs) n dc).lines_before (get_or xs n dx)) zero_and;
-      before = omega (arith, b);
-      above = omega (arith, a);
+      before = omega (arith, r.before);
+      above = omega (arith, r.above);
     }
 
 -- ---- files

@@ -213,7 +213,6 @@ module _ (s : ViewState) (k : FileKey) (f : File) where
       ⊎_elim (λ (none : sections_begun unfolded row r ≡ 0). absurd (omega (arith, none, h)))
       (λ (q : (unfolded ≡ true) × ((r.top < row) × (sections_begun unfolded row r ≡ count_to (λ (q : SectionRows). q.top) (row - r.top - 1) r.sections))).
       let c = count_to (λ (q : SectionRows). q.top) (row - r.top - 1) r.sections in
-      let below = q.1.0 in
       let is = q.1.1 in
       let most = count-most (λ (q : SectionRows). q.top) (row - r.top - 1) r.sections in
       let last = count-low (λ (q : SectionRows). q.top) (row - r.top - 1) (c - 1) d r.sections (omega (arith, h, is)) in
@@ -225,7 +224,7 @@ module _ (s : ViewState) (k : FileKey) (f : File) where
         begun = omega (arith, h);
         well = w;
         top = top-there (suc a) d r.sections (omega (arith, h, is, most)) ∙ ap (λ (qs : List SectionRows). (get_or qs (suc a) d).top) same ∙ top-unfolded (suc a) d q.0 (omega (arith, h, is, most, size, own_size));
-        low = λ p. omega (arith, last, here, same_top, more, below);
+        low = λ p. omega (arith, last, here, same_top, more, q.1.0);
       })
       (begun-cases row r)
 
@@ -325,11 +324,9 @@ module _ (s : ViewState) (k : FileKey) (f : File) where
   begun-more m n r h =
       ⊎_elim (λ (none : sections_begun unfolded m r ≡ 0). omega (arith, none))
       (λ (q : (unfolded ≡ true) × ((r.top < m) × (sections_begun unfolded m r ≡ count_to (λ (q : SectionRows). q.top) (m - r.top - 1) r.sections))).
-      let below = q.1.0 in
-      let is = q.1.1 in
-      let next = begun-is n r q.0 (omega (arith, below, h)) in
+      let next = begun-is n r q.0 (omega (arith, q.1.0, h)) in
       let more = count-more (λ (q : SectionRows). q.top) (m - r.top - 1) (n - r.top - 1) r.sections (omega (arith, h)) in
-      omega (arith, is, next, more))
+      omega (arith, q.1.1, next, more))
       (begun-cases m r)
 
 -- ---- the files
@@ -436,10 +433,8 @@ module _ (s : ViewState) (h scroll : ℕ) (st : Stretch) (df : File) (dr : FileR
     within-one : (n : ℕ) → st.first_file ≡ n → Ends s (file_key_of 0 n) (file n) (scroll + h - 1) (rows n) st.end_section → st.first_section ≤ st.end_section
     within-one n e = subst (λ (m : ℕ). Ends s (file_key_of 0 m) (file m) (scroll + h - 1) (rows m) st.end_section → st.first_section ≤ st.end_section) e
         (λ en.
-        let a = begins.begun in
-        let b = en.begun in
         let c = begun-more s (file_key_of 0 st.first_file) (file st.first_file) (scroll + 1) (scroll + h - 1) (rows st.first_file) (omega (arith, high)) in
-        omega (arith, a, b, c))
+        omega (arith, begins.begun, en.begun, c))
 
     one-file : st.first_file ≡ st.last_file → st.first_section ≤ st.end_section
     one-file e = within-one st.last_file e finishes
@@ -480,8 +475,7 @@ module _ (s : ViewState) (h scroll : ℕ) (st : Stretch) (df : File) (dr : FileR
     none-left : c1 ≡ 0 → st.first_section ≡ 0
     none-left p =
         let below = first-below p in
-        let low = begins.low in
-        ⊎_elim (λ (q : 0 < st.first_section). let l = low q in absurd (omega (arith, l, below))) (λ (q : st.first_section ≤ 0). omega (arith, q)) (cases_lt 0 st.first_section)
+        ⊎_elim (λ (q : 0 < st.first_section). let l = begins.low q in absurd (omega (arith, l, below))) (λ (q : st.first_section ≤ 0). omega (arith, q)) (cases_lt 0 st.first_section)
 
     abbrev n1 : ℕ
     n1 = shown_before false st.first_section (views st.first_file)
@@ -507,9 +501,8 @@ module _ (s : ViewState) (h scroll : ℕ) (st : Stretch) (df : File) (dr : FileR
         let low = first-top (omega (arith, e, p, n)) in
         let kept = kept-none n1 n in
         let none = (there st.first_file first-in).out 0 in
-        let zero_rows = no-rows in
         let same = ap (λ m. rows_left_out st.first_file m all) n in
-        omega (arith, low, kept, none, zero_rows, same, top-is))
+        omega (arith, low, kept, none, no-rows, same, top-is))
         (cases_lt 0 st.first_section)
 
     abbrev n2 : ℕ
@@ -572,8 +565,7 @@ module _ (s : ViewState) (h scroll : ℕ) (st : Stretch) (df : File) (dr : FileR
         go false e =
             let t = is.top dr in
             let inner = is.section_top dr in
-            let own_top = begins.top in
-            omega (arith, t, inner, own_top, left-above)
+            omega (arith, t, inner, begins.top, left-above)
 
     pub found : Found
     found = record {

@@ -131,8 +131,7 @@ visible-none s h scroll v none with_files =
 
 pub visible-painted : VisibleViewsArePainted
 visible-painted v shown w h s is accepted inline plain low =
-    let e = is.scroll in
-    record { shown = shown; part = is.part; accepted = accepted; inline = inline; shows = is.shows; plain = plain; scroll = omega (arith, e, low) }
+    record { shown = shown; part = is.part; accepted = accepted; inline = inline; shows = is.shows; plain = plain; scroll = omega (arith, is.scroll, low) }
 
 pub visible-windows : VisibleViewsShowWindows
 visible-windows v shown w h s rows is high left =

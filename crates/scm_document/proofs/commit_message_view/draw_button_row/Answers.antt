@@ -25,8 +25,7 @@ unfolding button_row_picture
 draw_beside_button-requires c =
     let fx : FitsSigned w64 c.args.x = c.ranges.x in
     let fy : FitsSigned w64 c.args.y = c.ranges.y in
-    let same = c.begin_row.ensures.canvas in
-    let button = rw same at (simp to_z-of_z at (rw c.edit_button-button.ensures at c.in_ok-show_button.ensures.ok)) in
+    let button = rw c.begin_row.ensures.canvas at (simp to_z-of_z at (rw c.edit_button-button.ensures at c.in_ok-show_button.ensures.ok)) in
     let text = sym c.message_text-text.ensures in
     let all = rw text at c.requires in
     simp to_z-of_z (rest _ _ _ (beside c.message_text-text.result.now c.args.x c.args.y) button all)

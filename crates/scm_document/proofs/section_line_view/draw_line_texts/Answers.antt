@@ -42,10 +42,9 @@ returns-else-is_on_screen c =
     let fx : FitsSigned w64 c.args.x = c.ranges.x in
     let fy : FitsSigned w64 c.args.y = c.ranges.y in
     let test = simp to_z-of_z at c.is_on_screen.ensures.test in
-    let rows = c.is_on_screen.ensures.rows in
     let width = front-width c.text_width.result c.args.front.now (line_pieces c.args.line.now) c.text_width.ensures.value in
     record {
-      ok = simp to_z-of_z at c.cover_line.ensures.new ∙ cover-hidden c.args.viewport.now.canvas c.args.x c.args.y _ (line_texts c.args.front.now c.args.line.now) width rows (sym test ∙ c.if-is_on_screen.false);
+      ok = simp to_z-of_z at c.cover_line.ensures.new ∙ cover-hidden c.args.viewport.now.canvas c.args.x c.args.y _ (line_texts c.args.front.now c.args.line.now) width c.is_on_screen.ensures.rows (sym test ∙ c.if-is_on_screen.false);
       counts = counted-hidden _ _ _ _ _ (sym test ∙ c.if-is_on_screen.false) c.cover_line.ensures.counts;
       rect = search rules;
       err = search rules;

@@ -36,12 +36,11 @@ returns-else-is_on_screen c =
     let fx : FitsSigned w64 c.args.x = c.ranges.x in
     let fy : FitsSigned w64 c.args.y = c.ranges.y in
     let test = simp to_z-of_z at c.is_on_screen.ensures.test in
-    let rows = c.is_on_screen.ensures.rows in
     let width = front-width c.number_width.result (number_text c.args.number) (line_pieces c.args.line.now) c.number_width.ensures in
     record {
       ok =
           simp to_z-of_z at c.cover_line.ensures.new
-          ∙ cover-hidden c.args.viewport.now.canvas c.args.x c.args.y _ (line_texts (number_text c.args.number) c.args.line.now) width rows (sym test ∙ c.if-is_on_screen.false);
+          ∙ cover-hidden c.args.viewport.now.canvas c.args.x c.args.y _ (line_texts (number_text c.args.number) c.args.line.now) width c.is_on_screen.ensures.rows (sym test ∙ c.if-is_on_screen.false);
       counts = counted-hidden _ _ _ _ _ (sym test ∙ c.if-is_on_screen.false) c.cover_line.ensures.counts;
       rect = search rules;
       err = search rules;

@@ -34,10 +34,9 @@ returns-in_ok-width c =
     let fx : FitsSigned w64 c.args.x = c.ranges.x in
     let fy : FitsSigned w64 c.args.y = c.ranges.y in
     let test = simp to_z-of_z at c.is_on_screen.ensures.test in
-    let rows = c.is_on_screen.ensures.rows in
     let width = c.in_ok-width.ensures.ok ∙ sym (texts_width-one (title_text c.args.title.now)) in
     record {
-      ok = simp to_z-of_z at c.cover_texts.ensures.new ∙ cover-hidden c.args.viewport.now.canvas c.args.x c.args.y _ (title_text c.args.title.now ∷ []) width rows (sym test ∙ c.if-is_on_screen.false);
+      ok = simp to_z-of_z at c.cover_texts.ensures.new ∙ cover-hidden c.args.viewport.now.canvas c.args.x c.args.y _ (title_text c.args.title.now ∷ []) width c.is_on_screen.ensures.rows (sym test ∙ c.if-is_on_screen.false);
       counts = counted-hidden _ _ _ _ _ (sym test ∙ c.if-is_on_screen.false) c.cover_texts.ensures.counts;
       rect = search rules;
       err = search rules;

@@ -7,8 +7,7 @@ use Rattle.scm_layout.proofs.section_counts.sections_counts.Goals as goal
 
 pub with-before-requires-clause-lines : goal.with-before-requires-clause-lines
 with-before-requires-clause-lines c =
-    let sections = c.args.sections.now in
-    let lines = rw (sym c.section-item.is) at (old_lines-more c.loop-section.section-index sections c.section-item.result c.loop-section-test.true) in
+    let lines = rw (sym c.section-item.is) at (old_lines-more c.loop-section.section-index c.args.sections.now c.section-item.result c.loop-section-test.true) in
     omega (arith, items_room)
 
 pub loop-section-preserved : goal.loop-section-preserved
@@ -30,8 +29,7 @@ loop-section-preserved c =
 
 pub returns : goal.returns
 returns c =
-    let sections = c.args.sections.now in
     let before = c.loop-section.before in
     let made = c.loop-section.counts.items in
-    let none = sections_counts-end before.editable before.lines c.loop-section.section-index sections c.loop-section-test.false in
+    let none = sections_counts-end before.editable before.lines c.loop-section.section-index c.args.sections.now c.loop-section-test.false in
     c.from.ensures ∙ sym (append-nil made) ∙ ap (λ vs. made ++ vs) (sym none) ∙ c.loop-section.invariant.counts

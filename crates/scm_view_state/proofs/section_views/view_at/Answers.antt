@@ -35,8 +35,7 @@ counted_view-requires-clause-editable c =
     (ap (λ (n : FileCounts). n.sections) c.requires.counted) c.requires.within
     (c.index-sections-index.is ∙ ap (λ (xs : List Section). get_or xs c.args.index c.index-sections-index.result) c.as_slice-sections.ensures)
     (ap (λ (ns : List SectionCounts). get_or ns c.args.index no-counts) c.as_slice-counted.ensures) in
-    let b = at.before in
-    omega (arith, items_room, b, c.requires.within, c.requires.size)
+    omega (arith, items_room, at.before, c.requires.within, c.requires.size)
 
 pub counted_view-requires-clause-lines : goal.counted_view-requires-clause-lines
 counted_view-requires-clause-lines c =
@@ -45,8 +44,7 @@ counted_view-requires-clause-lines c =
     (ap (λ (n : FileCounts). n.sections) c.requires.counted) c.requires.within
     (c.index-sections-index.is ∙ ap (λ (xs : List Section). get_or xs c.args.index c.index-sections-index.result) c.as_slice-sections.ensures)
     (ap (λ (ns : List SectionCounts). get_or ns c.args.index no-counts) c.as_slice-counted.ensures) in
-    let a = at.above in
-    omega (arith, items_room, a, old_lines-fit c.args.file.now.sections, c.requires.size)
+    omega (arith, items_room, at.above, old_lines-fit c.args.file.now.sections, c.requires.size)
 
 pub returns : goal.returns
 returns c d =

@@ -20,7 +20,6 @@ count_line-requires c = record {
 
 pub returns-in-None-clause-counts : goal.returns-in-None-clause-counts
 returns-in-None-clause-counts c =
-    let files = c.args.files.now in
     let key = c.args.key in
-    let same = c.toggle_line_in.ensures ∙ missing-line files key.file_idx key.section_idx key.line_idx (sym c.line_mark_at-mark.ensures ∙ c.in-None.is) in
+    let same = c.toggle_line_in.ensures ∙ missing-line c.args.files.now key.file_idx key.section_idx key.line_idx (sym c.line_mark_at-mark.ensures ∙ c.in-None.is) in
     c.requires.counted ∙ ap (λ (fs : List File). counts_of fs) (sym same)

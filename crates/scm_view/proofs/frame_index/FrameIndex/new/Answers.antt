@@ -13,10 +13,9 @@ use Rattle.scm_view.proofs.frame_index.FrameIndex.new.Goals as goal
 
 pub push_pieces-requires : goal.push_pieces-requires
 push_pieces-requires c =
-    let plain = c.requires.shows.plain in
     let v = c.index-as_slice-0.result in
     let first = c.index-as_slice-0.is ∙ ap (λ (vs : List CommitView). get_or vs 0 v) c.as_slice.ensures in
-    let shows = shows-first c.args.view.now c.requires.shows.shown c.args.width c.args.height v plain first in
+    let shows = shows-first c.args.view.now c.requires.shows.shown c.args.width c.args.height v c.requires.shows.plain first in
     rw (c.height-message.ensures, c.as_slice-views.ensures) (index-few c.requires.shows.shown v c.requires.shows.accepted shows)
 
 pub push_rects-requires-2-clause-screen : goal.push_rects-requires-2-clause-screen
@@ -41,8 +40,7 @@ push_help-requires c =
 
 pub overflow_add-scroll-3 : goal.overflow_add-scroll-3
 overflow_add-scroll-3 c =
-    let plain = c.requires.shows.plain in
-    let few = bar-few c.args.view.now.menu_bar c.requires.shows.shown.open_menu plain.shows.menu_bar in
+    let few = bar-few c.args.view.now.menu_bar c.requires.shows.shown.open_menu c.requires.shows.plain.shows.menu_bar in
     omega (arith, few, c.in_ok-bar.ensures.rows, c.requires.shows.scroll, scroll_room)
 
 pub returns-clause-ok : goal.returns-clause-ok
