@@ -1,5 +1,5 @@
 -- Toggles change no row: files that are the same without their marks have the same rows.
-use Rattle.std.proofs.Common.{◌≡◌, ℕ, suc, ◌+◌, ◌&&◌, ◌||◌, Bool, false, not, List, [], ◌∷◌, length, map, refl, ap, sym, ◌∙◌}
+use Rattle.std.proofs.Common.{◌≡◌, ℕ, suc, ◌+◌, ◌&&◌, ◌||◌, Bool, false, not, List, [], ◌∷◌, ◌++◌, length, map, take, drop, refl, ap, sym, ◌∙◌}
 use Rattle.std.specs.Prelude.{if◌then◌else◌, sum_by}
 use Rattle.std.proofs.lemmas.List.{length-map}
 use Rattle.scm_types.specs.declared.file.File.{File}
@@ -23,7 +23,9 @@ use Rattle.scm_rows.specs.Heights.{height_of, shape_of}
 use Rattle.scm_layout.specs.Rows.{each_file_rows, file_height, file_key_of, file_rows, fold_count, folded_count, is_expanded, is_first_open, is_open, rows_at, sections_height, sections_rows, stacked, visible_height}
 use Rattle.scm_layout.proofs.BareLemmas.{bare, bare_file, bare_section, editable-bare, sum-mapped}
 use Rattle.scm_layout.proofs.CountLemmas.{file_size-bare}
+use Rattle.scm_layout.proofs.FilesLemmas.{length-before}
 use Rattle.scm_layout.proofs.FoldLemmas.{rows_with}
+use Rattle.scm_selection.proofs.ToggleLemmas.{lent_whole}
 
 height-bare : (total i : ℕ) (b : Bool) (s : Section) → height_of (place total i) b (bare_section s) ≡ height_of (place total i) b s
 height-bare total i b (Changed lines) = ap (λ n. if b then 1 + n else 1) (length-map lines (line_with_mark (λ _. false)))
@@ -96,7 +98,7 @@ abbrev layout_with : StateCounts → List FileRows → Layout
 layout_with counts rows = record { counts = counts; rows = record { files = rows } }
 
 -- the layout after marks changed, where its counts are those of the new marks
-pub layout-same : (state : RecordState) (files : List File) (expanded : List SelectionKey) (old : Layout) → map bare_file state.files ≡ map bare_file files → old ≡ layout_of state expanded
+layout-same : (state : RecordState) (files : List File) (expanded : List SelectionKey) (old : Layout) → map bare_file state.files ≡ map bare_file files → old ≡ layout_of state expanded
     → record old { counts = counts_of files } ≡ layout_of (record state { files = files }) expanded
 layout-same state files expanded old e is =
     ap (λ (l : Layout). record l { counts = counts_of files }) is
@@ -116,3 +118,18 @@ sizes-bare fs =
 -- a state has the same size after marks changed
 pub size-same : (state : RecordState) (files : List File) → map bare_file state.files ≡ map bare_file files → state_size (record state { files = files }) ≡ state_size state
 size-same state files e = sym (sizes-bare files) ∙ ap (λ fs. size_of fs) (sym e) ∙ sizes-bare state.files
+
+-- ---- files that were lent, and came back as `new`
+
+module _ (state : RecordState) (files new : List File) (same : map bare_file state.files ≡ map bare_file files) (is : new ≡ files) where
+  abbrev lent : RecordState
+  lent = record state { files = take (length state.files) (new ++ drop (length new) state.files) }
+
+  whole : take (length state.files) (new ++ drop (length new) state.files) ≡ new
+  whole = lent_whole state.files new (ap (λ fs. length fs) is ∙ sym (length-before state.files files same))
+
+  pub lent-layout : (expanded : List SelectionKey) (old : Layout) (counts : StateCounts) → counts ≡ counts_of new → old ≡ layout_of state expanded → record old { counts = counts } ≡ layout_of lent expanded
+  lent-layout expanded old counts counted was = rw (whole, counted, is) (layout-same state files expanded old same was)
+
+  pub lent-size : state_size lent ≡ state_size state
+  lent-size = rw (whole, is) (size-same state files same)
