@@ -183,12 +183,12 @@ any-found key (p ∷ ps) = go (is_key key p.key) (any-found key ps)
     go true e = refl
     go false e = e
 
+some-mapped : {A B : Type 0} (f : A → B) (o : Option A) → is_some (option_map f o) ≡ is_some o
+some-mapped f (Some t) = refl
+some-mapped f None = refl
+
 pub lines-any : (s : SectionPiece) (key : SelectionKey) → list_any (λ (p : Place). is_key key p.key) (lines_places s.key s.kinds s.top s.end (s.end - s.top)) ≡ is_some (key_row s key)
-lines-any s key = any-found key (lines_places s.key s.kinds s.top s.end (s.end - s.top)) ∙ ap is_some (lines-found s key) ∙ go (key_row s key)
-  where
-    go : (o : Option ℕ) → is_some {A = ℕ × ℕ} (option_map (λ t. (t, 1)) o) ≡ is_some o
-    go (Some t) = refl
-    go None = refl
+lines-any s key = any-found key (lines_places s.key s.kinds s.top s.end (s.end - s.top)) ∙ ap is_some (lines-found s key) ∙ some-mapped (λ t. (t, 1)) (key_row s key)
 
 -- ---- pieces one below another
 

@@ -181,14 +181,15 @@ from-rows w x j (suc i) a (f ∷ fs) e h =
 
 pub out-to : (i a k b : ℕ) (fs : List ShownFile) → (i < k) ⊎ ((i ≡ k) × (a ≤ b)) → rows_left_out i a (files_to k b fs) ≡ rows_left_out i a fs
 unfolding rows_left_out files_to
+out-to i a k b [] h = refl
 out-to zero a zero b (f ∷ fs) h =
     let order : a ≤ b = ⊎_elim (λ (p : 0 < 0). absurd (omega (arith, p))) (λ (p : (0 ≡ 0) × (a ≤ b)). p.1) h in
     ap (λ ps. length (sections_rows ps)) (take-take a b f.sections order)
+out-to zero a (suc k) b (f ∷ fs) h = refl
 out-to (suc i) a zero b (f ∷ fs) h = absurd (⊎_elim (λ (p : suc i < 0). omega (arith, p)) (λ (p : (suc i ≡ 0) × (a ≤ b)). omega (arith, p.0)) h)
 out-to (suc i) a (suc k) b (f ∷ fs) h =
     let next : (i < k) ⊎ ((i ≡ k) × (a ≤ b)) = ⊎_elim (λ (p : suc i < suc k). inl (omega (arith, p))) (λ (p : (suc i ≡ suc k) × (a ≤ b)). inr (omega (arith, p.0), p.1)) h in
     ap (λ n. length (file_rows f) + n) (out-to i a k b fs next)
-out-to _ a _ b _ h = refl
 
 -- ---- a part of a document with files has files
 
@@ -208,9 +209,10 @@ some-to (suc k) b (f ∷ fs) h = omega arith
 pub some-from : (i a k b : ℕ) (fs : List ShownFile) → i ≤ k → i < length fs → 0 < length (files_from i a (files_to k b fs))
 unfolding files_to files_from
 some-from i a k b [] p h = absurd (omega (arith, h))
+some-from zero a zero b (f ∷ fs) p h = omega arith
+some-from zero a (suc k) b (f ∷ fs) p h = omega arith
 some-from (suc i) a zero b (f ∷ fs) p h = absurd (omega (arith, p))
 some-from (suc i) a (suc k) b (f ∷ fs) p h = some-from i a k b fs (omega (arith, p)) (omega (arith, h))
-some-from _ a _ b _ p h = omega arith
 
 -- ---- cuts that leave nothing out
 
