@@ -5,8 +5,10 @@ use Rattle.scm_layout.specs.Recounts.{zipped}
 
 -- what stands at an index that was not reached
 zipped-unreached : {A B : Type 0} (f : A → B → A) (xs : List A) (ys : List B) (i : ℕ) (d : A) → get_or (zipped f xs (take i ys)) i d ≡ get_or xs i d
+zipped-unreached f xs ys zero d = refl
+zipped-unreached f xs [] (suc i) d = refl
+zipped-unreached f [] (y ∷ ys) (suc i) d = refl
 zipped-unreached f (x ∷ xs) (y ∷ ys) (suc i) d = zipped-unreached f xs ys i d
-zipped-unreached f _ _ _ d = refl
 
 zipped-next : {A B : Type 0} (f : A → B → A) (xs : List A) (ys : List B) (i : ℕ) (d : A) (e : B) → i < length xs → i < length ys
     → set (zipped f xs (take i ys)) i (f (get_or xs i d) (get_or ys i e)) ≡ zipped f xs (take (suc i) ys)
