@@ -12,9 +12,8 @@ use Rattle.scm_view.proofs.app_view.draw_view.Goals as goal
 
 pub apply-requires-clause-rect : goal.apply-requires-clause-rect
 apply-requires-clause-rect c =
-    let fx : FitsSigned w64 c.args.x = c.ranges.x in
     let s = c.args.viewport.now.canvas.sight in
-    let mask = simp to_z-of_z at c.view_mask-mask.ensures.mask in
+    let mask = simp (to_z-of_z, c.ranges.x) at c.view_mask-mask.ensures.mask in
     let seen : c.swap_mask-outer.new.self.canvas.sight ≡ under (view_mask s c.args.x c.args.width) s = ap (λ v. v.sight) c.swap_mask-outer.ensures.new ∙ ap (λ m. under m s) mask in
     let drawn = simp (to_z-of_z, seen) at c.in_ok-drawn.ensures.drawn in
     rw drawn (RectInRange-box_rect _ (PictureInRange-part _ _ c.requires.picture))
@@ -46,9 +45,8 @@ overflow_add-result c =
 
 pub returns-clause-draws : goal.returns-clause-draws
 returns-clause-draws c =
-    let fx : FitsSigned w64 c.args.x = c.ranges.x in
     let s = c.args.viewport.now.canvas.sight in
-    let mask = simp to_z-of_z at c.view_mask-mask.ensures.mask in
+    let mask = simp (to_z-of_z, c.ranges.x) at c.view_mask-mask.ensures.mask in
     let seen : c.swap_mask-outer.new.self.canvas.sight ≡ under (view_mask s c.args.x c.args.width) s = ap (λ t. t.sight) c.swap_mask-outer.ensures.new ∙ ap (λ m. under m s) mask in
     record {
       ok =

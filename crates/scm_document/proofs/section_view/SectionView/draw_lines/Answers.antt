@@ -17,9 +17,7 @@ one w x y s = row_picture (view_row w) s x y
 
 pub loop-index-init : goal.loop-index-init
 loop-index-init c =
-    let fx : FitsSigned w64 c.args.x = c.ranges.x in
-    let fy : FitsSigned w64 c.args.y = c.ranges.y in
-    rw (from-first c.args.self.now c.args.first c.args.lines) (simp to_z-of_z (record { left = left-first _ _ c.requires.picture; counts = refl }))
+    rw (from-first c.args.self.now c.args.first c.args.lines) (simp (to_z-of_z, c.ranges.x, c.ranges.y) (record { left = left-first _ _ c.requires.picture; counts = refl }))
 
 pub draw_line_row-requires : goal.draw_line_row-requires
 draw_line_row-requires c =
