@@ -187,11 +187,12 @@ headers-wide (m ∷ ms) h =
 
 opened-few : (c : ℕ) (ms : List Menu) (k : Option ℕ) → list_all is_short_menu ms ≡ true → c + headers_width ms ≤ 2 ^ 50 → IsFewItems (open_menu_with_column c ms k)
 unfolding open_menu_with_column headers_width
+opened-few c ms None h w = tt
+opened-few c [] (Some k) h w = tt
 opened-few c (m ∷ ms) (Some zero) h w =
     let items = menu-items m (and_parts (is_short_menu m) (list_all is_short_menu ms) h).0 in
     (omega (arith, w), (omega (arith, items.0), omega (arith, items.1)))
 opened-few c (m ∷ ms) (Some (suc k)) h w = opened-few (c + header_step m) ms (Some k) (and_parts (is_short_menu m) (list_all is_short_menu ms) h).1 (omega (arith, w))
-opened-few c _ _ h w = tt
 
 bar-in : (b : MenuBar) (s : Sight) (x y : ℤ) → RectIsInDrawBounds s.rect → IsInDrawBounds x → IsInDrawBounds y → is_short_bar b ≡ true → PictureInRange (menu_bar_picture b s x y)
 bar-in b s x y r p q h =

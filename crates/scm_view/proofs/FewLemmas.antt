@@ -192,7 +192,11 @@ document-few d s y = go (length d.files == 0) refl
 menu-few : (k : Option ℕ) → open_calls (open_menu_with_column 0 all_menus k) ≤ 18
 unfolding open_menu_with_column
 menu-few None = omega arith
-menu-few _ = omega arith
+menu-few (Some zero) = omega arith
+menu-few (Some (suc zero)) = omega arith
+menu-few (Some (suc (suc zero))) = omega arith
+menu-few (Some (suc (suc (suc zero)))) = omega arith
+menu-few (Some (suc (suc (suc (suc n))))) = omega arith
 
 bar-few : (m : Option ℕ) → bar_calls (menus_with m) ≤ 23
 unfolding bar_calls

@@ -385,5 +385,3 @@ answers-extent w h s a shown v run below n e none quit help plain shows er eb en
     (option_map (λ q. dialog_run (screen w h s) (quit_dialog q)) shown.quit_dialog)) (if shown.is_help_open then Some (dialog_run (screen w h s) help_dialog) else None) =
     er ∙ ap₂ joined_with (ap₂ joined_with (ap₂ joined (ap (λ z. (s, z)) bar) doc) q) k in
     ap (λ (r : ℕ × ℕ). r.1 - r.0) all ∙ index-extent w h s shown v shows plain.high
-
-}

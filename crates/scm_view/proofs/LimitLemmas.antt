@@ -1,5 +1,5 @@
 -- From the limits of an accepted state: how many rows its document has, and that each text of it is narrow.
-use Rattle.std.proofs.Common.{◌≡◌, ℕ, zero, suc, ◌+◌, ◌-◌, ◌*◌, ◌/◌, ◌%◌, ◌≤◌, ◌^◌, Bool, true, false, cond, ◌==◌, ℤ, List, [], ◌∷◌, ◌++◌, length, length-append, take, drop, map, refl, ap, arith}
+use Rattle.std.proofs.Common.{◌≡◌, ℕ, zero, suc, ◌+◌, ◌-◌, ◌*◌, ◌/◌, ◌%◌, ◌≤◌, ◌^◌, Bool, true, false, cond, ◌==◌, ℤ, List, [], ◌∷◌, ◌++◌, length, length-append, take, drop, map, refl, ap, ◌∙◌, arith}
 use Rattle.std.specs.Prelude.{◌&&◌, if◌then◌else◌, nat_le, sum_by, Option, Some, None, codes, encode_utf8_all, decimal, option_map}
 use Rattle.std.specs.Char.{encode_utf8, is_whitespace}
 use Rattle.std.specs.Fmt.{digits, digits_onto, digit_glyph}

@@ -29,6 +29,7 @@ draw_view-requires-clause-picture c =
 
 pub loop-view-preserved : goal.loop-view-preserved
 loop-view-preserved c =
+    let fx : FitsSigned w64 c.args.x = c.ranges.x in
     let s = c.args.viewport.now.canvas.sight in
     let v = c.view-item.result in
     let next : c.in_ok-left.left ≡ next_view v s c.loop-view.left c.args.width = simp c.loop-view.invariant.left.sight at (simp c.loop-view.left-is at c.in_ok-left.ensures.next) in
@@ -41,7 +42,7 @@ loop-view-preserved c =
     let so_far = simp (to_z-of_z, c.loop-view.left-is) at c.loop-view.invariant.counts in
     let counted = simp left.sight at (simp c.loop-view.left-is at c.in_ok-left.ensures.draws.counts) in
     let counts = counts-more _ _ _ _ _ _ _ (count next) so_far counted in
-    simp (to_z-of_z, c.ranges.x, at_left, at_next) (record { counts = counts; left = left-more _ _ _ (one v c.loop-view.left c.args.width) _ _ _ (more next) left drawn })
+    simp to_z-of_z (record { counts = counts; left = left-more _ _ _ (one v c.loop-view.left c.args.width) _ _ _ (more next) left drawn })
 
 pub returns : goal.returns
 returns c =
