@@ -80,9 +80,11 @@ kept-same before (r ∷ rs) (v ∷ vs) e w =
         ∙ sym (ap (λ b. shown_section b v ++ shown_sections (views.is_open v) vs) (w.0 p))
 
 no-elements : {A : Type 0} (e a : ℕ) (xs : List A) → e ≤ a → ◌≡◌ {A = List A} (drop a (take e xs)) []
+no-elements zero zero xs h = refl
+no-elements zero (suc a) xs h = refl
 no-elements (suc e) zero xs h = absurd (omega (arith, h))
+no-elements (suc e) (suc a) [] h = refl
 no-elements (suc e) (suc a) (x ∷ xs) h = no-elements e a xs (omega (arith, h))
-no-elements _ _ _ h = refl
 
 -- ---- parts of the lists
 
