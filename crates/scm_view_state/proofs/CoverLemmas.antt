@@ -75,8 +75,9 @@ module _ {A : Type 0} (top : A → ℕ) where
 
 editable-view : (s : ViewState) (t : Totals) (k : FileKey) (i editable line n : ℕ) (xs : List Section) → editable_view_at n (section_views_of s t k i editable line xs) ≡ is_editable_at n xs
 unfolding section_views_of
+editable-view s t k i editable line n [] = refl
+editable-view s t k i editable line zero (x ∷ xs) = refl
 editable-view s t k i editable line (suc n) (x ∷ xs) = editable-view s t k (suc i) (if is_editable_section x then editable + 1 else editable) (line + old_lines x) n xs
-editable-view s t k i editable line _ _ = refl
 
 pub sections-length : (s : ViewState) (t : Totals) (k : FileKey) (i editable line : ℕ) (xs : List Section) → length (section_views_of s t k i editable line xs) ≡ length xs
 unfolding section_views_of

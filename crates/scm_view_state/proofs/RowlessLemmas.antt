@@ -93,19 +93,22 @@ bare-none before [] = tt
 bare-none before (r ∷ rs) = tt
 
 bare-first : (before : Bool) (rs : List SectionRows) (vs : List SectionView) → Bare before rs vs → Bare false rs vs
+bare-first before [] vs w = tt
+bare-first before (r ∷ rs) [] w = tt
 bare-first before (r ∷ rs) (v ∷ vs) w = (
   λ p. let u = unseen (is_editable_section v.section.now) before (views.is_first_open vs) (w.0 p) in
       ap₂ (λ (a b : Bool). a || (false || b)) u.0 u.1.1,
   w.1,
-bare-first before _ _ w = tt
 )
 
 bare-take : (before : Bool) (n : ℕ) (rs : List SectionRows) (vs : List SectionView) → Bare before rs vs → Bare before (take n rs) (take n vs)
+bare-take before zero rs vs w = tt
+bare-take before (suc n) [] vs w = tt
+bare-take before (suc n) (r ∷ rs) [] w = tt
 bare-take before (suc n) (r ∷ rs) (v ∷ vs) w = (
   λ p. let u = unseen (is_editable_section v.section.now) before (views.is_first_open vs) (w.0 p) in
       ap₂ (λ (a b : Bool). a || b) u.0 (ap₂ (λ (a b : Bool). a || b) u.1.0 (first-taken n vs u.1.1)),
   bare-take (views.is_open v) n rs vs w.1,
-bare-take before _ _ _ w = tt
 )
   where
     first-taken : (n : ℕ) (us : List SectionView) → views.is_first_open us ≡ false → views.is_first_open (take n us) ≡ false

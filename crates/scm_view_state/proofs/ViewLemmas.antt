@@ -70,5 +70,6 @@ file_views-end s commit i files h = rw (drop_all i files h) refl
 
 pub commit_at-get : (i : ℕ) (commits : List Commit) → commit_at i commits ≡ unwrap_or (slice_get commits i) (record { message = None })
 unfolding commit_at
+commit_at-get i [] = refl
+commit_at-get zero (c ∷ cs) = refl
 commit_at-get (suc i) (c ∷ cs) = commit_at-get i cs
-commit_at-get _ _ = refl
