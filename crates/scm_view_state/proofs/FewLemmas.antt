@@ -53,11 +53,13 @@ none-to a (r ∷ rs) = refl
 
 -- an earlier beginning
 starts-less : (a b e n : ℕ) (rs : List SectionRows) → b ≤ a + n → among a e rs ≤ n + among b e rs
+starts-less a b e n [] h = omega arith
+starts-less a b zero n (r ∷ rs) h = omega arith
+starts-less zero zero (suc e) n (r ∷ rs) h = omega arith
 starts-less zero (suc b) (suc e) zero (r ∷ rs) h = absurd (omega (arith, h))
 starts-less zero (suc b) (suc e) (suc n) (r ∷ rs) h = omega (arith, one-most r, starts-less zero b e n rs (omega (arith, h)))
 starts-less (suc a) zero (suc e) n (r ∷ rs) h = omega (arith, starts-less a zero e n rs (omega arith))
 starts-less (suc a) (suc b) (suc e) n (r ∷ rs) h = starts-less a b e n rs (omega (arith, h))
-starts-less _ _ _ n _ h = omega arith
 
 -- an earlier end
 ends-less : (a e f : ℕ) (rs : List SectionRows) → e ≤ suc f → among a e rs ≤ 1 + among a f rs
@@ -110,10 +112,11 @@ module _ (s : ViewState) (k : FileKey) (total : ℕ) where
   -- all sections
   all-few : (i top e : ℕ) (before : Bool) (xs : List Section) → among 0 e (rows i top before xs) ≤ height i before xs
   unfolding sections_rows sections_height
+  all-few i top e before [] = omega arith
+  all-few i top zero before (x ∷ xs) = omega arith
   all-few i top (suc e) before (x ∷ xs) =
       let tall = visible_height s.expanded k total i before x (is_first_open s.expanded k (suc i) xs) in
       omega (arith, one-tall top tall, all-few (suc i) (top + tall) e (is_open s.expanded k i x) xs)
-  all-few i top _ before _ = omega arith
 
   -- those that begin below row `low`
   below-few : (i top low e : ℕ) (before : Bool) (xs : List Section) → among (begun low (rows i top before xs)) e (rows i top before xs) ≤ top + height i before xs - low - 1
